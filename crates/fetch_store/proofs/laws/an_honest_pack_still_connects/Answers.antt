@@ -1,0 +1,11 @@
+use Rattle.fetch_store.specs.Honest.{taken}
+use Rattle.fetch_store.proofs.Whole.{whole_none}
+use Rattle.fetch_store.proofs.Honesty.{still_whole, wants_stored}
+use Rattle.fetch_store.proofs.laws.an_honest_pack_still_connects.Goals as goal
+
+pub returns-clause-connected : goal.returns-clause-connected
+returns-clause-connected c hash r now pack of fit closed shut grown none honest =
+    whole_none (taken now pack) pack (still_whole r now pack grown hash of fit closed shut none honest)
+
+pub returns-clause-wants : goal.returns-clause-wants
+returns-clause-wants c r now pack grown honest = wants_stored r now pack grown honest

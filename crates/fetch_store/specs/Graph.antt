@@ -1,0 +1,40 @@
+-- What histories are read from: objects without their bytes.
+use Rattle.std.specs.Prelude.{ℕ, List, map, Option, None, if◌then◌else◌, refl}
+use Rattle.std.specs.Coded.{Coded, code_by, coded_ℕ, coded_list, coded_option, coded×}
+use Rattle.std.specs.List.{slice_get}
+use Rattle.std.specs.FinMap as finmap
+use Rattle.fetch_store.specs.declared.id.ObjectId.{ObjectId}
+use Rattle.fetch_store.specs.declared.object_kind.ObjectKind.{ObjectKind}
+use Rattle.fetch_store.specs.declared.object_kind.ObjectKind.TheVariants.{Tag}
+use Rattle.fetch_store.specs.Objects.{Stored, links_of, parents_of, seconds_of, is_kind}
+use Rattle.fetch_store.specs.Codes.{coded_id, coded_object_kind}
+use Rattle.fetch_store.specs.Stores.{id_cmp, ObjectMap}
+
+pub record Node : Type 0 where
+  pub kind : ObjectKind
+  -- of a commit
+  pub parents : List ObjectId
+  pub seconds : Option ℕ
+  -- of a tag
+  pub target : Option ObjectId
+
+abbrev pub target_of : Stored → Option ObjectId
+target_of o = if is_kind o.kind Tag then slice_get (links_of o.hash o.kind o.bytes) 0 else None
+
+abbrev pub node_of : Stored → Node
+node_of o = record { kind = o.kind; parents = parents_of o.hash o.kind o.bytes; seconds = seconds_of o.hash o.kind o.bytes; target = target_of o }
+
+abbrev pub Graph : Type 0
+Graph = finmap.FinMap id_cmp Node
+
+-- the same ids, with a node for each object
+abbrev pub graph_of : ObjectMap → Graph
+graph_of m = finmap.from_sorted (map (λ e. (e.0, node_of e.1)) (finmap.entries m))
+
+abbrev pub coded_node : Coded Node
+coded_node =
+    code_by (ObjectKind × (List ObjectId × (Option ℕ × Option ObjectId))) (coded× coded_object_kind (coded× (coded_list coded_id) (coded× (coded_option coded_ℕ) (coded_option coded_id))))
+    (λ n. (n.kind, (n.parents, (n.seconds, n.target)))) (λ p. record { kind = p.0; parents = p.1.0; seconds = p.1.1.0; target = p.1.1.1 }) (λ _. refl)
+
+abbrev pub coded_graph : Coded Graph
+coded_graph = finmap.code {R = id_cmp} coded_id coded_node

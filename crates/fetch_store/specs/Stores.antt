@@ -1,0 +1,70 @@
+-- A store: a finite map of ids to objects of one hash.
+use Rattle.std.specs.Prelude.{◌≡◌, ℕ, Bool, false, not, List, [], ◌∷◌, Option, Some, None, if◌then◌else◌, refl}
+use Rattle.std.specs.Coded.{Coded, code_by, coded_ℕ, coded×}
+use Rattle.std.specs.List.{AllByRecursion}
+use Rattle.std.specs.Ordering.{nat_cmp}
+use Rattle.std.specs.Cmp.Lexicographic.{slice_cmp}
+use Rattle.std.specs.FinMap as map
+use Rattle.std.specs.declared.cmp.Ordering.{Ordering}
+use Rattle.std.specs.declared.cmp.Ordering.TheVariants.{Less, Greater}
+use Rattle.fetch_store.specs.declared.id.Kind.{Kind}
+use Rattle.fetch_store.specs.declared.id.ObjectId.{ObjectId}
+use Rattle.fetch_store.specs.declared.id.ObjectId.TheVariants as ids
+use Rattle.fetch_store.specs.Id.{kind_of}
+use Rattle.fetch_store.specs.Objects.{Stored, has_same_text}
+use Rattle.fetch_store.specs.Codes.{coded_kind, coded_id, coded_stored}
+
+-- shorter hashes first, and then byte by byte
+abbrev pub id_cmp : ObjectId → ObjectId → Ordering
+id_cmp (ids.Sha1 a) (ids.Sha1 b) = slice_cmp nat_cmp a b
+id_cmp (ids.Sha1 a) (ids.Sha256 b) = Less
+id_cmp (ids.Sha256 a) (ids.Sha1 b) = Greater
+id_cmp (ids.Sha256 a) (ids.Sha256 b) = slice_cmp nat_cmp a b
+
+abbrev pub ObjectMap : Type 0
+ObjectMap = map.FinMap id_cmp Stored
+
+-- its objects, and how many more it has room for
+pub record StoreValue : Type 0 where
+  pub hash : Kind
+  pub objects : ObjectMap
+  pub spare : ℕ
+
+abbrev pub coded_store : Coded StoreValue
+coded_store =
+    code_by (Kind × (ObjectMap × ℕ)) (coded× coded_kind (coded× (map.code {R = id_cmp} coded_id coded_stored) coded_ℕ))
+    (λ s. (s.hash, (s.objects, s.spare))) (λ p. record { hash = p.0; objects = p.1.0; spare = p.1.1 }) (λ _. refl)
+
+abbrev pub Entries : Type 0
+Entries = List (ObjectId × Stored)
+
+-- the map of a list; the first entry of an id stands
+abbrev pub map_of : Entries → ObjectMap
+map_of os = map.from_entries os
+
+-- the ids and the objects are of this hash
+abbrev pub AreOf : Kind → Entries → Type 0
+AreOf hash os = AllByRecursion (λ o. (kind_of o.0 ≡ hash) × (o.1.hash ≡ hash)) os
+
+-- An id keeps the object that it has.
+abbrev pub add : ObjectMap → ObjectId × Stored → ObjectMap
+add m o = if map.contains_key m o.0 then m else map.insert m o.0 o.1
+
+abbrev pub add_all : ObjectMap → Entries → ObjectMap
+add_all m [] = m
+add_all m (o ∷ os) = add_all (add m o) os
+
+-- what one list has, or else the other
+abbrev pub first_some : Option Stored → Option Stored → Option Stored
+first_some None other = other
+first_some (Some found) other = Some found
+
+-- whether an id has another kind or other bytes already
+abbrev pub clashes : Option Stored → Stored → Bool
+clashes None o = false
+clashes (Some found) o = not (has_same_text found o)
+
+-- the first id that has another object in the map or earlier in the list
+abbrev pub collision : ObjectMap → Entries → Option ObjectId
+collision m [] = None
+collision m (o ∷ os) = if clashes (map.get m o.0) o.1 then Some o.0 else collision (add m o) os

@@ -1,0 +1,157 @@
+//! A copy of what a store's objects say of its history, without their bytes.
+
+ghost use Rattle.std.specs.Prelude.{◌≡◌, ◌++◌, None, IfOk, IfErr, OnOk, map as listed};
+ghost use Rattle.std.specs.FinMap as map;
+ghost use Rattle.std.specs.Option.{option_copied};
+ghost use Rattle.fetch_store.specs.declared.error.StoreError.TheVariants as errors;
+ghost use Rattle.fetch_store.specs.Graph.{node_of, graph_of};
+ghost use Rattle.fetch_store.specs.References.{seen};
+ghost use Rattle.fetch_store.specs.Stores.{AreOf, add_all, collision};
+
+use crate::entries::{arrange, find_in_order};
+use crate::error::{NoMemory, StoreError};
+use crate::id::ObjectId;
+use crate::object::{Object, ObjectRef};
+use crate::object_kind::ObjectKind;
+use crate::objects::{Objects, target};
+use crate::store::Store;
+use std::alloc::Global;
+use std::marker::Model;
+
+/// What an object says of its history.
+#[derive(Debug, Drop)]
+pub struct History {
+    pub kind: ObjectKind,
+    pub parents: Vec<ObjectId>,
+    pub seconds: Option<u64>,
+    pub target: Option<ObjectId>,
+}
+
+impl Model for History {
+    ghost use Rattle.fetch_store.specs.Graph.{Node, coded_node};
+
+    ghost Value = { Node };
+
+    ghost coded = { coded_node };
+
+    ghost view = { λ n. record { kind = n.kind; parents = n.parents.items; seconds = n.seconds; target = n.target } };
+}
+
+/// The histories of a store's objects, by id. Contracts see it as a finite map.
+#[derive(Debug, Drop)]
+pub struct Graph {
+    nodes: Vec<(ObjectId, History)>,
+}
+
+impl Model for Graph {
+    ghost use Rattle.std.specs.FinMap as map;
+    ghost use Rattle.fetch_store.specs.Entries.{IsInOrder};
+    ghost use Rattle.fetch_store.specs.Graph as spec;
+    ghost use Rattle.fetch_store.specs.Graph.{coded_graph};
+
+    ghost Value = { spec.Graph };
+
+    ghost coded = { coded_graph };
+
+    ghost view = { λ g. map.from_sorted g.nodes.items };
+
+    ghost invariant = { λ g. IsInOrder g.nodes.items };
+}
+
+impl Graph {
+    /// The graph of a store.
+    pub fn of(alloc: Global, store: &Store) -> Result<Graph, StoreError>
+        ensures graph { IfOk result (λ graph. graph ≡ graph_of store.now.objects) }
+        ensures memory { IfErr result (λ e. e ≡ errors.NoMemory) }
+    {
+        let mut nodes = Vec::new(alloc);
+        append(&mut nodes, alloc, store.entries())?;
+        Ok(Graph { nodes })
+    }
+
+    /// The graph that the store would have with the list added. The store stays as it is.
+    pub fn of_added(
+        alloc: Global,
+        store: &Store,
+        objects: &[(ObjectId, Object)],
+    ) -> Result<Graph, StoreError>
+        requires of_hash { AreOf store.now.hash objects.now }
+        requires no_collision { collision store.now.objects objects.now ≡ None }
+        ensures graph { IfOk result (λ graph. graph ≡ graph_of (add_all store.now.objects objects.now)) }
+        ensures memory { IfErr result (λ e. e ≡ errors.NoMemory) }
+    {
+        let mut nodes = Vec::new(alloc);
+        append(&mut nodes, alloc, store.entries())?;
+        append(&mut nodes, alloc, objects)?;
+        arrange(&mut nodes);
+        Ok(Graph { nodes })
+    }
+
+    fn get(&self, id: &ObjectId) -> Option<&History>
+        ensures { option_copied result ≡ map.get self.now id.now }
+    {
+        find_in_order(self.nodes.as_slice(), id)
+    }
+}
+
+/// Puts the histories of the objects behind the others.
+fn append(
+    nodes: &mut Vec<(ObjectId, History)>,
+    alloc: Global,
+    objects: &[(ObjectId, Object)],
+) -> Result<(), NoMemory>
+    ensures { OnOk result (nodes.new.items ≡ nodes.old.items ++ listed (λ e. (e.0, node_of e.1)) objects.now) }
+{
+    for (id, object) in objects {
+        let history = history_of(alloc, object.as_ref())?;
+        nodes.push((*id, history))?;
+    }
+    Ok(())
+}
+
+fn history_of(alloc: Global, object: ObjectRef<'_>) -> Result<History, NoMemory>
+    ensures { IfOk result (λ history. history ≡ node_of (seen object.entry)) }
+{
+    Ok(History {
+        kind: object.kind(),
+        parents: object.parents().collect(alloc)?,
+        seconds: object.seconds(),
+        target: target(&object),
+    })
+}
+
+impl Objects for Graph {
+    ghost graph = { λ g. g };
+
+    fn len(&self) -> usize {
+        self.nodes.len()
+    }
+
+    fn kind_of(&self, id: &ObjectId) -> Option<ObjectKind> {
+        match self.get(id) {
+            Some(node) => Some(node.kind),
+            None => None,
+        }
+    }
+
+    fn parent(&self, id: &ObjectId, index: usize) -> Option<ObjectId> {
+        match self.get(id) {
+            Some(node) => node.parents.get(index).copied(),
+            None => None,
+        }
+    }
+
+    fn seconds(&self, id: &ObjectId) -> Option<u64> {
+        match self.get(id) {
+            Some(node) => node.seconds,
+            None => None,
+        }
+    }
+
+    fn tag_target(&self, id: &ObjectId) -> Option<ObjectId> {
+        match self.get(id) {
+            Some(node) => node.target,
+            None => None,
+        }
+    }
+}

@@ -1,0 +1,45 @@
+//! Git's objects: their ids, their grammar, and a store of them.
+#![tactic(auto)]
+
+mod border;
+mod counter;
+mod entries;
+mod error;
+mod files;
+mod grammar;
+mod graph;
+mod hashing;
+mod id;
+mod laws;
+mod list;
+mod missing;
+mod object;
+mod object_kind;
+mod objects;
+mod scan;
+mod store;
+mod text;
+
+pub use border::Border;
+pub use counter::Steps;
+pub use error::{NoMemory, StoreError};
+pub use files::{Failed, FileError, Files, MemoryFiles, Node};
+pub use graph::Graph;
+pub use hashing::{digest, id_of};
+pub use id::{Kind, ObjectId};
+pub use laws::{
+    a_connected_pack_keeps_a_repository_closed, adding_keeps_what_is_stored,
+    an_honest_pack_keeps_a_repository_closed, an_honest_pack_still_connects,
+    closed_is_nothing_missing, tags_are_texts,
+};
+pub use list::List;
+pub use missing::{Missing, first_missing};
+pub use object::{Links, Object, ObjectRef};
+pub use object_kind::ObjectKind;
+pub use objects::Objects;
+pub use scan::{after, split_first, split_last, splits_exactly};
+pub use store::Store;
+pub use text::Text;
+
+#[cfg(test)]
+mod tests;

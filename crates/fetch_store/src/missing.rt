@@ -1,0 +1,100 @@
+//! Links to what is not stored.
+
+ghost use Rattle.std.specs.Prelude.{◌≡◌, ◌↔◌, None, IfOk, IsOk, slice_get, option_map, if◌then◌else◌};
+ghost use Rattle.std.specs.FinMap as map;
+ghost use Rattle.fetch_store.specs.declared.object_kind.ObjectKind.TheVariants as objects;
+ghost use Rattle.fetch_store.specs.Closed as closed;
+ghost use Rattle.fetch_store.specs.Closed.{IsClosed, holding};
+ghost use Rattle.fetch_store.specs.Missing as spec;
+ghost use Rattle.fetch_store.specs.Objects.{is_kind};
+ghost use Rattle.fetch_store.specs.References.{seen, ids_left};
+
+use crate::border::Border;
+use crate::error::StoreError;
+use crate::id::ObjectId;
+use crate::object::{Links, ObjectRef};
+use crate::object_kind::ObjectKind;
+use crate::store::Store;
+
+/// A link, and what it leads to.
+#[derive(Clone, Copy, Debug, PartialEq, Eq)]
+pub struct Missing {
+    pub from: ObjectId,
+    pub to: ObjectId,
+}
+
+/// The first link that keeps the repository from being closed: of the stored objects in ascending order, each one's
+/// links in order, parents of border commits aside, the first to what isn't stored; then of the border ids in
+/// ascending order the first that is no stored commit, told with `from` and `to` equal. Takes no memory.
+pub fn first_missing(store: &Store, border: &Border) -> Result<Option<Missing>, StoreError>
+    ensures first { IfOk result (λ missing. missing ≡ slice_get (spec.unclosed (holding store.now.objects border.now)) 0) }
+    ensures closed { IfOk result (λ missing. IsClosed (holding store.now.objects border.now) ↔ (missing ≡ None)) }
+    ensures answers { IsOk result }
+{
+    if let Some(missing) = first_unlinked(store, border) {
+        return Ok(Some(missing));
+    }
+    Ok(first_unknown(store, border.commits()))
+}
+
+fn first_unlinked(store: &Store, border: &Border) -> Option<Missing>
+    ensures { result ≡ slice_get (spec.unlinked_in store.now.objects border.now (map.entries store.now.objects)) 0 }
+{
+    let objects = store.entries();
+    for (id, object) in objects {
+        let links = links_within(object.as_ref(), border.contains(id));
+        if let Some(missing) = first_unstored(store, id, links) {
+            return Some(missing);
+        }
+    }
+    None
+}
+
+fn first_unknown(store: &Store, ids: &[ObjectId]) -> Option<Missing>
+    ensures { result ≡ slice_get (spec.unknown_in store.now.objects ids.now) 0 }
+{
+    for id in ids {
+        if !is_commit(store.get(id)) {
+            return Some(Missing { from: *id, to: *id });
+        }
+    }
+    None
+}
+
+/// The first of the links to what is not stored.
+fn first_unstored(store: &Store, from: &ObjectId, links: Links<'_>) -> Option<Missing>
+    ensures { result ≡ slice_get (spec.unstored store.now.objects from.now (ids_left links.entry)) 0 }
+{
+    let mut links = links;
+    while let Some(to) = links.next() {
+        if !store.contains(&to) {
+            return Some(Missing { from: *from, to });
+        }
+    }
+    None
+}
+
+fn links_within<'a>(object: ObjectRef<'a>, in_border: bool) -> Links<'a>
+    ensures { ids_left result ≡ (if in_border then closed.others (seen object.entry) else closed.links (seen object.entry)) }
+{
+    if in_border {
+        object.others()
+    } else {
+        object.links()
+    }
+}
+
+fn is_commit(object: Option<ObjectRef<'_>>) -> bool
+    ensures { result ≡ closed.is_commit (option_map seen object.entry) }
+{
+    match object {
+        Some(object) => is_commit_kind(object.kind()),
+        None => false,
+    }
+}
+
+fn is_commit_kind(kind: ObjectKind) -> bool
+    ensures { result ≡ is_kind kind objects.Commit }
+{
+    matches!(kind, ObjectKind::Commit)
+}

@@ -1,0 +1,272 @@
+//! Objects, and what they say.
+
+ghost use Rattle.std.specs.Prelude.{◌≡◌, ◌↔◌, ◌≤◌, length, IsOk, IfOk, IfErr, List, ℕ, if◌then◌else◌};
+ghost use Rattle.std.specs.Iterator.{YieldsFirst, item_count};
+ghost use Rattle.fetch_store.specs.Objects as spec;
+ghost use Rattle.fetch_store.specs.References.{seen, ids_left, wanted_id};
+ghost use Rattle.fetch_store.specs.declared.error.StoreError.TheVariants as errors;
+
+use crate::error::{NoMemory, StoreError};
+use crate::grammar::{Expected, Part, part_at};
+use crate::id::{Kind, ObjectId};
+use crate::object_kind::ObjectKind;
+use std::marker::Model;
+
+/// An object of the grammar.
+#[derive(Debug, Drop)]
+pub struct Object {
+    hash: Kind,
+    kind: ObjectKind,
+    bytes: Vec<u8>,
+}
+
+impl Model for Object {
+    ghost use Rattle.fetch_store.specs.Objects.{Stored, IsObject};
+
+    ghost Value = { Stored };
+
+    ghost view = { λ o. record { hash = o.hash; kind = o.kind; bytes = o.bytes.items } };
+
+    ghost invariant = { λ o. IsObject o.hash o.kind o.bytes.items };
+}
+
+impl Object {
+    /// Reads an object's bytes.
+    pub fn parse(kind: Kind, object_kind: ObjectKind, bytes: Vec<u8>) -> Result<Object, StoreError>
+        ensures accepted { IsOk result ↔ spec.IsObject kind object_kind bytes.items }
+        ensures object { IfOk result (λ o. o ≡ record { hash = kind; kind = object_kind; bytes = bytes.items }) }
+        ensures refused { IfErr result (λ e. e ≡ errors.MalformedObject object_kind (spec.place_of kind object_kind bytes.items)) }
+    {
+        let (expected, left) = end_of_parts(kind, object_kind, bytes.as_slice());
+        if may_end(expected, left) {
+            Ok(Object {
+                hash: kind,
+                kind: object_kind,
+                bytes,
+            })
+        } else {
+            let place = bytes.len() - left;
+            Err(StoreError::MalformedObject {
+                kind: object_kind,
+                place,
+            })
+        }
+    }
+
+    /// An object with the same text.
+    pub fn try_clone(&self) -> Result<Object, NoMemory>
+        ensures { IfOk result (λ copy. copy ≡ self.now) }
+    {
+        Ok(Object {
+            hash: self.hash,
+            kind: self.kind,
+            bytes: self.bytes.clone()?,
+        })
+    }
+
+    /// Whether both have one kind and the same bytes.
+    pub fn has_same_text(&self, other: &Object) -> bool
+        ensures { result ≡ spec.has_same_text self.now other.now }
+    {
+        self.kind == other.kind && self.bytes.as_slice() == other.bytes.as_slice()
+    }
+
+    pub fn as_ref(&self) -> ObjectRef<'_>
+        ensures same { seen result ≡ self.now }
+        ensures valid { spec.IsObject self.now.hash self.now.kind self.now.bytes }
+    {
+        ObjectRef {
+            hash: self.hash,
+            kind: self.kind,
+            bytes: self.bytes.as_slice(),
+        }
+    }
+}
+
+/// What is expected behind the last part, and how many bytes are left there.
+fn end_of_parts(hash: Kind, kind: ObjectKind, bytes: &[u8]) -> (Expected, usize)
+    ensures expected { result.0 ≡ (spec.reading_of hash kind bytes.now).expected }
+    ensures left { result.1 ≡ length (spec.reading_of hash kind bytes.now).rest }
+    ensures within { result.1 ≤ length bytes.now }
+{
+    let mut expected = first_of(kind);
+    let mut rest = bytes;
+    while let Some(step) = part_at(hash, expected, rest) {
+        expected = step.expected;
+        rest = step.rest;
+    }
+    (expected, rest.len())
+}
+
+fn first_of(kind: ObjectKind) -> Expected
+    ensures { result ≡ spec.first_of kind }
+{
+    match kind {
+        ObjectKind::Commit => Expected::TreeLine,
+        ObjectKind::Tree => Expected::Entry,
+        ObjectKind::Blob => Expected::Anything,
+        ObjectKind::Tag => Expected::TaggedLine,
+    }
+}
+
+fn may_end(expected: Expected, left: usize) -> bool
+    ensures { (rest : List ℕ) → length rest ≡ left → result ≡ spec.may_end expected rest }
+{
+    match expected {
+        Expected::Anything => true,
+        Expected::Entry => left == 0,
+        _ => false,
+    }
+}
+
+/// An object that someone else keeps.
+#[derive(Clone, Copy, Debug)]
+pub struct ObjectRef<'a> {
+    hash: Kind,
+    kind: ObjectKind,
+    bytes: &'a [u8],
+}
+
+impl<'a> ObjectRef<'a> {
+    pub fn kind(&self) -> ObjectKind
+        ensures { result ≡ (seen self.now).kind }
+    {
+        self.kind
+    }
+
+    pub fn bytes(&self) -> &'a [u8]
+        ensures { result.now ≡ (seen self.now).bytes }
+    {
+        self.bytes
+    }
+
+    /// A commit's tree and parents, a tree's entries but submodules, or a tag's target, in order.
+    pub fn links(&self) -> Links<'a>
+        ensures { let o = seen self.now in ids_left result ≡ spec.links_of o.hash o.kind o.bytes }
+    {
+        self.ids(Wanted::Links)
+    }
+
+    /// A commit's parents, in order.
+    pub fn parents(&self) -> Links<'a>
+        ensures { let o = seen self.now in ids_left result ≡ spec.parents_of o.hash o.kind o.bytes }
+    {
+        self.ids(Wanted::Parents)
+    }
+
+    /// The links but a commit's parents, in order.
+    pub fn others(&self) -> Links<'a>
+        ensures { let o = seen self.now in ids_left result ≡ spec.others_of o.hash o.kind o.bytes }
+    {
+        self.ids(Wanted::Others)
+    }
+
+    fn ids(&self, wanted: Wanted) -> Links<'a>
+        ensures { result ≡ record { hash = self.now.hash; wanted = wanted; expected = spec.first_of self.now.kind; rest = self.now.bytes } }
+    {
+        Links {
+            hash: self.hash,
+            wanted,
+            expected: first_of(self.kind),
+            rest: self.bytes,
+        }
+    }
+
+    /// The committer's number, for a commit.
+    pub fn seconds(&self) -> Option<u64>
+        ensures { let o = seen self.now in result ≡ spec.seconds_of o.hash o.kind o.bytes }
+    {
+        let mut expected = first_of(self.kind);
+        let mut rest = self.bytes;
+        while let Some(step) = part_at(self.hash, expected, rest) {
+            if let Some(seconds) = seconds_in(step.part) {
+                return Some(seconds);
+            }
+            expected = step.expected;
+            rest = step.rest;
+        }
+        None
+    }
+}
+
+/// Which of its ids an object is read for.
+#[derive(Clone, Copy, Debug)]
+enum Wanted {
+    Links,
+    Parents,
+    Others,
+}
+
+/// The ids that an object links to.
+#[derive(Debug, Drop)]
+pub struct Links<'a> {
+    hash: Kind,
+    wanted: Wanted,
+    expected: Expected,
+    rest: &'a [u8],
+}
+
+impl Iterator for Links<'_> {
+    type Item = ObjectId;
+
+    ghost next_gives = { YieldsFirst ids_left };
+
+    ghost remaining = { item_count ids_left };
+
+    fn next(&mut self) -> Option<ObjectId> {
+        while let Some(step) = part_at(self.hash, self.expected, self.rest) {
+            self.expected = step.expected;
+            self.rest = step.rest;
+            if let Some(id) = wanted_in(self.wanted, step.part) {
+                return Some(id);
+            }
+        }
+        None
+    }
+}
+
+fn wanted_in(wanted: Wanted, part: Part) -> Option<ObjectId>
+    ensures { result ≡ wanted_id wanted part }
+{
+    match wanted {
+        Wanted::Links => link_in(part),
+        Wanted::Parents => parent_in(part),
+        Wanted::Others => other_link_in(part),
+    }
+}
+
+fn other_link_in(part: Part) -> Option<ObjectId>
+    ensures { result ≡ spec.other_link_in part }
+{
+    match part {
+        Part::Parent(_) => None,
+        _ => link_in(part),
+    }
+}
+
+fn seconds_in(part: Part) -> Option<u64>
+    ensures { result ≡ spec.seconds_in part }
+{
+    match part {
+        Part::Committer(seconds) => Some(seconds),
+        _ => None,
+    }
+}
+
+fn parent_in(part: Part) -> Option<ObjectId>
+    ensures { result ≡ spec.parent_in part }
+{
+    match part {
+        Part::Parent(id) => Some(id),
+        _ => None,
+    }
+}
+
+fn link_in(part: Part) -> Option<ObjectId>
+    ensures { result ≡ spec.link_in part }
+{
+    match part {
+        Part::Tree(id) | Part::Parent(id) | Part::Entry(id) | Part::Tagged(id) => Some(id),
+        _ => None,
+    }
+}
