@@ -1,0 +1,13 @@
+pub mod Components
+pub mod Fronts
+pub mod Turns
+pub mod FullNames
+pub mod Prints
+pub mod TagTexts
+pub mod Joins
+pub mod Keys
+pub mod Placing
+pub mod Conflicting
+pub mod Ascending
+pub mod Stars
+pub mod Repeats

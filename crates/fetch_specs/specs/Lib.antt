@@ -1,0 +1,11 @@
+pub mod Categories
+pub mod Names
+pub mod Scans
+pub mod Specs
+pub mod Parses
+pub mod Views
+pub mod Tagged
+pub mod Matches
+pub mod FoundSets
+pub mod Prefixes
+pub mod Conflicts

@@ -1,0 +1,179 @@
+//! The prefixes that a listing is asked for.
+
+ghost use Rattle.std.specs.Prelude.{ℕ, List, [], is_some, IsTrue, ◌≡◌, ◌++◌, ◌∷◌, ◌≤◌, ◌==◌, length, take, drop, IfOk, OnOk, IsOkUnless, MatchOption};
+ghost use Rattle.std.specs.List.{flat_map, list_any, position_or_len};
+ghost use Rattle.std.specs.Option.{option_copied};
+ghost use Rattle.std.specs.Str.{bytes_eq};
+ghost use Rattle.fetch_specs.specs.Matches as stars;
+ghost use Rattle.fetch_specs.specs.Matches.{is_exclusion};
+ghost use Rattle.fetch_specs.specs.Parses as spec;
+ghost use Rattle.fetch_specs.specs.Prefixes as words;
+ghost use Rattle.fetch_specs.specs.Prefixes.{prefixes_of, put_all, IsListing};
+ghost use Rattle.fetch_specs.specs.Specs.{Spec};
+ghost use Rattle.fetch_specs.specs.declared.error.SpecError.TheVariants as errors;
+
+use crate::error::SpecError;
+use crate::pattern::has_star;
+use crate::reading::id_named;
+use crate::spec::RefSpec;
+use fetch_store::{NoMemory, Text};
+use std::alloc::Global;
+use std::cmp::Ordering;
+
+/// What a listing is to be asked for, sorted and each prefix once.
+#[tactic(auto, unfolding(crate::specs::Prefixes::prefixes_of))]
+pub fn prefixes(alloc: Global, specs: &[RefSpec]) -> Result<Vec<Text>, SpecError>
+    ensures prefixes { IfOk result (λ texts. texts.items ≡ prefixes_of specs.now) }
+    ensures memory { IsOkUnless result errors.NoMemory }
+{
+    let mut texts = Vec::new(alloc);
+    put_specs(alloc, &mut texts, specs)?;
+    Ok(texts)
+}
+
+/// What a listing is asked for ascends, each text once, and is what some refspec asks for and nothing
+/// else.
+pub fn prefixes_ascend_and_are_asked_for()
+    ensures { (specs : List Spec) → IsListing specs (prefixes_of specs) }
+{}
+
+/// An exclusion and an id ask for nothing, and a source with a star asks at most for its front
+/// `refs/x/`, where the star stands behind it.
+pub fn what_a_refspec_asks_for()
+    ensures exclusion { (spec : Spec) → IsTrue (is_exclusion spec.mode) → words.spec_prefixes spec ≡ [] }
+    ensures id { (source : List ℕ) → IsTrue (is_some (spec.id_named source)) → words.source_prefixes source ≡ [] }
+    ensures star { (source : List ℕ) (text : List ℕ) → IsTrue (stars.has_star source) → IsTrue (list_any (bytes_eq text) (words.source_prefixes source)) → words.IsPlainFront source text }
+{}
+
+fn put_specs(alloc: Global, texts: &mut Vec<Text>, specs: &[RefSpec]) -> Result<(), NoMemory>
+    ensures { OnOk result (texts.new.items ≡ put_all texts.old.items (flat_map words.spec_prefixes specs.now)) }
+{
+    for i in 0..specs.len() {
+        put_spec(alloc, texts, &specs[i])?;
+    }
+    Ok(())
+}
+
+fn put_spec(alloc: Global, texts: &mut Vec<Text>, spec: &RefSpec) -> Result<(), NoMemory>
+    ensures { OnOk result (texts.new.items ≡ put_all texts.old.items (words.spec_prefixes spec.now)) }
+{
+    if spec.is_exclusion() {
+        return Ok(());
+    }
+    match spec.source() {
+        Some(source) => put_source(alloc, texts, source),
+        None => Ok(()),
+    }
+}
+
+#[tactic(auto, unfolding(crate::specs::Parses::head, crate::specs::Categories::refs))]
+fn put_source(alloc: Global, texts: &mut Vec<Text>, source: &[u8]) -> Result<(), NoMemory>
+    ensures { OnOk result (texts.new.items ≡ put_all texts.old.items (words.source_prefixes source.now)) }
+{
+    if id_named(source).is_some() {
+        return Ok(());
+    }
+    if source == b"HEAD".as_slice() {
+        return put(texts, Text::new(alloc, b"HEAD")?);
+    }
+    if source.starts_with(b"refs/") {
+        return put_front(alloc, texts, source);
+    }
+    if has_star(source) {
+        return Ok(());
+    }
+    put_expansions(alloc, texts, source)
+}
+
+/// Puts the front of a source up to its second slash.
+fn put_front(alloc: Global, texts: &mut Vec<Text>, source: &[u8]) -> Result<(), NoMemory>
+    ensures { OnOk result (texts.new.items ≡ put_all texts.old.items (words.refs_prefix source.now)) }
+{
+    let front = front_of(source);
+    if has_star(front) {
+        return Ok(());
+    }
+    put(texts, Text::new(alloc, front)?)
+}
+
+/// A source up to and with its second slash.
+fn front_of(source: &[u8]) -> &[u8]
+    ensures { result.now ≡ take (words.second_slash source.now) source.now }
+{
+    let first = slash_or_end(source);
+    if first == source.len() {
+        return source;
+    }
+    let second = slash_or_end(&source[first + 1..]);
+    if first + 1 + second == source.len() {
+        return source;
+    }
+    &source[..first + 1 + second + 1]
+}
+
+fn slash_or_end(text: &[u8]) -> usize
+    ensures place { result ≡ position_or_len (λ b. b == 47) text.now }
+    ensures within { result ≤ length text.now }
+{
+    text.iter().take_while(|b| **b != b'/').count()
+}
+
+#[tactic(auto, unfolding(crate::specs::Categories::refs, crate::specs::Categories::tags, crate::specs::Categories::heads, crate::specs::Categories::remotes, crate::specs::Matches::slash_head))]
+fn put_expansions(alloc: Global, texts: &mut Vec<Text>, source: &[u8]) -> Result<(), NoMemory>
+    ensures { OnOk result (texts.new.items ≡ put_all texts.old.items (words.expansions source.now)) }
+{
+    put(texts, Text::new(alloc, source)?)?;
+    put_joined(alloc, texts, b"refs/", source)?;
+    put_joined(alloc, texts, b"refs/tags/", source)?;
+    put_joined(alloc, texts, b"refs/heads/", source)?;
+    put_joined(alloc, texts, b"refs/remotes/", source)?;
+    let head = joined(alloc, source, b"/HEAD")?;
+    put_joined(alloc, texts, b"refs/remotes/", head.as_slice())
+}
+
+fn joined(alloc: Global, front: &[u8], back: &[u8]) -> Result<Vec<u8>, NoMemory>
+    ensures { IfOk result (λ text. text.items ≡ front.now ++ back.now) }
+{
+    let mut text = Vec::from_slice(alloc, front)?;
+    text.extend_from_slice(back)?;
+    Ok(text)
+}
+
+fn put_joined(
+    alloc: Global,
+    texts: &mut Vec<Text>,
+    front: &[u8],
+    back: &[u8],
+) -> Result<(), NoMemory>
+    ensures { OnOk result (texts.new.items ≡ words.put (front.now ++ back.now) texts.old.items) }
+{
+    let text = joined(alloc, front, back)?;
+    put(texts, Text::from(text))
+}
+
+/// Puts a text among sorted ones, unless it is there.
+fn put(texts: &mut Vec<Text>, text: Text) -> Result<(), NoMemory>
+    ensures { OnOk result (texts.new.items ≡ words.put text texts.old.items) }
+{
+    match place(texts.as_slice(), &text) {
+        Some(i) => {
+            texts.insert(i, text)?;
+            Ok(())
+        }
+        None => Ok(()),
+    }
+}
+
+/// Where a text belongs among sorted ones, unless it is there.
+fn place(texts: &[Text], text: &Text) -> Option<usize>
+    ensures { MatchOption result (words.put text.now texts.now ≡ texts.now) (λ i. (i ≤ length texts.now) × (words.put text.now texts.now ≡ take i texts.now ++ text.now ∷ drop i texts.now)) }
+{
+    for i in 0..texts.len() {
+        match text.cmp(&texts[i]) {
+            Ordering::Less => return Some(i),
+            Ordering::Equal => return None,
+            Ordering::Greater => {}
+        }
+    }
+    Some(texts.len())
+}

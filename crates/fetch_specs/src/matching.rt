@@ -1,0 +1,355 @@
+//! What a list of refspecs maps, and what leads to a name.
+
+ghost use Rattle.std.specs.Prelude.{◌≡◌, map, IfOk, OnOk, IsOkUnless};
+ghost use Rattle.std.specs.Option.{option_copied, option_map};
+ghost use Rattle.fetch_specs.specs.Matches as words;
+ghost use Rattle.fetch_specs.specs.Matches.{added_all, mappings_of, sources_of};
+ghost use Rattle.fetch_specs.specs.declared.error.SpecError.TheVariants as errors;
+
+use crate::error::SpecError;
+use crate::found::{Found, Match, SourceRef};
+use crate::pattern::{
+    back_of, between, completed, expanded, front_of, has_star, taken, with_middle,
+};
+use crate::reading::id_named;
+use crate::spec::RefSpec;
+use fetch_store::{Kind, NoMemory, ObjectId, Text};
+use std::alloc::Global;
+use std::marker::Model;
+
+/// A name that a remote, or a repository, has.
+#[derive(Debug, Drop)]
+pub struct Item {
+    /// The full name.
+    pub full_ref_name: Text,
+}
+
+/// Refspecs that are matched together.
+#[derive(Debug, Drop)]
+pub struct MatchGroup<'a> {
+    specs: &'a [RefSpec],
+}
+
+impl<'a> Model for MatchGroup<'a> {
+    ghost use Rattle.std.specs.Prelude.{List};
+    ghost use Rattle.fetch_specs.specs.Specs.{Spec};
+
+    ghost Value = { List Spec };
+
+    ghost view = { λ group. group.specs.now };
+}
+
+impl<'a> MatchGroup<'a> {
+    /// The refspecs of a fetch.
+    pub fn from_fetch_specs(specs: &'a [RefSpec]) -> MatchGroup<'a>
+        ensures { result ≡ specs.now }
+    {
+        MatchGroup { specs }
+    }
+
+    /// What the refspecs map of the items: first the sources that are ids of this kind, then refspec by
+    /// refspec and item by item, each pair of source and destination once.
+    pub fn match_lhs(
+        &self,
+        alloc: Global,
+        items: &[Item],
+        kind: Kind,
+    ) -> Result<Vec<Match>, SpecError>
+        ensures mappings { IfOk result (λ found. found.items ≡ mappings_of self.now (map (λ item. item.full_ref_name) items.now) kind) }
+        ensures memory { IsOkUnless result errors.NoMemory }
+    {
+        let mut found = Found::new(alloc, true);
+        add_ids(alloc, &mut found, self.specs, kind)?;
+        add_names(alloc, &mut found, self.specs, items)?;
+        Ok(found.into_matches())
+    }
+
+    /// The sources that lead to the items, refspec by refspec and item by item, each source once.
+    pub fn match_rhs(&self, alloc: Global, items: &[Item]) -> Result<Vec<Match>, SpecError>
+        ensures sources { IfOk result (λ found. found.items ≡ sources_of self.now (map (λ item. item.full_ref_name) items.now)) }
+        ensures memory { IsOkUnless result errors.NoMemory }
+    {
+        let mut found = Found::new(alloc, false);
+        add_sources(alloc, &mut found, self.specs, items)?;
+        Ok(found.into_matches())
+    }
+}
+
+fn source_taken<'a>(source: Option<&[u8]>, name: &'a [u8]) -> Option<&'a [u8]>
+    ensures { option_copied result ≡ words.source_taken (option_copied source.entry) name.now }
+{
+    match source {
+        Some(source) => taken(source, name),
+        None => None,
+    }
+}
+
+fn source_id(source: Option<&[u8]>) -> Option<ObjectId>
+    ensures { result ≡ words.source_id (option_copied source.entry) }
+{
+    match source {
+        Some(source) => id_named(source),
+        None => None,
+    }
+}
+
+fn is_exclusion(spec: &RefSpec) -> bool
+    ensures { result ≡ words.is_exclusion spec.now.mode }
+{
+    spec.is_exclusion()
+}
+
+fn excludes(name: &[u8], spec: &RefSpec) -> bool
+    ensures { result ≡ words.excludes name.now spec.now }
+{
+    is_exclusion(spec) && source_taken(spec.source(), name).is_some()
+}
+
+fn is_excluded(specs: &[RefSpec], name: &[u8]) -> bool
+    ensures { result ≡ words.is_excluded specs.now name.now }
+{
+    for spec in specs {
+        if excludes(name, spec) {
+            return true;
+        }
+    }
+    false
+}
+
+fn is_of(kind: Kind, id: &ObjectId) -> bool
+    ensures { result ≡ words.is_of kind id.now }
+{
+    match (kind, id) {
+        (Kind::Sha1, ObjectId::Sha1(_)) | (Kind::Sha256, ObjectId::Sha256(_)) => true,
+        _ => false,
+    }
+}
+
+fn expanded_side(
+    alloc: Global,
+    middle: &[u8],
+    destination: Option<&[u8]>,
+) -> Result<Option<Text>, NoMemory>
+    ensures { IfOk result (λ text. text ≡ option_map (words.expanded middle.now) (option_copied destination.entry)) }
+{
+    match destination {
+        Some(destination) => {
+            let text = expanded(alloc, middle, destination)?;
+            Ok(Some(Text::from(text)))
+        }
+        None => Ok(None),
+    }
+}
+
+/// What a refspec whose source is an id of this kind maps.
+fn id_match(
+    alloc: Global,
+    kind: Kind,
+    index: usize,
+    spec: &RefSpec,
+) -> Result<Option<Match>, NoMemory>
+    ensures { IfOk result (λ found. found ≡ words.id_match kind index spec.now) }
+{
+    let Some(id) = source_id(spec.source()) else {
+        return Ok(None);
+    };
+    if is_exclusion(spec) || !is_of(kind, &id) {
+        return Ok(None);
+    }
+    let rhs = expanded_side(alloc, b"", spec.destination())?;
+    Ok(Some(Match {
+        lhs: SourceRef::ObjectId(id),
+        rhs,
+        item_index: None,
+        spec_index: index,
+    }))
+}
+
+/// What a refspec maps of a name.
+fn name_match(
+    alloc: Global,
+    specs: &[RefSpec],
+    index: usize,
+    spec: &RefSpec,
+    item: usize,
+    name: &[u8],
+) -> Result<Option<Match>, NoMemory>
+    ensures { IfOk result (λ found. found ≡ words.name_match specs.now index spec.now item name.now) }
+{
+    let Some(middle) = source_taken(spec.source(), name) else {
+        return Ok(None);
+    };
+    if is_exclusion(spec) || source_id(spec.source()).is_some() || is_excluded(specs, name) {
+        return Ok(None);
+    }
+    let rhs = expanded_side(alloc, middle, spec.destination())?;
+    Ok(Some(Match {
+        lhs: SourceRef::FullName(Text::new(alloc, name)?),
+        rhs,
+        item_index: Some(item),
+        spec_index: index,
+    }))
+}
+
+/// What a destination's star stands for in a name.
+fn given<'a>(
+    alloc: Global,
+    destination: &[u8],
+    name: &'a [u8],
+) -> Result<Option<&'a [u8]>, NoMemory>
+    ensures { IfOk result (λ middle. option_copied middle ≡ words.given destination.now name.now) }
+{
+    let full = completed(alloc, destination)?;
+    let full = full.as_slice();
+    if has_star(destination) {
+        Ok(between(front_of(full), back_of(full), name))
+    } else if full == name {
+        Ok(Some(b""))
+    } else {
+        Ok(None)
+    }
+}
+
+/// The source that leads to a name by a refspec with both sides.
+fn sides_match(
+    alloc: Global,
+    specs: &[RefSpec],
+    index: usize,
+    spec: &RefSpec,
+    item: usize,
+    name: &[u8],
+    source: &[u8],
+    destination: &[u8],
+) -> Result<Option<Match>, NoMemory>
+    ensures { IfOk result (λ found. found ≡ words.source_mapping specs.now index spec.now item name.now source.now destination.now (words.given destination.now name.now)) }
+{
+    let Some(middle) = given(alloc, destination, name)? else {
+        return Ok(None);
+    };
+    if is_exclusion(spec) || id_named(source).is_some() {
+        return Ok(None);
+    }
+    let back = expanded(alloc, middle, destination)?;
+    if back.as_slice() != name {
+        return Ok(None);
+    }
+    let source = with_middle(alloc, source, middle)?;
+    if is_excluded(specs, source.as_slice()) {
+        return Ok(None);
+    }
+    Ok(Some(Match {
+        lhs: SourceRef::FullName(Text::from(source)),
+        rhs: Some(Text::new(alloc, name)?),
+        item_index: Some(item),
+        spec_index: index,
+    }))
+}
+
+/// The source that leads to a name by a refspec.
+fn source_match(
+    alloc: Global,
+    specs: &[RefSpec],
+    index: usize,
+    spec: &RefSpec,
+    item: usize,
+    name: &[u8],
+) -> Result<Option<Match>, NoMemory>
+    ensures { IfOk result (λ found. found ≡ words.source_match specs.now index spec.now item name.now) }
+{
+    let Some(source) = spec.source() else {
+        return Ok(None);
+    };
+    let Some(destination) = spec.destination() else {
+        return Ok(None);
+    };
+    sides_match(alloc, specs, index, spec, item, name, source, destination)
+}
+
+fn add_some(found: &mut Found, one: Option<Match>) -> Result<(), NoMemory>
+    ensures added { OnOk result (found.new.matches ≡ added_all found.old.pairs found.old.matches (words.found one)) }
+    ensures pairs { found.new.pairs ≡ found.old.pairs }
+{
+    match one {
+        Some(one) => found.add(one),
+        None => Ok(()),
+    }
+}
+
+fn add_ids(alloc: Global, found: &mut Found, specs: &[RefSpec], kind: Kind) -> Result<(), NoMemory>
+    ensures added { OnOk result (found.new.matches ≡ added_all found.old.pairs found.old.matches (words.ids_from kind 0 specs.now)) }
+    ensures pairs { found.new.pairs ≡ found.old.pairs }
+{
+    for i in 0..specs.len() {
+        let one = id_match(alloc, kind, i, &specs[i])?;
+        add_some(found, one)?;
+    }
+    Ok(())
+}
+
+fn add_names_of(
+    alloc: Global,
+    found: &mut Found,
+    specs: &[RefSpec],
+    index: usize,
+    spec: &RefSpec,
+    items: &[Item],
+) -> Result<(), NoMemory>
+    ensures added { OnOk result (found.new.matches ≡ added_all found.old.pairs found.old.matches (words.names_from (words.name_match specs.now index spec.now) 0 (map (λ item. item.full_ref_name) items.now))) }
+    ensures pairs { found.new.pairs ≡ found.old.pairs }
+{
+    for j in 0..items.len() {
+        let name = items[j].full_ref_name.as_bytes();
+        let one = name_match(alloc, specs, index, spec, j, name)?;
+        add_some(found, one)?;
+    }
+    Ok(())
+}
+
+fn add_names(
+    alloc: Global,
+    found: &mut Found,
+    specs: &[RefSpec],
+    items: &[Item],
+) -> Result<(), NoMemory>
+    ensures added { OnOk result (found.new.matches ≡ added_all found.old.pairs found.old.matches (words.specs_from (words.name_match specs.now) 0 specs.now (map (λ item. item.full_ref_name) items.now))) }
+    ensures pairs { found.new.pairs ≡ found.old.pairs }
+{
+    for i in 0..specs.len() {
+        add_names_of(alloc, found, specs, i, &specs[i], items)?;
+    }
+    Ok(())
+}
+
+fn add_sources_of(
+    alloc: Global,
+    found: &mut Found,
+    specs: &[RefSpec],
+    index: usize,
+    spec: &RefSpec,
+    items: &[Item],
+) -> Result<(), NoMemory>
+    ensures added { OnOk result (found.new.matches ≡ added_all found.old.pairs found.old.matches (words.names_from (words.source_match specs.now index spec.now) 0 (map (λ item. item.full_ref_name) items.now))) }
+    ensures pairs { found.new.pairs ≡ found.old.pairs }
+{
+    for j in 0..items.len() {
+        let name = items[j].full_ref_name.as_bytes();
+        let one = source_match(alloc, specs, index, spec, j, name)?;
+        add_some(found, one)?;
+    }
+    Ok(())
+}
+
+fn add_sources(
+    alloc: Global,
+    found: &mut Found,
+    specs: &[RefSpec],
+    items: &[Item],
+) -> Result<(), NoMemory>
+    ensures added { OnOk result (found.new.matches ≡ added_all found.old.pairs found.old.matches (words.specs_from (words.source_match specs.now) 0 specs.now (map (λ item. item.full_ref_name) items.now))) }
+    ensures pairs { found.new.pairs ≡ found.old.pairs }
+{
+    for i in 0..specs.len() {
+        add_sources_of(alloc, found, specs, i, &specs[i], items)?;
+    }
+    Ok(())
+}
