@@ -1,0 +1,13 @@
+pub mod Digits
+pub mod Decoding
+pub mod FirstLine
+pub mod Edits
+pub mod Gathering
+pub mod Flat
+pub mod Keeping
+pub mod KeptLines
+pub mod WrittenValues
+pub mod WrittenLines
+pub mod WrittenTexts
+pub mod Marks
+pub mod Edges

@@ -1,0 +1,12 @@
+pub mod Pieces
+pub mod Values
+pub mod Numbers
+pub mod Lines
+pub mod Kept
+pub mod Contents
+pub mod Reading
+pub mod Lookups
+pub mod Print
+pub mod Written
+pub mod Marks
+pub mod Overrides

@@ -1,0 +1,22 @@
+//! What holds of the grammar of values.
+
+ghost use Rattle.std.specs.Prelude.{◌≡◌, ◌↔◌, ◌∷◌, ℕ, List, Some, false};
+ghost use Rattle.fetch_config.specs.Marks.{IsInParts, SaysValue};
+ghost use Rattle.fetch_config.specs.Print.{value_text};
+ghost use Rattle.fetch_config.specs.Values.{unquoted, value_of};
+
+/// A value that is written behind `= ` is read as it was.
+pub fn a_written_value_is_read_back()
+    ensures { (value : List ℕ) → value_of (32 ∷ value_text value) ≡ Some value }
+{}
+
+/// Quotes group, and a backslash makes an escape: a text without comment and outer blanks says a value exactly where
+/// it is made of characters and quoted runs of characters that stand for it.
+pub fn quotes_group_and_escapes_are_read()
+    ensures { (text : List ℕ) → (value : List ℕ) → (unquoted false false text ≡ Some value) ↔ IsInParts text value }
+{}
+
+/// A value is what stands behind the `=` without outer blanks, up to a `#` or `;` outside quotes.
+pub fn a_value_stands_between_blanks_before_a_comment()
+    ensures { (text : List ℕ) → (value : List ℕ) → (value_of text ≡ Some value) ↔ SaysValue text value }
+{}
