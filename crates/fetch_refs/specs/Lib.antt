@@ -1,0 +1,14 @@
+pub mod Targets
+pub mod Codes
+pub mod Names
+pub mod Expectations
+pub mod Edits
+pub mod Laws
+pub mod Logs
+pub mod Answers
+pub mod Peeled
+pub use Rattle.fetch_store.specs.Id
+pub use Rattle.fetch_store.specs.Stores
+pub use Rattle.fetch_store.specs.Graph
+pub mod Iter
+pub mod Prepared

@@ -1,0 +1,50 @@
+//! References in the order of their names.
+
+ghost use Rattle.std.specs.Prelude.{◌≡◌};
+ghost use Rattle.std.specs.FinMap as map;
+ghost use Rattle.std.specs.Iterator.{YieldsFirstBy, item_count};
+ghost use Rattle.fetch_refs.specs.Names.{name_cmp};
+ghost use Rattle.fetch_refs.specs.Iter.{left, shown};
+
+use crate::refs::Refs;
+use crate::target::{Target, TargetRef};
+use fetch_specs::FullName;
+use std::collections::btree_map;
+
+/// References by ascending name.
+#[derive(Drop)]
+pub struct RefIter<'a> {
+    entries: btree_map::Iter<'a, FullName, Target>,
+}
+
+impl Refs {
+    /// The references by ascending name.
+    pub fn iter(&self) -> RefIter<'_>
+        ensures { left result ≡ map.entries self.now.names }
+    {
+        RefIter {
+            entries: self.names.iter(),
+        }
+    }
+}
+
+impl<'a> Iterator for RefIter<'a> {
+    type Item = (&'a [u8], TargetRef<'a>);
+
+    ghost next_gives = { YieldsFirstBy shown left };
+
+    ghost remaining = { item_count left };
+
+    fn next(&mut self) -> Option<(&'a [u8], TargetRef<'a>)> {
+        match self.entries.next() {
+            Some((name, target)) => Some((name.as_bytes(), target.as_ref())),
+            None => None,
+        }
+    }
+}
+
+impl ExactSizeIterator for RefIter<'_> {
+    fn len(&self) -> usize {
+        self.entries.len()
+    }
+}

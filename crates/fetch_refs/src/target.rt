@@ -1,0 +1,80 @@
+//! What a reference points to.
+
+ghost use Rattle.std.specs.Prelude.{◌≡◌, ◌↔◌, IsTrue, IfOk};
+ghost use Rattle.std.specs.Ordering.{eq_by_cmp};
+ghost use Rattle.fetch_store.specs.Stores.{id_cmp};
+ghost use Rattle.fetch_refs.specs.Targets as spec;
+ghost use Rattle.fetch_refs.specs.Targets.{seen};
+
+use fetch_specs::FullName;
+use fetch_store::{NoMemory, ObjectId};
+
+/// An object, or the name of another reference.
+#[derive(Debug, PartialEq, Eq, Drop)]
+pub enum Target {
+    Object(ObjectId),
+    Symbolic(FullName),
+}
+
+impl Target {
+    /// The same target, lent.
+    pub fn as_ref(&self) -> TargetRef<'_>
+        ensures { seen result ≡ self.now }
+    {
+        match self {
+            Target::Object(id) => TargetRef::Object(*id),
+            Target::Symbolic(name) => TargetRef::Symbolic(name),
+        }
+    }
+
+    pub fn try_clone(&self) -> Result<Target, NoMemory>
+        ensures { IfOk result (λ copy. copy ≡ self.now) }
+    {
+        match self {
+            Target::Object(id) => Ok(Target::Object(*id)),
+            Target::Symbolic(name) => Ok(Target::Symbolic(name.try_clone()?)),
+        }
+    }
+
+    pub(crate) fn is_same(&self, other: &Target) -> bool
+        ensures { result ≡ spec.is_same self.now other.now }
+    {
+        match (self, other) {
+            (Target::Object(id), Target::Object(wanted)) => is_same_id(id, wanted),
+            (Target::Symbolic(name), Target::Symbolic(wanted)) => *name == *wanted,
+            _ => false,
+        }
+    }
+}
+
+/// A target that someone else keeps.
+#[derive(Clone, Copy, Debug, PartialEq, Eq)]
+pub enum TargetRef<'a> {
+    Object(ObjectId),
+    Symbolic(&'a FullName),
+}
+
+impl TargetRef<'_> {
+    /// A copy of the target.
+    pub fn try_to_owned(&self) -> Result<Target, NoMemory>
+        ensures { IfOk result (λ copy. copy ≡ seen self.now) }
+    {
+        match self {
+            TargetRef::Object(id) => Ok(Target::Object(*id)),
+            TargetRef::Symbolic(name) => Ok(Target::Symbolic(name.try_clone()?)),
+        }
+    }
+}
+
+/// Whether two ids are one.
+pub(crate) fn is_same_id(id: &ObjectId, other: &ObjectId) -> bool
+    ensures { result ≡ eq_by_cmp id_cmp id.now other.now }
+{
+    are_equal(id, other)
+}
+
+fn are_equal(id: &ObjectId, other: &ObjectId) -> bool
+    ensures { IsTrue result ↔ (id.now ≡ other.now) }
+{
+    *id == *other
+}
