@@ -1,0 +1,45 @@
+//! Copies of the parts of records.
+
+ghost use Rattle.std.specs.Prelude.{◌≡◌, IfOk};
+
+use fetch_store::{List, NoMemory, ObjectId, Text};
+use std::alloc::Global;
+
+/// What can be copied where there is memory for it.
+pub(crate) trait Copies: Sized + Drop {
+    fn copy(&self) -> Result<Self, NoMemory>
+        ensures { IfOk result (λ copy. copy ≡ self.now) };
+}
+
+impl Copies for Text {
+    fn copy(&self) -> Result<Text, NoMemory> {
+        self.try_clone()
+    }
+}
+
+impl Copies for ObjectId {
+    fn copy(&self) -> Result<ObjectId, NoMemory> {
+        Ok(*self)
+    }
+}
+
+/// A list of copies.
+pub(crate) fn copy_list<T: Copies>(list: &List<T>) -> Result<List<T>, NoMemory>
+    ensures { IfOk result (λ copy. copy ≡ list.now) }
+{
+    let mut items = Vec::with_capacity(list.allocator(), list.len())?;
+    for item in list.as_slice() {
+        items.push(item.copy()?)?;
+    }
+    Ok(List::from(items))
+}
+
+/// A copy of the text, if there is one.
+pub(crate) fn copy_option(text: &Option<Text>) -> Result<Option<Text>, NoMemory>
+    ensures { IfOk result (λ copy. copy ≡ text.now) }
+{
+    match text {
+        Some(text) => Ok(Some(text.try_clone()?)),
+        None => Ok(None),
+    }
+}

@@ -1,0 +1,135 @@
+//! Why a conversation ends without an answer.
+
+ghost use Rattle.std.specs.Prelude.{◌≡◌, IfOk};
+
+use fetch_store::{NoMemory, Text};
+use std::alloc::{AllocError, AllocFailed};
+use thiserror::Error;
+
+/// Why a line, a reply or a request was refused.
+#[derive(Debug, Drop, PartialEq, Eq, Error)]
+pub enum WireError {
+    /// The line that begins at this place of the reply breaks the grammar or isn't whole.
+    #[error("malformed line at byte {place} of the reply")]
+    Malformed { place: usize },
+    #[error("the server says {text:?}")]
+    ServerError { text: Text },
+    /// The digits of a line announce more bytes of one reply than may come.
+    #[error("the reply is longer than {bound} bytes")]
+    ReplyTooLong { bound: u32 },
+    #[error("the server lacks the feature {name:?}")]
+    MissingFeature { name: Text },
+    /// A payload of so many bytes doesn't fit a line.
+    #[error("a payload of {length} bytes is too long for a line")]
+    LineTooLong { length: usize },
+    #[error("the parameter {text:?} can't be sent, for its byte {place}")]
+    BadParameter { text: Text, place: usize },
+    #[error("out of memory")]
+    NoMemory,
+}
+
+impl WireError {
+    /// An equal error.
+    pub fn try_clone(&self) -> Result<WireError, NoMemory>
+        ensures { IfOk result (λ copy. copy ≡ self.now) }
+    {
+        match self {
+            WireError::Malformed { place } => Ok(WireError::Malformed { place: *place }),
+            WireError::ServerError { text } => Ok(WireError::ServerError {
+                text: text.try_clone()?,
+            }),
+            WireError::ReplyTooLong { bound } => Ok(WireError::ReplyTooLong { bound: *bound }),
+            WireError::MissingFeature { name } => Ok(WireError::MissingFeature {
+                name: name.try_clone()?,
+            }),
+            WireError::LineTooLong { length } => Ok(WireError::LineTooLong { length: *length }),
+            WireError::BadParameter { text, place } => Ok(WireError::BadParameter {
+                text: text.try_clone()?,
+                place: *place,
+            }),
+            WireError::NoMemory => Ok(WireError::NoMemory),
+        }
+    }
+}
+
+impl From<NoMemory> for WireError {
+    ghost use Rattle.std.specs.Prelude.{◌≡◌};
+    ghost use Rattle.fetch_wire.specs.declared.error.WireError.TheVariants as errors;
+
+    ghost from_gives = { λ _ e. e ≡ errors.NoMemory };
+
+    fn from(_e: NoMemory) -> WireError {
+        WireError::NoMemory
+    }
+}
+
+impl From<AllocError> for WireError {
+    ghost use Rattle.std.specs.Prelude.{◌≡◌};
+    ghost use Rattle.fetch_wire.specs.declared.error.WireError.TheVariants as errors;
+
+    ghost from_gives = { λ _ e. e ≡ errors.NoMemory };
+
+    fn from(_e: AllocError) -> WireError {
+        WireError::NoMemory
+    }
+}
+
+impl<T: Drop> From<AllocFailed<T>> for WireError {
+    ghost use Rattle.std.specs.Prelude.{◌≡◌};
+    ghost use Rattle.fetch_wire.specs.declared.error.WireError.TheVariants as errors;
+
+    ghost from_gives = { λ _ e. e ≡ errors.NoMemory };
+
+    fn from(_e: AllocFailed<T>) -> WireError {
+        WireError::NoMemory
+    }
+}
+
+/// Why no reply was received.
+#[derive(Clone, Copy, Debug, PartialEq, Eq, Error)]
+pub enum ReceiveError {
+    /// The line that begins at this place of the reply breaks the grammar or isn't whole.
+    #[error("malformed line at byte {place} of the reply")]
+    Malformed { place: usize },
+    /// The digits of a line announce more bytes of one reply than may come.
+    #[error("the reply is longer than {bound} bytes")]
+    ReplyTooLong { bound: u32 },
+    /// The peer failed.
+    #[error("the peer failed")]
+    Failed,
+    #[error("out of memory")]
+    NoMemory,
+}
+
+impl From<NoMemory> for ReceiveError {
+    ghost use Rattle.std.specs.Prelude.{◌≡◌};
+    ghost use Rattle.fetch_wire.specs.declared.error.ReceiveError.TheVariants as errors;
+
+    ghost from_gives = { λ _ e. e ≡ errors.NoMemory };
+
+    fn from(_e: NoMemory) -> ReceiveError {
+        ReceiveError::NoMemory
+    }
+}
+
+impl<T: Drop> From<AllocFailed<T>> for ReceiveError {
+    ghost use Rattle.std.specs.Prelude.{◌≡◌};
+    ghost use Rattle.fetch_wire.specs.declared.error.ReceiveError.TheVariants as errors;
+
+    ghost from_gives = { λ _ e. e ≡ errors.NoMemory };
+
+    fn from(_e: AllocFailed<T>) -> ReceiveError {
+        ReceiveError::NoMemory
+    }
+}
+
+impl From<AllocError> for ReceiveError {
+    ghost use Rattle.std.specs.Prelude.{◌≡◌};
+    ghost use Rattle.fetch_wire.specs.declared.error.ReceiveError.TheVariants as errors;
+
+    ghost from_gives = { λ _ e. e ≡ errors.NoMemory };
+
+    fn from(_e: AllocError) -> ReceiveError {
+        ReceiveError::NoMemory
+    }
+}

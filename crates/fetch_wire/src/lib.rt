@@ -1,0 +1,45 @@
+//! What passes between a fetch and its peer: lines, replies, requests, and the records that they make.
+#![tactic(auto)]
+
+mod bound;
+mod calls;
+mod cloning;
+mod error;
+mod greeting;
+mod handshake;
+mod laws;
+mod line;
+mod listing;
+mod mapping;
+mod peer;
+mod readers;
+mod records;
+mod reference;
+mod reply;
+mod requests;
+mod scripted;
+mod section;
+mod session;
+mod words;
+mod write;
+
+pub use bound::ReplyBound;
+pub use error::{ReceiveError, WireError};
+pub use greeting::read_greeting;
+pub use handshake::{Capability, Handshake, Version};
+pub use laws::{lines_are_read_as_written, sections_are_read_line_by_line, sections_stay};
+pub use line::{Line, LineRef};
+pub use listing::read_listing;
+pub use mapping::{Mapping, RefMap, SpecIndex};
+pub use peer::{Interrupt, Peer, SendFault};
+pub use records::{FetchReply, Request};
+pub use reference::{Ref, Source};
+pub use reply::{changes_border, read_reply};
+pub use requests::{agent_text, append_head, first_line, listing_request, text_line};
+pub use scripted::{ScriptedInterrupt, ScriptedPeer};
+pub use section::{Trouble, line_in};
+pub use session::Session;
+pub use write::{write_line, write_lines};
+
+#[cfg(test)]
+mod tests;

@@ -1,0 +1,198 @@
+//! The references that a server lists.
+
+ghost use Rattle.std.specs.Prelude.{◌≡◌, ◌<◌, ◌^◌, IfOk, sum_by, option_and_then};
+ghost use Rattle.std.specs.Option.{option_copied, option_map};
+ghost use Rattle.fetch_wire.specs.Lines.{line_len as len_of};
+ghost use Rattle.fetch_wire.specs.Texts.{Reads};
+ghost use Rattle.fetch_wire.specs.Words.{words, words_in};
+ghost use Rattle.fetch_wire.specs.Listings.{no_attributes, with_attribute, with_attributes, ref_with, id_or_unborn, named_by, ref_in, is_listed, listing_of};
+
+use crate::error::WireError;
+use crate::line::Line;
+use crate::readers::{LineReader, read_each, text};
+use crate::reference::Ref;
+use crate::words::next_word;
+use fetch_store::{Kind, List, NoMemory, ObjectId, Text, after, split_first};
+use std::alloc::Global;
+
+/// The target and the peeled id that attributes tell.
+type Attributes<'a> = (Option<&'a [u8]>, Option<ObjectId>);
+
+/// One more attribute. The last of a kind counts.
+#[tactic(auto, unfolding(crate::specs::Listings::with_attribute))]
+fn with_attribute<'a>(kind: Kind, found: Attributes<'a>, word: &'a [u8]) -> Option<Attributes<'a>>
+    ensures { option_map (λ x. (option_copied x.0, x.1)) result ≡ with_attribute kind (option_copied found.entry.0, found.entry.1) word.now }
+{
+    if let Some(target) = after(b"symref-target:", word) {
+        if target.is_empty() {
+            return None;
+        }
+        return Some((Some(target), found.1));
+    }
+    if let Some(hex) = after(b"peeled:", word) {
+        return match ObjectId::in_hex(kind, hex) {
+            Some(id) => Some((found.0, Some(id))),
+            None => None,
+        };
+    }
+    Some(found)
+}
+
+/// The attributes of a text, where there is one.
+fn attributes(kind: Kind, text: Option<&[u8]>) -> Option<Attributes<'_>>
+    ensures { option_map (λ x. (option_copied x.0, x.1)) result ≡ with_attributes kind no_attributes (words_in (option_copied text.entry)) }
+{
+    let mut found = (None, None);
+    let mut rest = text;
+    'words: while let Some(text) = rest {
+        let (word, behind) = next_word(text);
+        match with_attribute(kind, found, word) {
+            Some(more) => found = more,
+            None => return None,
+        }
+        rest = behind;
+    }
+    Some(found)
+}
+
+/// The reference with this name, id and attributes. An unborn one has a target.
+fn make_ref(
+    alloc: Global,
+    name: &[u8],
+    id: Option<ObjectId>,
+    attributes: Attributes<'_>,
+) -> Result<Option<Ref>, NoMemory>
+    ensures { IfOk result (λ found. found ≡ ref_with name.now id (option_copied attributes.entry.0, attributes.entry.1)) }
+{
+    let (target, peeled) = attributes;
+    let full_ref_name = Text::new(alloc, name)?;
+    let target = match target {
+        Some(target) => Some(Text::new(alloc, target)?),
+        None => None,
+    };
+    Ok(match (id, target, peeled) {
+        (None, Some(target), _) => Some(Ref::Unborn {
+            full_ref_name,
+            target,
+        }),
+        (None, None, _) => None,
+        (Some(id), Some(target), Some(object)) => Some(Ref::Symbolic {
+            full_ref_name,
+            target,
+            tag: Some(id),
+            object,
+        }),
+        (Some(object), Some(target), None) => Some(Ref::Symbolic {
+            full_ref_name,
+            target,
+            tag: None,
+            object,
+        }),
+        (Some(tag), None, Some(object)) => Some(Ref::Peeled {
+            full_ref_name,
+            tag,
+            object,
+        }),
+        (Some(object), None, None) => Some(Ref::Direct {
+            full_ref_name,
+            object,
+        }),
+    })
+}
+
+/// `unborn`, or an id.
+#[tactic(auto, unfolding(crate::specs::Listings::id_or_unborn))]
+fn id_or_unborn(kind: Kind, text: &[u8]) -> Option<Option<ObjectId>>
+    ensures { result ≡ id_or_unborn kind text.now }
+{
+    if text == b"unborn".as_slice() {
+        return Some(None);
+    }
+    match ObjectId::in_hex(kind, text) {
+        Some(id) => Some(Some(id)),
+        None => None,
+    }
+}
+
+/// The reference with this id, of a name, which isn't empty, and attributes.
+fn named(
+    alloc: Global,
+    kind: Kind,
+    id: Option<ObjectId>,
+    text: &[u8],
+) -> Result<Option<Ref>, NoMemory>
+    ensures { IfOk result (λ found. found ≡ named_by kind id (words text.now)) }
+{
+    let (name, rest) = next_word(text);
+    if name.is_empty() {
+        return Ok(None);
+    }
+    match attributes(kind, rest) {
+        Some(attributes) => make_ref(alloc, name, id, attributes),
+        None => Ok(None),
+    }
+}
+
+/// The reference that a text lists.
+fn read_ref(alloc: Global, kind: Kind, text: &[u8]) -> Result<Option<Ref>, NoMemory>
+    ensures { IfOk result (λ found. found ≡ ref_in kind text.now) }
+{
+    let Some((id, rest)) = split_first(b' ', text) else {
+        return Ok(None);
+    };
+    match id_or_unborn(kind, id) {
+        Some(id) => named(alloc, kind, id, rest),
+        None => Ok(None),
+    }
+}
+
+/// Whether a reference has the name of one of those.
+fn has_name(before: &[Ref], reference: &Ref) -> bool
+    ensures { result ≡ is_listed before.now reference.now }
+{
+    let name = reference.unpack().0;
+    for listed in before {
+        if listed.unpack().0 == name {
+            return true;
+        }
+    }
+    false
+}
+
+#[derive(Clone, Copy)]
+struct RefLines {
+    kind: Kind,
+}
+
+impl LineReader<Ref> for RefLines {
+    ghost use Rattle.fetch_wire.specs.Listings.{ref_of};
+
+    ghost gives = { λ reader before line. ref_of reader.kind before line };
+
+    fn read(&self, alloc: Global, before: &[Ref], line: &Line) -> Result<Option<Ref>, NoMemory> {
+        let Some(text) = text(line) else {
+            return Ok(None);
+        };
+        match read_ref(alloc, self.kind, text)? {
+            Some(reference) => {
+                if has_name(before, &reference) {
+                    Ok(None)
+                } else {
+                    Ok(Some(reference))
+                }
+            }
+            None => Ok(None),
+        }
+    }
+}
+
+/// The references that these lines list, with ids of this kind.
+pub fn read_listing(alloc: Global, kind: Kind, lines: &[Line]) -> Result<List<Ref>, WireError>
+    requires { sum_by len_of lines.now < 2 ^ 63 }
+    ensures { Reads (λ refs. refs) result (listing_of kind lines.now) }
+{
+    match read_each(alloc, &RefLines { kind }, lines, 0) {
+        Ok(refs) => Ok(List::from(refs)),
+        Err(e) => Err(e),
+    }
+}

@@ -1,0 +1,53 @@
+//! The one that is fetched from, and the one that may stop the fetch.
+
+ghost use Rattle.std.specs.Prelude.{◌≡◌, ◌≤◌, ℕ, Bool, false, length, IfOk, OnErr, IsErrOf, IsTrue, Option};
+ghost use Rattle.fetch_store.specs.Faults.{Faults, Rose, Counts};
+ghost use Rattle.fetch_wire.specs.Talks.{Talk, Sends, Receives};
+
+use fetch_store::Failed;
+use thiserror::Error;
+
+/// Why bytes weren't sent.
+#[derive(Clone, Copy, Debug, PartialEq, Eq, Error)]
+pub enum SendFault {
+    #[error("the other side failed")]
+    Failed,
+    #[error("out of memory")]
+    NoMemory,
+}
+
+/// The other end of a conversation.
+pub trait Peer {
+    /// What it heard, what it gave and what it has still to give, where it tells them.
+    ghost told: { Self → Option Talk };
+
+    ghost faults: { Self → Faults };
+
+    /// Whether what it hears may add to what it has still to give.
+    ghost answers: { Bool };
+
+    /// At a refusal a front of the bytes may have been heard.
+    fn send(&mut self, bytes: &[u8]) -> Result<(), SendFault>
+        ensures talk { Sends answers (told self.old) (told self.new) result bytes.now }
+        ensures counts { Counts (faults self.old) (faults self.new) }
+        ensures cause { IsErrOf result SendFault.Failed → Rose (faults self.old) (faults self.new) };
+
+    /// Fills the front of `into` and answers how many bytes came. 0 is the end.
+    fn receive(&mut self, into: &mut [u8]) -> Result<usize, Failed>
+        ensures bound { IfOk result (λ count. count ≤ length into.new) }
+        ensures talk { Receives answers (told self.old) (told self.new) result into.new }
+        ensures counts { Counts (faults self.old) (faults self.new) }
+        ensures cause { OnErr result (Rose (faults self.old) (faults self.new)) };
+}
+
+/// What is asked whether to stop.
+pub trait Interrupt {
+    /// The count of yes answers.
+    ghost yes: { Self → Faults };
+
+    /// Whether to stop. A yes is counted.
+    fn asked(&mut self) -> bool
+        ensures counts { Counts (yes self.old) (yes self.new) }
+        ensures counted { IsTrue result → Rose (yes self.old) (yes self.new) }
+        ensures left { result ≡ false → (yes self.new).count ≡ (yes self.old).count };
+}

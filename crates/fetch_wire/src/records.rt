@@ -1,0 +1,53 @@
+//! What one round of a fetch asks, and what is answered.
+
+ghost use Rattle.std.specs.Prelude.{◌≡◌, IfOk};
+
+use crate::cloning::{copy_list, copy_option};
+use fetch_store::{List, NoMemory, ObjectId, Text};
+
+/// What one round asks: text lines without their line feeds, the haves, and whether the rounds end.
+#[derive(Debug, Drop)]
+pub struct Request {
+    pub lines: List<Text>,
+    pub haves: List<ObjectId>,
+    pub done: bool,
+}
+
+impl Request {
+    /// An equal request.
+    pub fn try_clone(&self) -> Result<Request, NoMemory>
+        ensures { IfOk result (λ copy. copy ≡ self.now) }
+    {
+        Ok(Request {
+            lines: copy_list(&self.lines)?,
+            haves: copy_list(&self.haves)?,
+            done: self.done,
+        })
+    }
+}
+
+/// What one round answers: the haves that the server has, the changes of the border, and the pack where it comes.
+#[derive(Debug, Drop)]
+pub struct FetchReply {
+    pub acknowledged: List<ObjectId>,
+    pub shallow: List<ObjectId>,
+    pub unshallow: List<ObjectId>,
+    pub pack: Option<Text>,
+    /// Whether no further round follows.
+    pub last: bool,
+}
+
+impl FetchReply {
+    /// An equal reply.
+    pub fn try_clone(&self) -> Result<FetchReply, NoMemory>
+        ensures { IfOk result (λ copy. copy ≡ self.now) }
+    {
+        Ok(FetchReply {
+            acknowledged: copy_list(&self.acknowledged)?,
+            shallow: copy_list(&self.shallow)?,
+            unshallow: copy_list(&self.unshallow)?,
+            pack: copy_option(&self.pack)?,
+            last: self.last,
+        })
+    }
+}

@@ -1,0 +1,197 @@
+//! A peer and an interrupt that follow a script.
+
+ghost use Rattle.std.specs.Prelude.{◌≡◌, ◌≤◌, ◌<◌, ◌↔◌, ◌+◌, ◌++◌, ℕ, [], nat_lt, length, drop, take, Some, IsErr, IsOk, IsErrOf, IsTrue, OnErr, IfOk, Contains, false, slice_index_or};
+ghost use Rattle.std.specs.List.{concat};
+ghost use Rattle.fetch_store.specs.Faults.{Faults, Rose, Counts};
+ghost use Rattle.fetch_wire.specs.Talks.{Talk, Sends, Receives};
+ghost use Rattle.fetch_wire.specs.Scripts.{given_of, to_come_of, one_more, faults_of};
+
+use crate::calls::Calls;
+use crate::peer::{Interrupt, Peer, SendFault};
+use fetch_store::{Failed, Text};
+use std::alloc::Global;
+use std::marker::Model;
+
+/// A peer that gives these pieces, whatever it hears, one piece at most for each `receive`. The calls whose numbers
+/// are listed fail, where numbers count its calls of both kinds from 0. Contracts see its talk and its calls.
+#[derive(Debug, Drop)]
+pub struct ScriptedPeer {
+    pieces: Vec<Text>,
+    piece: usize,
+    offset: usize,
+    heard: Vec<u8>,
+    calls: Calls,
+    failed: u64,
+}
+
+impl Model for ScriptedPeer {
+    ghost use Rattle.std.specs.Prelude.{◌≤◌, length, slice_index_or, []};
+    ghost use Rattle.fetch_wire.specs.Scripts.{Script, given_of, to_come_of};
+
+    ghost Value = { Script };
+
+    ghost view = { λ p. record {
+      talk = record {
+        heard = p.heard.items;
+        given = given_of p.pieces.items p.piece p.offset;
+        to_come = to_come_of p.pieces.items p.piece p.offset;
+      };
+      calls = p.calls;
+      failed = p.failed;
+    } };
+
+    ghost invariant = { λ p. (p.piece ≤ length p.pieces.items) × (p.offset ≤ length (slice_index_or p.pieces.items p.piece [])) };
+}
+
+impl ScriptedPeer {
+    pub fn new(alloc: Global, pieces: Vec<Text>, failing: Vec<u64>) -> ScriptedPeer
+        ensures told { ⟦<ScriptedPeer as Peer>⟧.told result ≡ Some (record { heard = []; given = []; to_come = concat pieces.items }) }
+        ensures faults { ⟦<ScriptedPeer as Peer>⟧.faults result ≡ record { count = 0; possible = nat_lt 0 (length failing.items) } }
+        ensures failing { (n : ℕ) → Contains result.calls.listed n ↔ Contains failing.items n }
+        ensures first { result.calls.next ≡ 0 }
+    {
+        ScriptedPeer {
+            pieces,
+            piece: 0,
+            offset: 0,
+            heard: Vec::new(alloc),
+            calls: Calls::new(failing),
+            failed: 0,
+        }
+    }
+
+    /// What it heard so far.
+    pub fn heard(&self) -> &[u8]
+        ensures { result.now ≡ self.now.talk.heard }
+    {
+        &self.heard
+    }
+}
+
+/// The first place from here on where a byte stands, or the end.
+fn next_place(pieces: &[Text], piece: usize, offset: usize) -> (usize, usize)
+    requires in_piece { offset ≤ length (slice_index_or pieces.now piece []) }
+    requires in_pieces { piece ≤ length pieces.now }
+    ensures in_pieces { result.0 ≤ length pieces.now }
+    ensures in_piece { result.1 ≤ length (slice_index_or pieces.now result.0 []) }
+    ensures given { given_of pieces.now result.0 result.1 ≡ given_of pieces.now piece offset }
+    ensures to_come { to_come_of pieces.now result.0 result.1 ≡ to_come_of pieces.now piece offset }
+    ensures found { result.0 < length pieces.now → result.1 < length (slice_index_or pieces.now result.0 []) }
+{
+    let mut piece = piece;
+    let mut offset = offset;
+    while piece < pieces.len() && offset == pieces[piece].as_bytes().len() {
+        piece += 1;
+        offset = 0;
+    }
+    (piece, offset)
+}
+
+/// Copies what stands behind this place to the front of `into`, as far as it fits.
+fn copy_from(bytes: &[u8], place: usize, into: &mut [u8]) -> usize
+    requires { place ≤ length bytes.now }
+    ensures bound { result ≤ length into.new }
+    ensures within { place + result ≤ length bytes.now }
+    ensures copied { drop place bytes.now ≡ take result into.new ++ drop (place + result) bytes.now }
+    ensures none { result ≡ 0 → 0 < length into.new → place ≡ length bytes.now }
+{
+    let count = into.len().min(bytes.len() - place);
+    into[..count].copy_from_slice(&bytes[place..place + count]);
+    count
+}
+
+impl Peer for ScriptedPeer {
+    ghost told = { λ p. Some p.talk };
+
+    ghost faults = { λ p. faults_of p.calls p.failed };
+
+    ghost answers = { false };
+
+    fn send(&mut self, bytes: &[u8]) -> Result<(), SendFault>
+        ensures talk { Sends false (Some self.old.talk) (Some self.new.talk) result bytes.now }
+        ensures counts { Counts (faults_of self.old.calls self.old.failed) (faults_of self.new.calls self.new.failed) }
+        ensures cause { IsErrOf result SendFault.Failed → Rose (faults_of self.old.calls self.old.failed) (faults_of self.new.calls self.new.failed) }
+        ensures fails { IsErrOf result SendFault.Failed ↔ Contains self.old.calls.listed self.old.calls.next }
+        ensures next { self.new.calls.next ≡ one_more self.old.calls.next }
+        ensures listed { self.new.calls.listed ≡ self.old.calls.listed }
+    {
+        if self.calls.count() {
+            self.failed = self.failed.saturating_add(1);
+            return Err(SendFault::Failed);
+        }
+        match self.heard.extend_from_slice(bytes) {
+            Ok(()) => Ok(()),
+            Err(_) => Err(SendFault::NoMemory),
+        }
+    }
+
+    fn receive(&mut self, into: &mut [u8]) -> Result<usize, Failed>
+        ensures bound { IfOk result (λ count. count ≤ length into.new) }
+        ensures talk { Receives false (Some self.old.talk) (Some self.new.talk) result into.new }
+        ensures counts { Counts (faults_of self.old.calls self.old.failed) (faults_of self.new.calls self.new.failed) }
+        ensures cause { OnErr result (Rose (faults_of self.old.calls self.old.failed) (faults_of self.new.calls self.new.failed)) }
+        ensures fails { IsErr result ↔ Contains self.old.calls.listed self.old.calls.next }
+        ensures next { self.new.calls.next ≡ one_more self.old.calls.next }
+        ensures listed { self.new.calls.listed ≡ self.old.calls.listed }
+    {
+        if self.calls.count() {
+            self.failed = self.failed.saturating_add(1);
+            return Err(Failed);
+        }
+        let (piece, offset) = next_place(&self.pieces, self.piece, self.offset);
+        if piece >= self.pieces.len() {
+            return Ok(0);
+        }
+        let count = copy_from(self.pieces[piece].as_bytes(), offset, into);
+        self.piece = piece;
+        self.offset = offset + count;
+        Ok(count)
+    }
+}
+
+/// An interrupt that says yes at the calls whose numbers are listed, which count from 0, and else no.
+#[derive(Debug, Drop)]
+pub struct ScriptedInterrupt {
+    calls: Calls,
+    said_yes: u64,
+}
+
+impl Model for ScriptedInterrupt {
+    ghost use Rattle.fetch_wire.specs.Scripts.{Asking};
+
+    ghost Value = { Asking };
+
+    ghost view = { λ i. record { calls = i.calls; said_yes = i.said_yes } };
+}
+
+impl ScriptedInterrupt {
+    pub fn new(yes: Vec<u64>) -> ScriptedInterrupt
+        ensures count { ⟦<ScriptedInterrupt as Interrupt>⟧.yes result ≡ record { count = 0; possible = nat_lt 0 (length yes.items) } }
+        ensures yes { (n : ℕ) → Contains result.calls.listed n ↔ Contains yes.items n }
+        ensures first { result.calls.next ≡ 0 }
+    {
+        ScriptedInterrupt {
+            calls: Calls::new(yes),
+            said_yes: 0,
+        }
+    }
+}
+
+impl Interrupt for ScriptedInterrupt {
+    ghost yes = { λ i. faults_of i.calls i.said_yes };
+
+    fn asked(&mut self) -> bool
+        ensures counts { Counts (faults_of self.old.calls self.old.said_yes) (faults_of self.new.calls self.new.said_yes) }
+        ensures counted { IsTrue result → Rose (faults_of self.old.calls self.old.said_yes) (faults_of self.new.calls self.new.said_yes) }
+        ensures left { result ≡ false → self.new.said_yes ≡ self.old.said_yes }
+        ensures says { IsTrue result ↔ Contains self.old.calls.listed self.old.calls.next }
+        ensures next { self.new.calls.next ≡ one_more self.old.calls.next }
+        ensures listed { self.new.calls.listed ≡ self.old.calls.listed }
+    {
+        let yes = self.calls.count();
+        if yes {
+            self.said_yes = self.said_yes.saturating_add(1);
+        }
+        yes
+    }
+}
