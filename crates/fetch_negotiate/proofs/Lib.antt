@@ -1,0 +1,9 @@
+pub mod Finding
+pub mod Onces
+pub mod Lines
+pub mod Growing
+pub mod Commons
+pub mod Choosing
+pub mod Ranking
+pub mod Queueing
+pub mod Walks

@@ -1,0 +1,48 @@
+-- What a fetch says that it has.
+use Rattle.std.specs.Prelude.{◌≡◌, ℕ, zero, suc, ◌+◌, ◌-◌, ◌*◌, ◌/◌, ◌^◌, min, Bool, true, false, not, ◌&&◌, ◌||◌, ◌==◌, nat_lt, List, [], ◌∷◌, ◌++◌, fold, Option, Some, None, is_some, unwrap_or, filter, find, if◌then◌else◌}
+use Rattle.std.specs.FinMap as map
+use Rattle.std.specs.FinSet as set
+use Rattle.std.specs.List.{list_any, list_all, flat_map}
+use Rattle.std.specs.Option.{option_map_or}
+use Rattle.std.specs.Ordering.{eq_by_cmp, is_lt}
+use Rattle.fetch_store.specs.declared.id.ObjectId.{ObjectId}
+use Rattle.fetch_store.specs.Graph.{Graph}
+use Rattle.fetch_store.specs.Stores.{id_cmp}
+use Rattle.fetch_negotiate.specs.declared.commits.Commit.{Commit}
+use Rattle.fetch_negotiate.specs.Commits.{has, commit_of}
+use Rattle.fetch_negotiate.specs.Ancestors.{links_of, parents_of, is_ancestor}
+
+-- A negotiation: the tips and the border that it began with, the commits taken so far and the ids that were
+-- acknowledged, both in order.
+pub record Negotiation : Type 0 where
+  pub tips : List ObjectId
+  pub border : set.FinSet id_cmp
+  pub taken : List ObjectId
+  pub acknowledged : List ObjectId
+
+-- the tips, and the parents of the commits taken
+abbrev pub candidates : Graph → Negotiation → List ObjectId
+candidates g n = n.tips ++ flat_map (links_of g n.border) n.taken
+
+-- an acknowledged commit, or an ancestor of one
+abbrev pub is_common : Graph → set.FinSet id_cmp → List ObjectId → ObjectId → Bool
+is_common g border acknowledged id = list_any (λ known. eq_by_cmp id_cmp id known || is_ancestor g border known id) acknowledged
+
+-- a stored commit that wasn't taken and isn't common
+abbrev pub is_open : Graph → Negotiation → ObjectId → Bool
+is_open g n id = is_some (commit_of g id) && not (has n.taken id) && not (is_common g n.border n.acknowledged id)
+
+abbrev pub seconds_of : Graph → ObjectId → ℕ
+seconds_of g id = option_map_or (λ (c : Commit). c.seconds) (commit_of g id) 0
+
+-- more seconds come first, and then the smaller id
+abbrev pub comes_before : Graph → ObjectId → ObjectId → Bool
+comes_before g a b = nat_lt (seconds_of g b) (seconds_of g a) || (seconds_of g a == seconds_of g b && is_lt (id_cmp a b))
+
+-- the first among some ids: none of the others comes before it
+abbrev pub first_among : Graph → List ObjectId → Option ObjectId
+first_among g ids = find (λ id. list_all (λ other. not (comes_before g other id)) ids) ids
+
+-- the open candidate that comes first
+unfoldable pub next_taken : Graph → Negotiation → Option ObjectId
+next_taken g n = first_among g (filter (is_open g n) (candidates g n))

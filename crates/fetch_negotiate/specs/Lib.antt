@@ -1,0 +1,12 @@
+pub mod Commits
+pub mod Reading
+pub mod Sharing
+pub mod Queues
+pub mod Lists
+pub mod Words
+pub mod Requests
+pub mod Wants
+pub mod Ancestors
+pub mod Haves
+pub mod Exact
+pub mod Walking

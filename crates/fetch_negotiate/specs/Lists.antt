@@ -1,0 +1,10 @@
+-- Lists of ids.
+use Rattle.std.specs.Prelude.{◌≡◌, ℕ, Bool, true, false, not, List, [], ◌∷◌, ◌++◌, filter}
+use Rattle.std.specs.Ordering.{eq_by_cmp}
+use Rattle.fetch_store.specs.declared.id.ObjectId.{ObjectId}
+use Rattle.fetch_store.specs.Stores.{id_cmp}
+
+-- each id once, where it comes first
+abbrev pub firsts : List ObjectId → List ObjectId
+firsts [] = []
+firsts (id ∷ ids) = id ∷ filter (λ other. not (eq_by_cmp id_cmp other id)) (firsts ids)

@@ -1,0 +1,103 @@
+//! What was read of the graph.
+
+ghost use Rattle.std.specs.Prelude.{◌≡◌, IfOk, Some, is_some, option_map};
+ghost use Rattle.fetch_store.specs.declared.id.ObjectId.{ObjectId};
+ghost use Rattle.fetch_store.specs.declared.object_kind.ObjectKind.TheVariants as objects;
+ghost use Rattle.fetch_store.specs.Objects.{is_kind};
+ghost use Rattle.fetch_negotiate.specs.Commits.{commit_of, parents_in};
+ghost use Rattle.fetch_negotiate.specs.Reading.{Grows, IsTold, read_in};
+
+use fetch_store::{List, NoMemory, ObjectId, ObjectKind, Objects};
+use std::alloc::Global;
+use std::collections::BTreeMap;
+
+/// What a stored commit says of its history.
+#[derive(Debug, Drop)]
+pub struct Commit {
+    pub(crate) seconds: u64,
+    pub(crate) parents: List<ObjectId>,
+}
+
+/// The ids that were read, each with the commit that was found.
+pub(crate) type Table = BTreeMap<ObjectId, Option<Commit>>;
+
+/// Reads an id unless it was read before, and tells whether it is a stored commit.
+pub(crate) fn read<O: Objects>(
+    table: &mut Table,
+    alloc: Global,
+    objects: &O,
+    id: &ObjectId,
+) -> Result<bool, NoMemory>
+    requires { IsTold (read_in table.old) (O.graph objects.now) }
+    ensures grows { Grows (read_in table.old) (read_in table.new) }
+    ensures told { IsTold (read_in table.new) (O.graph objects.now) }
+    ensures found { IfOk result (λ stored. read_in table.new id.now ≡ Some (commit_of (O.graph objects.now) id.now)) }
+    ensures stored { IfOk result (λ stored. stored ≡ is_some (commit_of (O.graph objects.now) id.now)) }
+{
+    if let Some(stored) = recall(table, id) {
+        return Ok(stored);
+    }
+    let found = commit_read(alloc, objects, id)?;
+    let stored = found.is_some();
+    table.insert(*id, found)?;
+    Ok(stored)
+}
+
+/// Whether an id that was read is a stored commit.
+fn recall(table: &Table, id: &ObjectId) -> Option<bool>
+    ensures { result ≡ option_map is_some (read_in table.now id.now) }
+{
+    match table.get(id) {
+        Some(found) => Some(found.is_some()),
+        None => None,
+    }
+}
+
+fn commit_read<O: Objects>(
+    alloc: Global,
+    objects: &O,
+    id: &ObjectId,
+) -> Result<Option<Commit>, NoMemory>
+    ensures { IfOk result (λ found. found ≡ commit_of (O.graph objects.now) id.now) }
+{
+    if !is_commit(objects, id) {
+        return Ok(None);
+    }
+    let parents = parents(alloc, objects, id)?;
+    let seconds = objects.seconds(id).unwrap_or(0);
+    Ok(Some(Commit {
+        seconds,
+        parents: List::from(parents),
+    }))
+}
+
+fn is_commit<O: Objects>(objects: &O, id: &ObjectId) -> bool
+    ensures { result ≡ is_some (commit_of (O.graph objects.now) id.now) }
+{
+    match objects.kind_of(id) {
+        Some(kind) => names_commits(kind),
+        None => false,
+    }
+}
+
+fn names_commits(kind: ObjectKind) -> bool
+    ensures { result ≡ is_kind kind objects.Commit }
+{
+    match kind {
+        ObjectKind::Commit => true,
+        ObjectKind::Tree | ObjectKind::Blob | ObjectKind::Tag => false,
+    }
+}
+
+fn parents<O: Objects>(alloc: Global, objects: &O, id: &ObjectId) -> Result<Vec<ObjectId>, NoMemory>
+    ensures { IfOk result (λ parents. parents.items ≡ parents_in (O.graph objects.now) id.now) }
+{
+    let mut parents = Vec::new(alloc);
+    for index in 0..usize::MAX {
+        match objects.parent(id, index) {
+            Some(parent) => parents.push(parent)?,
+            None => return Ok(parents),
+        }
+    }
+    Err(NoMemory)
+}

@@ -1,0 +1,199 @@
+//! The acknowledged commits and their ancestors.
+
+ghost use Rattle.std.specs.Prelude.{◌≡◌, ◌+◌, ◌<◌, [], ◌∷◌, ◌++◌, OnOk, OnErr, length, if◌then◌else◌};
+ghost use Rattle.fetch_negotiate.specs.Commits.{has};
+ghost use Rattle.fetch_negotiate.specs.Exact.{IsExact};
+ghost use Rattle.fetch_negotiate.specs.Reading.{Grows, IsTold, read_in};
+ghost use Rattle.fetch_negotiate.specs.Sharing.{IsMarked, IsSettled, IsCommonIn, IsWithin, AreWithin, IsDone, AreDone, Extends};
+
+use crate::commits::{Table, read};
+use crate::links::links;
+use fetch_store::{Border, NoMemory, ObjectId, Objects};
+use std::alloc::Global;
+use std::collections::BTreeSet;
+
+/// What is known to be on both sides. The first `settled` of the acknowledged ids are marked, so far as they are
+/// stored commits, and so are the parents of the first `closed` of the commits that are marked.
+#[derive(Debug, Drop)]
+pub(crate) struct Common {
+    pub(crate) acknowledged: Vec<ObjectId>,
+    settled: usize,
+    pub(crate) commits: Vec<ObjectId>,
+    closed: usize,
+    marked: BTreeSet<ObjectId>,
+}
+
+impl Common {
+    pub(crate) fn new(alloc: Global) -> Common
+        ensures acknowledged { result.acknowledged.items ≡ [] }
+        ensures commits { result.commits.items ≡ [] }
+        ensures settled { result.settled ≡ 0 }
+        ensures closed { result.closed ≡ 0 }
+        ensures marked { result.marked.keys ≡ [] }
+    {
+        Common {
+            acknowledged: Vec::new(alloc),
+            settled: 0,
+            commits: Vec::new(alloc),
+            closed: 0,
+            marked: BTreeSet::new(alloc),
+        }
+    }
+
+    /// Whether a commit is marked.
+    pub(crate) fn contains(&self, id: &ObjectId) -> bool
+        requires { IsMarked self.now.marked self.now.commits.items }
+        ensures { result ≡ has self.now.commits.items id.now }
+    {
+        self.marked.contains(id)
+    }
+}
+
+/// Marks a commit.
+fn mark(common: &mut Common, alloc: Global, id: &ObjectId) -> Result<(), NoMemory>
+    requires { IsMarked common.old.marked common.old.commits.items }
+    ensures marked { IsMarked common.new.marked common.new.commits.items }
+    ensures ok { OnOk result (common.new.commits.items ≡ (if has common.old.commits.items id.now then common.old.commits.items else common.old.commits.items ++ id.now ∷ [])) }
+    ensures err { OnErr result (common.new.commits.items ≡ common.old.commits.items) }
+    ensures acknowledged { common.new.acknowledged ≡ common.old.acknowledged }
+    ensures settled { common.new.settled ≡ common.old.settled }
+    ensures closed { common.new.closed ≡ common.old.closed }
+{
+    if common.contains(id) {
+        return Ok(());
+    }
+    common.commits.reserve(1)?;
+    common.marked.insert(*id)?;
+    common.commits.push_reserved(*id);
+    Ok(())
+}
+
+/// Reads an id, and marks it where it is a stored commit.
+fn mark_one<O: Objects>(
+    common: &mut Common,
+    table: &mut Table,
+    border: &Border,
+    alloc: Global,
+    objects: &O,
+    id: &ObjectId,
+) -> Result<(), NoMemory>
+    requires common { IsCommonIn (read_in table.old) border.now common.old }
+    requires told { IsTold (read_in table.old) (O.graph objects.now) }
+    requires within { IsWithin (read_in table.old) border.now common.old.acknowledged.items id.now }
+    ensures common { IsCommonIn (read_in table.new) border.now common.new }
+    ensures told { IsTold (read_in table.new) (O.graph objects.now) }
+    ensures grows { Grows (read_in table.old) (read_in table.new) }
+    ensures more { Extends common.old.commits.items common.new.commits.items }
+    ensures done { OnOk result (IsDone (read_in table.new) common.new.commits.items id.now) }
+    ensures acknowledged { common.new.acknowledged ≡ common.old.acknowledged }
+    ensures settled { common.new.settled ≡ common.old.settled }
+    ensures closed { common.new.closed ≡ common.old.closed }
+{
+    let stored = read(table, alloc, objects, id)?;
+    if !stored {
+        return Ok(());
+    }
+    mark(common, alloc, id)?;
+    Ok(())
+}
+
+/// Reads ids, and marks those that are stored commits.
+fn mark_all<O: Objects>(
+    common: &mut Common,
+    table: &mut Table,
+    border: &Border,
+    alloc: Global,
+    objects: &O,
+    ids: &[ObjectId],
+) -> Result<(), NoMemory>
+    requires common { IsCommonIn (read_in table.old) border.now common.old }
+    requires told { IsTold (read_in table.old) (O.graph objects.now) }
+    requires within { AreWithin (read_in table.old) border.now common.old.acknowledged.items ids.now }
+    ensures common { IsCommonIn (read_in table.new) border.now common.new }
+    ensures told { IsTold (read_in table.new) (O.graph objects.now) }
+    ensures grows { Grows (read_in table.old) (read_in table.new) }
+    ensures more { Extends common.old.commits.items common.new.commits.items }
+    ensures done { OnOk result (AreDone (read_in table.new) common.new.commits.items ids.now) }
+    ensures acknowledged { common.new.acknowledged ≡ common.old.acknowledged }
+    ensures settled { common.new.settled ≡ common.old.settled }
+    ensures closed { common.new.closed ≡ common.old.closed }
+{
+    for id in ids {
+        mark_one(common, table, border, alloc, objects, id)?;
+    }
+    Ok(())
+}
+
+/// Marks the parents of the first commit whose parents aren't marked yet.
+fn close_next<O: Objects>(
+    common: &mut Common,
+    table: &mut Table,
+    border: &Border,
+    alloc: Global,
+    objects: &O,
+) -> Result<(), NoMemory>
+    requires common { IsCommonIn (read_in table.old) border.now common.old }
+    requires told { IsTold (read_in table.old) (O.graph objects.now) }
+    requires open { common.old.closed < length common.old.commits.items }
+    ensures common { IsCommonIn (read_in table.new) border.now common.new }
+    ensures told { IsTold (read_in table.new) (O.graph objects.now) }
+    ensures grows { Grows (read_in table.old) (read_in table.new) }
+    ensures acknowledged { common.new.acknowledged ≡ common.old.acknowledged }
+    ensures settled { common.new.settled ≡ common.old.settled }
+    ensures closed { OnOk result (common.new.closed ≡ common.old.closed + 1) }
+{
+    let id = common.commits[common.closed];
+    let parents = links(alloc, table, border, &id)?;
+    mark_all(common, table, border, alloc, objects, parents.as_slice())?;
+    common.closed += 1;
+    Ok(())
+}
+
+/// Marks the first acknowledged id that isn't marked yet.
+fn settle_next<O: Objects>(
+    common: &mut Common,
+    table: &mut Table,
+    border: &Border,
+    alloc: Global,
+    objects: &O,
+) -> Result<(), NoMemory>
+    requires common { IsCommonIn (read_in table.old) border.now common.old }
+    requires told { IsTold (read_in table.old) (O.graph objects.now) }
+    requires open { common.old.settled < length common.old.acknowledged.items }
+    ensures common { IsCommonIn (read_in table.new) border.now common.new }
+    ensures told { IsTold (read_in table.new) (O.graph objects.now) }
+    ensures grows { Grows (read_in table.old) (read_in table.new) }
+    ensures acknowledged { common.new.acknowledged ≡ common.old.acknowledged }
+    ensures settled { OnOk result (common.new.settled ≡ common.old.settled + 1) }
+{
+    let id = common.acknowledged[common.settled];
+    mark_all(common, table, border, alloc, objects, &[id])?;
+    common.settled += 1;
+    Ok(())
+}
+
+/// Marks each acknowledged commit and each ancestor of one.
+pub(crate) fn settle<O: Objects>(
+    common: &mut Common,
+    table: &mut Table,
+    border: &Border,
+    alloc: Global,
+    objects: &O,
+) -> Result<(), NoMemory>
+    requires common { IsCommonIn (read_in table.old) border.now common.old }
+    requires told { IsTold (read_in table.old) (O.graph objects.now) }
+    ensures common { IsCommonIn (read_in table.new) border.now common.new }
+    ensures told { IsTold (read_in table.new) (O.graph objects.now) }
+    ensures grows { Grows (read_in table.old) (read_in table.new) }
+    ensures acknowledged { common.new.acknowledged ≡ common.old.acknowledged }
+    ensures settled { OnOk result (IsSettled (read_in table.new) border.now common.new.acknowledged.items common.new.commits.items) }
+    ensures exact { OnOk result (IsExact (O.graph objects.now) border.now common.new.acknowledged.items common.new.commits.items) }
+{
+    'acknowledged: while common.settled < common.acknowledged.len() {
+        settle_next(common, table, border, alloc, objects)?;
+    }
+    'marked: while common.closed < common.commits.len() {
+        close_next(common, table, border, alloc, objects)?;
+    }
+    Ok(())
+}

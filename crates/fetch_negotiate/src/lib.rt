@@ -1,0 +1,21 @@
+//! What a fetch asks for, and what it says that it has.
+#![tactic(auto)]
+
+mod algorithm;
+mod commits;
+mod common;
+mod line;
+mod links;
+mod negotiator;
+mod once;
+mod request;
+mod walk;
+mod wanted;
+
+pub use algorithm::{Algorithm, Depth, Round, Shallow};
+pub use negotiator::Negotiator;
+pub use request::request_of;
+pub use wanted::wants;
+
+#[cfg(test)]
+mod tests;

@@ -1,0 +1,247 @@
+//! Fetch requests.
+
+ghost use Rattle.std.specs.Prelude.{◌≡◌, [], ◌∷◌, ◌++◌, IfOk, IfErr, OnOk, map, decimal, if◌then◌else◌};
+ghost use Rattle.std.specs.Option.{option_map_or};
+ghost use Rattle.fetch_specs.specs.declared.tags.Tags.{Tags};
+ghost use Rattle.fetch_wire.specs.declared.error.WireError.TheVariants as errors;
+ghost use Rattle.fetch_negotiate.specs.Lists.{firsts};
+ghost use Rattle.fetch_negotiate.specs.Requests as spec;
+ghost use Rattle.hex.specs.Hex.{encode_lower};
+ghost use Rattle.fetch_store.specs.Id.{bytes_of};
+ghost use Rattle.fetch_negotiate.specs.Words.{not_word, deepen_word, relative_word, format_word};
+
+use crate::algorithm::Shallow;
+use crate::once::each_once;
+use fetch_specs::{PartialName, Tags};
+use fetch_store::{Border, Kind, List, NoMemory, ObjectId, Text};
+use fetch_wire::{Handshake, Request, WireError};
+use std::alloc::Global;
+
+/// The request of one round: what is asked, the haves acknowledged so far in the order in which they first were, and
+/// then the window. The agent is the text as it is sent.
+pub fn request_of(
+    alloc: Global,
+    handshake: &Handshake,
+    agent: &[u8],
+    tags: Tags,
+    shallow: &Shallow,
+    border: &Border,
+    wants: &[ObjectId],
+    acknowledged: &[ObjectId],
+    window: &[ObjectId],
+    done: bool,
+) -> Result<Request, WireError>
+    ensures lines { IfOk result (λ r. r.lines ≡ spec.text_lines (record { handshake = handshake.now; agent = agent.now; tags = tags; shallow = shallow.now; border = border.now; wants = wants.now })) }
+    ensures haves { IfOk result (λ r. r.haves ≡ firsts acknowledged.now ++ window.now) }
+    ensures done { IfOk result (λ r. r.done ≡ done) }
+    ensures memory { IfErr result (λ e. e ≡ errors.NoMemory) }
+{
+    let lines = text_lines(alloc, handshake, agent, tags, shallow, border, wants)?;
+    let mut haves = each_once(alloc, acknowledged)?;
+    haves.extend_from_slice(window)?;
+    Ok(Request {
+        lines: List::from(lines),
+        haves: List::from(haves),
+        done,
+    })
+}
+
+fn text_lines(
+    alloc: Global,
+    handshake: &Handshake,
+    agent: &[u8],
+    tags: Tags,
+    shallow: &Shallow,
+    border: &Border,
+    wants: &[ObjectId],
+) -> Result<Vec<Text>, NoMemory>
+    ensures { IfOk result (λ lines. lines.items ≡ spec.head_of handshake.now agent.now ++ spec.asked_of tags shallow.now border.now wants.now) }
+{
+    let mut lines = Vec::new(alloc);
+    push_head(&mut lines, alloc, handshake, agent)?;
+    push_asked(&mut lines, alloc, tags, shallow, border, wants)?;
+    Ok(lines)
+}
+
+#[tactic(auto, unfolding(crate::specs::Words::command_word, crate::specs::Words::agent_word, crate::specs::Words::agent_is))]
+fn push_head(
+    lines: &mut Vec<Text>,
+    alloc: Global,
+    handshake: &Handshake,
+    agent: &[u8],
+) -> Result<(), NoMemory>
+    ensures { OnOk result (lines.new.items ≡ lines.old.items ++ spec.head_of handshake.now agent.now) }
+{
+    push_word(lines, alloc, b"command=fetch")?;
+    push_when(offers(handshake, b"agent"), lines, alloc, b"agent=", agent)?;
+    push_format(lines, alloc, handshake)?;
+    Ok(())
+}
+
+fn offers(handshake: &Handshake, name: &[u8]) -> bool
+    ensures { result ≡ spec.offers handshake.now name.now }
+{
+    let capabilities = handshake.capabilities.as_slice();
+    capabilities.iter().any(|c| c.name.as_bytes() == name)
+}
+
+#[tactic(auto, unfolding(crate::specs::Words::format_word))]
+fn push_format(lines: &mut Vec<Text>, alloc: Global, handshake: &Handshake) -> Result<(), NoMemory>
+    ensures { OnOk result (lines.new.items ≡ lines.old.items ++ spec.when (spec.offers handshake.now format_word) (spec.format_line handshake.now.object_hash)) }
+{
+    let offered = offers(handshake, b"object-format");
+    push_when(offered, lines, alloc, format_of(handshake.object_hash), b"")
+}
+
+#[tactic(auto, unfolding(crate::specs::Words::sha1_format, crate::specs::Words::sha256_format))]
+fn format_of(kind: Kind) -> &'static [u8]
+    ensures { result.now ≡ spec.format_line kind }
+{
+    match kind {
+        Kind::Sha1 => b"object-format=sha1",
+        Kind::Sha256 => b"object-format=sha256",
+    }
+}
+
+#[tactic(auto, unfolding(crate::specs::Words::plain_pack, crate::specs::Words::include_tag, crate::specs::Words::shallow_word, crate::specs::Words::want_word))]
+fn push_asked(
+    lines: &mut Vec<Text>,
+    alloc: Global,
+    tags: Tags,
+    shallow: &Shallow,
+    border: &Border,
+    wants: &[ObjectId],
+) -> Result<(), NoMemory>
+    ensures { OnOk result (lines.new.items ≡ lines.old.items ++ spec.asked_of tags shallow.now border.now wants.now) }
+{
+    push_word(lines, alloc, b"plain-pack")?;
+    push_when(is_included(tags), lines, alloc, b"include-tag", b"")?;
+    push_ids(lines, alloc, b"shallow ", border.commits())?;
+    push_depth(lines, alloc, shallow)?;
+    push_ids(lines, alloc, b"want ", wants)?;
+    Ok(())
+}
+
+pub(crate) fn is_included(tags: Tags) -> bool
+    ensures { result ≡ spec.is_included tags }
+{
+    match tags {
+        Tags::Included => true,
+        Tags::All | Tags::None => false,
+    }
+}
+
+#[tactic(auto, unfolding(crate::specs::Words::deepen_word, crate::specs::Words::since_word))]
+fn push_depth(lines: &mut Vec<Text>, alloc: Global, shallow: &Shallow) -> Result<(), NoMemory>
+    ensures { OnOk result (lines.new.items ≡ lines.old.items ++ spec.depth_lines shallow.now) }
+{
+    match shallow {
+        Shallow::NoChange => Ok(()),
+        Shallow::DepthAtRemote(depth) => {
+            push_number(lines, alloc, b"deepen ", u64::from(depth.get()))
+        }
+        Shallow::Deepen(depth) => push_relative(lines, alloc, *depth),
+        Shallow::Since { cutoff } => push_number(lines, alloc, b"deepen-since ", *cutoff),
+        Shallow::Exclude {
+            remote_refs,
+            since_cutoff,
+        } => {
+            push_since(lines, alloc, *since_cutoff)?;
+            push_names(lines, alloc, remote_refs.as_slice())
+        }
+    }
+}
+
+#[tactic(auto, unfolding(crate::specs::Words::deepen_word, crate::specs::Words::relative_word))]
+fn push_relative(lines: &mut Vec<Text>, alloc: Global, depth: u32) -> Result<(), NoMemory>
+    ensures { OnOk result (lines.new.items ≡ lines.old.items ++ (deepen_word ++ decimal depth) ∷ relative_word ∷ []) }
+{
+    push_number(lines, alloc, b"deepen ", u64::from(depth))?;
+    push_word(lines, alloc, b"deepen-relative")
+}
+
+#[tactic(auto, unfolding(crate::specs::Words::since_word))]
+fn push_since(lines: &mut Vec<Text>, alloc: Global, cutoff: Option<u64>) -> Result<(), NoMemory>
+    ensures { OnOk result (lines.new.items ≡ lines.old.items ++ spec.since_lines cutoff) }
+{
+    match cutoff {
+        Some(cutoff) => push_number(lines, alloc, b"deepen-since ", cutoff),
+        None => Ok(()),
+    }
+}
+
+#[tactic(auto, unfolding(crate::specs::Words::not_word))]
+fn push_names(lines: &mut Vec<Text>, alloc: Global, names: &[PartialName]) -> Result<(), NoMemory>
+    ensures { OnOk result (lines.new.items ≡ lines.old.items ++ map (λ name. not_word ++ name) names.now) }
+{
+    for name in names {
+        lines.push(joined(alloc, b"deepen-not ", name.as_bytes())?)?;
+    }
+    Ok(())
+}
+
+fn push_number(
+    lines: &mut Vec<Text>,
+    alloc: Global,
+    word: &[u8],
+    number: u64,
+) -> Result<(), NoMemory>
+    ensures { OnOk result (lines.new.items ≡ lines.old.items ++ (word.now ++ decimal number) ∷ []) }
+{
+    let digits = format!(in alloc; "{number}")?;
+    lines.push(joined(alloc, word, digits.as_bytes())?)?;
+    Ok(())
+}
+
+/// A line for each id.
+fn push_ids(
+    lines: &mut Vec<Text>,
+    alloc: Global,
+    word: &[u8],
+    ids: &[ObjectId],
+) -> Result<(), NoMemory>
+    ensures { OnOk result (lines.new.items ≡ lines.old.items ++ spec.id_lines word.now ids.now) }
+{
+    for id in ids {
+        lines.push(id_line(alloc, word, id)?)?;
+    }
+    Ok(())
+}
+
+fn id_line(alloc: Global, word: &[u8], id: &ObjectId) -> Result<Text, NoMemory>
+    ensures { IfOk result (λ line. line ≡ word.now ++ encode_lower (bytes_of id.now)) }
+{
+    let digits = hex::encode(alloc, id.as_bytes())?;
+    joined(alloc, word, digits.as_bytes())
+}
+
+fn push_word(lines: &mut Vec<Text>, alloc: Global, word: &[u8]) -> Result<(), NoMemory>
+    ensures { OnOk result (lines.new.items ≡ lines.old.items ++ word.now ∷ []) }
+{
+    lines.push(Text::new(alloc, word)?)?;
+    Ok(())
+}
+
+/// A line, where the condition holds.
+fn push_when(
+    condition: bool,
+    lines: &mut Vec<Text>,
+    alloc: Global,
+    word: &[u8],
+    rest: &[u8],
+) -> Result<(), NoMemory>
+    ensures { OnOk result (lines.new.items ≡ lines.old.items ++ spec.when condition (word.now ++ rest.now)) }
+{
+    if condition {
+        lines.push(joined(alloc, word, rest)?)?;
+    }
+    Ok(())
+}
+
+fn joined(alloc: Global, word: &[u8], rest: &[u8]) -> Result<Text, NoMemory>
+    ensures { IfOk result (λ text. text ≡ word.now ++ rest.now) }
+{
+    let mut bytes = Vec::from_slice(alloc, word)?;
+    bytes.extend_from_slice(rest)?;
+    Ok(Text::from(bytes))
+}
