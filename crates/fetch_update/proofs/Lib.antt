@@ -1,0 +1,12 @@
+pub mod Seen
+pub mod Visits
+pub mod Expansions
+pub mod Paths
+pub mod Pigeons
+pub mod Aheads
+pub mod Sames
+pub mod Joined
+pub mod Lists
+pub mod Firsts
+pub mod Written
+pub mod Whole

@@ -1,0 +1,317 @@
+-- The update policy: what becomes of the destination of one mapping. The first row that holds decides.
+use Rattle.std.specs.Prelude.{◌≡◌, ⊤, ℕ, Bool, true, false, ◌&&◌, ◌||◌, List, [], ◌∷◌, ◌++◌, codes, Option, Some, None, is_some, Result, Ok, Err, if◌then◌else◌}
+use Rattle.std.specs.FinMap as finmap
+use Rattle.std.specs.List.{list_any}
+use Rattle.std.specs.Ordering.{eq_by_cmp}
+use Rattle.std.specs.Str.{bytes_eq}
+use Rattle.fetch_store.specs.declared.id.ObjectId.{ObjectId}
+use Rattle.fetch_store.specs.Graph.{Graph}
+use Rattle.fetch_store.specs.Stores.{id_cmp}
+use Rattle.fetch_specs.specs.Categories.{category_of}
+use Rattle.fetch_specs.specs.Names.{is_full_name}
+use Rattle.fetch_specs.specs.Specs.{Spec}
+use Rattle.fetch_specs.specs.declared.category.Category.{Category}
+use Rattle.fetch_specs.specs.declared.category.Category.TheVariants as categories
+use Rattle.fetch_specs.specs.declared.operation.Operation.{Operation}
+use Rattle.fetch_specs.specs.declared.operation.Operation.TheVariants as operations
+use Rattle.fetch_specs.specs.declared.operation.Mode.{Mode as SpecMode}
+use Rattle.fetch_specs.specs.declared.operation.Mode.TheVariants as spec_modes
+use Rattle.fetch_specs.specs.declared.tags.Tags.{Tags}
+use Rattle.fetch_specs.specs.declared.tags.Tags.TheVariants as wanted_tags
+use Rattle.fetch_refs.specs.declared.edit.Change.TheVariants as changes
+use Rattle.fetch_refs.specs.declared.edit.PreviousValue.{PreviousValue}
+use Rattle.fetch_refs.specs.declared.edit.PreviousValue.TheVariants as expected
+use Rattle.fetch_refs.specs.declared.edit.RefEdit.{RefEdit}
+use Rattle.fetch_refs.specs.declared.edit.RefLog.TheVariants as logs
+use Rattle.fetch_refs.specs.declared.error.RefError.{RefError}
+use Rattle.fetch_refs.specs.declared.error.RefError.TheVariants as ref_errors
+use Rattle.fetch_refs.specs.declared.target.Target.{Target}
+use Rattle.fetch_refs.specs.declared.target.Target.TheVariants as targets
+use Rattle.fetch_refs.specs.Names.{Names, name_cmp}
+use Rattle.fetch_refs.specs.Peeled.{peeled}
+use Rattle.fetch_wire.specs.References.{source_target}
+use Rattle.fetch_wire.specs.declared.mapping.Mapping.{Mapping}
+use Rattle.fetch_wire.specs.declared.reference.Ref.{Ref}
+use Rattle.fetch_wire.specs.declared.reference.Ref.TheVariants as remote
+use Rattle.fetch_wire.specs.declared.reference.Source.{Source}
+use Rattle.fetch_wire.specs.declared.reference.Source.TheVariants as sources
+use Rattle.fetch_update.specs.declared.message.RefLogMessage.{RefLogMessage}
+use Rattle.fetch_update.specs.declared.message.RefLogMessage.TheVariants.{Prefixed, Override}
+use Rattle.fetch_update.specs.declared.mode.Mode.{Mode}
+use Rattle.fetch_update.specs.declared.mode.Mode.TheVariants as modes
+use Rattle.fetch_update.specs.declared.mode.TypeChange.{TypeChange}
+use Rattle.fetch_update.specs.declared.mode.TypeChange.TheVariants.{SymbolicToDirect}
+use Rattle.fetch_update.specs.declared.update.Error.{Error}
+use Rattle.fetch_update.specs.declared.update.Error.TheVariants as errors
+use Rattle.fetch_update.specs.declared.worktrees.Worktree.{Worktree}
+use Rattle.fetch_update.specs.declared.verdict.Verdict.{Verdict}
+use Rattle.fetch_update.specs.declared.judging.Judge.{Judge}
+use Rattle.fetch_update.specs.declared.judging.Wanted.{Wanted}
+use Rattle.fetch_update.specs.declared.judging.Wanted.TheVariants as wanted
+use Rattle.fetch_update.specs.Ahead.{is_ahead}
+use Rattle.fetch_update.specs.Dated.{commit_at}
+
+-- what mappings are judged by
+pub record Policy : Type 0 where
+  pub names : Names
+  pub graph : Graph
+  pub message : RefLogMessage
+  pub tags : Tags
+  pub dry_run : Bool
+  pub worktrees : List Worktree
+
+-- ---- words
+
+unfoldable pub storing_tag : List ℕ
+storing_tag = codes "storing tag"
+
+unfoldable pub storing_head : List ℕ
+storing_head = codes "storing head"
+
+unfoldable pub storing_ref : List ℕ
+storing_ref = codes "storing ref"
+
+unfoldable pub change_unborn : List ℕ
+change_unborn = codes "change unborn ref"
+
+unfoldable pub no_update : List ℕ
+no_update = codes "no update will be performed"
+
+unfoldable pub updating_tag : List ℕ
+updating_tag = codes "updating tag"
+
+unfoldable pub guessed : List ℕ
+guessed = codes "fast-forward (guessed in dry-run)"
+
+unfoldable pub fast_forward : List ℕ
+fast_forward = codes "fast-forward"
+
+unfoldable pub forced_update : List ℕ
+forced_update = codes "forced-update"
+
+-- the action, a colon and a space before what happened; or a text of its own
+abbrev pub message_text : RefLogMessage → List ℕ → List ℕ
+message_text (Prefixed action) happened = action ++ (58 ∷ 32 ∷ []) ++ happened
+message_text (Override message) happened = message
+
+-- ---- what is asked
+
+-- what a reference of the remote is: an id (of a tag, before what it peels to), or a name that isn't there
+abbrev pub value_in : Ref → Target
+value_in (remote.Direct name object) = targets.Object object
+value_in (remote.Symbolic name target (Some tag) object) = targets.Object tag
+value_in (remote.Symbolic name target None object) = targets.Object object
+value_in (remote.Peeled name tag object) = targets.Object tag
+value_in (remote.Unborn name target) = targets.Symbolic target
+
+-- what a mapping is to write
+abbrev pub value_of : Source → Target
+value_of (sources.ObjectId id) = targets.Object id
+value_of (sources.Ref reference) = value_in reference
+
+abbrev pub is_forced : SpecMode → Bool
+is_forced spec_modes.Normal = false
+is_forced spec_modes.Force = true
+is_forced spec_modes.Exclusion = false
+
+abbrev pub is_normal : SpecMode → Bool
+is_normal spec_modes.Normal = true
+is_normal spec_modes.Force = false
+is_normal spec_modes.Exclusion = false
+
+abbrev pub is_fetch : Operation → Bool
+is_fetch operations.Push = false
+is_fetch operations.Fetch = true
+
+-- what the refspec that brings all tags has on both sides
+unfoldable pub all_tags : List ℕ
+all_tags = codes "refs/tags/*"
+
+abbrev pub is_side : Option (List ℕ) → Bool
+is_side None = false
+is_side (Some text) = bytes_eq text all_tags
+
+-- whether this is the refspec that brings all tags
+abbrev pub is_tag_spec : Spec → Bool
+is_tag_spec s = is_fetch s.operation && is_normal s.mode && is_side s.source && is_side s.destination
+
+abbrev pub is_included : Tags → Bool
+is_included wanted_tags.All = false
+is_included wanted_tags.Included = true
+is_included wanted_tags.None = false
+
+abbrev pub is_category : Category → Bool
+is_category categories.Tag = true
+is_category other = false
+
+abbrev pub is_tag_category : Option Category → Bool
+is_tag_category None = false
+is_tag_category (Some c) = is_category c
+
+-- whether a name begins with `refs/tags/`
+abbrev pub is_tag : List ℕ → Bool
+is_tag name = is_tag_category (category_of name)
+
+abbrev pub storing_in : Option Category → List ℕ
+storing_in None = storing_ref
+storing_in (Some categories.Tag) = storing_tag
+storing_in (Some categories.LocalBranch) = storing_head
+storing_in (Some other) = storing_ref
+
+abbrev pub storing : List ℕ → List ℕ
+storing name = storing_in (category_of name)
+
+abbrev pub is_stored : Graph → ObjectId → Bool
+is_stored g id = is_some (finmap.get g id)
+
+abbrev pub is_commit : Graph → ObjectId → Bool
+is_commit g id = is_some (commit_at g id)
+
+-- whether a branch is checked out somewhere
+abbrev pub is_checked_out : List Worktree → List ℕ → Bool
+is_checked_out worktrees name = list_any (λ w. bytes_eq w.branch name) worktrees
+
+-- where a branch is checked out: a map with nothing at each directory
+abbrev pub directory_map : List Worktree → List ℕ → finmap.FinMap name_cmp (Unit {0})
+directory_map [] name = finmap.empty
+directory_map (w ∷ ws) name = if bytes_eq w.branch name then finmap.insert (directory_map ws name) w.directory tt else directory_map ws name
+
+-- those directories, sorted, each once
+abbrev pub directories_of : List Worktree → List ℕ → List (List ℕ)
+directories_of worktrees name = finmap.keys (directory_map worktrees name)
+
+-- ---- verdicts
+
+-- a mapping that changes nothing
+abbrev pub nothing : Mode → Verdict
+nothing mode = record { mode = mode; type_change = None; edit = None }
+
+abbrev pub edit_of : RefLogMessage → List ℕ → PreviousValue → Target → List ℕ → RefEdit
+edit_of message name expects value happened =
+    record { change = changes.Update (record { mode = logs.AndReference; force_create_reflog = false; message = message_text message happened }) expects value; name = name }
+
+-- a symbolic reference that gets an id is told so
+abbrev pub type_change_of : Target → Target → Option TypeChange
+type_change_of (targets.Symbolic found) (targets.Object id) = Some SymbolicToDirect
+type_change_of (targets.Symbolic found) (targets.Symbolic name) = None
+type_change_of (targets.Object found) value = None
+
+-- a reference that has the value found gets another, or the same again
+abbrev pub written : RefLogMessage → Mode → List ℕ → Target → Target → List ℕ → Verdict
+written message mode name found value happened =
+    record { mode = mode; type_change = type_change_of found value; edit = Some (edit_of message name (expected.MustExistAndMatch found) value happened) }
+
+abbrev pub created : RefLogMessage → List ℕ → Target → Verdict
+created message name value = record { mode = modes.New; type_change = None; edit = Some (edit_of message name (expected.ExistingMustMatch value) value (storing name)) }
+
+-- the value, where it may be written: a name that isn't one can't be
+abbrev pub checked : Target → Result Target Error
+checked (targets.Object id) = Ok (targets.Object id)
+checked (targets.Symbolic name) = if is_full_name name then Ok (targets.Symbolic name) else Err (errors.InvalidRefName name)
+
+abbrev pub after_check : Result Target Error → Verdict → Result Verdict Error
+after_check (Ok value) v = Ok v
+after_check (Err e) v = Err e
+
+-- the verdict, where the value may be written
+abbrev pub if_valid : Target → Verdict → Result Verdict Error
+if_valid value v = after_check (checked value) v
+
+-- both are commits, and the remote's isn't ahead
+abbrev pub behind : RefLogMessage → SpecMode → List ℕ → Target → ObjectId → Verdict
+behind message mode name found new =
+    if is_forced mode then written message modes.Forced name found (targets.Object new) forced_update else nothing modes.RejectedNonFastForward
+
+-- an object that is stored becomes another one
+unfoldable pub at_stored : Policy → SpecMode → List ℕ → Target → ObjectId → ObjectId → Verdict
+at_stored p mode name found id new =
+    if is_commit p.graph id && is_commit p.graph new then
+    (if is_ahead p.graph new id then written p.message modes.FastForward name found (targets.Object new) fast_forward else behind p.message mode name found new)
+    else written p.message modes.Forced name found (targets.Object new) forced_update
+
+abbrev pub at_tag : RefLogMessage → SpecMode → List ℕ → Target → ObjectId → Verdict
+at_tag message mode name found new =
+    if is_forced mode then written message modes.Forced name found (targets.Object new) updating_tag else nothing modes.RejectedTagUpdate
+
+-- an id becomes another one
+unfoldable pub at_other : Policy → SpecMode → List ℕ → Target → ObjectId → ObjectId → Result Verdict Error
+at_other p mode name found id new =
+    if is_tag name then Ok (at_tag p.message mode name found new)
+    else if p.dry_run then Ok (written p.message modes.FastForward name found (targets.Object new) guessed)
+    else if is_stored p.graph id then Ok (at_stored p mode name found id new)
+    else Err (errors.FindCommit id)
+
+-- a reference that stands for an id
+unfoldable pub at_id : Policy → SpecMode → List ℕ → Target → ObjectId → Target → Result Verdict Error
+at_id p mode name found id (targets.Symbolic target) = Ok (nothing modes.RejectedToReplaceWithUnborn)
+at_id p mode name found id (targets.Object new) =
+    if eq_by_cmp id_cmp id new then Ok (written p.message modes.NoChangeNeeded name found (targets.Object new) no_update) else at_other p mode name found id new
+
+-- what an unborn reference is told: nothing changes where it names what the remote's names
+abbrev pub unborn_mode : Target → Option (List ℕ) → Mode
+unborn_mode (targets.Symbolic found) (Some target) = if bytes_eq found target then modes.NoChangeNeeded else modes.Forced
+unborn_mode (targets.Symbolic found) None = modes.Forced
+unborn_mode (targets.Object found) target = modes.Forced
+
+-- a reference that stands, by the id that it stands for
+unfoldable pub at_local : Policy → SpecMode → Option (List ℕ) → Target → List ℕ → Target → Result ObjectId RefError → Result Verdict Error
+at_local p mode target value name found (Ok id) = at_id p mode name found id value
+at_local p mode target value name found (Err (ref_errors.Unborn at)) = if_valid value (written p.message (unborn_mode found target) name found value change_unborn)
+at_local p mode target value name found (Err cause) = Err (errors.PeelToId name cause)
+
+-- a reference that stands
+unfoldable pub at_found : Policy → SpecMode → Option (List ℕ) → Target → List ℕ → Target → Result Verdict Error
+at_found p mode target value name found =
+    if is_checked_out p.worktrees name then Ok (nothing (modes.RejectedCurrentlyCheckedOut (directories_of p.worktrees name)))
+    else at_local p mode target value name found (peeled p.names p.graph name)
+
+-- a valid destination, by what stands there
+unfoldable pub at_name : Policy → SpecMode → Option (List ℕ) → Target → List ℕ → Option Target → Result Verdict Error
+at_name p mode target value name None = if_valid value (created p.message name value)
+at_name p mode target value name (Some found) = at_found p mode target value name found
+
+unfoldable pub at_destination : Policy → SpecMode → Option (List ℕ) → Target → Option (List ℕ) → Result Verdict Error
+at_destination p mode target value None = Ok (nothing modes.NoChangeNeeded)
+at_destination p mode target value (Some name) =
+    if is_full_name name then at_name p mode target value name (finmap.get p.names name) else Err (errors.FindReference name)
+
+-- the id that isn't stored, where objects are tested: outside a dry run
+unfoldable pub unsent : Policy → Target → Option ObjectId
+unsent p (targets.Symbolic name) = None
+unsent p (targets.Object id) = if p.dry_run || is_stored p.graph id then None else Some id
+
+unfoldable pub unsent_mode : Tags → Spec → ObjectId → Mode
+unsent_mode tags s id = if is_included tags && is_tag_spec s then modes.ImplicitTagNotSentByRemote else modes.RejectedSourceObjectNotFound id
+
+abbrev pub unless_unsent : Policy → Spec → Option ObjectId → Result Verdict Error → Result Verdict Error
+unless_unsent p s None otherwise = otherwise
+unless_unsent p s (Some id) otherwise = Ok (nothing (unsent_mode p.tags s id))
+
+unfoldable pub verdict_of : Policy → Spec → Mapping → Result Verdict Error
+verdict_of p s m = unless_unsent p s (unsent p (value_of m.remote)) (at_destination p s.mode (source_target m.remote) (value_of m.remote) m.local)
+
+-- what was answered is this, unless memory ran out
+abbrev pub Answers : {X : Type 0} → Result X Error → Result X Error → Type 0
+Answers expects (Ok found) = expects ≡ Ok found
+Answers expects (Err errors.NoMemory) = ⊤
+Answers expects (Err found) = expects ≡ Err found
+
+-- what a judge of the code judges by
+abbrev pub policy_of : Graph → Judge → Policy
+policy_of graph j = record { names = j.refs.now.names; graph = graph; message = j.message.now; tags = j.tags; dry_run = j.dry_run; worktrees = j.worktrees.now }
+
+-- what the code asks for
+abbrev pub value_in_code : Wanted → Target
+value_in_code (wanted.Id id) = targets.Object id
+value_in_code (wanted.Name name) = targets.Symbolic name.now
+
+-- the same, of what a view shows
+abbrev pub IsGivenAs : {X Y : Type 0} → (X → Y) → Result Y Error → Result X Error → Type 0
+IsGivenAs view expects (Ok found) = expects ≡ Ok (view found)
+IsGivenAs view expects (Err errors.NoMemory) = ⊤
+IsGivenAs view expects (Err found) = expects ≡ Err found
+
+-- the policy over references, objects and worktrees
+abbrev pub policy_over : Names → Graph → RefLogMessage → Tags → Bool → List Worktree → Policy
+policy_over names graph message tags dry_run worktrees =
+    record { names = names; graph = graph; message = message; tags = tags; dry_run = dry_run; worktrees = worktrees }

@@ -1,0 +1,74 @@
+//! Commits as they are read, and how many reads there were.
+
+ghost use Rattle.std.specs.Prelude.{◌≡◌, ◌↔◌, ◌+◌, IsTrue, MatchOption};
+ghost use Rattle.std.specs.List.{slice_get};
+ghost use Rattle.std.specs.Option.{option_map};
+ghost use Rattle.fetch_store.specs.declared.object_kind.ObjectKind.TheVariants as kinds;
+ghost use Rattle.fetch_store.specs.Objects.{is_kind};
+ghost use Rattle.fetch_update.specs.Dated.{IsCommit, commit_at, parents_at, seconds_in};
+
+use fetch_store::{ObjectId, ObjectKind, Objects, Steps};
+use std::sync::ledger::Ledger;
+
+/// Whether a commit is stored under this id.
+pub fn is_commit<O: Objects>(objects: &O, id: &ObjectId) -> bool
+    ensures { IsTrue result ↔ IsCommit (O.graph objects.now) id.now }
+{
+    match objects.kind_of(id) {
+        Some(kind) => names_commits(kind),
+        None => false,
+    }
+}
+
+fn names_commits(kind: ObjectKind) -> bool
+    ensures { result ≡ is_kind kind kinds.Commit }
+{
+    match kind {
+        ObjectKind::Commit => true,
+        ObjectKind::Tree | ObjectKind::Blob | ObjectKind::Tag => false,
+    }
+}
+
+/// A commit's seconds. A commit that is read is one step.
+pub fn read_commit<O: Objects, L: Ledger>(
+    objects: &O,
+    id: &ObjectId,
+    steps: &mut Steps<L>,
+) -> Option<u64>
+    ensures seconds { result ≡ option_map seconds_in (commit_at (O.graph objects.now) id.now) }
+    ensures step { MatchOption result (steps.new ≡ steps.old) (λ _. steps.new ≡ steps.old + 1) }
+{
+    match objects.kind_of(id) {
+        Some(kind) if names_commits(kind) => {
+            steps.tick();
+            Some(objects.seconds(id).unwrap_or(0))
+        }
+        _ => None,
+    }
+}
+
+/// A commit's parent at an index. A parent link that is read is one step.
+pub fn read_parent<O: Objects, L: Ledger>(
+    objects: &O,
+    id: &ObjectId,
+    index: usize,
+    steps: &mut Steps<L>,
+) -> Option<ObjectId>
+    requires { IsCommit (O.graph objects.now) id.now }
+    ensures parent { result ≡ slice_get (parents_at (O.graph objects.now) id.now) index }
+    ensures step { MatchOption result (steps.new ≡ steps.old) (λ _. steps.new ≡ steps.old + 1) }
+{
+    match objects.parent(id, index) {
+        Some(link) => {
+            steps.tick();
+            Some(link)
+        }
+        None => None,
+    }
+}
+
+pub fn is_same(id: &ObjectId, other: &ObjectId) -> bool
+    ensures { IsTrue result ↔ (id.now ≡ other.now) }
+{
+    *id == *other
+}

@@ -1,0 +1,29 @@
+//! What becomes of references after a fetch.
+#![tactic(auto)]
+
+mod commits;
+mod dated;
+mod judging;
+pub mod laws;
+mod message;
+mod mode;
+mod pairs;
+mod scripted;
+mod settling;
+mod stored;
+#[cfg(test)]
+mod tests;
+mod trees;
+pub mod update;
+mod verdict;
+mod verdicts;
+mod walk;
+mod worktrees;
+mod writing;
+
+pub use message::RefLogMessage;
+pub use mode::{Mode, TypeChange};
+pub use pairs::MappingUpdates;
+pub use scripted::ScriptedWorktrees;
+pub use update::Update;
+pub use worktrees::{Worktree, WorktreeFault, Worktrees};

@@ -1,0 +1,140 @@
+//! Updates of references, and what refuses them.
+
+ghost use Rattle.std.specs.Prelude.{◌≡◌, None, IfOk};
+
+use crate::mode::{Mode, TypeChange};
+use fetch_refs::{RefEdit, RefError};
+use fetch_specs::FullName;
+use fetch_store::{List, NoMemory, ObjectId, Text};
+use std::alloc::{AllocError, AllocFailed};
+use thiserror::Error as ErrorMacro;
+
+/// What becomes of one mapping.
+#[derive(Debug, Drop)]
+pub struct Update {
+    pub mode: Mode,
+    pub type_change: Option<TypeChange>,
+    /// Which of the edits carries it out.
+    pub edit_index: Option<usize>,
+    pub mapping_index: usize,
+}
+
+impl Update {
+    /// An update that changes nothing.
+    pub fn from_mode(mode: Mode, mapping_index: usize) -> Update
+        ensures { result ≡ record { mode = mode; type_change = None; edit_index = None; mapping_index = mapping_index } }
+    {
+        Update {
+            mode,
+            type_change: None,
+            edit_index: None,
+            mapping_index,
+        }
+    }
+}
+
+/// The edits of all mappings, and what each mapping is told.
+#[derive(Debug, Drop)]
+pub struct Outcome {
+    pub edits: List<RefEdit>,
+    pub updates: List<Update>,
+}
+
+#[derive(Debug, Drop, ErrorMacro)]
+pub enum Error {
+    #[error("a destination is no name of a reference")]
+    FindReference { name: Text },
+    #[error("the target of an unborn remote reference is no name")]
+    InvalidRefName { name: Text },
+    #[error("the object of a local reference isn't stored")]
+    FindCommit { id: ObjectId },
+    #[error("a local reference leads to no object")]
+    PeelToId { name: FullName, cause: RefError },
+    #[error("the worktrees couldn't be listed")]
+    WorktreeListing,
+    #[error("the repository of a worktree couldn't be opened")]
+    OpenWorktreeRepo,
+    #[error("the head of a worktree couldn't be followed")]
+    FollowSymref,
+    #[error("out of memory")]
+    NoMemory,
+}
+
+impl From<NoMemory> for Error {
+    ghost use Rattle.std.specs.Prelude.{◌≡◌};
+    ghost use Rattle.fetch_update.specs.declared.update.Error.TheVariants as errors;
+
+    ghost from_gives = { λ _ e. e ≡ errors.NoMemory };
+
+    fn from(_e: NoMemory) -> Error {
+        Error::NoMemory
+    }
+}
+
+impl From<AllocError> for Error {
+    ghost use Rattle.std.specs.Prelude.{◌≡◌};
+    ghost use Rattle.fetch_update.specs.declared.update.Error.TheVariants as errors;
+
+    ghost from_gives = { λ _ e. e ≡ errors.NoMemory };
+
+    fn from(_e: AllocError) -> Error {
+        Error::NoMemory
+    }
+}
+
+impl<T: Drop> From<AllocFailed<T>> for Error {
+    ghost use Rattle.std.specs.Prelude.{◌≡◌};
+    ghost use Rattle.fetch_update.specs.declared.update.Error.TheVariants as errors;
+
+    ghost from_gives = { λ _ e. e ≡ errors.NoMemory };
+
+    fn from(_e: AllocFailed<T>) -> Error {
+        Error::NoMemory
+    }
+}
+
+impl Update {
+    pub fn try_clone(&self) -> Result<Update, NoMemory>
+        ensures { IfOk result (λ copy. copy ≡ self.now) }
+    {
+        Ok(Update {
+            mode: self.mode.try_clone()?,
+            type_change: self.type_change,
+            edit_index: self.edit_index,
+            mapping_index: self.mapping_index,
+        })
+    }
+}
+
+impl Outcome {
+    pub fn try_clone(&self) -> Result<Outcome, NoMemory>
+        ensures { IfOk result (λ copy. copy ≡ self.now) }
+    {
+        Ok(Outcome {
+            edits: copy_edits(&self.edits)?,
+            updates: copy_updates(&self.updates)?,
+        })
+    }
+}
+
+fn copy_edits(edits: &List<RefEdit>) -> Result<List<RefEdit>, NoMemory>
+    ensures { IfOk result (λ copy. copy ≡ edits.now) }
+{
+    let mut copy = Vec::with_capacity(edits.allocator(), edits.len())?;
+    let from = edits.as_slice();
+    'edits: for edit in from {
+        copy.push(edit.try_clone()?)?;
+    }
+    Ok(List::from(copy))
+}
+
+fn copy_updates(updates: &List<Update>) -> Result<List<Update>, NoMemory>
+    ensures { IfOk result (λ copy. copy ≡ updates.now) }
+{
+    let mut copy = Vec::with_capacity(updates.allocator(), updates.len())?;
+    let from = updates.as_slice();
+    'updates: for update in from {
+        copy.push(update.try_clone()?)?;
+    }
+    Ok(List::from(copy))
+}

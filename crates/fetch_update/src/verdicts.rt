@@ -1,0 +1,33 @@
+//! What becomes of each mapping.
+
+ghost use Rattle.std.specs.Prelude.{◌≡◌};
+ghost use Rattle.fetch_update.specs.Outcomes.{verdicts_from};
+ghost use Rattle.fetch_update.specs.Policy.{IsGivenAs, policy_of};
+
+use crate::judging::{Judge, judge_mapping};
+use crate::update::Error;
+use crate::verdict::Verdict;
+use fetch_specs::RefSpec;
+use fetch_store::Objects;
+use fetch_wire::Mapping;
+
+/// The verdicts of the mappings, each beside its index, or the first refusal. A mapping whose
+/// refspec isn't found is passed over.
+pub(crate) fn verdicts<O: Objects>(
+    judge: &Judge<'_>,
+    objects: &O,
+    mappings: &[Mapping],
+    refspecs: &[RefSpec],
+    extra_refspecs: &[RefSpec],
+) -> Result<Vec<(usize, Verdict)>, Error>
+    ensures { IsGivenAs (λ v. v.items) (verdicts_from (policy_of (O.graph objects.now) judge.now) refspecs.now extra_refspecs.now 0 mappings.now) result }
+{
+    let mut verdicts = Vec::new(judge.alloc);
+    'mappings: for (index, mapping) in mappings.iter().enumerate() {
+        if let Some(refspec) = mapping.spec_index.get(refspecs, extra_refspecs) {
+            let verdict = judge_mapping(judge, objects, refspec, mapping)?;
+            verdicts.push((index, verdict))?;
+        }
+    }
+    Ok(verdicts)
+}

@@ -1,0 +1,65 @@
+//! The worktrees of a repository.
+
+ghost use Rattle.std.specs.Prelude.{◌≡◌, IfOk, IfSome, IsErrOf, None, List as Items, Option};
+ghost use Rattle.fetch_store.specs.Faults.{Faults, Rose, Counts};
+
+use fetch_specs::FullName;
+use fetch_store::{NoMemory, Text};
+use thiserror::Error;
+
+/// A branch, and the directory in which it is checked out.
+#[derive(Debug, Drop)]
+pub struct Worktree {
+    pub branch: FullName,
+    pub directory: Text,
+}
+
+impl Worktree {
+    pub fn try_clone(&self) -> Result<Worktree, NoMemory>
+        ensures { IfOk result (λ copy. copy ≡ self.now) }
+    {
+        Ok(Worktree {
+            branch: self.branch.try_clone()?,
+            directory: self.directory.try_clone()?,
+        })
+    }
+}
+
+/// Why worktrees couldn't be listed.
+#[derive(Clone, Copy, Debug, PartialEq, Eq, Error)]
+pub enum WorktreeFault {
+    #[error("the worktrees couldn't be listed")]
+    Listing,
+    #[error("the repository of a worktree couldn't be opened")]
+    OpenRepo,
+    #[error("the head of a worktree couldn't be followed")]
+    FollowSymref,
+    #[error("out of memory")]
+    NoMemory,
+}
+
+/// The worktrees of a repository, however they are found.
+pub trait Worktrees {
+    ghost use Rattle.fetch_update.specs.declared.worktrees.Worktree.{Worktree};
+
+    /// How often the listing failed, by its phase.
+    ghost listing: { Self → Faults };
+
+    ghost open_repo: { Self → Faults };
+
+    ghost follow_symref: { Self → Faults };
+
+    /// The list, where it is known.
+    ghost told: { Self → Option (Items Worktree) };
+
+    /// The branches that are checked out, and where.
+    fn list(&mut self) -> Result<Vec<Worktree>, WorktreeFault>
+        ensures listing_counts { Counts (listing self.old) (listing self.new) }
+        ensures open_repo_counts { Counts (open_repo self.old) (open_repo self.new) }
+        ensures follow_symref_counts { Counts (follow_symref self.old) (follow_symref self.new) }
+        ensures listing_cause { IsErrOf result WorktreeFault.Listing → Rose (listing self.old) (listing self.new) }
+        ensures open_repo_cause { IsErrOf result WorktreeFault.OpenRepo → Rose (open_repo self.old) (open_repo self.new) }
+        ensures follow_symref_cause { IsErrOf result WorktreeFault.FollowSymref → Rose (follow_symref self.old) (follow_symref self.new) }
+        ensures list { IfOk result (λ list. IfSome (told self.old) (λ known. list.items ≡ known)) }
+        ensures known { told self.new ≡ told self.old };
+}

@@ -1,0 +1,125 @@
+//! Edits of references.
+
+ghost use Rattle.std.specs.Prelude.{◌≡◌, IfOk, Ok, Err};
+ghost use Rattle.fetch_refs.specs.Targets.{seen};
+ghost use Rattle.fetch_update.specs.Policy as spec;
+ghost use Rattle.fetch_update.specs.Policy.{Answers, value_in_code};
+ghost use Rattle.fetch_update.specs.declared.update.Error.TheVariants as errors;
+
+use crate::judging::{Judge, Wanted, full_name};
+use crate::message::RefLogMessage;
+use crate::mode::{Mode, TypeChange};
+use crate::update::Error;
+use crate::verdict::Verdict;
+use fetch_refs::{Change, LogChange, PreviousValue, RefEdit, RefLog, Target, TargetRef};
+use fetch_specs::{Category, FullName};
+use fetch_store::{NoMemory, Text};
+use std::alloc::Global;
+
+/// A reference that is absent gets the value.
+pub(crate) fn create(
+    judge: &Judge<'_>,
+    wanted: Wanted<'_>,
+    name: FullName,
+) -> Result<Verdict, Error>
+    ensures { Answers (spec.if_valid (value_in_code wanted.entry) (spec.created judge.now.message.now name (value_in_code wanted.entry))) result }
+{
+    let value = target_of(judge.alloc, wanted)?;
+    let happened = storing(&name);
+    let expected = PreviousValue::ExistingMustMatch(value.try_clone()?);
+    let edit = edit(judge.alloc, judge.message, name, expected, value, happened)?;
+    Ok(Verdict {
+        mode: Mode::New,
+        type_change: None,
+        edit: Some(edit),
+    })
+}
+
+/// A reference that has this value gets another, or the same again.
+pub(crate) fn write(
+    judge: &Judge<'_>,
+    mode: Mode,
+    name: FullName,
+    found: TargetRef<'_>,
+    wanted: Wanted<'_>,
+    happened: &[u8],
+) -> Result<Verdict, Error>
+    ensures { Answers (spec.if_valid (value_in_code wanted.entry) (spec.written judge.now.message.now mode name (seen found.entry) (value_in_code wanted.entry) happened.now)) result }
+{
+    let value = target_of(judge.alloc, wanted)?;
+    let type_change = type_change_of(found, &value);
+    let expected = PreviousValue::MustExistAndMatch(found.try_to_owned()?);
+    let edit = edit(judge.alloc, judge.message, name, expected, value, happened)?;
+    Ok(Verdict {
+        mode,
+        type_change,
+        edit: Some(edit),
+    })
+}
+
+fn type_change_of(found: TargetRef<'_>, value: &Target) -> Option<TypeChange>
+    ensures { result ≡ spec.type_change_of (seen found.entry) value.now }
+{
+    match (found, value) {
+        (TargetRef::Symbolic(_), Target::Object(_)) => Some(TypeChange::SymbolicToDirect),
+        (TargetRef::Symbolic(_), Target::Symbolic(_)) => None,
+        (TargetRef::Object(_), _) => None,
+    }
+}
+
+fn edit(
+    alloc: Global,
+    message: &RefLogMessage,
+    name: FullName,
+    expected: PreviousValue,
+    new: Target,
+    happened: &[u8],
+) -> Result<RefEdit, NoMemory>
+    ensures { IfOk result (λ edit. edit ≡ spec.edit_of message.now name expected new happened.now) }
+{
+    let message = message.compose(alloc, happened)?;
+    Ok(RefEdit {
+        change: Change::Update {
+            log: LogChange {
+                mode: RefLog::AndReference,
+                force_create_reflog: false,
+                message,
+            },
+            expected,
+            new,
+        },
+        name,
+    })
+}
+
+/// The value that is wanted, if its name is one.
+fn target_of(alloc: Global, wanted: Wanted<'_>) -> Result<Target, Error>
+    ensures { Answers (spec.checked (value_in_code wanted.entry)) result }
+{
+    match wanted {
+        Wanted::Id(id) => Ok(Target::Object(id)),
+        Wanted::Name(text) => match full_name(alloc, text)? {
+            Some(name) => Ok(Target::Symbolic(name)),
+            None => invalid(alloc, text),
+        },
+    }
+}
+
+fn invalid(alloc: Global, text: &[u8]) -> Result<Target, Error>
+    ensures { Answers (Err (errors.InvalidRefName text.now)) result }
+{
+    Err(Error::InvalidRefName {
+        name: Text::new(alloc, text)?,
+    })
+}
+
+#[tactic(auto, unfolding(crate::specs::Policy::storing_tag, crate::specs::Policy::storing_head, crate::specs::Policy::storing_ref))]
+fn storing(name: &FullName) -> &'static [u8]
+    ensures { result.now ≡ spec.storing name.now }
+{
+    match name.category() {
+        Some(Category::Tag) => b"storing tag",
+        Some(Category::LocalBranch) => b"storing head",
+        _ => b"storing ref",
+    }
+}
