@@ -1,0 +1,157 @@
+-- One conversation after another, and refusals told in another type.
+use Rattle.std.proofs.Common.{◌≡◌, ℕ, Bool, true, false, List, [], ◌∷◌, ◌++◌, Option, Some, None, Result, Ok, Err, refl, sym, ap, ◌∙◌, append_assoc}
+use Rattle.std.proofs.lemmas.List.{append-nil}
+use Rattle.std.proofs.lemmas.List.Concat.{flat_map-append}
+use Rattle.fetch_wire.specs.Talks.{Talk, Talks, IsFront}
+use Rattle.fetch_wire.specs.Talks.{Talks-then}
+use Rattle.fetch_wire.specs.declared.section.Trouble.{Trouble}
+use Rattle.fetch_wire.specs.declared.line.Line.{Line}
+use Rattle.fetch_wire.specs.Lines.{section_at}
+use Rattle.fetch_wire.specs.Written.{line_text, lines_text}
+use Rattle.fetch_remote.specs.Conversation.{Conversation, ends, asks, sent_in, answer_in, after_reply, after_answer, and_then, map_refusal, told_as, beside, Concludes, RefusesAtEnd, Breaks, ConversesBy, Converses}
+
+abbrev sent_behind : {X Y E : Type 0} → ℕ → (X → Conversation Y E) → Result (X × List ℕ) E → List Line
+sent_behind bound f (Ok x) = sent_in bound (f x.0) x.1
+sent_behind bound f (Err e) = []
+
+abbrev answer_behind : {X Y E : Type 0} → ℕ → (X → Conversation Y E) → Result (X × List ℕ) E → Result (Y × List ℕ) E
+answer_behind bound f (Ok x) = answer_in bound (f x.0) x.1
+answer_behind bound f (Err e) = Err e
+
+-- what is sent by the second, behind the first
+sent_at_end : {X Y E : Type 0} (bound : ℕ) (f : X → Conversation Y E) (answer : Result X E) (stream : List ℕ) → sent_in bound (after_answer f answer) stream ≡ sent_behind bound f (beside stream answer)
+unfolding sent_in
+sent_at_end bound f (Ok x) stream = refl
+sent_at_end bound f (Err e) stream = refl
+
+answer_at_end : {X Y E : Type 0} (bound : ℕ) (f : X → Conversation Y E) (answer : Result X E) (stream : List ℕ) → answer_in bound (after_answer f answer) stream ≡ answer_behind bound f (beside stream answer)
+unfolding answer_in
+answer_at_end bound f (Ok x) stream = refl
+answer_at_end bound f (Err e) stream = refl
+
+sent_asking : {X Y E : Type 0} (bound : ℕ) (f : X → Conversation Y E) (lines : List Line) (failed : Trouble → E) (next : List Line → Conversation X E) (reading : Result (List Line × List ℕ) Trouble)
+    → ((reply : List Line) (rest : List ℕ) → sent_in bound (and_then (next reply) f) rest ≡ sent_in bound (next reply) rest ++ sent_behind bound f (answer_in bound (next reply) rest))
+    → lines ++ after_reply (λ _. []) (λ reply rest. sent_in bound (and_then (next reply) f) rest) reading
+    ≡ (lines ++ after_reply (λ _. []) (λ reply rest. sent_in bound (next reply) rest) reading) ++ sent_behind bound f (after_reply (λ t. Err (failed t)) (λ reply rest. answer_in bound (next reply) rest) reading)
+sent_asking bound f lines failed next (Err t) again = sym (append-nil (lines ++ []))
+sent_asking bound f lines failed next (Ok x) again = ap (λ (l : List Line). lines ++ l) (again x.0 x.1) ∙ sym (append_assoc lines _ _)
+
+pub sent_then : {X Y E : Type 0} (bound : ℕ) (c : Conversation X E) (f : X → Conversation Y E) (stream : List ℕ) → sent_in bound (and_then c f) stream ≡ sent_in bound c stream ++ sent_behind bound f (answer_in bound c stream)
+unfolding sent_in answer_in and_then
+sent_then bound (ends answer) f stream = sent_at_end bound f answer stream
+sent_then bound (asks lines failed next) f stream = sent_asking bound f lines failed next (section_at bound stream) (λ reply rest. sent_then bound (next reply) f rest)
+
+answer_asking : {X Y E : Type 0} (bound : ℕ) (f : X → Conversation Y E) (failed : Trouble → E) (next : List Line → Conversation X E) (reading : Result (List Line × List ℕ) Trouble)
+    → ((reply : List Line) (rest : List ℕ) → answer_in bound (and_then (next reply) f) rest ≡ answer_behind bound f (answer_in bound (next reply) rest))
+    → after_reply (λ t. Err (failed t)) (λ reply rest. answer_in bound (and_then (next reply) f) rest) reading ≡ answer_behind bound f (after_reply (λ t. Err (failed t)) (λ reply rest. answer_in bound (next reply) rest) reading)
+answer_asking bound f failed next (Err t) again = refl
+answer_asking bound f failed next (Ok x) again = again x.0 x.1
+
+pub answer_then : {X Y E : Type 0} (bound : ℕ) (c : Conversation X E) (f : X → Conversation Y E) (stream : List ℕ) → answer_in bound (and_then c f) stream ≡ answer_behind bound f (answer_in bound c stream)
+unfolding answer_in and_then
+answer_then bound (ends answer) f stream = answer_at_end bound f answer stream
+answer_then bound (asks lines failed next) f stream = answer_asking bound f failed next (section_at bound stream) (λ reply rest. answer_then bound (next reply) f rest)
+
+text_then : {X Y E : Type 0} (bound : ℕ) (c : Conversation X E) (f : X → Conversation Y E) (stream rest : List ℕ) (x : X) → answer_in bound c stream ≡ Ok (x, rest)
+    → lines_text (sent_in bound (and_then c f) stream) ≡ lines_text (sent_in bound c stream) ++ lines_text (sent_in bound (f x) rest)
+text_then bound c f stream rest x is = ap lines_text (sent_then bound c f stream ∙ ap (λ (a : _). sent_in bound c stream ++ sent_behind bound f a) is) ∙ flat_map-append line_text (sent_in bound c stream) (sent_in bound (f x) rest)
+
+front_then : {X Y E : Type 0} (bound : ℕ) (c : Conversation X E) (f : X → Conversation Y E) (stream heard : List ℕ) → IsFront heard (lines_text (sent_in bound c stream)) → IsFront heard (lines_text (sent_in bound (and_then c f) stream))
+front_then bound c f stream heard front =
+    let behind = sent_behind bound f (answer_in bound c stream) in
+    (front.0 ++ lines_text behind, ap lines_text (sent_then bound c f stream) ∙ flat_map-append line_text (sent_in bound c stream) behind ∙ ap (λ (l : List ℕ). l ++ lines_text behind) front.1 ∙ append_assoc heard front.0 (lines_text behind))
+
+-- both to their ends
+pub concludes_then : {X Y E : Type 0} (answers : Bool) (bound : ℕ) (old mid new : Option Talk) (pending rest left : List ℕ) (c : Conversation X E) (f : X → Conversation Y E) (x : X) (y : Y)
+    → Concludes answers bound old mid pending c x rest → Concludes answers bound mid new rest (f x) y left → Concludes answers bound old new pending (and_then c f) y left
+concludes_then answers bound old mid new pending rest left c f x y h k = record {
+  said = h.said ++ k.said;
+  heard = h.heard ++ k.heard;
+  passed = Talks-then answers old mid new h.heard h.said k.heard k.said h.passed k.passed;
+  asked = λ more. rw append_assoc (text_then bound c f _ _ x (h.answered (k.said ++ more)) ∙ ap (λ (l : List ℕ). l ++ _) (h.asked (k.said ++ more)) ∙ ap (λ (l : List ℕ). h.heard ++ l) (k.asked more));
+  answered = λ more. rw append_assoc (answer_then bound c f _ ∙ ap (answer_behind bound f) (h.answered (k.said ++ more)) ∙ k.answered more);
+}
+
+late_at_end : {X Y E : Type 0} (bound : ℕ) (now : Option Talk) (pending rest said said' : List ℕ) (c : Conversation X E) (f : X → Conversation Y E) (x : X) (e : E)
+    → ((more : List ℕ) → answer_in bound c (pending ++ (said ++ more)) ≡ Ok (x, rest ++ more)) → RefusesAtEnd bound now (f x) (rest ++ said') e → RefusesAtEnd bound now (and_then c f) (pending ++ (said ++ said')) e
+late_at_end bound None pending rest said said' c f x e h k = tt
+late_at_end bound (Some b) pending rest said said' c f x e h k =
+    let g : (pending ++ (said ++ said')) ++ b.to_come ≡ pending ++ (said ++ (said' ++ b.to_come)) = simp append_assoc in
+    let l : answer_in bound (f x) (rest ++ (said' ++ b.to_come)) ≡ Err e = rw append_assoc at k in
+    rw g (answer_then bound c f _ ∙ ap (answer_behind bound f) (h (said' ++ b.to_come)) ∙ l)
+
+-- the first to its end, and the second broken off
+pub breaks_late : {X Y E : Type 0} (free : E → Bool) (answers : Bool) (bound : ℕ) (old mid new : Option Talk) (pending rest : List ℕ) (c : Conversation X E) (f : X → Conversation Y E) (x : X) (e : E)
+    → Concludes answers bound old mid pending c x rest → Breaks free answers bound mid new rest (f x) e → Breaks free answers bound old new pending (and_then c f) e
+breaks_late free answers bound old mid new pending rest c f x e h k = record {
+  said = h.said ++ k.said;
+  heard = h.heard ++ k.heard;
+  passed = Talks-then answers old mid new h.heard h.said k.heard k.said h.passed k.passed;
+  front = (k.front.0, text_then bound c f _ _ x (h.answered k.said) ∙ ap (λ (l : List ℕ). l ++ _) (h.asked k.said) ∙ ap (λ (l : List ℕ). h.heard ++ l) k.front.1 ∙ sym (append_assoc h.heard k.heard k.front.0));
+  why = λ bound_to. late_at_end bound new pending rest h.said k.said c f x e h.answered (k.why bound_to);
+}
+
+early_at_end : {X Y E : Type 0} (bound : ℕ) (now : Option Talk) (stream : List ℕ) (c : Conversation X E) (f : X → Conversation Y E) (e : E) → RefusesAtEnd bound now c stream e → RefusesAtEnd bound now (and_then c f) stream e
+early_at_end bound None stream c f e h = tt
+early_at_end bound (Some b) stream c f e h = answer_then bound c f _ ∙ ap (answer_behind bound f) h
+
+-- the first broken off
+pub breaks_early : {X Y E : Type 0} (free : E → Bool) (answers : Bool) (bound : ℕ) (old new : Option Talk) (pending : List ℕ) (c : Conversation X E) (f : X → Conversation Y E) (e : E)
+    → Breaks free answers bound old new pending c e → Breaks free answers bound old new pending (and_then c f) e
+breaks_early free answers bound old new pending c f e h = record {
+  said = h.said;
+  heard = h.heard;
+  passed = h.passed;
+  front = front_then bound c f _ h.heard h.front;
+  why = λ bound_to. early_at_end bound new _ c f e (h.why bound_to);
+}
+
+sent_asking_as : {X E F : Type 0} (bound : ℕ) (g : E → F) (next : List Line → Conversation X E) (reading : Result (List Line × List ℕ) Trouble)
+    → ((reply : List Line) (rest : List ℕ) → sent_in bound (told_as g (next reply)) rest ≡ sent_in bound (next reply) rest)
+    → after_reply (λ _. []) (λ reply rest. sent_in bound (told_as g (next reply)) rest) reading ≡ after_reply (λ _. []) (λ reply rest. sent_in bound (next reply) rest) reading
+sent_asking_as bound g next (Err t) again = refl
+sent_asking_as bound g next (Ok x) again = again x.0 x.1
+
+pub sent_as : {X E F : Type 0} (bound : ℕ) (g : E → F) (c : Conversation X E) (stream : List ℕ) → sent_in bound (told_as g c) stream ≡ sent_in bound c stream
+unfolding sent_in told_as
+sent_as bound g (ends answer) stream = refl
+sent_as bound g (asks lines failed next) stream = ap (λ (l : List Line). lines ++ l) (sent_asking_as bound g next (section_at bound stream) (λ reply rest. sent_as bound g (next reply) rest))
+
+end_as : {X E F : Type 0} (g : E → F) (answer : Result X E) (stream : List ℕ) → beside stream (map_refusal g answer) ≡ map_refusal g (beside stream answer)
+end_as g (Ok x) stream = refl
+end_as g (Err e) stream = refl
+
+answer_asking_as : {X E F : Type 0} (bound : ℕ) (g : E → F) (failed : Trouble → E) (next : List Line → Conversation X E) (reading : Result (List Line × List ℕ) Trouble)
+    → ((reply : List Line) (rest : List ℕ) → answer_in bound (told_as g (next reply)) rest ≡ map_refusal g (answer_in bound (next reply) rest))
+    → after_reply (λ t. Err (g (failed t))) (λ reply rest. answer_in bound (told_as g (next reply)) rest) reading ≡ map_refusal g (after_reply (λ t. Err (failed t)) (λ reply rest. answer_in bound (next reply) rest) reading)
+answer_asking_as bound g failed next (Err t) again = refl
+answer_asking_as bound g failed next (Ok x) again = again x.0 x.1
+
+pub answer_as : {X E F : Type 0} (bound : ℕ) (g : E → F) (c : Conversation X E) (stream : List ℕ) → answer_in bound (told_as g c) stream ≡ map_refusal g (answer_in bound c stream)
+unfolding answer_in told_as
+answer_as bound g (ends answer) stream = end_as g answer stream
+answer_as bound g (asks lines failed next) stream = answer_asking_as bound g failed next (section_at bound stream) (λ reply rest. answer_as bound g (next reply) rest)
+
+pub concludes_as : {X E F : Type 0} (answers : Bool) (bound : ℕ) (old new : Option Talk) (pending rest : List ℕ) (g : E → F) (c : Conversation X E) (x : X)
+    → Concludes answers bound old new pending c x rest → Concludes answers bound old new pending (told_as g c) x rest
+concludes_as answers bound old new pending rest g c x h = record {
+  said = h.said;
+  heard = h.heard;
+  passed = h.passed;
+  asked = λ more. ap lines_text (sent_as bound g c _) ∙ h.asked more;
+  answered = λ more. answer_as bound g c _ ∙ ap (map_refusal g) (h.answered more);
+}
+
+at_end_as : {X E F : Type 0} (bound : ℕ) (now : Option Talk) (stream : List ℕ) (g : E → F) (c : Conversation X E) (e : E) → RefusesAtEnd bound now c stream e → RefusesAtEnd bound now (told_as g c) stream (g e)
+at_end_as bound None stream g c e h = tt
+at_end_as bound (Some b) stream g c e h = answer_as bound g c _ ∙ ap (map_refusal g) h
+
+pub breaks_as : {X E F : Type 0} (free : E → Bool) (free' : F → Bool) (answers : Bool) (bound : ℕ) (old new : Option Talk) (pending : List ℕ) (g : E → F) (c : Conversation X E) (e : E)
+    → (free' (g e) ≡ false → free e ≡ false) → Breaks free answers bound old new pending c e → Breaks free' answers bound old new pending (told_as g c) (g e)
+breaks_as free free' answers bound old new pending g c e same h = record {
+  said = h.said;
+  heard = h.heard;
+  passed = h.passed;
+  front = (h.front.0, ap lines_text (sent_as bound g c _) ∙ h.front.1);
+  why = λ bound_to. at_end_as bound new _ g c e (h.why (same bound_to));
+}

@@ -1,0 +1,6 @@
+pub mod Conversation
+pub mod Ask
+pub mod Remotes
+pub mod Mapped
+pub mod Errors
+pub mod ListStage

@@ -1,0 +1,3 @@
+//! The stages of a fetch, one call each.
+
+pub use crate::listing::{Listed, list};

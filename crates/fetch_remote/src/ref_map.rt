@@ -1,0 +1,48 @@
+//! How the references of a remote are mapped, and why they weren't.
+
+ghost use Rattle.std.specs.Prelude.{◌≡◌, [], true};
+
+use fetch_specs::RefSpec;
+use fetch_store::{List, Text};
+use fetch_wire::{ReplyBound, WireError};
+use std::alloc::Global;
+use thiserror::Error;
+
+/// What is asked of the server for its references.
+#[derive(Debug, Drop)]
+pub struct Options {
+    /// Ask only for references that some refspec may take.
+    pub prefix_from_spec_as_filter_on_remote: bool,
+    /// Names, with values where they have one.
+    pub handshake_parameters: List<(Text, Option<Text>)>,
+    /// Refspecs beside those of the remote.
+    pub extra_refspecs: List<RefSpec>,
+    /// The most bytes of one reply.
+    pub max_reply_bytes: ReplyBound,
+}
+
+impl Options {
+    /// Filtered, without parameters and extra refspecs, and with the default bound.
+    pub fn new(alloc: Global) -> Options
+        ensures { result ≡ record { prefix_from_spec_as_filter_on_remote = true; handshake_parameters = []; extra_refspecs = []; max_reply_bytes = 268435456 } }
+    {
+        Options {
+            prefix_from_spec_as_filter_on_remote: true,
+            handshake_parameters: List::new(alloc),
+            extra_refspecs: List::new(alloc),
+            max_reply_bytes: ReplyBound::default(),
+        }
+    }
+}
+
+#[derive(Debug, Drop, Error)]
+pub enum Error {
+    #[error("{0}")]
+    Handshake(WireError),
+    #[error("the server failed")]
+    Transport,
+    #[error("interrupted")]
+    Interrupted,
+    #[error("out of memory")]
+    NoMemory,
+}
