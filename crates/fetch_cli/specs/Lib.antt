@@ -1,0 +1,11 @@
+pub mod Ends
+pub mod SceneLines
+pub mod Gives
+pub mod Numbers
+pub mod SceneHead
+pub mod LineKinds
+pub mod SceneRefs
+pub mod SceneOptions
+pub mod Scene
+pub mod ReportLines
+pub mod Words

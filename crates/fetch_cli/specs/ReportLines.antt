@@ -1,0 +1,88 @@
+-- The lines of a report.
+use Rattle.std.specs.Prelude.{ℕ, ◌+◌, ◌/◌, ◌%◌, ◌==◌, ◌&&◌, ◌||◌, Bool, nat_lt, nat_le, List, [], ◌∷◌, ◌++◌, codes, decimal, Option, Some, None, if◌then◌else◌}
+use Rattle.std.specs.List.{flat_map}
+use Rattle.hex.specs.Hex.{encode_lower}
+use Rattle.fetch_store.specs.declared.id.ObjectId.{ObjectId}
+use Rattle.fetch_store.specs.Id.{bytes_of}
+use Rattle.fetch_wire.specs.declared.line.Line.{Line}
+use Rattle.fetch_wire.specs.declared.line.Line.TheVariants.{Payload, Flush, Delim, End}
+use Rattle.fetch_cli.specs.declared.target.Target.{Target}
+use Rattle.fetch_cli.specs.declared.target.Target.TheVariants as targets
+
+-- the lower-case digit of a number below 16
+abbrev pub hex_digit : ℕ → ℕ
+hex_digit n = if nat_lt n 10 then 48 + n else 87 + n
+
+-- Printable ASCII stands as it is; `"` and `\` have a `\` before them.
+unfoldable pub escaped : ℕ → List ℕ
+escaped b =
+    if b == 10 then codes "\\n"
+    else if b == 34 then codes "\\\""
+    else if b == 92 then codes "\\\\"
+    else if nat_lt b 32 then codes "\\x" ++ hex_digit (b / 16) ∷ hex_digit (b % 16) ∷ []
+    else if nat_lt b 127 then b ∷ []
+    else codes "\\x" ++ hex_digit (b / 16) ∷ hex_digit (b % 16) ∷ []
+
+-- a line that was sent
+unfoldable pub sent_line : Line → List ℕ
+sent_line (Payload payload) = codes "> \"" ++ flat_map escaped payload ++ codes "\"\n"
+sent_line Flush = codes "> 0000\n"
+sent_line Delim = codes "> 0001\n"
+sent_line End = codes "> 0002\n"
+
+abbrev pub hex_of : ObjectId → List ℕ
+hex_of id = encode_lower (bytes_of id)
+
+-- an id, or a name behind a `@`
+unfoldable pub target_text : Target → List ℕ
+target_text (targets.Object id) = hex_of id
+target_text (targets.Symbolic name) = codes "@" ++ name
+
+unfoldable pub ref_line : List ℕ → Target → List ℕ
+ref_line name target = codes "ref " ++ target_text target ++ codes " " ++ name ++ codes "\n"
+
+unfoldable pub log_line : List ℕ → ObjectId → ObjectId → List ℕ → List ℕ
+log_line name old new message = codes "log " ++ name ++ codes " " ++ hex_of old ++ codes " " ++ hex_of new ++ codes " " ++ message ++ codes "\n"
+
+unfoldable pub border_line : ObjectId → List ℕ
+border_line id = codes "border " ++ hex_of id ++ codes "\n"
+
+unfoldable pub id_line : ObjectId → List ℕ
+id_line id = codes "id " ++ hex_of id ++ codes "\n"
+
+unfoldable pub destination_text : Option (List ℕ) → List ℕ
+destination_text None = codes "(none)"
+destination_text (Some name) = name
+
+unfoldable pub type_change_text : Bool → List ℕ
+type_change_text told = if told then codes " [symbolic-to-direct]" else []
+
+-- `map <index> <source>`
+unfoldable pub map_front : ℕ → List ℕ → List ℕ
+map_front index source = codes "map " ++ decimal index ++ codes " " ++ source
+
+-- ` -> <destination>: <mode>`, and the change of type
+unfoldable pub map_back : Option (List ℕ) → List ℕ → Bool → List ℕ
+map_back destination mode symbolic_to_direct = codes " -> " ++ destination_text destination ++ codes ": " ++ mode ++ type_change_text symbolic_to_direct
+
+unfoldable pub map_line : ℕ → List ℕ → Option (List ℕ) → List ℕ → Bool → List ℕ
+map_line index source destination mode symbolic_to_direct =
+    map_front index source ++ map_back destination mode symbolic_to_direct ++ codes "\n"
+
+unfoldable pub keep_line : List ℕ → List ℕ
+keep_line path = codes "keep " ++ path ++ codes "\n"
+
+unfoldable pub refused_line : List ℕ → List ℕ
+refused_line token = codes "refused " ++ token ++ codes "\n"
+
+-- a word and a number
+unfoldable pub counted_line : List ℕ → ℕ → List ℕ
+counted_line word n = word ++ decimal n ++ codes "\n"
+
+-- what is told of input that is no scene
+unfoldable pub malformed_line : ℕ → List ℕ
+malformed_line place = counted_line (codes "malformed ") place
+
+-- and of words that are none
+unfoldable pub malformed_word_line : ℕ → List ℕ
+malformed_word_line number = counted_line (codes "malformed word ") number

@@ -1,0 +1,149 @@
+//! The references of a scene.
+
+ghost use Rattle.std.specs.Prelude.{◌≡◌, IfOk, []};
+ghost use Rattle.fetch_cli.specs.Gives.{Gives};
+ghost use Rattle.fetch_cli.specs.LineKinds.{symbolic_in, object_in, target_in, reference_in, reference_of};
+ghost use Rattle.fetch_cli.specs.SceneRefs as spec;
+
+use crate::fault::SceneFault;
+use crate::lines::{Lines, Placed};
+use crate::names::full_name;
+use crate::target::Target;
+use fetch_specs::FullName;
+use fetch_store::{Kind, List, NoMemory, ObjectId, split_first};
+use std::alloc::Global;
+
+/// A reference of a scene.
+#[derive(Debug, Drop)]
+pub struct Reference {
+    pub name: FullName,
+    pub target: Target,
+}
+
+impl Reference {
+    /// An equal reference.
+    pub fn try_clone(&self) -> Result<Reference, NoMemory>
+        ensures { IfOk result (λ copy. copy ≡ self.now) }
+    {
+        Ok(Reference {
+            name: self.name.try_clone()?,
+            target: self.target.try_clone()?,
+        })
+    }
+}
+
+#[tactic(auto, unfolding(crate::specs::LineKinds::target_in))]
+fn target(alloc: Global, hash: Kind, text: &[u8]) -> Result<Option<Target>, NoMemory>
+    ensures { IfOk result (λ found. found ≡ target_in hash text.now) }
+{
+    match text {
+        [] => Ok(None),
+        [b'@', name @ ..] => symbolic(alloc, name),
+        _ => Ok(object(hash, text)),
+    }
+}
+
+fn symbolic(alloc: Global, name: &[u8]) -> Result<Option<Target>, NoMemory>
+    ensures { IfOk result (λ found. found ≡ symbolic_in name.now) }
+{
+    match full_name(alloc, name)? {
+        Some(name) => Ok(Some(Target::Symbolic(name))),
+        None => Ok(None),
+    }
+}
+
+fn object(hash: Kind, digits: &[u8]) -> Option<Target>
+    ensures { result ≡ object_in hash digits.now }
+{
+    match ObjectId::in_hex(hash, digits) {
+        Some(id) => Some(Target::Object(id)),
+        None => None,
+    }
+}
+
+const SPACE: u8 = b' ';
+
+#[tactic(auto, unfolding(crate::specs::LineKinds::reference_in))]
+fn named_target(alloc: Global, hash: Kind, value: &[u8]) -> Result<Option<Reference>, NoMemory>
+    ensures { IfOk result (λ found. found ≡ reference_in hash value.now) }
+{
+    let Some((text, name)) = split_first(SPACE, value) else {
+        return Ok(None);
+    };
+    let Some(target) = target(alloc, hash, text)? else {
+        return Ok(None);
+    };
+    let Some(name) = full_name(alloc, name)? else {
+        return Ok(None);
+    };
+    Ok(Some(Reference { name, target }))
+}
+
+#[tactic(auto, unfolding(crate::specs::LineKinds::reference_of))]
+fn reference_at(alloc: Global, hash: Kind, line: &Placed<'_>) -> Result<Option<Reference>, NoMemory>
+    ensures { IfOk result (λ found. found ≡ reference_of hash line.now.line) }
+{
+    match line.value(b"ref ") {
+        Some(value) => named_target(alloc, hash, value),
+        None => Ok(None),
+    }
+}
+
+fn has_name(references: &[Reference], name: &FullName) -> bool
+    ensures { result ≡ spec.has_name references.now name.now }
+{
+    references.iter().any(|r| r.name == *name)
+}
+
+#[tactic(auto, unfolding(crate::specs::SceneRefs::new_reference))]
+fn new_reference(
+    alloc: Global,
+    hash: Kind,
+    before: &[Reference],
+    line: &Placed<'_>,
+) -> Result<Option<Reference>, NoMemory>
+    ensures { IfOk result (λ found. found ≡ spec.new_reference hash before.now line.now.line) }
+{
+    let Some(reference) = reference_at(alloc, hash, line)? else {
+        return Ok(None);
+    };
+    if has_name(before, &reference.name) {
+        return Ok(None);
+    }
+    Ok(Some(reference))
+}
+
+fn read_lines_of(
+    alloc: Global,
+    hash: Kind,
+    lines: &[Placed<'_>],
+) -> Result<List<Reference>, SceneFault>
+    ensures { Gives result (spec.references_behind hash [] lines.now) }
+{
+    let mut references = Vec::new(alloc);
+    for line in lines {
+        match new_reference(alloc, hash, &references, line)? {
+            Some(reference) => references.push(reference)?,
+            None => {
+                return Err(SceneFault::Malformed {
+                    place: line.place(),
+                });
+            }
+        }
+    }
+    Ok(List::from(references))
+}
+
+/// The references of a scene.
+#[tactic(auto, unfolding(crate::specs::SceneRefs::references_of))]
+pub(crate) fn read_references<'a>(
+    alloc: Global,
+    hash: Kind,
+    lines: Lines<'a>,
+) -> Result<(List<Reference>, Lines<'a>), SceneFault>
+    ensures { Gives result (spec.references_of hash lines.entry) }
+{
+    let (group, lines) = lines.group(b"ref ");
+    let references = read_lines_of(alloc, hash, group)?;
+    Ok((references, lines))
+}

@@ -1,0 +1,51 @@
+//! The remote of a scene.
+
+ghost use Rattle.std.specs.Prelude.{◌≡◌};
+ghost use Rattle.fetch_cli.specs.Gives.{Gives};
+ghost use Rattle.fetch_cli.specs.Scene.{remote_of};
+
+use crate::fault::SceneFault;
+use crate::lines::Lines;
+use crate::options::{OptionLine, SceneOptions, scene_options};
+use crate::readers::{After, Delimiter, TagsLine};
+use crate::reading::{read_group, read_next};
+use fetch_specs::Tags;
+use fetch_store::{List, Text};
+use std::alloc::Global;
+
+/// The remote of a scene, and how to fetch from it.
+#[derive(Drop)]
+pub(crate) struct RemotePart {
+    pub address: Text,
+    pub specs: List<Text>,
+    pub tags: Tags,
+    pub extra: List<Text>,
+    pub options: SceneOptions,
+}
+
+/// Reads the remote of a scene, and the delimiter behind it.
+#[tactic(auto, unfolding(crate::specs::Scene::remote_of))]
+pub(crate) fn read_remote<'a>(
+    alloc: Global,
+    lines: Lines<'a>,
+) -> Result<(RemotePart, Lines<'a>), SceneFault>
+    ensures { Gives result (remote_of lines.entry) }
+{
+    let (address, lines) = read_next(alloc, &After(b"remote "), lines)?;
+    let (specs, lines) = read_group(alloc, b"fetch ", &After(b"fetch "), lines)?;
+    let (tags, lines) = read_next(alloc, &TagsLine, lines)?;
+    let (extra, lines) = read_group(alloc, b"extra ", &After(b"extra "), lines)?;
+    let (options, lines) = read_group(alloc, b"option ", &OptionLine, lines)?;
+    let (_, lines) = read_next(alloc, &Delimiter, lines)?;
+    let options = scene_options(alloc, options)?;
+    Ok((
+        RemotePart {
+            address,
+            specs,
+            tags,
+            extra,
+            options,
+        },
+        lines,
+    ))
+}
