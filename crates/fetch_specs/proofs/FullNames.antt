@@ -1,5 +1,5 @@
 -- The longest front of a text that begins a full name.
-use Rattle.std.proofs.Common.{◌≡◌, ℕ, zero, suc, ◌+◌, ◌-◌, ◌<◌, ◌≤◌, Bool, true, false, cond, not, ◌&&◌, ◌||◌, eqb, ltb, leb, max, ◌⊎◌, List, [], ◌∷◌, ◌++◌, length, take, drop, Option, Some, None, refl, sym, ap, subst, ◌∙◌, inl, inr, arith, append_assoc, append-nil}
+use Rattle.std.proofs.Common.{◌≡◌, ℕ, zero, suc, ◌+◌, ◌-◌, ◌<◌, ◌≤◌, Bool, true, false, cond, not, ◌&&◌, ◌||◌, eqb, max, ◌⊎◌, List, [], ◌∷◌, ◌++◌, length, take, drop, Some, None, refl, sym, ap, subst, ◌∙◌, inl, inr, arith, append_assoc, append-nil}
 use Rattle.std.specs.Prelude.{nat_eq, IsTrue}
 use Rattle.std.specs.List.{list_all, starts_with, ends_with, prefix_len}
 use Rattle.std.specs.Str.{bytes_eq}
@@ -11,9 +11,8 @@ use Rattle.std.proofs.lemmas.List.Folds.{list_all-append}
 use Rattle.std.proofs.lemmas.List.Sums.{prefix_len-le-length}
 use Rattle.std.proofs.lemmas.Slice.Eq.{ends_is, starts_is}
 use Rattle.fetch_specs.specs.Categories.{refs}
-use Rattle.fetch_specs.specs.Names.{last_is, lock, may_stand, is_empty, is_special, is_component, is_name, is_capital, is_full_name, goes_on, greatest, name_place, full_name_place, name_trouble, full_name_trouble, IsLongestBeginning}
+use Rattle.fetch_specs.specs.Names.{last_is, lock, may_stand, is_empty, is_name, is_capital, is_full_name, goes_on, name_place, full_name_place, name_trouble, full_name_trouble, IsLongestBeginning}
 use Rattle.fetch_specs.specs.Scans.{may_end, may_extend, may_follow, onward, scan, last_part, common}
-use Rattle.fetch_specs.proofs.Components.{core, false_from, last_is-push}
 use Rattle.fetch_specs.proofs.Fronts.{ok, none, front-letter, past, along, not_name, scan-le, name_place-scan, greatest-is, whole}
 
 and_one : (t : Bool) → (t && true) ≡ t

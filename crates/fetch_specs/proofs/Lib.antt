@@ -10,4 +10,4 @@ pub mod Placing
 pub mod Conflicting
 pub mod Ascending
 pub mod Stars
-pub mod Repeats
+pub mod Taking

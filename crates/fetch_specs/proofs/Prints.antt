@@ -1,7 +1,7 @@
 -- What a spec prints says the spec again.
-use Rattle.std.proofs.Common.{◌≡◌, ℕ, zero, suc, ◌+◌, ◌<◌, ◌≤◌, Bool, true, false, cond, not, ◌&&◌, ◌||◌, eqb, ltb, List, [], ◌∷◌, ◌++◌, length, take, drop, Option, Some, None, Ok, Err, Result, refl, sym, ap, subst, ◌∙◌, arith, append-nil}
+use Rattle.std.proofs.Common.{◌≡◌, ℕ, zero, suc, ◌+◌, ◌<◌, Bool, true, false, cond, not, ◌&&◌, ◌||◌, eqb, ltb, List, [], ◌∷◌, ◌++◌, length, take, drop, Option, Some, None, Ok, Err, refl, sym, ap, subst, ◌∙◌, arith}
 use Rattle.std.specs.Prelude.{position, is_some}
-use Rattle.std.specs.List.{list_any, list_all, position_or_len}
+use Rattle.std.specs.List.{list_any, position_or_len}
 use Rattle.std.specs.Str.{bytes_eq}
 use Rattle.std.proofs.lemmas.Bool.{lt-ltb, le-ltb, ltb-false, eqb-true}
 use Rattle.std.proofs.lemmas.List.{length-append, take_all}
@@ -9,11 +9,10 @@ use Rattle.fetch_specs.specs.declared.operation.Operation.{Operation}
 use Rattle.fetch_specs.specs.declared.operation.Operation.TheVariants.{Push, Fetch}
 use Rattle.fetch_specs.specs.declared.operation.Mode.{Mode}
 use Rattle.fetch_specs.specs.declared.operation.Mode.TheVariants.{Normal, Force, Exclusion}
-use Rattle.fetch_specs.specs.declared.error.SpecError.{SpecError}
 use Rattle.fetch_specs.specs.declared.error.SpecError.TheVariants as errors
-use Rattle.fetch_specs.specs.Names.{first_is, is_empty, name_trouble}
+use Rattle.fetch_specs.specs.Names.{first_is, is_empty}
 use Rattle.fetch_specs.specs.Specs.{Spec}
-use Rattle.fetch_specs.specs.Parses.{id_named, head, is_blank, side_of, source_of, stars, is_unbalanced, source_trouble, destination_trouble, admitted, judged, sides, cut, divided, excluded, parsed, mark_of, sides_text, printed, IsSpec}
+use Rattle.fetch_specs.specs.Parses.{id_named, head, is_blank, side_of, source_of, stars, is_unbalanced, source_trouble, destination_trouble, admitted, judged, sides, cut, divided, excluded, parsed, sides_text, IsSpec}
 
 -- whether a text has a colon
 abbrev has_colon : List ℕ → Bool

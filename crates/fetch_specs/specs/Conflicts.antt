@@ -1,6 +1,7 @@
 -- The destinations that two sources lead to.
-use Rattle.std.specs.Prelude.{◌≡◌, ℕ, nat_lt, count_by, Bool, false, if◌then◌else◌, List, [], ◌∷◌, ◌++◌, length, map, filter, Option, Some, None}
+use Rattle.std.specs.Prelude.{ℕ, nat_lt, Bool, false, if◌then◌else◌, List, [], ◌∷◌, ◌++◌, length, map, filter, Option, Some, None}
 use Rattle.std.specs.List.{list_any, filter_map}
+use Rattle.std.specs.Map.{lookup}
 use Rattle.std.specs.Cmp.Lexicographic.{slice_cmp}
 use Rattle.std.specs.Ordering.{nat_cmp, is_eq}
 use Rattle.std.specs.Str.{bytes_eq}
@@ -54,10 +55,16 @@ abbrev pub conflict_at : List Match → List Match → Option (List ℕ) → Lis
 conflict_at ms front None = []
 conflict_at ms front (Some destination) = if has_destination front destination then [] else conflict_of destination (sources_to ms destination)
 
--- whether a sorted set of texts has one
-abbrev pub has_text : List ℕ → List (List ℕ) → Bool
-has_text text texts = list_any (λ t. is_eq (slice_cmp nat_cmp text t)) texts
+-- no sources where there is no entry
+abbrev pub entered : Option (List SourceRef) → List SourceRef
+entered None = []
+entered (Some sources) = sources
 
--- the texts are the destinations of more matches than n
-abbrev pub HasOfMore : ℕ → List Match → List (List ℕ) → Type 0
-HasOfMore n ms texts = (text : List ℕ) → has_text text texts ≡ nat_lt n (count_by (λ m. is_side text m.rhs) ms)
+-- the sources that a map has of a destination
+abbrev pub sources_at : List (List ℕ × List SourceRef) → List ℕ → List SourceRef
+sources_at entries text = entered (lookup (λ t. is_eq (slice_cmp nat_cmp text t)) entries)
+
+-- the conflict that a map has of a destination
+abbrev pub conflict_in : List (List ℕ × List SourceRef) → Option (List ℕ) → List Conflict
+conflict_in entries None = []
+conflict_in entries (Some destination) = conflict_of destination (sources_at entries destination)

@@ -1,7 +1,7 @@
 -- How far a text goes on as a name, byte by byte.
 use Rattle.std.specs.Prelude.{ℕ, ◌+◌, ◌==◌, nat_eq, Bool, not, ◌&&◌, if◌then◌else◌, List, [], ◌∷◌, ◌++◌}
 use Rattle.std.specs.List.{ends_with}
-use Rattle.fetch_specs.specs.Names.{may_stand, first_is, last_is, is_empty, lock}
+use Rattle.fetch_specs.specs.Names.{may_stand, last_is, is_empty, lock}
 
 -- whether a part of a name may end here
 abbrev pub may_end : List ℕ → Bool

@@ -1,7 +1,8 @@
 //! Destinations that two sources lead to.
 
-ghost use Rattle.std.specs.Prelude.{ℕ, List as Bytes, ◌≡◌, ◌||◌, ◌&&◌, ◌++◌, if◌then◌else◌, IfOk, OnOk, IsOkUnless};
+ghost use Rattle.std.specs.Prelude.{ℕ, List as Bytes, [], ◌≡◌, ◌++◌, if◌then◌else◌, IfOk, OnOk, IsOkUnless};
 ghost use Rattle.std.specs.List.{list_any};
+ghost use Rattle.std.specs.Str.{bytes_eq};
 ghost use Rattle.fetch_specs.specs.Conflicts as words;
 ghost use Rattle.fetch_specs.specs.Conflicts.{conflicts_of};
 ghost use Rattle.fetch_specs.specs.declared.error.SpecError.TheVariants as errors;
@@ -10,7 +11,7 @@ use crate::error::SpecError;
 use crate::found::{Match, SourceRef};
 use fetch_store::{List, NoMemory, Text};
 use std::alloc::Global;
-use std::collections::BTreeSet;
+use std::collections::BTreeMap;
 
 /// A destination that two different sources lead to.
 #[derive(Debug, Drop)]
@@ -33,138 +34,102 @@ pub fn validate(alloc: Global, matches: &[Match]) -> Result<Vec<Conflict>, SpecE
 fn conflicts(alloc: Global, matches: &[Match]) -> Result<Vec<Conflict>, NoMemory>
     ensures { IfOk result (λ found. found.items ≡ conflicts_of matches.now) }
 {
-    let repeated = repeated(alloc, matches)?;
+    let mut sources = sources_to(alloc, matches)?;
     let mut found = Vec::new(alloc);
     for i in 0..matches.len() {
-        let front = &matches[..i];
-        add_conflict(
-            alloc,
-            &mut found,
-            matches,
-            &repeated,
-            front,
-            &matches[i].rhs,
-        )?;
+        take_conflict(alloc, &mut found, &mut sources, &matches[i].rhs)?;
     }
     Ok(found)
 }
 
-/// The destinations of two matches or more.
-fn repeated(alloc: Global, matches: &[Match]) -> Result<BTreeSet<Text>, NoMemory>
-    ensures { IfOk result (λ texts. words.HasOfMore 1 matches.now texts.keys) }
+/// The sources of each destination, in order, each once.
+fn sources_to(alloc: Global, matches: &[Match]) -> Result<BTreeMap<Text, List<SourceRef>>, NoMemory>
+    ensures { IfOk result (λ sources. (text : Bytes ℕ) → words.sources_at sources.entries text ≡ words.sources_to matches.now text) }
 {
-    let mut seen = BTreeSet::new(alloc);
-    let mut repeated = BTreeSet::new(alloc);
+    let mut sources = BTreeMap::new(alloc);
     for i in 0..matches.len() {
-        note(&mut seen, &mut repeated, &matches[i].rhs)?;
+        add_source(alloc, &mut sources, &matches[i])?;
     }
-    Ok(repeated)
+    Ok(sources)
 }
 
-/// Notes a destination as seen, or, where it was seen before, as repeated.
-fn note(
-    seen: &mut BTreeSet<Text>,
-    repeated: &mut BTreeSet<Text>,
-    destination: &Option<Text>,
+/// Adds the source of a match to those of its destination.
+fn add_source(
+    alloc: Global,
+    sources: &mut BTreeMap<Text, List<SourceRef>>,
+    found: &Match,
 ) -> Result<(), NoMemory>
-    ensures seen { OnOk result ((text : Bytes ℕ) → words.has_text text seen.new.keys ≡ (words.has_text text seen.old.keys || words.is_side text destination.now)) }
-    ensures repeated { OnOk result ((text : Bytes ℕ) → words.has_text text repeated.new.keys ≡ (words.has_text text repeated.old.keys || (words.has_text text seen.old.keys && words.is_side text destination.now))) }
+    ensures { OnOk result ((text : Bytes ℕ) → words.sources_at sources.new.entries text ≡ if words.is_side text found.now.rhs then words.more_sources (words.sources_at sources.old.entries text) found.now.lhs else words.sources_at sources.old.entries text) }
 {
-    let Some(destination) = destination else {
+    let Some(destination) = &found.rhs else {
         return Ok(());
     };
-    let is_new = seen.insert(destination.try_clone()?)?;
-    if is_new {
-        return Ok(());
-    }
-    repeated.insert(destination.try_clone()?)?;
+    let key = destination.try_clone()?;
+    let before = taken_out(alloc, sources, destination);
+    let after = with_source(before, &found.lhs)?;
+    sources.insert(key, after)?;
     Ok(())
 }
 
-/// Adds the conflict of a destination, unless the matches in front have that destination.
-fn add_conflict(
+/// Takes the sources of a destination out of the map.
+fn taken_out(
+    alloc: Global,
+    sources: &mut BTreeMap<Text, List<SourceRef>>,
+    destination: &Text,
+) -> List<SourceRef>
+    ensures taken { result ≡ words.sources_at sources.old.entries destination.now }
+    ensures others { (text : Bytes ℕ) → words.sources_at sources.new.entries text ≡ if bytes_eq text destination.now then [] else words.sources_at sources.old.entries text }
+{
+    match sources.remove(destination) {
+        Some(list) => list,
+        None => List::new(alloc),
+    }
+}
+
+/// The sources with one more, unless it is there.
+fn with_source(sources: List<SourceRef>, source: &SourceRef) -> Result<List<SourceRef>, NoMemory>
+    ensures { IfOk result (λ more. more ≡ words.more_sources sources source.now) }
+{
+    if has_source(sources.as_slice(), source) {
+        return Ok(sources);
+    }
+    let mut more = sources;
+    more.push(source.try_clone()?)?;
+    Ok(more)
+}
+
+/// Takes the sources of a destination out of the map, and adds its conflict, if it is one.
+fn take_conflict(
     alloc: Global,
     found: &mut Vec<Conflict>,
-    matches: &[Match],
-    repeated: &BTreeSet<Text>,
-    front: &[Match],
+    sources: &mut BTreeMap<Text, List<SourceRef>>,
     destination: &Option<Text>,
 ) -> Result<(), NoMemory>
-    requires { words.HasOfMore 1 matches.now repeated.now.keys }
-    ensures { OnOk result (found.new.items ≡ found.old.items ++ words.conflict_at matches.now front.now destination.now) }
+    ensures found { OnOk result (found.new.items ≡ found.old.items ++ words.conflict_in sources.old.entries destination.now) }
+    ensures others { OnOk result ((text : Bytes ℕ) → words.sources_at sources.new.entries text ≡ if words.is_side text destination.now then [] else words.sources_at sources.old.entries text) }
 {
     let Some(destination) = destination else {
         return Ok(());
     };
-    if !repeated.contains(destination) {
-        return Ok(());
-    }
-    if has_destination(front, destination.as_bytes()) {
-        return Ok(());
-    }
-    let sources = sources_to(alloc, matches, destination.as_bytes())?;
-    push_conflict(found, destination, sources)
+    let taken = taken_out(alloc, sources, destination);
+    push_conflict(found, destination, taken)
 }
 
 fn push_conflict(
     found: &mut Vec<Conflict>,
     destination: &Text,
-    sources: Vec<SourceRef>,
+    sources: List<SourceRef>,
 ) -> Result<(), NoMemory>
-    ensures { OnOk result (found.new.items ≡ found.old.items ++ words.conflict_of destination.now sources.items) }
+    ensures { OnOk result (found.new.items ≡ found.old.items ++ words.conflict_of destination.now sources) }
 {
     if sources.len() > 1 {
         let destination = destination.try_clone()?;
         found.push(Conflict {
             destination,
-            sources: List::from(sources),
+            sources,
         })?;
     }
     Ok(())
-}
-
-/// The sources of a destination, each once.
-fn sources_to(
-    alloc: Global,
-    matches: &[Match],
-    destination: &[u8],
-) -> Result<Vec<SourceRef>, NoMemory>
-    ensures { IfOk result (λ sources. sources.items ≡ words.sources_to matches.now destination.now) }
-{
-    let mut sources = Vec::new(alloc);
-    for i in 0..matches.len() {
-        add_source(&mut sources, destination, &matches[i])?;
-    }
-    Ok(sources)
-}
-
-/// Adds the source of a match that has the destination, unless the source is there.
-fn add_source(
-    sources: &mut Vec<SourceRef>,
-    destination: &[u8],
-    found: &Match,
-) -> Result<(), NoMemory>
-    ensures { OnOk result (sources.new.items ≡ if words.is_side destination.now found.now.rhs then words.more_sources sources.old.items found.now.lhs else sources.old.items) }
-{
-    if !is_side(destination, &found.rhs) {
-        return Ok(());
-    }
-    if has_source(sources.as_slice(), &found.lhs) {
-        return Ok(());
-    }
-    sources.push(found.lhs.try_clone()?)?;
-    Ok(())
-}
-
-fn has_destination(matches: &[Match], destination: &[u8]) -> bool
-    ensures { result ≡ words.has_destination matches.now destination.now }
-{
-    for found in matches {
-        if is_side(destination, &found.rhs) {
-            return true;
-        }
-    }
-    false
 }
 
 fn has_source(sources: &[SourceRef], source: &SourceRef) -> bool
@@ -176,15 +141,6 @@ fn has_source(sources: &[SourceRef], source: &SourceRef) -> bool
         }
     }
     false
-}
-
-fn is_side(text: &[u8], side: &Option<Text>) -> bool
-    ensures { result ≡ words.is_side text.now side.now }
-{
-    match side {
-        Some(side) => text == side.as_bytes(),
-        None => false,
-    }
 }
 
 fn is_same_source(a: &SourceRef, b: &SourceRef) -> bool

@@ -1,4 +1,4 @@
-use Rattle.std.proofs.Common.{◌≡◌, drop, map}
+use Rattle.std.proofs.Common.{◌≡◌, drop}
 use Rattle.fetch_specs.specs.Matches.{added_all, ids_from}
 use Rattle.fetch_specs.proofs.matching.add_ids.Given as goal
 

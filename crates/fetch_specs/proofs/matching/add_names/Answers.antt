@@ -1,9 +1,9 @@
-use Rattle.std.proofs.Common.{◌≡◌, ◌+◌, List, [], ◌++◌, drop, map, Option, refl, sym, ap, ◌∙◌, arith}
+use Rattle.std.proofs.Common.{◌≡◌, ◌+◌, List, ◌++◌, drop, map, sym, ap, ◌∙◌}
 use Rattle.std.proofs.lemmas.List.{drop_all}
 use Rattle.fetch_specs.specs.declared.spec.RefSpec.{RefSpec}
 use Rattle.fetch_specs.specs.declared.matching.Item.{Item}
 use Rattle.fetch_specs.specs.declared.found.Match.{Match}
-use Rattle.fetch_specs.specs.Matches.{added_all, found, specs_from, names_from, name_match}
+use Rattle.fetch_specs.specs.Matches.{added_all, specs_from, names_from, name_match}
 use Rattle.fetch_specs.proofs.Keys.{turn, from}
 use Rattle.fetch_specs.proofs.matching.add_names.Goals as goal
 

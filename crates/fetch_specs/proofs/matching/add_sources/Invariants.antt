@@ -1,5 +1,5 @@
 use Rattle.std.proofs.Common.{◌≡◌, drop, map}
-use Rattle.fetch_specs.specs.Matches.{added_all, specs_from, names_from, source_match}
+use Rattle.fetch_specs.specs.Matches.{added_all, specs_from, source_match}
 use Rattle.fetch_specs.proofs.matching.add_sources.Given as goal
 
 abbrev pub invariant-loop-i : goal.invariant-loop-i

@@ -1,8 +1,8 @@
-use Rattle.std.proofs.Common.{◌≡◌, ℕ, Bool, cond, List, [], ◌∷◌, ◌++◌, ap, ◌∙◌}
+use Rattle.std.proofs.Common.{cond, List, [], ◌∷◌, ◌++◌, ap, ◌∙◌}
 use Rattle.fetch_specs.specs.declared.found.Match.{Match}
 use Rattle.fetch_specs.specs.FoundSets.{FoundValue}
 use Rattle.fetch_specs.specs.Matches.{added}
-use Rattle.fetch_specs.proofs.Keys.{Grown, grown}
+use Rattle.fetch_specs.proofs.Keys.{grown}
 use Rattle.fetch_specs.proofs.found.Found.add.Goals as goal
 
 pub invariant_of-self-2 : goal.invariant_of-self-2

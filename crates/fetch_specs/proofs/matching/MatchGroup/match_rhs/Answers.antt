@@ -1,9 +1,9 @@
-use Rattle.std.proofs.Common.{◌≡◌, Bool, true, false, List, [], ◌++◌, map, sym, ap, ◌∙◌}
+use Rattle.std.proofs.Common.{false, List, [], map, ap, ◌∙◌}
 use Rattle.fetch_specs.specs.declared.matching.Item.{Item}
 use Rattle.fetch_specs.specs.declared.found.Match.{Match}
 use Rattle.fetch_specs.specs.Specs.{Spec}
 use Rattle.fetch_specs.specs.FoundSets.{FoundValue}
-use Rattle.fetch_specs.specs.Matches.{added_all, specs_from, source_match, sources_of, once, is_same}
+use Rattle.fetch_specs.specs.Matches.{added_all, specs_from, source_match, sources_of}
 use Rattle.fetch_specs.proofs.Keys.{all-once}
 use Rattle.fetch_specs.proofs.matching.MatchGroup.match_rhs.Goals as goal
 
