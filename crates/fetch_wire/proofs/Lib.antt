@@ -3,3 +3,4 @@ pub mod ReadingLaws
 pub mod Receiving
 pub mod WordLaws
 pub mod ReadingLines
+pub mod Listed

@@ -1,7 +1,9 @@
 -- The references that a server lists.
-use Rattle.std.specs.Prelude.{ℕ, List, [], ◌∷◌, Bool, Option, Some, None, Result, if◌then◌else◌, codes}
+use Rattle.std.specs.Prelude.{◌≡◌, ℕ, List, [], ◌∷◌, Bool, Option, Some, None, Result, if◌then◌else◌, codes}
 use Rattle.std.specs.List.{list_any}
 use Rattle.std.specs.Option.{option_map, option_and_then}
+use Rattle.std.specs.Ordering.{nat_cmp, is_eq}
+use Rattle.std.specs.Cmp.Lexicographic.{slice_cmp}
 use Rattle.std.specs.Str.{bytes_eq}
 use Rattle.fetch_store.specs.Scan.{split_first, after}
 use Rattle.fetch_store.specs.Id.{id_in_hex}
@@ -75,6 +77,10 @@ if_new before reference = if is_listed before reference then None else Some refe
 
 abbrev pub ref_of : Kind → List Ref → Line → Option Ref
 ref_of kind before line = option_and_then (if_new before) (option_and_then (ref_in kind) (text_of line))
+
+-- a set has the names of these references
+abbrev pub HasNames : List Ref → List (List ℕ) → Type 0
+HasNames refs names = (name : List ℕ) → list_any (λ n. is_eq (slice_cmp nat_cmp name n)) names ≡ list_any (λ r. bytes_eq (name_in r) name) refs
 
 -- A listing has a line for each reference.
 abbrev pub listing_of : Kind → List Line → Result (List Ref) ℕ

@@ -3,14 +3,14 @@
 ghost use Rattle.std.specs.Prelude.{◌≡◌, ◌<◌, ◌+◌, ◌^◌, IfOk, fold, sum_by};
 ghost use Rattle.std.specs.Option.{option_copied};
 ghost use Rattle.fetch_wire.specs.Lines.{line_len as len_of};
-ghost use Rattle.fetch_wire.specs.Texts.{Reads};
-ghost use Rattle.fetch_wire.specs.Greetings.{if_key, capability_in, format_in, is_format, format_of, is_known, if_known, hash_after, last_named, is_version_2, capabilities_from, greeting_of};
+ghost use Rattle.fetch_wire.specs.Texts.{Reads, each_from};
+ghost use Rattle.fetch_wire.specs.Greetings.{if_key, capability_in, format_in, is_format, format_of, is_known, if_known, capability_of, hash_after, last_named, is_version_2, capabilities_from, greeting_of};
 ghost use Rattle.fetch_store.specs.declared.id.Kind.TheVariants.{Sha1};
 
 use crate::error::WireError;
 use crate::handshake::{Capability, Handshake, Version};
 use crate::line::Line;
-use crate::readers::{LineReader, line_len, read_each, text};
+use crate::readers::{line_len, text};
 use fetch_store::{Kind, List, NoMemory, Text, split_first};
 use std::alloc::Global;
 
@@ -92,33 +92,44 @@ impl Capability {
     }
 }
 
-struct CapabilityLines;
-
-impl LineReader<Capability> for CapabilityLines {
-    ghost use Rattle.fetch_wire.specs.Greetings.{capability_of};
-
-    ghost gives = { λ _ before line. capability_of line };
-
-    fn read(
-        &self,
-        alloc: Global,
-        _before: &[Capability],
-        line: &Line,
-    ) -> Result<Option<Capability>, NoMemory> {
-        let Some(text) = text(line) else {
-            return Ok(None);
-        };
-        match capability(alloc, text)? {
-            Some(found) => {
-                if found.is_known() {
-                    Ok(Some(found))
-                } else {
-                    Ok(None)
-                }
+/// The capability that a line tells.
+fn read_capability(alloc: Global, line: &Line) -> Result<Option<Capability>, NoMemory>
+    ensures { IfOk result (λ found. found ≡ capability_of line.now) }
+{
+    let Some(text) = text(line) else {
+        return Ok(None);
+    };
+    match capability(alloc, text)? {
+        Some(found) => {
+            if found.is_known() {
+                Ok(Some(found))
+            } else {
+                Ok(None)
             }
-            None => Ok(None),
         }
+        None => Ok(None),
     }
+}
+
+/// The capabilities that lines tell. The first of them stands at this place.
+fn capabilities_of(
+    alloc: Global,
+    lines: &[Line],
+    place: usize,
+) -> Result<Vec<Capability>, WireError>
+    requires { place + sum_by len_of lines.now < 2 ^ 63 }
+    ensures { Reads (λ found. found.items) result (each_from capability_of place lines.now) }
+{
+    let mut capabilities = Vec::new(alloc);
+    let mut place = place;
+    for line in lines {
+        match read_capability(alloc, line)? {
+            Some(capability) => capabilities.push(capability)?,
+            None => return Err(WireError::Malformed { place }),
+        }
+        place += line_len(line);
+    }
+    Ok(capabilities)
 }
 
 fn hash_of(capabilities: &[Capability]) -> Kind
@@ -156,7 +167,7 @@ fn read_capabilities(alloc: Global, lines: &[Line], place: usize) -> Result<Hand
     requires { place + sum_by len_of lines.now < 2 ^ 63 }
     ensures { Reads (λ found. found) result (capabilities_from place lines.now) }
 {
-    match read_each(alloc, &CapabilityLines, lines, place) {
+    match capabilities_of(alloc, lines, place) {
         Ok(capabilities) => {
             let object_hash = hash_of(&capabilities);
             Ok(Handshake {

@@ -1,19 +1,21 @@
 //! The references that a server lists.
 
-ghost use Rattle.std.specs.Prelude.{◌≡◌, ◌<◌, ◌^◌, IfOk, sum_by, option_and_then};
+ghost use Rattle.std.specs.Prelude.{◌≡◌, ◌<◌, ◌^◌, ◌++◌, ◌∷◌, [], if◌then◌else◌, not, Some, None, IfOk, OnOk, sum_by, option_and_then, vec_len, vec_capacity};
 ghost use Rattle.std.specs.Option.{option_copied, option_map};
 ghost use Rattle.fetch_wire.specs.Lines.{line_len as len_of};
 ghost use Rattle.fetch_wire.specs.Texts.{Reads};
 ghost use Rattle.fetch_wire.specs.Words.{words, words_in};
-ghost use Rattle.fetch_wire.specs.Listings.{no_attributes, with_attribute, with_attributes, ref_with, id_or_unborn, named_by, ref_in, is_listed, listing_of};
+ghost use Rattle.fetch_wire.specs.Listings.{no_attributes, with_attribute, with_attributes, ref_with, id_or_unborn, named_by, ref_in, ref_of, is_listed, listing_of};
 
 use crate::error::WireError;
 use crate::line::Line;
-use crate::readers::{LineReader, read_each, text};
+use crate::readers::{line_len, text};
 use crate::reference::Ref;
 use crate::words::next_word;
 use fetch_store::{Kind, List, NoMemory, ObjectId, Text, after, split_first};
 use std::alloc::Global;
+use std::collections::BTreeSet;
+use std::marker::Model;
 
 /// The target and the peeled id that attributes tell.
 type Attributes<'a> = (Option<&'a [u8]>, Option<ObjectId>);
@@ -146,43 +148,73 @@ fn read_ref(alloc: Global, kind: Kind, text: &[u8]) -> Result<Option<Ref>, NoMem
     }
 }
 
-/// Whether a reference has the name of one of those.
-fn has_name(before: &[Ref], reference: &Ref) -> bool
-    ensures { result ≡ is_listed before.now reference.now }
-{
-    let name = reference.unpack().0;
-    for listed in before {
-        if listed.unpack().0 == name {
-            return true;
+/// The references listed so far, and their names, by which a repeated one is known.
+#[derive(Drop)]
+struct Listed {
+    refs: Vec<Ref>,
+    names: BTreeSet<Text>,
+}
+
+impl Model for Listed {
+    ghost use Rattle.std.specs.Prelude.{List};
+    ghost use Rattle.fetch_wire.specs.Listings.{HasNames};
+    ghost use Rattle.fetch_wire.specs.declared.reference.Ref.{Ref};
+
+    ghost Value = { List Ref };
+
+    ghost view = { λ listed. listed.refs.items };
+
+    ghost invariant = { λ listed. HasNames listed.refs.items listed.names.keys };
+}
+
+impl Listed {
+    fn new(alloc: Global) -> Listed
+        ensures { result ≡ [] }
+    {
+        Listed {
+            refs: Vec::new(alloc),
+            names: BTreeSet::new(alloc),
         }
     }
-    false
+
+    /// Adds a reference, unless its name is listed, and says whether it was added.
+    fn add(&mut self, alloc: Global, reference: Ref) -> Result<bool, NoMemory>
+        ensures new { IfOk result (λ is_new. is_new ≡ not (is_listed self.old reference)) }
+        ensures added { OnOk result (self.new ≡ if is_listed self.old reference then self.old else self.old ++ reference ∷ []) }
+    {
+        let name = Text::new(alloc, reference.unpack().0)?;
+        self.refs.reserve(1)?;
+        let is_new = self.names.insert(name)?;
+        push_if(is_new, &mut self.refs, reference);
+        Ok(is_new)
+    }
+
+    fn into_refs(self) -> Vec<Ref>
+        ensures { result.items ≡ self }
+    {
+        self.refs
+    }
 }
 
-#[derive(Clone, Copy)]
-struct RefLines {
-    kind: Kind,
+fn push_if(is_new: bool, refs: &mut Vec<Ref>, reference: Ref)
+    requires { vec_len refs.old < vec_capacity refs.old }
+    ensures { refs.new.items ≡ if is_new then refs.old.items ++ reference ∷ [] else refs.old.items }
+{
+    if is_new {
+        refs.push_reserved(reference);
+    }
 }
 
-impl LineReader<Ref> for RefLines {
-    ghost use Rattle.fetch_wire.specs.Listings.{ref_of};
-
-    ghost gives = { λ reader before line. ref_of reader.kind before line };
-
-    fn read(&self, alloc: Global, before: &[Ref], line: &Line) -> Result<Option<Ref>, NoMemory> {
-        let Some(text) = text(line) else {
-            return Ok(None);
-        };
-        match read_ref(alloc, self.kind, text)? {
-            Some(reference) => {
-                if has_name(before, &reference) {
-                    Ok(None)
-                } else {
-                    Ok(Some(reference))
-                }
-            }
-            None => Ok(None),
-        }
+/// Adds the reference that a line lists, and says whether it lists one whose name is new.
+fn add_line(alloc: Global, kind: Kind, listed: &mut Listed, line: &Line) -> Result<bool, NoMemory>
+    ensures { IfOk result (λ is_new. (if is_new then Some listed.new else None) ≡ option_map (λ reference. listed.old ++ reference ∷ []) (ref_of kind listed.old line.now)) }
+{
+    let Some(text) = text(line) else {
+        return Ok(false);
+    };
+    match read_ref(alloc, kind, text)? {
+        Some(reference) => listed.add(alloc, reference),
+        None => Ok(false),
     }
 }
 
@@ -191,8 +223,13 @@ pub fn read_listing(alloc: Global, kind: Kind, lines: &[Line]) -> Result<List<Re
     requires { sum_by len_of lines.now < 2 ^ 63 }
     ensures { Reads (λ refs. refs) result (listing_of kind lines.now) }
 {
-    match read_each(alloc, &RefLines { kind }, lines, 0) {
-        Ok(refs) => Ok(List::from(refs)),
-        Err(e) => Err(e),
+    let mut listed = Listed::new(alloc);
+    let mut place = 0;
+    for line in lines {
+        if !add_line(alloc, kind, &mut listed, line)? {
+            return Err(WireError::Malformed { place });
+        }
+        place += line_len(line);
     }
+    Ok(List::from(listed.into_refs()))
 }
