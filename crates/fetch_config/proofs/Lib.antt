@@ -11,3 +11,4 @@ pub mod WrittenLines
 pub mod WrittenTexts
 pub mod Marks
 pub mod Edges
+pub mod Letters

@@ -1,18 +1,18 @@
 -- What is written of sections is read back.
-use Rattle.std.proofs.Common.{◌≡◌, ℕ, zero, suc, ◌+◌, ◌-◌, Bool, true, false, cond, not, ◌&&◌, ◌||◌, eqb, List, [], ◌∷◌, ◌++◌, map, filter, length, Option, Some, None, refl, sym, ap, ◌∙◌, arith, append_assoc, append-nil, subst}
+use Rattle.std.proofs.Common.{◌≡◌, ℕ, ◌+◌, Bool, true, false, cond, not, ◌||◌, eqb, List, [], ◌∷◌, ◌++◌, map, Option, Some, None, refl, sym, ap, ◌∙◌, append_assoc, append-nil, subst}
 use Rattle.std.specs.List.{list_all, flat_map, filter_map, cons_option, slice_split, onto_first}
 use Rattle.std.specs.Option.{option_map}
-use Rattle.std.specs.Str.Lines.{lines, lines_of_parts, strip_carriage_return}
-use Rattle.std.proofs.lemmas.Bool.{and_parts, and_from}
+use Rattle.std.specs.Str.Lines.{lines, lines_of_parts}
+use Rattle.std.proofs.lemmas.Bool.{and_parts}
 use Rattle.fetch_config.specs.declared.line.Line.{Line}
-use Rattle.fetch_config.specs.declared.line.Line.TheVariants.{Nothing, Header, Entry}
+use Rattle.fetch_config.specs.declared.line.Line.TheVariants.{Header, Entry}
 use Rattle.fetch_config.specs.declared.meta.Meta.{Meta}
 use Rattle.fetch_config.specs.declared.meta.Origin.{Origin}
 use Rattle.fetch_config.specs.declared.section.Section.{Section}
 use Rattle.fetch_config.specs.Pieces.{IsWithout, is_name, is_key}
 use Rattle.fetch_config.specs.Lines.{EntryList, line_of, gather, sections_of, fits_behind, opens, first_broken, each_line, broken_line}
 use Rattle.fetch_config.specs.Kept.{is_kept_value, is_kept_sub, is_kept_entry, is_kept, AreKept}
-use Rattle.fetch_config.specs.Print.{equals_text, entry_text, sub_text, header_text, section_text, text_of, is_of, of_origin}
+use Rattle.fetch_config.specs.Print.{equals_text, entry_text, sub_text, header_text, section_text, text_of, of_origin}
 use Rattle.fetch_config.specs.Written.{is_named, AreNamed, read_from, Says}
 use Rattle.fetch_config.proofs.FirstLine.{parts_some, lines_of_more}
 use Rattle.fetch_config.proofs.WrittenValues.{EndsWell, unstripped}

@@ -9,4 +9,5 @@ pub mod Lookups
 pub mod Print
 pub mod Written
 pub mod Marks
+pub mod Subsections
 pub mod Overrides

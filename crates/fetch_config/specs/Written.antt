@@ -1,5 +1,5 @@
 -- What a written text says when it is read.
-use Rattle.std.specs.Prelude.{◌≡◌, ℕ, Bool, true, ◌&&◌, List, map, Option, None}
+use Rattle.std.specs.Prelude.{◌≡◌, ℕ, Bool, true, ◌&&◌, List, map, None}
 use Rattle.std.specs.List.{list_all}
 use Rattle.fetch_config.specs.declared.meta.Meta.{Meta}
 use Rattle.fetch_config.specs.declared.section.Section.{Section}

@@ -1,9 +1,10 @@
-//! What holds of the grammar of values.
+//! What holds of the grammar of values and subsections.
 
 ghost use Rattle.std.specs.Prelude.{◌≡◌, ◌↔◌, ◌∷◌, ℕ, List, Some, false};
 ghost use Rattle.fetch_config.specs.Marks.{IsInParts, SaysValue};
 ghost use Rattle.fetch_config.specs.Print.{value_text};
-ghost use Rattle.fetch_config.specs.Values.{unquoted, value_of};
+ghost use Rattle.fetch_config.specs.Subsections.{IsQuotedName};
+ghost use Rattle.fetch_config.specs.Values.{unquoted, value_of, subsection_of};
 
 /// A value that is written behind `= ` is read as it was.
 pub fn a_written_value_is_read_back()
@@ -19,4 +20,10 @@ pub fn quotes_group_and_escapes_are_read()
 /// A value is what stands behind the `=` without outer blanks, up to a `#` or `;` outside quotes.
 pub fn a_value_stands_between_blanks_before_a_comment()
     ensures { (text : List ℕ) → (value : List ℕ) → (value_of text ≡ Some value) ↔ SaysValue text value }
+{}
+
+/// A subsection ends at its first quote that has no backslash before it; a backslash takes the next byte as it is, and
+/// each other byte stands for itself.
+pub fn a_backslash_takes_the_next_byte_of_a_subsection()
+    ensures { (text : List ℕ) → (name : List ℕ) → (rest : List ℕ) → (subsection_of false text ≡ Some (name, rest)) ↔ IsQuotedName text name rest }
 {}

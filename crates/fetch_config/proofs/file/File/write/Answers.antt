@@ -1,4 +1,4 @@
-use Rattle.std.proofs.Common.{◌≡◌, rules, sym, subst}
+use Rattle.std.proofs.Common.{◌≡◌, rules, subst}
 use Rattle.fetch_config.specs.Contents.{Contents}
 use Rattle.fetch_config.specs.Kept.{AreKept}
 use Rattle.fetch_config.specs.Print.{text_of, of_origin}
