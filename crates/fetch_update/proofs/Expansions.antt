@@ -1,11 +1,11 @@
 -- One parent after the other is looked at.
-use Rattle.std.proofs.Common.{◌≡◌, ◌≢◌, ◌⊎◌, ℕ, ◌+◌, ◌<◌, ◌≤◌, Bool, true, false, List, [], ◌∷◌, length, get_or, Option, Some, None, Contains, refl, sym, ap, subst, ◌∙◌, arith, inl, inr}
+use Rattle.std.proofs.Common.{◌≡◌, ℕ, ◌+◌, ◌<◌, ◌≤◌, List, [], ◌∷◌, length, get_or, Some, None, Contains, sym, ap, subst, ◌∙◌, arith, inl, inr}
 use Rattle.std.specs.List.{slice_get}
 use Rattle.std.proofs.lemmas.Bool.{cases_lt}
 use Rattle.std.proofs.lemmas.Option.{slice_get-get_or, slice_get_past, get_or_from_slice_get}
 use Rattle.fetch_store.specs.declared.id.ObjectId.{ObjectId}
 use Rattle.fetch_store.specs.Graph.{Graph}
-use Rattle.fetch_update.specs.Walks.{State, has, IsDated, IsWaiting, Grows}
+use Rattle.fetch_update.specs.Walks.{State, Grows}
 use Rattle.fetch_update.proofs.Seen.{Contains-one}
 
 pub grows_then : (g : Graph) (limit : ℕ) (ids : List ObjectId) (p : ObjectId) (a b c : State) → Grows g limit ids a b → Contains ids p → Grows g limit (p ∷ []) b c → Grows g limit ids a c

@@ -10,3 +10,8 @@ pub mod Lists
 pub mod Firsts
 pub mod Written
 pub mod Whole
+pub mod Fitting
+pub mod Rows
+pub mod Updates
+pub mod Wholes
+pub mod Shown

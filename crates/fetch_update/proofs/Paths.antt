@@ -1,14 +1,13 @@
 -- Paths that a walk finds, and paths that it can't miss.
-use Rattle.std.proofs.Common.{◌≡◌, ◌≢◌, ◌⊎◌, ℕ, ◌+◌, ◌<◌, ◌≤◌, Bool, true, false, List, [], ◌∷◌, ◌++◌, length, Option, Some, None, Contains, refl, sym, ap, subst, ◌∙◌, arith, inl, inr}
+use Rattle.std.proofs.Common.{◌≡◌, ◌≢◌, ◌⊎◌, ℕ, ◌+◌, ◌<◌, ◌≤◌, true, List, [], ◌∷◌, ◌++◌, length, Option, Some, None, Contains, refl, sym, ap, subst, ◌∙◌, arith, inl, inr}
 use Rattle.std.specs.List.{AllByRecursion}
-use Rattle.std.specs.List.Sorted.{IsPermutation}
 use Rattle.std.specs.Option.{option_map, option_map_or}
 use Rattle.std.specs.Prelude.{is_some, unwrap_or, MatchOption}
 use Rattle.std.specs.FinMap.{entries}
 use Rattle.std.proofs.lemmas.List.Sorted.{IsPermutation-sym, Contains-permutation, length_permutation, sum_by_popped}
 use Rattle.fetch_store.specs.declared.id.ObjectId.{ObjectId}
 use Rattle.fetch_store.specs.Graph.{Graph, Node}
-use Rattle.fetch_update.specs.Dated.{IsCommit, commit_at, parents_at, seconds_in, seconds_at, LeadsOn, IsLinked, IsPathAbove, HasDatedPath, commit_count, link_count}
+use Rattle.fetch_update.specs.Dated.{IsCommit, commit_at, parents_at, seconds_in, seconds_at, LeadsOn, IsLinked, IsPathAbove, commit_count, link_count}
 use Rattle.fetch_update.specs.Walks.{State, has, IsDated, IsWaiting, Grows, Pops, IsDone, cost_unseen, cost_waiting, room, work}
 use Rattle.fetch_update.proofs.Seen.{added_first, added_cases, unseen_less, cost_all, Contains-first, Contains-later, Contains-one, Contains-none, Contains-cases}
 use Rattle.fetch_update.proofs.Visits.{commit_found}

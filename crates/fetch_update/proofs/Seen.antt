@@ -1,5 +1,5 @@
 -- Ids that were seen, and what is still to be read.
-use Rattle.std.proofs.Common.{◌≡◌, ◌≢◌, ◌⊎◌, ℕ, ◌+◌, ◌<◌, ◌≤◌, Bool, true, false, cond, not, ◌||◌, List, [], ◌∷◌, ◌++◌, length, get_or, Option, Some, None, Contains, refl, sym, ap, subst, ◌∙◌, arith, inl, inr}
+use Rattle.std.proofs.Common.{◌≡◌, ◌⊎◌, ℕ, ◌+◌, ◌<◌, ◌≤◌, Bool, true, false, cond, not, ◌||◌, List, [], ◌∷◌, length, Some, Contains, refl, sym, ap, subst, ◌∙◌, arith, inl, inr}
 use Rattle.std.specs.Prelude.{sum_by, filter}
 use Rattle.std.specs.List.{list_any}
 use Rattle.std.specs.BTreeSet.{BTreeSet, Updates}
@@ -16,7 +16,6 @@ use Rattle.fetch_store.specs.Graph.{Node}
 use Rattle.fetch_store.specs.Objects.{is_kind}
 use Rattle.fetch_store.specs.Stores.{id_cmp}
 use Rattle.fetch_store.proofs.Ids.{id_cmp_total, id_cmp_exact}
-use Rattle.fetch_store.proofs.Finds.{ties}
 use Rattle.fetch_store.proofs.Orders.{cmp_is}
 use Rattle.fetch_update.specs.Walks.{has, cost, cost_unseen}
 

@@ -1,8 +1,7 @@
 -- What an id that is looked at adds to a walk.
-use Rattle.std.proofs.Common.{◌≡◌, ◌≢◌, ◌⊎◌, ℕ, ◌+◌, ◌<◌, ◌≤◌, Bool, true, false, cond, List, [], ◌∷◌, length, Option, Some, None, Result, Ok, Err, Contains, refl, sym, ap, subst, ◌∙◌, arith, inl, inr}
-use Rattle.std.specs.Prelude.{OnOk, OnErr, sum_by, is_some}
+use Rattle.std.proofs.Common.{◌≡◌, ℕ, ◌+◌, ◌≤◌, Bool, true, false, cond, List, [], ◌∷◌, length, Option, Some, None, Result, Ok, Err, Contains, refl, sym, ap, subst, ◌∙◌, arith, inl, inr}
+use Rattle.std.specs.Prelude.{OnOk, OnErr, is_some}
 use Rattle.std.specs.Option.{option_map, option_and_then, option_map_or}
-use Rattle.std.specs.List.Sorted.{IsPermutation}
 use Rattle.std.specs.FinMap.{get, entries, find, get-entries}
 use Rattle.std.proofs.lemmas.Bool.{cases_lt}
 use Rattle.std.proofs.lemmas.List.Sorted.{IsPermutation-sym, Contains-permutation, length_permutation, sum_by_pushed}
@@ -12,8 +11,8 @@ use Rattle.fetch_store.specs.Graph.{Graph, Node}
 use Rattle.fetch_store.specs.Objects.{is_kind}
 use Rattle.fetch_store.specs.Stores.{id_cmp}
 use Rattle.fetch_update.specs.Dated.{IsCommit, commit_at, parents_at, seconds_in, seconds_at}
-use Rattle.fetch_update.specs.Walks.{State, has, IsDated, IsWaiting, Grows, Keeps, IsDone, cost, cost_unseen, cost_waiting, room, work}
-use Rattle.fetch_update.proofs.Seen.{Added, added_keeps, added_cases, unseen_mono, unseen_less, Contains-first, Contains-later, Contains-one, Contains-cases}
+use Rattle.fetch_update.specs.Walks.{State, has, IsDated, IsWaiting, Grows, Keeps, cost, cost_waiting, room, work}
+use Rattle.fetch_update.proofs.Seen.{Added, added_keeps, added_cases, unseen_mono, unseen_less, Contains-first, Contains-later, Contains-cases}
 
 pub grows_self : (g : Graph) (limit : ℕ) (ids : List ObjectId) (a b : State) → b.seen ≡ a.seen → b.waiting ≡ a.waiting → Grows g limit ids a b
 grows_self g limit ids a b seen waiting = record {

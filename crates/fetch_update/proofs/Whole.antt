@@ -1,5 +1,5 @@
 -- Each update has its pair.
-use Rattle.std.proofs.Common.{◌≡◌, ℕ, suc, ◌<◌, List, [], ◌∷◌, length, get_or, Option, Some, None, All, refl, ap, ◌∙◌, arith}
+use Rattle.std.proofs.Common.{◌≡◌, ℕ, suc, ◌<◌, List, [], ◌∷◌, length, get_or, Option, Some, All, refl, ap, ◌∙◌, arith}
 use Rattle.std.specs.List.{slice_get}
 use Rattle.std.proofs.lemmas.List.Elements.{All-head, All-tail}
 use Rattle.std.proofs.lemmas.Option.{slice_get-get_or}
@@ -7,7 +7,7 @@ use Rattle.fetch_specs.specs.Specs.{Spec}
 use Rattle.fetch_refs.specs.declared.edit.RefEdit.{RefEdit}
 use Rattle.fetch_wire.specs.declared.mapping.Mapping.{Mapping}
 use Rattle.fetch_update.specs.declared.update.Update.{Update}
-use Rattle.fetch_update.specs.Pairs.{Pair, onto, pairs_of}
+use Rattle.fetch_update.specs.Pairs.{onto, pairs_of}
 
 some_in : (ms : List Mapping) (i : ℕ) → i < length ms → (m : Mapping) × (slice_get ms i ≡ Some m)
 some_in [] i lt = absurd (omega arith)

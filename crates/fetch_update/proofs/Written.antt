@@ -1,6 +1,6 @@
 -- Each edit of a verdict writes what its mapping wants.
-use Rattle.std.proofs.Common.{◌≡◌, ℕ, Bool, true, false, List, Option, Some, None, Result, Ok, Err, refl, IfOk}
-use Rattle.std.specs.Prelude.{if◌then◌else◌, ◌&&◌, ⊤}
+use Rattle.std.proofs.Common.{ℕ, Bool, true, false, List, Option, Some, None, Result, Ok, Err, refl, IfOk}
+use Rattle.std.specs.Prelude.{if◌then◌else◌, ◌&&◌}
 use Rattle.std.specs.FinMap as finmap
 use Rattle.std.specs.Ordering.{eq_by_cmp}
 use Rattle.fetch_store.specs.declared.id.ObjectId.{ObjectId}
@@ -18,7 +18,7 @@ use Rattle.fetch_wire.specs.declared.mapping.Mapping.{Mapping}
 use Rattle.fetch_update.specs.declared.update.Error.{Error}
 use Rattle.fetch_update.specs.declared.verdict.Verdict.{Verdict}
 use Rattle.fetch_update.specs.Ahead.{is_ahead}
-use Rattle.fetch_update.specs.Policy.{Policy, is_forced, is_commit, is_stored, is_tag, is_checked_out, value_of, checked, after_check, if_valid, behind, at_stored, at_tag, at_other, at_id, at_local, at_found, at_name, at_destination, unsent, unless_unsent, verdict_of}
+use Rattle.fetch_update.specs.Policy.{Policy, is_forced, is_commit, is_stored, is_tag, is_checked_out, value_of, checked, after_check, at_stored, at_other, at_id, at_local, at_found, at_name, at_destination, unsent, unless_unsent, verdict_of}
 use Rattle.fetch_update.specs.Writes.{WritesOnly}
 
 abbrev W : Target → Verdict → Type 0

@@ -5,3 +5,6 @@ pub mod Policy
 pub mod Outcomes
 pub mod Pairs
 pub mod Writes
+pub mod Accepting
+pub mod Accepted
+pub mod Modes

@@ -1,10 +1,12 @@
 //! What decides an update.
 
-ghost use Rattle.std.specs.Prelude.{◌≡◌, ◌↔◌, ℕ, List, Option, Some, Ok, IfOk, IsTrue, true};
+ghost use Rattle.std.specs.Prelude.{◌≡◌, ◌↔◌, ℕ, List, Option, Some, Ok, IfOk, IsTrue, true, false};
 ghost use Rattle.fetch_store.specs.Graph.{Graph};
 ghost use Rattle.fetch_store.specs.declared.id.ObjectId.{ObjectId};
 ghost use Rattle.fetch_specs.specs.Specs.{Spec};
 ghost use Rattle.fetch_wire.specs.declared.mapping.Mapping.{Mapping};
+ghost use Rattle.fetch_update.specs.Accepted.{AcceptsExactly, HasOneEach, EditsCarryOut};
+ghost use Rattle.fetch_update.specs.Accepting.{is_accepting, Accepts, Tells};
 ghost use Rattle.fetch_update.specs.Ahead.{is_ahead};
 ghost use Rattle.fetch_update.specs.Dated.{HasDatedPath};
 ghost use Rattle.fetch_update.specs.Writes.{WritesOnly};
@@ -12,7 +14,9 @@ ghost use Rattle.fetch_refs.specs.declared.target.Target.{Target};
 ghost use Rattle.fetch_specs.specs.declared.operation.Mode.{Mode as SpecMode};
 ghost use Rattle.fetch_update.specs.Outcomes.{outcome_of};
 ghost use Rattle.fetch_update.specs.Policy.{Policy, Answers, policy_over, at_name, verdict_of, value_of, nothing, is_checked_out, directories_of};
+ghost use Rattle.fetch_update.specs.declared.mode.Mode.{Mode};
 ghost use Rattle.fetch_update.specs.declared.mode.Mode.TheVariants as modes;
+ghost use Rattle.fetch_update.specs.declared.verdict.Verdict.{Verdict};
 
 pub use crate::dated::is_dated_ancestor;
 use crate::judging::Judge;
@@ -71,4 +75,28 @@ pub fn edits_write_what_is_wanted()
 /// The test for a dated path answers true exactly where there is one.
 pub fn dated_paths_are_found()
     ensures { (g : Graph) (from to : ObjectId) → IsTrue (is_ahead g from to) ↔ HasDatedPath g from to }
+{}
+
+/// Outside a dry run, a mapping by itself is told an accepting mode exactly where that mode's row
+/// holds. Its edit then gives its destination what the remote has.
+pub fn accepting_modes_have_their_rows()
+    ensures told { (p : Policy) (s : Spec) (m : Mapping) → p.dry_run ≡ false → IfOk (verdict_of p s m) (λ v. IsTrue (is_accepting v.mode) → Accepts p s m v.mode) }
+    ensures holds { (p : Policy) (s : Spec) (m : Mapping) (mode : Mode) → p.dry_run ≡ false → Accepts p s m mode → (v : Verdict) × (verdict_of p s m ≡ Ok v) × Tells m mode v }
+{}
+
+/// Outside a dry run, each update of an outcome tells an accepting mode exactly where its mapping is
+/// accepted with that mode, among all mappings.
+pub fn outcomes_accept_exactly()
+    ensures { (p : Policy) (specs extra : List Spec) (mappings : List Mapping) (o : Outcome) → outcome_of p specs extra mappings ≡ Ok o → p.dry_run ≡ false → AcceptsExactly p specs extra mappings o }
+{}
+
+/// An outcome has one update for each mapping whose refspec is found, in order.
+pub fn outcomes_have_one_update_each()
+    ensures { (p : Policy) (specs extra : List Spec) (mappings : List Mapping) (o : Outcome) → outcome_of p specs extra mappings ≡ Ok o → HasOneEach specs extra mappings o }
+{}
+
+/// The edits of an outcome are those that carry out its updates: each expects what was found, and
+/// gives its reference what the remote has, or the value found.
+pub fn edits_carry_out_updates()
+    ensures { (p : Policy) (specs extra : List Spec) (mappings : List Mapping) (o : Outcome) → outcome_of p specs extra mappings ≡ Ok o → EditsCarryOut p mappings o }
 {}

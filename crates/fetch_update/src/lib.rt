@@ -7,6 +7,7 @@ mod judging;
 pub mod laws;
 mod message;
 mod mode;
+mod pairing;
 mod pairs;
 mod scripted;
 mod settling;

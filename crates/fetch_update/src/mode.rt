@@ -1,6 +1,9 @@
 //! What an update does to its reference.
 
-ghost use Rattle.std.specs.Prelude.{◌≡◌, IfOk};
+ghost use Rattle.std.specs.Prelude.{◌≡◌, [], ◌++◌, if◌then◌else◌, IfOk};
+ghost use Rattle.std.specs.Fmt.{WritesOnOk, comma_space};
+ghost use Rattle.hex.specs.Hex.{encode_lower};
+ghost use Rattle.fetch_update.specs.Modes.{not_found_text, checked_out_text, directories_text};
 
 use fetch_store::{List, NoMemory, ObjectId, Text};
 use std::{fmt, str};
@@ -65,21 +68,23 @@ fn copy_texts(texts: &List<Text>) -> Result<List<Text>, NoMemory>
 }
 
 impl fmt::Display for Mode {
+    ghost use Rattle.std.specs.Prelude.{Some};
+    ghost use Rattle.fetch_update.specs.Modes.{mode_text};
+
+    ghost output = { λ mode. Some (mode_text mode) };
+
     fn fmt<W: fmt::Write>(&self, f: &mut fmt::Formatter<W>) -> fmt::Result {
         match self {
-            Mode::NoChangeNeeded => write!(f, "up-to-date"),
-            Mode::FastForward => write!(f, "fast-forward"),
-            Mode::Forced => write!(f, "forced-update"),
-            Mode::New => write!(f, "new"),
-            Mode::ImplicitTagNotSentByRemote => write!(f, "unrelated tag on remote"),
+            Mode::NoChangeNeeded => f.write_str("up-to-date"),
+            Mode::FastForward => f.write_str("fast-forward"),
+            Mode::Forced => f.write_str("forced-update"),
+            Mode::New => f.write_str("new"),
+            Mode::ImplicitTagNotSentByRemote => f.write_str("unrelated tag on remote"),
             Mode::RejectedSourceObjectNotFound { id } => write_not_found(f, id),
-            Mode::RejectedTagUpdate => write!(f, "rejected (would overwrite existing tag)"),
-            Mode::RejectedNonFastForward => write!(f, "rejected (non-fast-forward)"),
+            Mode::RejectedTagUpdate => f.write_str("rejected (would overwrite existing tag)"),
+            Mode::RejectedNonFastForward => f.write_str("rejected (non-fast-forward)"),
             Mode::RejectedToReplaceWithUnborn => {
-                write!(
-                    f,
-                    "rejected (refusing to overwrite existing with unborn ref)"
-                )
+                f.write_str("rejected (refusing to overwrite existing with unborn ref)")
             }
             Mode::RejectedCurrentlyCheckedOut { worktree_dirs } => {
                 write_checked_out(f, worktree_dirs.as_slice())
@@ -88,26 +93,56 @@ impl fmt::Display for Mode {
     }
 }
 
-fn write_not_found<W: fmt::Write>(f: &mut fmt::Formatter<W>, id: &ObjectId) -> fmt::Result {
-    write!(f, "rejected (")?;
-    for byte in id.as_bytes() {
+fn write_not_found<W: fmt::Write>(f: &mut fmt::Formatter<W>, id: &ObjectId) -> fmt::Result
+    ensures { WritesOnOk W.write_str_gives f.old result (not_found_text id.now) f.new }
+{
+    f.write_str("rejected (")?;
+    write_hex(f, id.as_bytes())?;
+    f.write_str(" not found)")
+}
+
+/// Two digits for each byte.
+fn write_hex<W: fmt::Write>(f: &mut fmt::Formatter<W>, bytes: &[u8]) -> fmt::Result
+    ensures { WritesOnOk W.write_str_gives f.old result (encode_lower bytes.now) f.new }
+{
+    'bytes: for byte in bytes {
         write!(f, "{byte:02x}")?;
     }
-    write!(f, " not found)")
+    Ok(())
+}
+
+fn write_checked_out<W: fmt::Write>(f: &mut fmt::Formatter<W>, dirs: &[Text]) -> fmt::Result
+    ensures { WritesOnOk W.write_str_gives f.old result (checked_out_text dirs.now) f.new }
+{
+    f.write_str("rejected (cannot write into checked-out branch at \"")?;
+    write_directories(f, dirs)?;
+    f.write_str("\")")
 }
 
 /// Those directories that are UTF-8, with a comma between them.
-fn write_checked_out<W: fmt::Write>(f: &mut fmt::Formatter<W>, dirs: &[Text]) -> fmt::Result {
-    write!(f, "rejected (cannot write into checked-out branch at \"")?;
+fn write_directories<W: fmt::Write>(f: &mut fmt::Formatter<W>, dirs: &[Text]) -> fmt::Result
+    ensures { WritesOnOk W.write_str_gives f.old result (directories_text dirs.now) f.new }
+{
     let mut is_first = true;
-    for dir in dirs {
+    'dirs: for dir in dirs {
         if let Ok(text) = str::from_utf8(dir.as_bytes()) {
-            if !is_first {
-                write!(f, ", ")?;
-            }
-            write!(f, "{text}")?;
+            write_directory(f, is_first, text)?;
             is_first = false;
         }
     }
-    write!(f, "\")")
+    Ok(())
+}
+
+/// A directory, and before it a comma unless it is the first.
+fn write_directory<W: fmt::Write>(
+    f: &mut fmt::Formatter<W>,
+    is_first: bool,
+    dir: &str,
+) -> fmt::Result
+    ensures { WritesOnOk W.write_str_gives f.old result ((if is_first then [] else comma_space) ++ dir.now) f.new }
+{
+    if !is_first {
+        f.write_str(", ")?;
+    }
+    f.write_str(dir)
 }

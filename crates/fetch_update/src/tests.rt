@@ -10,6 +10,7 @@ use std::alloc::Global;
 use std::cell::Cell;
 use std::test::Fail;
 
+mod policy;
 mod vectors;
 
 fn id(name: u8) -> ObjectId

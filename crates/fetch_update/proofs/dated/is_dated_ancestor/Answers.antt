@@ -1,7 +1,7 @@
-use Rattle.std.proofs.Common.{◌≡◌, ◌≢◌, ◌+◌, ◌<◌, ◌≤◌, ℕ, true, false, List, ◌∷◌, [], Contains, length, refl, sym, ap, subst, ◌∙◌, arith}
+use Rattle.std.proofs.Common.{◌≡◌, ◌≢◌, ◌≤◌, ℕ, ◌∷◌, [], Contains, refl, sym, subst, ◌∙◌, arith}
 use Rattle.fetch_store.specs.declared.id.ObjectId.{ObjectId}
-use Rattle.fetch_update.specs.Dated.{parents_at, seconds_at, IsPathAbove, HasDatedPath, commit_count, link_count}
-use Rattle.fetch_update.specs.Walks.{State, state, has, IsDated, Grows, room, work}
+use Rattle.fetch_update.specs.Dated.{parents_at, seconds_at, HasDatedPath}
+use Rattle.fetch_update.specs.Walks.{State, state, Grows}
 use Rattle.fetch_update.proofs.Paths.{alone, extended, last_commit, no_path, begun, next, ended, popped_room, first_room, taken, reads_end}
 use Rattle.fetch_update.proofs.dated.is_dated_ancestor.Goals as goal
 

@@ -1,4 +1,4 @@
-use Rattle.std.proofs.Common.{◌≡◌, ◌≢◌, ◌+◌, ◌≤◌}
+use Rattle.std.proofs.Common.{◌≡◌, ◌+◌, ◌≤◌}
 use Rattle.fetch_update.specs.Dated.{seconds_at, commit_count, link_count}
 use Rattle.fetch_update.specs.Walks.{state, room, work}
 use Rattle.fetch_update.proofs.Paths.{IsWalk}

@@ -1,12 +1,10 @@
-use Rattle.std.proofs.Common.{◌≡◌, ◌+◌, ◌≤◌, ℕ, Bool, true, false, not, List, [], ◌∷◌, Option, Some, None, refl, sym, ap, subst, ◌∙◌, arith}
-use Rattle.std.specs.BTreeSet.{BTreeSet}
-use Rattle.std.specs.Option.{option_map}
+use Rattle.std.proofs.Common.{◌≡◌, ◌+◌, ◌≤◌, ℕ, List, [], ◌∷◌, refl, sym, subst, arith}
 use Rattle.fetch_store.specs.declared.id.ObjectId.{ObjectId}
-use Rattle.fetch_store.specs.Graph.{Graph, Node}
+use Rattle.fetch_store.specs.Graph.{Node}
 use Rattle.fetch_update.specs.Dated.{commit_at, seconds_in}
-use Rattle.fetch_update.specs.Walks.{State, state, has, Grows, Keeps, room, work}
+use Rattle.fetch_update.specs.Walks.{State, state, Grows, Keeps, room, work}
 use Rattle.fetch_update.proofs.Seen.{Added, added_new}
-use Rattle.fetch_update.proofs.Visits.{grows_self, grows_none, grows_kept, room_none, room_read, room_kept, either_way, when_fine, some_of, none_of}
+use Rattle.fetch_update.proofs.Visits.{grows_none, grows_kept, room_none, room_read, room_kept, either_way, when_fine, some_of, none_of}
 use Rattle.fetch_update.proofs.walk.Walk.discover.Goals as goal
 
 at_one_more : (before now a b : ℕ) → now ≡ before + 1 → 1 + b ≤ a → now + b ≤ before + a

@@ -1,6 +1,5 @@
-use Rattle.std.proofs.Common.{◌≡◌, ◌≢◌, ◌+◌, ◌<◌, ◌≤◌, true, false, List, ◌∷◌, [], Some, length, Contains, sym, subst, ◌∙◌, arith}
+use Rattle.std.proofs.Common.{◌≡◌, ◌≢◌, ◌<◌, true, ◌∷◌, [], Some, length, sym, subst, ◌∙◌, arith}
 use Rattle.std.specs.List.{slice_get}
-use Rattle.fetch_store.specs.declared.id.ObjectId.{ObjectId}
 use Rattle.fetch_update.specs.Dated.{parents_at}
 use Rattle.fetch_update.specs.Walks.{State, state, has, Grows}
 use Rattle.fetch_update.proofs.Expansions.{grows_then, first_more, past, all_first, within, Contains-at}
