@@ -7,3 +7,6 @@ pub mod Choosing
 pub mod Ranking
 pub mod Queueing
 pub mod Walks
+pub mod Nexts
+pub mod Taking
+pub mod Pairing

@@ -3,7 +3,7 @@ use Rattle.std.specs.Prelude.{◌≡◌, ℕ, zero, suc, ◌+◌, ◌-◌, ◌*�
 use Rattle.std.specs.FinMap as map
 use Rattle.std.specs.FinSet as set
 use Rattle.std.specs.List.{list_any, list_all, flat_map}
-use Rattle.std.specs.Option.{option_map_or}
+use Rattle.std.specs.Option.{option_map_or, option_to_list}
 use Rattle.std.specs.Ordering.{eq_by_cmp, is_lt}
 use Rattle.fetch_store.specs.declared.id.ObjectId.{ObjectId}
 use Rattle.fetch_store.specs.Graph.{Graph}
@@ -19,6 +19,18 @@ pub record Negotiation : Type 0 where
   pub border : set.FinSet id_cmp
   pub taken : List ObjectId
   pub acknowledged : List ObjectId
+
+-- the negotiation before its first commit
+abbrev pub started : List ObjectId → set.FinSet id_cmp → Negotiation
+started tips border = record { tips = tips; border = border; taken = []; acknowledged = [] }
+
+-- the negotiation once a commit was taken, if there is one
+abbrev pub taking : Negotiation → Option ObjectId → Negotiation
+taking n next = record n { taken = n.taken ++ option_to_list next }
+
+-- the negotiation once an id was acknowledged
+abbrev pub acknowledging : Negotiation → ObjectId → Negotiation
+acknowledging n id = record n { acknowledged = n.acknowledged ++ id ∷ [] }
 
 -- the tips, and the parents of the commits taken
 abbrev pub candidates : Graph → Negotiation → List ObjectId

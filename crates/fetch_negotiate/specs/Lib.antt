@@ -10,3 +10,6 @@ pub mod Ancestors
 pub mod Haves
 pub mod Exact
 pub mod Walking
+pub mod Kept
+pub mod Skips
+pub mod Paired

@@ -58,3 +58,7 @@ pub record AreDone (k : Read) (commits ids : List ObjectId) : Type 0 where
 pub record Extends (xs ys : List ObjectId) : Type 0 where
   pub more : List ObjectId
   pub is : ys ≡ xs ++ more
+
+-- The list has what the other has.
+pub record Covers (xs ys : List ObjectId) : Type 0 where
+  pub stays : (q : ObjectId) → has xs q ≡ true → has ys q ≡ true

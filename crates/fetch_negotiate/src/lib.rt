@@ -4,15 +4,19 @@
 mod algorithm;
 mod commits;
 mod common;
+mod consecutive;
 mod line;
 mod links;
 mod negotiator;
 mod once;
 mod request;
+mod skip;
+mod skips;
 mod walk;
 mod wanted;
 
 pub use algorithm::{Algorithm, Depth, Round, Shallow};
+pub use consecutive::Consecutive;
 pub use negotiator::Negotiator;
 pub use request::request_of;
 pub use wanted::wants;
