@@ -146,7 +146,7 @@ module _ (g : Graph) (border : set.FinSet id_cmp) where
           (λ vy. joined s.0 (through w v y e s.1 vy))
           (λ vwy. joined s.0 (both (R v w) (R w y) vwy).1) q) p
 
-  stored_is_key : (x : ObjectId) → is_some (commit_of g x) ≡ true → has (finmap.keys g) x ≡ true
+  pub stored_is_key : (x : ObjectId) → is_some (commit_of g x) ≡ true → has (finmap.keys g) x ≡ true
   unfolding commit_of
   stored_is_key x h = sym (finmap.contains_key-keys g x) ∙ node (finmap.get g x) h
     where

@@ -10,3 +10,5 @@ pub mod Walks
 pub mod Nexts
 pub mod Taking
 pub mod Pairing
+pub mod Counting
+pub mod Handing

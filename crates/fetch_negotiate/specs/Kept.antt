@@ -26,3 +26,13 @@ coded_negotiation =
 
 abbrev pub coded_kept : Coded Kept
 coded_kept = code_by (Known × Negotiation) (coded× coded_known coded_negotiation) (λ k. (k.known, k.so_far)) (λ p. record { known = p.0; so_far = p.1 }) (λ _. refl)
+
+-- the same, and the commits that were offered, in order
+pub record KeptOffers : Type 0 where
+  pub known : Known
+  pub so_far : Negotiation
+  pub offered : List ObjectId
+
+abbrev pub coded_offers : Coded KeptOffers
+coded_offers =
+    code_by (Known × (Negotiation × List ObjectId)) (coded× coded_known (coded× coded_negotiation (coded_list coded_id))) (λ k. (k.known, (k.so_far, k.offered))) (λ p. record { known = p.0; so_far = p.1.0; offered = p.1.1 }) (λ _. refl)

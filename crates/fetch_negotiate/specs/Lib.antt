@@ -13,3 +13,4 @@ pub mod Walking
 pub mod Kept
 pub mod Skips
 pub mod Paired
+pub mod Skipped

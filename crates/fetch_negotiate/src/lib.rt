@@ -11,6 +11,7 @@ mod negotiator;
 mod once;
 mod request;
 mod skip;
+mod skipping;
 mod skips;
 mod walk;
 mod wanted;
@@ -19,6 +20,7 @@ pub use algorithm::{Algorithm, Depth, Round, Shallow};
 pub use consecutive::Consecutive;
 pub use negotiator::Negotiator;
 pub use request::request_of;
+pub use skipping::Skipping;
 pub use wanted::wants;
 
 #[cfg(test)]

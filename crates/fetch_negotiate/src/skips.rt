@@ -90,6 +90,17 @@ fn enter_next(skips: &mut Skips) -> Result<(), NoMemory>
     Ok(())
 }
 
+/// Makes room for so many more pairs.
+pub(crate) fn make_room(skips: &mut Skips, count: usize) -> Result<(), NoMemory>
+    requires { IsPaired skips.old }
+    ensures paired { IsPaired skips.new }
+    ensures handed { skips.new.handed.items ≡ skips.old.handed.items }
+    ensures room { OnOk result (vec_len skips.new.handed + count ≤ vec_capacity skips.new.handed) }
+{
+    skips.handed.reserve(count)?;
+    Ok(())
+}
+
 /// Hands a pair to commits, for which there is room.
 pub(crate) fn hand(skips: &mut Skips, ids: &[ObjectId], skip: Skip)
     requires paired { IsPaired skips.old }

@@ -5,7 +5,7 @@ ghost use Rattle.std.specs.FinMap as map;
 ghost use Rattle.fetch_negotiate.specs.Commits.{has};
 ghost use Rattle.fetch_negotiate.specs.Haves.{started, taking, acknowledging, next_taken};
 ghost use Rattle.fetch_negotiate.specs.Queues.{IsChosen, IsNone};
-ghost use Rattle.fetch_negotiate.specs.Reading.{IsTold, read_in};
+ghost use Rattle.fetch_negotiate.specs.Reading.{Grows, IsTold, read_in};
 ghost use Rattle.fetch_negotiate.specs.Walking.{IsWalk, IsReady, IsRead, so_far_in, known_in};
 
 use crate::commits::Table;
@@ -50,6 +50,7 @@ pub(crate) fn come_next<O: Objects>(
     requires told { IsTold (read_in walk.old.table) (O.graph objects.now) }
     ensures walk { IsWalk walk.new }
     ensures told { IsTold (read_in walk.new.table) (O.graph objects.now) }
+    ensures grows { Grows (read_in walk.old.table) (read_in walk.new.table) }
     ensures so_far { so_far_in walk.new ≡ so_far_in walk.old }
     ensures next { IfOk result (λ next. next ≡ next_taken (O.graph objects.now) (so_far_in walk.old)) }
     ensures read { IfOk result (λ next. IfSome next (IsRead walk.new)) }
@@ -117,6 +118,7 @@ fn prepare<O: Objects>(walk: &mut Walk, alloc: Global, objects: &O) -> Result<()
     requires told { IsTold (read_in walk.old.table) (O.graph objects.now) }
     ensures walk { IsWalk walk.new }
     ensures told { IsTold (read_in walk.new.table) (O.graph objects.now) }
+    ensures grows { Grows (read_in walk.old.table) (read_in walk.new.table) }
     ensures so_far { so_far_in walk.new ≡ so_far_in walk.old }
     ensures ready { OnOk result (IsReady (O.graph objects.now) walk.new) }
 {

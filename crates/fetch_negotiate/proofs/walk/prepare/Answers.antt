@@ -1,6 +1,7 @@
 use Rattle.std.proofs.Common.{refl}
 use Rattle.fetch_negotiate.specs.Reading.{read_in}
 use Rattle.fetch_negotiate.proofs.Commons.{common_in_grown}
+use Rattle.fetch_negotiate.proofs.Growing.{grows_then}
 use Rattle.fetch_negotiate.proofs.Taking.{line_after, so_far_same}
 use Rattle.fetch_negotiate.proofs.walk.prepare.Goals as goal
 
@@ -33,3 +34,6 @@ returns-clause-so_far g c =
     let w = c.args.walk.now in
     let e = c.enter.ensures in
     so_far_same w (record w { common = c.settle.new.common; table = c.enter.new.table; line = c.enter.new.line }) refl e.tips e.candidates e.taken c.in_ok-settle.ensures.acknowledged
+
+pub returns-clause-grows : goal.returns-clause-grows
+returns-clause-grows g c = grows_then (read_in c.args.walk.now.table) (read_in c.settle.new.table) (read_in c.enter.new.table) c.in_ok-settle.ensures.grows c.enter.ensures.grows
