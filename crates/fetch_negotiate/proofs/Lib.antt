@@ -12,3 +12,4 @@ pub mod Taking
 pub mod Pairing
 pub mod Counting
 pub mod Handing
+pub mod Tipping

@@ -14,3 +14,5 @@ pub mod Kept
 pub mod Skips
 pub mod Paired
 pub mod Skipped
+pub mod Any
+pub mod Tips
