@@ -13,3 +13,5 @@ pub mod Pairing
 pub mod Counting
 pub mod Handing
 pub mod Tipping
+pub mod Unread
+pub mod Descent

@@ -40,10 +40,6 @@ Known = map.FinMap id_cmp (Option Commit)
 abbrev pub coded_known : Coded Known
 coded_known = map.code {R = id_cmp} coded_id (coded_option coded_commit)
 
--- The graph tells each id that was read as before.
-abbrev pub IsAsBefore : Known → Graph → Type 0
-IsAsBefore known g = (id : ObjectId) (found : Option Commit) → map.get known id ≡ Some found → commit_of g id ≡ found
-
 -- the parents of an id's node
 abbrev pub parents_in : Graph → ObjectId → List ObjectId
 parents_in g id = option_map_or (λ (n : Node). n.parents) (map.get g id) []

@@ -6,6 +6,7 @@ mod any;
 mod commits;
 mod common;
 mod consecutive;
+pub mod laws;
 mod line;
 mod links;
 mod negotiator;
