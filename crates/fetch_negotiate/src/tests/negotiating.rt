@@ -171,24 +171,24 @@ fn edit(alloc: Global, name: &[u8], new: Target) -> Result<RefEdit, Fail> {
     })
 }
 
-/// Tags of tags lead to commits, a missing object to none, and each commit is one tip.
-#[test]
-fn references_peel_to_tips(rt: HostRuntime) -> Result<(), Fail> {
-    let alloc = rt.alloc();
+/// Two commits, a tag of one, and a tag of that tag.
+fn tagged(alloc: Global) -> Result<Store, Fail> {
     let mut store = Store::new(alloc, Kind::Sha1);
     add(alloc, &mut store, 2, 5, &[])?;
     add(alloc, &mut store, 1, 6, &[2])?;
     add_tag(alloc, &mut store, 8, 2, b"commit")?;
     add_tag(alloc, &mut store, 9, 8, b"tag")?;
+    Ok(store)
+}
+
+fn refs(alloc: Global) -> Result<Refs, Fail> {
     let mut refs = Refs::new(alloc, Kind::Sha1);
+    let mut edits = Vec::new(alloc);
     let main = FullName::new(alloc, b"refs/heads/main")?;
-    let edits = vec![in alloc;
-        edit(alloc, b"HEAD", Target::Symbolic(main))?,
-        edit(alloc, b"refs/heads/main", Target::Object(id(1)))?,
-        edit(alloc, b"refs/heads/missing", Target::Object(id(7)))?,
-        edit(alloc, b"refs/tags/v1", Target::Object(id(8)))?,
-        edit(alloc, b"refs/tags/v2", Target::Object(id(9)))?,
-    ]?;
+    edits.push(edit(alloc, b"HEAD", Target::Symbolic(main))?)?;
+    edits.push(edit(alloc, b"refs/heads/main", Target::Object(id(1)))?)?;
+    edits.push(edit(alloc, b"refs/heads/missing", Target::Object(id(7)))?)?;
+    edits.push(edit(alloc, b"refs/tags/v2", Target::Object(id(9)))?)?;
     let committer = Signature {
         name: Text::new(alloc, b"A")?,
         email: Text::new(alloc, b"a@x")?,
@@ -197,6 +197,15 @@ fn references_peel_to_tips(rt: HostRuntime) -> Result<(), Fail> {
     };
     refs.prepare(edits.as_slice(), &committer, true, PackedRefs::Never)?
         .commit();
+    Ok(refs)
+}
+
+/// Tags of tags lead to commits, a missing object to none, and each commit is one tip.
+#[test]
+fn references_peel_to_tips(rt: HostRuntime) -> Result<(), Fail> {
+    let alloc = rt.alloc();
+    let store = tagged(alloc)?;
+    let refs = refs(alloc)?;
     let tips = tips(alloc, &refs, &store)?;
     assert!(rt; tips.as_slice() == [id(1), id(2)].as_slice());
     Ok(())
