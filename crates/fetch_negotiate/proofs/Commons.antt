@@ -1,5 +1,5 @@
 -- The marks of common commits, step by step.
-use Rattle.std.proofs.Common.{◌≡◌, ℕ, zero, suc, ◌+◌, ◌<◌, ◌≤◌, Bool, true, false, cond, not, List, [], ◌∷◌, ◌++◌, take, get_or, length, Option, Some, None, true≢false, refl, sym, ap, subst, ◌∙◌, append_assoc, length-append, arith}
+use Rattle.std.proofs.Common.{◌≡◌, ℕ, zero, suc, ◌+◌, ◌<◌, ◌≤◌, Bool, true, false, cond, List, [], ◌∷◌, ◌++◌, take, get_or, length, Option, Some, true≢false, refl, sym, ap, subst, ◌∙◌, append_assoc, length-append, arith}
 use Rattle.std.specs.Prelude.{is_some, ◌||◌}
 use Rattle.std.specs.BTreeSet.{BTreeSet}
 use Rattle.std.specs.FinSet as set
@@ -13,11 +13,10 @@ use Rattle.fetch_store.proofs.Finds.{ties}
 use Rattle.fetch_negotiate.specs.Commits.{has}
 use Rattle.fetch_store.specs.Graph.{Graph}
 use Rattle.fetch_negotiate.specs.declared.common.Common.{Common}
-use Rattle.fetch_negotiate.specs.Commits.{commit_of}
 use Rattle.fetch_negotiate.specs.declared.commits.Commit.{Commit}
 use Rattle.fetch_negotiate.specs.Reading.{Read, Grows, IsTold, commit_at, links_at}
 use Rattle.std.specs.Option.{option_and_then}
-use Rattle.fetch_negotiate.specs.Sharing.{IsMarked, IsDone, IsReached, IsCommon, IsSettled, AreDone, IsWithin, AreWithin, IsCommonIn, Extends, Covers, in_set}
+use Rattle.fetch_negotiate.specs.Sharing.{IsMarked, IsDone, IsReached, IsCommon, IsSettled, AreDone, IsWithin, AreWithin, IsCommonIn, Extends, Covers}
 use Rattle.fetch_negotiate.proofs.Growing.{reached_grown, done_grown, commit_stays, links_grown, commit_from_link, grows_then, grows_none}
 use Rattle.fetch_negotiate.proofs.Onces.{Adds, has_push, grown}
 

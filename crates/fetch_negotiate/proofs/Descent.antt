@@ -8,8 +8,7 @@ use Rattle.fetch_store.specs.declared.id.ObjectId.{ObjectId}
 use Rattle.fetch_store.specs.Graph.{Graph}
 use Rattle.fetch_store.specs.Stores.{id_cmp}
 use Rattle.fetch_store.proofs.Finds.{ties}
-use Rattle.fetch_negotiate.specs.Ancestors.{parents_of, leads, is_ancestor, IsAncestor, IsLine, last_of}
-use Rattle.fetch_negotiate.specs.Commits.{has}
+use Rattle.fetch_negotiate.specs.Ancestors.{leads, is_ancestor, IsAncestor, IsLine, last_of}
 use Rattle.fetch_negotiate.proofs.Choosing.{ancestor_step}
 
 either : (P : Type 0) (a b : Bool) → (a ≡ true → P) → (b ≡ true → P) → (a || b) ≡ true → P

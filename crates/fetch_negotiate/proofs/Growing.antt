@@ -1,6 +1,6 @@
 -- What was read stays as more is read.
-use Rattle.std.proofs.Common.{◌≡◌, ℕ, Bool, true, false, cond, List, [], ◌∷◌, Option, Some, None, true≢false, refl, sym, ap, subst, ◌∙◌}
-use Rattle.std.specs.Prelude.{is_some, ◌||◌}
+use Rattle.std.proofs.Common.{◌≡◌, Bool, true, false, cond, List, [], ◌∷◌, Option, Some, None, true≢false, refl, sym, ap, subst, ◌∙◌}
+use Rattle.std.specs.Prelude.{is_some}
 use Rattle.std.specs.BTreeMap.{is_at}
 use Rattle.std.specs.FinMap as map
 use Rattle.std.specs.FinMap.{find, get-from_entries}
@@ -13,7 +13,7 @@ use Rattle.fetch_store.specs.Graph.{Graph}
 use Rattle.fetch_store.specs.Stores.{id_cmp}
 use Rattle.fetch_store.proofs.Ids.{id_cmp_total}
 use Rattle.fetch_negotiate.specs.declared.commits.Commit.{Commit}
-use Rattle.fetch_negotiate.specs.Commits.{has, commit_of}
+use Rattle.fetch_negotiate.specs.Commits.{has}
 use Rattle.fetch_negotiate.specs.Reading.{Read, Table, Grows, IsTold, commit_at, links_at, read_in}
 use Rattle.fetch_negotiate.specs.Kept.{read_by}
 use Rattle.fetch_negotiate.specs.Sharing.{IsDone, IsReached}

@@ -3,7 +3,7 @@ use Rattle.std.proofs.Common.{◌≡◌, ℕ, ◌<◌, ◌≤◌, Bool, true, fa
 use Rattle.std.specs.Prelude.{is_some, IfSome, IfOk, Result, Ok, Err, ◌||◌, ◌&&◌, ◌==◌, nat_lt, find}
 use Rattle.std.specs.BTreeSet.{BTreeSet}
 use Rattle.std.specs.FinSet as set
-use Rattle.std.specs.List.{flat_map, list_any, list_all}
+use Rattle.std.specs.List.{list_all}
 use Rattle.std.specs.Option.{option_map_or}
 use Rattle.std.specs.Ordering.{eq_by_cmp, is_lt, is_gt, nat_cmp, ordering_then, ordering_reverse, MatchOrdering}
 use Rattle.std.specs.Cmp.{Equal-is, ranks}
@@ -22,7 +22,7 @@ use Rattle.fetch_negotiate.specs.Ancestors.{links_of}
 use Rattle.fetch_negotiate.specs.Commits.{has, commit_of}
 use Rattle.fetch_negotiate.specs.Exact.{IsExact}
 use Rattle.fetch_negotiate.specs.Haves.{Negotiation, candidates, is_common, is_open, seconds_of, comes_before, first_among, next_taken}
-use Rattle.fetch_negotiate.specs.Queues.{Rank, IsEntered, IsLine, IsChosen, IsNone, in_queue, rank_at, rank_cmp, seconds_at}
+use Rattle.fetch_negotiate.specs.Queues.{Rank, IsEntered, IsLine, IsChosen, IsNone, in_queue, rank_at, seconds_at}
 use Rattle.fetch_negotiate.specs.Reading.{Read, IsTold, commit_at, links_at}
 use Rattle.fetch_negotiate.proofs.Choosing.{told_at, links_told}
 use Rattle.fetch_negotiate.proofs.Commons.{take_all}

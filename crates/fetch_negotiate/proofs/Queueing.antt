@@ -1,5 +1,5 @@
 -- The line of candidates, step by step.
-use Rattle.std.proofs.Common.{◌≡◌, ℕ, zero, suc, ◌+◌, ◌<◌, ◌≤◌, Bool, true, false, cond, not, List, [], ◌∷◌, ◌++◌, take, get_or, length, Option, Some, None, true≢false, ⊎_elim, refl, sym, ap, subst, ◌∙◌, append_assoc, length-append, arith}
+use Rattle.std.proofs.Common.{◌≡◌, ℕ, ◌+◌, ◌<◌, Bool, true, false, List, [], ◌∷◌, ◌++◌, take, get_or, length, Option, Some, true≢false, ⊎_elim, refl, sym, ap, subst, ◌∙◌, append_assoc, length-append, arith}
 use Rattle.std.specs.Prelude.{is_some, ◌||◌}
 use Rattle.std.specs.BTreeSet.{BTreeSet}
 use Rattle.std.specs.FinSet as set
@@ -19,7 +19,7 @@ use Rattle.fetch_negotiate.specs.declared.line.Line.{Line}
 use Rattle.fetch_negotiate.specs.Commits.{has}
 use Rattle.fetch_negotiate.specs.Reading.{Read, Grows, IsTold, commit_at, links_at}
 use Rattle.fetch_negotiate.specs.Sharing.{IsMarked, Covers}
-use Rattle.fetch_negotiate.specs.Queues.{Rank, IsEntered, IsQueued, IsLine, IsLineIn, IsChosen, in_queue, rank_at, rank_cmp, seconds_at}
+use Rattle.fetch_negotiate.specs.Queues.{Rank, IsEntered, IsQueued, IsLine, IsLineIn, in_queue, rank_at, rank_cmp}
 use Rattle.fetch_negotiate.proofs.Growing.{grown_at, commit_grown, commit_stays, links_grown, read_of, grows_then, grows_none}
 use Rattle.fetch_negotiate.proofs.Onces.{has_push, grown}
 use Rattle.fetch_negotiate.proofs.Commons.{split, has_append, has_at, found_at}

@@ -1,21 +1,17 @@
 -- A commit is taken.
-use Rattle.std.proofs.Common.{◌≡◌, ℕ, ◌≤◌, true, List, [], ◌∷◌, ◌++◌, take, length, Option, Some, None, refl, sym, ap, subst, ◌∙◌, arith}
+use Rattle.std.proofs.Common.{◌≡◌, true, List, [], ◌∷◌, ◌++◌, take, length, Option, Some, None, sym, subst, arith}
 use Rattle.std.specs.Prelude.{is_some, IfSome, IfNone}
 use Rattle.std.specs.BTreeSet.{BTreeSet}
-use Rattle.std.specs.BTreeMap.{is_at}
 use Rattle.std.specs.FinSet as set
-use Rattle.std.specs.List.{list_any}
-use Rattle.std.proofs.lemmas.List.{take-append-le}
 use Rattle.fetch_store.specs.declared.id.ObjectId.{ObjectId}
 use Rattle.fetch_store.specs.Graph.{Graph}
 use Rattle.fetch_store.specs.Stores.{id_cmp}
 use Rattle.fetch_negotiate.specs.declared.common.Common.{Common}
 use Rattle.fetch_negotiate.specs.declared.line.Line.{Line}
 use Rattle.fetch_negotiate.specs.declared.walk.Walk.{Walk}
-use Rattle.fetch_negotiate.specs.Commits.{has}
 use Rattle.fetch_negotiate.specs.Exact.{IsExact}
 use Rattle.fetch_negotiate.specs.Haves.{Negotiation, next_taken}
-use Rattle.fetch_negotiate.specs.Queues.{Rank, IsLine, IsLineIn, IsChosen, IsNone, rank_at, tips_in}
+use Rattle.fetch_negotiate.specs.Queues.{IsLine, IsLineIn, IsChosen, IsNone, rank_at}
 use Rattle.fetch_negotiate.specs.Reading.{Read, Grows, IsTold, commit_at, links_at, read_in}
 use Rattle.fetch_negotiate.specs.Sharing.{IsMarked, Covers}
 use Rattle.fetch_negotiate.specs.Walking.{IsWalk, IsReady, IsRead, so_far_in}

@@ -1,5 +1,5 @@
 -- What the negotiator of an algorithm tells.
-use Rattle.std.specs.Prelude.{List, [], Option, None}
+use Rattle.std.specs.Prelude.{List, [], None}
 use Rattle.std.specs.FinSet as set
 use Rattle.fetch_store.specs.declared.id.ObjectId.{ObjectId}
 use Rattle.fetch_store.specs.Graph.{Graph}

@@ -1,6 +1,5 @@
 -- What a fetch says that it has.
-use Rattle.std.specs.Prelude.{◌≡◌, ℕ, zero, suc, ◌+◌, ◌-◌, ◌*◌, ◌/◌, ◌^◌, min, Bool, true, false, not, ◌&&◌, ◌||◌, ◌==◌, nat_lt, List, [], ◌∷◌, ◌++◌, fold, Option, Some, None, is_some, unwrap_or, filter, find, if◌then◌else◌}
-use Rattle.std.specs.FinMap as map
+use Rattle.std.specs.Prelude.{ℕ, Bool, not, ◌&&◌, ◌||◌, ◌==◌, nat_lt, List, [], ◌∷◌, ◌++◌, Option, is_some, filter, find}
 use Rattle.std.specs.FinSet as set
 use Rattle.std.specs.List.{list_any, list_all, flat_map}
 use Rattle.std.specs.Option.{option_map_or, option_to_list}
@@ -10,7 +9,7 @@ use Rattle.fetch_store.specs.Graph.{Graph}
 use Rattle.fetch_store.specs.Stores.{id_cmp}
 use Rattle.fetch_negotiate.specs.declared.commits.Commit.{Commit}
 use Rattle.fetch_negotiate.specs.Commits.{has, commit_of}
-use Rattle.fetch_negotiate.specs.Ancestors.{links_of, parents_of, is_ancestor}
+use Rattle.fetch_negotiate.specs.Ancestors.{links_of, is_ancestor}
 
 -- A negotiation: the tips and the border that it began with, the commits taken so far and the ids that were
 -- acknowledged, both in order.

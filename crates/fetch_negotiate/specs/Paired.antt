@@ -1,5 +1,5 @@
 -- What the pairs of commits keep, step by step.
-use Rattle.std.specs.Prelude.{◌≡◌, ℕ, ◌≤◌, length, take, Option, unwrap_or}
+use Rattle.std.specs.Prelude.{◌≡◌, ℕ, ◌≤◌, length, take, unwrap_or}
 use Rattle.std.specs.BTreeMap as tree
 use Rattle.std.specs.BTreeMap.{BTreeMap}
 use Rattle.fetch_store.specs.declared.id.ObjectId.{ObjectId}

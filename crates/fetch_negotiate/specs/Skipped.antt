@@ -1,11 +1,9 @@
 -- What a negotiation that passes commits over keeps.
-use Rattle.std.specs.Prelude.{◌≡◌, Bool, List, refl}
-use Rattle.std.specs.Coded.{Coded, code_by, coded_list, coded×}
+use Rattle.std.specs.Prelude.{◌≡◌, Bool, List}
 use Rattle.std.specs.FinSet as set
 use Rattle.std.specs.List.{list_any}
 use Rattle.std.specs.Prelude.{is_some}
 use Rattle.fetch_store.specs.declared.id.ObjectId.{ObjectId}
-use Rattle.fetch_store.specs.Codes.{coded_id}
 use Rattle.fetch_store.specs.Graph.{Graph}
 use Rattle.fetch_store.specs.Stores.{id_cmp}
 use Rattle.fetch_negotiate.specs.declared.skip.Skip.{Skip}
@@ -14,7 +12,6 @@ use Rattle.fetch_negotiate.specs.declared.walk.Walk.{Walk}
 use Rattle.fetch_negotiate.specs.Commits.{commit_of}
 use Rattle.fetch_negotiate.specs.Paired.{IsPaired}
 use Rattle.fetch_negotiate.specs.Reading.{Read, IsTold, read_in}
-use Rattle.fetch_negotiate.specs.Sharing.{Covers}
 use Rattle.fetch_negotiate.specs.Skips.{is_offered, has_parents, pairs_of}
 use Rattle.fetch_negotiate.specs.Walking.{IsWalk, so_far_in}
 

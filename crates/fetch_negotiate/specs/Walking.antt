@@ -1,10 +1,8 @@
 -- What a walk keeps.
-use Rattle.std.specs.Prelude.{◌≡◌, ◌≤◌, true, List, length, Option, is_some}
+use Rattle.std.specs.Prelude.{◌≡◌, ◌≤◌, true, length, is_some}
 use Rattle.std.specs.FinMap as map
 use Rattle.fetch_store.specs.declared.id.ObjectId.{ObjectId}
 use Rattle.fetch_store.specs.Graph.{Graph}
-use Rattle.fetch_store.specs.Stores.{id_cmp}
-use Rattle.fetch_negotiate.specs.declared.commits.Commit.{Commit}
 use Rattle.fetch_negotiate.specs.declared.walk.Walk.{Walk}
 use Rattle.fetch_negotiate.specs.Commits.{Known}
 use Rattle.fetch_negotiate.specs.Exact.{IsExact}

@@ -1,6 +1,5 @@
-use Rattle.std.proofs.Common.{◌≡◌, true, false, Option, Some, None, refl, sym, ap, ◌∙◌, rules}
-use Rattle.fetch_store.specs.declared.id.ObjectId.{ObjectId}
-use Rattle.fetch_negotiate.specs.Haves.{Negotiation, taking, next_taken}
+use Rattle.std.proofs.Common.{◌≡◌, true, false, Some, None, refl, sym, ap, ◌∙◌, rules}
+use Rattle.fetch_negotiate.specs.Haves.{Negotiation, next_taken}
 use Rattle.fetch_negotiate.specs.Skips.{Offer, offers, next_offered}
 use Rattle.fetch_negotiate.specs.Walking.{so_far_in}
 use Rattle.fetch_negotiate.proofs.Counting.{come_to, ends_none, ends_some, found_next, more_taken, none, passed_over, smaller, some}

@@ -1,5 +1,4 @@
-use Rattle.std.proofs.Common.{◌≡◌, ℕ, true, false, [], ◌∷◌, ◌++◌, ◌-◌, Bool, List, Option, None, map, Some, Bor, sym, ap, ◌∙◌, arith}
-use Rattle.fetch_refs.specs.declared.target.Target.{Target}
+use Rattle.std.proofs.Common.{◌≡◌, ℕ, true, false, [], ◌∷◌, ◌++◌, ◌-◌, Bool, List, None, map, Some, Bor, sym, ap, ◌∙◌, arith}
 use Rattle.fetch_refs.specs.declared.target.Target.TheVariants.{Object, Symbolic}
 use Rattle.fetch_refs.specs.declared.target.TargetRef.{TargetRef}
 use Rattle.fetch_refs.specs.Peeled.{is_met, follow}

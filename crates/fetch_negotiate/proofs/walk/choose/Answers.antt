@@ -1,4 +1,4 @@
-use Rattle.std.proofs.Common.{btree_set_len, sym, ◌∙◌}
+use Rattle.std.proofs.Common.{btree_set_len, ◌∙◌}
 use Rattle.fetch_negotiate.specs.Reading.{read_in}
 use Rattle.fetch_negotiate.proofs.Ranking.{drops, contains_ranked}
 use Rattle.fetch_negotiate.proofs.Taking.{chosen_read}

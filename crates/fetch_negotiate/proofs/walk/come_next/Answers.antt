@@ -1,7 +1,6 @@
 use Rattle.std.proofs.Common.{sym, ap, subst, ◌∙◌}
 use Rattle.fetch_negotiate.specs.Haves.{Negotiation, next_taken}
 use Rattle.fetch_negotiate.specs.Reading.{Table, Grows, IsTold, read_in}
-use Rattle.fetch_negotiate.specs.Walking.{so_far_in}
 use Rattle.fetch_negotiate.proofs.Taking.{so_far_same, ready_same, chosen_next}
 use Rattle.fetch_negotiate.proofs.walk.come_next.Goals as goal
 

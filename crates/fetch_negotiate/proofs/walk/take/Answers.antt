@@ -1,4 +1,3 @@
-use Rattle.fetch_negotiate.specs.Haves.{Negotiation}
 use Rattle.fetch_negotiate.proofs.walk.take.Goals as goal
 
 pub returns-clause-walk : goal.returns-clause-walk
