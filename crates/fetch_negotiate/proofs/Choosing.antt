@@ -1,12 +1,11 @@
 -- What is common and what comes next, as the definitions say.
-use Rattle.std.proofs.Common.{◌≡◌, ℕ, zero, suc, ◌+◌, ◌<◌, ◌≤◌, Bool, true, false, cond, not, List, [], ◌∷◌, ◌++◌, map, filter, take, length, Option, Some, None, true≢false, refl, sym, ap, subst, ◌∙◌, arith}
-use Rattle.std.specs.Prelude.{is_some, ◌||◌, ◌&&◌, ◌==◌, nat_lt, find}
-use Rattle.std.specs.BTreeSet.{BTreeSet}
+use Rattle.std.proofs.Common.{◌≡◌, Bool, true, false, cond, List, [], ◌∷◌, Option, Some, None, true≢false, refl, sym, ap, subst, ◌∙◌}
+use Rattle.std.specs.Prelude.{is_some, ◌||◌, ◌&&◌}
 use Rattle.std.specs.FinMap as finmap
 use Rattle.std.specs.FinSet as set
-use Rattle.std.specs.List.{flat_map, list_any, list_all}
+use Rattle.std.specs.List.{list_any}
 use Rattle.std.specs.Option.{option_and_then, option_map_or}
-use Rattle.std.specs.Ordering.{eq_by_cmp, is_lt, is_gt, is_eq, nat_cmp, ordering_then}
+use Rattle.std.specs.Ordering.{eq_by_cmp}
 use Rattle.fetch_store.specs.declared.id.ObjectId.{ObjectId}
 use Rattle.fetch_store.specs.Graph.{Graph, Node}
 use Rattle.fetch_store.specs.Stores.{id_cmp}
@@ -146,7 +145,7 @@ module _ (g : Graph) (border : set.FinSet id_cmp) where
           (λ vy. joined s.0 (through w v y e s.1 vy))
           (λ vwy. joined s.0 (both (R v w) (R w y) vwy).1) q) p
 
-  stored_is_key : (x : ObjectId) → is_some (commit_of g x) ≡ true → has (finmap.keys g) x ≡ true
+  pub stored_is_key : (x : ObjectId) → is_some (commit_of g x) ≡ true → has (finmap.keys g) x ≡ true
   unfolding commit_of
   stored_is_key x h = sym (finmap.contains_key-keys g x) ∙ node (finmap.get g x) h
     where

@@ -1,5 +1,5 @@
 -- The marks of common commits, step by step.
-use Rattle.std.proofs.Common.{◌≡◌, ℕ, zero, suc, ◌+◌, ◌<◌, ◌≤◌, Bool, true, false, cond, not, List, [], ◌∷◌, ◌++◌, take, get_or, length, Option, Some, None, true≢false, refl, sym, ap, subst, ◌∙◌, append_assoc, length-append, arith}
+use Rattle.std.proofs.Common.{◌≡◌, ℕ, zero, suc, ◌+◌, ◌<◌, ◌≤◌, Bool, true, false, cond, List, [], ◌∷◌, ◌++◌, take, get_or, length, Option, Some, true≢false, refl, sym, ap, subst, ◌∙◌, append_assoc, length-append, arith}
 use Rattle.std.specs.Prelude.{is_some, ◌||◌}
 use Rattle.std.specs.BTreeSet.{BTreeSet}
 use Rattle.std.specs.FinSet as set
@@ -13,11 +13,10 @@ use Rattle.fetch_store.proofs.Finds.{ties}
 use Rattle.fetch_negotiate.specs.Commits.{has}
 use Rattle.fetch_store.specs.Graph.{Graph}
 use Rattle.fetch_negotiate.specs.declared.common.Common.{Common}
-use Rattle.fetch_negotiate.specs.Commits.{commit_of}
 use Rattle.fetch_negotiate.specs.declared.commits.Commit.{Commit}
 use Rattle.fetch_negotiate.specs.Reading.{Read, Grows, IsTold, commit_at, links_at}
 use Rattle.std.specs.Option.{option_and_then}
-use Rattle.fetch_negotiate.specs.Sharing.{IsMarked, IsDone, IsReached, IsCommon, IsSettled, AreDone, IsWithin, AreWithin, IsCommonIn, Extends, in_set}
+use Rattle.fetch_negotiate.specs.Sharing.{IsMarked, IsDone, IsReached, IsCommon, IsSettled, AreDone, IsWithin, AreWithin, IsCommonIn, Extends, Covers}
 use Rattle.fetch_negotiate.proofs.Growing.{reached_grown, done_grown, commit_stays, links_grown, commit_from_link, grows_then, grows_none}
 use Rattle.fetch_negotiate.proofs.Onces.{Adds, has_push, grown}
 
@@ -48,6 +47,12 @@ has_append (x ∷ xs) ys q h = onward (eq_by_cmp id_cmp q x) (has xs q) (has (xs
 pub extended : (xs ys : List ObjectId) → Extends xs ys → (q : ObjectId) → has xs q ≡ true → has ys q ≡ true
 extended xs ys e q h = ap (λ (l : List ObjectId). has l q) e.is ∙ has_append xs e.more q h
 
+pub covers : (xs ys : List ObjectId) → Extends xs ys → Covers xs ys
+covers xs ys e = record { stays = extended xs ys e }
+
+pub covers_none : (xs : List ObjectId) → Covers xs xs
+covers_none xs = record { stays = λ q h. h }
+
 pub extends_none : (xs : List ObjectId) → Extends xs xs
 extends_none xs = record { more = []; is = sym (none xs) }
   where
@@ -72,7 +77,7 @@ has_take (suc n) (x ∷ xs) q h = onward (eq_by_cmp id_cmp q x) (has (take n xs)
 pub has_one : (q : ObjectId) → has (q ∷ []) q ≡ true
 has_one q = or_left (eq_by_cmp id_cmp q q) false (ties q q refl)
 
-take_all : (xs : List ObjectId) (n : ℕ) → length xs ≤ n → take n xs ≡ xs
+pub take_all : (xs : List ObjectId) (n : ℕ) → length xs ≤ n → take n xs ≡ xs
 take_all [] zero h = refl
 take_all [] (suc n) h = refl
 take_all (x ∷ xs) zero h = absurd (omega arith)
@@ -225,6 +230,7 @@ pub record IsSettling (k l : Read) (border : set.FinSet id_cmp) (before now : Co
   pub common : IsCommonIn l border now
   pub told : IsTold l g
   pub grows : Grows k l
+  pub more : Covers before.commits.items now.commits.items
   pub acknowledged : now.acknowledged ≡ before.acknowledged
 
 pub record IsMarkingAll (k l : Read) (border : set.FinSet id_cmp) (before now : Common) (g : Graph) (ids : List ObjectId) : Type 0 where
@@ -248,7 +254,7 @@ done_further k l commits more ids i d id lt is grows extends before here =
     }
 
 -- ---- the parts of a record that stay
-moved : (k : Read) (border : set.FinSet id_cmp) (a a' : List ObjectId) (s s' : ℕ) (m m' : List ObjectId) (e e' : ℕ) → a' ≡ a → s' ≡ s → m' ≡ m → e' ≡ e → IsCommon k border a s m e → IsCommon k border a' s' m' e'
+pub moved : (k : Read) (border : set.FinSet id_cmp) (a a' : List ObjectId) (s s' : ℕ) (m m' : List ObjectId) (e e' : ℕ) → a' ≡ a → s' ≡ s → m' ≡ m → e' ≡ e → IsCommon k border a s m e → IsCommon k border a' s' m' e'
 moved k border a a' s s' m m' e e' pa ps pm pe c =
     subst (λ (x : List ObjectId). IsCommon k border x s' m' e') (sym pa)
     (subst (λ (x : ℕ). IsCommon k border a x m' e') (sym ps) (subst (λ (x : List ObjectId). IsCommon k border a s x e') (sym pm) (subst (λ (x : ℕ). IsCommon k border a s m x) (sym pe) c)))
@@ -302,11 +308,11 @@ within_at k l border before now g ids done i d lt so_far within =
     (within_grown k l border before.acknowledged.items (get_or ids i d) so_far.grows (within.each (get_or ids i d) (has_at ids i d lt)))
 
 pub settling_none : (k : Read) (border : set.FinSet id_cmp) (c : Common) (g : Graph) → IsCommonIn k border c → IsTold k g → IsSettling k k border c c g
-settling_none k border c g common told = record { common = common; told = told; grows = grows_none k; acknowledged = refl }
+settling_none k border c g common told = record { common = common; told = told; grows = grows_none k; more = covers_none c.commits.items; acknowledged = refl }
 
-pub settling_further : (k l m : Read) (border : set.FinSet id_cmp) (before now after : Common) (g : Graph) → IsSettling k l border before now g → IsCommonIn m border after → IsTold m g → Grows l m → after.acknowledged ≡ now.acknowledged → IsSettling k m border before after g
-settling_further k l m border before now after g so_far common told grows pa =
-    record { common = common; told = told; grows = grows_then k l m so_far.grows grows; acknowledged = pa ∙ so_far.acknowledged }
+pub settling_further : (k l m : Read) (border : set.FinSet id_cmp) (before now after : Common) (g : Graph) → IsSettling k l border before now g → IsCommonIn m border after → IsTold m g → Grows l m → Covers now.commits.items after.commits.items → after.acknowledged ≡ now.acknowledged → IsSettling k m border before after g
+settling_further k l m border before now after g so_far common told grows more pa =
+    record { common = common; told = told; grows = grows_then k l m so_far.grows grows; more = record { stays = λ q h. more.stays q (so_far.more.stays q h) }; acknowledged = pa ∙ so_far.acknowledged }
 
 pub whole_in : (k : Read) (border : set.FinSet id_cmp) (c : Common) → length c.acknowledged.items ≤ c.settled → length c.commits.items ≤ c.closed → IsCommonIn k border c → IsSettled k border c.acknowledged.items c.commits.items
 whole_in k border c all each is = common_whole k border c.acknowledged.items c.settled c.commits.items c.closed all each is.1
@@ -348,3 +354,16 @@ within_next k border c x ids lt at links is =
 pub within_this : (k : Read) (border : set.FinSet id_cmp) (c : Common) (x : ObjectId) → c.settled < length c.acknowledged.items → x ≡ get_or c.acknowledged.items c.settled x → AreWithin k border c.acknowledged.items (x ∷ [])
 within_this k border c x lt at =
     within_one k border c.acknowledged.items x (within_acknowledged k border c.acknowledged.items x (ap (has c.acknowledged.items) at ∙ has_at c.acknowledged.items c.settled x lt))
+
+-- one more id is acknowledged
+pub common_acknowledged : (k : Read) (border : set.FinSet id_cmp) (acknowledged : List ObjectId) (settled : ℕ) (commits : List ObjectId) (closed : ℕ) (id : ObjectId)
+    → IsCommon k border acknowledged settled commits closed → IsCommon k border (acknowledged ++ id ∷ []) settled commits closed
+common_acknowledged k border acknowledged settled commits closed id c =
+    record {
+      settled_in = omega (arith, c.settled_in, length-append acknowledged (id ∷ []));
+      closed_in = c.closed_in;
+      stored = c.stored;
+      reached = λ q h. record { holds = λ P start step. (c.reached q h).holds P (λ a e. start a (has_append acknowledged (id ∷ []) a e)) step };
+      told = λ q h. c.told q (ap (λ (l : List ObjectId). has l q) (sym (take-append-le settled acknowledged (id ∷ []) c.settled_in)) ∙ h);
+      parents = c.parents;
+    }

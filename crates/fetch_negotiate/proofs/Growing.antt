@@ -1,14 +1,21 @@
 -- What was read stays as more is read.
-use Rattle.std.proofs.Common.{◌≡◌, ℕ, Bool, true, false, cond, List, [], ◌∷◌, Option, Some, None, true≢false, refl, sym, ap, subst, ◌∙◌}
-use Rattle.std.specs.Prelude.{is_some, ◌||◌}
+use Rattle.std.proofs.Common.{◌≡◌, Bool, true, false, cond, List, [], ◌∷◌, Option, Some, None, true≢false, refl, sym, ap, subst, ◌∙◌}
+use Rattle.std.specs.Prelude.{is_some}
+use Rattle.std.specs.BTreeMap.{is_at}
+use Rattle.std.specs.FinMap as map
+use Rattle.std.specs.FinMap.{find, get-from_entries}
 use Rattle.std.specs.FinSet as set
+use Rattle.std.specs.Map.{lookup}
+use Rattle.std.specs.Ordering.{is_eq}
 use Rattle.std.specs.Option.{option_and_then, option_map_or}
 use Rattle.fetch_store.specs.declared.id.ObjectId.{ObjectId}
 use Rattle.fetch_store.specs.Graph.{Graph}
 use Rattle.fetch_store.specs.Stores.{id_cmp}
+use Rattle.fetch_store.proofs.Ids.{id_cmp_total}
 use Rattle.fetch_negotiate.specs.declared.commits.Commit.{Commit}
-use Rattle.fetch_negotiate.specs.Commits.{has, commit_of}
-use Rattle.fetch_negotiate.specs.Reading.{Read, Grows, IsTold, commit_at, links_at}
+use Rattle.fetch_negotiate.specs.Commits.{has}
+use Rattle.fetch_negotiate.specs.Reading.{Read, Table, Grows, IsTold, commit_at, links_at, read_in}
+use Rattle.fetch_negotiate.specs.Kept.{read_by}
 use Rattle.fetch_negotiate.specs.Sharing.{IsDone, IsReached}
 
 some_of : {A : Type 0} (o : Option A) → is_some o ≡ true → (v : A) × (o ≡ Some v)
@@ -65,3 +72,18 @@ grows_then k l m a b = record { stays = λ id found is. b.stays id found (a.stay
 
 pub grows_none : (k : Read) → Grows k k
 grows_none k = record { stays = λ id found is. is }
+
+-- ---- what was read, as a finite map
+find-lookup : (q : ObjectId) (es : List (ObjectId × Option Commit)) → lookup (is_at (id_cmp q)) es ≡ find id_cmp q es
+find-lookup q [] = refl
+find-lookup q (e ∷ es) = ap (λ o. cond (is_eq (id_cmp q e.0)) (Some e.1) o) (find-lookup q es)
+
+pub known_is : (t : Table) → read_by (map.from_entries t.entries) ≡ read_in t
+known_is t = λ i q. (get-from_entries id_cmp_total t.entries q ∙ sym (find-lookup q t.entries)) i
+
+-- what was read is told, either way
+pub told_by : (t : Table) (g : Graph) → IsTold (read_in t) g → IsTold (read_by (map.from_entries t.entries)) g
+told_by t g told = subst (λ (k : Read). IsTold k g) (sym (known_is t)) told
+
+pub told_in : (t : Table) (g : Graph) → IsTold (read_by (map.from_entries t.entries)) g → IsTold (read_in t) g
+told_in t g told = subst (λ (k : Read). IsTold k g) (known_is t) told

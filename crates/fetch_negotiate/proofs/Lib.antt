@@ -7,3 +7,11 @@ pub mod Choosing
 pub mod Ranking
 pub mod Queueing
 pub mod Walks
+pub mod Nexts
+pub mod Taking
+pub mod Pairing
+pub mod Counting
+pub mod Handing
+pub mod Tipping
+pub mod Unread
+pub mod Descent

@@ -1,5 +1,5 @@
 -- The line of candidates, step by step.
-use Rattle.std.proofs.Common.{◌≡◌, ℕ, zero, suc, ◌+◌, ◌<◌, ◌≤◌, Bool, true, false, cond, not, List, [], ◌∷◌, ◌++◌, take, get_or, length, Option, Some, None, true≢false, ⊎_elim, refl, sym, ap, subst, ◌∙◌, append_assoc, length-append, arith}
+use Rattle.std.proofs.Common.{◌≡◌, ℕ, ◌+◌, ◌<◌, Bool, true, false, List, [], ◌∷◌, ◌++◌, take, get_or, length, Option, Some, true≢false, ⊎_elim, refl, sym, ap, subst, ◌∙◌, append_assoc, length-append, arith}
 use Rattle.std.specs.Prelude.{is_some, ◌||◌}
 use Rattle.std.specs.BTreeSet.{BTreeSet}
 use Rattle.std.specs.FinSet as set
@@ -18,11 +18,11 @@ use Rattle.fetch_negotiate.specs.declared.commits.Commit.{Commit}
 use Rattle.fetch_negotiate.specs.declared.line.Line.{Line}
 use Rattle.fetch_negotiate.specs.Commits.{has}
 use Rattle.fetch_negotiate.specs.Reading.{Read, Grows, IsTold, commit_at, links_at}
-use Rattle.fetch_negotiate.specs.Sharing.{IsMarked, Extends}
-use Rattle.fetch_negotiate.specs.Queues.{Rank, IsEntered, IsQueued, IsLine, IsLineIn, IsChosen, in_queue, rank_at, rank_cmp, seconds_at}
+use Rattle.fetch_negotiate.specs.Sharing.{IsMarked, Covers}
+use Rattle.fetch_negotiate.specs.Queues.{Rank, IsEntered, IsQueued, IsLine, IsLineIn, in_queue, rank_at, rank_cmp}
 use Rattle.fetch_negotiate.proofs.Growing.{grown_at, commit_grown, commit_stays, links_grown, read_of, grows_then, grows_none}
 use Rattle.fetch_negotiate.proofs.Onces.{has_push, grown}
-use Rattle.fetch_negotiate.proofs.Commons.{split, extended, has_append, has_at, found_at}
+use Rattle.fetch_negotiate.proofs.Commons.{split, has_append, has_at, found_at}
 use Rattle.fetch_negotiate.proofs.Ranking.{Puts, Drops}
 
 abbrev pub rank_of : ℕ → ObjectId → Rank
@@ -62,9 +62,9 @@ line_grown k l border commits tips candidates entered queue taken grows c =
     }
 
 -- more commits are common
-pub line_extended : (k : Read) (border : set.FinSet id_cmp) (commits more : List ObjectId) (tips : ℕ) (candidates : List ObjectId) (entered : ℕ) (queue : BTreeSet Rank) (taken : List ObjectId) → Extends commits more
+pub line_covered : (k : Read) (border : set.FinSet id_cmp) (commits more : List ObjectId) (tips : ℕ) (candidates : List ObjectId) (entered : ℕ) (queue : BTreeSet Rank) (taken : List ObjectId) → Covers commits more
     → IsLine k border commits tips candidates entered queue taken → IsLine k border more tips candidates entered queue taken
-line_extended k border commits more tips candidates entered queue taken extends c =
+line_covered k border commits more tips candidates entered queue taken covers c =
     record {
       tips_in = c.tips_in;
       entered_in = c.entered_in;
@@ -75,7 +75,7 @@ line_extended k border commits more tips candidates entered queue taken extends 
     }
   where
     before : (q : ObjectId) (b : Bool) → has commits q ≡ b → has more q ≡ false → b ≡ false
-    before q true h other = absurd (true≢false (sym (extended commits more extends q h) ∙ other))
+    before q true h other = absurd (true≢false (sym (covers.stays q h) ∙ other))
     before q false h other = refl
 
 -- one more candidate was entered
@@ -129,7 +129,7 @@ line_dropped k border commits tips candidates entered queue less taken r drops c
       queued = λ q h. c.queued q (drops.before q h);
     }
 
-no_more : (l : List ObjectId) → l ++ [] ≡ l
+pub no_more : (l : List ObjectId) → l ++ [] ≡ l
 no_more [] = refl
 no_more (x ∷ l) = ap (λ (m : List ObjectId). x ∷ m) (no_more l)
 

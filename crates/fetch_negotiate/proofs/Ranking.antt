@@ -1,19 +1,17 @@
 -- The order of the queue, and what its changes leave.
-use Rattle.std.proofs.Common.{◌≡◌, ℕ, ◌<◌, length, arith, ◌⊎◌, inl, inr, Bool, true, false, cond, not, List, [], ◌∷◌, true≢false, refl, sym, ap, subst, ◌∙◌}
-use Rattle.std.specs.Prelude.{◌||◌, ◌&&◌, ◌==◌, nat_lt}
+use Rattle.std.proofs.Common.{◌≡◌, ℕ, ◌<◌, length, arith, ◌⊎◌, inl, inr, Bool, true, false, cond, List, [], ◌∷◌, true≢false, refl, sym, ap, subst, ◌∙◌}
 use Rattle.std.specs.BTreeSet as tree
 use Rattle.std.specs.BTreeSet.{BTreeSet}
 use Rattle.std.specs.BTreeMap.{is_at}
 use Rattle.std.specs.List.{list_any}
-use Rattle.std.specs.Ordering.{nat_cmp, ordering_then, is_eq, is_gt, is_lt, ordering_reverse}
+use Rattle.std.specs.Ordering.{nat_cmp, ordering_then, is_eq, is_gt}
 use Rattle.std.specs.FinMap.{nat_cmp-IsAntisymmetric}
 use Rattle.std.specs.declared.cmp.Ordering.{Ordering}
 use Rattle.std.specs.declared.cmp.Ordering.TheVariants.{Less, Equal, Greater}
 use Rattle.std.specs.declared.cmp.Reverse.{Reverse}
-use Rattle.fetch_store.specs.declared.id.ObjectId.{ObjectId}
 use Rattle.fetch_store.specs.contracts.id.ObjectIdOrd.TheImpl as order
 use Rattle.fetch_store.specs.Stores.{id_cmp}
-use Rattle.fetch_store.proofs.Ids.{id_cmp_exact, id_cmp_total}
+use Rattle.fetch_store.proofs.Ids.{id_cmp_exact}
 use Rattle.fetch_store.proofs.Orders.{cmp_is}
 use Rattle.fetch_negotiate.specs.Queues.{Rank, rank_cmp, in_queue, IsFront, IsNone}
 

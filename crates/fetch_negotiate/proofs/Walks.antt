@@ -1,13 +1,12 @@
 -- The steps of a walk.
-use Rattle.std.proofs.Common.{◌≡◌, ℕ, ◌+◌, ◌<◌, Bool, true, false, cond, not, List, true≢false, refl, sym, ap, subst, ◌∙◌, arith}
+use Rattle.std.proofs.Common.{◌≡◌, ℕ, ◌+◌, ◌<◌, Bool, true, false, cond, not, List, true≢false, refl, sym, ap, ◌∙◌, arith}
 use Rattle.std.specs.Prelude.{◌&&◌}
 use Rattle.std.specs.BTreeSet.{BTreeSet}
 use Rattle.std.specs.Ordering.{is_gt}
 use Rattle.fetch_store.specs.declared.id.ObjectId.{ObjectId}
-use Rattle.fetch_negotiate.specs.declared.line.Line.{Line}
 use Rattle.fetch_negotiate.specs.declared.walk.Walk.{Walk}
 use Rattle.fetch_negotiate.specs.Commits.{has}
-use Rattle.fetch_negotiate.specs.Queues.{Rank, IsChosen, IsFront, IsQueued, rank_at, rank_cmp, in_queue}
+use Rattle.fetch_negotiate.specs.Queues.{Rank, IsChosen, IsFront, IsQueued, rank_cmp, in_queue}
 use Rattle.fetch_negotiate.specs.Reading.{Read, read_in}
 use Rattle.fetch_negotiate.specs.Walking.{IsWalk}
 use Rattle.fetch_negotiate.proofs.Queueing.{line_dropped}

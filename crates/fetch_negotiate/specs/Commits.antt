@@ -1,8 +1,7 @@
 -- Stored commits, and what was read of them.
-use Rattle.std.specs.Prelude.{◌≡◌, ℕ, Bool, true, List, [], ◌∷◌, Option, Some, None, is_some, unwrap_or, if◌then◌else◌, refl}
+use Rattle.std.specs.Prelude.{◌≡◌, ℕ, Bool, true, List, [], Option, Some, None, is_some, unwrap_or, if◌then◌else◌, refl}
 use Rattle.std.specs.Coded.{Coded, code_by, coded_ℕ, coded_list, coded_option, coded×}
 use Rattle.std.specs.FinMap as map
-use Rattle.std.specs.FinSet as set
 use Rattle.std.specs.List.{list_any}
 use Rattle.std.specs.Option.{option_and_then, option_map_or}
 use Rattle.std.specs.Ordering.{eq_by_cmp}
@@ -39,10 +38,6 @@ Known = map.FinMap id_cmp (Option Commit)
 
 abbrev pub coded_known : Coded Known
 coded_known = map.code {R = id_cmp} coded_id (coded_option coded_commit)
-
--- The graph tells each id that was read as before.
-abbrev pub IsAsBefore : Known → Graph → Type 0
-IsAsBefore known g = (id : ObjectId) (found : Option Commit) → map.get known id ≡ Some found → commit_of g id ≡ found
 
 -- the parents of an id's node
 abbrev pub parents_in : Graph → ObjectId → List ObjectId

@@ -1,16 +1,15 @@
 -- What a fetch says that it has.
-use Rattle.std.specs.Prelude.{◌≡◌, ℕ, zero, suc, ◌+◌, ◌-◌, ◌*◌, ◌/◌, ◌^◌, min, Bool, true, false, not, ◌&&◌, ◌||◌, ◌==◌, nat_lt, List, [], ◌∷◌, ◌++◌, fold, Option, Some, None, is_some, unwrap_or, filter, find, if◌then◌else◌}
-use Rattle.std.specs.FinMap as map
+use Rattle.std.specs.Prelude.{ℕ, Bool, not, ◌&&◌, ◌||◌, ◌==◌, nat_lt, List, [], ◌∷◌, ◌++◌, Option, is_some, filter, find}
 use Rattle.std.specs.FinSet as set
 use Rattle.std.specs.List.{list_any, list_all, flat_map}
-use Rattle.std.specs.Option.{option_map_or}
+use Rattle.std.specs.Option.{option_map_or, option_to_list}
 use Rattle.std.specs.Ordering.{eq_by_cmp, is_lt}
 use Rattle.fetch_store.specs.declared.id.ObjectId.{ObjectId}
 use Rattle.fetch_store.specs.Graph.{Graph}
 use Rattle.fetch_store.specs.Stores.{id_cmp}
 use Rattle.fetch_negotiate.specs.declared.commits.Commit.{Commit}
 use Rattle.fetch_negotiate.specs.Commits.{has, commit_of}
-use Rattle.fetch_negotiate.specs.Ancestors.{links_of, parents_of, is_ancestor}
+use Rattle.fetch_negotiate.specs.Ancestors.{links_of, is_ancestor}
 
 -- A negotiation: the tips and the border that it began with, the commits taken so far and the ids that were
 -- acknowledged, both in order.
@@ -19,6 +18,18 @@ pub record Negotiation : Type 0 where
   pub border : set.FinSet id_cmp
   pub taken : List ObjectId
   pub acknowledged : List ObjectId
+
+-- the negotiation before its first commit
+abbrev pub started : List ObjectId → set.FinSet id_cmp → Negotiation
+started tips border = record { tips = tips; border = border; taken = []; acknowledged = [] }
+
+-- the negotiation once a commit was taken, if there is one
+abbrev pub taking : Negotiation → Option ObjectId → Negotiation
+taking n next = record n { taken = n.taken ++ option_to_list next }
+
+-- the negotiation once an id was acknowledged
+abbrev pub acknowledging : Negotiation → ObjectId → Negotiation
+acknowledging n id = record n { acknowledged = n.acknowledged ++ id ∷ [] }
 
 -- the tips, and the parents of the commits taken
 abbrev pub candidates : Graph → Negotiation → List ObjectId

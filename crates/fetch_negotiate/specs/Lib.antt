@@ -10,3 +10,9 @@ pub mod Ancestors
 pub mod Haves
 pub mod Exact
 pub mod Walking
+pub mod Kept
+pub mod Skips
+pub mod Paired
+pub mod Skipped
+pub mod Any
+pub mod Tips

@@ -1,5 +1,5 @@
 -- Lists of ids.
-use Rattle.std.specs.Prelude.{◌≡◌, ℕ, Bool, true, false, not, List, [], ◌∷◌, ◌++◌, filter}
+use Rattle.std.specs.Prelude.{not, List, [], ◌∷◌, filter}
 use Rattle.std.specs.Ordering.{eq_by_cmp}
 use Rattle.fetch_store.specs.declared.id.ObjectId.{ObjectId}
 use Rattle.fetch_store.specs.Stores.{id_cmp}

@@ -1,5 +1,5 @@
 -- What the line of candidates keeps, step by step.
-use Rattle.std.specs.Prelude.{◌≡◌, ℕ, ◌≤◌, Bool, true, false, List, [], ◌∷◌, ◌++◌, length, take, Option, is_some}
+use Rattle.std.specs.Prelude.{◌≡◌, ℕ, ◌≤◌, Bool, true, false, List, ◌++◌, length, take, is_some}
 use Rattle.std.specs.BTreeSet as tree
 use Rattle.std.specs.BTreeSet.{BTreeSet}
 use Rattle.std.specs.FinSet as set
@@ -68,3 +68,6 @@ pub record IsNone (queue : BTreeSet Rank) : Type 0 where
 pub record IsFront (queue : BTreeSet Rank) (r : Rank) : Type 0 where
   pub here : in_queue queue r ≡ true
   pub first : (q : Rank) → in_queue queue q ≡ true → is_gt (rank_cmp r q) ≡ false
+
+abbrev pub tips_in : Line → List ObjectId
+tips_in l = take l.tips l.candidates.items

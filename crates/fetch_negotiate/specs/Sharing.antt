@@ -1,5 +1,5 @@
 -- What the marks of common commits keep, while they are set step by step.
-use Rattle.std.specs.Prelude.{◌≡◌, ℕ, ◌≤◌, Bool, true, List, [], ◌∷◌, ◌++◌, length, take, is_some}
+use Rattle.std.specs.Prelude.{◌≡◌, ℕ, ◌≤◌, Bool, true, List, ◌++◌, length, take, is_some}
 use Rattle.std.specs.BTreeSet as tree
 use Rattle.std.specs.BTreeSet.{BTreeSet}
 use Rattle.std.specs.FinSet as set
@@ -58,3 +58,7 @@ pub record AreDone (k : Read) (commits ids : List ObjectId) : Type 0 where
 pub record Extends (xs ys : List ObjectId) : Type 0 where
   pub more : List ObjectId
   pub is : ys ≡ xs ++ more
+
+-- The list has what the other has.
+pub record Covers (xs ys : List ObjectId) : Type 0 where
+  pub stays : (q : ObjectId) → has xs q ≡ true → has ys q ≡ true

@@ -71,7 +71,7 @@ fn commit_read<O: Objects>(
     }))
 }
 
-fn is_commit<O: Objects>(objects: &O, id: &ObjectId) -> bool
+pub(crate) fn is_commit<O: Objects>(objects: &O, id: &ObjectId) -> bool
     ensures { result ≡ is_some (commit_of (O.graph objects.now) id.now) }
 {
     match objects.kind_of(id) {

@@ -4,7 +4,7 @@ ghost use Rattle.std.specs.Prelude.{◌≡◌, ◌+◌, ◌<◌, [], ◌∷◌, 
 ghost use Rattle.fetch_negotiate.specs.Commits.{has};
 ghost use Rattle.fetch_negotiate.specs.Exact.{IsExact};
 ghost use Rattle.fetch_negotiate.specs.Reading.{Grows, IsTold, read_in};
-ghost use Rattle.fetch_negotiate.specs.Sharing.{IsMarked, IsSettled, IsCommonIn, IsWithin, AreWithin, IsDone, AreDone, Extends};
+ghost use Rattle.fetch_negotiate.specs.Sharing.{IsMarked, IsSettled, IsCommonIn, IsWithin, AreWithin, IsDone, AreDone, Extends, Covers};
 
 use crate::commits::{Table, read};
 use crate::links::links;
@@ -125,6 +125,7 @@ fn mark_all<O: Objects>(
 }
 
 /// Marks the parents of the first commit whose parents aren't marked yet.
+#[tactic(auto, using(crate::proofs::Commons::covers))]
 fn close_next<O: Objects>(
     common: &mut Common,
     table: &mut Table,
@@ -138,6 +139,7 @@ fn close_next<O: Objects>(
     ensures common { IsCommonIn (read_in table.new) border.now common.new }
     ensures told { IsTold (read_in table.new) (O.graph objects.now) }
     ensures grows { Grows (read_in table.old) (read_in table.new) }
+    ensures more { Covers common.old.commits.items common.new.commits.items }
     ensures acknowledged { common.new.acknowledged ≡ common.old.acknowledged }
     ensures settled { common.new.settled ≡ common.old.settled }
     ensures closed { OnOk result (common.new.closed ≡ common.old.closed + 1) }
@@ -150,6 +152,7 @@ fn close_next<O: Objects>(
 }
 
 /// Marks the first acknowledged id that isn't marked yet.
+#[tactic(auto, using(crate::proofs::Commons::covers))]
 fn settle_next<O: Objects>(
     common: &mut Common,
     table: &mut Table,
@@ -163,6 +166,7 @@ fn settle_next<O: Objects>(
     ensures common { IsCommonIn (read_in table.new) border.now common.new }
     ensures told { IsTold (read_in table.new) (O.graph objects.now) }
     ensures grows { Grows (read_in table.old) (read_in table.new) }
+    ensures more { Covers common.old.commits.items common.new.commits.items }
     ensures acknowledged { common.new.acknowledged ≡ common.old.acknowledged }
     ensures settled { OnOk result (common.new.settled ≡ common.old.settled + 1) }
 {
@@ -185,6 +189,7 @@ pub(crate) fn settle<O: Objects>(
     ensures common { IsCommonIn (read_in table.new) border.now common.new }
     ensures told { IsTold (read_in table.new) (O.graph objects.now) }
     ensures grows { Grows (read_in table.old) (read_in table.new) }
+    ensures more { Covers common.old.commits.items common.new.commits.items }
     ensures acknowledged { common.new.acknowledged ≡ common.old.acknowledged }
     ensures settled { OnOk result (IsSettled (read_in table.new) border.now common.new.acknowledged.items common.new.commits.items) }
     ensures exact { OnOk result (IsExact (O.graph objects.now) border.now common.new.acknowledged.items common.new.commits.items) }
@@ -195,5 +200,22 @@ pub(crate) fn settle<O: Objects>(
     'marked: while common.closed < common.commits.len() {
         close_next(common, table, border, alloc, objects)?;
     }
+    Ok(())
+}
+
+/// Takes in an acknowledged id, which isn't marked yet.
+pub(crate) fn acknowledge(
+    common: &mut Common,
+    table: &Table,
+    border: &Border,
+    id: &ObjectId,
+) -> Result<(), NoMemory>
+    requires common { IsCommonIn (read_in table.now) border.now common.old }
+    ensures common { IsCommonIn (read_in table.now) border.now common.new }
+    ensures ok { OnOk result (common.new.acknowledged.items ≡ common.old.acknowledged.items ++ id.now ∷ []) }
+    ensures err { OnErr result (common.new.acknowledged.items ≡ common.old.acknowledged.items) }
+    ensures commits { common.new.commits ≡ common.old.commits }
+{
+    common.acknowledged.push(*id)?;
     Ok(())
 }

@@ -2,19 +2,30 @@
 #![tactic(auto)]
 
 mod algorithm;
+mod any;
 mod commits;
 mod common;
+mod consecutive;
+pub mod laws;
 mod line;
 mod links;
 mod negotiator;
 mod once;
 mod request;
+mod skip;
+mod skipping;
+mod skips;
+mod tip;
 mod walk;
 mod wanted;
 
 pub use algorithm::{Algorithm, Depth, Round, Shallow};
+pub use any::AnyNegotiator;
+pub use consecutive::Consecutive;
 pub use negotiator::Negotiator;
 pub use request::request_of;
+pub use skipping::Skipping;
+pub use tip::tips;
 pub use wanted::wants;
 
 #[cfg(test)]

@@ -1,10 +1,10 @@
 //! The commits that may be told next.
 
-ghost use Rattle.std.specs.Prelude.{◌≡◌, ◌+◌, ◌<◌, ◌≤◌, IfSome, IfNone, OnOk, length};
+ghost use Rattle.std.specs.Prelude.{◌≡◌, ◌+◌, ◌<◌, ◌≤◌, true, [], ◌∷◌, ◌++◌, IfOk, IfSome, IfNone, OnOk, OnErr, length, is_some};
 ghost use Rattle.std.specs.Option.{option_map_or};
 ghost use Rattle.fetch_negotiate.specs.Commits.{has};
-ghost use Rattle.fetch_negotiate.specs.Queues.{IsLineIn, IsFront, IsNone, seconds_at};
-ghost use Rattle.fetch_negotiate.specs.Reading.{Grows, IsTold, links_at, read_in};
+ghost use Rattle.fetch_negotiate.specs.Queues.{IsLineIn, IsFront, IsNone, seconds_at, tips_in};
+ghost use Rattle.fetch_negotiate.specs.Reading.{Grows, IsTold, commit_at, links_at, read_in};
 ghost use Rattle.fetch_negotiate.specs.Sharing.{IsMarked};
 
 use crate::commits::{Table, read};
@@ -25,6 +25,27 @@ pub(crate) struct Line {
     pub(crate) queue: BTreeSet<(Reverse<u64>, ObjectId)>,
     pub(crate) taken: Vec<ObjectId>,
     pub(crate) told: BTreeSet<ObjectId>,
+}
+
+impl Line {
+    /// The tips alone.
+    pub(crate) fn new(alloc: Global, tips: &[ObjectId]) -> Result<Line, NoMemory>
+        ensures tips { IfOk result (λ line. line.tips ≡ length tips.now) }
+        ensures candidates { IfOk result (λ line. line.candidates.items ≡ tips.now) }
+        ensures entered { IfOk result (λ line. line.entered ≡ 0) }
+        ensures queue { IfOk result (λ line. line.queue.keys ≡ []) }
+        ensures taken { IfOk result (λ line. line.taken.items ≡ []) }
+        ensures told { IfOk result (λ line. line.told.keys ≡ []) }
+    {
+        Ok(Line {
+            tips: tips.len(),
+            candidates: Vec::from_slice(alloc, tips)?,
+            entered: 0,
+            queue: BTreeSet::new(alloc),
+            taken: Vec::new(alloc),
+            told: BTreeSet::new(alloc),
+        })
+    }
 }
 
 /// The seconds of a commit that was read.
@@ -101,4 +122,29 @@ pub(crate) fn front(queue: &BTreeSet<(Reverse<u64>, ObjectId)>) -> Option<(Rever
         Some(rank) => Some(*rank),
         None => None,
     }
+}
+
+/// Takes a commit, whose parents are candidates from then on.
+pub(crate) fn take_one(
+    line: &mut Line,
+    table: &Table,
+    border: &Border,
+    common: &Common,
+    alloc: Global,
+    id: &ObjectId,
+) -> Result<(), NoMemory>
+    requires line { IsLineIn (read_in table.now) border.now common.now.commits.items line.old }
+    requires read { is_some (commit_at (read_in table.now) id.now) ≡ true }
+    ensures line { IsLineIn (read_in table.now) border.now common.now.commits.items line.new }
+    ensures tips { tips_in line.new ≡ tips_in line.old }
+    ensures ok { OnOk result (line.new.taken.items ≡ line.old.taken.items ++ id.now ∷ []) }
+    ensures err { OnErr result (line.new.taken.items ≡ line.old.taken.items) }
+{
+    let links = links(alloc, table, border, id)?;
+    line.taken.reserve(1)?;
+    line.candidates.reserve(links.len())?;
+    line.told.insert(*id)?;
+    line.taken.push_reserved(*id);
+    line.candidates.extend_from_slice(links.as_slice())?;
+    Ok(())
 }

@@ -8,6 +8,8 @@ use std::alloc::Global;
 use std::process::Abort;
 use std::test::Fail;
 
+mod negotiating;
+
 fn id_of_byte(byte: u8) -> ObjectId {
     ObjectId::Sha1([byte; 20])
 }

@@ -1,15 +1,19 @@
 //! A walk down a history, from the latest commits on.
 
-ghost use Rattle.std.specs.Prelude.{◌≡◌, not, ◌&&◌, IfSome, IfNone};
+ghost use Rattle.std.specs.Prelude.{◌≡◌, not, ◌&&◌, Some, IfOk, IfSome, IfNone, OnOk, OnErr};
+ghost use Rattle.std.specs.FinMap as map;
 ghost use Rattle.fetch_negotiate.specs.Commits.{has};
+ghost use Rattle.fetch_negotiate.specs.Haves.{started, taking, acknowledging, next_taken};
 ghost use Rattle.fetch_negotiate.specs.Queues.{IsChosen, IsNone};
-ghost use Rattle.fetch_negotiate.specs.Reading.{read_in};
-ghost use Rattle.fetch_negotiate.specs.Walking.{IsWalk};
+ghost use Rattle.fetch_negotiate.specs.Reading.{Grows, IsTold, read_in};
+ghost use Rattle.fetch_negotiate.specs.Walking.{IsWalk, IsReady, IsRead, so_far_in, known_in};
 
 use crate::commits::Table;
-use crate::common::Common;
-use crate::line::{Line, front};
-use fetch_store::{Border, ObjectId};
+use crate::common::{Common, acknowledge, settle};
+use crate::line::{Line, enter, front, take_one};
+use fetch_store::{Border, NoMemory, ObjectId, Objects};
+use std::alloc::Global;
+use std::collections::BTreeMap;
 
 /// What was read, what is common, and what may be told next.
 #[derive(Debug, Drop)]
@@ -18,6 +22,121 @@ pub(crate) struct Walk {
     pub(crate) table: Table,
     pub(crate) common: Common,
     pub(crate) line: Line,
+}
+
+impl Walk {
+    /// A walk from these tips, before its first commit.
+    pub(crate) fn new(alloc: Global, tips: &[ObjectId], border: &Border) -> Result<Walk, NoMemory>
+        ensures walk { IfOk result (λ walk. IsWalk walk) }
+        ensures so_far { IfOk result (λ walk. so_far_in walk ≡ started tips.now border.now) }
+        ensures known { IfOk result (λ walk. known_in walk.table ≡ map.empty) }
+    {
+        Ok(Walk {
+            border: border.try_clone()?,
+            table: BTreeMap::new(alloc),
+            common: Common::new(alloc),
+            line: Line::new(alloc, tips)?,
+        })
+    }
+}
+
+/// The commit that comes next, if there is one. It isn't taken yet.
+pub(crate) fn come_next<O: Objects>(
+    walk: &mut Walk,
+    alloc: Global,
+    objects: &O,
+) -> Result<Option<ObjectId>, NoMemory>
+    requires walk { IsWalk walk.old }
+    requires told { IsTold (read_in walk.old.table) (O.graph objects.now) }
+    ensures walk { IsWalk walk.new }
+    ensures told { IsTold (read_in walk.new.table) (O.graph objects.now) }
+    ensures grows { Grows (read_in walk.old.table) (read_in walk.new.table) }
+    ensures so_far { so_far_in walk.new ≡ so_far_in walk.old }
+    ensures next { IfOk result (λ next. next ≡ next_taken (O.graph objects.now) (so_far_in walk.old)) }
+    ensures read { IfOk result (λ next. IfSome next (IsRead walk.new)) }
+{
+    prepare(walk, alloc, objects)?;
+    Ok(choose(walk))
+}
+
+/// Takes a commit.
+pub(crate) fn take(walk: &mut Walk, alloc: Global, id: &ObjectId) -> Result<(), NoMemory>
+    requires walk { IsWalk walk.old }
+    requires read { IsRead walk.old id.now }
+    ensures walk { IsWalk walk.new }
+    ensures table { walk.new.table ≡ walk.old.table }
+    ensures ok { OnOk result (so_far_in walk.new ≡ taking (so_far_in walk.old) (Some id.now)) }
+    ensures err { OnErr result (so_far_in walk.new ≡ so_far_in walk.old) }
+{
+    take_one(
+        &mut walk.line,
+        &walk.table,
+        &walk.border,
+        &walk.common,
+        alloc,
+        id,
+    )
+}
+
+/// Takes the commit that comes next, if there is one.
+pub(crate) fn advance<O: Objects>(
+    walk: &mut Walk,
+    alloc: Global,
+    objects: &O,
+) -> Result<Option<ObjectId>, NoMemory>
+    requires walk { IsWalk walk.old }
+    requires told { IsTold (read_in walk.old.table) (O.graph objects.now) }
+    ensures walk { IsWalk walk.new }
+    ensures told { IsTold (read_in walk.new.table) (O.graph objects.now) }
+    ensures next { IfOk result (λ next. next ≡ next_taken (O.graph objects.now) (so_far_in walk.old)) }
+    ensures ok { IfOk result (λ next. so_far_in walk.new ≡ taking (so_far_in walk.old) next) }
+    ensures err { OnErr result (so_far_in walk.new ≡ so_far_in walk.old) }
+{
+    match come_next(walk, alloc, objects)? {
+        Some(id) => {
+            take(walk, alloc, &id)?;
+            Ok(Some(id))
+        }
+        None => Ok(None),
+    }
+}
+
+/// Takes in an id that the other side has.
+pub(crate) fn share(walk: &mut Walk, id: &ObjectId) -> Result<(), NoMemory>
+    requires walk { IsWalk walk.old }
+    ensures walk { IsWalk walk.new }
+    ensures table { walk.new.table ≡ walk.old.table }
+    ensures ok { OnOk result (so_far_in walk.new ≡ acknowledging (so_far_in walk.old) id.now) }
+    ensures err { OnErr result (so_far_in walk.new ≡ so_far_in walk.old) }
+{
+    acknowledge(&mut walk.common, &walk.table, &walk.border, id)
+}
+
+/// Marks what is common, and puts each candidate into the queue.
+fn prepare<O: Objects>(walk: &mut Walk, alloc: Global, objects: &O) -> Result<(), NoMemory>
+    requires walk { IsWalk walk.old }
+    requires told { IsTold (read_in walk.old.table) (O.graph objects.now) }
+    ensures walk { IsWalk walk.new }
+    ensures told { IsTold (read_in walk.new.table) (O.graph objects.now) }
+    ensures grows { Grows (read_in walk.old.table) (read_in walk.new.table) }
+    ensures so_far { so_far_in walk.new ≡ so_far_in walk.old }
+    ensures ready { OnOk result (IsReady (O.graph objects.now) walk.new) }
+{
+    settle(
+        &mut walk.common,
+        &mut walk.table,
+        &walk.border,
+        alloc,
+        objects,
+    )?;
+    enter(
+        &mut walk.line,
+        &mut walk.table,
+        &walk.border,
+        &walk.common,
+        alloc,
+        objects,
+    )
 }
 
 /// The commit of the queue that comes first of those that are neither taken nor common. What comes before it leaves.
@@ -33,6 +152,7 @@ fn choose(walk: &mut Walk) -> Option<ObjectId>
     ensures taken { walk.new.line.taken ≡ walk.old.line.taken }
     ensures chosen { IfSome result (IsChosen (read_in walk.new.table) walk.new.common.commits.items walk.new.line.taken.items walk.new.line.queue) }
     ensures none { IfNone result (IsNone walk.new.line.queue) }
+    ensures read { IfSome result (IsRead walk.new) }
 {
     while let Some(rank) = front(&walk.line.queue) {
         let id = rank.1;

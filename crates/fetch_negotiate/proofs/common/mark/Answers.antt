@@ -1,4 +1,3 @@
-use Rattle.std.proofs.Common.{ap, ◌∙◌}
 use Rattle.fetch_negotiate.proofs.Commons.{marked_push}
 use Rattle.fetch_negotiate.proofs.Onces.{adds}
 use Rattle.fetch_negotiate.proofs.common.mark.Goals as goal

@@ -9,13 +9,13 @@ pub acknowledged-preserved : goal.acknowledged-preserved
 acknowledged-preserved g c =
     let e = c.in_ok-settle_next.ensures in
     settling_further (read_in c.args.table.now) (read_in c.acknowledged.table) (read_in c.settle_next.new.table) c.args.border.now c.args.common.now c.acknowledged.common c.settle_next.new.common (g.O.Objects.graph c.args.objects.now)
-    c.acknowledged.invariant e.common e.told e.grows e.acknowledged
+    c.acknowledged.invariant e.common e.told e.grows e.more e.acknowledged
 
 pub marked-preserved : goal.marked-preserved
 marked-preserved g c =
     let e = c.in_ok-close_next.ensures in (
       settling_further (read_in c.args.table.now) (read_in c.marked.table) (read_in c.close_next.new.table) c.args.border.now c.args.common.now c.marked.common c.close_next.new.common (g.O.Objects.graph c.args.objects.now)
-          c.marked.invariant.0 e.common e.told e.grows e.acknowledged,
+          c.marked.invariant.0 e.common e.told e.grows e.more e.acknowledged,
       omega (arith, c.marked.invariant.1, e.settled, ap (λ (l : List ObjectId). length l) (acknowledged_same c.marked.common c.close_next.new.common e.acknowledged)),
     )
 

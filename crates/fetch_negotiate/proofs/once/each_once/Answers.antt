@@ -1,7 +1,7 @@
-use Rattle.std.proofs.Common.{Bool, Vec, Global, not, [], ◌∷◌, ◌++◌, List, get_or, sym, ap, ◌∙◌, refl, subst}
+use Rattle.std.proofs.Common.{not, [], get_or, sym, ap, ◌∙◌, refl}
 use Rattle.fetch_store.specs.declared.id.ObjectId.{ObjectId}
 use Rattle.fetch_store.specs.declared.id.ObjectId.TheVariants as ids
-use Rattle.fetch_negotiate.proofs.Onces.{IsOnce, adds, contains_is, once_new, once_known}
+use Rattle.fetch_negotiate.proofs.Onces.{adds, contains_is, once_new, once_known}
 use Rattle.fetch_negotiate.proofs.once.each_once.Goals as goal
 use Rattle.fetch_negotiate.proofs.once.each_once.Goals.{then-branch+in_ok-push, else-branch}
 

@@ -1,4 +1,4 @@
-use Rattle.std.proofs.Common.{Bool, List, ℕ, ◌∷◌, [], ◌++◌, ap, ◌∙◌}
+use Rattle.std.proofs.Common.{Bool, ◌∷◌, [], ◌++◌, ap, ◌∙◌}
 use Rattle.fetch_negotiate.specs.Requests as spec
 use Rattle.fetch_negotiate.specs.Words.{command_word, agent_word, agent_is, format_word}
 use Rattle.fetch_negotiate.proofs.Lines.{three}

@@ -1,6 +1,7 @@
-use Rattle.std.proofs.Common.{btree_set_len, sym, ◌∙◌}
+use Rattle.std.proofs.Common.{btree_set_len, ◌∙◌}
 use Rattle.fetch_negotiate.specs.Reading.{read_in}
 use Rattle.fetch_negotiate.proofs.Ranking.{drops, contains_ranked}
+use Rattle.fetch_negotiate.proofs.Taking.{chosen_read}
 use Rattle.fetch_negotiate.proofs.Walks.{chosen_is, choosing_further, shrinks}
 use Rattle.fetch_negotiate.proofs.walk.choose.Goals as goal
 
@@ -19,3 +20,10 @@ pub loop-rank-smaller : goal.loop-rank-smaller
 loop-rank-smaller c =
     shrinks c.remove.result (btree_set_len c.remove.new.self) (btree_set_len c.loop-rank.walk.line.queue) c.remove.ensures.len
     (c.remove.ensures.test ∙ contains_ranked c.loop-rank.walk.line.queue c.in-Some.rank ∙ c.in-Some.ensures.found.here)
+
+pub returns-then-is_open-clause-read : goal.returns-then-is_open-clause-read
+returns-then-is_open-clause-read c =
+    let w = c.loop-rank.walk in
+    chosen_read w c.in-Some.rank.1 c.loop-rank.invariant.walk
+    (chosen_is (read_in w.table) w.common.commits.items w.line.taken.items w.line.candidates.items w.line.queue c.in-Some.rank c.is_open.result
+    c.in-Some.ensures.found (c.loop-rank.invariant.walk.line.1.queued c.in-Some.rank c.in-Some.ensures.found.here) c.is_open.ensures c.if-is_open.true)

@@ -1,0 +1,12 @@
+use Rattle.std.proofs.Common.{◌∙◌}
+use Rattle.fetch_negotiate.specs.Reading.{read_in}
+use Rattle.fetch_negotiate.proofs.Handing.{ok_parents, walk_grown}
+use Rattle.fetch_negotiate.proofs.skipping.has_parents.Goals as goal
+
+pub returns-clause-walk : goal.returns-clause-walk
+returns-clause-walk g c = walk_grown c.args.walk.now c.any_stored.new.table c.any_stored.ensures.grows c.requires.walk
+
+pub returns-clause-has : goal.returns-clause-has
+returns-clause-has g c =
+    ok_parents (read_in c.args.walk.now.table) (read_in c.any_stored.new.table) c.args.walk.now.border c.args.id.now c.as_slice.result.now c.any_stored.result
+    c.any_stored.ensures.grows c.requires.read (c.as_slice.ensures.value ∙ c.in_ok-links.ensures) c.any_stored.ensures.any
