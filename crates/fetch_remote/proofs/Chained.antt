@@ -10,11 +10,11 @@ use Rattle.fetch_wire.specs.Lines.{section_at}
 use Rattle.fetch_wire.specs.Written.{line_text, lines_text}
 use Rattle.fetch_remote.specs.Conversation.{Conversation, ends, asks, sent_in, answer_in, after_reply, after_answer, and_then, map_refusal, told_as, beside, Concludes, RefusesAtEnd, Breaks, ConversesBy, Converses}
 
-abbrev sent_behind : {X Y E : Type 0} → ℕ → (X → Conversation Y E) → Result (X × List ℕ) E → List Line
+abbrev pub sent_behind : {X Y E : Type 0} → ℕ → (X → Conversation Y E) → Result (X × List ℕ) E → List Line
 sent_behind bound f (Ok x) = sent_in bound (f x.0) x.1
 sent_behind bound f (Err e) = []
 
-abbrev answer_behind : {X Y E : Type 0} → ℕ → (X → Conversation Y E) → Result (X × List ℕ) E → Result (Y × List ℕ) E
+abbrev pub answer_behind : {X Y E : Type 0} → ℕ → (X → Conversation Y E) → Result (X × List ℕ) E → Result (Y × List ℕ) E
 answer_behind bound f (Ok x) = answer_in bound (f x.0) x.1
 answer_behind bound f (Err e) = Err e
 
@@ -52,7 +52,7 @@ unfolding answer_in and_then
 answer_then bound (ends answer) f stream = answer_at_end bound f answer stream
 answer_then bound (asks lines failed next) f stream = answer_asking bound f failed next (section_at bound stream) (λ reply rest. answer_then bound (next reply) f rest)
 
-text_then : {X Y E : Type 0} (bound : ℕ) (c : Conversation X E) (f : X → Conversation Y E) (stream rest : List ℕ) (x : X) → answer_in bound c stream ≡ Ok (x, rest)
+pub text_then : {X Y E : Type 0} (bound : ℕ) (c : Conversation X E) (f : X → Conversation Y E) (stream rest : List ℕ) (x : X) → answer_in bound c stream ≡ Ok (x, rest)
     → lines_text (sent_in bound (and_then c f) stream) ≡ lines_text (sent_in bound c stream) ++ lines_text (sent_in bound (f x) rest)
 text_then bound c f stream rest x is = ap lines_text (sent_then bound c f stream ∙ ap (λ (a : _). sent_in bound c stream ++ sent_behind bound f a) is) ∙ flat_map-append line_text (sent_in bound c stream) (sent_in bound (f x) rest)
 

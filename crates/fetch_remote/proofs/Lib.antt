@@ -1,6 +1,15 @@
 pub mod Held
 pub mod Chained
+pub mod Spoken
 pub mod Talking
 pub mod Asking
 pub mod Stages
 pub mod Mappings
+pub mod Requests
+pub mod Wanted
+pub mod Settled
+pub mod Fetched
+pub mod Refused
+pub mod Opening
+pub mod Receives
+pub mod Talks

@@ -4,3 +4,10 @@ pub mod Remotes
 pub mod Mapped
 pub mod Errors
 pub mod ListStage
+pub mod Repositories
+pub mod RequestLines
+pub mod ConverseStage
+pub mod Judging
+pub mod Settling
+pub mod Form
+pub mod Fetching

@@ -56,11 +56,11 @@ abbrev pub unread_of : WireError → PrepareError
 unread_of wire.NoMemory = prepare.NoMemory
 unread_of e = told e
 
--- want of memory, and what has a count of its own
+-- want of memory, and the peer's fault, which has a count of its own
 abbrev pub is_free_map : RefMapError → Bool
 is_free_map (ref_map.Handshake e) = false
 is_free_map ref_map.Transport = true
-is_free_map ref_map.Interrupted = true
+is_free_map ref_map.Interrupted = false
 is_free_map ref_map.NoMemory = true
 
 abbrev pub is_free : PrepareError → Bool

@@ -1,7 +1,8 @@
 //! Listing the references of a remote, and mapping them.
 
-ghost use Rattle.std.specs.Prelude.{◌≡◌, ◌++◌, ◌∷◌, [], ◌≤◌, IfOk, IsErrOf, OnOk, sum_by};
+ghost use Rattle.std.specs.Prelude.{◌≡◌, ◌++◌, ◌∷◌, [], ◌≤◌, IfOk, IsErrOf, IsTrue, OnOk, sum_by};
 ghost use Rattle.fetch_store.specs.Faults.{Rose, Counts};
+ghost use Rattle.fetch_store.specs.declared.id.Kind.TheVariants as kinds;
 ghost use Rattle.fetch_wire.specs.Greetings.{greeting_of};
 ghost use Rattle.fetch_wire.specs.Lines.{line_len};
 ghost use Rattle.fetch_wire.specs.Listings.{listing_of};
@@ -29,7 +30,7 @@ use fetch_wire::{
 use std::alloc::Global;
 
 /// The agent that is told where the configuration names none.
-const AGENT: &[u8] = b"oxide-0.87.1";
+pub(crate) const AGENT: &[u8] = b"oxide-0.87.1";
 
 /// A remote whose references are listed and mapped.
 #[derive(Debug, Drop)]
@@ -80,6 +81,8 @@ pub fn list<P: Peer, I: Interrupt>(
         (list_stage options.max_reply_bytes remote.now options) (answer_shown result) }
     ensures counts { Counts (P.faults peer.old) (P.faults peer.new) }
     ensures transport { IsErrOf result (errors.RefMap ref_map_errors.Transport) → Rose (P.faults peer.old) (P.faults peer.new) }
+    ensures bound { IfOk result (λ l. l.session.bound ≡ options.max_reply_bytes) }
+    ensures sha1 { IfOk result (λ l. l.handshake.object_hash ≡ kinds.Sha1) }
     ensures interrupt { interrupt.new ≡ interrupt.old }
 {
     let _ = interrupt;
@@ -117,6 +120,8 @@ fn greeted<P: Peer>(
         (spec.greeted session.bound remote.now options (greeting_of reply.now)) (answer_shown result) }
     ensures counts { Counts (P.faults peer.old) (P.faults peer.new) }
     ensures transport { IsErrOf result (errors.RefMap ref_map_errors.Transport) → Rose (P.faults peer.old) (P.faults peer.new) }
+    ensures bound { IfOk result (λ l. l.session.bound ≡ session.bound) }
+    ensures sha1 { IfOk result (λ l. l.handshake.object_hash ≡ kinds.Sha1) }
 {
     match read_greeting(alloc, reply) {
         Ok(Some(handshake)) => offered(alloc, remote, session, peer, options, handshake),
@@ -128,7 +133,8 @@ fn greeted<P: Peer>(
 /// Whether the server offers what is built: the listing, plain packs, and SHA-1.
 #[tactic(auto, unfolding(crate::specs::ListStage::is_enough))]
 fn offers_enough(handshake: &Handshake) -> bool
-    ensures { result ≡ is_enough handshake.now }
+    ensures enough { result ≡ is_enough handshake.now }
+    ensures sha1 { IsTrue result → handshake.now.object_hash ≡ kinds.Sha1 }
 {
     handshake.offers(b"ls-refs")
         && handshake.supports(b"fetch", b"plain-pack")
@@ -148,6 +154,8 @@ fn offered<P: Peer>(
         (spec.offered session.bound remote.now options handshake) (answer_shown result) }
     ensures counts { Counts (P.faults peer.old) (P.faults peer.new) }
     ensures transport { IsErrOf result (errors.RefMap ref_map_errors.Transport) → Rose (P.faults peer.old) (P.faults peer.new) }
+    ensures bound { IfOk result (λ l. l.session.bound ≡ session.bound) }
+    ensures sha1 { IfOk result (λ l. l.handshake.object_hash ≡ kinds.Sha1) }
 {
     if !offers_enough(&handshake) {
         return Err(prepare::Error::Unbuilt);
@@ -215,6 +223,8 @@ fn ask_listing<P: Peer>(
         (spec.listing session.bound remote.now options handshake) (answer_shown result) }
     ensures counts { Counts (P.faults peer.old) (P.faults peer.new) }
     ensures transport { IsErrOf result (errors.RefMap ref_map_errors.Transport) → Rose (P.faults peer.old) (P.faults peer.new) }
+    ensures bound { IfOk result (λ l. l.session.bound ≡ session.bound) }
+    ensures handshake { IfOk result (λ l. l.handshake ≡ handshake) }
 {
     let mut session = session;
     let specs = all_specs(alloc, remote, &options)?;
@@ -240,6 +250,8 @@ fn read_listed(
     requires small { sum_by line_len reply.now ≤ 1073741824 }
     requires specs { specs.now ≡ remote.now.fetch_specs ++ options.extra_refspecs }
     ensures answer { spec.Answers session.pending (spec.listed remote.now options handshake (listing_of handshake.object_hash reply.now)) result }
+    ensures bound { IfOk result (λ l. l.session.bound ≡ session.bound) }
+    ensures handshake { IfOk result (λ l. l.handshake ≡ handshake) }
 {
     match read_listing(alloc, handshake.object_hash, reply) {
         Ok(refs) => mapped(alloc, remote, session, options, handshake, specs, refs),
@@ -260,6 +272,8 @@ fn mapped(
 ) -> Result<Listed, prepare::Error>
     requires { specs.now ≡ remote.now.fetch_specs ++ options.extra_refspecs }
     ensures answer { spec.Answers session.pending (spec.mapped remote.now options handshake refs) result }
+    ensures bound { IfOk result (λ l. l.session.bound ≡ session.bound) }
+    ensures handshake { IfOk result (λ l. l.handshake ≡ handshake) }
 {
     let own = remote.refspecs(Direction::Fetch);
     let mappings = map_refs(

@@ -1,0 +1,15 @@
+-- Overrides, one after the other.
+use Rattle.std.proofs.Common.{◌≡◌, ℕ, Bool, true, false, List, ◌∷◌, Option, Some, None, refl, sym, ap, ◌∙◌}
+use Rattle.fetch_config.specs.declared.error.ConfigError.{ConfigError}
+use Rattle.fetch_config.specs.Overrides.{override_of, unkept_place, IsOverrideRefusal}
+use Rattle.fetch_remote.specs.declared.open_error.OpenError.{OpenError}
+use Rattle.fetch_remote.specs.declared.open_error.OpenError.TheVariants as errors
+use Rattle.fetch_remote.specs.Repositories.{is_override, IsOverrideRefused, IsOpenRefusal}
+
+pub first_refused : (text : List ℕ) (others : List (List ℕ)) (e : OpenError) → IsOverrideRefused text e → IsOpenRefusal (text ∷ others) e
+first_refused text others (errors.Override told) h = rw (h.0, h.1) refl
+first_refused text others errors.NoMemory h = tt
+
+pub later_refused : (text : List ℕ) (others : List (List ℕ)) (e : OpenError) → is_override text ≡ true → IsOpenRefusal others e → IsOpenRefusal (text ∷ others) e
+later_refused text others (errors.Override told) is h = rw is h
+later_refused text others errors.NoMemory is h = tt

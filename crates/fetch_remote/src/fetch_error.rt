@@ -1,0 +1,64 @@
+//! Why a fetch was refused.
+
+use crate::{fetch, prepare};
+use fetch_store::NoMemory;
+use thiserror::Error;
+
+/// Why a fetch was refused. References and reflogs are as they were found.
+#[derive(Debug, Drop, Error)]
+pub enum FetchError {
+    /// Before a pack was asked for: the objects are as they were found.
+    #[error("{0}")]
+    Prepare(prepare::Error),
+    /// From the fetch request on.
+    #[error("{0}")]
+    Receive(fetch::Error),
+    /// Well formed, and not built yet.
+    #[error("what is asked for isn't built yet")]
+    Unbuilt,
+    #[error("out of memory")]
+    NoMemory,
+}
+
+/// Want of memory and what isn't built stay what they are.
+impl From<prepare::Error> for FetchError {
+    ghost use Rattle.std.specs.Prelude.{◌≡◌};
+    ghost use Rattle.fetch_remote.specs.Errors.{preparing};
+
+    ghost from_gives = { λ e f. f ≡ preparing e };
+
+    fn from(e: prepare::Error) -> FetchError {
+        match e {
+            prepare::Error::Unbuilt => FetchError::Unbuilt,
+            prepare::Error::NoMemory => FetchError::NoMemory,
+            e => FetchError::Prepare(e),
+        }
+    }
+}
+
+/// Want of memory and what isn't built stay what they are.
+impl From<fetch::Error> for FetchError {
+    ghost use Rattle.std.specs.Prelude.{◌≡◌};
+    ghost use Rattle.fetch_remote.specs.Errors.{receiving};
+
+    ghost from_gives = { λ e f. f ≡ receiving e };
+
+    fn from(e: fetch::Error) -> FetchError {
+        match e {
+            fetch::Error::Unbuilt => FetchError::Unbuilt,
+            fetch::Error::NoMemory => FetchError::NoMemory,
+            e => FetchError::Receive(e),
+        }
+    }
+}
+
+impl From<NoMemory> for FetchError {
+    ghost use Rattle.std.specs.Prelude.{◌≡◌};
+    ghost use Rattle.fetch_remote.specs.declared.fetch_error.FetchError.TheVariants as errors;
+
+    ghost from_gives = { λ _ f. f ≡ errors.NoMemory };
+
+    fn from(_e: NoMemory) -> FetchError {
+        FetchError::NoMemory
+    }
+}
