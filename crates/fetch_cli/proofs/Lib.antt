@@ -7,3 +7,8 @@ pub mod Digits
 pub mod ReferenceLines
 pub mod TextLines
 pub mod Utf8
+pub mod Opening
+pub mod Fetching
+pub mod HeardLines
+pub mod Reported
+pub mod Answering

@@ -11,3 +11,9 @@ pub mod Scene
 pub mod ReportLines
 pub mod MapLines
 pub mod Words
+pub mod Tokens
+pub mod Heard
+pub mod Report
+pub mod Opened
+pub mod Fetched
+pub mod Run

@@ -5,6 +5,7 @@ mod config;
 mod ends;
 mod fault;
 mod head;
+mod heard;
 mod laws;
 mod lines;
 mod local;
@@ -21,9 +22,14 @@ mod references;
 mod refspecs;
 mod remote_part;
 mod report_lines;
+mod reporting;
+mod running;
 mod scene;
+mod setting;
 mod standard;
+mod state_lines;
 mod text_lines;
+mod tokens;
 mod words;
 mod worktrees;
 
@@ -41,8 +47,11 @@ pub use report_lines::{
     append_border, append_hex, append_id, append_keep, append_log, append_malformed,
     append_malformed_word, append_ref, append_refused, append_sent,
 };
+pub use reporting::report;
+pub use running::run;
 pub use scene::{Scene, read_scene};
 pub use standard::{StdSink, StdSource};
+pub use tokens::append_token;
 pub use words::{Command, HELP, VERSION, read_command};
 
 #[cfg(test)]

@@ -91,7 +91,7 @@ pub(crate) fn append_number(out: &mut Vec<u8>, n: usize) -> Result<(), NoMemory>
 }
 
 #[tactic(auto, unfolding(crate::specs::ReportLines::target_text))]
-fn append_target(out: &mut Vec<u8>, target: &TargetRef<'_>) -> Result<(), NoMemory>
+pub(crate) fn append_target(out: &mut Vec<u8>, target: &TargetRef<'_>) -> Result<(), NoMemory>
     ensures { OnOk result (out.new.items ≡ out.old.items ++ spec.target_text (seen target.now)) }
 {
     match target {

@@ -1,6 +1,7 @@
 //! A scene: all that a fetch needs, and what the peer says.
 
-ghost use Rattle.std.specs.Prelude.{◌≡◌, ◌≤◌, ◌^◌, length};
+ghost use Rattle.std.specs.Prelude.{◌≡◌, ◌≤◌, ◌^◌, length, IfOk};
+ghost use Rattle.fetch_store.specs.Stores.{AreOf};
 ghost use Rattle.fetch_cli.specs.Gives.{Gives};
 ghost use Rattle.fetch_cli.specs.Scene as spec;
 
@@ -90,7 +91,8 @@ fn read_parts<R: Threads + Sync>(
     len: usize,
     lines: Lines<'_>,
 ) -> Result<Scene, SceneFault>
-    ensures { Gives result (spec.scene_in len lines.entry) }
+    ensures found { Gives result (spec.scene_in len lines.entry) }
+    ensures of_hash { IfOk result (λ scene. AreOf scene.hash scene.objects) }
 {
     let (local, lines) = read_local(alloc, lines)?;
     let (objects, lines) = read_objects(rt, alloc, local.head.hash, lines)?;
@@ -141,7 +143,9 @@ pub fn read_scene<R: Threads + Sync>(
     alloc: Global,
     bytes: &[u8],
 ) -> Result<Scene, SceneFault>
-    ensures { Gives result (spec.scene_of bytes.now) }
+    ensures found { Gives result (spec.scene_of bytes.now) }
+    // The objects are of the scene's hash.
+    ensures of_hash { IfOk result (λ scene. AreOf scene.hash scene.objects) }
 {
     if bytes.len() > MAX_SCENE {
         return Err(SceneFault::Malformed { place: MAX_SCENE });
