@@ -55,4 +55,6 @@ pub use tokens::append_token;
 pub use words::{Command, HELP, VERSION, read_command};
 
 #[cfg(test)]
+mod run_tests;
+#[cfg(test)]
 mod tests;
