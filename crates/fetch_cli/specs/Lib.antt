@@ -5,7 +5,15 @@ pub mod Numbers
 pub mod SceneHead
 pub mod LineKinds
 pub mod SceneRefs
+pub mod SceneConfig
 pub mod SceneOptions
 pub mod Scene
 pub mod ReportLines
+pub mod MapLines
 pub mod Words
+pub mod Tokens
+pub mod Heard
+pub mod Report
+pub mod Opened
+pub mod Fetched
+pub mod Run

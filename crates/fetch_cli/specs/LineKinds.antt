@@ -1,19 +1,23 @@
 -- What each kind of line of a scene says.
 use Rattle.std.specs.Prelude.{ℕ, ◌==◌, false, List, [], ◌∷◌, codes, Option, Some, None, if◌then◌else◌}
 use Rattle.std.specs.Option.{option_map}
+use Rattle.std.specs.Result.{result_ok}
 use Rattle.std.specs.Str.{bytes_eq}
 use Rattle.fetch_store.specs.declared.id.Kind.{Kind}
 use Rattle.fetch_store.specs.declared.id.ObjectId.{ObjectId}
 use Rattle.fetch_store.specs.Id.{id_in_hex}
 use Rattle.fetch_store.specs.Scan.{◌>>=◌, split_first}
 use Rattle.fetch_specs.specs.Names.{is_full_name, is_name}
+use Rattle.fetch_specs.specs.Parses.{parsed}
+use Rattle.fetch_specs.specs.Specs.{Spec}
+use Rattle.fetch_specs.specs.declared.operation.Operation.TheVariants.{Fetch}
 use Rattle.fetch_specs.specs.declared.tags.Tags.{Tags}
 use Rattle.fetch_specs.specs.declared.tags.Tags.TheVariants as tags
-use Rattle.fetch_cli.specs.declared.target.Target.{Target}
-use Rattle.fetch_cli.specs.declared.target.Target.TheVariants as targets
+use Rattle.fetch_refs.specs.declared.target.Target.{Target}
+use Rattle.fetch_refs.specs.declared.target.Target.TheVariants as targets
 use Rattle.fetch_wire.specs.declared.line.Line.{Line}
 use Rattle.fetch_cli.specs.declared.references.Reference.{Reference}
-use Rattle.fetch_cli.specs.declared.worktrees.Worktree.{Worktree}
+use Rattle.fetch_update.specs.declared.worktrees.Worktree.{Worktree}
 use Rattle.fetch_cli.specs.SceneLines.{value_of}
 
 -- a full name
@@ -68,3 +72,11 @@ tags_named name =
 
 unfoldable pub tags_of : Line → Option Tags
 tags_of line = value_of (codes "tags ") line >>= tags_named
+
+-- a refspec to fetch by
+abbrev pub refspec_in : List ℕ → Option Spec
+refspec_in text = result_ok (parsed Fetch text)
+
+-- behind a word
+unfoldable pub refspec_of : List ℕ → Line → Option Spec
+refspec_of word line = value_of word line >>= refspec_in

@@ -6,8 +6,9 @@ use Rattle.fetch_store.specs.declared.id.ObjectId.{ObjectId}
 use Rattle.fetch_store.specs.Id.{bytes_of}
 use Rattle.fetch_wire.specs.declared.line.Line.{Line}
 use Rattle.fetch_wire.specs.declared.line.Line.TheVariants.{Payload, Flush, Delim, End}
-use Rattle.fetch_cli.specs.declared.target.Target.{Target}
-use Rattle.fetch_cli.specs.declared.target.Target.TheVariants as targets
+use Rattle.fetch_refs.specs.declared.log.LogLine.{LogLine}
+use Rattle.fetch_refs.specs.declared.target.Target.{Target}
+use Rattle.fetch_refs.specs.declared.target.Target.TheVariants as targets
 
 -- the lower-case digit of a number below 16
 abbrev pub hex_digit : ℕ → ℕ
@@ -41,33 +42,19 @@ target_text (targets.Symbolic name) = codes "@" ++ name
 unfoldable pub ref_line : List ℕ → Target → List ℕ
 ref_line name target = codes "ref " ++ target_text target ++ codes " " ++ name ++ codes "\n"
 
-unfoldable pub log_line : List ℕ → ObjectId → ObjectId → List ℕ → List ℕ
-log_line name old new message = codes "log " ++ name ++ codes " " ++ hex_of old ++ codes " " ++ hex_of new ++ codes " " ++ message ++ codes "\n"
+-- `<old> <new>`
+unfoldable pub change_text : ObjectId → ObjectId → List ℕ
+change_text old new = hex_of old ++ codes " " ++ hex_of new
+
+-- The committer isn't told.
+unfoldable pub log_line : List ℕ → LogLine → List ℕ
+log_line name line = codes "log " ++ name ++ codes " " ++ change_text line.old line.new ++ codes " " ++ line.message ++ codes "\n"
 
 unfoldable pub border_line : ObjectId → List ℕ
 border_line id = codes "border " ++ hex_of id ++ codes "\n"
 
 unfoldable pub id_line : ObjectId → List ℕ
 id_line id = codes "id " ++ hex_of id ++ codes "\n"
-
-unfoldable pub destination_text : Option (List ℕ) → List ℕ
-destination_text None = codes "(none)"
-destination_text (Some name) = name
-
-unfoldable pub type_change_text : Bool → List ℕ
-type_change_text told = if told then codes " [symbolic-to-direct]" else []
-
--- `map <index> <source>`
-unfoldable pub map_front : ℕ → List ℕ → List ℕ
-map_front index source = codes "map " ++ decimal index ++ codes " " ++ source
-
--- ` -> <destination>: <mode>`, and the change of type
-unfoldable pub map_back : Option (List ℕ) → List ℕ → Bool → List ℕ
-map_back destination mode symbolic_to_direct = codes " -> " ++ destination_text destination ++ codes ": " ++ mode ++ type_change_text symbolic_to_direct
-
-unfoldable pub map_line : ℕ → List ℕ → Option (List ℕ) → List ℕ → Bool → List ℕ
-map_line index source destination mode symbolic_to_direct =
-    map_front index source ++ map_back destination mode symbolic_to_direct ++ codes "\n"
 
 unfoldable pub keep_line : List ℕ → List ℕ
 keep_line path = codes "keep " ++ path ++ codes "\n"

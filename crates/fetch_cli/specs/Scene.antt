@@ -12,7 +12,8 @@ use Rattle.fetch_cli.specs.declared.scene.Scene.{Scene}
 use Rattle.fetch_cli.specs.declared.local.Local.{Local}
 use Rattle.fetch_cli.specs.declared.remote_part.RemotePart.{RemotePart}
 use Rattle.fetch_cli.specs.Gives.{◌>>=◌}
-use Rattle.fetch_cli.specs.LineKinds.{border_of, worktree_of, tags_of}
+use Rattle.fetch_cli.specs.LineKinds.{border_of, worktree_of, tags_of, refspec_of}
+use Rattle.fetch_cli.specs.SceneConfig.{config_of}
 use Rattle.fetch_cli.specs.SceneHead.{head_of}
 use Rattle.fetch_cli.specs.SceneLines.{Placed, Lines, value_of, payload_of, delimits, flushes, next, each_with, each_of, group_of, behind_group, place_of, lines_of}
 use Rattle.fetch_cli.specs.SceneOptions.{option_of, options_of}
@@ -24,7 +25,7 @@ local_of ls = do
   head ← head_of ls
   refs ← references_of head.0.hash head.1
   border ← each_with (codes "border ") (border_of head.0.hash) refs.1
-  config ← each_with (codes "config ") (value_of (codes "config ")) border.1
+  config ← config_of border.1
   worktrees ← each_with (codes "worktree ") worktree_of config.1
   divided ← next delimits worktrees.1
   Ok (record { head = head.0; refs = refs.0; border = set_of border.0; config = config.0; worktrees = worktrees.0 }, divided.1)
@@ -47,9 +48,9 @@ objects_of hash ls = do
 unfoldable pub remote_of : Lines → Result (RemotePart × Lines) ℕ
 remote_of ls = do
   address ← next (value_of (codes "remote ")) ls
-  specs ← each_with (codes "fetch ") (value_of (codes "fetch ")) address.1
+  specs ← each_with (codes "fetch ") (refspec_of (codes "fetch ")) address.1
   tags ← next tags_of specs.1
-  extra ← each_with (codes "extra ") (value_of (codes "extra ")) tags.1
+  extra ← each_with (codes "extra ") (refspec_of (codes "extra ")) tags.1
   options ← each_with (codes "option ") option_of extra.1
   divided ← next delimits options.1
   Ok (record { address = address.0; specs = specs.0; tags = tags.0; extra = extra.0; options = options_of options.0 }, divided.1)
@@ -67,12 +68,18 @@ pieces_of len ls = do
   ended ← ends_in len flushed.1.lines flushed.1.last
   Ok pieces
 
+-- the remote, and what its peer says
+unfoldable pub talk_of : ℕ → Lines → Result (RemotePart × List (List ℕ)) ℕ
+talk_of len ls = do
+  remote ← remote_of ls
+  pieces ← pieces_of len remote.1
+  Ok (remote.0, pieces)
+
 abbrev pub scene_in : ℕ → Lines → Result Scene ℕ
 scene_in len ls = do
   local ← local_of ls
   objects ← objects_of local.0.head.hash local.1
-  remote ← remote_of objects.1
-  pieces ← pieces_of len remote.1
+  talk ← talk_of len objects.1
   Ok (record {
     hash = local.0.head.hash;
     git_dir = local.0.head.git_dir;
@@ -83,12 +90,12 @@ scene_in len ls = do
     config = local.0.config;
     worktrees = local.0.worktrees;
     objects = objects.0;
-    address = remote.0.address;
-    specs = remote.0.specs;
-    tags = remote.0.tags;
-    extra = remote.0.extra;
-    options = remote.0.options;
-    pieces = pieces;
+    address = talk.0.address;
+    specs = talk.0.specs;
+    tags = talk.0.tags;
+    extra = talk.0.extra;
+    options = talk.0.options;
+    pieces = talk.1;
   })
 
 -- the most bytes of a scene

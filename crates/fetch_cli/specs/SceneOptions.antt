@@ -7,10 +7,10 @@ use Rattle.fetch_wire.specs.declared.line.Line.{Line}
 use Rattle.fetch_cli.specs.declared.options.SceneOption.{SceneOption}
 use Rattle.fetch_cli.specs.declared.options.SceneOption.TheVariants.{DryRun, PackedOnly, NoFilter, Depth, Deepen, Since, Not, Parameter, Bound, Action, Message}
 use Rattle.fetch_cli.specs.declared.options.SceneOptions.{SceneOptions}
-use Rattle.fetch_cli.specs.declared.shallow.Shallow.{Shallow}
-use Rattle.fetch_cli.specs.declared.shallow.Shallow.TheVariants as shallow
-use Rattle.fetch_cli.specs.declared.message.RefLogMessage.{RefLogMessage}
-use Rattle.fetch_cli.specs.declared.message.RefLogMessage.TheVariants as messages
+use Rattle.fetch_negotiate.specs.declared.algorithm.Shallow.{Shallow}
+use Rattle.fetch_negotiate.specs.declared.algorithm.Shallow.TheVariants as shallow
+use Rattle.fetch_update.specs.declared.message.RefLogMessage.{RefLogMessage}
+use Rattle.fetch_update.specs.declared.message.RefLogMessage.TheVariants as messages
 use Rattle.fetch_cli.specs.LineKinds.{partial_name_in}
 use Rattle.fetch_cli.specs.Numbers.{number_in, small_number_in}
 use Rattle.fetch_cli.specs.SceneLines.{value_of}

@@ -22,3 +22,11 @@ unfoldable pub command_of : List (List ℕ) → Result Command ℕ
 command_of [] = Err 1
 command_of (word ∷ []) = ok_or (command_named word) 1
 command_of (word ∷ other ∷ others) = with_others (command_named word)
+
+-- what `--help` writes
+unfoldable pub help_text : List ℕ
+help_text = codes "usage: bagjulen fetch < SCENE\n\nReads a scene from standard input: a repository, a remote and what its peer says.\nFetches, and writes a report: the lines sent, what became of each reference,\nand the repository as it then stands.\n\nstatus 0  the fetch was done\n       1  it was refused, and the report says why\n       2  the input could not be read\n       3  the output could not be written\n       4  the words or the scene are malformed\n       5  memory ran out\n       6  what the scene asks for isn't built yet\n"
+
+-- what `--version` writes
+unfoldable pub version_text : List ℕ
+version_text = codes "bagjulen 0.1.0\n"

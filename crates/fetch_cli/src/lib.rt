@@ -1,13 +1,16 @@
 //! The program as a library: scenes, the report of a fetch, and the words of the command line.
 #![tactic(auto)]
 
+mod config;
 mod ends;
 mod fault;
 mod head;
+mod heard;
+mod laws;
 mod lines;
 mod local;
+mod map_lines;
 mod memory;
-mod message;
 mod names;
 mod numbers;
 mod objects;
@@ -16,33 +19,42 @@ mod read;
 mod readers;
 mod reading;
 mod references;
+mod refspecs;
 mod remote_part;
 mod report_lines;
+mod reporting;
+mod running;
 mod scene;
-mod shallow;
+mod setting;
 mod standard;
-mod target;
+mod state_lines;
 mod text_lines;
+mod tokens;
 mod words;
 mod worktrees;
 
 pub use ends::{Sink, Source};
 pub use fault::SceneFault;
+pub use laws::{
+    a_configuration_has_the_lines_of_its_scene, a_configuration_is_broken_at_a_line_of_its_scene,
+};
+pub use map_lines::append_map;
 pub use memory::{MemorySink, MemorySource};
-pub use message::RefLogMessage;
 pub use options::SceneOptions;
 pub use read::{MAX_SCENE, ReadError, read_all};
 pub use references::Reference;
 pub use report_lines::{
     append_border, append_hex, append_id, append_keep, append_log, append_malformed,
-    append_malformed_word, append_map, append_ref, append_refused, append_sent,
+    append_malformed_word, append_ref, append_refused, append_sent,
 };
+pub use reporting::report;
+pub use running::run;
 pub use scene::{Scene, read_scene};
-pub use shallow::{Depth, Shallow};
 pub use standard::{StdSink, StdSource};
-pub use target::Target;
+pub use tokens::append_token;
 pub use words::{Command, HELP, VERSION, read_command};
-pub use worktrees::Worktree;
 
+#[cfg(test)]
+mod run_tests;
 #[cfg(test)]
 mod tests;

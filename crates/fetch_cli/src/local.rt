@@ -5,14 +5,17 @@ ghost use Rattle.fetch_store.specs.Borders.{set_of};
 ghost use Rattle.fetch_cli.specs.Gives.{Gives};
 ghost use Rattle.fetch_cli.specs.Scene.{local_of};
 
+use crate::config::read_config;
 use crate::fault::SceneFault;
 use crate::head::{Head, read_head};
 use crate::lines::Lines;
-use crate::readers::{After, BorderLine, Delimiter};
+use crate::readers::{BorderLine, Delimiter};
 use crate::reading::{read_group, read_next};
 use crate::references::{Reference, read_references};
-use crate::worktrees::{Worktree, WorktreeLine};
-use fetch_store::{Border, List, NoMemory, ObjectId, Text};
+use crate::worktrees::WorktreeLine;
+use fetch_config::File;
+use fetch_store::{Border, List, NoMemory, ObjectId};
+use fetch_update::Worktree;
 use std::alloc::Global;
 
 /// The repository of a scene, without its objects.
@@ -21,7 +24,7 @@ pub(crate) struct Local {
     pub head: Head,
     pub refs: List<Reference>,
     pub border: Border,
-    pub config: List<Text>,
+    pub config: File,
     pub worktrees: List<Worktree>,
 }
 
@@ -45,7 +48,7 @@ pub(crate) fn read_local<'a>(
     let (head, lines) = read_head(alloc, lines)?;
     let (refs, lines) = read_references(alloc, head.hash, lines)?;
     let (ids, lines) = read_group(alloc, b"border ", &BorderLine { hash: head.hash }, lines)?;
-    let (config, lines) = read_group(alloc, b"config ", &After(b"config "), lines)?;
+    let (config, lines) = read_config(alloc, lines)?;
     let (worktrees, lines) = read_group(alloc, b"worktree ", &WorktreeLine, lines)?;
     let (_, lines) = read_next(alloc, &Delimiter, lines)?;
     let border = border_of(alloc, ids)?;

@@ -1,7 +1,8 @@
 //! The objects of a scene.
 
-ghost use Rattle.std.specs.Prelude.{◌≡◌, IfOk};
+ghost use Rattle.std.specs.Prelude.{◌≡◌, IfOk, IfSome};
 ghost use Rattle.std.specs.List.{flat_map};
+ghost use Rattle.fetch_store.specs.Stores.{AreOf};
 ghost use Rattle.fetch_cli.specs.Gives.{Gives};
 ghost use Rattle.fetch_cli.specs.Scene.{bytes_in, objects_in, objects_of};
 
@@ -40,7 +41,8 @@ fn read_objects_in<R: Threads + Sync>(
     hash: Kind,
     payloads: &[Placed<'_>],
 ) -> Result<Option<List<(ObjectId, Object)>>, NoMemory>
-    ensures { IfOk result (λ found. found ≡ objects_in hash payloads.now) }
+    ensures found { IfOk result (λ found. found ≡ objects_in hash payloads.now) }
+    ensures of_hash { IfOk result (λ found. IfSome found (λ objects. AreOf hash objects)) }
 {
     let bytes = joined(alloc, payloads)?;
     match read_pack(rt, alloc, hash, &bytes, 1) {
@@ -62,7 +64,8 @@ pub(crate) fn read_objects<'a, R: Threads + Sync>(
     hash: Kind,
     lines: Lines<'a>,
 ) -> Result<(List<(ObjectId, Object)>, Lines<'a>), SceneFault>
-    ensures { Gives result (objects_of hash lines.entry) }
+    ensures found { Gives result (objects_of hash lines.entry) }
+    ensures of_hash { IfOk result (λ x. AreOf hash x.0) }
 {
     let place = lines.place();
     let (payloads, lines) = lines.payloads();

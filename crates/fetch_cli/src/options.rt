@@ -4,13 +4,13 @@ ghost use Rattle.std.specs.Prelude.{◌≡◌, ◌∷◌, ◌++◌, [], Some, If
 ghost use Rattle.fetch_cli.specs.SceneOptions as spec;
 
 use crate::lines::Placed;
-use crate::message::RefLogMessage;
 use crate::names::partial_name;
 use crate::numbers::{number, small_number};
 use crate::reading::ReadsLine;
-use crate::shallow::{Depth, Shallow};
+use fetch_negotiate::{Depth, Shallow};
 use fetch_specs::PartialName;
 use fetch_store::{List, NoMemory, Text, split_first};
+use fetch_update::RefLogMessage;
 use fetch_wire::ReplyBound;
 use std::alloc::Global;
 

@@ -8,7 +8,7 @@ ghost use Rattle.fetch_cli.specs.SceneRefs as spec;
 use crate::fault::SceneFault;
 use crate::lines::{Lines, Placed};
 use crate::names::full_name;
-use crate::target::Target;
+use fetch_refs::Target;
 use fetch_specs::FullName;
 use fetch_store::{Kind, List, NoMemory, ObjectId, split_first};
 use std::alloc::Global;

@@ -9,7 +9,8 @@ use crate::lines::Lines;
 use crate::options::{OptionLine, SceneOptions, scene_options};
 use crate::readers::{After, Delimiter, TagsLine};
 use crate::reading::{read_group, read_next};
-use fetch_specs::Tags;
+use crate::refspecs::RefSpecLine;
+use fetch_specs::{RefSpec, Tags};
 use fetch_store::{List, Text};
 use std::alloc::Global;
 
@@ -17,9 +18,9 @@ use std::alloc::Global;
 #[derive(Drop)]
 pub(crate) struct RemotePart {
     pub address: Text,
-    pub specs: List<Text>,
+    pub specs: List<RefSpec>,
     pub tags: Tags,
-    pub extra: List<Text>,
+    pub extra: List<RefSpec>,
     pub options: SceneOptions,
 }
 
@@ -32,9 +33,9 @@ pub(crate) fn read_remote<'a>(
     ensures { Gives result (remote_of lines.entry) }
 {
     let (address, lines) = read_next(alloc, &After(b"remote "), lines)?;
-    let (specs, lines) = read_group(alloc, b"fetch ", &After(b"fetch "), lines)?;
+    let (specs, lines) = read_group(alloc, b"fetch ", &RefSpecLine(b"fetch "), lines)?;
     let (tags, lines) = read_next(alloc, &TagsLine, lines)?;
-    let (extra, lines) = read_group(alloc, b"extra ", &After(b"extra "), lines)?;
+    let (extra, lines) = read_group(alloc, b"extra ", &RefSpecLine(b"extra "), lines)?;
     let (options, lines) = read_group(alloc, b"option ", &OptionLine, lines)?;
     let (_, lines) = read_next(alloc, &Delimiter, lines)?;
     let options = scene_options(alloc, options)?;

@@ -2,12 +2,12 @@
 
 ghost use Rattle.std.specs.Prelude.{◌≡◌, ◌<◌, ◌++◌, decimal, OnOk};
 ghost use Rattle.std.specs.List.{flat_map};
-ghost use Rattle.std.specs.Option.{option_copied};
 ghost use Rattle.hex.specs.Hex.{encode_lower};
 ghost use Rattle.fetch_wire.specs.LineViews.{line_of};
+ghost use Rattle.fetch_refs.specs.Targets.{seen};
 ghost use Rattle.fetch_cli.specs.ReportLines as spec;
 
-use crate::target::Target;
+use fetch_refs::{LogLine, TargetRef};
 use fetch_store::{NoMemory, ObjectId};
 use fetch_wire::LineRef;
 use itoa::Buffer;
@@ -82,7 +82,7 @@ pub fn append_hex(out: &mut Vec<u8>, id: &ObjectId) -> Result<(), NoMemory>
     append_hex_digits(out, id.as_bytes())
 }
 
-fn append_number(out: &mut Vec<u8>, n: usize) -> Result<(), NoMemory>
+pub(crate) fn append_number(out: &mut Vec<u8>, n: usize) -> Result<(), NoMemory>
     ensures { OnOk result (out.new.items ≡ out.old.items ++ decimal n) }
 {
     let mut buffer = Buffer::new();
@@ -91,12 +91,12 @@ fn append_number(out: &mut Vec<u8>, n: usize) -> Result<(), NoMemory>
 }
 
 #[tactic(auto, unfolding(crate::specs::ReportLines::target_text))]
-fn append_target(out: &mut Vec<u8>, target: &Target) -> Result<(), NoMemory>
-    ensures { OnOk result (out.new.items ≡ out.old.items ++ spec.target_text target.now) }
+pub(crate) fn append_target(out: &mut Vec<u8>, target: &TargetRef<'_>) -> Result<(), NoMemory>
+    ensures { OnOk result (out.new.items ≡ out.old.items ++ spec.target_text (seen target.now)) }
 {
     match target {
-        Target::Object(id) => append_hex(out, id)?,
-        Target::Symbolic(name) => {
+        TargetRef::Object(id) => append_hex(out, id)?,
+        TargetRef::Symbolic(name) => {
             out.extend_from_slice(b"@")?;
             out.extend_from_slice(name.as_bytes())?;
         }
@@ -106,8 +106,8 @@ fn append_target(out: &mut Vec<u8>, target: &Target) -> Result<(), NoMemory>
 
 /// A reference and what it points to.
 #[tactic(auto, unfolding(crate::specs::ReportLines::ref_line))]
-pub fn append_ref(out: &mut Vec<u8>, name: &[u8], target: &Target) -> Result<(), NoMemory>
-    ensures { OnOk result (out.new.items ≡ out.old.items ++ spec.ref_line name.now target.now) }
+pub fn append_ref(out: &mut Vec<u8>, name: &[u8], target: &TargetRef<'_>) -> Result<(), NoMemory>
+    ensures { OnOk result (out.new.items ≡ out.old.items ++ spec.ref_line name.now (seen target.now)) }
 {
     out.extend_from_slice(b"ref ")?;
     append_target(out, target)?;
@@ -117,25 +117,26 @@ pub fn append_ref(out: &mut Vec<u8>, name: &[u8], target: &Target) -> Result<(),
     Ok(())
 }
 
-/// A line of a reflog.
+#[tactic(auto, unfolding(crate::specs::ReportLines::change_text))]
+fn append_change(out: &mut Vec<u8>, old: &ObjectId, new: &ObjectId) -> Result<(), NoMemory>
+    ensures { OnOk result (out.new.items ≡ out.old.items ++ spec.change_text old.now new.now) }
+{
+    append_hex(out, old)?;
+    out.extend_from_slice(b" ")?;
+    append_hex(out, new)
+}
+
+/// A line of the reflog of this name.
 #[tactic(auto, unfolding(crate::specs::ReportLines::log_line))]
-pub fn append_log(
-    out: &mut Vec<u8>,
-    name: &[u8],
-    old: &ObjectId,
-    new: &ObjectId,
-    message: &[u8],
-) -> Result<(), NoMemory>
-    ensures { OnOk result (out.new.items ≡ out.old.items ++ spec.log_line name.now old.now new.now message.now) }
+pub fn append_log(out: &mut Vec<u8>, name: &[u8], line: &LogLine) -> Result<(), NoMemory>
+    ensures { OnOk result (out.new.items ≡ out.old.items ++ spec.log_line name.now line.now) }
 {
     out.extend_from_slice(b"log ")?;
     out.extend_from_slice(name)?;
     out.extend_from_slice(b" ")?;
-    append_hex(out, old)?;
+    append_change(out, &line.old, &line.new)?;
     out.extend_from_slice(b" ")?;
-    append_hex(out, new)?;
-    out.extend_from_slice(b" ")?;
-    out.extend_from_slice(message)?;
+    out.extend_from_slice(line.message.as_bytes())?;
     out.extend_from_slice(b"\n")?;
     Ok(())
 }
@@ -158,73 +159,6 @@ pub fn append_id(out: &mut Vec<u8>, id: &ObjectId) -> Result<(), NoMemory>
 {
     out.extend_from_slice(b"id ")?;
     append_hex(out, id)?;
-    out.extend_from_slice(b"\n")?;
-    Ok(())
-}
-
-#[tactic(auto, unfolding(crate::specs::ReportLines::destination_text))]
-fn append_destination(out: &mut Vec<u8>, destination: Option<&[u8]>) -> Result<(), NoMemory>
-    ensures { OnOk result (out.new.items ≡ out.old.items ++ spec.destination_text (option_copied destination.entry)) }
-{
-    match destination {
-        Some(name) => out.extend_from_slice(name)?,
-        None => out.extend_from_slice(b"(none)")?,
-    }
-    Ok(())
-}
-
-#[tactic(auto, unfolding(crate::specs::ReportLines::type_change_text))]
-fn append_type_change(out: &mut Vec<u8>, told: bool) -> Result<(), NoMemory>
-    ensures { OnOk result (out.new.items ≡ out.old.items ++ spec.type_change_text told) }
-{
-    if told {
-        out.extend_from_slice(b" [symbolic-to-direct]")?;
-    }
-    Ok(())
-}
-
-#[tactic(auto, unfolding(crate::specs::ReportLines::map_front))]
-fn append_map_front(out: &mut Vec<u8>, index: usize, source: &[u8]) -> Result<(), NoMemory>
-    ensures { OnOk result (out.new.items ≡ out.old.items ++ spec.map_front index source.now) }
-{
-    out.extend_from_slice(b"map ")?;
-    append_number(out, index)?;
-    out.extend_from_slice(b" ")?;
-    out.extend_from_slice(source)?;
-    Ok(())
-}
-
-#[tactic(auto, unfolding(crate::specs::ReportLines::map_back))]
-fn append_map_back(
-    out: &mut Vec<u8>,
-    destination: Option<&[u8]>,
-    mode: &[u8],
-    symbolic_to_direct: bool,
-) -> Result<(), NoMemory>
-    ensures { OnOk result (out.new.items ≡ out.old.items ++ spec.map_back (option_copied destination.entry) mode.now symbolic_to_direct) }
-{
-    out.extend_from_slice(b" -> ")?;
-    append_destination(out, destination)?;
-    out.extend_from_slice(b": ")?;
-    out.extend_from_slice(mode)?;
-    append_type_change(out, symbolic_to_direct)
-}
-
-/// What became of a mapping: its index, its source, its destination, the mode, and whether a symbolic reference
-/// became a direct one.
-#[tactic(auto, unfolding(crate::specs::ReportLines::map_line))]
-pub fn append_map(
-    out: &mut Vec<u8>,
-    index: usize,
-    source: &[u8],
-    destination: Option<&[u8]>,
-    mode: &[u8],
-    symbolic_to_direct: bool,
-) -> Result<(), NoMemory>
-    ensures { OnOk result (out.new.items ≡ out.old.items ++ spec.map_line index source.now (option_copied destination.entry) mode.now symbolic_to_direct) }
-{
-    append_map_front(out, index, source)?;
-    append_map_back(out, destination, mode, symbolic_to_direct)?;
     out.extend_from_slice(b"\n")?;
     Ok(())
 }

@@ -1,6 +1,7 @@
 //! A scene: all that a fetch needs, and what the peer says.
 
-ghost use Rattle.std.specs.Prelude.{◌≡◌, ◌≤◌, ◌^◌, length};
+ghost use Rattle.std.specs.Prelude.{◌≡◌, ◌≤◌, ◌^◌, length, IfOk};
+ghost use Rattle.fetch_store.specs.Stores.{AreOf};
 ghost use Rattle.fetch_cli.specs.Gives.{Gives};
 ghost use Rattle.fetch_cli.specs.Scene as spec;
 
@@ -16,9 +17,10 @@ use crate::reading::{read_each, read_next};
 use crate::references::Reference;
 use crate::remote_part::{RemotePart, read_remote};
 use crate::text_lines::read_lines;
-use crate::worktrees::Worktree;
-use fetch_specs::Tags;
+use fetch_config::File;
+use fetch_specs::{RefSpec, Tags};
 use fetch_store::{Border, Kind, List, Object, ObjectId, Text};
+use fetch_update::Worktree;
 use std::alloc::Global;
 use std::thread::Threads;
 
@@ -32,14 +34,15 @@ pub struct Scene {
     /// No name comes twice.
     pub refs: List<Reference>,
     pub border: Border,
-    pub config: List<Text>,
+    /// The repository's own, and trusted.
+    pub config: File,
     pub worktrees: List<Worktree>,
     /// Each under its id, in the order of the pack.
     pub objects: List<(ObjectId, Object)>,
     pub address: Text,
-    pub specs: List<Text>,
+    pub specs: List<RefSpec>,
     pub tags: Tags,
-    pub extra: List<Text>,
+    pub extra: List<RefSpec>,
     pub options: SceneOptions,
     /// What the peer says, piece by piece.
     pub pieces: List<Text>,
@@ -69,18 +72,31 @@ fn read_pieces(alloc: Global, len: usize, lines: Lines<'_>) -> Result<List<Text>
     Ok(pieces)
 }
 
+#[tactic(auto, unfolding(crate::specs::Scene::talk_of))]
+fn read_talk(
+    alloc: Global,
+    len: usize,
+    lines: Lines<'_>,
+) -> Result<(RemotePart, List<Text>), SceneFault>
+    ensures { Gives result (spec.talk_of len lines.entry) }
+{
+    let (remote, lines) = read_remote(alloc, lines)?;
+    let pieces = read_pieces(alloc, len, lines)?;
+    Ok((remote, pieces))
+}
+
 fn read_parts<R: Threads + Sync>(
     rt: &R,
     alloc: Global,
     len: usize,
     lines: Lines<'_>,
 ) -> Result<Scene, SceneFault>
-    ensures { Gives result (spec.scene_in len lines.entry) }
+    ensures found { Gives result (spec.scene_in len lines.entry) }
+    ensures of_hash { IfOk result (λ scene. AreOf scene.hash scene.objects) }
 {
     let (local, lines) = read_local(alloc, lines)?;
     let (objects, lines) = read_objects(rt, alloc, local.head.hash, lines)?;
-    let (remote, lines) = read_remote(alloc, lines)?;
-    let pieces = read_pieces(alloc, len, lines)?;
+    let (remote, pieces) = read_talk(alloc, len, lines)?;
     let Local {
         head,
         refs,
@@ -127,7 +143,9 @@ pub fn read_scene<R: Threads + Sync>(
     alloc: Global,
     bytes: &[u8],
 ) -> Result<Scene, SceneFault>
-    ensures { Gives result (spec.scene_of bytes.now) }
+    ensures found { Gives result (spec.scene_of bytes.now) }
+    // The objects are of the scene's hash.
+    ensures of_hash { IfOk result (λ scene. AreOf scene.hash scene.objects) }
 {
     if bytes.len() > MAX_SCENE {
         return Err(SceneFault::Malformed { place: MAX_SCENE });

@@ -2,8 +2,9 @@ use crate::{
     Command, MemorySink, MemorySource, ReadError, SceneFault, Sink, StdSink, StdSource, append_map,
     append_sent, read_all, read_command, read_scene,
 };
-use fetch_store::Text;
-use fetch_wire::LineRef;
+use fetch_store::{Kind, ObjectId, Text};
+use fetch_update::{Mode, TypeChange, Update};
+use fetch_wire::{LineRef, Mapping, Source, SpecIndex};
 use std::alloc::Global;
 use std::test::Fail;
 use std::thread::Threads;
@@ -28,6 +29,33 @@ fn places_of_what_is_no_scene(rt: HostRuntime) -> Result<(), Fail> {
         place_in(&rt, rt.alloc(), b"000cscene 1\n000ehash md5 \n"),
         Some(12)
     );
+    Ok(())
+}
+
+const SCENE: &[u8] =
+    b"000cscene 1\n000ehash sha1\n0014git-dir /w/.git\n0013config [fetch]\n0016config prune = on\n00010024PLNP\x00\x00\x00\x01\x00\x00\x00\x00%\x1f\xc4\xe0H\x0b\x1d0Y\xe8\xff\x9c\xe4\xfa\x99\xf2%\xb0?000010016remote /srv/a.git\n0029fetch +refs/heads/*:refs/remotes/o/*\n000etags none\n00010007abc0000";
+
+#[test]
+fn reads_a_scene(rt: HostRuntime) -> Result<(), Fail> {
+    let scene = read_scene(&rt, rt.alloc(), SCENE)?;
+    assert_eq!(rt;
+        scene.config.string(b"fetch", None, b"prune", true),
+        Some(b"on".as_slice())
+    );
+    assert_eq!(rt; scene.specs.len(), 1);
+    assert_eq!(rt; scene.pieces.len(), 1);
+    Ok(())
+}
+
+#[test]
+fn places_of_what_is_no_configuration(rt: HostRuntime) -> Result<(), Fail> {
+    let head = b"000cscene 1\n000ehash sha1\n000fgit-dir /w\n0013config [fetch]\n";
+    let mut bytes = Vec::from_slice(rt.alloc(), head)?;
+    bytes.extend_from_slice(b"000fconfig a\nb\n0001")?;
+    assert_eq!(rt; place_in(&rt, rt.alloc(), &bytes), Some(60));
+    bytes.truncate(60);
+    bytes.extend_from_slice(b"000dconfig k\n000dconfig =\n0001")?;
+    assert_eq!(rt; place_in(&rt, rt.alloc(), &bytes), Some(73));
     Ok(())
 }
 
@@ -62,9 +90,16 @@ fn lines_of_a_report(rt: HostRuntime) -> Result<(), Fail> {
     let mut out = Vec::new(rt.alloc());
     append_sent(&mut out, LineRef::Payload(b"a \"\\\x00\x7f\n"))?;
     append_sent(&mut out, LineRef::Delim)?;
-    append_map(&mut out, 0, b"refs/heads/main", None, b"up-to-date", false)?;
+    let mapping = Mapping {
+        remote: Source::ObjectId(ObjectId::null(Kind::Sha1)),
+        local: Some(Text::new(rt.alloc(), b"refs/heads/main")?),
+        spec_index: SpecIndex::ExplicitInRemote(0),
+    };
+    let mut update = Update::from_mode(Mode::New, 3);
+    update.type_change = Some(TypeChange::SymbolicToDirect);
+    append_map(&mut out, &update, &mapping)?;
     let text =
-        b"> \"a \\\"\\\\\\x00\\x7f\\n\"\n> 0001\nmap 0 refs/heads/main -> (none): up-to-date\n";
+        b"> \"a \\\"\\\\\\x00\\x7f\\n\"\n> 0001\nmap 3 0000000000000000000000000000000000000000 -> refs/heads/main: new [symbolic-to-direct]\n";
     assert_eq!(rt; out.as_slice(), text.as_slice());
     Ok(())
 }

@@ -6,16 +6,9 @@ ghost use Rattle.fetch_cli.specs.LineKinds.{worktree_in, worktree_of};
 use crate::lines::Placed;
 use crate::names::full_name;
 use crate::reading::ReadsLine;
-use fetch_specs::FullName;
 use fetch_store::{NoMemory, Text, split_first};
+use fetch_update::Worktree;
 use std::alloc::Global;
-
-/// A work tree: the branch that is checked out in a directory.
-#[derive(Debug, Drop)]
-pub struct Worktree {
-    pub branch: FullName,
-    pub directory: Text,
-}
 
 #[tactic(auto, unfolding(crate::specs::LineKinds::worktree_in))]
 fn branch_in_directory(alloc: Global, value: &[u8]) -> Result<Option<Worktree>, NoMemory>

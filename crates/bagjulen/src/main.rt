@@ -1,0 +1,25 @@
+//! Fetches what a scene says, and writes a report.
+#![tactic(auto)]
+
+use fetch_cli::{StdSink, StdSource, run};
+use std::process::ExitCode;
+use std::{env, io};
+
+/// The words behind the program's name.
+fn words(rt: &HostRuntime) -> io::Result<Vec<Vec<u8>>> {
+    let mut words = Vec::new(rt.alloc());
+    for word in env::args(rt)?.skip(1) {
+        words.push(word.into_bytes())?;
+    }
+    Ok(words)
+}
+
+fn main(rt: HostRuntime) -> ExitCode {
+    let Ok(words) = words(&rt) else {
+        return ExitCode::from(5);
+    };
+    let mut source = StdSource::new(rt.stdin());
+    let mut sink = StdSink::new(rt.stdout());
+    let status = run(&rt, rt.alloc(), &words, &mut source, &mut sink);
+    ExitCode::from(status)
+}

@@ -1,0 +1,100 @@
+-- What the program answers.
+use Rattle.std.proofs.Common.{◌≡◌, ◌≢◌, ◌⊎◌, inl, inr, ℕ, zero, suc, ◌^◌, ◌<◌, ◌≤◌, true, false, List, [], ◌∷◌, length, replicate, Option, Some, None, Result, Ok, Err, nat_lt, refl, sym, ap, ◌∙◌, arith}
+use Rattle.std.proofs.lemmas.List.{length-replicate}
+use Rattle.std.proofs.lemmas.Bool.Decides.{nat_tests}
+use Rattle.fetch_remote.specs.Repositories.{State}
+use Rattle.fetch_remote.specs.declared.fetch_error.FetchError.{FetchError}
+use Rattle.fetch_remote.specs.declared.fetch_error.FetchError.TheVariants as errors
+use Rattle.fetch_remote.specs.declared.outcome.Outcome.{Outcome}
+use Rattle.fetch_wire.specs.declared.line.Line.{Line}
+use Rattle.fetch_cli.specs.Ends.{IsAll, IsLongerThan}
+use Rattle.fetch_cli.specs.Heard.{lines_heard}
+use Rattle.fetch_cli.specs.Report.{report_with, report_by, report_of, requests_of, fetched_by, left_by, IsReport}
+use Rattle.fetch_cli.specs.ReportLines.{malformed_line}
+use Rattle.fetch_cli.specs.Run.{Are, IsSceneAnswer, IsInputAnswer, IsAnswerTo, IsAnswer}
+use Rattle.fetch_cli.specs.Scene.{limit, scene_of}
+use Rattle.fetch_cli.specs.Words.{command_of}
+use Rattle.fetch_cli.specs.declared.scene.Scene.{Scene}
+use Rattle.fetch_cli.specs.declared.words.Command.{Command}
+use Rattle.fetch_cli.specs.declared.words.Command.TheVariants.{Fetch, Help, Version}
+
+-- ---- a text that is longer than a scene may be
+
+long : (bytes : List ℕ) → limit < length bytes → scene_of bytes ≡ Err limit
+unfolding scene_of
+long bytes h =
+    let t : nat_lt limit (length bytes) ≡ true = grind (arith, nat_tests) in
+    rw t refl
+
+next : (n : ℕ) → n < suc n
+next n = omega arith
+
+-- a source that tells nothing may have had any bytes
+told_none : (n status : ℕ) (text : List ℕ) → limit < n → Are 4 (malformed_line limit) status text → IsInputAnswer None status text
+told_none n status text h is =
+    let far : limit < length (replicate {A = ℕ} n 0) = rw (length-replicate {A = ℕ} n 0) h in
+    record { bytes = replicate {A = ℕ} n 0; read = tt; answer = rw (long (replicate {A = ℕ} n 0) far) is }
+
+pub answers_too_long : (input : Option (List ℕ)) (status : ℕ) (text : List ℕ) → IsLongerThan limit input → Are 4 (malformed_line limit) status text → IsInputAnswer input status text
+answers_too_long None status text h is = told_none (suc limit) status text (next limit) is
+answers_too_long (Some bytes) status text h is = record { bytes = bytes; read = refl; answer = rw (long bytes h) is }
+
+pub answers_scene : (input : Option (List ℕ)) (bytes : List ℕ) (scene : Scene) (status : ℕ) (text : List ℕ) → IsAll input bytes → scene_of bytes ≡ Ok scene → IsReport scene status text → IsInputAnswer input status text
+answers_scene input bytes scene status text all found is = record { bytes = bytes; read = all; answer = rw found is }
+
+pub answers_none : (input : Option (List ℕ)) (bytes : List ℕ) (place status : ℕ) (text : List ℕ) → IsAll input bytes → scene_of bytes ≡ Err place → Are 4 (malformed_line place) status text → IsInputAnswer input status text
+answers_none input bytes place status text all found is = record { bytes = bytes; read = all; answer = rw found is }
+
+-- ---- the statuses of answers
+
+-- none of those that the ends and want of memory have
+abbrev pub IsAnswered : ℕ → Type 0
+IsAnswered status = (status ≢ 2) × (status ≢ 3) × (status ≢ 5) × (status ≤ 6)
+
+answered_by : (wanted status : ℕ) → status ≡ wanted → IsAnswered wanted → IsAnswered status
+answered_by wanted status is h = rw is h
+
+zero_answers : IsAnswered 0
+zero_answers = (λ e. cc, λ e. cc, λ e. cc, omega arith)
+
+one_answers : IsAnswered 1
+one_answers = (λ e. cc, λ e. cc, λ e. cc, omega arith)
+
+four_answers : IsAnswered 4
+four_answers = (λ e. cc, λ e. cc, λ e. cc, omega arith)
+
+six_answers : IsAnswered 6
+six_answers = (λ e. cc, λ e. cc, λ e. cc, omega arith)
+
+answered_with : (sent : List Line) (result : Result (Outcome × State) FetchError) (left : State) → IsAnswered (report_with sent result left).0
+answered_with sent (Ok x) left = zero_answers
+answered_with sent (Err errors.Unbuilt) left = six_answers
+answered_with sent (Err (errors.Prepare e)) left = one_answers
+answered_with sent (Err (errors.Receive e)) left = one_answers
+answered_with sent (Err errors.NoMemory) left = one_answers
+
+answered_report : (scene : Scene) → IsAnswered (report_of scene).0
+unfolding report_by
+answered_report scene = answered_with (lines_heard (requests_of scene)) (fetched_by scene) (left_by scene)
+
+is_one : (status : ℕ) → (status ≡ 1) ⊎ (status ≢ 1)
+is_one zero = inr (λ e. cc)
+is_one (suc zero) = inl refl
+is_one (suc (suc n)) = inr (λ e. cc)
+
+known_report : (scene : Scene) (status : ℕ) (text : List ℕ) → (status ≡ 1) ⊎ (status ≢ 1) → IsReport scene status text → IsAnswered status
+known_report scene status text (inl one) r = answered_by 1 status one one_answers
+known_report scene status text (inr other) r = answered_by (report_of scene).0 status (sym (ap (λ (x : ℕ × List ℕ). x.0) (r.whole other))) (answered_report scene)
+
+known_scene : (found : Result Scene ℕ) (status : ℕ) (text : List ℕ) → IsSceneAnswer found status text → IsAnswered status
+known_scene (Ok scene) status text r = known_report scene status text (is_one status) r
+known_scene (Err place) status text r = answered_by 4 status r.0 four_answers
+
+known_to : (command : Result Command ℕ) (input : Option (List ℕ)) (status : ℕ) (text : List ℕ) → IsAnswerTo command input status text → IsAnswered status
+known_to (Err number) input status text r = answered_by 4 status r.0 four_answers
+known_to (Ok Help) input status text r = answered_by 0 status r.0 zero_answers
+known_to (Ok Version) input status text r = answered_by 0 status r.0 zero_answers
+known_to (Ok Fetch) input status text r = known_scene (scene_of r.bytes) status text r.answer
+
+pub known : (words : List (List ℕ)) (input : Option (List ℕ)) (status : ℕ) (text : List ℕ) → IsAnswer words input status text → IsAnswered status
+known words input status text r = known_to (command_of words) input status text r.is

@@ -1,0 +1,8 @@
+use Rattle.std.proofs.Common.{◌≡◌, ap, List, ℕ}
+use Rattle.std.specs.List.{concat}
+use Rattle.fetch_cli.proofs.Reported.{reports_if}
+use Rattle.fetch_cli.proofs.reporting.report.Goals as goal
+
+pub returns : goal.returns
+returns g c =
+    reports_if c.args.scene _ _ c.append_report.result _ _ _ _ _ _ c.in_ok-setting.ensures.given c.in_ok-setting.ensures.found (ap (λ (pieces : List (List ℕ)). concat pieces) c.in_ok-setting.ensures.pieces) c.fetch-fetched.ensures c.append_report.ensures

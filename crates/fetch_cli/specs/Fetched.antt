@@ -1,0 +1,35 @@
+-- A fetch from a peer that says these bytes and never fails.
+use Rattle.std.specs.Prelude.{◌≡◌, ℕ, List, Result, Ok, Err, ⊤}
+use Rattle.fetch_wire.specs.Talks.{IsFront}
+use Rattle.fetch_wire.specs.Written.{lines_text}
+use Rattle.fetch_remote.specs.Fetching.{fetched_in, requests_in, left_in}
+use Rattle.fetch_remote.specs.Form.{Given}
+use Rattle.fetch_remote.specs.Repositories.{State}
+use Rattle.fetch_remote.specs.declared.fetch_error.FetchError.{FetchError}
+use Rattle.fetch_remote.specs.declared.fetch_error.FetchError.TheVariants as errors
+use Rattle.fetch_remote.specs.declared.outcome.Outcome.{Outcome}
+
+-- It was done, and the peer heard all requests.
+pub record HasDone (g : Given) (found : State) (stream : List ℕ) (outcome : Outcome) (left : State) (heard : List ℕ) : Type 0 where
+  pub fetched : fetched_in g found stream ≡ Ok (outcome, left)
+  pub requests : heard ≡ lines_text (requests_in g found stream)
+
+-- It was refused, and the peer heard a front of the requests.
+pub record HasRefused (g : Given) (found : State) (stream : List ℕ) (e : FetchError) (now : State) (heard : List ℕ) : Type 0 where
+  pub fetched : fetched_in g found stream ≡ Err e
+  pub left : now ≡ left_in g found stream
+  pub front : IsFront heard (lines_text (requests_in g found stream))
+
+-- The peer doesn't fail; memory may.
+abbrev pub HasRefusedBy : Given → State → List ℕ → FetchError → State → List ℕ → Type 0
+HasRefusedBy g found stream errors.NoMemory left heard = ⊤
+HasRefusedBy g found stream errors.Unbuilt left heard = HasRefused g found stream errors.Unbuilt left heard
+HasRefusedBy g found stream (errors.Prepare e) left heard = HasRefused g found stream (errors.Prepare e) left heard
+HasRefusedBy g found stream (errors.Receive e) left heard = HasRefused g found stream (errors.Receive e) left heard
+
+abbrev pub HasFetchedBy : Given → State → List ℕ → Result Outcome FetchError → State → List ℕ → Type 0
+HasFetchedBy g found stream (Ok outcome) left heard = HasDone g found stream outcome left heard
+HasFetchedBy g found stream (Err e) left heard = HasRefusedBy g found stream e left heard
+
+pub record HasFetched (g : Given) (found : State) (stream : List ℕ) (result : Result Outcome FetchError) (left : State) (heard : List ℕ) : Type 0 where
+  pub by : HasFetchedBy g found stream result left heard

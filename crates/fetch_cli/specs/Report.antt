@@ -1,0 +1,191 @@
+-- The report of a scene.
+use Rattle.std.specs.Prelude.{◌≡◌, ◌≢◌, ℕ, pos, Bool, true, false, List, [], ◌∷◌, ◌++◌, codes, Option, Some, None, Result, Ok, Err, if◌then◌else◌}
+use Rattle.std.specs.FinMap as map
+use Rattle.std.specs.List.{concat, flat_map, slice_get}
+use Rattle.fetch_store.specs.Borders.{ids_of}
+use Rattle.fetch_store.specs.Stores.{add_all}
+use Rattle.fetch_specs.specs.Names.{is_full_name}
+use Rattle.fetch_specs.specs.Specs.{Spec}
+use Rattle.fetch_refs.specs.Logs.{lines_of}
+use Rattle.fetch_refs.specs.Names.{Names, Logs, RefsValue}
+use Rattle.fetch_refs.specs.declared.log.Signature.{Signature}
+use Rattle.fetch_refs.specs.declared.target.Target.{Target}
+use Rattle.fetch_wire.specs.Talks.{IsFront}
+use Rattle.fetch_wire.specs.Written.{lines_text}
+use Rattle.fetch_wire.specs.declared.line.Line.{Line}
+use Rattle.fetch_wire.specs.declared.mapping.Mapping.{Mapping}
+use Rattle.fetch_update.specs.declared.update.Outcome.{Outcome as Updates}
+use Rattle.fetch_update.specs.declared.update.Update.{Update}
+use Rattle.fetch_remote.specs.Fetching.{fetched_in, requests_in, left_in}
+use Rattle.fetch_remote.specs.Form.{Given}
+use Rattle.fetch_remote.specs.Repositories.{State, logging_of}
+use Rattle.fetch_remote.specs.declared.fetch_error.FetchError.{FetchError}
+use Rattle.fetch_remote.specs.declared.fetch_error.FetchError.TheVariants as errors
+use Rattle.fetch_remote.specs.declared.options.FetchOptions.{FetchOptions}
+use Rattle.fetch_remote.specs.declared.outcome.Outcome.{Outcome}
+use Rattle.fetch_remote.specs.declared.outcome.PackOutcome.{PackOutcome}
+use Rattle.fetch_remote.specs.declared.outcome.Status.{Status}
+use Rattle.fetch_remote.specs.declared.outcome.Status.TheVariants as statuses
+use Rattle.fetch_cli.specs.Heard.{lines_heard}
+use Rattle.fetch_cli.specs.MapLines.{map_line}
+use Rattle.fetch_cli.specs.ReportLines.{sent_line, ref_line, log_line, border_line, id_line, keep_line, refused_line}
+use Rattle.fetch_cli.specs.Tokens.{token}
+use Rattle.fetch_cli.specs.declared.options.SceneOptions.{SceneOptions}
+use Rattle.fetch_cli.specs.declared.references.Reference.{Reference}
+use Rattle.fetch_cli.specs.declared.scene.Scene.{Scene}
+
+-- ---- what a scene says
+
+-- who writes the lines of reflogs
+unfoldable pub committer : Signature
+committer = record { name = codes "fetch"; email = codes "fetch@localhost"; seconds = 0; offset_minutes = pos 0 }
+
+abbrev pub fetch_options : SceneOptions → List Spec → FetchOptions
+fetch_options o extra = record {
+  map = record { prefix_from_spec_as_filter_on_remote = o.filter; handshake_parameters = o.parameters; extra_refspecs = extra; max_reply_bytes = o.bound };
+  dry_run = o.dry_run;
+  write_packed_refs_only = o.packed_only;
+  reflog_message = o.message;
+  shallow = o.shallow;
+}
+
+-- the remote with its one address, the options, and what is read of the repository
+abbrev pub given_of : Scene → Given
+given_of s = record {
+  remote = record { urls = s.address ∷ []; fetch_specs = s.specs; tags = s.tags };
+  options = fetch_options s.options s.extra;
+  setup = record {
+    settings = record { kind = s.hash; config = s.config; lenient = s.lenient; git_dir = s.git_dir; committer = committer };
+    logging = logging_of s.config s.workdir;
+  };
+}
+
+-- with each reference at its name
+abbrev pub with_references : Names → List Reference → Names
+with_references names [] = names
+with_references names (r ∷ rs) = with_references (map.insert names r.name r.target) rs
+
+-- the objects, the border and the references, and no reflogs
+abbrev pub found_of : Scene → State
+found_of s = record {
+  hash = s.hash;
+  objects = add_all map.empty s.objects;
+  border = s.border;
+  refs = record { hash = s.hash; names = with_references map.empty s.refs; logs = map.empty };
+}
+
+-- all that the peer says
+abbrev pub stream_of : Scene → List ℕ
+stream_of s = concat s.pieces
+
+abbrev pub fetched_by : Scene → Result (Outcome × State) FetchError
+fetched_by s = fetched_in (given_of s) (found_of s) (stream_of s)
+
+abbrev pub requests_of : Scene → List ℕ
+requests_of s = lines_text (requests_in (given_of s) (found_of s) (stream_of s))
+
+abbrev pub left_by : Scene → State
+left_by s = left_in (given_of s) (found_of s) (stream_of s)
+
+-- ---- the lines of a report
+
+abbrev pub sent_lines : List Line → List ℕ
+sent_lines lines = flat_map sent_line lines
+
+-- the line of an update, where its mapping is there
+abbrev pub map_line_at : Update → Option Mapping → List ℕ
+map_line_at update None = []
+map_line_at update (Some mapping) = map_line update mapping
+
+-- the line of an update of one of these mappings
+abbrev pub update_line : List Mapping → Update → List ℕ
+update_line mappings update = map_line_at update (slice_get mappings update.mapping_index)
+
+abbrev pub map_lines : List Mapping → List Update → List ℕ
+map_lines mappings updates = flat_map (update_line mappings) updates
+
+abbrev pub ref_lines : Names → List ℕ
+ref_lines names = flat_map (λ e. ref_line e.0 e.1) (map.entries names)
+
+-- Full names alone have reflogs.
+abbrev pub log_lines_at : Logs → List ℕ → List ℕ
+log_lines_at logs name = if is_full_name name then flat_map (log_line name) (lines_of logs name) else []
+
+-- the reflogs of the references
+abbrev pub log_lines : RefsValue → List ℕ
+log_lines refs = flat_map (λ e. log_lines_at refs.logs e.0) (map.entries refs.names)
+
+-- references, reflogs, border and ids, each in ascending order
+unfoldable pub state_lines : State → List ℕ
+state_lines s = ref_lines s.refs.names ++ log_lines s.refs ++ flat_map border_line (ids_of s.border) ++ flat_map id_line (map.keys s.objects)
+
+abbrev pub updates_of : Status → Updates
+updates_of (statuses.NoPackReceived dry_run negotiate updates) = updates
+updates_of (statuses.Change negotiate pack updates) = updates
+
+abbrev pub keep_path_of : Status → Option (List ℕ)
+keep_path_of (statuses.NoPackReceived dry_run negotiate updates) = None
+keep_path_of (statuses.Change negotiate pack updates) = pack.keep_path
+
+-- the keep file, where one stays
+abbrev pub keep_lines : Option (List ℕ) → List ℕ
+keep_lines None = []
+keep_lines (Some path) = keep_line path
+
+unfoldable pub done_text : List Line → Outcome → State → List ℕ
+done_text sent outcome after =
+    sent_lines sent ++ map_lines outcome.ref_map.mappings (updates_of outcome.status).updates ++ state_lines after ++ keep_lines (keep_path_of outcome.status) ++ codes "ok\n"
+
+unfoldable pub refused_text : List Line → FetchError → State → List ℕ
+refused_text sent e left = sent_lines sent ++ refused_line (token e) ++ state_lines left
+
+unfoldable pub unbuilt_line : List ℕ
+unbuilt_line = codes "unbuilt\n"
+
+-- ---- the report
+
+-- the status, and the report with these lines sent
+abbrev pub report_with : List Line → Result (Outcome × State) FetchError → State → ℕ × List ℕ
+report_with sent (Ok x) left = (0, done_text sent x.0 x.1)
+report_with sent (Err errors.Unbuilt) left = (6, unbuilt_line)
+report_with sent (Err (errors.Prepare e)) left = (1, refused_text sent (errors.Prepare e) left)
+report_with sent (Err (errors.Receive e)) left = (1, refused_text sent (errors.Receive e) left)
+report_with sent (Err errors.NoMemory) left = (1, refused_text sent errors.NoMemory left)
+
+-- what was answered, with the state that was left
+abbrev pub beside : State → Result Outcome FetchError → Result (Outcome × State) FetchError
+beside left (Ok outcome) = Ok (outcome, left)
+beside left (Err e) = Err e
+
+-- the report of a fetch that answered this, left this state, and whose peer heard these bytes
+pub record Tells (old new : List ℕ) (status : ℕ) (result : Result Outcome FetchError) (left : State) (heard : List ℕ) : Type 0 where
+  pub text : List ℕ
+  pub is : report_with (lines_heard heard) (beside left result) left ≡ (status, text)
+  pub known : result ≢ Err errors.NoMemory
+  pub added : new ≡ old ++ text
+
+-- the report of a scene whose peer heard these bytes
+unfoldable pub report_by : Scene → List ℕ → ℕ × List ℕ
+report_by s heard = report_with (lines_heard heard) (fetched_by s) (left_by s)
+
+-- the report of a scene whose peer heard all requests
+abbrev pub report_of : Scene → ℕ × List ℕ
+report_of s = report_by s (requests_of s)
+
+-- A refused fetch may have sent a front of its requests.
+pub record IsRefusedReport (s : Scene) (text : List ℕ) : Type 0 where
+  pub heard : List ℕ
+  pub front : IsFront heard (requests_of s)
+  pub is : report_by s heard ≡ (1, text)
+
+-- The status and the text are the report of the scene. At status 1, which is a refusal, a front of the requests may have
+-- been sent.
+pub record IsReport (s : Scene) (status : ℕ) (text : List ℕ) : Type 0 where
+  pub whole : status ≢ 1 → report_of s ≡ (status, text)
+  pub refused : status ≡ 1 → IsRefusedReport s text
+
+-- The report of the scene stands behind what was there.
+pub record Reports (s : Scene) (old new : List ℕ) (status : ℕ) : Type 0 where
+  pub text : List ℕ
+  pub reported : IsReport s status text
+  pub added : new ≡ old ++ text

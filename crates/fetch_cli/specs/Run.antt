@@ -1,0 +1,61 @@
+-- What the program writes, and its status.
+use Rattle.std.specs.Prelude.{◌≡◌, ℕ, Bool, true, false, List, Option, Result, Ok, Err}
+use Rattle.std.specs.Io.KnownBytes.{Appends}
+use Rattle.fetch_cli.specs.declared.scene.Scene.{Scene}
+use Rattle.fetch_cli.specs.declared.words.Command.{Command}
+use Rattle.fetch_cli.specs.declared.words.Command.TheVariants.{Fetch, Help, Version}
+use Rattle.fetch_cli.specs.Ends.{IsFront, IsAll}
+use Rattle.fetch_cli.specs.Report.{IsReport}
+use Rattle.fetch_cli.specs.ReportLines.{malformed_line, malformed_word_line}
+use Rattle.fetch_cli.specs.Scene.{scene_of}
+use Rattle.fetch_cli.specs.Words.{command_of, help_text, version_text}
+
+-- this status and this text
+abbrev pub Are : ℕ → List ℕ → ℕ → List ℕ → Type 0
+Are wanted words status text = (status ≡ wanted) × (text ≡ words)
+
+-- the report of a scene; or where the bytes are none
+abbrev pub IsSceneAnswer : Result Scene ℕ → ℕ → List ℕ → Type 0
+IsSceneAnswer (Ok scene) status text = IsReport scene status text
+IsSceneAnswer (Err place) status text = Are 4 (malformed_line place) status text
+
+-- The answer to all that is in the input, where the source tells it.
+pub record IsInputAnswer (input : Option (List ℕ)) (status : ℕ) (text : List ℕ) : Type 0 where
+  pub bytes : List ℕ
+  pub read : IsAll input bytes
+  pub answer : IsSceneAnswer (scene_of bytes) status text
+
+abbrev pub IsAnswerTo : Result Command ℕ → Option (List ℕ) → ℕ → List ℕ → Type 0
+IsAnswerTo (Err number) input status text = Are 4 (malformed_word_line number) status text
+IsAnswerTo (Ok Help) input status text = Are 0 help_text status text
+IsAnswerTo (Ok Version) input status text = Are 0 version_text status text
+IsAnswerTo (Ok Fetch) input status text = IsInputAnswer input status text
+
+-- what these words are answered, with this input
+pub record IsAnswer (words : List (List ℕ)) (input : Option (List ℕ)) (status : ℕ) (text : List ℕ) : Type 0 where
+  pub is : IsAnswerTo (command_of words) input status text
+
+-- whether the words ask for a fetch; others leave the source alone
+abbrev pub is_fetch : Result Command ℕ → Bool
+is_fetch (Ok Fetch) = true
+is_fetch (Ok Help) = false
+is_fetch (Ok Version) = false
+is_fetch (Err number) = false
+
+abbrev pub asks_fetch : List (List ℕ) → Bool
+asks_fetch words = is_fetch (command_of words)
+
+-- The answer, with this status, was written whole.
+pub record Writes (words : List (List ℕ)) (input old new : Option (List ℕ)) (status : ℕ) : Type 0 where
+  pub text : List ℕ
+  pub answer : IsAnswer words input status text
+  pub wrote : Appends old new text
+
+-- A front of the answer was written.
+pub record WritesFront (words : List (List ℕ)) (input old new : Option (List ℕ)) : Type 0 where
+  pub status : ℕ
+  pub text : List ℕ
+  pub answer : IsAnswer words input status text
+  pub front : List ℕ
+  pub is_front : IsFront front text
+  pub wrote : Appends old new front

@@ -1,0 +1,213 @@
+//! The report of a scene.
+
+ghost use Rattle.std.specs.Prelude.{◌≡◌, ◌++◌, IfOk, OnOk};
+ghost use Rattle.std.specs.List.{concat};
+ghost use Rattle.std.specs.Option.{option_copied};
+ghost use Rattle.fetch_store.specs.Stores.{AreOf};
+ghost use Rattle.fetch_remote.specs.Repositories.{state_of, setup_of};
+ghost use Rattle.fetch_cli.specs.Fetched.{HasFetched};
+ghost use Rattle.fetch_cli.specs.Heard.{lines_heard};
+ghost use Rattle.fetch_cli.specs.Report as spec;
+ghost use Rattle.fetch_cli.specs.Report.{Reports};
+ghost use Rattle.fetch_cli.specs.ReportLines.{refused_line};
+ghost use Rattle.fetch_cli.specs.Tokens.{token};
+
+use crate::heard::append_heard;
+use crate::map_lines::append_map;
+use crate::report_lines::{append_keep, append_refused};
+use crate::scene::Scene;
+use crate::setting::{Setting, set_up};
+use crate::state_lines::append_state;
+use crate::tokens::append_token;
+use fetch_remote::{FetchError, Outcome, Repository, Status};
+use fetch_store::{List, MemoryFiles, NoMemory, Text};
+use fetch_update::{ScriptedWorktrees, Update, update};
+use fetch_wire::{Mapping, ScriptedInterrupt, ScriptedPeer};
+use std::alloc::Global;
+use std::thread::Threads;
+
+/// A fetch that was made: what it answered, the repository that it left, and its peer.
+#[derive(Drop)]
+pub(crate) struct Fetched {
+    result: Result<Outcome, FetchError>,
+    repo: Repository,
+    peer: ScriptedPeer,
+}
+
+/// Fetches as it is set up, from a peer that never fails.
+fn fetch<R: Threads + Sync>(rt: &R, alloc: Global, setting: Setting) -> Fetched
+    ensures { HasFetched (record { remote = setting.remote; options = setting.options; setup = setup_of setting.repo }) (state_of setting.repo) (concat setting.pieces)
+        result.result (state_of result.repo) result.peer.talk.heard }
+{
+    let Setting {
+        repo,
+        remote,
+        options,
+        worktrees,
+        pieces,
+    } = setting;
+    let mut repo = repo;
+    let mut peer = ScriptedPeer::new(alloc, pieces.into_vec(), Vec::new(alloc));
+    let mut interrupt = ScriptedInterrupt::new(Vec::new(alloc));
+    let mut files = MemoryFiles::new(Vec::new(alloc));
+    let mut worktrees = ScriptedWorktrees::new(alloc, worktrees.into_vec(), Vec::new(alloc));
+    let result = remote.fetch(
+        rt,
+        alloc,
+        &mut repo,
+        &mut peer,
+        &mut interrupt,
+        &mut files,
+        &mut worktrees,
+        options,
+    );
+    Fetched { result, repo, peer }
+}
+
+/// The line of an update, where its mapping is there.
+fn append_map_at(
+    out: &mut Vec<u8>,
+    update: &Update,
+    mapping: Option<&Mapping>,
+) -> Result<(), NoMemory>
+    ensures { OnOk result (out.new.items ≡ out.old.items ++ spec.map_line_at update.now (option_copied mapping.entry)) }
+{
+    match mapping {
+        Some(mapping) => append_map(out, update, mapping),
+        None => Ok(()),
+    }
+}
+
+fn append_update(out: &mut Vec<u8>, mappings: &[Mapping], update: &Update) -> Result<(), NoMemory>
+    ensures { OnOk result (out.new.items ≡ out.old.items ++ spec.update_line mappings.now update.now) }
+{
+    append_map_at(out, update, mappings.get(update.mapping_index))
+}
+
+fn append_maps(out: &mut Vec<u8>, mappings: &[Mapping], updates: &[Update]) -> Result<(), NoMemory>
+    ensures { OnOk result (out.new.items ≡ out.old.items ++ spec.map_lines mappings.now updates.now) }
+{
+    for update in updates {
+        append_update(out, mappings, update)?;
+    }
+    Ok(())
+}
+
+fn updates_of(status: &Status) -> &update::Outcome
+    ensures { result.now ≡ spec.updates_of status.now }
+{
+    match status {
+        Status::NoPackReceived { update_refs, .. } => update_refs,
+        Status::Change { update_refs, .. } => update_refs,
+    }
+}
+
+/// The keep file, where one stays.
+fn append_keep_of(out: &mut Vec<u8>, status: &Status) -> Result<(), NoMemory>
+    ensures { OnOk result (out.new.items ≡ out.old.items ++ spec.keep_lines (spec.keep_path_of status.now)) }
+{
+    match status {
+        Status::NoPackReceived { .. } => Ok(()),
+        Status::Change {
+            write_pack_bundle,
+            ..
+        } => match &write_pack_bundle.keep_path {
+            Some(path) => append_keep(out, path.as_bytes()),
+            None => Ok(()),
+        },
+    }
+}
+
+/// The report of a fetch that was done.
+#[tactic(auto, unfolding(crate::specs::Report::done_text))]
+fn append_done(
+    out: &mut Vec<u8>,
+    heard: &[u8],
+    outcome: &Outcome,
+    repo: &Repository,
+) -> Result<(), NoMemory>
+    ensures { OnOk result (out.new.items ≡ out.old.items ++ spec.done_text (lines_heard heard.now) outcome.now (state_of repo.now)) }
+{
+    append_heard(out, heard)?;
+    append_maps(
+        out,
+        outcome.ref_map.mappings.as_slice(),
+        updates_of(&outcome.status).updates.as_slice(),
+    )?;
+    append_state(out, repo)?;
+    append_keep_of(out, &outcome.status)?;
+    out.extend_from_slice(b"ok\n")?;
+    Ok(())
+}
+
+/// The line of a refusal.
+fn append_refusal(out: &mut Vec<u8>, refusal: &FetchError) -> Result<(), NoMemory>
+    ensures { OnOk result (out.new.items ≡ out.old.items ++ refused_line (token refusal.now)) }
+{
+    let mut token = Vec::new(*out.allocator());
+    append_token(&mut token, refusal)?;
+    append_refused(out, &token)
+}
+
+/// The report of a fetch that was refused.
+#[tactic(auto, unfolding(crate::specs::Report::refused_text))]
+fn append_refused_fetch(
+    out: &mut Vec<u8>,
+    heard: &[u8],
+    refusal: &FetchError,
+    repo: &Repository,
+) -> Result<(), NoMemory>
+    ensures { OnOk result (out.new.items ≡ out.old.items ++ spec.refused_text (lines_heard heard.now) refusal.now (state_of repo.now)) }
+{
+    append_heard(out, heard)?;
+    append_refusal(out, refusal)?;
+    append_state(out, repo)
+}
+
+#[tactic(auto, unfolding(crate::specs::Report::unbuilt_line))]
+fn append_unbuilt(out: &mut Vec<u8>) -> Result<(), NoMemory>
+    ensures { OnOk result (out.new.items ≡ out.old.items ++ spec.unbuilt_line) }
+{
+    out.extend_from_slice(b"unbuilt\n")?;
+    Ok(())
+}
+
+/// The report of a fetch, and its status.
+fn append_report(out: &mut Vec<u8>, fetched: &Fetched) -> Result<u8, NoMemory>
+    ensures { IfOk result (λ status. spec.Tells out.old.items out.new.items status fetched.now.result (state_of fetched.now.repo) fetched.now.peer.talk.heard) }
+{
+    let heard = fetched.peer.heard();
+    match &fetched.result {
+        Ok(outcome) => {
+            append_done(out, heard, outcome, &fetched.repo)?;
+            Ok(0)
+        }
+        Err(FetchError::Unbuilt) => {
+            append_unbuilt(out)?;
+            Ok(6)
+        }
+        Err(FetchError::NoMemory) => Err(NoMemory),
+        Err(refusal) => {
+            append_refused_fetch(out, heard, refusal, &fetched.repo)?;
+            Ok(1)
+        }
+    }
+}
+
+/// Fetches as a scene says, and puts the report behind what is there: its status, which is 0 where the fetch was done, 1
+/// where it was refused, and 6 where it isn't built yet. After an error a part of the report may stand there.
+///
+/// The objects of the scene are of its hash, as those that are read are.
+pub fn report<R: Threads + Sync>(
+    rt: &R,
+    alloc: Global,
+    scene: Scene,
+    out: &mut Vec<u8>,
+) -> Result<u8, NoMemory>
+    requires { AreOf scene.hash scene.objects }
+    ensures { IfOk result (λ status. Reports scene out.old.items out.new.items status) }
+{
+    let setting = set_up(alloc, scene)?;
+    let fetched = fetch(rt, alloc, setting);
+    append_report(out, &fetched)
+}
