@@ -1,14 +1,14 @@
 -- One conversation after another, and refusals told in another type.
-use Rattle.std.proofs.Common.{◌≡◌, ℕ, Bool, true, false, List, [], ◌∷◌, ◌++◌, Option, Some, None, Result, Ok, Err, refl, sym, ap, ◌∙◌, append_assoc}
+use Rattle.std.proofs.Common.{◌≡◌, ℕ, Bool, false, List, [], ◌++◌, Option, Some, None, Result, Ok, Err, refl, sym, ap, ◌∙◌, append_assoc}
 use Rattle.std.proofs.lemmas.List.{append-nil}
 use Rattle.std.proofs.lemmas.List.Concat.{flat_map-append}
-use Rattle.fetch_wire.specs.Talks.{Talk, Talks, IsFront}
+use Rattle.fetch_wire.specs.Talks.{Talk, IsFront}
 use Rattle.fetch_wire.specs.Talks.{Talks-then}
 use Rattle.fetch_wire.specs.declared.section.Trouble.{Trouble}
 use Rattle.fetch_wire.specs.declared.line.Line.{Line}
 use Rattle.fetch_wire.specs.Lines.{section_at}
 use Rattle.fetch_wire.specs.Written.{line_text, lines_text}
-use Rattle.fetch_remote.specs.Conversation.{Conversation, ends, asks, sent_in, answer_in, after_reply, after_answer, and_then, map_refusal, told_as, beside, Concludes, RefusesAtEnd, Breaks, ConversesBy, Converses}
+use Rattle.fetch_remote.specs.Conversation.{Conversation, ends, asks, sent_in, answer_in, after_reply, after_answer, and_then, map_refusal, told_as, beside, Concludes, RefusesAtEnd, Breaks}
 
 abbrev pub sent_behind : {X Y E : Type 0} → ℕ → (X → Conversation Y E) → Result (X × List ℕ) E → List Line
 sent_behind bound f (Ok x) = sent_in bound (f x.0) x.1

@@ -1,13 +1,13 @@
 -- From the conversation to the fetch.
 use Rattle.std.proofs.Common.{◌≡◌, ℕ, Bool, true, false, List, [], ◌∷◌, ◌++◌, Option, Some, None, Result, Ok, Err, refl, sym, ap, subst, ◌∙◌, append_assoc}
-use Rattle.std.specs.Prelude.{◌⊎◌, ◌&&◌, if◌then◌else◌}
+use Rattle.std.specs.Prelude.{◌&&◌, if◌then◌else◌}
 use Rattle.std.proofs.lemmas.List.{append-nil}
 use Rattle.std.specs.FinMap as map
 use Rattle.std.specs.List.{list_all}
 use Rattle.fetch_store.specs.Borders.{ids_of}
 use Rattle.fetch_store.specs.declared.id.Kind.{Kind}
 use Rattle.fetch_store.specs.declared.id.Kind.TheVariants as kinds
-use Rattle.fetch_wire.specs.Talks.{Talk, Talks, IsFront, Talks-none}
+use Rattle.fetch_wire.specs.Talks.{Talk}
 use Rattle.fetch_wire.specs.Lines.{section_at}
 use Rattle.fetch_wire.specs.Replies.{has_shallow_info, reply_of}
 use Rattle.fetch_wire.specs.Written.{first_too_long, lines_text}
@@ -24,19 +24,18 @@ use Rattle.fetch_remote.specs.declared.conversing.Received.{Received}
 use Rattle.fetch_remote.specs.declared.fetch.Error.{Error as ReceiveError}
 use Rattle.fetch_remote.specs.declared.fetch.Error.TheVariants as receive_errors
 use Rattle.fetch_remote.specs.declared.fetch_error.FetchError.{FetchError}
-use Rattle.fetch_remote.specs.declared.fetch_error.FetchError.TheVariants as errors
 use Rattle.fetch_remote.specs.declared.outcome.Outcome.{Outcome}
-use Rattle.fetch_remote.specs.Conversation.{Conversation, ends, asks, asks_unless, after_reply, and_then, told_as, map_refusal, sent_in, answer_in, Concludes, Breaks, RefusesAtEnd}
+use Rattle.fetch_remote.specs.Conversation.{ends, asks, asks_unless, after_reply, told_as, sent_in, answer_in, Concludes}
 use Rattle.fetch_remote.specs.ConverseStage.{converse_stage, wanting, fetching, replied, packed, unpacked, received, too_long, failed}
 use Rattle.fetch_remote.specs.Errors.{preparing, receiving}
-use Rattle.fetch_remote.specs.Fetching.{Told, bound_of, wants_in, asked_in, receiving_stage, conversation, HasTold, settled_by, fetched_in, requests_in, left_by, left_in, IsFetched, is_fault, is_free, RefusedAtEnd, LeftAtEnd, HasTaken, IsRefused}
+use Rattle.fetch_remote.specs.Fetching.{Told, bound_of, wants_in, asked_in, receiving_stage, conversation, HasTold, settled_by, fetched_in, requests_in, IsFetched}
 use Rattle.fetch_remote.specs.Form.{Given, is_in_form, is_plain_remote, are_plain_options, is_plain_setup, is_plain_state, is_sha1, is_nil, is_direct}
 use Rattle.fetch_remote.specs.Judging.{judged_of}
 use Rattle.fetch_remote.specs.ListStage.{ListedValue, list_stage}
-use Rattle.fetch_remote.specs.Repositories.{State, held}
+use Rattle.fetch_remote.specs.Repositories.{State}
 use Rattle.fetch_remote.specs.Settling.{taken, settled, policy_in, with_edits, outcome_in}
 use Rattle.fetch_remote.proofs.Spoken.{Spoke, spoke, spoke_end, spoke_as, spoke_then}
-use Rattle.fetch_remote.proofs.Settled.{SettledAs, settled_as, takes, judged_is, stays_closed, holds_mapped}
+use Rattle.fetch_remote.proofs.Settled.{settled_as, takes, judged_is, stays_closed, holds_mapped}
 
 -- ---- the two stages as one
 

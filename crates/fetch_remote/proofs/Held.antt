@@ -1,5 +1,5 @@
 -- A conversation that is held question by question.
-use Rattle.std.proofs.Common.{◌≡◌, ℕ, Bool, true, false, List, [], ◌∷◌, ◌++◌, Option, Some, None, Result, Ok, Err, refl, sym, ap, ◌∙◌, append_assoc, inl, inr}
+use Rattle.std.proofs.Common.{◌≡◌, ℕ, Bool, true, false, List, [], ◌++◌, Option, Some, None, Result, Ok, Err, refl, sym, ap, ◌∙◌, append_assoc, inl, inr}
 use Rattle.std.specs.Prelude.{◌⊎◌}
 use Rattle.std.proofs.lemmas.List.{append-nil}
 use Rattle.std.proofs.lemmas.List.Concat.{flat_map-append}
@@ -8,12 +8,12 @@ use Rattle.fetch_wire.specs.declared.section.Trouble.{Trouble}
 use Rattle.fetch_wire.specs.declared.section.Trouble.TheVariants as troubles
 use Rattle.fetch_wire.specs.declared.line.Line.{Line}
 use Rattle.fetch_wire.specs.Lines.{section_at}
-use Rattle.fetch_wire.specs.Sessions.{Receiving, IsMalformedAt, to_come_in}
+use Rattle.fetch_wire.specs.Sessions.{Receiving, IsMalformedAt}
 use Rattle.fetch_wire.specs.Written.{line_text, lines_text, first_too_long}
 use Rattle.fetch_remote.specs.declared.ask.AskError.{AskError}
 use Rattle.fetch_remote.specs.declared.ask.AskError.TheVariants as errors
 use Rattle.fetch_remote.specs.Ask.{Asked, Unanswered, Explains, Tells}
-use Rattle.fetch_remote.specs.Conversation.{Conversation, ends, asks, asking, asks_unless, sent_in, answer_in, after_reply, beside, Concludes, RefusesAtEnd, Breaks, ConversesBy, Converses}
+use Rattle.fetch_remote.specs.Conversation.{Conversation, ends, asks, asking, sent_in, answer_in, Concludes, RefusesAtEnd, Breaks, ConversesBy, Converses}
 
 -- the reply stays found behind more bytes
 found_more : (answers : Bool) (old mid : Option Talk) (before now : Receiving) (request reply : List Line) (a : Asked answers old mid before now request reply) (more : List ℕ)

@@ -1,7 +1,5 @@
 -- Overrides, one after the other.
-use Rattle.std.proofs.Common.{◌≡◌, ℕ, Bool, true, false, List, ◌∷◌, Option, Some, None, refl, sym, ap, ◌∙◌}
-use Rattle.fetch_config.specs.declared.error.ConfigError.{ConfigError}
-use Rattle.fetch_config.specs.Overrides.{override_of, unkept_place, IsOverrideRefusal}
+use Rattle.std.proofs.Common.{◌≡◌, ℕ, true, List, ◌∷◌, refl}
 use Rattle.fetch_remote.specs.declared.open_error.OpenError.{OpenError}
 use Rattle.fetch_remote.specs.declared.open_error.OpenError.TheVariants as errors
 use Rattle.fetch_remote.specs.Repositories.{is_override, IsOverrideRefused, IsOpenRefusal}

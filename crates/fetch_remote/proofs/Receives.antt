@@ -1,5 +1,5 @@
 -- The stage that asks for the pack, case by case.
-use Rattle.std.proofs.Common.{◌≡◌, ℕ, Bool, true, false, List, [], ◌∷◌, ◌++◌, length, Option, Some, None, Result, Ok, Err, refl, sym, ap, ◌∙◌}
+use Rattle.std.proofs.Common.{◌≡◌, ℕ, Bool, true, false, List, [], ◌∷◌, length, Option, Some, None, Result, Ok, Err, refl}
 use Rattle.std.specs.Prelude.{IsTrue, ◌↔◌}
 use Rattle.fetch_wire.specs.Talks.{Talk}
 use Rattle.fetch_wire.specs.Sessions.{Receiving}
@@ -9,10 +9,9 @@ use Rattle.fetch_negotiate.specs.Requests.{Asked as RequestParts, fetch_request}
 use Rattle.fetch_remote.specs.declared.ask.AskError.{AskError}
 use Rattle.fetch_remote.specs.declared.conversing.Received.{Received}
 use Rattle.fetch_remote.specs.declared.fetch.Error.{Error}
-use Rattle.fetch_remote.specs.declared.fetch.Error.TheVariants as errors
 use Rattle.fetch_remote.specs.Ask.{Asked, Unanswered, Tells}
-use Rattle.fetch_remote.specs.Conversation.{Conversation, ends, asking, Converses}
-use Rattle.fetch_remote.specs.ConverseStage.{too_long, failed, word_of, is_free, is_client, replied, fetching, wanting, converse_stage, FindsBy}
+use Rattle.fetch_remote.specs.Conversation.{Conversation, ends, Converses}
+use Rattle.fetch_remote.specs.ConverseStage.{too_long, failed, word_of, is_free, replied, fetching, wanting, converse_stage, FindsBy}
 use Rattle.fetch_remote.proofs.Held.{goes_on, is_unanswered, is_over, is_refused, gives_up}
 
 tells : (bound : ℕ) → Tells is_free too_long (failed bound) bound word_of

@@ -1,18 +1,17 @@
 -- Fetches that were refused.
-use Rattle.std.proofs.Common.{◌≡◌, ℕ, Bool, true, false, List, [], ◌++◌, Option, Some, None, Result, Ok, Err, refl, sym, ap, ◌∙◌, append_assoc, inl, inr}
-use Rattle.std.specs.Prelude.{◌⊎◌, if◌then◌else◌}
+use Rattle.std.proofs.Common.{◌≡◌, ℕ, Bool, true, false, List, [], ◌++◌, Option, Some, None, Result, Ok, Err, refl, sym, ap, ◌∙◌, inl, inr}
+use Rattle.std.specs.Prelude.{◌⊎◌}
 use Rattle.std.proofs.lemmas.List.{append-nil}
-use Rattle.fetch_wire.specs.Talks.{Talk, Talks, IsFront, Talks-none}
+use Rattle.fetch_wire.specs.Talks.{Talk, IsFront, Talks-none}
 use Rattle.fetch_wire.specs.Written.{lines_text}
 use Rattle.fetch_remote.specs.declared.conversing.Received.{Received}
 use Rattle.fetch_remote.specs.declared.fetch.Error.{Error as ReceiveError}
 use Rattle.fetch_remote.specs.declared.fetch.Error.TheVariants as receive_errors
 use Rattle.fetch_remote.specs.declared.fetch_error.FetchError.{FetchError}
 use Rattle.fetch_remote.specs.declared.fetch_error.FetchError.TheVariants as errors
-use Rattle.fetch_remote.specs.declared.outcome.Outcome.{Outcome}
 use Rattle.fetch_remote.specs.Conversation.{answer_in, Concludes, Breaks, RefusesAtEnd}
 use Rattle.fetch_remote.specs.Errors.{receiving}
-use Rattle.fetch_remote.specs.Fetching.{Told, bound_of, conversation, HasTold, settled_by, fetched_in, requests_in, left_by, left_in, is_fault, is_free, RefusedAtEnd, LeftAtEnd, HasTaken, IsRefused}
+use Rattle.fetch_remote.specs.Fetching.{Told, bound_of, conversation, HasTold, fetched_in, requests_in, left_by, left_in, is_fault, is_free, RefusedAtEnd, LeftAtEnd, HasTaken, IsRefused}
 use Rattle.fetch_remote.specs.Form.{Given, is_in_form}
 use Rattle.fetch_remote.specs.ListStage.{ListedValue}
 use Rattle.fetch_remote.specs.Repositories.{State}

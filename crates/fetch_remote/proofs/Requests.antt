@@ -1,5 +1,5 @@
 -- The lines of a fetch request.
-use Rattle.std.proofs.Common.{◌≡◌, ℕ, ◌+◌, Bool, true, false, not, List, [], ◌∷◌, ◌++◌, length, take, drop, Option, Some, None, refl, sym, ap, ◌∙◌, arith, nat_lt}
+use Rattle.std.proofs.Common.{◌≡◌, ℕ, ◌+◌, Bool, true, false, not, List, [], ◌∷◌, ◌++◌, length, take, drop, refl, ap, ◌∙◌, arith, nat_lt}
 use Rattle.std.specs.Prelude.{◌&&◌}
 use Rattle.std.specs.List.{list_all, prefix_len}
 use Rattle.std.proofs.lemmas.Bool.{lt-ltb}
@@ -7,10 +7,8 @@ use Rattle.std.proofs.lemmas.List.{take_all, drop_all, take-append-le, drop-appe
 use Rattle.fetch_store.specs.declared.id.Kind.{Kind}
 use Rattle.fetch_store.specs.declared.id.Kind.TheVariants as kinds
 use Rattle.fetch_store.specs.declared.id.ObjectId.{ObjectId}
-use Rattle.fetch_wire.specs.declared.line.Line.{Line}
 use Rattle.fetch_wire.specs.declared.line.Line.TheVariants.{Delim, Flush}
-use Rattle.fetch_wire.specs.declared.records.Request.{Request}
-use Rattle.fetch_negotiate.specs.Requests.{Asked, when, format_line, head_of, asked_of, text_lines, fetch_request, offers, sent, id_lines}
+use Rattle.fetch_negotiate.specs.Requests.{Asked, when, format_line, text_lines, fetch_request, offers, sent, id_lines}
 use Rattle.fetch_negotiate.specs.Words.{command_word, agent_is, agent_word, format_word, sha1_format, sha256_format, plain_pack, have_word, done_word}
 use Rattle.fetch_remote.specs.RequestLines.{is_plain_pack, pack_place, request_lines}
 

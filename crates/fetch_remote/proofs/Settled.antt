@@ -1,17 +1,14 @@
 -- What a settled fetch took, judged and moved.
-use Rattle.std.proofs.Common.{◌≡◌, ℕ, Bool, true, false, List, [], ◌∷◌, Option, Some, None, Result, Ok, Err, refl, sym, ap, subst, ◌∙◌, Contains, arith}
-use Rattle.std.specs.Prelude.{◌⊎◌, ◌&&◌, ⊤, IsSome, is_some, if◌then◌else◌}
+use Rattle.std.proofs.Common.{◌≡◌, Bool, true, false, List, [], ◌∷◌, Option, Some, None, Result, Ok, Err, refl, sym, ap, Contains, arith}
+use Rattle.std.specs.Prelude.{◌⊎◌, is_some, if◌then◌else◌}
 use Rattle.std.specs.FinMap as map
 use Rattle.fetch_store.specs.Objects.{Stored}
 use Rattle.std.specs.List.{list_any}
 use Rattle.std.proofs.Common.{inl, inr}
 use Rattle.std.proofs.lemmas.List.Elements.{All-contains}
 use Rattle.fetch_store.specs.declared.id.ObjectId.{ObjectId}
-use Rattle.fetch_store.specs.Borders.{merged}
 use Rattle.fetch_store.specs.Closed.{IsClosed, IsStored, Grows}
-use Rattle.fetch_store.specs.Graph.{graph_of}
-use Rattle.fetch_store.specs.Honest.{IsHonest}
-use Rattle.fetch_store.specs.Stores.{ObjectMap, Entries, add_all, collision}
+use Rattle.fetch_store.specs.Stores.{ObjectMap, add_all}
 use Rattle.fetch_store.proofs.Growth.{grows_self, grows-add_all}
 use Rattle.fetch_store.proofs.Honesty.{honest_at_once, wants_stored}
 use Rattle.fetch_store.proofs.Whole.{whole_closed}
@@ -21,19 +18,18 @@ use Rattle.fetch_update.specs.Policy.{Policy}
 use Rattle.fetch_update.specs.declared.update.Error.{Error as UpdateError}
 use Rattle.fetch_update.specs.declared.update.Error.TheVariants as update_errors
 use Rattle.fetch_update.specs.declared.update.Outcome.{Outcome as Updates}
-use Rattle.fetch_wire.specs.References.{source_id}
 use Rattle.fetch_wire.specs.declared.mapping.Mapping.{Mapping}
 use Rattle.fetch_wire.specs.declared.mapping.RefMap.{RefMap}
 use Rattle.fetch_remote.specs.declared.conversing.Received.{Received}
 use Rattle.fetch_remote.specs.declared.fetch.Error.{Error}
 use Rattle.fetch_remote.specs.declared.fetch.Error.TheVariants as errors
 use Rattle.fetch_remote.specs.declared.outcome.Outcome.{Outcome}
-use Rattle.fetch_remote.specs.Fetching.{wants_in, request_in, pack_of, IsHonestReply, HoldsMapped, is_aside, objects_with, border_with}
+use Rattle.fetch_remote.specs.Fetching.{wants_in, request_in, pack_of, IsHonestReply, HoldsMapped, objects_with, border_with}
 use Rattle.fetch_remote.specs.Form.{Given}
 use Rattle.fetch_remote.specs.Judging.{is_elsewhere, judged_as, judged_of, AnswersBy}
 use Rattle.fetch_remote.specs.ListStage.{ListedValue}
-use Rattle.fetch_remote.specs.Repositories.{State, Setup, with_pack, held}
-use Rattle.fetch_remote.specs.Settling.{◌>>=◌, unless_collides, taken_with, taken, policy_in, with_edits, outcome_in, done, settled, kept_or, IsUnsettledBy}
+use Rattle.fetch_remote.specs.Repositories.{State, Setup, held}
+use Rattle.fetch_remote.specs.Settling.{◌>>=◌, unless_collides, taken, policy_in, with_edits, outcome_in, done, settled, kept_or, IsUnsettledBy}
 use Rattle.fetch_remote.proofs.Wanted.{stored_or_wanted}
 
 -- what was taken, judged and moved

@@ -1,5 +1,5 @@
 -- A conversation that was held to its end, by what was said and heard.
-use Rattle.std.proofs.Common.{◌≡◌, ℕ, Bool, List, [], ◌++◌, Option, Result, Ok, refl, ap, ◌∙◌, append_assoc}
+use Rattle.std.proofs.Common.{◌≡◌, ℕ, Bool, List, [], ◌++◌, Option, Ok, refl, ap, ◌∙◌, append_assoc}
 use Rattle.fetch_wire.specs.Talks.{Talk, Talks, Talks-then, Talks-none}
 use Rattle.fetch_wire.specs.Written.{lines_text}
 use Rattle.fetch_remote.specs.Conversation.{Conversation, ends, sent_in, answer_in, and_then, map_refusal, told_as, Concludes}

@@ -1,6 +1,5 @@
 -- The stage that lists, case by case.
-use Rattle.std.proofs.Common.{◌≡◌, ℕ, Bool, true, false, List, [], ◌∷◌, ◌++◌, length, Option, Some, None, Result, Ok, Err, refl, sym, ap, ◌∙◌}
-use Rattle.fetch_store.specs.Faults.{Faults, Rose}
+use Rattle.std.proofs.Common.{◌≡◌, ℕ, Bool, true, false, List, [], ◌∷◌, length, Option, Result, Ok, Err, refl, sym, ap, ◌∙◌}
 use Rattle.fetch_wire.specs.Talks.{Talk}
 use Rattle.fetch_wire.specs.Sessions.{Receiving}
 use Rattle.fetch_wire.specs.declared.error.WireError.{WireError}
@@ -20,8 +19,8 @@ use Rattle.fetch_remote.specs.declared.prepare.Error.TheVariants as prepare
 use Rattle.fetch_remote.specs.declared.ref_map.Error.TheVariants as ref_map
 use Rattle.fetch_remote.specs.declared.ref_map.Options.{Options}
 use Rattle.fetch_remote.specs.Ask.{Asked, Unanswered, Tells}
-use Rattle.fetch_remote.specs.Conversation.{Conversation, ends, asking, Converses}
-use Rattle.fetch_remote.specs.ListStage.{ListedValue, told, too_long, malformed, failed, word_of, unread_of, is_free, is_transport, default_agent, is_enough, prefixes_asked, mapped, listed, listing, offered, greeted, list_stage, shown, answer_shown, left_by, Answers, AnswersBy}
+use Rattle.fetch_remote.specs.Conversation.{Conversation, ends, Converses}
+use Rattle.fetch_remote.specs.ListStage.{ListedValue, too_long, failed, word_of, unread_of, is_free, is_transport, default_agent, is_enough, prefixes_asked, listed, listing, offered, greeted, list_stage, answer_shown, left_by, AnswersBy}
 use Rattle.fetch_remote.specs.Remotes.{RemoteValue, address_of}
 use Rattle.fetch_remote.proofs.Held.{goes_on, is_unanswered, is_over, is_refused, gives_up}
 

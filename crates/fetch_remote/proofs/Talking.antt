@@ -1,9 +1,7 @@
 -- Two stages of a conversation, each with refusals of its own, as one.
-use Rattle.std.proofs.Common.{◌≡◌, ℕ, Bool, true, false, List, [], ◌++◌, Option, Some, None, Result, Ok, Err, refl, sym, ap, ◌∙◌}
-use Rattle.std.proofs.lemmas.List.{append-nil}
-use Rattle.fetch_wire.specs.Talks.{Talk, Talks, IsFront}
-use Rattle.fetch_remote.specs.Conversation.{Conversation, ends, asks, sent_in, answer_in, and_then, map_refusal, told_as, Concludes, Breaks, ConversesBy, Converses}
-use Rattle.fetch_remote.proofs.Held.{is_over}
+use Rattle.std.proofs.Common.{◌≡◌, ℕ, Bool, false, List, Option, Result, Ok, Err}
+use Rattle.fetch_wire.specs.Talks.{Talk}
+use Rattle.fetch_remote.specs.Conversation.{Conversation, and_then, map_refusal, told_as, Concludes, ConversesBy, Converses}
 use Rattle.fetch_remote.proofs.Chained.{concludes_then, breaks_late, breaks_early, concludes_as, breaks_as}
 
 -- a stage whose refusals are told in another type

@@ -1,5 +1,5 @@
 -- The two stages of a conversation, as one call holds them.
-use Rattle.std.proofs.Common.{◌≡◌, ℕ, Bool, true, false, List, [], Option, Some, None, Result, Ok, Err, refl, sym, ap, ◌∙◌}
+use Rattle.std.proofs.Common.{◌≡◌, ℕ, Bool, false, List, [], Option, Ok, Err, refl}
 use Rattle.fetch_wire.specs.Talks.{Talk}
 use Rattle.fetch_remote.specs.declared.conversing.Received.{Received}
 use Rattle.fetch_remote.specs.declared.fetch.Error.{Error as ReceiveError}
@@ -9,13 +9,12 @@ use Rattle.fetch_remote.specs.declared.fetch_error.FetchError.TheVariants as err
 use Rattle.fetch_remote.specs.declared.listing.Listed.{Listed}
 use Rattle.fetch_remote.specs.declared.prepare.Error.{Error as PrepareError}
 use Rattle.fetch_remote.specs.declared.prepare.Error.TheVariants as prepare_errors
-use Rattle.fetch_remote.specs.declared.ref_map.Error.TheVariants as ref_map_errors
-use Rattle.fetch_remote.specs.Conversation.{and_then, told_as, ends, Converses}
+use Rattle.fetch_remote.specs.Conversation.{told_as, Converses}
 use Rattle.fetch_remote.specs.ConverseStage.{converse_stage, is_free as is_free_receiving}
 use Rattle.fetch_remote.specs.Errors.{preparing, receiving}
-use Rattle.fetch_remote.specs.Fetching.{Told, bound_of, asked_in, receiving_stage, conversation, is_free, HasTold, HasTalked}
+use Rattle.fetch_remote.specs.Fetching.{bound_of, asked_in, receiving_stage, conversation, is_free, HasTalked}
 use Rattle.fetch_remote.specs.Form.{Given}
-use Rattle.fetch_remote.specs.ListStage.{ListedValue, list_stage, shown, answer_shown, left_by, is_free as is_free_listing}
+use Rattle.fetch_remote.specs.ListStage.{ListedValue, list_stage, shown, is_free as is_free_listing}
 use Rattle.fetch_remote.specs.Repositories.{State}
 use Rattle.fetch_remote.proofs.Held.{gives_up}
 use Rattle.fetch_remote.proofs.Talking.{is_told, stops_early, goes_later}

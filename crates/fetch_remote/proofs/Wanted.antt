@@ -1,7 +1,6 @@
 -- What is mapped is wanted or stored.
 use Rattle.std.proofs.Common.{◌≡◌, ℕ, zero, suc, ◌<◌, Bool, true, false, cond, not, List, [], ◌∷◌, length, filter, Option, Some, None, refl, sym, ap, subst, ◌∙◌, inl, inr, arith, get_or, Contains}
 use Rattle.std.specs.Prelude.{◌⊎◌, ◌&&◌, IsSome, is_some, option_map}
-use Rattle.std.specs.Option.{option_and_then}
 use Rattle.std.specs.List.{filter_map}
 use Rattle.std.specs.FinMap as map
 use Rattle.std.specs.Ordering.{eq_by_cmp}

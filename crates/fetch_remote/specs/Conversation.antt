@@ -1,5 +1,5 @@
 -- A conversation: lines that are sent, the lines of the reply, and how it goes on by what they say.
-use Rattle.std.specs.Prelude.{◌≡◌, ℕ, Bool, true, false, List, [], ◌∷◌, ◌++◌, Option, Some, None, Result, Ok, Err, ⊤}
+use Rattle.std.specs.Prelude.{◌≡◌, ℕ, Bool, false, List, [], ◌++◌, Option, Some, None, Result, Ok, Err, ⊤}
 use Rattle.fetch_wire.specs.Talks.{Talk, Talks, IsFront}
 use Rattle.fetch_wire.specs.declared.section.Trouble.{Trouble}
 use Rattle.fetch_wire.specs.declared.line.Line.{Line}

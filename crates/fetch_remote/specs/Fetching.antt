@@ -1,5 +1,5 @@
 -- A whole fetch: its conversation, what it answers, and what it leaves.
-use Rattle.std.specs.Prelude.{◌≡◌, ◌⊎◌, ℕ, Bool, true, false, not, ◌&&◌, List, [], ◌++◌, length, Option, Some, None, Result, Ok, Err, ⊤, Contains, if◌then◌else◌}
+use Rattle.std.specs.Prelude.{◌≡◌, ◌⊎◌, ℕ, Bool, true, false, ◌&&◌, List, [], ◌++◌, Option, Some, None, Result, Ok, Err, ⊤, Contains, if◌then◌else◌}
 use Rattle.fetch_store.specs.declared.id.ObjectId.{ObjectId}
 use Rattle.fetch_store.specs.Borders.{IdSet, merged}
 use Rattle.fetch_store.specs.Closed.{IsClosed, IsStored}
@@ -21,12 +21,9 @@ use Rattle.fetch_wire.specs.declared.mapping.Mapping.{Mapping}
 use Rattle.fetch_wire.specs.declared.mapping.RefMap.{RefMap}
 use Rattle.fetch_remote.specs.declared.conversing.Received.{Received}
 use Rattle.fetch_remote.specs.declared.conversing.View.{View}
-use Rattle.fetch_remote.specs.declared.fetch.Error.TheVariants as receive_errors
 use Rattle.fetch_remote.specs.declared.fetch_error.FetchError.{FetchError}
 use Rattle.fetch_remote.specs.declared.fetch_error.FetchError.TheVariants as errors
 use Rattle.fetch_remote.specs.declared.outcome.Outcome.{Outcome}
-use Rattle.fetch_remote.specs.declared.prepare.Error.TheVariants as prepare_errors
-use Rattle.fetch_remote.specs.declared.ref_map.Error.TheVariants as ref_map_errors
 use Rattle.fetch_remote.specs.Conversation.{Conversation, ends, and_then, told_as, map_refusal, sent_in, answer_in, Concludes, Breaks}
 use Rattle.fetch_remote.specs.ConverseStage.{asked_by, converse_stage, is_client, is_free as is_free_receiving}
 use Rattle.fetch_remote.specs.Errors.{preparing, receiving}
@@ -35,8 +32,7 @@ use Rattle.fetch_remote.specs.ListStage.{ListedValue, list_stage, is_transport, 
 use Rattle.fetch_remote.specs.declared.listing.Listed.{Listed}
 use Rattle.fetch_specs.specs.declared.tags.Tags.{Tags}
 use Rattle.fetch_negotiate.specs.declared.algorithm.Shallow.{Shallow}
-use Rattle.fetch_remote.specs.Mapped.{ref_mappings}
-use Rattle.fetch_remote.specs.Repositories.{State, Setup, held}
+use Rattle.fetch_remote.specs.Repositories.{State, held}
 use Rattle.fetch_remote.specs.Settling.{taken, settled, policy_in, status_of, kept_or}
 
 -- ---- refusals that have no place in the conversation

@@ -1,6 +1,6 @@
 -- What a fetch is given, and which of that is built: one branch of a SHA-1 repository without a border, by the usual
 -- options.
-use Rattle.std.specs.Prelude.{◌≡◌, ℕ, ◌+◌, Bool, true, false, not, ◌&&◌, ◌==◌, List, [], ◌∷◌, length, Option, Some, None, is_none, nat_le, nat_eq, codes}
+use Rattle.std.specs.Prelude.{ℕ, ◌+◌, Bool, true, false, not, ◌&&◌, ◌==◌, List, [], ◌∷◌, length, Option, Some, None, is_none, nat_le, nat_eq, codes}
 use Rattle.std.specs.FinMap as map
 use Rattle.std.specs.List.{list_all, starts_with}
 use Rattle.std.specs.Str.{bytes_eq}

@@ -1,6 +1,7 @@
-use crate::Remote;
 use crate::phases::list;
+use crate::prepare::Error;
 use crate::ref_map::Options;
+use crate::{Remote, ref_map};
 use fetch_specs::{Operation, Tags, parse};
 use fetch_store::{List, Text};
 use fetch_wire::{ScriptedInterrupt, ScriptedPeer};
@@ -38,5 +39,27 @@ fn a_listing_is_asked_for_and_mapped(rt: HostRuntime) -> Result<(), Fail> {
     )?;
     assert!(rt; listed.ref_map.mappings.len() == 1);
     assert!(rt; peer.heard() == SENT);
+    Ok(())
+}
+
+/// A peer whose first `receive` fails.
+#[test]
+fn a_failing_peer_is_told(rt: HostRuntime) -> Result<(), Fail> {
+    let alloc = rt.alloc();
+    let urls = vec![in alloc; Text::new(alloc, b"/srv/a.git")?]?;
+    let remote = Remote::new(List::from(urls), List::new(alloc), Tags::None);
+    let failing = vec![in alloc; 1]?;
+    let mut peer = ScriptedPeer::new(alloc, Vec::new(alloc), failing);
+    let mut interrupt = ScriptedInterrupt::new(Vec::new(alloc));
+    let listed = list(
+        alloc,
+        &remote,
+        &mut peer,
+        &mut interrupt,
+        Options::new(alloc),
+    );
+    let is_transport = matches!(listed, Err(Error::RefMap(ref_map::Error::Transport)));
+    assert!(rt; is_transport);
+    assert!(rt; peer.heard() == b"002agit-upload-pack /srv/a.git\0\0version=2\0".as_slice());
     Ok(())
 }

@@ -1,4 +1,3 @@
-use Rattle.std.proofs.Common.{◌≡◌, sym}
 use Rattle.std.proofs.lemmas.Result.{IfOk-weaker, IfErr-weaker, err_from_is_err_and}
 use Rattle.fetch_remote.proofs.Asking.{is_unwritten, is_unsent, is_asked, is_unread}
 use Rattle.fetch_remote.proofs.ask.ask.Goals as goal

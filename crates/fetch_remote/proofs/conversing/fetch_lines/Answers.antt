@@ -1,4 +1,4 @@
-use Rattle.std.proofs.Common.{◌≡◌, ap, ◌∙◌, [], true}
+use Rattle.std.proofs.Common.{ap, ◌∙◌, [], true}
 use Rattle.std.proofs.lemmas.Result.{IfOk-weaker}
 use Rattle.fetch_remote.specs.RequestLines.{request_lines}
 use Rattle.fetch_remote.proofs.Requests.{request_is}

@@ -1,4 +1,4 @@
-use Rattle.std.proofs.Common.{◌≡◌, refl}
+use Rattle.std.proofs.Common.{refl}
 use Rattle.std.proofs.lemmas.Result.{err_from_is_err_and}
 use Rattle.fetch_remote.proofs.Talks.{stops_listing, stops_between, stops_receiving, ends_both}
 use Rattle.fetch_remote.proofs.fetching.talk.Goals as goal

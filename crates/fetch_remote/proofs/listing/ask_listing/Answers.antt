@@ -1,4 +1,4 @@
-use Rattle.std.proofs.Common.{◌≡◌, []}
+use Rattle.std.proofs.Common.{[]}
 use Rattle.fetch_remote.proofs.Stages.{asks_listing, asks_no_listing}
 use Rattle.fetch_remote.proofs.listing.ask_listing.Goals as goal
 

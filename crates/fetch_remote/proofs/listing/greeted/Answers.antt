@@ -1,4 +1,4 @@
-use Rattle.std.proofs.Common.{◌≡◌, Ok, None, ap}
+use Rattle.std.proofs.Common.{ap}
 use Rattle.fetch_remote.specs.ListStage.{greeted}
 use Rattle.fetch_remote.proofs.Held.{is_refused}
 use Rattle.fetch_remote.proofs.Stages.{greeting_unread}

@@ -1,4 +1,4 @@
-use Rattle.std.proofs.Common.{◌≡◌, []}
+use Rattle.std.proofs.Common.{[]}
 use Rattle.fetch_remote.proofs.Stages.{lists, lists_nothing}
 use Rattle.fetch_remote.proofs.listing.list.Goals as goal
 

@@ -1,4 +1,4 @@
-use Rattle.std.proofs.Common.{◌≡◌, Bool, true, false, not, sym, ◌∙◌}
+use Rattle.std.proofs.Common.{sym, ◌∙◌}
 use Rattle.fetch_remote.proofs.Held.{is_refused}
 use Rattle.fetch_remote.proofs.Stages.{lacks, has_enough}
 use Rattle.fetch_remote.proofs.listing.offered.Goals as goal

@@ -1,4 +1,4 @@
-use Rattle.std.proofs.Common.{◌≡◌, ◌++◌, take}
+use Rattle.std.proofs.Common.{◌≡◌, take}
 use Rattle.fetch_negotiate.specs.Requests.{id_lines}
 use Rattle.fetch_negotiate.specs.Words.{have_word}
 use Rattle.fetch_remote.proofs.request.have_texts.Given as goal

@@ -1,7 +1,7 @@
-use Rattle.std.proofs.Common.{◌≡◌, sym, ◌∙◌}
+use Rattle.std.proofs.Common.{sym, ◌∙◌}
 use Rattle.std.proofs.lemmas.Result.{err_from_is_err_and}
 use Rattle.fetch_remote.specs.ListStage.{shown}
-use Rattle.fetch_remote.specs.Repositories.{state_of, setup_of}
+use Rattle.fetch_remote.specs.Repositories.{state_of}
 use Rattle.fetch_remote.proofs.Fetched.{is_fetched, sha1_in}
 use Rattle.fetch_remote.proofs.Refused.{isnt_built, broken_off, not_settled}
 use Rattle.fetch_remote.proofs.remote.Remote.fetch.Goals as goal
