@@ -1,5 +1,6 @@
 -- What a fetch does with what it received.
 use Rattle.std.specs.Prelude.{◌≡◌, ◌⊎◌, ℕ, false, List, [], Option, Some, None, Result, Ok, Err, codes, ⊤}
+use Rattle.std.specs.Option.{option_and_then}
 use Rattle.fetch_store.specs.declared.id.ObjectId.{ObjectId}
 use Rattle.fetch_store.specs.Borders.{merged}
 use Rattle.fetch_store.specs.Graph.{graph_of}
@@ -95,6 +96,10 @@ settled setup tags before listed r =
 abbrev pub told_of : Option Received → Option Taken
 told_of None = None
 told_of (Some r) = Some (record { negotiate = r.negotiate; pack = pack_told r.pack })
+
+-- the keep file that was made
+abbrev pub keep_of : Option Taken → Option (List ℕ)
+keep_of taken = option_and_then (λ t. option_and_then (λ p. p.keep_path) t.pack) taken
 
 abbrev pub status_by : Option Taken → Updates → Status
 status_by None updates = statuses.NoPackReceived false None updates

@@ -1,6 +1,7 @@
 //! What a fetch does with what it received.
 
 ghost use Rattle.std.specs.Prelude.{◌≡◌, IfOk, IfErr, IfSome, OnOk, OnErr, Some, None};
+ghost use Rattle.std.specs.Option.{option_copied};
 ghost use Rattle.fetch_store.specs.Stores.{AreOf};
 ghost use Rattle.fetch_refs.specs.Logs.{after};
 ghost use Rattle.fetch_remote.specs.Judging.{Answers, judged_of};
@@ -205,7 +206,9 @@ fn commit(
 }
 
 /// The keep file that was made.
-fn kept(taken: &Option<Taken>) -> Option<&Text> {
+fn kept(taken: &Option<Taken>) -> Option<&Text>
+    ensures { option_copied result ≡ spec.keep_of taken.now }
+{
     let pack = taken.as_ref()?.pack.as_ref()?;
     pack.keep_path.as_ref()
 }
