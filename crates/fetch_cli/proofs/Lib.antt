@@ -12,3 +12,5 @@ pub mod Fetching
 pub mod HeardLines
 pub mod Reported
 pub mod Answering
+pub mod Sent
+pub mod Requested

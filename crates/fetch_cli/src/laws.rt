@@ -1,7 +1,13 @@
-//! What holds of the definitions of a scene.
+//! What holds of the definitions of a scene and its report.
 
 ghost use Rattle.std.specs.Prelude.{◌≡◌, ℕ, List, Err, map};
 ghost use Rattle.std.specs.Str.Lines.{lines, strip_carriage_return};
+ghost use Rattle.fetch_wire.specs.Written.{lines_text};
+ghost use Rattle.fetch_wire.specs.declared.line.Line.{Line};
+ghost use Rattle.fetch_cli.specs.Heard.{AreSent, lines_heard};
+ghost use Rattle.fetch_remote.specs.Fetching.{requests_in};
+ghost use Rattle.fetch_cli.specs.Report.{given_of, found_of, stream_of, requests_of};
+ghost use Rattle.fetch_cli.specs.declared.scene.Scene.{Scene};
 ghost use Rattle.fetch_cli.specs.SceneConfig.{AreLines, IsOneOf, text_of, file_in};
 
 /// The lines of a scene's configuration are those that its `config` lines say, each without a carriage return at its
@@ -13,4 +19,14 @@ pub fn a_configuration_has_the_lines_of_its_scene()
 /// A configuration that is broken is so at one of the scene's `config` lines.
 pub fn a_configuration_is_broken_at_a_line_of_its_scene()
     ensures { (texts : List (List ℕ)) → (number : ℕ) → AreLines texts → file_in (text_of texts) ≡ Err number → IsOneOf texts number }
+{}
+
+/// Lines that fit are heard as they were written.
+pub fn lines_are_heard_as_written()
+    ensures { (lines : List Line) → AreSent lines → lines_heard (lines_text lines) ≡ lines }
+{}
+
+/// Where all requests of a scene were sent, its report tells each line of them.
+pub fn a_report_tells_the_requests()
+    ensures { (scene : Scene) → lines_heard (requests_of scene) ≡ requests_in (given_of scene) (found_of scene) (stream_of scene) }
 {}

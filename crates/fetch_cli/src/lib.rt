@@ -37,6 +37,7 @@ pub use ends::{Sink, Source};
 pub use fault::SceneFault;
 pub use laws::{
     a_configuration_has_the_lines_of_its_scene, a_configuration_is_broken_at_a_line_of_its_scene,
+    a_report_tells_the_requests, lines_are_heard_as_written,
 };
 pub use map_lines::append_map;
 pub use memory::{MemorySink, MemorySource};
