@@ -1,15 +1,15 @@
 -- What the program answers.
-use Rattle.std.proofs.Common.{◌≡◌, ◌≢◌, ◌⊎◌, inl, inr, ℕ, zero, suc, ◌^◌, ◌<◌, ◌≤◌, true, false, List, [], ◌∷◌, length, replicate, Option, Some, None, Result, Ok, Err, nat_lt, refl, sym, ap, ◌∙◌, arith}
+use Rattle.std.proofs.Common.{◌≡◌, ◌≢◌, ◌⊎◌, inl, inr, ℕ, zero, suc, ◌<◌, ◌≤◌, true, List, length, replicate, Option, Some, None, Result, Ok, Err, nat_lt, refl, sym, ap, arith}
 use Rattle.std.proofs.lemmas.List.{length-replicate}
 use Rattle.std.proofs.lemmas.Bool.Decides.{nat_tests}
+use Rattle.fetch_remote.specs.Fetching.{requests_in}
 use Rattle.fetch_remote.specs.Repositories.{State}
 use Rattle.fetch_remote.specs.declared.fetch_error.FetchError.{FetchError}
 use Rattle.fetch_remote.specs.declared.fetch_error.FetchError.TheVariants as errors
 use Rattle.fetch_remote.specs.declared.outcome.Outcome.{Outcome}
 use Rattle.fetch_wire.specs.declared.line.Line.{Line}
 use Rattle.fetch_cli.specs.Ends.{IsAll, IsLongerThan}
-use Rattle.fetch_cli.specs.Heard.{lines_heard}
-use Rattle.fetch_cli.specs.Report.{report_with, report_by, report_of, requests_of, fetched_by, left_by, IsReport}
+use Rattle.fetch_cli.specs.Report.{report_with, report_of, given_of, found_of, stream_of, fetched_by, left_by, IsReport}
 use Rattle.fetch_cli.specs.ReportLines.{malformed_line}
 use Rattle.fetch_cli.specs.Run.{Are, IsSceneAnswer, IsInputAnswer, IsAnswerTo, IsAnswer}
 use Rattle.fetch_cli.specs.Scene.{limit, scene_of}
@@ -74,8 +74,8 @@ answered_with sent (Err (errors.Receive e)) left = one_answers
 answered_with sent (Err errors.NoMemory) left = one_answers
 
 answered_report : (scene : Scene) → IsAnswered (report_of scene).0
-unfolding report_by
-answered_report scene = answered_with (lines_heard (requests_of scene)) (fetched_by scene) (left_by scene)
+unfolding report_of
+answered_report scene = answered_with (requests_in (given_of scene) (found_of scene) (stream_of scene)) (fetched_by scene) (left_by scene)
 
 is_one : (status : ℕ) → (status ≡ 1) ⊎ (status ≢ 1)
 is_one zero = inr (λ e. cc)

@@ -1,14 +1,13 @@
 -- The lines of a scene's configuration.
-use Rattle.std.proofs.Common.{◌≡◌, ℕ, zero, suc, ◌+◌, ◌≤◌, Bool, true, false, cond, ◌||◌, eqb, List, [], ◌∷◌, ◌++◌, map, length, Option, Some, None, Result, Ok, Err, refl, sym, ap, ◌∙◌, arith, append_assoc}
-use Rattle.std.specs.List.{list_any, flat_map, slice_split, onto_first}
+use Rattle.std.proofs.Common.{◌≡◌, ℕ, suc, ◌+◌, ◌≤◌, Bool, true, false, cond, ◌||◌, eqb, List, [], ◌∷◌, ◌++◌, map, length, Option, Some, None, Err, refl, ap, ◌∙◌, arith, append_assoc}
+use Rattle.std.specs.List.{list_any, slice_split, onto_first}
 use Rattle.std.specs.Option.{option_map}
 use Rattle.std.specs.Str.Lines.{lines, lines_of_parts, strip_carriage_return}
 use Rattle.std.proofs.lemmas.List.{length-map}
 use Rattle.fetch_config.specs.declared.line.Line.{Line}
-use Rattle.fetch_config.specs.Contents.{Contents}
-use Rattle.fetch_config.specs.Lines.{line_of, first_broken, fits_behind, opens, each_line, broken_line}
+use Rattle.fetch_config.specs.Lines.{first_broken, fits_behind, opens, each_line, broken_line}
 use Rattle.fetch_config.proofs.FirstLine.{parts_some, lines_of_more}
-use Rattle.fetch_cli.specs.SceneConfig.{has_feed, with_feed, text_of, AreLines, IsOneOf, file_unless, file_in}
+use Rattle.fetch_cli.specs.SceneConfig.{has_feed, text_of, AreLines, IsOneOf, file_unless, file_in}
 
 abbrev is_feed : ℕ → Bool
 is_feed b = eqb b 10

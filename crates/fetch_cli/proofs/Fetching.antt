@@ -1,5 +1,5 @@
 -- A fetch from a peer that never fails, seen from the whole of what it says.
-use Rattle.std.proofs.Common.{◌≡◌, ◌≢◌, ℕ, ◌+◌, ◌^◌, ◌≤◌, min, Bool, true, false, if◌then◌else◌, List, [], ◌∷◌, ◌++◌, Option, Some, None, Result, Ok, Err, IfOk, IfErr, refl, sym, ap, ◌∙◌, arith, append_assoc}
+use Rattle.std.proofs.Common.{◌≡◌, ◌≢◌, ℕ, Bool, true, false, if◌then◌else◌, List, [], ◌++◌, Some, Result, Ok, Err, IfOk, IfErr, refl, sym, ap, ◌∙◌, arith, append_assoc}
 use Rattle.std.proofs.lemmas.List.{append-nil}
 use Rattle.std.proofs.lemmas.Grind.{flat_map-append}
 use Rattle.fetch_store.specs.Faults.{Faults, Rose, Counts}
@@ -11,7 +11,7 @@ use Rattle.fetch_wire.specs.declared.line.Line.{Line}
 use Rattle.fetch_wire.specs.declared.section.Trouble.{Trouble}
 use Rattle.fetch_remote.specs.Conversation.{Conversation, ends, asks, sent_in, after_reply}
 use Rattle.fetch_remote.specs.ConverseStage.{is_client}
-use Rattle.fetch_remote.specs.Fetching.{fetched_in, requests_in, left_in, is_free, is_fault, bound_of, conversation, IsFetched, IsRefused}
+use Rattle.fetch_remote.specs.Fetching.{requests_in, is_free, bound_of, conversation, IsFetched, IsRefused}
 use Rattle.fetch_remote.specs.Form.{Given, is_in_form}
 use Rattle.fetch_remote.specs.ListStage.{is_transport, is_transport_map}
 use Rattle.fetch_remote.specs.Repositories.{State}

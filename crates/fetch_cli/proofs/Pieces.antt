@@ -1,5 +1,5 @@
 -- Parts of a text.
-use Rattle.std.proofs.Common.{◌≡◌, ℕ, ◌+◌, ◌-◌, ◌≤◌, List, ◌++◌, length, take, drop, sym, ap, ◌∙◌, arith, take-append-drop, length-take, length-drop}
+use Rattle.std.proofs.Common.{◌≡◌, ℕ, ◌+◌, ◌-◌, ◌≤◌, List, ◌++◌, length, take, drop, sym, ap, arith, take-append-drop, length-take, length-drop}
 use Rattle.std.proofs.lemmas.List.{take_at, drop-drop}
 
 -- what a copy of the next n bytes leaves

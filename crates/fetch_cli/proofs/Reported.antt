@@ -1,7 +1,7 @@
 -- From a fetch to its report.
-use Rattle.std.proofs.Common.{◌≡◌, ◌≢◌, ℕ, List, [], ◌∷◌, ◌++◌, Result, Ok, Err, IfOk, refl, sym, ap, ◌∙◌}
+use Rattle.std.proofs.Common.{◌≡◌, ◌≢◌, ℕ, List, Result, Ok, Err, IfOk, refl, sym, ap, ◌∙◌}
 use Rattle.fetch_wire.specs.Talks.{IsFront}
-use Rattle.fetch_wire.specs.declared.line.Line.{Line}
+use Rattle.fetch_remote.specs.Fetching.{requests_in}
 use Rattle.fetch_remote.specs.Form.{Given}
 use Rattle.fetch_remote.specs.Repositories.{State}
 use Rattle.fetch_remote.specs.declared.fetch_error.FetchError.{FetchError}
@@ -9,8 +9,9 @@ use Rattle.fetch_remote.specs.declared.fetch_error.FetchError.TheVariants as err
 use Rattle.fetch_remote.specs.declared.outcome.Outcome.{Outcome}
 use Rattle.fetch_cli.specs.Fetched.{HasDone, HasRefused, HasFetchedBy, HasFetched}
 use Rattle.fetch_cli.specs.Heard.{lines_heard}
-use Rattle.fetch_cli.specs.Report.{report_with, report_by, report_of, requests_of, fetched_by, left_by, given_of, found_of, stream_of, done_text, refused_text, unbuilt_line, beside, Tells, IsReport, IsRefusedReport, Reports}
+use Rattle.fetch_cli.specs.Report.{report_with, report_by, report_of, requests_of, fetched_by, left_by, given_of, found_of, stream_of, done_text, refused_text, unbuilt_line, beside, Tells, IsReport, Reports}
 use Rattle.fetch_cli.specs.declared.scene.Scene.{Scene}
+use Rattle.fetch_cli.proofs.Requested.{requests_heard}
 
 -- the two parts of a pair of a status and a text
 abbrev pub pair : ℕ → List ℕ → ℕ × List ℕ
@@ -28,13 +29,14 @@ exact scene status known text other is reported = record {
 
 done_is : (scene : Scene) (status : ℕ) (text heard : List ℕ) (outcome : Outcome) (left : State) → HasDone (given_of scene) (found_of scene) (stream_of scene) outcome left heard
     → pair 0 (done_text (lines_heard heard) outcome left) ≡ (status, text) → IsReport scene status text
-unfolding report_by
+unfolding report_of
 done_is scene status text heard outcome left h is =
-    exact scene status 0 text (λ e. cc) (sym (status_is 0 status _ _ is)) (rw (h.fetched, ← h.requests) is)
+    let lines : lines_heard heard ≡ requests_in (given_of scene) (found_of scene) (stream_of scene) = ap (λ (bytes : List ℕ). lines_heard bytes) h.requests ∙ requests_heard scene in
+    exact scene status 0 text (λ e. cc) (sym (status_is 0 status _ _ is)) (rw (h.fetched, ← lines) is)
 
 unbuilt_is : (scene : Scene) (status : ℕ) (text heard : List ℕ) (left : State) → HasRefused (given_of scene) (found_of scene) (stream_of scene) errors.Unbuilt left heard
     → pair 6 unbuilt_line ≡ (status, text) → IsReport scene status text
-unfolding report_by
+unfolding report_of
 unbuilt_is scene status text heard left h is =
     exact scene status 6 text (λ e. cc) (sym (status_is 6 status _ _ is)) (rw h.fetched is)
 

@@ -1,10 +1,9 @@
 -- The requests of a fetch are lines that fit, and are read back as they were written.
-use Rattle.std.proofs.Common.{◌≡◌, ℕ, Bool, true, false, ◌&&◌, if◌then◌else◌, List, [], ◌∷◌, ◌++◌, Option, Some, None, Result, Ok, Err, map, codes, refl, sym, ap, ◌∙◌}
+use Rattle.std.proofs.Common.{◌≡◌, ℕ, Bool, true, false, if◌then◌else◌, List, [], ◌∷◌, ◌++◌, Option, Some, None, Result, Ok, Err, map, codes, refl, ap, ◌∙◌}
 use Rattle.std.specs.Prelude.{⊤}
 use Rattle.std.specs.List.{list_all}
 use Rattle.std.specs.Option.{option_or}
 use Rattle.fetch_store.specs.declared.id.ObjectId.{ObjectId}
-use Rattle.fetch_specs.specs.Specs.{Spec}
 use Rattle.fetch_wire.specs.declared.handshake.Handshake.{Handshake}
 use Rattle.fetch_wire.specs.declared.line.Line.{Line}
 use Rattle.fetch_wire.specs.declared.line.Line.TheVariants.{Payload, Flush, Delim, End}
@@ -16,7 +15,7 @@ use Rattle.fetch_wire.specs.Lines.{section_at}
 use Rattle.fetch_wire.specs.Listings.{listing_of}
 use Rattle.fetch_wire.specs.Replies.{has_shallow_info, reply_of}
 use Rattle.fetch_wire.specs.Requests.{first_line, listing_lines, command_lines, head_lines, agent_line, format_line, detail_lines, unborn_lines, prefix_line, where_offered, text_line}
-use Rattle.fetch_wire.specs.Written.{lines_text, too_long_in, first_too_long}
+use Rattle.fetch_wire.specs.Written.{too_long_in, first_too_long}
 use Rattle.fetch_negotiate.specs.Requests.{Asked, fetch_request, sent, head_of, asked_of, id_lines, when}
 use Rattle.fetch_negotiate.specs.Words.{have_word, done_word}
 use Rattle.fetch_remote.specs.Conversation.{Conversation, ends, asks, asking, asks_unless, sent_in, after_reply, told_as, and_then}

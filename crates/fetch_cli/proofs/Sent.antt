@@ -1,5 +1,5 @@
 -- Lines that were written are read back as they are.
-use Rattle.std.proofs.Common.{◌≡◌, ℕ, zero, suc, ◌+◌, ◌*◌, ◌/◌, ◌%◌, ◌<◌, ◌≤◌, max, Bool, true, false, ◌&&◌, ◌||◌, ◌==◌, if◌then◌else◌, List, [], ◌∷◌, ◌++◌, length, take, drop, Option, Some, None, Result, Ok, Err, nat_lt, refl, sym, ap, ◌∙◌, append_assoc, arith, length-append}
+use Rattle.std.proofs.Common.{◌≡◌, ℕ, zero, suc, ◌+◌, ◌/◌, ◌%◌, ◌<◌, ◌≤◌, max, Bool, true, false, ◌&&◌, ◌==◌, if◌then◌else◌, List, [], ◌∷◌, ◌++◌, length, Option, Some, None, Result, Ok, nat_lt, refl, ap, ◌∙◌, append_assoc, arith, length-append}
 use Rattle.std.proofs.lemmas.Nat.{div-add-mod'}
 use Rattle.std.proofs.Math.Seq.{take-append_seam, drop-append_seam}
 use Rattle.std.proofs.lemmas.Bool.Decides.{nat_tests}
@@ -8,12 +8,12 @@ use Rattle.std.specs.Option.{option_or}
 use Rattle.std.specs.Result.{result_ok}
 use Rattle.hex.specs.Hex.{IsBytes, encode_with}
 use Rattle.hex.proofs.HexLemmas.{decode_sized-encode_lower}
-use Rattle.fetch_wire.specs.Lines.{is_no_line, line_counted, announced, number_in, line_at}
+use Rattle.fetch_wire.specs.Lines.{line_counted, announced, number_in, line_at}
 use Rattle.fetch_wire.specs.Written.{four_digits, count_of, payload_of, line_text, lines_text, too_long_in, first_too_long}
 use Rattle.fetch_wire.specs.declared.line.Line.{Line}
 use Rattle.fetch_wire.specs.declared.line.Line.TheVariants.{Payload, Flush, Delim, End}
 use Rattle.fetch_wire.specs.declared.section.Trouble.{Trouble}
-use Rattle.fetch_cli.specs.Heard.{heard_then, heard_within, lines_heard, is_sent, AreSent}
+use Rattle.fetch_cli.specs.Heard.{heard_within, lines_heard, is_sent, AreSent}
 use Rattle.fetch_cli.specs.SceneLines.{unbounded, line_found}
 
 -- ---- the digits

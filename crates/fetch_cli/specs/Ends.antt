@@ -1,5 +1,5 @@
 -- What the ends of the program do with bytes, where they tell them.
-use Rattle.std.specs.Prelude.{◌≡◌, ℕ, ◌+◌, ◌<◌, List, ◌++◌, length, Option, Some, None, Result, ⊤, MatchResult}
+use Rattle.std.specs.Prelude.{◌≡◌, ℕ, ◌<◌, List, ◌++◌, length, Option, Some, None, Result, ⊤, MatchResult}
 use Rattle.std.specs.Io.KnownBytes.{Appends}
 
 -- some front of the bytes

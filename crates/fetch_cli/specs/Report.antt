@@ -1,5 +1,5 @@
 -- The report of a scene.
-use Rattle.std.specs.Prelude.{◌≡◌, ◌≢◌, ℕ, pos, Bool, true, false, List, [], ◌∷◌, ◌++◌, codes, Option, Some, None, Result, Ok, Err, if◌then◌else◌}
+use Rattle.std.specs.Prelude.{◌≡◌, ◌≢◌, ℕ, pos, List, [], ◌∷◌, ◌++◌, codes, Option, Some, None, Result, Ok, Err, if◌then◌else◌}
 use Rattle.std.specs.FinMap as map
 use Rattle.std.specs.List.{concat, flat_map, slice_get}
 use Rattle.fetch_store.specs.Borders.{ids_of}
@@ -9,7 +9,6 @@ use Rattle.fetch_specs.specs.Specs.{Spec}
 use Rattle.fetch_refs.specs.Logs.{lines_of}
 use Rattle.fetch_refs.specs.Names.{Names, Logs, RefsValue}
 use Rattle.fetch_refs.specs.declared.log.Signature.{Signature}
-use Rattle.fetch_refs.specs.declared.target.Target.{Target}
 use Rattle.fetch_wire.specs.Talks.{IsFront}
 use Rattle.fetch_wire.specs.Written.{lines_text}
 use Rattle.fetch_wire.specs.declared.line.Line.{Line}
@@ -23,7 +22,6 @@ use Rattle.fetch_remote.specs.declared.fetch_error.FetchError.{FetchError}
 use Rattle.fetch_remote.specs.declared.fetch_error.FetchError.TheVariants as errors
 use Rattle.fetch_remote.specs.declared.options.FetchOptions.{FetchOptions}
 use Rattle.fetch_remote.specs.declared.outcome.Outcome.{Outcome}
-use Rattle.fetch_remote.specs.declared.outcome.PackOutcome.{PackOutcome}
 use Rattle.fetch_remote.specs.declared.outcome.Status.{Status}
 use Rattle.fetch_remote.specs.declared.outcome.Status.TheVariants as statuses
 use Rattle.fetch_cli.specs.Heard.{lines_heard}
@@ -168,9 +166,9 @@ pub record Tells (old new : List ℕ) (status : ℕ) (result : Result Outcome Fe
 unfoldable pub report_by : Scene → List ℕ → ℕ × List ℕ
 report_by s heard = report_with (lines_heard heard) (fetched_by s) (left_by s)
 
--- the report of a scene whose peer heard all requests
-abbrev pub report_of : Scene → ℕ × List ℕ
-report_of s = report_by s (requests_of s)
+-- the report of a scene: all requests were sent
+unfoldable pub report_of : Scene → ℕ × List ℕ
+report_of s = report_with (requests_in (given_of s) (found_of s) (stream_of s)) (fetched_by s) (left_by s)
 
 -- A refused fetch may have sent a front of its requests.
 pub record IsRefusedReport (s : Scene) (text : List ℕ) : Type 0 where

@@ -1,5 +1,5 @@
 -- A scene: a repository, the objects in it, a remote, and what the peer says.
-use Rattle.std.specs.Prelude.{ℕ, ◌^◌, ◌==◌, nat_lt, List, [], ◌∷◌, length, codes, Option, Some, None, Result, Ok, Err, unwrap_or, if◌then◌else◌}
+use Rattle.std.specs.Prelude.{ℕ, ◌^◌, ◌==◌, nat_lt, List, [], ◌∷◌, length, codes, Option, Result, Ok, Err, unwrap_or, if◌then◌else◌}
 use Rattle.std.specs.List.{flat_map}
 use Rattle.std.specs.Option.{option_map, ok_or}
 use Rattle.std.specs.Result.{result_ok}
@@ -7,7 +7,6 @@ use Rattle.fetch_store.specs.declared.id.Kind.{Kind}
 use Rattle.fetch_store.specs.Stores.{Entries}
 use Rattle.fetch_store.specs.Borders.{set_of}
 use Rattle.fetch_pack.specs.Reading.{read}
-use Rattle.fetch_wire.specs.declared.line.Line.{Line}
 use Rattle.fetch_cli.specs.declared.scene.Scene.{Scene}
 use Rattle.fetch_cli.specs.declared.local.Local.{Local}
 use Rattle.fetch_cli.specs.declared.remote_part.RemotePart.{RemotePart}

@@ -1,5 +1,5 @@
 -- The options of a scene. Of most kinds the last one counts; `not` and `parameter` add up.
-use Rattle.std.specs.Prelude.{ℕ, ◌==◌, Bool, true, false, nat_lt, List, [], ◌∷◌, ◌++◌, fold, codes, Option, Some, None, if◌then◌else◌}
+use Rattle.std.specs.Prelude.{ℕ, ◌==◌, true, false, nat_lt, List, [], ◌∷◌, ◌++◌, fold, codes, Option, Some, None, if◌then◌else◌}
 use Rattle.std.specs.Option.{option_map}
 use Rattle.std.specs.Str.{bytes_eq}
 use Rattle.fetch_store.specs.Scan.{◌>>=◌, split_first}
@@ -9,7 +9,6 @@ use Rattle.fetch_cli.specs.declared.options.SceneOption.TheVariants.{DryRun, Pac
 use Rattle.fetch_cli.specs.declared.options.SceneOptions.{SceneOptions}
 use Rattle.fetch_negotiate.specs.declared.algorithm.Shallow.{Shallow}
 use Rattle.fetch_negotiate.specs.declared.algorithm.Shallow.TheVariants as shallow
-use Rattle.fetch_update.specs.declared.message.RefLogMessage.{RefLogMessage}
 use Rattle.fetch_update.specs.declared.message.RefLogMessage.TheVariants as messages
 use Rattle.fetch_cli.specs.LineKinds.{partial_name_in}
 use Rattle.fetch_cli.specs.Numbers.{number_in, small_number_in}

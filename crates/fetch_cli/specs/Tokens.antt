@@ -1,7 +1,6 @@
 -- How a report tells a refusal: the variant's name, and what it keeps behind a space. A variant that only wraps another
 -- refusal is told as that one.
 use Rattle.std.specs.Prelude.{ℕ, List, ◌++◌, codes, decimal, Option, Some, None}
-use Rattle.fetch_store.specs.declared.id.ObjectId.{ObjectId}
 use Rattle.fetch_pack.specs.declared.error.PackError.{PackError}
 use Rattle.fetch_pack.specs.declared.error.PackError.TheVariants as pack
 use Rattle.fetch_refs.specs.declared.error.RefError.{RefError}

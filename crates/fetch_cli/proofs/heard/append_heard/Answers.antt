@@ -1,5 +1,5 @@
-use Rattle.std.proofs.Common.{◌≡◌, sym}
-use Rattle.fetch_cli.proofs.HeardLines.{starts, goes, ends, from_place}
+use Rattle.std.proofs.Common.{sym}
+use Rattle.fetch_cli.proofs.HeardLines.{goes, ends, from_place}
 use Rattle.fetch_cli.proofs.heard.append_heard.Goals as goal
 
 pub lines-preserved : goal.lines-preserved

@@ -1,4 +1,3 @@
-use Rattle.std.proofs.Common.{◌≡◌}
 use Rattle.fetch_cli.proofs.Directories.{starts, goes, ends}
 use Rattle.fetch_cli.proofs.map_lines.append_directories.Goals as goal
 

@@ -1,4 +1,4 @@
-use Rattle.std.proofs.Common.{◌≡◌, ◌++◌, take}
+use Rattle.std.proofs.Common.{take}
 use Rattle.std.specs.List.{filter}
 use Rattle.std.specs.Str.{is_utf8}
 use Rattle.fetch_cli.proofs.Directories.{IsWritten}

@@ -1,4 +1,3 @@
-use Rattle.std.proofs.Common.{◌≡◌}
 use Rattle.fetch_cli.specs.MapLines.{not_found_text}
 use Rattle.fetch_cli.proofs.Appends.{three}
 use Rattle.fetch_cli.proofs.map_lines.append_not_found.Goals as goal

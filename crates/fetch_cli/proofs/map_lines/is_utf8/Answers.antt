@@ -1,4 +1,4 @@
-use Rattle.std.proofs.Common.{◌≡◌, ◌∙◌}
+use Rattle.std.proofs.Common.{◌∙◌}
 use Rattle.fetch_cli.proofs.Utf8.{told}
 use Rattle.fetch_cli.proofs.map_lines.is_utf8.Goals as goal
 

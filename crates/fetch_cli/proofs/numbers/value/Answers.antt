@@ -1,4 +1,4 @@
-use Rattle.std.proofs.Common.{◌≡◌, ◌^◌, ◌≤◌, arith, sym, rules, ap, ◌∙◌, Some}
+use Rattle.std.proofs.Common.{◌^◌, arith, sym}
 use Rattle.std.specs.Str.Parse.{digits_value}
 use Rattle.fetch_cli.proofs.Digits.{reads, not_below, below_bound, ends_at}
 use Rattle.fetch_cli.proofs.numbers.value.Goals as goal

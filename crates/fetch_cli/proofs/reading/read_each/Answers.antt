@@ -1,4 +1,4 @@
-use Rattle.std.proofs.Common.{◌≡◌, Some, None, sym, ◌∙◌, arith}
+use Rattle.std.proofs.Common.{sym, ◌∙◌}
 use Rattle.fetch_cli.proofs.EachLine.{each_init, each_goes, each_stops, each_ends}
 use Rattle.fetch_cli.proofs.reading.read_each.Goals as goal
 

@@ -1,4 +1,4 @@
-use Rattle.std.proofs.Common.{◌≡◌, sym, ◌∙◌}
+use Rattle.std.proofs.Common.{sym, ◌∙◌}
 use Rattle.fetch_cli.proofs.ReferenceLines.{goes, stops, ends}
 use Rattle.fetch_cli.proofs.references.read_lines_of.Goals as goal
 

@@ -1,4 +1,3 @@
-use Rattle.std.proofs.Common.{◌≡◌}
 use Rattle.std.specs.List.{concat}
 use Rattle.fetch_cli.proofs.Fetching.{fetched, no_fault}
 use Rattle.fetch_cli.proofs.reporting.fetch.Goals as goal

@@ -1,4 +1,4 @@
-use Rattle.std.proofs.Common.{◌≡◌, Err, ap, ◌∙◌}
+use Rattle.std.proofs.Common.{Err, ap, ◌∙◌}
 use Rattle.fetch_cli.proofs.Answering.{answers_too_long}
 use Rattle.fetch_cli.proofs.running.answer_to_input.Goals as goal
 

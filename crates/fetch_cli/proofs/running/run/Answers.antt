@@ -1,4 +1,3 @@
-use Rattle.std.proofs.Common.{◌≡◌}
 use Rattle.fetch_cli.proofs.Answering.{known}
 use Rattle.fetch_cli.proofs.running.run.Goals as goal
 

@@ -1,4 +1,4 @@
-use Rattle.std.proofs.Common.{◌≡◌, ◌∙◌}
+use Rattle.std.proofs.Common.{◌∙◌}
 use Rattle.fetch_cli.proofs.Opening.{opened}
 use Rattle.fetch_cli.proofs.setting.refs_of.Goals as goal
 

@@ -1,6 +1,6 @@
-use Rattle.std.proofs.Common.{◌≡◌, sym, ◌∙◌, ap, refl}
+use Rattle.std.proofs.Common.{sym}
 use Rattle.fetch_wire.specs.LineViews.{line_of}
-use Rattle.fetch_cli.proofs.TextLines.{starts, goes, ends}
+use Rattle.fetch_cli.proofs.TextLines.{goes, ends}
 use Rattle.fetch_cli.proofs.text_lines.read_lines.Goals as goal
 
 pub lines-preserved : goal.lines-preserved
