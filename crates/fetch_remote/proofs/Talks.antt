@@ -9,30 +9,38 @@ use Rattle.fetch_remote.specs.declared.fetch_error.FetchError.TheVariants as err
 use Rattle.fetch_remote.specs.declared.listing.Listed.{Listed}
 use Rattle.fetch_remote.specs.declared.prepare.Error.{Error as PrepareError}
 use Rattle.fetch_remote.specs.declared.prepare.Error.TheVariants as prepare_errors
+use Rattle.fetch_remote.specs.declared.ref_map.Error.{Error as RefMapError}
+use Rattle.fetch_remote.specs.declared.ref_map.Error.TheVariants as ref_map_errors
 use Rattle.fetch_remote.specs.Conversation.{told_as, Converses}
 use Rattle.fetch_remote.specs.ConverseStage.{converse_stage, is_free as is_free_receiving}
 use Rattle.fetch_remote.specs.Errors.{preparing, receiving}
 use Rattle.fetch_remote.specs.Fetching.{bound_of, asked_in, receiving_stage, conversation, is_free, HasTalked}
 use Rattle.fetch_remote.specs.Form.{Given}
-use Rattle.fetch_remote.specs.ListStage.{ListedValue, list_stage, shown, is_free as is_free_listing}
+use Rattle.fetch_remote.specs.ListStage.{ListedValue, list_stage, shown, is_free as is_free_listing, is_free_map, is_transport_map}
 use Rattle.fetch_remote.specs.Repositories.{State}
 use Rattle.fetch_remote.proofs.Held.{gives_up}
 use Rattle.fetch_remote.proofs.Talking.{is_told, stops_early, goes_later}
 
+free_map : (e : RefMapError) → is_transport_map e ≡ false → is_free_map e ≡ false
+free_map (ref_map_errors.Handshake e) h = refl
+free_map ref_map_errors.Transport h = absurd (cc)
+free_map ref_map_errors.Interrupted h = refl
+free_map ref_map_errors.NoMemory h = refl
+
 free_listing : (e : PrepareError) → is_free (preparing e) ≡ false → is_free_listing e ≡ false
-free_listing prepare_errors.MissingRefSpecs h = h
-free_listing (prepare_errors.RefMap e) h = h
-free_listing prepare_errors.Unbuilt h = h
-free_listing prepare_errors.NoMemory h = h
+free_listing prepare_errors.MissingRefSpecs h = refl
+free_listing (prepare_errors.RefMap e) h = free_map e h
+free_listing prepare_errors.Unbuilt h = refl
+free_listing prepare_errors.NoMemory h = absurd (cc)
 
 free_receiving : (e : ReceiveError) → is_free (receiving e) ≡ false → is_free_receiving e ≡ false
-free_receiving (receive_errors.Fetch e) h = h
-free_receiving receive_errors.Client h = h
-free_receiving (receive_errors.Pack e) h = h
-free_receiving (receive_errors.Collision id) h = h
-free_receiving (receive_errors.UpdateRefs e) h = h
-free_receiving receive_errors.Unbuilt h = h
-free_receiving receive_errors.NoMemory h = h
+free_receiving (receive_errors.Fetch e) h = refl
+free_receiving receive_errors.Client h = absurd (cc)
+free_receiving (receive_errors.Pack e) h = refl
+free_receiving (receive_errors.Collision id) h = refl
+free_receiving (receive_errors.UpdateRefs e) h = refl
+free_receiving receive_errors.Unbuilt h = refl
+free_receiving receive_errors.NoMemory h = absurd (cc)
 
 -- the first stage is refused
 pub stops_listing : (answers : Bool) (old new : Option Talk) (g : Given) (s : State) (rest : List ℕ) (e : PrepareError)

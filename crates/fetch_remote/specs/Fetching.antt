@@ -25,10 +25,10 @@ use Rattle.fetch_remote.specs.declared.fetch_error.FetchError.{FetchError}
 use Rattle.fetch_remote.specs.declared.fetch_error.FetchError.TheVariants as errors
 use Rattle.fetch_remote.specs.declared.outcome.Outcome.{Outcome}
 use Rattle.fetch_remote.specs.Conversation.{Conversation, ends, and_then, told_as, map_refusal, sent_in, answer_in, Concludes, Breaks}
-use Rattle.fetch_remote.specs.ConverseStage.{asked_by, converse_stage, is_client, is_free as is_free_receiving}
+use Rattle.fetch_remote.specs.ConverseStage.{asked_by, converse_stage, is_client}
 use Rattle.fetch_remote.specs.Errors.{preparing, receiving}
 use Rattle.fetch_remote.specs.Form.{Given, is_in_form}
-use Rattle.fetch_remote.specs.ListStage.{ListedValue, list_stage, is_transport, is_free as is_free_listing, shown}
+use Rattle.fetch_remote.specs.ListStage.{ListedValue, list_stage, is_transport, shown}
 use Rattle.fetch_remote.specs.declared.listing.Listed.{Listed}
 use Rattle.fetch_specs.specs.declared.tags.Tags.{Tags}
 use Rattle.fetch_negotiate.specs.declared.algorithm.Shallow.{Shallow}
@@ -46,8 +46,8 @@ is_fault errors.NoMemory = false
 
 -- want of memory, and the peer's fault
 abbrev pub is_free : FetchError → Bool
-is_free (errors.Prepare e) = is_free_listing e
-is_free (errors.Receive e) = is_free_receiving e
+is_free (errors.Prepare e) = is_transport e
+is_free (errors.Receive e) = is_client e
 is_free errors.Unbuilt = false
 is_free errors.NoMemory = true
 

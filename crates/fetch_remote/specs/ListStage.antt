@@ -60,7 +60,7 @@ abbrev pub is_free_map : RefMapError → Bool
 is_free_map (ref_map.Handshake e) = false
 is_free_map ref_map.Transport = true
 is_free_map ref_map.Interrupted = false
-is_free_map ref_map.NoMemory = true
+is_free_map ref_map.NoMemory = false
 
 abbrev pub is_free : PrepareError → Bool
 is_free prepare.MissingRefSpecs = false
