@@ -21,3 +21,4 @@ pub mod Consistent
 pub mod Firsts
 pub mod GraphsAdded
 pub mod TagTexts
+pub mod TreeTexts

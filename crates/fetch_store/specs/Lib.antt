@@ -16,3 +16,4 @@ pub mod Honest
 pub mod Missing
 pub mod Entries
 pub mod Texts
+pub mod TreeTexts

@@ -9,6 +9,7 @@ ghost use Rattle.fetch_store.specs.Closed.{Holding, IsClosed, IsStored, AreAllOf
 ghost use Rattle.fetch_store.specs.Honest.{Request, Pack, IsHonest, taken};
 ghost use Rattle.fetch_store.specs.Missing.{missing, unclosed};
 ghost use Rattle.fetch_store.specs.Texts.{TagsAreTexts};
+ghost use Rattle.fetch_store.specs.TreeTexts.{TreesAreTexts};
 
 /// A closed repository that takes an honest pack for a request made of it stays closed, and holds what was wanted.
 pub fn an_honest_pack_keeps_a_repository_closed()
@@ -43,4 +44,9 @@ pub fn adding_keeps_what_is_stored()
 /// A tag is `object <hex>` and `type <kind>`, each with a line feed, and then any bytes.
 pub fn tags_are_texts()
     ensures { (hash : Kind) (bytes : List ℕ) → TagsAreTexts hash bytes }
+{}
+
+/// A tree is entries, `<mode> SP <name> NUL <raw id>`, one behind the other.
+pub fn trees_are_texts()
+    ensures { (hash : Kind) (bytes : List ℕ) → TreesAreTexts hash bytes }
 {}
