@@ -6,6 +6,7 @@ pub mod Additions
 pub mod Graphs
 pub mod Digests
 pub mod LineLaws
+pub mod LastLaws
 pub mod Orders
 pub mod Borders
 pub mod Keys
