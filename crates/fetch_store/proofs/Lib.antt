@@ -23,3 +23,4 @@ pub mod Firsts
 pub mod GraphsAdded
 pub mod TagTexts
 pub mod TreeTexts
+pub mod CommitTexts

@@ -17,3 +17,4 @@ pub mod Missing
 pub mod Entries
 pub mod Texts
 pub mod TreeTexts
+pub mod CommitTexts

@@ -10,6 +10,7 @@ ghost use Rattle.fetch_store.specs.Honest.{Request, Pack, IsHonest, taken};
 ghost use Rattle.fetch_store.specs.Missing.{missing, unclosed};
 ghost use Rattle.fetch_store.specs.Texts.{TagsAreTexts};
 ghost use Rattle.fetch_store.specs.TreeTexts.{TreesAreTexts};
+ghost use Rattle.fetch_store.specs.CommitTexts.{CommitsAreTexts};
 
 /// A closed repository that takes an honest pack for a request made of it stays closed, and holds what was wanted.
 pub fn an_honest_pack_keeps_a_repository_closed()
@@ -49,4 +50,9 @@ pub fn tags_are_texts()
 /// A tree is entries, `<mode> SP <name> NUL <raw id>`, one behind the other.
 pub fn trees_are_texts()
     ensures { (hash : Kind) (bytes : List ℕ) → TreesAreTexts hash bytes }
+{}
+
+/// A commit is `tree <hex>`, `parent <hex>` for each parent, `author <text>` and `committer <text> SP <seconds> SP <offset>`, each with a line feed, and then any bytes.
+pub fn commits_are_texts()
+    ensures { (hash : Kind) (bytes : List ℕ) → CommitsAreTexts hash bytes }
 {}
