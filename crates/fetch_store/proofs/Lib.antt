@@ -24,3 +24,4 @@ pub mod GraphsAdded
 pub mod TagTexts
 pub mod TreeTexts
 pub mod CommitTexts
+pub mod LinkCounts

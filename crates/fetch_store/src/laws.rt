@@ -1,9 +1,11 @@
 //! Laws of objects and of closed repositories.
 
-ghost use Rattle.std.specs.Prelude.{◌≡◌, ◌↔◌, ℕ, List, [], None, All};
+ghost use Rattle.std.specs.Prelude.{◌≡◌, ◌↔◌, ◌≤◌, ℕ, List, [], length, None, All};
 ghost use Rattle.std.specs.FinMap as map;
 ghost use Rattle.std.specs.FinSet as set;
 ghost use Rattle.fetch_store.specs.declared.id.Kind.{Kind};
+ghost use Rattle.fetch_store.specs.declared.object_kind.ObjectKind.{ObjectKind};
+ghost use Rattle.fetch_store.specs.Objects.{links_of};
 ghost use Rattle.fetch_store.specs.Stores.{AreOf, collision};
 ghost use Rattle.fetch_store.specs.Closed.{Holding, IsClosed, IsStored, AreAllOf, Grows};
 ghost use Rattle.fetch_store.specs.Honest.{Request, Pack, IsHonest, taken};
@@ -55,4 +57,9 @@ pub fn trees_are_texts()
 /// A commit is `tree <hex>`, `parent <hex>` for each parent, `author <text>` and `committer <text> SP <seconds> SP <offset>`, each with a line feed, and then any bytes.
 pub fn commits_are_texts()
     ensures { (hash : Kind) (bytes : List ℕ) → CommitsAreTexts hash bytes }
+{}
+
+/// An object has no more links than bytes, so its links can be counted in 64 bits.
+pub fn links_are_no_more_than_bytes()
+    ensures { (hash : Kind) (kind : ObjectKind) (bytes : List ℕ) → length (links_of hash kind bytes) ≤ length bytes }
 {}
