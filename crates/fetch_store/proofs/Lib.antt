@@ -6,6 +6,7 @@ pub mod Additions
 pub mod Graphs
 pub mod Digests
 pub mod LineLaws
+pub mod LastLaws
 pub mod Orders
 pub mod Borders
 pub mod Keys
@@ -21,3 +22,6 @@ pub mod Consistent
 pub mod Firsts
 pub mod GraphsAdded
 pub mod TagTexts
+pub mod TreeTexts
+pub mod CommitTexts
+pub mod LinkCounts

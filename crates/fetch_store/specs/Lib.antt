@@ -16,3 +16,5 @@ pub mod Honest
 pub mod Missing
 pub mod Entries
 pub mod Texts
+pub mod TreeTexts
+pub mod CommitTexts
