@@ -22,6 +22,18 @@ pub struct Conflict {
     pub sources: List<SourceRef>,
 }
 
+impl Conflict {
+    /// An equal conflict.
+    pub fn try_clone(&self) -> Result<Conflict, NoMemory>
+        ensures { IfOk result (λ copy. copy ≡ self.now) }
+    {
+        Ok(Conflict {
+            destination: self.destination.try_clone()?,
+            sources: self.sources.try_clone_with(SourceRef::try_clone)?,
+        })
+    }
+}
+
 /// The destinations that two different sources lead to, in the order in which they first appear. An
 /// id and a name are different sources.
 pub fn validate(alloc: Global, matches: &[Match]) -> Result<Vec<Conflict>, SpecError>

@@ -24,6 +24,17 @@ pub struct Item {
     pub full_ref_name: Text,
 }
 
+impl Item {
+    /// An equal item.
+    pub fn try_clone(&self) -> Result<Item, NoMemory>
+        ensures { IfOk result (λ copy. copy ≡ self.now) }
+    {
+        Ok(Item {
+            full_ref_name: self.full_ref_name.try_clone()?,
+        })
+    }
+}
+
 /// Refspecs that are matched together.
 #[derive(Debug, Drop)]
 pub struct MatchGroup<'a> {

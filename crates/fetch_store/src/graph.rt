@@ -37,6 +37,20 @@ impl Model for History {
     ghost view = { λ n. record { kind = n.kind; parents = n.parents.items; seconds = n.seconds; target = n.target } };
 }
 
+impl History {
+    /// An equal history.
+    pub fn try_clone(&self) -> Result<History, NoMemory>
+        ensures { IfOk result (λ copy. copy ≡ self.now) }
+    {
+        Ok(History {
+            kind: self.kind,
+            parents: self.parents.clone()?,
+            seconds: self.seconds,
+            target: self.target,
+        })
+    }
+}
+
 /// The histories of a store's objects, by id. Contracts see it as a finite map.
 #[derive(Debug, Drop)]
 pub struct Graph {
@@ -87,11 +101,32 @@ impl Graph {
         Ok(Graph { nodes })
     }
 
+    /// A graph with the same histories.
+    pub fn try_clone(&self, alloc: Global) -> Result<Graph, NoMemory>
+        ensures { IfOk result (λ copy. copy ≡ self.now) }
+    {
+        let nodes = copies(alloc, self.nodes.as_slice())?;
+        Ok(Graph { nodes })
+    }
+
     fn get(&self, id: &ObjectId) -> Option<&History>
         ensures { option_copied result ≡ map.get self.now id.now }
     {
         find_in_order(self.nodes.as_slice(), id)
     }
+}
+
+fn copies(
+    alloc: Global,
+    nodes: &[(ObjectId, History)],
+) -> Result<Vec<(ObjectId, History)>, NoMemory>
+    ensures { IfOk result (λ copies. copies.items ≡ nodes.now) }
+{
+    let mut copies = Vec::new(alloc);
+    for (id, history) in nodes {
+        copies.push((*id, history.try_clone()?))?;
+    }
+    Ok(copies)
 }
 
 /// Puts the histories of the objects behind the others.

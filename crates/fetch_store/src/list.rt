@@ -1,8 +1,8 @@
 //! Lists in public records.
 
-ghost use Rattle.std.specs.Fn.{CalledAt};
+ghost use Rattle.std.specs.Fn.{CalledAt, FnReturnsAt};
 ghost use Rattle.std.specs.List.Retain.{IsFiltered};
-ghost use Rattle.std.specs.Prelude.{◌≡◌, List as Items, IsTrue, ◌↔◌, length, [], ◌∷◌, ◌++◌, OnOk, OnErr};
+ghost use Rattle.std.specs.Prelude.{◌≡◌, List as Items, IsTrue, ◌↔◌, length, [], ◌∷◌, ◌++◌, OnOk, OnErr, IfOk};
 ghost use Rattle.std.specs.Cmp.Lexicographic.{pointwise, lists_per, lists_equiv};
 
 use crate::error::NoMemory;
@@ -73,6 +73,22 @@ impl<T: Drop> List<T> {
     {
         self.items.push(value)?;
         Ok(())
+    }
+
+    /// A list of copies, made one by one.
+    pub fn try_clone_with<F: Fn(&T) -> Result<T, NoMemory>>(
+        &self,
+        copy: F,
+    ) -> Result<List<T>, NoMemory>
+        requires callable { F.IsAlwaysCallable copy }
+        requires copies { (x : T) (r : _) → FnReturnsAt F.Fn copy x r → IfOk r (λ c. c ≡ x) }
+        ensures { IfOk result (λ list. list ≡ self.now) }
+    {
+        let mut items = Vec::with_capacity(self.allocator(), self.len())?;
+        for item in self.as_slice() {
+            items.push(copy(item)?)?;
+        }
+        Ok(List { items })
     }
 
     /// Keeps the values that pass the test, in order.
