@@ -1,11 +1,15 @@
 -- An object of the outside counts its faults. A fault is told only where that count rose.
-use Rattle.std.specs.Prelude.{◌≡◌, ℕ, ◌+◌, ◌-◌, ◌^◌, ◌≤◌, min, Bool, false, refl}
+use Rattle.std.specs.Prelude.{◌≡◌, ℕ, ◌+◌, ◌-◌, ◌^◌, ◌≤◌, min, Bool, true, false, refl}
 use Rattle.std.proofs.Common.{◌∙◌, arith}
 
 -- how often an object failed, and whether it ever may
 pub record Faults : Type 0 where
   pub count : ℕ
   pub possible : Bool
+
+-- an object that may fail at any call, and failed so often
+abbrev pub counted : ℕ → Faults
+counted n = record { count = n; possible = true }
 
 -- The count rose. A count at its type's end stays there, and counts as risen.
 abbrev pub Rose : Faults → Faults → Type 0

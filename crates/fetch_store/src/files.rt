@@ -1,9 +1,11 @@
 //! A tree of files, and a form of it in memory.
 
-ghost use Rattle.std.specs.Prelude.{◌≡◌, IsErrOf, IsErr, OnErr, true, length, nat_lt};
-ghost use Rattle.fetch_store.specs.Faults.{Faults, Rose, Counts};
+ghost use Rattle.std.specs.Prelude.{◌≡◌, IsErrOf, IsErr, OnErr, Err};
+ghost use Rattle.fetch_store.specs.Faults.{Faults, Rose, Counts, counted};
+ghost use Rattle.fetch_store.specs.declared.files.FileError.TheVariants as file_errors;
 
 use crate::text::Text;
+use std::marker::Model;
 use thiserror::Error;
 
 /// The other side failed, and counted it.
@@ -72,68 +74,108 @@ pub trait Files {
         ensures cause { OnErr result (Rose (faults self.old) (faults self.new)) };
 }
 
-/// Files in memory. It keeps none yet: each call fails and is counted.
+/// Files in memory. It keeps none yet: each call fails and is counted. Contracts see how often one did.
 #[derive(Debug, Drop)]
 pub struct MemoryFiles {
     failing: Vec<u64>,
     faults: u64,
 }
 
+impl Model for MemoryFiles {
+    ghost use Rattle.fetch_store.specs.Faults.{Faults, counted};
+
+    ghost Value = { Faults };
+
+    ghost view = { λ f. counted f.faults };
+}
+
 impl MemoryFiles {
     /// The calls whose numbers are listed fail, counted from 0.
     pub fn new(failing: Vec<u64>) -> MemoryFiles
-        ensures { ⟦<MemoryFiles as Files>⟧.faults result ≡ record { count = 0; possible = true } }
+        ensures { result ≡ counted 0 }
     {
         MemoryFiles { failing, faults: 0 }
     }
 
     fn fail(&mut self)
-        ensures counts { Counts (⟦<MemoryFiles as Files>⟧.faults self.old) (⟦<MemoryFiles as Files>⟧.faults self.new) }
-        ensures rose { Rose (⟦<MemoryFiles as Files>⟧.faults self.old) (⟦<MemoryFiles as Files>⟧.faults self.new) }
+        ensures counts { Counts self.old self.new }
+        ensures rose { Rose self.old self.new }
     {
         self.faults = self.faults.saturating_add(1);
     }
 }
 
 impl Files for MemoryFiles {
-    ghost faults = { λ f. record { count = f.faults; possible = true } };
+    ghost faults = { λ f. f };
 
-    fn kind_of(&mut self, _path: &[u8]) -> Result<Option<Node>, FileError> {
+    fn kind_of(&mut self, _path: &[u8]) -> Result<Option<Node>, FileError>
+        ensures counts { Counts self.old self.new }
+        ensures cause { IsErrOf result FileError.Failed → Rose self.old self.new }
+        ensures fails { result ≡ Err file_errors.Failed }
+    {
         self.fail();
         Err(FileError::Failed)
     }
 
-    fn list(&mut self, _path: &[u8]) -> Result<Vec<Text>, FileError> {
+    fn list(&mut self, _path: &[u8]) -> Result<Vec<Text>, FileError>
+        ensures counts { Counts self.old self.new }
+        ensures cause { IsErrOf result FileError.Failed → Rose self.old self.new }
+        ensures fails { result ≡ Err file_errors.Failed }
+    {
         self.fail();
         Err(FileError::Failed)
     }
 
-    fn make_dir_all(&mut self, _path: &[u8]) -> Result<(), FileError> {
+    fn make_dir_all(&mut self, _path: &[u8]) -> Result<(), FileError>
+        ensures counts { Counts self.old self.new }
+        ensures cause { IsErrOf result FileError.Failed → Rose self.old self.new }
+        ensures fails { result ≡ Err file_errors.Failed }
+    {
         self.fail();
         Err(FileError::Failed)
     }
 
-    fn write(&mut self, _path: &[u8], _bytes: &[u8]) -> Result<(), FileError> {
+    fn write(&mut self, _path: &[u8], _bytes: &[u8]) -> Result<(), FileError>
+        ensures counts { Counts self.old self.new }
+        ensures cause { IsErrOf result FileError.Failed → Rose self.old self.new }
+        ensures fails { result ≡ Err file_errors.Failed }
+    {
         self.fail();
         Err(FileError::Failed)
     }
 
-    fn read(&mut self, _path: &[u8]) -> Result<Option<Text>, FileError> {
+    fn read(&mut self, _path: &[u8]) -> Result<Option<Text>, FileError>
+        ensures counts { Counts self.old self.new }
+        ensures cause { IsErrOf result FileError.Failed → Rose self.old self.new }
+        ensures fails { result ≡ Err file_errors.Failed }
+    {
         self.fail();
         Err(FileError::Failed)
     }
 
-    fn rename(&mut self, _from: &[u8], _to: &[u8]) -> Result<(), FileError> {
+    fn rename(&mut self, _from: &[u8], _to: &[u8]) -> Result<(), FileError>
+        ensures counts { Counts self.old self.new }
+        ensures cause { IsErrOf result FileError.Failed → Rose self.old self.new }
+        ensures fails { result ≡ Err file_errors.Failed }
+    {
         self.fail();
         Err(FileError::Failed)
     }
 
-    fn remove_file(&mut self, _path: &[u8]) -> Result<(), Failed> {
+    fn remove_file(&mut self, _path: &[u8]) -> Result<(), Failed>
+        ensures counts { Counts self.old self.new }
+        ensures cause { OnErr result (Rose self.old self.new) }
+        ensures fails { IsErr result }
+    {
         self.fail();
         Err(Failed)
     }
 
-    fn remove_dir_all(&mut self, _path: &[u8]) -> Result<(), Failed> {
+    fn remove_dir_all(&mut self, _path: &[u8]) -> Result<(), Failed>
+        ensures counts { Counts self.old self.new }
+        ensures cause { OnErr result (Rose self.old self.new) }
+        ensures fails { IsErr result }
+    {
         self.fail();
         Err(Failed)
     }
