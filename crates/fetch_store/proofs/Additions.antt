@@ -67,7 +67,7 @@ regroup None b true x = refl
 regroup None b false x = refl
 regroup (Some y) b t x = refl
 
-last_none : (a : Option Stored) → a ≡ first_some a None
+pub last_none : (a : Option Stored) → a ≡ first_some a None
 last_none None = refl
 last_none (Some x) = refl
 

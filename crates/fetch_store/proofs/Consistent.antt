@@ -19,7 +19,7 @@ use Rattle.fetch_store.proofs.Additions.{get-add, get-add_all}
 use Rattle.fetch_store.proofs.Arranged.{IsArranged, consistent_in_order, order_of}
 use Rattle.fetch_store.proofs.Lists.{All-find, All-of}
 use Rattle.fetch_store.proofs.Growth.{grows-add_all}
-use Rattle.fetch_store.proofs.Collisions.{first_of, same_object}
+use Rattle.fetch_store.proofs.Agreement.{first_of, same_object}
 
 -- ---- a map of a list in order
 pub map_in_order : (es : Entries) → IsInOrder es → map_of es ≡ from_sorted es

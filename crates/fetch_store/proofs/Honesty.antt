@@ -18,7 +18,7 @@ use Rattle.fetch_store.specs.Missing.{parents_at}
 use Rattle.fetch_store.proofs.Lists.{All-find, parents_from_links, All-of}
 use Rattle.fetch_store.proofs.Growth.{grows_self, grows_trans, grows-add_all, stored_grows, commit_grows, stored_added}
 use Rattle.fetch_store.proofs.Merges.{merged_moved, within_moved}
-use Rattle.fetch_store.proofs.Collisions.{Agrees, all_agree, kind_of_same, same_object}
+use Rattle.fetch_store.proofs.Agreement.{Agrees, all_agree, kind_of_same, same_object}
 use Rattle.fetch_store.proofs.Whole.{IsWhole}
 
 walk_stored : (h : Holding) (from : ObjectId) (rest : List ObjectId) (to : ObjectId) → IsWalk h from rest to → IsStored h.objects to

@@ -3,6 +3,7 @@ pub mod Readings
 pub mod Ids
 pub mod Finds
 pub mod Additions
+pub mod Indexed
 pub mod Graphs
 pub mod Digests
 pub mod LineLaws
@@ -13,7 +14,7 @@ pub mod Keys
 pub mod Lists
 pub mod Growth
 pub mod Merges
-pub mod Collisions
+pub mod Agreement
 pub mod Whole
 pub mod Honesty
 pub mod Unclosed

@@ -2,6 +2,7 @@
 #![tactic(auto)]
 
 mod border;
+mod collisions;
 mod counter;
 mod entries;
 mod error;

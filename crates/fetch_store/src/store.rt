@@ -14,6 +14,7 @@ ghost use Rattle.fetch_store.specs.Stores.{id_cmp, map_of, first_some, AreOf, co
 ghost use Rattle.fetch_store.specs.declared.id.Kind.{Kind};
 ghost use Rattle.fetch_store.specs.declared.error.StoreError.TheVariants as errors;
 
+use crate::collisions::first_collision;
 use crate::entries::{arrange, find_in_order};
 use crate::error::{NoMemory, StoreError};
 use crate::id::{Kind, ObjectId};
@@ -118,11 +119,12 @@ impl Store {
         self.objects.as_slice()
     }
 
-    /// Whether each id of the list has this object, and no other, in the store and earlier in the list.
+    /// Whether each id of the list has this object, and no other, in the store and earlier in the list. It keeps an
+    /// index of the list where there is memory for one, and answers the same, but more slowly, where there is none.
     pub fn check(&self, objects: &[(ObjectId, Object)]) -> Result<(), StoreError>
         ensures { MatchOption (collision self.now.objects objects.now) (result ≡ Ok tt) (λ id. result ≡ Err (errors.Collision id)) }
     {
-        match first_collision(self.objects.as_slice(), objects) {
+        match first_collision(*self.objects.allocator(), self.objects.as_slice(), objects) {
             Some(id) => Err(StoreError::Collision { id }),
             None => Ok(()),
         }
@@ -186,64 +188,6 @@ fn copies(
         copies.push((*id, object.try_clone()?))?;
     }
     Ok(copies)
-}
-
-/// The first object of an id.
-fn find<'a>(objects: &'a [(ObjectId, Object)], id: &ObjectId) -> Option<&'a Object>
-    ensures { option_copied result ≡ map.find id_cmp id.now objects.now }
-{
-    for (other, object) in objects {
-        if is_same(id, other) {
-            return Some(object);
-        }
-    }
-    None
-}
-
-fn is_same(id: &ObjectId, other: &ObjectId) -> bool
-    ensures { IsTrue result ↔ (id.now ≡ other.now) }
-{
-    *id == *other
-}
-
-fn first_collision(
-    stored: &[(ObjectId, Object)],
-    objects: &[(ObjectId, Object)],
-) -> Option<ObjectId>
-    requires { IsInOrder stored.now }
-    ensures { result ≡ collision (map_of stored.now) objects.now }
-{
-    for i in 0..objects.len() {
-        let (id, object) = &objects[i];
-        let known = find_in_either(stored, &objects[..i], id);
-        if clashes(known, object) {
-            return Some(*id);
-        }
-    }
-    None
-}
-
-fn find_in_either<'a>(
-    first: &'a [(ObjectId, Object)],
-    second: &'a [(ObjectId, Object)],
-    id: &ObjectId,
-) -> Option<&'a Object>
-    requires { IsInOrder first.now }
-    ensures { option_copied result ≡ first_some (map.find id_cmp id.now first.now) (map.find id_cmp id.now second.now) }
-{
-    match find_in_order(first, id) {
-        Some(object) => Some(object),
-        None => find(second, id),
-    }
-}
-
-fn clashes(known: Option<&Object>, object: &Object) -> bool
-    ensures { result ≡ spec.clashes (option_copied known.entry) object.now }
-{
-    match known {
-        Some(other) => !other.has_same_text(object),
-        None => false,
-    }
 }
 
 /// Adds the objects whose ids are new.
