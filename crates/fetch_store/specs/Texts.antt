@@ -1,10 +1,10 @@
 -- The grammar of objects in the words of the format: a text is put together from its parts.
-use Rattle.std.specs.Prelude.{◌≡◌, ◌↔◌, ℕ, ◌*◌, List, [], ◌∷◌, ◌++◌, length, codes}
+use Rattle.std.specs.Prelude.{◌≡◌, ℕ, ◌*◌, List, [], ◌∷◌, ◌++◌, length, codes}
 use Rattle.std.specs.List.{AllPass}
 use Rattle.hex.specs.Hex.{is_hex_digit}
 use Rattle.fetch_store.specs.declared.id.Kind.{Kind}
 use Rattle.fetch_store.specs.declared.object_kind.ObjectKind.{ObjectKind}
-use Rattle.fetch_store.specs.declared.object_kind.ObjectKind.TheVariants.{Tag, Blob}
+use Rattle.fetch_store.specs.declared.object_kind.ObjectKind.TheVariants.{Tag}
 use Rattle.fetch_store.specs.Hashing.{name_of}
 use Rattle.fetch_store.specs.Id.{byte_len}
 use Rattle.fetch_store.specs.Objects.{IsObject}
