@@ -13,7 +13,9 @@ ghost use Rattle.fetch_pack.specs.Once.{AreNamed, HasDistinctIds, KeepsEachOnce}
 
 use crate::error::PackError;
 use crate::records::{number_at, record_at, skip_records};
-use fetch_store::{Kind, List, Object, ObjectId, ObjectKind, Store, StoreError, digest, id_of};
+use fetch_store::{
+    Kind, List, NoMemory, Object, ObjectId, ObjectKind, Store, StoreError, digest, id_of,
+};
 use std::alloc::{AllocError, Global};
 use std::cmp::Ordering;
 use std::collections::BTreeSet;
@@ -25,6 +27,22 @@ pub struct Pack {
     pub objects: List<(ObjectId, Object)>,
     pub count: u32,
     pub digest: ObjectId,
+}
+
+impl Pack {
+    /// An equal pack.
+    pub fn try_clone(&self) -> Result<Pack, NoMemory>
+        ensures { IfOk result (λ copy. copy ≡ self.now) }
+    {
+        let objects = self
+            .objects
+            .try_clone_with(|(id, object)| Ok((*id, object.try_clone()?)))?;
+        Ok(Pack {
+            objects,
+            count: self.count,
+            digest: self.digest,
+        })
+    }
 }
 
 /// A pack whose structure is right.
