@@ -1,5 +1,5 @@
 -- The commits that a fetch begins with.
-use Rattle.std.specs.Prelude.{ℕ, List, [], ◌∷◌, Option, Some, None, Result, Ok, Err, is_some, if◌then◌else◌}
+use Rattle.std.specs.Prelude.{ℕ, List, [], Option, Some, None, Result, Ok, Err, is_some, if◌then◌else◌}
 use Rattle.std.specs.FinMap as map
 use Rattle.std.specs.List.{filter_map}
 use Rattle.std.specs.Option.{option_and_then}
@@ -9,7 +9,7 @@ use Rattle.fetch_store.specs.Graph.{Graph}
 use Rattle.fetch_refs.specs.declared.error.RefError.{RefError}
 use Rattle.fetch_refs.specs.declared.target.Target.{Target}
 use Rattle.fetch_refs.specs.Names.{Names}
-use Rattle.fetch_refs.specs.Peeled.{read, follow, through}
+use Rattle.fetch_refs.specs.Peeled.{resolved, through}
 use Rattle.fetch_negotiate.specs.Commits.{commit_of}
 
 -- the id, where one was found
@@ -19,7 +19,7 @@ found (Err e) = None
 
 -- what a reference leads to by names, of which there are five at most, and its own is the first
 abbrev pub led_to : Names → List ℕ × Target → Option ObjectId
-led_to names entry = found (read entry.0 (Some entry.1) (λ id. Ok id) (λ next. follow names 4 (entry.0 ∷ []) next))
+led_to names entry = found (resolved names entry.0 entry.1)
 
 -- the id of a stored commit alone
 abbrev pub if_commit : Graph → Option ObjectId → Option ObjectId

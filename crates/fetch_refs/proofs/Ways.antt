@@ -1,17 +1,27 @@
 -- Ways through symbolic references and through tags, one step at a time.
-use Rattle.std.proofs.Common.{◌≡◌, ℕ, zero, suc, ◌-◌, ◌<◌, Bool, true, false, List, [], ◌∷◌, ◌++◌, map, Option, Some, None, Result, Ok, Err, refl, sym, ap, ◌∙◌, subst, arith}
+use Rattle.std.proofs.Common.{◌≡◌, ℕ, zero, suc, ◌-◌, ◌<◌, Bool, true, false, cond, List, [], ◌∷◌, ◌++◌, map, Option, Some, None, Result, Ok, Err, refl, sym, ap, ◌∙◌, subst, arith}
 use Rattle.std.specs.Prelude.{if◌then◌else◌, ◌||◌, is_some}
+use Rattle.std.specs.BTreeSet.{BTreeSet, contains, Updates}
+use Rattle.std.specs.Cmp.{eq_by_cmp_equiv}
 use Rattle.std.specs.FinMap as finmap
 use Rattle.std.specs.List.{list_any}
 use Rattle.std.specs.Option.{option_map, option_and_then}
+use Rattle.std.specs.Ordering.{eq_by_cmp}
+use Rattle.std.specs.declared.cmp.Ordering.{Ordering}
+use Rattle.std.proofs.lemmas.List.Folds.{list_any-append}
 use Rattle.fetch_store.specs.Graph.{Graph, Node}
+use Rattle.fetch_store.specs.Stores.{id_cmp}
+use Rattle.fetch_store.specs.contracts.id.ObjectIdOrd.TheImpl as order
 use Rattle.fetch_store.specs.declared.id.ObjectId.{ObjectId}
+use Rattle.fetch_store.proofs.Ids.{id_cmp_total}
+use Rattle.fetch_store.proofs.Orders.{cmp_is}
 use Rattle.fetch_refs.specs.declared.error.RefError.{RefError}
 use Rattle.fetch_refs.specs.declared.error.RefError.TheVariants as errors
 use Rattle.fetch_refs.specs.declared.target.Target.{Target}
+use Rattle.fetch_refs.specs.declared.target.Target.TheVariants.{Symbolic}
 use Rattle.fetch_refs.specs.Answers.{Answers}
 use Rattle.fetch_refs.specs.Names.{Names}
-use Rattle.fetch_refs.specs.Peeled.{is_met, is_met_id, read, open_tag, follow, through}
+use Rattle.fetch_refs.specs.Peeled.{is_met, is_met_id, read, open_tag, follow, through, and_then, peeled}
 
 pub list_any-map : {X Y : Type 0} (p : Y → Bool) (f : X → Y) (xs : List X) → list_any p (map f xs) ≡ list_any (λ x. p (f x)) xs
 list_any-map p f [] = refl
@@ -63,6 +73,48 @@ module _ (graph : Graph) (met : List ObjectId) (id : ObjectId) where
       ap (λ b. if b then Err (errors.TagCycle id) else open_tag id (finmap.get graph id) (λ target. through graph left (met ++ id ∷ []) target)) is
       ∙ ap (λ n. open_tag id (finmap.get graph id) (λ target. through graph n (met ++ id ∷ []) target)) (sym e)
 
+-- a way goes by which tags were met, and not by how often or in which order
+pub through-members : (graph : Graph) (left : ℕ) (met others : List ObjectId) (id : ObjectId) → ((q : ObjectId) → is_met_id met q ≡ is_met_id others q) → through graph left met id ≡ through graph left others id
+unfolding through
+through-members graph zero met others id same = ap (λ b. Err (if b then errors.TagCycle id else errors.MissingObject id)) (same id)
+through-members graph (suc left) met others id same =
+    ap (λ b. if b then Err (errors.TagCycle id) else open_tag id (finmap.get graph id) (λ target. through graph left (met ++ id ∷ []) target)) (same id)
+    ∙ ap (λ (next : ObjectId → Result ObjectId RefError). if is_met_id others id then Err (errors.TagCycle id) else open_tag id (finmap.get graph id) next)
+    (λ i target. through-members graph left (met ++ id ∷ []) (others ++ id ∷ []) target (λ q. one_more q) i)
+  where
+    one_more : (q : ObjectId) → is_met_id (met ++ id ∷ []) q ≡ is_met_id (others ++ id ∷ []) q
+    one_more q = list_any-append (λ m. eq_by_cmp id_cmp m q) met (id ∷ []) ∙ ap (λ b. b || is_met_id (id ∷ []) q) (same q) ∙ sym (list_any-append (λ m. eq_by_cmp id_cmp m q) others (id ∷ []))
+
+-- the order in which a set keeps ids
+abbrev pub order_of : ObjectId → ObjectId → Ordering
+order_of = (order.ghosts).cmp
+
+turned : (a b : ObjectId) → eq_by_cmp id_cmp a b ≡ eq_by_cmp id_cmp b a
+turned = (eq_by_cmp_equiv id_cmp_total).symm
+
+-- the ids that a set has were met
+pub contains_is : (met : BTreeSet ObjectId) (id : ObjectId) → contains order_of met id ≡ is_met_id met.keys id
+contains_is met id = ap (λ (cmp : ObjectId → ObjectId → Ordering). contains cmp met id) cmp_is ∙ each met.keys
+  where
+    each : (ids : List ObjectId) → list_any (λ k. eq_by_cmp id_cmp id k) ids ≡ is_met_id ids id
+    each [] = refl
+    each (k ∷ ids) = ap (λ b. b || list_any (λ m. eq_by_cmp id_cmp id m) ids) (turned id k) ∙ ap (λ b. eq_by_cmp id_cmp k id || b) (each ids)
+
+either : (b c : Bool) → cond b true c ≡ (c || (b || false))
+either true true = refl
+either true false = refl
+either false true = refl
+either false false = refl
+
+-- a set with one id more
+pub inserted : (met more : BTreeSet ObjectId) (id : ObjectId) → Updates order_of met more id true → (q : ObjectId) → is_met_id more.keys q ≡ is_met_id (met.keys ++ id ∷ []) q
+inserted met more id updates q =
+    let v = subst (λ (cmp : ObjectId → ObjectId → Ordering). Updates cmp met more id true) cmp_is updates in
+    sym (contains_is more q) ∙ ap (λ (cmp : ObjectId → ObjectId → Ordering). contains cmp more q) cmp_is ∙ v.0 q
+    ∙ ap (λ b. cond (eq_by_cmp id_cmp id q) true b) (sym (ap (λ (cmp : ObjectId → ObjectId → Ordering). contains cmp met q) cmp_is) ∙ contains_is met q)
+    ∙ either (eq_by_cmp id_cmp id q) (is_met_id met.keys q)
+    ∙ sym (list_any-append (λ m. eq_by_cmp id_cmp m q) met.keys (id ∷ []))
+
 -- what the calls of `Objects` say of an object, by cases
 module _ (id : ObjectId) (next : ObjectId → Result ObjectId RefError) where
   pub open-missing : {K : Type 0} (kind : Node → K) (n : Option Node) → is_some (option_map kind n) ≡ false → open_tag id n next ≡ Err (errors.MissingObject id)
@@ -80,6 +132,30 @@ module _ (id : ObjectId) (next : ObjectId → Result ObjectId RefError) where
   pub open-tag : (n : Option Node) (t : ObjectId) → option_and_then (λ (x : Node). x.target) n ≡ Some t → open_tag id n next ≡ next t
   open-tag None t is = absurd cc
   open-tag (Some n) t is = ap (λ (o : Option ObjectId). Rattle.std.specs.Option.option_map_or next o (Ok id)) is
+
+-- the first of the names
+pub follow-first : (names : Names) (name next : List ℕ) → finmap.get names name ≡ Some (Symbolic next) → follow names 5 [] name ≡ follow names 4 (name ∷ []) next
+follow-first names name next is = follow-some names [] name 5 (Some (Symbolic next)) (omega arith) refl is
+
+-- what a symbolic reference is peeled to, by the next name
+pub peeled-symbolic : (names given : Names) (graph : Graph) (name bytes next : List ℕ) → names ≡ given → bytes ≡ name → finmap.get names name ≡ Some (Symbolic next)
+    → peeled given graph name ≡ and_then (follow names 4 (bytes ∷ []) next) (through graph (finmap.len graph) [])
+unfolding peeled
+peeled-symbolic names given graph name bytes next same also is =
+    sym (ap (λ (ns : Names). read name (finmap.get ns name) (λ id. Ok id) (λ _. and_then (follow ns 5 [] name) (through graph (finmap.len graph) []))) same)
+    ∙ ap (λ o. read name o (λ id. Ok id) (λ _. and_then (follow names 5 [] name) (through graph (finmap.len graph) []))) is
+    ∙ ap (λ r. and_then r (through graph (finmap.len graph) [])) (follow-first names name next is)
+    ∙ ap (λ (n : List ℕ). and_then (follow names 4 (n ∷ []) next) (through graph (finmap.len graph) [])) (sym also)
+
+-- a refusal of the first of two ways
+pub answers-first : (expected first : Result ObjectId RefError) (next : ObjectId → Result ObjectId RefError) (e : RefError) → expected ≡ and_then first next → Answers first (Err e) → Answers {X = ObjectId} expected (Err e)
+answers-first expected first next (errors.Expectation index found) same h = same ∙ ap (λ r. and_then r next) h
+answers-first expected first next (errors.Cycle name) same h = same ∙ ap (λ r. and_then r next) h
+answers-first expected first next (errors.Depth name) same h = same ∙ ap (λ r. and_then r next) h
+answers-first expected first next (errors.Unborn name) same h = same ∙ ap (λ r. and_then r next) h
+answers-first expected first next (errors.MissingObject id) same h = same ∙ ap (λ r. and_then r next) h
+answers-first expected first next (errors.TagCycle id) same h = same ∙ ap (λ r. and_then r next) h
+answers-first expected first next errors.NoMemory same h = tt
 
 -- an answer that is the same
 pub same_answer : (a b : Result ObjectId RefError) (found : Result ObjectId RefError) → b ≡ a → Answers a found → Answers b found

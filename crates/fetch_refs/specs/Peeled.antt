@@ -30,6 +30,10 @@ follow names zero met name = Err (if is_met met name then errors.Cycle name else
 follow names (suc left) met name =
     if is_met met name then Err (errors.Cycle name) else read name (map.get names name) (λ id. Ok id) (λ target. follow names left (met ++ name ∷ []) target)
 
+-- The id that a reference leads to by names, of which there are five at most, and its own is the first.
+abbrev pub resolved : Names → List ℕ → Target → Result ObjectId RefError
+resolved names name target = read name (Some target) (λ id. Ok id) (λ next. follow names 4 (name ∷ []) next)
+
 -- whether a tag was met
 abbrev pub is_met_id : List ObjectId → ObjectId → Bool
 is_met_id met id = list_any (λ m. eq_by_cmp id_cmp m id) met

@@ -19,6 +19,7 @@ pub use edit::{Change, LogChange, PackedRefs, PreviousValue, RefEdit, RefLog};
 pub use error::RefError;
 pub use iter::RefIter;
 pub use log::{LogLine, Signature};
+pub use peel::peel_tags;
 pub use prepared::Prepared;
 pub use refs::Refs;
 pub use target::{Target, TargetRef};

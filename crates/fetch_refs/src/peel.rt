@@ -1,22 +1,23 @@
 //! From a name to an id.
 
-ghost use Rattle.std.specs.Prelude.{◌≡◌, [], map, Err};
+ghost use Rattle.std.specs.Prelude.{◌≡◌, [], ◌∷◌, map, Err};
 ghost use Rattle.std.specs.List.{list_any};
 ghost use Rattle.std.specs.Str.{bytes_eq};
 ghost use Rattle.std.specs.FinMap as finmap;
 ghost use Rattle.fetch_refs.specs.Answers.{Answers};
 ghost use Rattle.fetch_refs.specs.Names.{name_cmp};
 ghost use Rattle.fetch_refs.specs.declared.error.RefError.TheVariants as errors;
-ghost use Rattle.fetch_refs.specs.Peeled.{is_met, is_met_id, follow, through, peeled};
+ghost use Rattle.fetch_refs.specs.Peeled.{is_met, follow, resolved, through, peeled};
+ghost use Rattle.fetch_refs.specs.Targets.{seen};
 
 use crate::entries::find_target;
 use crate::error::RefError;
 use crate::refs::Refs;
-use crate::target::{Target, is_same_id};
+use crate::target::{Target, TargetRef};
 use fetch_specs::FullName;
 use fetch_store::{ObjectId, Objects};
 use std::alloc::Global;
-use std::collections::BTreeMap;
+use std::collections::{BTreeMap, BTreeSet};
 
 impl Refs {
     /// The id that a name stands for: a direct reference's as it stands, and what a symbolic one
@@ -28,10 +29,20 @@ impl Refs {
         match find_target(&self.names, name) {
             None => unborn(name),
             Some(Target::Object(id)) => Ok(*id),
-            Some(Target::Symbolic(_)) => {
-                let id = end_of_names(self.alloc, &self.names, name)?;
-                end_of_tags(self.alloc, objects, id)
+            Some(Target::Symbolic(next)) => {
+                let id = end_of_names(self.alloc, &self.names, name.as_bytes(), next)?;
+                peel_tags(self.alloc, objects, id)
             }
+        }
+    }
+
+    /// The id that a reference of `iter` leads to by names, else `Unborn`, `Cycle` or `Depth`.
+    pub fn resolve(&self, name: &[u8], target: TargetRef<'_>) -> Result<ObjectId, RefError>
+        ensures { Answers (resolved self.now.names name.now (seen target.entry)) result }
+    {
+        match target {
+            TargetRef::Object(id) => Ok(id),
+            TargetRef::Symbolic(next) => end_of_names(self.alloc, &self.names, name, next),
         }
     }
 }
@@ -44,32 +55,34 @@ fn unborn(name: &FullName) -> Result<ObjectId, RefError>
     })
 }
 
-/// The id at the end of a way of symbolic references.
+/// The id at the end of a way of symbolic references, of which one was met.
 fn end_of_names(
     alloc: Global,
     names: &BTreeMap<FullName, Target>,
-    first: &FullName,
+    first: &[u8],
+    next: &FullName,
 ) -> Result<ObjectId, RefError>
-    ensures { Answers (follow (finmap.from_entries {R = name_cmp} names.now.entries) 5 [] first.now) result }
+    ensures { Answers (follow (finmap.from_entries {R = name_cmp} names.now.entries) 4 (first.now ∷ []) next.now) result }
 {
-    let mut met: Vec<&FullName> = Vec::new(alloc);
-    let mut name = first;
-    let mut left = 5usize;
+    let mut met: Vec<&[u8]> = Vec::new(alloc);
+    met.push(first)?;
+    let mut name = next;
+    let mut left = 4usize;
     'names: while left > 0 {
-        if is_met(met.as_slice(), name) {
+        if is_met(met.as_slice(), name.as_bytes()) {
             return cycle(name);
         }
         match find_target(names, name) {
             None => return unborn(name),
             Some(Target::Object(id)) => return Ok(*id),
             Some(Target::Symbolic(target)) => {
-                met.push(name)?;
+                met.push(name.as_bytes())?;
                 name = target;
                 left -= 1;
             }
         }
     }
-    if is_met(met.as_slice(), name) {
+    if is_met(met.as_slice(), name.as_bytes()) {
         return cycle(name);
     }
     Err(RefError::Depth {
@@ -85,37 +98,31 @@ fn cycle(name: &FullName) -> Result<ObjectId, RefError>
     })
 }
 
-fn is_met(met: &[&FullName], name: &FullName) -> bool
+fn is_met(met: &[&[u8]], name: &[u8]) -> bool
     ensures { result ≡ is_met (map (λ x. x.now) met.now) name.now }
 {
     stands_among(met, name)
 }
 
-fn stands_among(met: &[&FullName], name: &FullName) -> bool
+fn stands_among(met: &[&[u8]], name: &[u8]) -> bool
     ensures { result ≡ list_any (λ other. bytes_eq other.now name.now) met.now }
 {
-    met.iter().any(|other| is_same_name(other, name))
+    met.iter().any(|other| *other == name)
 }
 
-fn is_same_name(name: &FullName, other: &FullName) -> bool
-    ensures { result ≡ bytes_eq name.now other.now }
-{
-    *name == *other
-}
-
-/// The id at the end of a way through stored tags.
-fn end_of_tags<O: Objects>(
+/// The id that is no tag behind stored tags, else `TagCycle` or `MissingObject`.
+pub fn peel_tags<O: Objects>(
     alloc: Global,
     objects: &O,
     first: ObjectId,
 ) -> Result<ObjectId, RefError>
     ensures { Answers (through (O.graph objects.now) (finmap.len (O.graph objects.now)) [] first) result }
 {
-    let mut met: Vec<ObjectId> = Vec::new(alloc);
+    let mut met: BTreeSet<ObjectId> = BTreeSet::new(alloc);
     let mut id = first;
     let mut left = objects.len();
     'tags: while left > 0 {
-        if is_met_id(met.as_slice(), &id) {
+        if met.contains(&id) {
             return Err(RefError::TagCycle { id });
         }
         if objects.kind_of(&id).is_none() {
@@ -124,20 +131,14 @@ fn end_of_tags<O: Objects>(
         match objects.tag_target(&id) {
             None => return Ok(id),
             Some(target) => {
-                met.push(id)?;
+                met.insert(id)?;
                 id = target;
                 left -= 1;
             }
         }
     }
-    if is_met_id(met.as_slice(), &id) {
+    if met.contains(&id) {
         return Err(RefError::TagCycle { id });
     }
     Err(RefError::MissingObject { id })
-}
-
-fn is_met_id(met: &[ObjectId], id: &ObjectId) -> bool
-    ensures { result ≡ is_met_id met.now id.now }
-{
-    met.iter().any(|other| is_same_id(other, id))
 }

@@ -67,7 +67,7 @@ impl TargetRef<'_> {
 }
 
 /// Whether two ids are one.
-pub(crate) fn is_same_id(id: &ObjectId, other: &ObjectId) -> bool
+fn is_same_id(id: &ObjectId, other: &ObjectId) -> bool
     ensures { result ≡ eq_by_cmp id_cmp id.now other.now }
 {
     are_equal(id, other)

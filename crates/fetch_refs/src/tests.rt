@@ -3,7 +3,7 @@ ghost use Rattle.fetch_refs.specs.Logs.{after};
 
 use crate::{
     Change, LogChange, PackedRefs, Prepared, PreviousValue, RefEdit, RefError, RefLog, Refs,
-    Signature, Target, TargetRef,
+    Signature, Target, TargetRef, peel_tags,
 };
 use fetch_specs::FullName;
 use fetch_store::{Kind, NoMemory, ObjectId, Store, Text};
@@ -100,6 +100,8 @@ fn names_are_followed(rt: HostRuntime) -> Result<(), Fail> {
     assert!(rt; refs.peel(&store, &main) == Ok(id));
     let head = FullName::new(alloc, b"HEAD")?;
     assert!(rt; refs.peel(&store, &head) == Err(RefError::MissingObject { id }));
+    assert!(rt; refs.resolve(b"HEAD", TargetRef::Symbolic(&main)) == Ok(id));
+    assert!(rt; peel_tags(alloc, &store, id) == Err(RefError::MissingObject { id }));
     let dev = FullName::new(alloc, b"refs/heads/dev")?;
     let unborn = matches!(refs.peel(&store, &dev), Err(RefError::Unborn { .. }));
     assert!(rt; unborn);
