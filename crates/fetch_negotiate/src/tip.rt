@@ -1,10 +1,12 @@
 //! The commits that a fetch begins with.
 
-ghost use Rattle.std.specs.Prelude.{◌≡◌, [], Some, IfOk};
+ghost use Rattle.std.specs.Prelude.{◌≡◌, [], Some, Result, IfOk};
 ghost use Rattle.std.specs.FinMap as map;
 ghost use Rattle.std.specs.List.{filter_map};
 ghost use Rattle.fetch_store.specs.Borders.{ids_of, set_of};
+ghost use Rattle.fetch_store.specs.declared.id.ObjectId.{ObjectId};
 ghost use Rattle.fetch_refs.specs.Answers.{Answers};
+ghost use Rattle.fetch_refs.specs.declared.error.RefError.{RefError};
 ghost use Rattle.fetch_refs.specs.Peeled.{through};
 ghost use Rattle.fetch_refs.specs.Targets.{seen};
 ghost use Rattle.fetch_negotiate.specs.Commits.{commit_of};
