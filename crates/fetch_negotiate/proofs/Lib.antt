@@ -15,3 +15,4 @@ pub mod Handing
 pub mod Tipping
 pub mod Unread
 pub mod Descent
+pub mod Copying
