@@ -14,3 +14,4 @@ pub mod Counting
 pub mod Handing
 pub mod Unread
 pub mod Descent
+pub mod Copying

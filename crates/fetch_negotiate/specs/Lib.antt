@@ -16,3 +16,4 @@ pub mod Paired
 pub mod Skipped
 pub mod Any
 pub mod Tips
+pub mod Copies

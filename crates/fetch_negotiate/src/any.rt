@@ -46,6 +46,21 @@ impl AnyNegotiator {
             }
         }
     }
+
+    /// An equal negotiator.
+    pub fn try_clone(&self, alloc: Global) -> Result<AnyNegotiator, NoMemory>
+        ensures { IfOk result (λ copy. copy ≡ self.now) }
+    {
+        match self {
+            AnyNegotiator::Noop => Ok(AnyNegotiator::Noop),
+            AnyNegotiator::Consecutive(consecutive) => {
+                Ok(AnyNegotiator::Consecutive(consecutive.try_clone(alloc)?))
+            }
+            AnyNegotiator::Skipping(skipping) => {
+                Ok(AnyNegotiator::Skipping(skipping.try_clone(alloc)?))
+            }
+        }
+    }
 }
 
 impl Negotiator for AnyNegotiator {

@@ -1,9 +1,11 @@
 //! What was read of the graph.
 
-ghost use Rattle.std.specs.Prelude.{◌≡◌, IfOk, Some, is_some, option_map};
+ghost use Rattle.std.specs.Prelude.{◌≡◌, IfOk, OnOk, Some, is_some, option_map};
+ghost use Rattle.std.specs.BTreeMap.{insert_entry};
 ghost use Rattle.fetch_store.specs.declared.id.ObjectId.{ObjectId};
 ghost use Rattle.fetch_store.specs.declared.object_kind.ObjectKind.TheVariants as objects;
 ghost use Rattle.fetch_store.specs.Objects.{is_kind};
+ghost use Rattle.fetch_store.specs.Stores.{id_cmp};
 ghost use Rattle.fetch_negotiate.specs.Commits.{commit_of, parents_in};
 ghost use Rattle.fetch_negotiate.specs.Reading.{Grows, IsTold, read_in};
 
@@ -18,8 +20,49 @@ pub struct Commit {
     pub(crate) parents: List<ObjectId>,
 }
 
+impl Commit {
+    /// An equal commit.
+    fn try_clone(&self) -> Result<Commit, NoMemory>
+        ensures { IfOk result (λ copy. copy ≡ self.now) }
+    {
+        let parents = Vec::from_slice(self.parents.allocator(), self.parents.as_slice())?;
+        Ok(Commit {
+            seconds: self.seconds,
+            parents: List::from(parents),
+        })
+    }
+}
+
 /// The ids that were read, each with the commit that was found.
 pub(crate) type Table = BTreeMap<ObjectId, Option<Commit>>;
+
+/// An equal table.
+pub(crate) fn copy_table(alloc: Global, table: &Table) -> Result<Table, NoMemory>
+    ensures { IfOk result (λ copy. copy.entries ≡ table.now.entries) }
+{
+    let mut copy = BTreeMap::new(alloc);
+    let _count = table.len();
+    'ids: for (id, found) in table {
+        put(&mut copy, *id, copy_found(found)?)?;
+    }
+    Ok(copy)
+}
+
+fn put(table: &mut Table, id: ObjectId, found: Option<Commit>) -> Result<(), NoMemory>
+    ensures { OnOk result (table.new.entries ≡ insert_entry id_cmp table.old.entries id found) }
+{
+    table.insert(id, found)?;
+    Ok(())
+}
+
+fn copy_found(found: &Option<Commit>) -> Result<Option<Commit>, NoMemory>
+    ensures { IfOk result (λ copy. copy ≡ found.now) }
+{
+    match found {
+        Some(commit) => Ok(Some(commit.try_clone()?)),
+        None => Ok(None),
+    }
+}
 
 /// Reads an id unless it was read before, and tells whether it is a stored commit.
 pub(crate) fn read<O: Objects>(

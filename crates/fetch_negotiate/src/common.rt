@@ -1,7 +1,8 @@
 //! The acknowledged commits and their ancestors.
 
-ghost use Rattle.std.specs.Prelude.{◌≡◌, ◌+◌, ◌<◌, [], ◌∷◌, ◌++◌, OnOk, OnErr, length, if◌then◌else◌};
+ghost use Rattle.std.specs.Prelude.{◌≡◌, ◌+◌, ◌<◌, [], ◌∷◌, ◌++◌, IfOk, OnOk, OnErr, length, if◌then◌else◌};
 ghost use Rattle.fetch_negotiate.specs.Commits.{has};
+ghost use Rattle.fetch_negotiate.specs.Copies.{IsSameCommon};
 ghost use Rattle.fetch_negotiate.specs.Exact.{IsExact};
 ghost use Rattle.fetch_negotiate.specs.Reading.{Grows, IsTold, read_in};
 ghost use Rattle.fetch_negotiate.specs.Sharing.{IsMarked, IsSettled, IsCommonIn, IsWithin, AreWithin, IsDone, AreDone, Extends, Covers};
@@ -38,6 +39,19 @@ impl Common {
             closed: 0,
             marked: BTreeSet::new(alloc),
         }
+    }
+
+    /// Equal marks.
+    pub(crate) fn try_clone(&self) -> Result<Common, NoMemory>
+        ensures { IfOk result (λ copy. IsSameCommon copy self.now) }
+    {
+        Ok(Common {
+            acknowledged: self.acknowledged.clone()?,
+            settled: self.settled,
+            commits: self.commits.clone()?,
+            closed: self.closed,
+            marked: self.marked.clone()?,
+        })
     }
 
     /// Whether a commit is marked.

@@ -44,6 +44,15 @@ impl Consecutive {
             walk: Walk::new(alloc, tips, border)?,
         })
     }
+
+    /// An equal negotiator.
+    pub fn try_clone(&self, alloc: Global) -> Result<Consecutive, NoMemory>
+        ensures { IfOk result (λ copy. copy ≡ self.now) }
+    {
+        Ok(Consecutive {
+            walk: self.walk.try_clone(alloc)?,
+        })
+    }
 }
 
 impl Negotiator for Consecutive {

@@ -3,6 +3,7 @@
 ghost use Rattle.std.specs.Prelude.{◌≡◌, ◌+◌, ◌<◌, ◌≤◌, true, [], ◌∷◌, ◌++◌, IfOk, IfSome, IfNone, OnOk, OnErr, length, is_some};
 ghost use Rattle.std.specs.Option.{option_map_or};
 ghost use Rattle.fetch_negotiate.specs.Commits.{has};
+ghost use Rattle.fetch_negotiate.specs.Copies.{IsSameLine};
 ghost use Rattle.fetch_negotiate.specs.Queues.{IsLineIn, IsFront, IsNone, seconds_at, tips_in};
 ghost use Rattle.fetch_negotiate.specs.Reading.{Grows, IsTold, commit_at, links_at, read_in};
 ghost use Rattle.fetch_negotiate.specs.Sharing.{IsMarked};
@@ -44,6 +45,20 @@ impl Line {
             queue: BTreeSet::new(alloc),
             taken: Vec::new(alloc),
             told: BTreeSet::new(alloc),
+        })
+    }
+
+    /// An equal line.
+    pub(crate) fn try_clone(&self) -> Result<Line, NoMemory>
+        ensures { IfOk result (λ copy. IsSameLine copy self.now) }
+    {
+        Ok(Line {
+            tips: self.tips,
+            candidates: self.candidates.clone()?,
+            entered: self.entered,
+            queue: self.queue.clone()?,
+            taken: self.taken.clone()?,
+            told: self.told.clone()?,
         })
     }
 }

@@ -62,6 +62,17 @@ impl Skipping {
             offered: Vec::new(alloc),
         })
     }
+
+    /// An equal negotiator.
+    pub fn try_clone(&self, alloc: Global) -> Result<Skipping, NoMemory>
+        ensures { IfOk result (λ copy. copy ≡ self.now) }
+    {
+        Ok(Skipping {
+            walk: self.walk.try_clone(alloc)?,
+            skips: self.skips.try_clone()?,
+            offered: self.offered.clone()?,
+        })
+    }
 }
 
 impl Negotiator for Skipping {

@@ -1,6 +1,7 @@
 //! The pairs of commits.
 
 ghost use Rattle.std.specs.Prelude.{◌≡◌, ◌+◌, ◌<◌, ◌≤◌, ◌++◌, map, IfOk, OnOk, length, vec_len, vec_capacity};
+ghost use Rattle.fetch_negotiate.specs.Copies.{IsSameSkips};
 ghost use Rattle.fetch_negotiate.specs.Paired.{IsPaired, skip_in};
 ghost use Rattle.fetch_negotiate.specs.Skips as spec;
 
@@ -28,6 +29,17 @@ impl Skips {
             handed: first_pairs(alloc, tips)?,
             entered: 0,
             pairs: BTreeMap::new(alloc),
+        })
+    }
+
+    /// Equal pairs.
+    pub(crate) fn try_clone(&self) -> Result<Skips, NoMemory>
+        ensures { IfOk result (λ copy. IsSameSkips copy self.now) }
+    {
+        Ok(Skips {
+            handed: self.handed.clone()?,
+            entered: self.entered,
+            pairs: self.pairs.clone()?,
         })
     }
 }

@@ -3,12 +3,13 @@
 ghost use Rattle.std.specs.Prelude.{◌≡◌, not, ◌&&◌, Some, IfOk, IfSome, IfNone, OnOk, OnErr};
 ghost use Rattle.std.specs.FinMap as map;
 ghost use Rattle.fetch_negotiate.specs.Commits.{has};
+ghost use Rattle.fetch_negotiate.specs.Copies.{IsSameWalk};
 ghost use Rattle.fetch_negotiate.specs.Haves.{started, taking, acknowledging, next_taken};
 ghost use Rattle.fetch_negotiate.specs.Queues.{IsChosen, IsNone};
 ghost use Rattle.fetch_negotiate.specs.Reading.{Grows, IsTold, read_in};
 ghost use Rattle.fetch_negotiate.specs.Walking.{IsWalk, IsReady, IsRead, so_far_in, known_in};
 
-use crate::commits::Table;
+use crate::commits::{Table, copy_table};
 use crate::common::{Common, acknowledge, settle};
 use crate::line::{Line, enter, front, take_one};
 use fetch_store::{Border, NoMemory, ObjectId, Objects};
@@ -36,6 +37,18 @@ impl Walk {
             table: BTreeMap::new(alloc),
             common: Common::new(alloc),
             line: Line::new(alloc, tips)?,
+        })
+    }
+
+    /// An equal walk.
+    pub(crate) fn try_clone(&self, alloc: Global) -> Result<Walk, NoMemory>
+        ensures { IfOk result (λ copy. IsSameWalk copy self.now) }
+    {
+        Ok(Walk {
+            border: self.border.try_clone()?,
+            table: copy_table(alloc, &self.table)?,
+            common: self.common.try_clone()?,
+            line: self.line.try_clone()?,
         })
     }
 }

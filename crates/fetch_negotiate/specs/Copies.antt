@@ -1,0 +1,32 @@
+-- What a copy of a walk has in common with it.
+use Rattle.std.specs.Prelude.{◌≡◌}
+use Rattle.fetch_negotiate.specs.declared.common.Common.{Common}
+use Rattle.fetch_negotiate.specs.declared.line.Line.{Line}
+use Rattle.fetch_negotiate.specs.declared.skips.Skips.{Skips}
+use Rattle.fetch_negotiate.specs.declared.walk.Walk.{Walk}
+
+pub record IsSameCommon (a b : Common) : Type 0 where
+  pub acknowledged : a.acknowledged.items ≡ b.acknowledged.items
+  pub settled : a.settled ≡ b.settled
+  pub commits : a.commits.items ≡ b.commits.items
+  pub closed : a.closed ≡ b.closed
+  pub marked : a.marked ≡ b.marked
+
+pub record IsSameLine (a b : Line) : Type 0 where
+  pub tips : a.tips ≡ b.tips
+  pub candidates : a.candidates.items ≡ b.candidates.items
+  pub entered : a.entered ≡ b.entered
+  pub queue : a.queue ≡ b.queue
+  pub taken : a.taken.items ≡ b.taken.items
+  pub told : a.told ≡ b.told
+
+pub record IsSameWalk (a b : Walk) : Type 0 where
+  pub border : a.border ≡ b.border
+  pub table : a.table.entries ≡ b.table.entries
+  pub common : IsSameCommon a.common b.common
+  pub line : IsSameLine a.line b.line
+
+pub record IsSameSkips (a b : Skips) : Type 0 where
+  pub handed : a.handed.items ≡ b.handed.items
+  pub entered : a.entered ≡ b.entered
+  pub pairs : a.pairs.entries ≡ b.pairs.entries
