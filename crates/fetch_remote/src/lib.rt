@@ -3,6 +3,7 @@
 
 mod ask;
 mod conversing;
+mod copies;
 mod direction;
 pub mod fetch;
 mod fetch_error;

@@ -1,10 +1,11 @@
 //! How a fetch is to be done.
 
-ghost use Rattle.std.specs.Prelude.{◌≡◌, [], true, false, None};
+ghost use Rattle.std.specs.Prelude.{◌≡◌, [], true, false, None, IfOk};
 ghost use Rattle.fetch_negotiate.specs.declared.algorithm.Shallow.TheVariants.{NoChange};
 
 use crate::ref_map;
 use fetch_negotiate::Shallow;
+use fetch_store::NoMemory;
 use fetch_update::RefLogMessage;
 use std::alloc::Global;
 
@@ -39,5 +40,27 @@ impl FetchOptions {
             reflog_message: None,
             shallow: Shallow::NoChange,
         }
+    }
+
+    /// Equal options.
+    pub fn try_clone(&self) -> Result<FetchOptions, NoMemory>
+        ensures { IfOk result (λ copy. copy ≡ self.now) }
+    {
+        Ok(FetchOptions {
+            map: self.map.try_clone()?,
+            dry_run: self.dry_run,
+            write_packed_refs_only: self.write_packed_refs_only,
+            reflog_message: copy_message(&self.reflog_message)?,
+            shallow: self.shallow.try_clone()?,
+        })
+    }
+}
+
+fn copy_message(message: &Option<RefLogMessage>) -> Result<Option<RefLogMessage>, NoMemory>
+    ensures { IfOk result (λ copy. copy ≡ message.now) }
+{
+    match message {
+        Some(message) => Ok(Some(message.try_clone()?)),
+        None => Ok(None),
     }
 }

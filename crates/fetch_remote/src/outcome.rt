@@ -1,7 +1,10 @@
 //! What a fetch tells.
 
+ghost use Rattle.std.specs.Prelude.{◌≡◌, IfOk};
+
+use crate::copies::copy_option;
 use fetch_negotiate::Round;
-use fetch_store::{List, ObjectId, Text};
+use fetch_store::{List, NoMemory, ObjectId, Text};
 use fetch_update::update;
 use fetch_wire::{Handshake, RefMap};
 
@@ -15,10 +18,43 @@ pub struct PackOutcome {
     pub keep_path: Option<Text>,
 }
 
+impl PackOutcome {
+    /// An equal outcome.
+    pub fn try_clone(&self) -> Result<PackOutcome, NoMemory>
+        ensures { IfOk result (λ copy. copy ≡ self.now) }
+    {
+        Ok(PackOutcome {
+            num_objects: self.num_objects,
+            digest: self.digest,
+            keep_path: copy_option(&self.keep_path)?,
+        })
+    }
+}
+
 /// What was said of what is there: one round a request.
 #[derive(Debug, Drop)]
 pub struct Negotiate {
     pub rounds: List<Round>,
+}
+
+impl Negotiate {
+    /// Equal rounds.
+    pub fn try_clone(&self) -> Result<Negotiate, NoMemory>
+        ensures { IfOk result (λ copy. copy ≡ self.now) }
+    {
+        Ok(Negotiate {
+            rounds: self.rounds.try_clone_with(Round::try_clone)?,
+        })
+    }
+}
+
+fn copy_negotiate(negotiate: &Option<Negotiate>) -> Result<Option<Negotiate>, NoMemory>
+    ensures { IfOk result (λ copy. copy ≡ negotiate.now) }
+{
+    match negotiate {
+        Some(negotiate) => Ok(Some(negotiate.try_clone()?)),
+        None => Ok(None),
+    }
 }
 
 /// Whether a pack came, and what became of each mapping.
@@ -38,10 +74,51 @@ pub enum Status {
     },
 }
 
+impl Status {
+    /// An equal status.
+    pub fn try_clone(&self) -> Result<Status, NoMemory>
+        ensures { IfOk result (λ copy. copy ≡ self.now) }
+    {
+        match self {
+            Status::NoPackReceived {
+                dry_run,
+                negotiate,
+                update_refs,
+            } => Ok(Status::NoPackReceived {
+                dry_run: *dry_run,
+                negotiate: copy_negotiate(negotiate)?,
+                update_refs: update_refs.try_clone()?,
+            }),
+            Status::Change {
+                negotiate,
+                write_pack_bundle,
+                update_refs,
+            } => Ok(Status::Change {
+                negotiate: negotiate.try_clone()?,
+                write_pack_bundle: write_pack_bundle.try_clone()?,
+                update_refs: update_refs.try_clone()?,
+            }),
+        }
+    }
+}
+
 /// What a fetch found, and what it did.
 #[derive(Debug, Drop)]
 pub struct Outcome {
     pub ref_map: RefMap,
     pub handshake: Handshake,
     pub status: Status,
+}
+
+impl Outcome {
+    /// An equal outcome.
+    pub fn try_clone(&self) -> Result<Outcome, NoMemory>
+        ensures { IfOk result (λ copy. copy ≡ self.now) }
+    {
+        Ok(Outcome {
+            ref_map: self.ref_map.try_clone()?,
+            handshake: self.handshake.try_clone()?,
+            status: self.status.try_clone()?,
+        })
+    }
 }

@@ -1,9 +1,10 @@
 //! How the references of a remote are mapped, and why they weren't.
 
-ghost use Rattle.std.specs.Prelude.{◌≡◌, [], true};
+ghost use Rattle.std.specs.Prelude.{◌≡◌, [], true, IfOk};
 
+use crate::copies::copy_option;
 use fetch_specs::RefSpec;
-use fetch_store::{List, Text};
+use fetch_store::{List, NoMemory, Text};
 use fetch_wire::{ReplyBound, WireError};
 use std::alloc::Global;
 use thiserror::Error;
@@ -32,6 +33,22 @@ impl Options {
             extra_refspecs: List::new(alloc),
             max_reply_bytes: ReplyBound::default(),
         }
+    }
+
+    /// Equal options.
+    pub fn try_clone(&self) -> Result<Options, NoMemory>
+        ensures { IfOk result (λ copy. copy ≡ self.now) }
+    {
+        let parameters = self.handshake_parameters.try_clone_with(|(name, value)| Ok((
+            name.try_clone()?,
+            copy_option(value)?,
+        )))?;
+        Ok(Options {
+            prefix_from_spec_as_filter_on_remote: self.prefix_from_spec_as_filter_on_remote,
+            handshake_parameters: parameters,
+            extra_refspecs: self.extra_refspecs.try_clone_with(RefSpec::try_clone)?,
+            max_reply_bytes: self.max_reply_bytes,
+        })
     }
 }
 

@@ -5,7 +5,7 @@ ghost use Rattle.fetch_remote.specs.Remotes.{address_of, specs_for};
 
 use crate::direction::Direction;
 use fetch_specs::{RefSpec, Tags};
-use fetch_store::{List, Text};
+use fetch_store::{List, NoMemory, Text};
 use std::marker::Model;
 
 /// A remote: its addresses, the refspecs that it is fetched by, and what is done with tags.
@@ -58,6 +58,17 @@ impl Remote {
         ensures { result ≡ self.now.tags }
     {
         self.tags
+    }
+
+    /// An equal remote.
+    pub fn try_clone(&self) -> Result<Remote, NoMemory>
+        ensures { IfOk result (λ copy. copy ≡ self.now) }
+    {
+        Ok(Remote {
+            urls: self.urls.try_clone_with(Text::try_clone)?,
+            fetch_specs: self.fetch_specs.try_clone_with(RefSpec::try_clone)?,
+            tags: self.tags,
+        })
     }
 
     /// The first address, or an empty one where there is none.

@@ -6,6 +6,7 @@ ghost use Rattle.fetch_remote.specs.declared.open_error.OpenError.TheVariants as
 ghost use Rattle.fetch_remote.specs.Repositories as spec;
 ghost use Rattle.fetch_remote.specs.Repositories.{state_of, setup_of};
 
+use crate::copies::copy_option;
 use crate::open_error::OpenError;
 use crate::settings::Settings;
 use fetch_config::{ConfigError, File};
@@ -24,6 +25,19 @@ pub struct OpenOptions {
     pub base: File,
 }
 
+impl OpenOptions {
+    /// Equal options.
+    pub fn try_clone(&self, alloc: Global) -> Result<OpenOptions, NoMemory>
+        ensures { IfOk result (λ copy. copy ≡ self.now) }
+    {
+        Ok(OpenOptions {
+            lenient_config: self.lenient_config,
+            api_config_overrides: self.api_config_overrides.try_clone_with(Text::try_clone)?,
+            base: self.base.try_clone(alloc)?,
+        })
+    }
+}
+
 /// What a repository is made of.
 #[derive(Drop)]
 pub struct Parts {
@@ -38,6 +52,25 @@ pub struct Parts {
     /// The directory of the work tree, where there is one.
     pub workdir: Option<Text>,
     pub options: OpenOptions,
+}
+
+impl Parts {
+    /// Equal parts, but for the room in the store.
+    pub fn try_clone(&self, alloc: Global) -> Result<Parts, NoMemory>
+        ensures state { IfOk result (λ copy. spec.state_in copy ≡ spec.state_in self.now) }
+        ensures rest { IfOk result (λ copy. copy ≡ record self.now { store = copy.store }) }
+    {
+        Ok(Parts {
+            store: self.store.try_clone(alloc)?,
+            refs: self.refs.try_clone()?,
+            border: self.border.try_clone()?,
+            local: self.local.try_clone(alloc)?,
+            committer: self.committer.try_clone()?,
+            git_dir: self.git_dir.try_clone()?,
+            workdir: copy_option(&self.workdir)?,
+            options: self.options.try_clone(alloc)?,
+        })
+    }
 }
 
 /// A repository. Contracts see what a fetch may change of it as its state, and the rest as its setup.
@@ -89,6 +122,21 @@ impl Repository {
                 git_dir,
                 committer,
             },
+        })
+    }
+
+    /// An equal repository, but for the room in the store.
+    pub fn try_clone(&self, alloc: Global) -> Result<Repository, NoMemory>
+        ensures state { IfOk result (λ copy. state_of copy ≡ state_of self.now) }
+        ensures rest { IfOk result (λ copy. copy ≡ record self.now { store = copy.store }) }
+    {
+        Ok(Repository {
+            store: self.store.try_clone(alloc)?,
+            refs: self.refs.try_clone()?,
+            border: self.border.try_clone()?,
+            local: self.local.try_clone(alloc)?,
+            workdir: copy_option(&self.workdir)?,
+            settings: self.settings.try_clone(alloc)?,
         })
     }
 

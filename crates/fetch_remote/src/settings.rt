@@ -1,8 +1,11 @@
 //! What a fetch reads of a repository beside objects, border and references.
 
+ghost use Rattle.std.specs.Prelude.{◌≡◌, IfOk};
+
 use fetch_config::File;
 use fetch_refs::Signature;
-use fetch_store::{Kind, Text};
+use fetch_store::{Kind, NoMemory, Text};
+use std::alloc::Global;
 
 /// What a fetch reads of a repository beside objects, border and references.
 #[derive(Debug, Drop)]
@@ -16,4 +19,19 @@ pub struct Settings {
     pub git_dir: Text,
     /// Who writes the lines of reflogs.
     pub committer: Signature,
+}
+
+impl Settings {
+    /// Equal settings.
+    pub fn try_clone(&self, alloc: Global) -> Result<Settings, NoMemory>
+        ensures { IfOk result (λ copy. copy ≡ self.now) }
+    {
+        Ok(Settings {
+            kind: self.kind,
+            config: self.config.try_clone(alloc)?,
+            lenient: self.lenient,
+            git_dir: self.git_dir.try_clone()?,
+            committer: self.committer.try_clone()?,
+        })
+    }
 }
