@@ -4,6 +4,7 @@ pub mod Pieces
 pub mod EachLine
 pub mod Digits
 pub mod ReferenceLines
+pub mod Gathered
 pub mod TextLines
 pub mod Opening
 pub mod Fetching
