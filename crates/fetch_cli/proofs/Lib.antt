@@ -1,12 +1,11 @@
 pub mod Appends
 pub mod ConfigLines
-pub mod Directories
 pub mod Pieces
 pub mod EachLine
 pub mod Digits
 pub mod ReferenceLines
+pub mod Gathered
 pub mod TextLines
-pub mod Utf8
 pub mod Opening
 pub mod Fetching
 pub mod HeardLines

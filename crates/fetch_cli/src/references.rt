@@ -1,6 +1,7 @@
 //! The references of a scene.
 
-ghost use Rattle.std.specs.Prelude.{◌≡◌, IfOk, []};
+ghost use Rattle.std.specs.Prelude.{◌≡◌, ◌<◌, ◌++◌, ◌∷◌, [], if◌then◌else◌, not, Some, None, IfOk, OnOk, vec_len, vec_capacity};
+ghost use Rattle.std.specs.Option.{option_map};
 ghost use Rattle.fetch_cli.specs.Gives.{Gives};
 ghost use Rattle.fetch_cli.specs.LineKinds.{symbolic_in, object_in, target_in, reference_in, reference_of};
 ghost use Rattle.fetch_cli.specs.SceneRefs as spec;
@@ -12,6 +13,8 @@ use fetch_refs::Target;
 use fetch_specs::FullName;
 use fetch_store::{Kind, List, NoMemory, ObjectId, split_first};
 use std::alloc::Global;
+use std::collections::BTreeSet;
+use std::marker::Model;
 
 /// A reference of a scene.
 #[derive(Debug, Drop)]
@@ -89,28 +92,77 @@ fn reference_at(alloc: Global, hash: Kind, line: &Placed<'_>) -> Result<Option<R
     }
 }
 
-fn has_name(references: &[Reference], name: &FullName) -> bool
-    ensures { result ≡ spec.has_name references.now name.now }
-{
-    references.iter().any(|r| r.name == *name)
+/// The references read so far, and their names, by which a repeated one is known.
+#[derive(Drop)]
+struct Gathered {
+    references: Vec<Reference>,
+    names: BTreeSet<FullName>,
 }
 
+impl Model for Gathered {
+    ghost use Rattle.std.specs.Prelude.{List};
+    ghost use Rattle.fetch_cli.specs.SceneRefs.{HasNames};
+    ghost use Rattle.fetch_cli.specs.declared.references.Reference.{Reference};
+
+    ghost Value = { List Reference };
+
+    ghost view = { λ gathered. gathered.references.items };
+
+    ghost invariant = { λ gathered. HasNames gathered.references.items gathered.names.keys };
+}
+
+impl Gathered {
+    fn new(alloc: Global) -> Gathered
+        ensures { result ≡ [] }
+    {
+        Gathered {
+            references: Vec::new(alloc),
+            names: BTreeSet::new(alloc),
+        }
+    }
+
+    /// Adds a reference, unless its name came before, and says whether it was added.
+    fn add(&mut self, reference: Reference) -> Result<bool, NoMemory>
+        ensures new { IfOk result (λ is_new. is_new ≡ not (spec.has_name self.old reference.name)) }
+        ensures added { OnOk result (self.new ≡ if spec.has_name self.old reference.name then self.old else self.old ++ reference ∷ []) }
+    {
+        let name = reference.name.try_clone()?;
+        self.references.reserve(1)?;
+        let is_new = self.names.insert(name)?;
+        push_if(is_new, &mut self.references, reference);
+        Ok(is_new)
+    }
+
+    fn into_references(self) -> Vec<Reference>
+        ensures { result.items ≡ self }
+    {
+        self.references
+    }
+}
+
+fn push_if(is_new: bool, references: &mut Vec<Reference>, reference: Reference)
+    requires { vec_len references.old < vec_capacity references.old }
+    ensures { references.new.items ≡ if is_new then references.old.items ++ reference ∷ [] else references.old.items }
+{
+    if is_new {
+        references.push_reserved(reference);
+    }
+}
+
+/// Adds the reference of a line, and says whether it has one whose name is new.
 #[tactic(auto, unfolding(crate::specs::SceneRefs::new_reference))]
-fn new_reference(
+fn add_line(
     alloc: Global,
     hash: Kind,
-    before: &[Reference],
+    gathered: &mut Gathered,
     line: &Placed<'_>,
-) -> Result<Option<Reference>, NoMemory>
-    ensures { IfOk result (λ found. found ≡ spec.new_reference hash before.now line.now.line) }
+) -> Result<bool, NoMemory>
+    ensures { IfOk result (λ is_new. (if is_new then Some gathered.new else None) ≡ option_map (λ r. gathered.old ++ r ∷ []) (spec.new_reference hash gathered.old line.now.line)) }
 {
-    let Some(reference) = reference_at(alloc, hash, line)? else {
-        return Ok(None);
-    };
-    if has_name(before, &reference.name) {
-        return Ok(None);
+    match reference_at(alloc, hash, line)? {
+        Some(reference) => gathered.add(reference),
+        None => Ok(false),
     }
-    Ok(Some(reference))
 }
 
 fn read_lines_of(
@@ -120,18 +172,15 @@ fn read_lines_of(
 ) -> Result<List<Reference>, SceneFault>
     ensures { Gives result (spec.references_behind hash [] lines.now) }
 {
-    let mut references = Vec::new(alloc);
+    let mut gathered = Gathered::new(alloc);
     for line in lines {
-        match new_reference(alloc, hash, &references, line)? {
-            Some(reference) => references.push(reference)?,
-            None => {
-                return Err(SceneFault::Malformed {
-                    place: line.place(),
-                });
-            }
+        if !add_line(alloc, hash, &mut gathered, line)? {
+            return Err(SceneFault::Malformed {
+                place: line.place(),
+            });
         }
     }
-    Ok(List::from(references))
+    Ok(List::from(gathered.into_references()))
 }
 
 /// The references of a scene.

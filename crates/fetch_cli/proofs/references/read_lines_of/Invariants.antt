@@ -3,4 +3,4 @@ use Rattle.fetch_cli.specs.SceneRefs.{references_behind}
 use Rattle.fetch_cli.proofs.references.read_lines_of.Given as goal
 
 abbrev pub invariant-loop-line : goal.invariant-loop-line
-invariant-loop-line l = references_behind l.hash l.references.items (drop l.line-index l.lines) ≡ references_behind l.hash [] l.lines
+invariant-loop-line l = references_behind l.hash l.gathered (drop l.line-index l.lines) ≡ references_behind l.hash [] l.lines
