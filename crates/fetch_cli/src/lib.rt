@@ -54,8 +54,3 @@ pub use scene::{Scene, read_scene};
 pub use standard::{StdSink, StdSource};
 pub use tokens::append_token;
 pub use words::{Command, HELP, VERSION, read_command};
-
-#[cfg(test)]
-mod run_tests;
-#[cfg(test)]
-mod tests;

@@ -24,6 +24,3 @@ pub use laws::{
 };
 pub use meta::{Meta, Origin};
 pub use section::Section;
-
-#[cfg(test)]
-mod tests;

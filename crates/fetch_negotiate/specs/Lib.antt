@@ -17,3 +17,4 @@ pub mod Skipped
 pub mod Any
 pub mod Tips
 pub mod Copies
+pub mod Unread

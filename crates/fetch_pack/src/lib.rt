@@ -9,6 +9,3 @@ mod writing;
 pub use error::PackError;
 pub use reading::{Pack, keeps_each_once, read_pack};
 pub use writing::write_pack;
-
-#[cfg(test)]
-mod tests;

@@ -32,6 +32,3 @@ pub use options::FetchOptions;
 pub use outcome::{Negotiate, Outcome, PackOutcome, Status};
 pub use remote::Remote;
 pub use repository::{OpenOptions, Parts, Repository};
-
-#[cfg(test)]
-mod tests;

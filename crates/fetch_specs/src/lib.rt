@@ -28,6 +28,3 @@ pub use name::{FullName, PartialName};
 pub use operation::{Mode, Operation};
 pub use spec::{RefSpec, parse};
 pub use tags::Tags;
-
-#[cfg(test)]
-mod tests;

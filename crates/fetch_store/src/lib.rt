@@ -41,6 +41,3 @@ pub use objects::Objects;
 pub use scan::{after, split_first, split_last, splits_exactly};
 pub use store::Store;
 pub use text::Text;
-
-#[cfg(test)]
-mod tests;

@@ -40,6 +40,3 @@ pub use scripted::{ScriptedInterrupt, ScriptedPeer};
 pub use section::{Trouble, line_in};
 pub use session::Session;
 pub use write::{write_line, write_lines};
-
-#[cfg(test)]
-mod tests;

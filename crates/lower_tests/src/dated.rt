@@ -1,19 +1,20 @@
-ghost use Rattle.std.specs.Prelude.{◌≡◌, IfOk, OnOk};
+ghost use Rattle.std.specs.Prelude.{◌≡◌, ◌↔◌, ◌<◌, IsTrue, IfOk, OnOk};
 ghost use Rattle.fetch_store.specs.declared.id.Kind.TheVariants as kinds;
 ghost use Rattle.fetch_store.specs.Graph.{graph_of};
 ghost use Rattle.fetch_store.specs.Id.{kind_of};
+ghost use Rattle.fetch_store.specs.Objects.{is_kind};
+ghost use Rattle.fetch_store.specs.declared.object_kind.ObjectKind.TheVariants as object_kinds;
+ghost use Rattle.fetch_update.specs.Dated.{IsCommit, HasDatedPath};
 
-use crate::commits::is_commit;
-use crate::dated::has_dated_path;
-use fetch_store::{Kind, Object, ObjectId, ObjectKind, Objects, Store};
+use fetch_store::{Kind, NoMemory, Object, ObjectId, ObjectKind, Objects, Steps, Store};
+use fetch_update::laws::is_dated_ancestor;
 use std::alloc::Global;
 use std::cell::Cell;
+use std::marker::Brand;
+use std::sync::ledger::{Blank, Ledger};
 use std::test::Fail;
 
-mod policy;
-mod vectors;
-
-fn id(name: u8) -> ObjectId
+pub fn id(name: u8) -> ObjectId
     ensures { kind_of result ≡ kinds.Sha1 }
 {
     ObjectId::Sha1([name; 20])
@@ -35,7 +36,13 @@ fn commit(alloc: Global, seconds: u8, parents: &[u8]) -> Result<Object, Fail>
     Ok(Object::parse(Kind::Sha1, ObjectKind::Commit, text)?)
 }
 
-fn add(alloc: Global, store: &mut Store, name: u8, seconds: u8, parents: &[u8]) -> Result<(), Fail>
+pub fn add(
+    alloc: Global,
+    store: &mut Store,
+    name: u8,
+    seconds: u8,
+    parents: &[u8],
+) -> Result<(), Fail>
     requires { store.old.hash ≡ kinds.Sha1 }
     ensures { OnOk result (store.new.hash ≡ kinds.Sha1) }
 {
@@ -44,8 +51,64 @@ fn add(alloc: Global, store: &mut Store, name: u8, seconds: u8, parents: &[u8]) 
     Ok(())
 }
 
+/// Whether a commit is stored under this id.
+fn is_commit<O: Objects>(objects: &O, id: &ObjectId) -> bool
+    ensures { IsTrue result ↔ IsCommit (O.graph objects.now) id.now }
+{
+    match objects.kind_of(id) {
+        Some(kind) => names_commits(kind),
+        None => false,
+    }
+}
+
+fn names_commits(kind: ObjectKind) -> bool
+    ensures { result ≡ is_kind kind object_kinds.Commit }
+{
+    match kind {
+        ObjectKind::Commit => true,
+        ObjectKind::Tree | ObjectKind::Blob | ObjectKind::Tag => false,
+    }
+}
+
+/// Whether a dated path leads from one stored commit to another.
+fn has_dated_path<O: Objects>(
+    alloc: Global,
+    objects: &O,
+    from: &ObjectId,
+    to: &ObjectId,
+) -> Result<bool, NoMemory>
+    requires from { IsCommit (O.graph objects.now) from.now }
+    requires to { IsCommit (O.graph objects.now) to.now }
+    ensures { IfOk result (λ found. IsTrue found ↔ HasDatedPath (O.graph objects.now) from.now to.now) }
+{
+    counted::<O, Brand>(alloc, objects, from, to, Blank::new(1))
+}
+
+fn counted<O: Objects, L: Ledger>(
+    alloc: Global,
+    objects: &O,
+    from: &ObjectId,
+    to: &ObjectId,
+    blank: Blank,
+) -> Result<bool, NoMemory>
+    requires from { IsCommit (O.graph objects.now) from.now }
+    requires to { IsCommit (O.graph objects.now) to.now }
+    requires name { blank.name ≡ L.name }
+    requires parts { blank.parts ≡ L.parts }
+    requires some { 0 < blank.parts }
+    ensures { IfOk result (λ found. IsTrue found ↔ HasDatedPath (O.graph objects.now) from.now to.now) }
+{
+    let mut steps: Steps<L> = Steps::new(blank);
+    is_dated_ancestor(alloc, objects, from, to, &mut steps)
+}
+
 /// None where one of the two is no commit.
-fn answer<O: Objects>(alloc: Global, objects: &O, from: u8, to: u8) -> Result<Option<bool>, Fail> {
+pub fn answer<O: Objects>(
+    alloc: Global,
+    objects: &O,
+    from: u8,
+    to: u8,
+) -> Result<Option<bool>, Fail> {
     let from = id(from);
     let to = id(to);
     if !is_commit(objects, &from) {

@@ -1,4 +1,4 @@
-use crate::{
+use fetch_cli::{
     Command, MemorySink, MemorySource, ReadError, SceneFault, Sink, StdSink, StdSource, append_map,
     append_sent, read_all, read_command, read_scene,
 };

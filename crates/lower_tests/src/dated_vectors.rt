@@ -1,9 +1,9 @@
-//! Small graphs with the answers of `git merge-base --is-ancestor`. docs/notes/dated.md has the script that made them.
+//! Small graphs with the answers of `git merge-base --is-ancestor`. docs/TESTING.md has the script that made them.
 
 ghost use Rattle.std.specs.Prelude.{◌≡◌, OnOk};
 ghost use Rattle.fetch_store.specs.declared.id.Kind.TheVariants as kinds;
 
-use super::{add, answer};
+use crate::dated::{add, answer};
 use fetch_store::{Kind, Store};
 use std::alloc::Global;
 use std::test::Fail;

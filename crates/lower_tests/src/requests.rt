@@ -1,4 +1,4 @@
-use crate::{Depth, Shallow, request_of, wants};
+use fetch_negotiate::{Depth, Shallow, request_of, wants};
 use fetch_specs::Tags;
 use fetch_store::{Border, Kind, List, ObjectId, Store, Text};
 use fetch_wire::{
@@ -7,8 +7,6 @@ use fetch_wire::{
 use std::alloc::Global;
 use std::process::Abort;
 use std::test::Fail;
-
-mod negotiating;
 
 fn id_of_byte(byte: u8) -> ObjectId {
     ObjectId::Sha1([byte; 20])

@@ -1,6 +1,6 @@
-//! Texts with the answers that `git config --file` of Git 2.39.5 gives (docs/notes/config.md).
+//! Texts with the answers that `git config --file` of Git 2.39.5 gives (docs/TESTING.md).
 
-use crate::{ConfigError, File, Meta, Origin};
+use fetch_config::{ConfigError, File, Meta, Origin};
 use std::alloc::Global;
 use std::test::Fail;
 

@@ -1,5 +1,5 @@
 -- Where nothing was read, each graph tells it.
-use Rattle.std.proofs.Common.{◌≡◌, Option, Some, None}
+use Rattle.std.specs.Prelude.{◌≡◌, Option, Some, None}
 use Rattle.fetch_store.specs.declared.id.ObjectId.{ObjectId}
 use Rattle.fetch_store.specs.Graph.{Graph}
 use Rattle.fetch_negotiate.specs.declared.commits.Commit.{Commit}

@@ -6,7 +6,7 @@ ghost use Rattle.fetch_store.specs.Id.{kind_of};
 ghost use Rattle.fetch_negotiate.specs.Any.{known_by};
 ghost use Rattle.fetch_negotiate.specs.Reading.{IsTold};
 
-use crate::{Algorithm, AnyNegotiator, Negotiator, tips};
+use fetch_negotiate::{Algorithm, AnyNegotiator, Negotiator, tips};
 use fetch_refs::{
     Change, LogChange, PackedRefs, PreviousValue, RefEdit, RefLog, Refs, Signature, Target,
 };
@@ -92,7 +92,7 @@ fn told<O: Objects>(
 }
 
 /// The same of a new negotiation, in which the other side has one commit, if any.
-#[tactic(auto, using(crate::proofs::Unread::unread_told))]
+#[tactic(auto, using(fetch_negotiate::specs::Unread::unread_told))]
 fn run<O: Objects>(
     alloc: Global,
     algorithm: Algorithm,

@@ -3,15 +3,15 @@
 ghost use Rattle.std.specs.Prelude.{◌≡◌, IfOk};
 ghost use Rattle.fetch_store.specs.declared.id.Kind.TheVariants as kinds;
 
-use super::{add, id};
-use crate::laws::update;
-use crate::update::Outcome;
-use crate::{Mode, RefLogMessage, TypeChange, Worktree};
+use crate::dated::{add, id};
 use fetch_refs::{
     Change, LogChange, PackedRefs, PreviousValue, RefEdit, RefLog, Refs, Signature, Target,
 };
 use fetch_specs::{FullName, Operation, Tags, parse};
 use fetch_store::{Kind, ObjectId, Store, Text};
+use fetch_update::laws::update;
+use fetch_update::update::Outcome;
+use fetch_update::{Mode, RefLogMessage, TypeChange, Worktree};
 use fetch_wire::{Mapping, Ref, Source, SpecIndex};
 use std::alloc::Global;
 use std::test::Fail;

@@ -1,4 +1,4 @@
-use crate::{PackError, read_pack, write_pack};
+use fetch_pack::{PackError, read_pack, write_pack};
 use fetch_store::{Kind, Object, ObjectId, ObjectKind, digest};
 use std::test::Fail;
 

@@ -1,4 +1,4 @@
-use crate::{MemorySink, MemorySource, run};
+use fetch_cli::{MemorySink, MemorySource, run};
 use fetch_store::{NoMemory, Text};
 use std::alloc::Global;
 use std::test::Fail;

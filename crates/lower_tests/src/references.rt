@@ -1,7 +1,7 @@
 ghost use Rattle.std.specs.Prelude.{◌≡◌, true, OnOk, OnErr};
 ghost use Rattle.fetch_refs.specs.Logs.{after};
 
-use crate::{
+use fetch_refs::{
     Change, LogChange, PackedRefs, Prepared, PreviousValue, RefEdit, RefError, RefLog, Refs,
     Signature, Target, TargetRef, peel_tags,
 };

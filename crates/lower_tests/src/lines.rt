@@ -1,10 +1,10 @@
 //! Lines as Git writes them, and a conversation over a scripted peer that gives what real Git gave.
 
-use crate::{
+use fetch_store::{Kind, Text};
+use fetch_wire::{
     Interrupt, LineRef, Peer, ReplyBound, ScriptedInterrupt, ScriptedPeer, Session, WireError,
     listing_request, read_greeting, read_listing, read_reply, write_line, write_lines,
 };
-use fetch_store::{Kind, Text};
 use std::test::Fail;
 
 #[test]

@@ -1,4 +1,4 @@
-use crate::{
+use fetch_specs::{
     Category, Conflict, FullName, Item, Match, MatchGroup, Operation, PartialName, RefSpec,
     SourceRef, SpecError, Tags, parse, prefixes, validate,
 };
@@ -107,7 +107,7 @@ fn a_tag_has_a_full_name(rt: HostRuntime) -> Result<(), Fail> {
     assert!(rt; name.as_bytes() == b"refs/tags/v1".as_slice());
     assert!(rt; name.shorten() == b"v1".as_slice());
     let place = match FullName::new(rt.alloc(), b"refs/heads/a..b") {
-        Err(crate::NameError::Invalid { place }) => place,
+        Err(fetch_specs::NameError::Invalid { place }) => place,
         _ => 0,
     };
     assert!(rt; place == 13);

@@ -1,4 +1,4 @@
-use crate::{
+use fetch_store::{
     Border, Graph, Kind, List, Missing, Object, ObjectId, ObjectKind, Objects, Store, StoreError,
     Text, first_missing, id_of,
 };

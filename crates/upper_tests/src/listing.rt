@@ -1,7 +1,7 @@
-use crate::phases::list;
-use crate::prepare::Error;
-use crate::ref_map::Options;
-use crate::{Remote, ref_map};
+use fetch_remote::phases::list;
+use fetch_remote::prepare::Error;
+use fetch_remote::ref_map::Options;
+use fetch_remote::{Remote, ref_map};
 use fetch_specs::{Operation, Tags, parse};
 use fetch_store::{List, Text};
 use fetch_wire::{ScriptedInterrupt, ScriptedPeer};
