@@ -1,5 +1,12 @@
 //! The report of a scene.
 
+pub mod heard;
+pub mod lines;
+pub mod map_lines;
+pub mod setting;
+pub mod state_lines;
+pub mod tokens;
+
 ghost use Rattle.std.specs.Prelude.{◌≡◌, ◌++◌, IfOk, OnOk};
 ghost use Rattle.std.specs.List.{concat};
 ghost use Rattle.std.specs.Option.{option_copied};
@@ -12,13 +19,13 @@ ghost use Rattle.fetch_cli.specs.Report.{Reports};
 ghost use Rattle.fetch_cli.specs.ReportLines.{refused_line};
 ghost use Rattle.fetch_cli.specs.Tokens.{token};
 
-use crate::heard::append_heard;
-use crate::map_lines::append_map;
-use crate::report_lines::{append_keep, append_refused};
+use crate::reporting::heard::append_heard;
+use crate::reporting::lines::{append_keep, append_refused};
+use crate::reporting::map_lines::append_map;
+use crate::reporting::setting::{Setting, set_up};
+use crate::reporting::state_lines::append_state;
+use crate::reporting::tokens::append_token;
 use crate::scene::Scene;
-use crate::setting::{Setting, set_up};
-use crate::state_lines::append_state;
-use crate::tokens::append_token;
 use fetch_remote::{FetchError, Outcome, Repository, Status};
 use fetch_store::{List, MemoryFiles, NoMemory, Text};
 use fetch_update::{ScriptedWorktrees, Update, update};
