@@ -11,7 +11,7 @@ mod grammar;
 mod graph;
 mod hashing;
 mod id;
-mod laws;
+pub mod laws;
 mod list;
 mod missing;
 mod object;
@@ -28,16 +28,11 @@ pub use files::{Failed, FileError, Files, MemoryFiles, Node};
 pub use graph::Graph;
 pub use hashing::{digest, id_of};
 pub use id::{Kind, ObjectId};
-pub use laws::{
-    a_connected_pack_keeps_a_repository_closed, adding_keeps_what_is_stored,
-    an_honest_pack_keeps_a_repository_closed, an_honest_pack_still_connects,
-    closed_is_nothing_missing, tags_are_texts,
-};
 pub use list::List;
 pub use missing::{Missing, first_missing};
 pub use object::{Links, Object, ObjectRef};
 pub use object_kind::ObjectKind;
 pub use objects::Objects;
-pub use scan::{after, split_first, split_last, splits_exactly};
+pub use scan::{after, split_first, split_last};
 pub use store::Store;
 pub use text::Text;

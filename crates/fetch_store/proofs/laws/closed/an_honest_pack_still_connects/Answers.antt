@@ -1,7 +1,7 @@
 use Rattle.fetch_store.specs.Honest.{taken}
 use Rattle.fetch_store.proofs.Whole.{whole_none}
 use Rattle.fetch_store.proofs.Honesty.{still_whole, wants_stored}
-use Rattle.fetch_store.proofs.laws.an_honest_pack_still_connects.Goals as goal
+use Rattle.fetch_store.proofs.laws.closed.an_honest_pack_still_connects.Goals as goal
 
 pub returns-clause-connected : goal.returns-clause-connected
 returns-clause-connected c hash r now pack of fit closed shut grown none honest =

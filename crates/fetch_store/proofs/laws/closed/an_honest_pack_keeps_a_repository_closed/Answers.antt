@@ -1,7 +1,7 @@
 use Rattle.fetch_store.proofs.Growth.{grows_self}
 use Rattle.fetch_store.proofs.Whole.{whole_closed}
 use Rattle.fetch_store.proofs.Honesty.{honest_at_once, wants_stored}
-use Rattle.fetch_store.proofs.laws.an_honest_pack_keeps_a_repository_closed.Goals as goal
+use Rattle.fetch_store.proofs.laws.closed.an_honest_pack_keeps_a_repository_closed.Goals as goal
 
 pub returns-clause-closed : goal.returns-clause-closed
 returns-clause-closed c r pack closed none honest = whole_closed r.held pack closed (honest_at_once r pack closed none honest)

@@ -1,5 +1,5 @@
 use Rattle.fetch_store.proofs.Unclosed.{closed_none, none_closed, empty_closed}
-use Rattle.fetch_store.proofs.laws.closed_is_nothing_missing.Goals as goal
+use Rattle.fetch_store.proofs.laws.closed.closed_is_nothing_missing.Goals as goal
 
 pub returns-clause-exact : goal.returns-clause-exact
 returns-clause-exact c h = (closed_none h, none_closed h)
