@@ -11,3 +11,4 @@ pub mod Written
 pub mod Marks
 pub mod Subsections
 pub mod Overrides
+pub mod Overridden
