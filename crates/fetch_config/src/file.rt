@@ -58,6 +58,7 @@ impl File {
         &self.meta
     }
 
+    /// An equal configuration.
     pub fn try_clone(&self, alloc: Global) -> Result<File, NoMemory>
         ensures { IfOk result (λ copy. copy ≡ self.now) }
     {
@@ -183,14 +184,17 @@ impl File {
         lookup::integer(self.sections.as_slice(), section, sub, key, trusted_only)
     }
 
+    /// How many sections there are.
     pub fn section_count(&self) -> usize
         ensures { result ≡ length self.now.sections }
     {
         self.sections.len()
     }
 
+    /// A section, lent. No value that a file keeps has a NUL, and no subsection a NUL or a line feed.
     pub fn section(&self, index: usize) -> Option<&Section>
-        ensures { option_copied result ≡ slice_get self.now.sections index }
+        ensures section { option_copied result ≡ slice_get self.now.sections index }
+        ensures kept { kept.AreKept self.now.sections }
     {
         self.sections.get(index)
     }
@@ -246,6 +250,7 @@ impl File {
         remove_entries(&mut self.sections, index, key);
     }
 
+    /// Removes a section; those behind it move up.
     pub fn remove_section(&mut self, index: usize)
         requires { index < length self.old.sections }
         ensures { self.new ≡ with_sections self.old (remove self.old.sections index) }
