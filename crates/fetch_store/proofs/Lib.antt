@@ -26,3 +26,4 @@ pub mod TagTexts
 pub mod TreeTexts
 pub mod CommitTexts
 pub mod LinkCounts
+pub mod Decimals

@@ -18,3 +18,6 @@ pub mod Entries
 pub mod Texts
 pub mod TreeTexts
 pub mod CommitTexts
+pub mod Answers
+pub mod Calls
+pub mod Distinct

@@ -2,8 +2,12 @@
 #![tactic(auto)]
 
 mod border;
+mod calls;
+mod cloning;
 mod collisions;
 mod counter;
+mod digits;
+mod distinct;
 mod entries;
 mod error;
 mod files;
@@ -22,12 +26,16 @@ mod store;
 mod text;
 
 pub use border::Border;
+pub use calls::Calls;
+pub use cloning::TryClone;
 pub use counter::Steps;
+pub use digits::{decimal, is_decimal};
+pub use distinct::{Distinct, Keyed};
 pub use error::{NoMemory, StoreError};
 pub use files::{Failed, FileError, Files, MemoryFiles, Node};
 pub use graph::Graph;
 pub use hashing::{digest, id_of};
-pub use id::{Kind, ObjectId};
+pub use id::{Kind, ObjectId, same_id};
 pub use list::List;
 pub use missing::{Missing, first_missing};
 pub use object::{Links, Object, ObjectRef};

@@ -2,7 +2,6 @@
 #![tactic(auto)]
 
 mod bound;
-mod calls;
 mod cloning;
 mod error;
 mod greeting;

@@ -4,11 +4,11 @@ ghost use Rattle.std.specs.Prelude.{◌≡◌, ◌≤◌, ◌<◌, ◌↔◌, �
 ghost use Rattle.std.specs.List.{concat};
 ghost use Rattle.fetch_store.specs.Faults.{Faults, Rose, Counts};
 ghost use Rattle.fetch_wire.specs.Talks.{Talk, Sends, Receives};
-ghost use Rattle.fetch_wire.specs.Scripts.{given_of, to_come_of, one_more, faults_of};
+ghost use Rattle.fetch_store.specs.Calls.{one_more, faults_of};
+ghost use Rattle.fetch_wire.specs.Scripts.{given_of, to_come_of};
 
-use crate::calls::Calls;
 use crate::peer::{Interrupt, Peer, SendFault};
-use fetch_store::{Failed, Text};
+use fetch_store::{Calls, Failed, Text};
 use std::alloc::Global;
 use std::marker::Model;
 

@@ -1,13 +1,13 @@
-//! The calls of a scripted object.
+//! The calls of an object in memory: which are listed, as those that fail.
 
 ghost use Rattle.std.specs.Prelude.{◌≡◌, ◌↔◌, ℕ, length, IsTrue, Contains};
-ghost use Rattle.fetch_wire.specs.Scripts.{one_more};
+ghost use Rattle.fetch_store.specs.Calls.{one_more};
 
 use std::marker::Model;
 
-/// The numbers of some calls, and the number of the next call. Numbers count from 0.
+/// The numbers of some calls of an object, and the number of its next call. Numbers count from 0.
 #[derive(Debug, Drop)]
-pub(crate) struct Calls {
+pub struct Calls {
     listed: Vec<u64>,
     next: u64,
 }
@@ -15,7 +15,7 @@ pub(crate) struct Calls {
 impl Model for Calls {
     ghost use Rattle.std.specs.Prelude.{IsSorted};
     ghost use Rattle.std.specs.Ordering.{nat_cmp};
-    ghost use Rattle.fetch_wire.specs.Scripts.{CallList};
+    ghost use Rattle.fetch_store.specs.Calls.{CallList};
 
     ghost Value = { CallList };
 
@@ -25,7 +25,8 @@ impl Model for Calls {
 }
 
 impl Calls {
-    pub(crate) fn new(listed: Vec<u64>) -> Calls
+    /// The calls with these numbers are listed, in any order, and none was made.
+    pub fn new(listed: Vec<u64>) -> Calls
         ensures listed { (n : ℕ) → Contains result.listed n ↔ Contains listed.items n }
         ensures len { length result.listed ≡ length listed.items }
         ensures next { result.next ≡ 0 }
@@ -35,8 +36,8 @@ impl Calls {
         Calls { listed, next: 0 }
     }
 
-    /// Counts a call, and tells whether it is listed.
-    pub(crate) fn count(&mut self) -> bool
+    /// Counts a call, and tells whether it is listed. The number stands still at 2^64 - 1.
+    pub fn count(&mut self) -> bool
         ensures listed { IsTrue result ↔ Contains self.old.listed self.old.next }
         ensures kept { self.new.listed ≡ self.old.listed }
         ensures next { self.new.next ≡ one_more self.old.next }

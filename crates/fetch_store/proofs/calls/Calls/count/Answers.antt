@@ -3,7 +3,7 @@ use Rattle.std.specs.Result.{is_ok, MatchResult}
 use Rattle.std.proofs.lemmas.Bool.{cases_lt}
 use Rattle.std.proofs.lemmas.List.{get_or_default}
 use Rattle.std.proofs.lemmas.List.Sorted.{searched, IsNonDecreasingBy-from_sort}
-use Rattle.fetch_wire.proofs.calls.Calls.count.Goals as goal
+use Rattle.fetch_store.proofs.calls.Calls.count.Goals as goal
 
 -- a search in ascending numbers finds exactly what they contain
 found : (xs : List ℕ) (x : ℕ) (r : Result ℕ ℕ) → MatchResult r (λ i. (i < length xs) × (get_or xs i 0 ≡ x)) (λ i. (i ≤ length xs) × ((k : ℕ) → k < i → get_or xs k 0 < x) × ((k : ℕ) → i ≤ k → k < length xs → x < get_or xs k 0))
