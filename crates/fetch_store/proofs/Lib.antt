@@ -4,6 +4,7 @@ pub mod Ids
 pub mod Finds
 pub mod Additions
 pub mod Indexed
+pub mod IndexOf
 pub mod Graphs
 pub mod Digests
 pub mod LineLaws
@@ -21,6 +22,7 @@ pub mod Unclosed
 pub mod Arranged
 pub mod Consistent
 pub mod Firsts
+pub mod Takes
 pub mod GraphsAdded
 pub mod TagTexts
 pub mod TreeTexts

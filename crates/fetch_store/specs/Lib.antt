@@ -14,6 +14,7 @@ pub mod Borders
 pub mod Closed
 pub mod Honest
 pub mod Missing
+pub mod Indexes
 pub mod Entries
 pub mod Texts
 pub mod TreeTexts

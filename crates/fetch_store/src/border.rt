@@ -47,7 +47,7 @@ impl Border {
         ensures border { IfOk result (λ border. border ≡ set_of ids.now) }
         ensures memory { IfErr result (λ e. e ≡ errors.NoMemory) }
     {
-        Ok(border_of(Vec::from_slice(alloc, ids)?))
+        Ok(border_from(alloc, ids)?)
     }
 
     /// Whether the commit is one of the border.
@@ -100,7 +100,13 @@ impl Border {
     }
 }
 
-/// The border of these ids.
+/// The border of these ids, of which some may come more than once.
+pub(crate) fn border_from(alloc: Global, ids: &[ObjectId]) -> Result<Border, NoMemory>
+    ensures { IfOk result (λ border. border ≡ set_of ids.now) }
+{
+    Ok(border_of(Vec::from_slice(alloc, ids)?))
+}
+
 fn border_of(ids: Vec<ObjectId>) -> Border
     ensures { result ≡ set_of ids.items }
 {

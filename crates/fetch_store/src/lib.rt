@@ -23,6 +23,7 @@ mod object_kind;
 mod objects;
 mod scan;
 mod store;
+mod take;
 mod text;
 
 pub use border::Border;
@@ -43,4 +44,5 @@ pub use object_kind::ObjectKind;
 pub use objects::Objects;
 pub use scan::{after, split_first, split_last};
 pub use store::Store;
+pub use take::{Take, first_missing_of_take};
 pub use text::Text;
