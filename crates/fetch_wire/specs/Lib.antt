@@ -16,3 +16,9 @@ pub mod Greetings
 pub mod Listings
 pub mod Replies
 pub mod Requests
+pub mod Stepping
+pub mod Steps
+pub mod FetchReplies
+pub mod Advertisements
+pub mod Awaited
+pub mod StepLaws

@@ -43,7 +43,7 @@ has_shallow_info (line ∷ lines) = says is_shallow_info line
 
 -- a reply that holds this pack
 abbrev pub reply_with : List ℕ → FetchReply
-reply_with pack = record { acknowledged = []; shallow = []; unshallow = []; pack = Some pack; last = true }
+reply_with pack = record { acknowledged = []; shallow = []; unshallow = []; pack = Some pack; progress = []; last = true }
 
 -- the reply to a request with `done`, which doesn't change the border
 abbrev pub reply_of : List Line → Result FetchReply ℕ

@@ -1,12 +1,18 @@
 //! What the definitions of lines and replies say, in other words.
 
-ghost use Rattle.std.specs.Prelude.{◌≡◌, List, ℕ, ◌++◌};
+ghost use Rattle.std.specs.Prelude.{◌≡◌, List, [], ℕ, ◌++◌};
 ghost use Rattle.fetch_wire.specs.Lines.{line_at, section_at, section_from};
 ghost use Rattle.std.specs.Prelude.{Ok};
 ghost use Rattle.fetch_wire.specs.declared.line.Line.{Line};
 ghost use Rattle.fetch_wire.specs.LineLaws.{IsLine};
 ghost use Rattle.fetch_wire.specs.SectionSteps.{then_lines};
 ghost use Rattle.fetch_wire.specs.SectionLaws.{IsSettled, with_more};
+ghost use Rattle.std.specs.List.{concat};
+ghost use Rattle.fetch_wire.specs.declared.awaited.Await.{Await};
+ghost use Rattle.fetch_wire.specs.declared.reading.Reading.{Reading};
+ghost use Rattle.fetch_wire.specs.Awaited.{step_of, told_from, told_at};
+ghost use Rattle.fetch_wire.specs.Stepping.{after_line};
+ghost use Rattle.fetch_wire.specs.StepLaws as reply;
 
 /// What was read of a reply stays when more bytes come: a section that was found, and a text that can't become one.
 pub fn sections_stay()
@@ -24,4 +30,22 @@ pub fn lines_are_read_as_written()
 pub fn sections_are_read_line_by_line()
     ensures { (bound place : ℕ) (bytes : List ℕ)
         → section_from bound place bytes ≡ then_lines bound place (line_at bound place bytes) }
+{}
+
+/// What bytes tell of a reply stays when more bytes come: a reply that is whole, and bytes that can't become one.
+pub fn replies_stay()
+    ensures { (bound : ℕ) (awaited : Await) (bytes more : List ℕ) → reply.IsSettled (told_at bound awaited bytes)
+        → told_at bound awaited (bytes ++ more) ≡ reply.with_more (told_at bound awaited bytes) more }
+{}
+
+/// However a reply is cut into pieces, it tells the same, is refused for the same, and breaks at the same place.
+pub fn replies_are_read_in_pieces()
+    ensures { (bound : ℕ) (awaited : Await) (pieces : List (List ℕ))
+        → reply.in_pieces (told_at bound awaited) [] pieces ≡ told_at bound awaited (concat pieces) }
+{}
+
+/// A reply is what its first line does, and what is behind that line.
+pub fn replies_are_read_line_by_line()
+    ensures { (bound : ℕ) (reading : Reading) (place : ℕ) (bytes : List ℕ)
+        → told_from bound reading place bytes ≡ after_line (line_at bound place bytes) (reply.line_then step_of bound reading place) }
 {}

@@ -1,6 +1,7 @@
 //! What passes between a fetch and its peer: lines, replies, requests, and the records that they make.
 #![tactic(auto)]
 
+mod awaited;
 mod bound;
 mod cloning;
 mod error;
@@ -12,6 +13,7 @@ mod listing;
 mod mapping;
 mod peer;
 mod readers;
+mod reading;
 mod records;
 mod reference;
 mod reply;
@@ -22,11 +24,15 @@ mod session;
 mod words;
 mod write;
 
+pub use awaited::{AskedReply, Await, Fault, Told};
 pub use bound::ReplyBound;
 pub use error::{ReceiveError, WireError};
 pub use greeting::read_greeting;
 pub use handshake::{Capability, Handshake, Version};
-pub use laws::{lines_are_read_as_written, sections_are_read_line_by_line, sections_stay};
+pub use laws::{
+    lines_are_read_as_written, replies_are_read_in_pieces, replies_are_read_line_by_line,
+    replies_stay, sections_are_read_line_by_line, sections_stay,
+};
 pub use line::{Line, LineRef};
 pub use listing::read_listing;
 pub use mapping::{Mapping, RefMap, SpecIndex};

@@ -150,7 +150,7 @@ fn read_ref(alloc: Global, kind: Kind, text: &[u8]) -> Result<Option<Ref>, NoMem
 
 /// The references listed so far, and their names, by which a repeated one is known.
 #[derive(Drop)]
-struct Listed {
+pub(crate) struct Listed {
     refs: Vec<Ref>,
     names: BTreeSet<Text>,
 }

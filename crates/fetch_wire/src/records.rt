@@ -29,10 +29,16 @@ impl Request {
 /// What one round answers: the haves that the server has, the changes of the border, and the pack where it comes.
 #[derive(Debug, Drop)]
 pub struct FetchReply {
+    /// The ids of the `ACK` lines, in order.
     pub acknowledged: List<ObjectId>,
+    /// The ids of the `shallow` lines, in order.
     pub shallow: List<ObjectId>,
+    /// The ids of the `unshallow` lines, in order.
     pub unshallow: List<ObjectId>,
+    /// The bytes of band 1. None where no pack came, or where it wasn't to be read.
     pub pack: Option<Text>,
+    /// The texts of band 2, in order.
+    pub progress: List<Text>,
     /// Whether no further round follows.
     pub last: bool,
 }
@@ -47,6 +53,7 @@ impl FetchReply {
             shallow: copy_list(&self.shallow)?,
             unshallow: copy_list(&self.unshallow)?,
             pack: copy_option(&self.pack)?,
+            progress: copy_list(&self.progress)?,
             last: self.last,
         })
     }

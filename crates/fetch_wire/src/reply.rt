@@ -100,6 +100,7 @@ pub fn read_reply(alloc: Global, lines: &[Line]) -> Result<FetchReply, WireError
             shallow: List::new(alloc),
             unshallow: List::new(alloc),
             pack: Some(Text::from(pack)),
+            progress: List::new(alloc),
             last: true,
         }),
         Err(e) => Err(e),

@@ -1,0 +1,57 @@
+-- Each reply that can be awaited, read line by line: what a line does to what was told so far.
+use Rattle.std.specs.Prelude.{ℕ, List, [], ◌∷◌, ◌++◌, Result, if◌then◌else◌}
+use Rattle.std.specs.Option.{option_and_then}
+use Rattle.fetch_store.specs.declared.id.Kind.{Kind}
+use Rattle.fetch_wire.specs.declared.awaited.Await.{Await}
+use Rattle.fetch_wire.specs.declared.awaited.Await.TheVariants.{Greeting, Listing, Reply}
+use Rattle.fetch_wire.specs.declared.awaited.Fault.{Fault}
+use Rattle.fetch_wire.specs.declared.awaited.Told.{Told}
+use Rattle.fetch_wire.specs.declared.awaited.Told.TheVariants as told
+use Rattle.fetch_wire.specs.declared.handshake.Capability.{Capability}
+use Rattle.fetch_wire.specs.declared.line.Line.{Line}
+use Rattle.fetch_wire.specs.declared.reading.Part.TheVariants as parts
+use Rattle.fetch_wire.specs.declared.reading.Reading.{Reading}
+use Rattle.fetch_wire.specs.declared.reading.Reading.TheVariants as reading
+use Rattle.fetch_wire.specs.declared.reference.Ref.{Ref}
+use Rattle.fetch_wire.specs.Advertisements.{is_version_1, at_first, at_advertised}
+use Rattle.fetch_wire.specs.FetchReplies.{no_reply, reply_step}
+use Rattle.fetch_wire.specs.Greetings.{is_version_2, if_known, capability_in, handshake_of}
+use Rattle.fetch_wire.specs.Listings.{if_new, ref_in}
+use Rattle.fetch_wire.specs.Stepping.{Step, goes, ends, breaks, or_breaks, read_by}
+use Rattle.fetch_wire.specs.Steps.{by_line, by_text}
+
+-- the first line of a greeting: `version 2`, `version 1`, or the first reference
+abbrev pub at_greeting : List ℕ → Step Reading Told
+at_greeting text =
+    if is_version_2 text then goes (reading.Capabilities []) else (
+    if is_version_1 text then goes reading.Version else or_breaks (at_first text) (λ s. goes s))
+
+abbrev pub at_capability : List Capability → List ℕ → Step Reading Told
+at_capability before text = or_breaks (option_and_then if_known (capability_in text)) (λ c. goes (reading.Capabilities (before ++ c ∷ [])))
+
+abbrev pub at_listed : Kind → List Ref → List ℕ → Step Reading Told
+at_listed kind before text = or_breaks (option_and_then (if_new before) (ref_in kind text)) (λ r. goes (reading.Listing kind (before ++ r ∷ [])))
+
+-- what is told before the first line of a reply that is awaited
+abbrev pub start_of : Await → Reading
+start_of Greeting = reading.Greeting
+start_of (Listing kind) = reading.Listing kind []
+start_of (Reply asked) = reading.Reply asked parts.Beginning no_reply
+
+-- the next line, where this was told before it
+unfoldable pub step_of : Reading → Line → Step Reading Told
+step_of reading.Greeting line = by_text at_greeting line
+step_of (reading.Capabilities before) line = by_line (ends (told.Greeting (handshake_of before))) breaks (at_capability before) line
+step_of reading.Version line = by_text (λ text. or_breaks (at_first text) (λ s. goes s)) line
+step_of (reading.Advertisement handshake before next) line = by_line (ends (told.Advertisement handshake before)) breaks (at_advertised handshake before next) line
+step_of (reading.Listing kind before) line = by_line (ends (told.Listing before)) breaks (at_listed kind before) line
+step_of (reading.Reply asked part reply) line = reply_step asked part reply line
+
+-- What bytes tell, read on from what was told before this place, and what is behind.
+abbrev pub told_from : ℕ → Reading → ℕ → List ℕ → Result (Told × List ℕ) Fault
+told_from bound reading place bytes = read_by step_of bound reading place bytes
+
+-- What bytes tell of the reply that is awaited, of bounded length, and what is behind the reply; or else the first
+-- trouble: they end within it, a line breaks the grammar, its digits pass the bound, or the server says that it fails.
+abbrev pub told_at : ℕ → Await → List ℕ → Result (Told × List ℕ) Fault
+told_at bound awaited bytes = told_from bound (start_of awaited) 0 bytes
