@@ -44,7 +44,7 @@ pub(crate) struct Fetched {
 /// Fetches as it is set up, from a peer that never fails.
 fn fetch<R: Threads + Sync>(rt: &R, alloc: Global, setting: Setting) -> Fetched
     ensures { HasFetched (record { remote = setting.remote; options = setting.options; setup = setup_of setting.repo }) (state_of setting.repo) (concat setting.pieces)
-        result.result (state_of result.repo) result.peer.talk.heard }
+        result.result (state_of result.repo) result.peer.heard }
 {
     let Setting {
         repo,
@@ -181,7 +181,7 @@ fn append_unbuilt(out: &mut Vec<u8>) -> Result<(), NoMemory>
 
 /// The report of a fetch, and its status.
 fn append_report(out: &mut Vec<u8>, fetched: &Fetched) -> Result<u8, NoMemory>
-    ensures { IfOk result (λ status. spec.Tells out.old.items out.new.items status fetched.now.result (state_of fetched.now.repo) fetched.now.peer.talk.heard) }
+    ensures { IfOk result (λ status. spec.Tells out.old.items out.new.items status fetched.now.result (state_of fetched.now.repo) fetched.now.peer.heard) }
 {
     let heard = fetched.peer.heard();
     match &fetched.result {
