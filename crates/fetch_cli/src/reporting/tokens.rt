@@ -96,6 +96,9 @@ fn append_pack(out: &mut Vec<u8>, refusal: &PackError) -> Result<(), NoMemory>
         PackError::PackDigest { found, computed } => {
             append_both(out, b"PackDigest", found, computed)
         }
+        PackError::IdMismatch { written, computed } => {
+            append_both(out, b"IdMismatch", written, computed)
+        }
         PackError::Collision { id } => append_digits(out, b"Collision", id),
         PackError::NoMemory => append_word(out, b"NoMemory"),
     }

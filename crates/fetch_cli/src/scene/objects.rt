@@ -51,6 +51,7 @@ fn read_objects_in<R: Threads + Sync>(
         Err(
             PackError::Malformed { .. }
             | PackError::PackDigest { .. }
+            | PackError::IdMismatch { .. }
             | PackError::Collision { .. },
         ) => Ok(None),
     }
