@@ -29,3 +29,7 @@ pub mod TreeTexts
 pub mod CommitTexts
 pub mod LinkCounts
 pub mod Decimals
+pub mod Viewed
+pub mod Merging
+pub mod Buffers
+pub mod Probes

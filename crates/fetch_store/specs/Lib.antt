@@ -16,6 +16,8 @@ pub mod Honest
 pub mod Missing
 pub mod Indexes
 pub mod Entries
+pub mod Buffers
+pub mod Iter
 pub mod Texts
 pub mod TreeTexts
 pub mod CommitTexts

@@ -2,6 +2,7 @@
 #![tactic(auto)]
 
 mod border;
+mod buffer;
 mod calls;
 mod cloning;
 mod collisions;
@@ -15,6 +16,7 @@ mod grammar;
 mod graph;
 mod hashing;
 mod id;
+mod iter;
 pub mod laws;
 mod list;
 mod missing;
@@ -22,7 +24,9 @@ mod object;
 mod object_kind;
 mod objects;
 mod scan;
+mod span;
 mod store;
+mod store_iter;
 mod take;
 mod text;
 
@@ -44,5 +48,6 @@ pub use object_kind::ObjectKind;
 pub use objects::Objects;
 pub use scan::{after, split_first, split_last};
 pub use store::Store;
+pub use store_iter::StoreIter;
 pub use take::{Take, first_missing_of_take};
 pub use text::Text;

@@ -60,10 +60,10 @@ pub fn first_missing(store: &Store, border: &Border) -> Result<Option<Missing>, 
 fn first_unlinked(store: &Store, border: &Border) -> Option<Missing>
     ensures { result ≡ slice_get (spec.unlinked_in store.now.objects border.now (map.entries store.now.objects)) 0 }
 {
-    let objects = store.entries();
-    for (id, object) in objects {
-        let links = links_within(object.as_ref(), border.contains(id));
-        if let Some(missing) = first_unstored(store, id, links) {
+    let mut objects = store.iter();
+    while let Some((id, object)) = objects.next() {
+        let links = links_within(object, border.contains(&id));
+        if let Some(missing) = first_unstored(store, &id, links) {
             return Some(missing);
         }
     }
