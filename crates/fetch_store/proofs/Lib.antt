@@ -5,6 +5,7 @@ pub mod Finds
 pub mod Additions
 pub mod Indexed
 pub mod IndexOf
+pub mod Pigeons
 pub mod Graphs
 pub mod Digests
 pub mod LineLaws

@@ -1,6 +1,7 @@
 //! Laws: what holds of the definitions that contracts speak of. Each is the contract of a function without a body.
 
 mod closed;
+mod counts;
 mod pieces;
 mod texts;
 
@@ -9,5 +10,6 @@ pub use closed::{
     an_honest_pack_keeps_a_repository_closed, an_honest_pack_still_connects,
     closed_is_nothing_missing,
 };
+pub use counts::distinct_stored_ids_are_no_more_than_objects;
 pub use pieces::{splits_exactly, splits_last_exactly};
 pub use texts::{commits_are_texts, links_are_no_more_than_bytes, tags_are_texts, trees_are_texts};

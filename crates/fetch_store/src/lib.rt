@@ -26,7 +26,7 @@ mod store;
 mod take;
 mod text;
 
-pub use border::Border;
+pub use border::{Border, ascending};
 pub use calls::Calls;
 pub use cloning::TryClone;
 pub use counter::Steps;
