@@ -19,6 +19,7 @@ pub mod Merges
 pub mod Agreement
 pub mod Whole
 pub mod Honesty
+pub mod Reaching
 pub mod Unclosed
 pub mod Arranged
 pub mod Consistent
