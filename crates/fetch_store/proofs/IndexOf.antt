@@ -24,7 +24,7 @@ abbrev Gains : (ObjectId → ObjectId → Ordering) → Index → Index → Obje
 Gains cmp s t id v = (q : ObjectId) → tree.get cmp t q ≡ cond (eq_by_cmp cmp id q) (Some v) (tree.get cmp s q)
 
 -- the same test from either side
-same_test : (a b : ObjectId) → eq_by_cmp id_cmp a b ≡ eq_by_cmp id_cmp b a
+pub same_test : (a b : ObjectId) → eq_by_cmp id_cmp a b ≡ eq_by_cmp id_cmp b a
 same_test a b = by_test (eq_by_cmp id_cmp a b) refl
   where
     by_test : (t : Bool) → eq_by_cmp id_cmp a b ≡ t → eq_by_cmp id_cmp a b ≡ eq_by_cmp id_cmp b a

@@ -5,6 +5,7 @@ pub mod Finds
 pub mod Additions
 pub mod Indexed
 pub mod IndexOf
+pub mod Pigeons
 pub mod Graphs
 pub mod Digests
 pub mod LineLaws
@@ -18,6 +19,7 @@ pub mod Merges
 pub mod Agreement
 pub mod Whole
 pub mod Honesty
+pub mod Reaching
 pub mod Unclosed
 pub mod Arranged
 pub mod Consistent

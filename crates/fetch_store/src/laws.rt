@@ -1,7 +1,9 @@
 //! Laws: what holds of the definitions that contracts speak of. Each is the contract of a function without a body.
 
 mod closed;
+mod counts;
 mod pieces;
+mod reach;
 mod texts;
 
 pub use closed::{
@@ -9,5 +11,7 @@ pub use closed::{
     an_honest_pack_keeps_a_repository_closed, an_honest_pack_still_connects,
     closed_is_nothing_missing,
 };
+pub use counts::distinct_stored_ids_are_no_more_than_objects;
 pub use pieces::{splits_exactly, splits_last_exactly};
+pub use reach::{reached_is_closed, reached_is_reached_on};
 pub use texts::{commits_are_texts, links_are_no_more_than_bytes, tags_are_texts, trees_are_texts};

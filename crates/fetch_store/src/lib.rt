@@ -30,7 +30,7 @@ mod store_iter;
 mod take;
 mod text;
 
-pub use border::Border;
+pub use border::{Border, ascending};
 pub use calls::Calls;
 pub use cloning::TryClone;
 pub use counter::Steps;

@@ -8,7 +8,8 @@ ghost use Rattle.fetch_store.specs.Texts.{TagsAreTexts};
 ghost use Rattle.fetch_store.specs.TreeTexts.{TreesAreTexts};
 ghost use Rattle.fetch_store.specs.CommitTexts.{CommitsAreTexts};
 
-/// A tag is `object <hex>` and `type <kind>`, each with a line feed, and then any bytes.
+/// A tag is `object <hex>` and `type <kind>`, each with a line feed, and then any bytes. It links to
+/// that id alone, which is its target.
 pub fn tags_are_texts()
     ensures { (hash : Kind) (bytes : List ℕ) → TagsAreTexts hash bytes }
 {}
