@@ -1,5 +1,5 @@
 use Rattle.fetch_specs.proofs.Stars.{starred, of_id, of_exclusion}
-use Rattle.fetch_specs.proofs.listing.what_a_refspec_asks_for.Goals as goal
+use Rattle.fetch_specs.proofs.laws.what_a_refspec_asks_for.Goals as goal
 
 pub returns-clause-exclusion : goal.returns-clause-exclusion
 returns-clause-exclusion c = λ spec is. of_exclusion spec is
