@@ -12,3 +12,4 @@ pub mod Marks
 pub mod Subsections
 pub mod Overrides
 pub mod Overridden
+pub mod Shapes

@@ -1,5 +1,5 @@
 -- The section that a lent override says.
-use Rattle.std.specs.Prelude.{ℕ, List, [], ◌∷◌, Option, option_map}
+use Rattle.std.specs.Prelude.{[], ◌∷◌, option_map}
 use Rattle.fetch_config.specs.declared.overrides.Override.{Override}
 use Rattle.fetch_config.specs.declared.section.Section.{Section}
 use Rattle.fetch_config.specs.Overrides.{api_meta}

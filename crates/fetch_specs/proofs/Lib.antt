@@ -19,3 +19,6 @@ pub mod InOrder
 pub mod Telling
 pub mod AllTags
 pub mod Joined
+pub mod Firsts
+pub mod Places
+pub mod Doubles

@@ -10,3 +10,4 @@ pub mod FoundSets
 pub mod Prefixes
 pub mod Conflicts
 pub mod Leads
+pub mod Made

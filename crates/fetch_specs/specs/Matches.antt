@@ -176,23 +176,25 @@ abbrev pub found : Option Match → List Match
 found None = []
 found (Some m) = m ∷ []
 
+-- what each element gives with its number, one behind the other
+abbrev pub numbered : {X : Type 0} → (ℕ → X → List Match) → ℕ → List X → List Match
+numbered f i [] = []
+numbered f i (x ∷ xs) = f i x ++ numbered f (i + 1) xs
+
 -- the ids, in the order of the specs
 abbrev pub ids_from : Kind → ℕ → List Spec → List Match
-ids_from kind i [] = []
-ids_from kind i (spec ∷ specs) = found (id_match kind i spec) ++ ids_from kind (i + 1) specs
+ids_from kind i specs = numbered (λ i spec. found (id_match kind i spec)) i specs
 
 abbrev pub name_matches : List Spec → ℕ → Spec → ℕ → List ℕ → List Match
 name_matches specs i spec j name = found (name_match specs i spec j name)
 
 -- one spec, name by name
 abbrev pub names_from : (ℕ → List ℕ → List Match) → ℕ → List (List ℕ) → List Match
-names_from mapped j [] = []
-names_from mapped j (name ∷ names) = mapped j name ++ names_from mapped (j + 1) names
+names_from mapped j names = numbered mapped j names
 
 -- spec by spec
 abbrev pub specs_from : (ℕ → Spec → ℕ → List ℕ → List Match) → ℕ → List Spec → List (List ℕ) → List Match
-specs_from mapped i [] names = []
-specs_from mapped i (spec ∷ specs) names = names_from (mapped i spec) 0 names ++ specs_from mapped (i + 1) specs names
+specs_from mapped i specs names = numbered (λ i spec. names_from (mapped i spec) 0 names) i specs
 
 -- a source as a text, names and ids apart
 abbrev pub source_key : SourceRef → List ℕ

@@ -18,12 +18,6 @@ use crate::spec::RefSpec;
 use fetch_store::{NoMemory, Text};
 use std::alloc::Global;
 
-/// A source is told for a name exactly where the refspec maps it there: a name that is the refspec's own
-/// source, its star replaced, and that the refspec maps to that very name.
-pub fn a_source_is_told_where_it_leads()
-    ensures { (specs : List Spec) (spec : Spec) (name : List ℕ) (source : List ℕ) → IsSpec spec → Contains (words.sources_leading specs spec name) source ↔ (IsOwnSource spec source × (mapped_to specs spec source ≡ Some name)) }
-{}
-
 /// What a destination's star stands for in a text: nothing, where it has none.
 fn given<'a>(destination: &[u8], text: &'a [u8]) -> Option<&'a [u8]>
     ensures { option_copied result ≡ words.given destination.now text.now }

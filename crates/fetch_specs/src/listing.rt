@@ -36,25 +36,6 @@ pub fn prefixes(alloc: Global, specs: &[RefSpec]) -> Result<Vec<Text>, SpecError
     Ok(texts)
 }
 
-/// What a listing is asked for ascends, each text once, and is what some refspec asks for and nothing
-/// else; it is empty where a refspec asks for all.
-pub fn prefixes_ascend_and_are_asked_for()
-    ensures { (specs : List Spec) → IsListing specs (prefixes_of specs) }
-{}
-
-/// Each name that a refspec takes begins with one of the prefixes, or there are none.
-pub fn each_name_taken_is_asked_for()
-    ensures { (specs : List Spec) (spec : Spec) (name : List ℕ) → Contains specs spec → IsTrue (takes spec name) → IsAskedFor (prefixes_of specs) name }
-{}
-
-/// An exclusion and an id ask for nothing, and a source with a star asks at most for its front
-/// `refs/x/`, where the star stands behind it.
-pub fn what_a_refspec_asks_for()
-    ensures exclusion { (spec : Spec) → IsTrue (is_exclusion spec.mode) → (words.spec_prefixes spec ≡ []) × (words.asks_for_all spec ≡ false) }
-    ensures id { (source : List ℕ) → IsTrue (is_some (spec.id_named source)) → words.source_prefixes source ≡ [] }
-    ensures star { (source : List ℕ) (text : List ℕ) → IsTrue (stars.has_star source) → IsTrue (list_any (bytes_eq text) (words.source_prefixes source)) → words.IsPlainFront source text }
-{}
-
 #[tactic(auto, unfolding(crate::specs::Categories::refs))]
 fn has_open_star(source: &[u8]) -> bool
     ensures { result ≡ words.has_open_star source.now }

@@ -1,6 +1,6 @@
 //! What a list of refspecs maps, and what leads to a name.
 
-ghost use Rattle.std.specs.Prelude.{◌≡◌, map, IfOk, OnOk, IsOkUnless};
+ghost use Rattle.std.specs.Prelude.{◌≡◌, is_some, map, IfOk, OnOk, IsOkUnless};
 ghost use Rattle.std.specs.Option.{option_copied, option_map};
 ghost use Rattle.fetch_specs.specs.Matches as words;
 ghost use Rattle.fetch_specs.specs.Matches.{added_all, mappings_of, sources_of};
@@ -9,6 +9,7 @@ ghost use Rattle.fetch_specs.specs.declared.error.SpecError.TheVariants as error
 use crate::error::SpecError;
 use crate::found::{Found, Match, SourceRef};
 use crate::leading::add_sources;
+use crate::name::PartialName;
 use crate::pattern::{expanded, taken};
 use crate::reading::id_named;
 use crate::spec::RefSpec;
@@ -85,6 +86,13 @@ impl<'a> MatchGroup<'a> {
         add_sources(alloc, &mut found, self.specs, items)?;
         Ok(found.into_matches())
     }
+}
+
+/// Whether a source without a star, full or short, matches a name.
+pub fn matches(source: &PartialName, name: &[u8]) -> bool
+    ensures { result ≡ is_some (words.taken source.now name.now) }
+{
+    taken(source.as_bytes(), name).is_some()
 }
 
 fn source_taken<'a>(source: Option<&[u8]>, name: &'a [u8]) -> Option<&'a [u8]>

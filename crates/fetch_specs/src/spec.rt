@@ -39,11 +39,6 @@ impl Model for RefSpec {
     ghost inverse = { λ s. record { operation = s.operation; mode = s.mode; source = s.source; destination = s.destination } };
 }
 
-/// A refspec to fetch has a source, and of two sides both or neither have a star.
-pub fn a_refspec_is_in_order()
-    ensures { (spec : Spec) → IsSpec spec → IsInOrder spec }
-{}
-
 /// Reads a refspec.
 pub fn parse(alloc: Global, text: &[u8], operation: Operation) -> Result<RefSpec, SpecError>
     ensures spec { IfOk result (λ spec. parsed operation text.now ≡ Ok spec) }

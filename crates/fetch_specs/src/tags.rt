@@ -55,11 +55,6 @@ fn tag_spec(alloc: Global) -> Result<RefSpec, SpecError>
     parse(alloc, b"refs/tags/*:refs/tags/*", Operation::Fetch)
 }
 
-/// A refspec passes the test for the one that brings all tags exactly where it is that one.
-pub fn the_tag_refspec_alone_brings_all_tags()
-    ensures { (refspec : Spec) → IsTrue (is_tag_spec refspec) ↔ (refspec ≡ tag_spec) }
-{}
-
 impl RefSpec {
     /// Whether this is the refspec that brings all tags.
     pub fn is_all_tags(&self) -> bool
