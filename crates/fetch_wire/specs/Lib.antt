@@ -15,4 +15,7 @@ pub mod Words
 pub mod Greetings
 pub mod Listings
 pub mod Replies
+pub mod Cutting
+pub mod RequestWords
 pub mod Requests
+pub mod RequestLines

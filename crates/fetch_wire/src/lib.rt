@@ -4,6 +4,7 @@
 mod bound;
 mod calls;
 mod cloning;
+mod cutting;
 mod error;
 mod greeting;
 mod handshake;
@@ -16,6 +17,7 @@ mod readers;
 mod records;
 mod reference;
 mod reply;
+mod request_lines;
 mod requests;
 mod scripted;
 mod section;
@@ -24,10 +26,14 @@ mod words;
 mod write;
 
 pub use bound::ReplyBound;
+pub use cutting::in_pieces;
 pub use error::{ReceiveError, WireError};
 pub use greeting::read_greeting;
 pub use handshake::{Capability, Handshake, Version};
-pub use laws::{lines_are_read_as_written, sections_are_read_line_by_line, sections_stay};
+pub use laws::{
+    agents_are_named_once, lines_are_read_as_written, pieces_are_the_bytes,
+    sections_are_read_line_by_line, sections_stay,
+};
 pub use line::{Line, LineRef};
 pub use listing::read_listing;
 pub use mapping::{Mapping, RefMap, SpecIndex};
@@ -35,7 +41,7 @@ pub use peer::{Interrupt, Peer, SendFault};
 pub use records::{FetchReply, Request};
 pub use reference::{Ref, Source};
 pub use reply::{changes_border, read_reply};
-pub use requests::{agent_text, append_head, first_line, listing_request, text_line};
+pub use requests::{agent_text, append_head, append_when, first_line, joined, listing_request};
 pub use scripted::{ScriptedInterrupt, ScriptedPeer};
 pub use section::{Trouble, line_in};
 pub use session::Session;
