@@ -3,7 +3,6 @@ pub mod Reading
 pub mod Sharing
 pub mod Queues
 pub mod Lists
-pub mod Words
 pub mod Requests
 pub mod Wants
 pub mod Ancestors

@@ -21,7 +21,6 @@ pub mod prepare;
 pub mod ref_map;
 mod remote;
 mod repository;
-mod request;
 mod settings;
 mod settling;
 

@@ -4,3 +4,5 @@ pub mod Receiving
 pub mod WordLaws
 pub mod ReadingLines
 pub mod Listed
+pub mod Cut
+pub mod Agents

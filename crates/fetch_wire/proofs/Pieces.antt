@@ -1,7 +1,6 @@
 -- Parts of a text, and the pieces of a scripted peer.
-use Rattle.std.proofs.Common.{◌≡◌, Bool, ℕ, None, ◌+◌, ◌-◌, ◌<◌, ◌≤◌, List, [], ◌∷◌, ◌++◌, length, get_or, take, drop, refl, sym, ap, ◌∙◌, inl, inr, arith, append_assoc, take-append-drop, length-take, length-drop}
-use Rattle.std.proofs.lemmas.List.{take_at, append_cancel_right, drop-drop, append-nil, drop_more, take_more, take_all, drop_all, get_or_past}
-use Rattle.std.proofs.lemmas.Bool.{cases_lt}
+use Rattle.std.proofs.Common.{◌≡◌, Bool, ℕ, None, ◌+◌, ◌-◌, ◌<◌, ◌≤◌, List, [], ◌∷◌, ◌++◌, length, get_or, take, drop, refl, sym, ap, ◌∙◌, arith, append_assoc, take-append-drop, length-take, length-drop}
+use Rattle.std.proofs.lemmas.List.{take_at, append_cancel_right, drop-drop, append-nil, drop_more, take_more, take_all, drop_all}
 use Rattle.std.specs.List.{concat}
 use Rattle.fetch_wire.specs.Talks.{Passes}
 use Rattle.fetch_wire.specs.Scripts.{given_of, pieces_from, from_first, first_of, without}

@@ -1,6 +1,8 @@
 //! What the definitions of lines and replies say, in other words.
 
-ghost use Rattle.std.specs.Prelude.{◌≡◌, List, [], ℕ, ◌++◌};
+ghost use Rattle.std.specs.Prelude.{◌≡◌, ◌<◌, List, [], ℕ, ◌++◌};
+ghost use Rattle.fetch_wire.specs.Cutting.{in_pieces};
+ghost use Rattle.fetch_wire.specs.Requests.{agent_text};
 ghost use Rattle.fetch_wire.specs.Lines.{line_at, section_at, section_from};
 ghost use Rattle.std.specs.Prelude.{Ok};
 ghost use Rattle.fetch_wire.specs.declared.line.Line.{Line};
@@ -48,4 +50,14 @@ pub fn replies_are_read_in_pieces()
 pub fn replies_are_read_line_by_line()
     ensures { (bound : ℕ) (reading : Reading) (place : ℕ) (bytes : List ℕ)
         → told_from bound reading place bytes ≡ after_line (line_at bound place bytes) (reply.line_then step_of bound reading place) }
+{}
+
+/// `git/` is put before an agent that lacks it, and once.
+pub fn agents_are_named_once()
+    ensures { (agent : List ℕ) → agent_text (agent_text agent) ≡ agent_text agent }
+{}
+
+/// Bytes that are cut into pieces are the pieces one after another.
+pub fn pieces_are_the_bytes()
+    ensures { (size : ℕ) (bytes : List ℕ) → 0 < size → concat (in_pieces size bytes) ≡ bytes }
 {}

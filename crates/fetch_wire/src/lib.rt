@@ -4,6 +4,7 @@
 mod awaited;
 mod bound;
 mod cloning;
+mod cutting;
 mod error;
 mod greeting;
 mod handshake;
@@ -17,6 +18,7 @@ mod reading;
 mod records;
 mod reference;
 mod reply;
+mod request_lines;
 mod requests;
 mod scripted;
 mod section;
@@ -26,12 +28,14 @@ mod write;
 
 pub use awaited::{AskedReply, Await, Fault, Told};
 pub use bound::ReplyBound;
+pub use cutting::in_pieces;
 pub use error::{ReceiveError, WireError};
 pub use greeting::read_greeting;
 pub use handshake::{Capability, Handshake, Version};
 pub use laws::{
-    lines_are_read_as_written, replies_are_read_in_pieces, replies_are_read_line_by_line,
-    replies_stay, sections_are_read_line_by_line, sections_stay,
+    agents_are_named_once, lines_are_read_as_written, pieces_are_the_bytes,
+    replies_are_read_in_pieces, replies_are_read_line_by_line, replies_stay,
+    sections_are_read_line_by_line, sections_stay,
 };
 pub use line::{Line, LineRef};
 pub use listing::read_listing;
@@ -40,7 +44,7 @@ pub use peer::{Interrupt, Peer, SendFault};
 pub use records::{FetchReply, Request};
 pub use reference::{Ref, Source};
 pub use reply::{changes_border, read_reply};
-pub use requests::{agent_text, append_head, first_line, listing_request, text_line};
+pub use requests::{agent_text, append_head, append_when, first_line, joined, listing_request};
 pub use scripted::{ScriptedInterrupt, ScriptedPeer};
 pub use section::{Trouble, line_in};
 pub use session::Session;

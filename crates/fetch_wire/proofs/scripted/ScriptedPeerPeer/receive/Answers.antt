@@ -1,7 +1,7 @@
 use Rattle.std.proofs.Common.{ℕ, ◌≡◌, ◌<◌, ◌+◌, ◌-◌, ◌≤◌, [], ◌∙◌, ap, sym, length, min, get_or, arith, false, refl}
 use Rattle.std.proofs.lemmas.List.{get_or_read}
 use Rattle.std.specs.List.{concat}
-use Rattle.fetch_wire.specs.Scripts.{pieces_from, from_first, first_of, without}
+use Rattle.fetch_wire.specs.Scripts.{pieces_from}
 use Rattle.fetch_wire.proofs.Pieces.{gives, nothing_passes, none_left, none_to_come, drained, concat-from_first, left_behind, first_len}
 use Rattle.fetch_wire.proofs.scripted.ScriptedPeerPeer.receive.Goals as goal
 

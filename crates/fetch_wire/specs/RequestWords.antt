@@ -1,4 +1,4 @@
--- The words of a fetch request.
+-- The words of requests.
 use Rattle.std.specs.Prelude.{ℕ, List, codes}
 
 unfoldable pub command_word : List ℕ
@@ -13,14 +13,15 @@ agent_is = codes "agent="
 unfoldable pub format_word : List ℕ
 format_word = codes "object-format"
 
-unfoldable pub sha1_format : List ℕ
-sha1_format = codes "object-format=sha1"
-
-unfoldable pub sha256_format : List ℕ
-sha256_format = codes "object-format=sha256"
+unfoldable pub format_is : List ℕ
+format_is = codes "object-format="
 
 unfoldable pub plain_pack : List ℕ
 plain_pack = codes "plain-pack"
+
+-- the same, in its second version
+unfoldable pub plain_pack_2 : List ℕ
+plain_pack_2 = codes "plain-pack-2"
 
 unfoldable pub include_tag : List ℕ
 include_tag = codes "include-tag"
