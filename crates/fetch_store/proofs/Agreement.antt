@@ -55,7 +55,7 @@ same_kind Tag Tree h = absurd cc
 same_kind Tag Blob h = absurd cc
 same_kind Tag Tag h = refl
 
-parts_true : (a b : Bool) → (a && b) ≡ true → (a ≡ true) × (b ≡ true)
+pub parts_true : (a b : Bool) → (a && b) ≡ true → (a ≡ true) × (b ≡ true)
 parts_true true b h = (refl, h)
 parts_true false b h = absurd cc
 

@@ -42,7 +42,7 @@ find-both q [] ys = refl
 find-both q (x ∷ xs) ys = ap (cond (eq_by_cmp id_cmp q x.0) (Some x.1)) (find-both q xs ys) ∙ choice (eq_by_cmp id_cmp q x.0) x.1 (find id_cmp q xs) (find id_cmp q ys)
 
 -- ---- texts
-same_as_itself : (k : ObjectKind) → is_kind k k ≡ true
+pub same_as_itself : (k : ObjectKind) → is_kind k k ≡ true
 same_as_itself Commit = refl
 same_as_itself Tree = refl
 same_as_itself Blob = refl
@@ -67,7 +67,7 @@ stands m e none = by_value (get m e.0) none (get-add m e e.0 ∙ ap (λ b. first
 Stands : ObjectMap → ObjectId × Stored → Type 0
 Stands m e = (x : Stored) → get m e.0 ≡ Some x → has_same_text x e.1 ≡ true
 
-all_stand : (m : ObjectMap) (es : Entries) → collision m es ≡ None → All (λ e. (x : Stored) → get (add_all m es) e.0 ≡ Some x → has_same_text x e.1 ≡ true) es
+pub all_stand : (m : ObjectMap) (es : Entries) → collision m es ≡ None → All (λ e. (x : Stored) → get (add_all m es) e.0 ≡ Some x → has_same_text x e.1 ≡ true) es
 all_stand m [] is = All-nil (λ (e : ObjectId × Stored). (x : Stored) → get (add_all m []) e.0 ≡ Some x → has_same_text x e.1 ≡ true)
 all_stand m (e ∷ es) is =
     let both = first_of e.0 (clashes (get m e.0) e.1) (collision (add m e) es) is in

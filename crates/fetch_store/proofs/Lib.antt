@@ -35,3 +35,4 @@ pub mod Viewed
 pub mod Merging
 pub mod Buffers
 pub mod Probes
+pub mod Collided

@@ -1,11 +1,12 @@
 -- What histories are read from: objects without their bytes.
-use Rattle.std.specs.Prelude.{ℕ, List, map, Option, None, if◌then◌else◌, refl}
+use Rattle.std.specs.Prelude.{ℕ, Bool, false, List, map, Option, None, if◌then◌else◌, refl}
 use Rattle.std.specs.Coded.{Coded, code_by, coded_ℕ, coded_list, coded_option, coded×}
 use Rattle.std.specs.List.{slice_get}
+use Rattle.std.specs.Option.{option_map_or}
 use Rattle.std.specs.FinMap as finmap
 use Rattle.fetch_store.specs.declared.id.ObjectId.{ObjectId}
 use Rattle.fetch_store.specs.declared.object_kind.ObjectKind.{ObjectKind}
-use Rattle.fetch_store.specs.declared.object_kind.ObjectKind.TheVariants.{Tag}
+use Rattle.fetch_store.specs.declared.object_kind.ObjectKind.TheVariants.{Commit, Tag}
 use Rattle.fetch_store.specs.Objects.{Stored, links_of, parents_of, seconds_of, is_kind}
 use Rattle.fetch_store.specs.Codes.{coded_id, coded_object_kind}
 use Rattle.fetch_store.specs.Stores.{id_cmp, ObjectMap}
@@ -26,6 +27,10 @@ node_of o = record { kind = o.kind; parents = parents_of o.hash o.kind o.bytes; 
 
 abbrev pub Graph : Type 0
 Graph = finmap.FinMap id_cmp Node
+
+-- whether a commit stands at the id
+abbrev pub is_commit_at : Graph → ObjectId → Bool
+is_commit_at g id = option_map_or (λ n. is_kind n.kind Commit) (finmap.get g id) false
 
 -- the same ids, with a node for each object
 abbrev pub graph_of : ObjectMap → Graph

@@ -17,6 +17,7 @@ pub mod Missing
 pub mod Indexes
 pub mod Entries
 pub mod Buffers
+pub mod Collisions
 pub mod Iter
 pub mod Texts
 pub mod TreeTexts

@@ -4,6 +4,7 @@ mod closed;
 mod counts;
 mod pieces;
 mod reach;
+mod stores;
 mod texts;
 
 pub use closed::{
@@ -14,4 +15,7 @@ pub use closed::{
 pub use counts::distinct_stored_ids_are_no_more_than_objects;
 pub use pieces::{splits_exactly, splits_last_exactly};
 pub use reach::{reached_is_closed, reached_is_reached_on};
+pub use stores::{
+    a_collision_is_the_first_entry_that_differs, what_stands_comes_from_the_store_or_the_list,
+};
 pub use texts::{commits_are_texts, links_are_no_more_than_bytes, tags_are_texts, trees_are_texts};

@@ -4,7 +4,7 @@ ghost use Rattle.std.specs.Prelude.{◌≡◌, option_map};
 ghost use Rattle.std.specs.FinMap as map;
 ghost use Rattle.std.specs.List.{slice_get};
 ghost use Rattle.std.specs.Option.{option_and_then};
-ghost use Rattle.fetch_store.specs.Graph.{Graph, graph_of, target_of};
+ghost use Rattle.fetch_store.specs.Graph.{Graph, graph_of, is_commit_at, target_of};
 ghost use Rattle.fetch_store.specs.Objects as spec;
 ghost use Rattle.fetch_store.specs.References.{seen};
 
@@ -18,9 +18,11 @@ pub trait Objects {
     /// The ids, and what each object says of its history.
     ghost graph: { Self → Graph };
 
+    /// How many objects there are.
     fn len(&self) -> usize
         ensures { result ≡ map.len (graph self.now) };
 
+    /// The kind of the object at the id.
     fn kind_of(&self, id: &ObjectId) -> Option<ObjectKind>
         ensures { result ≡ option_map (λ n. n.kind) (map.get (graph self.now) id.now) };
 
@@ -32,8 +34,19 @@ pub trait Objects {
     fn seconds(&self, id: &ObjectId) -> Option<u64>
         ensures { result ≡ option_and_then (λ n. n.seconds) (map.get (graph self.now) id.now) };
 
+    /// The object that a tag names.
     fn tag_target(&self, id: &ObjectId) -> Option<ObjectId>
         ensures { result ≡ option_and_then (λ n. n.target) (map.get (graph self.now) id.now) };
+
+    /// Whether a commit stands at the id.
+    fn is_commit(&self, id: &ObjectId) -> bool
+        ensures { result ≡ is_commit_at (graph self.now) id.now }
+    {
+        match self.kind_of(id) {
+            Some(kind) => kind.is_commit(),
+            None => false,
+        }
+    }
 }
 
 impl Objects for Store {
