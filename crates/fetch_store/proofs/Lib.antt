@@ -35,3 +35,6 @@ pub mod Viewed
 pub mod Merging
 pub mod Buffers
 pub mod Probes
+pub mod Slashes
+pub mod FiniteMaps
+pub mod TreeChanges
