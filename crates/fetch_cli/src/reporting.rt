@@ -56,7 +56,7 @@ fn fetch<R: Threads + Sync>(rt: &R, alloc: Global, setting: Setting) -> Fetched
     let mut repo = repo;
     let mut peer = ScriptedPeer::new(alloc, pieces.into_vec(), Vec::new(alloc));
     let mut interrupt = ScriptedInterrupt::new(Vec::new(alloc));
-    let mut files = MemoryFiles::new(Vec::new(alloc));
+    let mut files = MemoryFiles::new(alloc, Vec::new(alloc));
     let mut worktrees = ScriptedWorktrees::new(alloc, worktrees.into_vec(), Vec::new(alloc));
     let result = remote.fetch(
         rt,

@@ -36,3 +36,6 @@ pub mod Merging
 pub mod Buffers
 pub mod Probes
 pub mod Collided
+pub mod Slashes
+pub mod FiniteMaps
+pub mod TreeChanges

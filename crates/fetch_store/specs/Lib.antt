@@ -25,3 +25,7 @@ pub mod CommitTexts
 pub mod Answers
 pub mod Calls
 pub mod Distinct
+pub mod Paths
+pub mod Trees
+pub mod TreeCodes
+pub mod FileCalls

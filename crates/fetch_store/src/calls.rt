@@ -1,8 +1,9 @@
 //! The calls of an object in memory: which are listed, as those that fail.
 
-ghost use Rattle.std.specs.Prelude.{◌≡◌, ◌↔◌, ℕ, length, IsTrue, Contains};
+ghost use Rattle.std.specs.Prelude.{◌≡◌, ◌↔◌, ℕ, length, IsTrue, IfOk, Contains};
 ghost use Rattle.fetch_store.specs.Calls.{one_more};
 
+use crate::error::NoMemory;
 use std::marker::Model;
 
 /// The numbers of some calls of an object, and the number of its next call. Numbers count from 0.
@@ -34,6 +35,16 @@ impl Calls {
         let mut listed = listed;
         listed.sort_unstable();
         Calls { listed, next: 0 }
+    }
+
+    /// The same calls listed, and as many made.
+    pub fn try_clone(&self) -> Result<Calls, NoMemory>
+        ensures { IfOk result (λ copy. copy ≡ self.now) }
+    {
+        Ok(Calls {
+            listed: self.listed.clone()?,
+            next: self.next,
+        })
     }
 
     /// Counts a call, and tells whether it is listed. The number stands still at 2^64 - 1.

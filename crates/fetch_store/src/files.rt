@@ -1,182 +1,92 @@
-//! A tree of files, and a form of it in memory.
+//! A tree of files.
 
-ghost use Rattle.std.specs.Prelude.{◌≡◌, IsErrOf, IsErr, OnErr, Err};
-ghost use Rattle.fetch_store.specs.Faults.{Faults, Rose, Counts, counted};
-ghost use Rattle.fetch_store.specs.declared.files.FileError.TheVariants as file_errors;
+ghost use Rattle.std.specs.Prelude.{◌≡◌, Bool, Option, IsErrOf, OnErr};
+ghost use Rattle.fetch_store.specs.Faults.{Faults, Rose, Counts};
+ghost use Rattle.fetch_store.specs.FileCalls.{Asks, Changes, IsRefused};
+ghost use Rattle.fetch_store.specs.Paths.{parts_of};
+ghost use Rattle.fetch_store.specs.Trees.{Tree, kind_in, names_in, read_in, with_directories, written, renamed, without_file, without_all};
 
+use crate::file_error::{Failed, FileError};
+use crate::node::Node;
 use crate::text::Text;
-use std::marker::Model;
-use thiserror::Error;
 
-/// The other side failed, and counted it.
-#[derive(Clone, Copy, Debug, PartialEq, Eq, Error)]
-#[error("the other side failed")]
-pub struct Failed;
-
-/// Why a call on files gave no answer.
-#[derive(Clone, Copy, Debug, PartialEq, Eq, Error)]
-pub enum FileError {
-    #[error("a file call failed")]
-    Failed,
-    #[error("out of memory")]
-    NoMemory,
-}
-
-/// What stands at a path.
-#[derive(Clone, Copy, Debug, PartialEq, Eq)]
-pub enum Node {
-    File,
-    Directory,
-}
-
-/// A tree of files. Paths are byte texts, with `/` between their parts.
+/// A tree of files. Paths are byte texts, with `/` between their parts: empty parts are dropped, so that `/a//b` and
+/// `/a/b/` are `/a/b`, and nothing else is changed. The root is a directory.
+///
+/// Where the files tell their tree, each call tells at Ok what the tree has or what becomes of it. A call answers
+/// `Failed` and counts a fault where something of the wrong kind is in its way, where it asks for something that isn't
+/// there, and, if `may_fail` says so, at any time. After an error a tree that was told is told still.
 pub trait Files {
     ghost faults: { Self → Faults };
 
-    /// What stands at the path, if anything does.
+    ghost told: { Self → Option Tree };
+
+    ghost may_fail: { Self → Bool };
+
+    /// What stands at the path, if anything does. `Failed` where a file stands above the path.
     fn kind_of(&mut self, path: &[u8]) -> Result<Option<Node>, FileError>
         ensures counts { Counts (faults self.old) (faults self.new) }
-        ensures cause { IsErrOf result FileError.Failed → Rose (faults self.old) (faults self.new) };
+        ensures cause { IsErrOf result FileError.Failed → Rose (faults self.old) (faults self.new) }
+        ensures tree { Asks (λ kind. kind) (told self.old) (told self.new) (λ t. kind_in t (parts_of path.now)) result }
+        ensures in_the_way { IsErrOf result FileError.Failed → IsRefused (may_fail self.old) (told self.old) (λ t. kind_in t (parts_of path.now)) }
+        ensures may_fail { may_fail self.new ≡ may_fail self.old };
 
-    /// The names in the directory, sorted.
+    /// The names in the directory, ascending. `Failed` where no directory stands at the path.
     fn list(&mut self, path: &[u8]) -> Result<Vec<Text>, FileError>
         ensures counts { Counts (faults self.old) (faults self.new) }
-        ensures cause { IsErrOf result FileError.Failed → Rose (faults self.old) (faults self.new) };
+        ensures cause { IsErrOf result FileError.Failed → Rose (faults self.old) (faults self.new) }
+        ensures tree { Asks (λ names. names.items) (told self.old) (told self.new) (λ t. names_in t (parts_of path.now)) result }
+        ensures in_the_way { IsErrOf result FileError.Failed → IsRefused (may_fail self.old) (told self.old) (λ t. names_in t (parts_of path.now)) }
+        ensures may_fail { may_fail self.new ≡ may_fail self.old };
 
-    /// Makes the directory, and those above it that are absent.
+    /// Makes the directory, and those above it that are absent. `Failed` where a file stands at the path or above it.
     fn make_dir_all(&mut self, path: &[u8]) -> Result<(), FileError>
         ensures counts { Counts (faults self.old) (faults self.new) }
-        ensures cause { IsErrOf result FileError.Failed → Rose (faults self.old) (faults self.new) };
+        ensures cause { IsErrOf result FileError.Failed → Rose (faults self.old) (faults self.new) }
+        ensures tree { Changes (told self.old) (told self.new) (λ t. with_directories t (parts_of path.now)) result }
+        ensures in_the_way { IsErrOf result FileError.Failed → IsRefused (may_fail self.old) (told self.old) (λ t. with_directories t (parts_of path.now)) }
+        ensures may_fail { may_fail self.new ≡ may_fail self.old };
 
-    /// Replaces the whole file, and makes the directories above it that are absent.
+    /// Replaces the whole file, and makes the directories above it that are absent. `Failed` where a directory stands at
+    /// the path, or a file above it.
     fn write(&mut self, path: &[u8], bytes: &[u8]) -> Result<(), FileError>
         ensures counts { Counts (faults self.old) (faults self.new) }
-        ensures cause { IsErrOf result FileError.Failed → Rose (faults self.old) (faults self.new) };
+        ensures cause { IsErrOf result FileError.Failed → Rose (faults self.old) (faults self.new) }
+        ensures tree { Changes (told self.old) (told self.new) (λ t. written t (parts_of path.now) bytes.now) result }
+        ensures in_the_way { IsErrOf result FileError.Failed → IsRefused (may_fail self.old) (told self.old) (λ t. written t (parts_of path.now) bytes.now) }
+        ensures may_fail { may_fail self.new ≡ may_fail self.old };
 
-    /// The bytes of the file, or None where it is absent.
+    /// The bytes of the file, or None where nothing stands at the path. `Failed` where a directory does, or a file above it.
     fn read(&mut self, path: &[u8]) -> Result<Option<Text>, FileError>
         ensures counts { Counts (faults self.old) (faults self.new) }
-        ensures cause { IsErrOf result FileError.Failed → Rose (faults self.old) (faults self.new) };
+        ensures cause { IsErrOf result FileError.Failed → Rose (faults self.old) (faults self.new) }
+        ensures tree { Asks (λ bytes. bytes) (told self.old) (told self.new) (λ t. read_in t (parts_of path.now)) result }
+        ensures in_the_way { IsErrOf result FileError.Failed → IsRefused (may_fail self.old) (told self.old) (λ t. read_in t (parts_of path.now)) }
+        ensures may_fail { may_fail self.new ≡ may_fail self.old };
 
-    /// Moves a file to another path.
+    /// Moves a file to another path, also where a file stands there. `Failed` where no file stands at `from`, where a
+    /// directory stands at `to`, and where none stands right above it.
     fn rename(&mut self, from: &[u8], to: &[u8]) -> Result<(), FileError>
         ensures counts { Counts (faults self.old) (faults self.new) }
-        ensures cause { IsErrOf result FileError.Failed → Rose (faults self.old) (faults self.new) };
+        ensures cause { IsErrOf result FileError.Failed → Rose (faults self.old) (faults self.new) }
+        ensures tree { Changes (told self.old) (told self.new) (λ t. renamed t (parts_of from.now) (parts_of to.now)) result }
+        ensures in_the_way { IsErrOf result FileError.Failed → IsRefused (may_fail self.old) (told self.old) (λ t. renamed t (parts_of from.now) (parts_of to.now)) }
+        ensures may_fail { may_fail self.new ≡ may_fail self.old };
 
-    /// Removes the file. Takes no memory.
+    /// Removes the file. Takes no memory. `Failed` where no file stands at the path.
     fn remove_file(&mut self, path: &[u8]) -> Result<(), Failed>
         ensures counts { Counts (faults self.old) (faults self.new) }
-        ensures cause { OnErr result (Rose (faults self.old) (faults self.new)) };
+        ensures cause { OnErr result (Rose (faults self.old) (faults self.new)) }
+        ensures tree { Changes (told self.old) (told self.new) (λ t. without_file t (parts_of path.now)) result }
+        ensures in_the_way { OnErr result (IsRefused (may_fail self.old) (told self.old) (λ t. without_file t (parts_of path.now))) }
+        ensures may_fail { may_fail self.new ≡ may_fail self.old };
 
-    /// Removes the directory and all that is in it. Takes no memory.
+    /// Removes the directory and all that is in it: the root stays, and is empty. Takes no memory. `Failed` where no
+    /// directory stands at the path.
     fn remove_dir_all(&mut self, path: &[u8]) -> Result<(), Failed>
         ensures counts { Counts (faults self.old) (faults self.new) }
-        ensures cause { OnErr result (Rose (faults self.old) (faults self.new)) };
-}
-
-/// Files in memory. It keeps none yet: each call fails and is counted. Contracts see how often one did.
-#[derive(Debug, Drop)]
-pub struct MemoryFiles {
-    failing: Vec<u64>,
-    faults: u64,
-}
-
-impl Model for MemoryFiles {
-    ghost use Rattle.fetch_store.specs.Faults.{Faults, counted};
-
-    ghost Value = { Faults };
-
-    ghost view = { λ f. counted f.faults };
-}
-
-impl MemoryFiles {
-    /// The calls whose numbers are listed fail, counted from 0.
-    pub fn new(failing: Vec<u64>) -> MemoryFiles
-        ensures { result ≡ counted 0 }
-    {
-        MemoryFiles { failing, faults: 0 }
-    }
-
-    fn fail(&mut self)
-        ensures counts { Counts self.old self.new }
-        ensures rose { Rose self.old self.new }
-    {
-        self.faults = self.faults.saturating_add(1);
-    }
-}
-
-impl Files for MemoryFiles {
-    ghost faults = { λ f. f };
-
-    fn kind_of(&mut self, _path: &[u8]) -> Result<Option<Node>, FileError>
-        ensures counts { Counts self.old self.new }
-        ensures cause { IsErrOf result FileError.Failed → Rose self.old self.new }
-        ensures fails { result ≡ Err file_errors.Failed }
-    {
-        self.fail();
-        Err(FileError::Failed)
-    }
-
-    fn list(&mut self, _path: &[u8]) -> Result<Vec<Text>, FileError>
-        ensures counts { Counts self.old self.new }
-        ensures cause { IsErrOf result FileError.Failed → Rose self.old self.new }
-        ensures fails { result ≡ Err file_errors.Failed }
-    {
-        self.fail();
-        Err(FileError::Failed)
-    }
-
-    fn make_dir_all(&mut self, _path: &[u8]) -> Result<(), FileError>
-        ensures counts { Counts self.old self.new }
-        ensures cause { IsErrOf result FileError.Failed → Rose self.old self.new }
-        ensures fails { result ≡ Err file_errors.Failed }
-    {
-        self.fail();
-        Err(FileError::Failed)
-    }
-
-    fn write(&mut self, _path: &[u8], _bytes: &[u8]) -> Result<(), FileError>
-        ensures counts { Counts self.old self.new }
-        ensures cause { IsErrOf result FileError.Failed → Rose self.old self.new }
-        ensures fails { result ≡ Err file_errors.Failed }
-    {
-        self.fail();
-        Err(FileError::Failed)
-    }
-
-    fn read(&mut self, _path: &[u8]) -> Result<Option<Text>, FileError>
-        ensures counts { Counts self.old self.new }
-        ensures cause { IsErrOf result FileError.Failed → Rose self.old self.new }
-        ensures fails { result ≡ Err file_errors.Failed }
-    {
-        self.fail();
-        Err(FileError::Failed)
-    }
-
-    fn rename(&mut self, _from: &[u8], _to: &[u8]) -> Result<(), FileError>
-        ensures counts { Counts self.old self.new }
-        ensures cause { IsErrOf result FileError.Failed → Rose self.old self.new }
-        ensures fails { result ≡ Err file_errors.Failed }
-    {
-        self.fail();
-        Err(FileError::Failed)
-    }
-
-    fn remove_file(&mut self, _path: &[u8]) -> Result<(), Failed>
-        ensures counts { Counts self.old self.new }
-        ensures cause { OnErr result (Rose self.old self.new) }
-        ensures fails { IsErr result }
-    {
-        self.fail();
-        Err(Failed)
-    }
-
-    fn remove_dir_all(&mut self, _path: &[u8]) -> Result<(), Failed>
-        ensures counts { Counts self.old self.new }
-        ensures cause { OnErr result (Rose self.old self.new) }
-        ensures fails { IsErr result }
-    {
-        self.fail();
-        Err(Failed)
-    }
+        ensures cause { OnErr result (Rose (faults self.old) (faults self.new)) }
+        ensures tree { Changes (told self.old) (told self.new) (λ t. without_all t (parts_of path.now)) result }
+        ensures in_the_way { OnErr result (IsRefused (may_fail self.old) (told self.old) (λ t. without_all t (parts_of path.now))) }
+        ensures may_fail { may_fail self.new ≡ may_fail self.old };
 }

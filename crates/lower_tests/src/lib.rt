@@ -8,6 +8,8 @@ mod dated;
 #[cfg(test)]
 mod dated_vectors;
 #[cfg(test)]
+mod files;
+#[cfg(test)]
 mod lines;
 #[cfg(test)]
 mod negotiating;

@@ -1,0 +1,279 @@
+//! Files in memory.
+
+ghost use Rattle.std.specs.Prelude.{◌≡◌, ◌↔◌, ℕ, Some, IsErr, IsErrOf, OnErr, IfOk, MatchResult, None, Contains, nat_lt, length};
+ghost use Rattle.std.specs.FinMap as map;
+ghost use Rattle.std.specs.Option.{ok_or};
+ghost use Rattle.fetch_store.specs.Answers.{AnswersBy};
+ghost use Rattle.fetch_store.specs.Calls.{one_more};
+ghost use Rattle.fetch_store.specs.Faults.{Rose, Counts, counted};
+ghost use Rattle.fetch_store.specs.FileCalls.{Asks, Changes, IsRefused, called, is_memory, failed_after, risen_after};
+ghost use Rattle.fetch_store.specs.Paths.{parts_of};
+ghost use Rattle.fetch_store.specs.Trees.{kind_in, names_in, read_in, with_directories, written, renamed, without_file, without_all};
+ghost use Rattle.fetch_store.specs.declared.file_error.FileError.TheVariants as errors;
+
+use crate::calls::Calls;
+use crate::error::NoMemory;
+use crate::file_error::{Failed, FileError};
+use crate::file_tree::FileTree;
+use crate::files::Files;
+use crate::node::Node;
+use crate::text::Text;
+use std::alloc::Global;
+use std::marker::Model;
+
+/// Files in memory, which begin with nothing but the root. A call fails exactly where its number is listed, counted over
+/// all calls from 0, where something of the wrong kind is in its way, and where it asks for something that isn't there.
+/// After an error the tree is as before. Contracts see the tree, the calls, and how many failed.
+#[derive(Drop)]
+pub struct MemoryFiles {
+    tree: FileTree,
+    calls: Calls,
+    failed: u64,
+}
+
+impl Model for MemoryFiles {
+    ghost use Rattle.fetch_store.specs.FileCalls.{MemoryTree};
+    ghost use Rattle.fetch_store.specs.TreeCodes.{coded_memory};
+
+    ghost Value = { MemoryTree };
+
+    ghost coded = { coded_memory };
+
+    ghost view = { λ f. record { tree = f.tree; calls = f.calls; failed = f.failed } };
+}
+
+impl MemoryFiles {
+    /// No files, and calls that fail where their numbers are listed, counted from 0.
+    pub fn new(alloc: Global, failing: Vec<u64>) -> MemoryFiles
+        ensures told { ⟦<MemoryFiles as Files>⟧.told result ≡ Some map.empty }
+        ensures faults { ⟦<MemoryFiles as Files>⟧.faults result ≡ counted 0 }
+        ensures may_fail { ⟦<MemoryFiles as Files>⟧.may_fail result ≡ nat_lt 0 (length failing.items) }
+        ensures failing { (n : ℕ) → Contains result.calls.listed n ↔ Contains failing.items n }
+        ensures first { result.calls.next ≡ 0 }
+    {
+        MemoryFiles {
+            tree: FileTree::new(alloc),
+            calls: Calls::new(failing),
+            failed: 0,
+        }
+    }
+
+    /// Files with the same tree, whose coming calls fail as these do.
+    pub fn try_clone(&self) -> Result<MemoryFiles, NoMemory>
+        ensures { IfOk result (λ copy. copy ≡ self.now) }
+    {
+        Ok(MemoryFiles {
+            tree: self.tree.try_clone()?,
+            calls: self.calls.try_clone()?,
+            failed: self.failed,
+        })
+    }
+}
+
+/// Counts a failure.
+fn fail(failed: &mut u64) -> FileError
+    ensures counted { failed.new ≡ one_more failed.old }
+    ensures counts { Counts (counted failed.old) (counted failed.new) }
+    ensures error { result ≡ errors.Failed }
+{
+    *failed = failed.saturating_add(1);
+    FileError::Failed
+}
+
+/// The same, for a call that takes no memory.
+fn fail_plainly(failed: &mut u64) -> Failed
+    ensures counted { failed.new ≡ one_more failed.old }
+    ensures counts { Counts (counted failed.old) (counted failed.new) }
+{
+    *failed = failed.saturating_add(1);
+    Failed
+}
+
+impl Files for MemoryFiles {
+    ghost faults = { λ f. counted f.failed };
+
+    ghost told = { λ f. Some f.tree };
+
+    ghost may_fail = { λ f. nat_lt 0 (length f.calls.listed) };
+
+    fn kind_of(&mut self, path: &[u8]) -> Result<Option<Node>, FileError>
+        ensures counts { Counts (counted self.old.failed) (counted self.new.failed) }
+        ensures cause { IsErrOf result FileError.Failed → Rose (counted self.old.failed) (counted self.new.failed) }
+        ensures tree { Asks (λ kind. kind) (Some self.old.tree) (Some self.new.tree) (λ t. kind_in t (parts_of path.now)) result }
+        ensures in_the_way { IsErrOf result FileError.Failed → IsRefused (nat_lt 0 (length self.old.calls.listed)) (Some self.old.tree) (λ t. kind_in t (parts_of path.now)) }
+        ensures may_fail { nat_lt 0 (length self.new.calls.listed) ≡ nat_lt 0 (length self.old.calls.listed) }
+        ensures listed { Contains self.old.calls.listed self.old.calls.next → IsErrOf result FileError.Failed }
+        ensures answer { ¬ Contains self.old.calls.listed self.old.calls.next
+            → AnswersBy (λ kind. kind) is_memory (ok_or (kind_in self.old.tree (parts_of path.now)) errors.Failed) result }
+        ensures same { self.new.tree ≡ self.old.tree }
+        ensures calls { self.new.calls ≡ called self.old.calls }
+        ensures failed { self.new.failed ≡ failed_after self.old.failed result }
+    {
+        if self.calls.count() {
+            return Err(fail(&mut self.failed));
+        }
+        match self.tree.kind_in(path)? {
+            Some(found) => Ok(found),
+            None => Err(fail(&mut self.failed)),
+        }
+    }
+
+    fn list(&mut self, path: &[u8]) -> Result<Vec<Text>, FileError>
+        ensures counts { Counts (counted self.old.failed) (counted self.new.failed) }
+        ensures cause { IsErrOf result FileError.Failed → Rose (counted self.old.failed) (counted self.new.failed) }
+        ensures tree { Asks (λ names. names.items) (Some self.old.tree) (Some self.new.tree) (λ t. names_in t (parts_of path.now)) result }
+        ensures in_the_way { IsErrOf result FileError.Failed → IsRefused (nat_lt 0 (length self.old.calls.listed)) (Some self.old.tree) (λ t. names_in t (parts_of path.now)) }
+        ensures may_fail { nat_lt 0 (length self.new.calls.listed) ≡ nat_lt 0 (length self.old.calls.listed) }
+        ensures listed { Contains self.old.calls.listed self.old.calls.next → IsErrOf result FileError.Failed }
+        ensures answer { ¬ Contains self.old.calls.listed self.old.calls.next
+            → AnswersBy (λ names. names.items) is_memory (ok_or (names_in self.old.tree (parts_of path.now)) errors.Failed) result }
+        ensures same { self.new.tree ≡ self.old.tree }
+        ensures calls { self.new.calls ≡ called self.old.calls }
+        ensures failed { self.new.failed ≡ failed_after self.old.failed result }
+    {
+        if self.calls.count() {
+            return Err(fail(&mut self.failed));
+        }
+        match self.tree.names_in(path)? {
+            Some(found) => Ok(found),
+            None => Err(fail(&mut self.failed)),
+        }
+    }
+
+    fn make_dir_all(&mut self, path: &[u8]) -> Result<(), FileError>
+        ensures counts { Counts (counted self.old.failed) (counted self.new.failed) }
+        ensures cause { IsErrOf result FileError.Failed → Rose (counted self.old.failed) (counted self.new.failed) }
+        ensures tree { Changes (Some self.old.tree) (Some self.new.tree) (λ t. with_directories t (parts_of path.now)) result }
+        ensures in_the_way { IsErrOf result FileError.Failed → IsRefused (nat_lt 0 (length self.old.calls.listed)) (Some self.old.tree) (λ t. with_directories t (parts_of path.now)) }
+        ensures may_fail { nat_lt 0 (length self.new.calls.listed) ≡ nat_lt 0 (length self.old.calls.listed) }
+        ensures listed { Contains self.old.calls.listed self.old.calls.next → IsErrOf result FileError.Failed }
+        ensures answer { ¬ Contains self.old.calls.listed self.old.calls.next
+            → AnswersBy (λ _. self.new.tree) is_memory (ok_or (with_directories self.old.tree (parts_of path.now)) errors.Failed) result }
+        ensures err { OnErr result (self.new.tree ≡ self.old.tree) }
+        ensures calls { self.new.calls ≡ called self.old.calls }
+        ensures failed { self.new.failed ≡ failed_after self.old.failed result }
+    {
+        if self.calls.count() {
+            return Err(fail(&mut self.failed));
+        }
+        if self.tree.make_directories(path)? {
+            Ok(())
+        } else {
+            Err(fail(&mut self.failed))
+        }
+    }
+
+    fn write(&mut self, path: &[u8], bytes: &[u8]) -> Result<(), FileError>
+        ensures counts { Counts (counted self.old.failed) (counted self.new.failed) }
+        ensures cause { IsErrOf result FileError.Failed → Rose (counted self.old.failed) (counted self.new.failed) }
+        ensures tree { Changes (Some self.old.tree) (Some self.new.tree) (λ t. written t (parts_of path.now) bytes.now) result }
+        ensures in_the_way { IsErrOf result FileError.Failed → IsRefused (nat_lt 0 (length self.old.calls.listed)) (Some self.old.tree) (λ t. written t (parts_of path.now) bytes.now) }
+        ensures may_fail { nat_lt 0 (length self.new.calls.listed) ≡ nat_lt 0 (length self.old.calls.listed) }
+        ensures listed { Contains self.old.calls.listed self.old.calls.next → IsErrOf result FileError.Failed }
+        ensures answer { ¬ Contains self.old.calls.listed self.old.calls.next
+            → AnswersBy (λ _. self.new.tree) is_memory (ok_or (written self.old.tree (parts_of path.now) bytes.now) errors.Failed) result }
+        ensures err { OnErr result (self.new.tree ≡ self.old.tree) }
+        ensures calls { self.new.calls ≡ called self.old.calls }
+        ensures failed { self.new.failed ≡ failed_after self.old.failed result }
+    {
+        if self.calls.count() {
+            return Err(fail(&mut self.failed));
+        }
+        if self.tree.write(path, bytes)? {
+            Ok(())
+        } else {
+            Err(fail(&mut self.failed))
+        }
+    }
+
+    fn read(&mut self, path: &[u8]) -> Result<Option<Text>, FileError>
+        ensures counts { Counts (counted self.old.failed) (counted self.new.failed) }
+        ensures cause { IsErrOf result FileError.Failed → Rose (counted self.old.failed) (counted self.new.failed) }
+        ensures tree { Asks (λ bytes. bytes) (Some self.old.tree) (Some self.new.tree) (λ t. read_in t (parts_of path.now)) result }
+        ensures in_the_way { IsErrOf result FileError.Failed → IsRefused (nat_lt 0 (length self.old.calls.listed)) (Some self.old.tree) (λ t. read_in t (parts_of path.now)) }
+        ensures may_fail { nat_lt 0 (length self.new.calls.listed) ≡ nat_lt 0 (length self.old.calls.listed) }
+        ensures listed { Contains self.old.calls.listed self.old.calls.next → IsErrOf result FileError.Failed }
+        ensures answer { ¬ Contains self.old.calls.listed self.old.calls.next
+            → AnswersBy (λ bytes. bytes) is_memory (ok_or (read_in self.old.tree (parts_of path.now)) errors.Failed) result }
+        ensures same { self.new.tree ≡ self.old.tree }
+        ensures calls { self.new.calls ≡ called self.old.calls }
+        ensures failed { self.new.failed ≡ failed_after self.old.failed result }
+    {
+        if self.calls.count() {
+            return Err(fail(&mut self.failed));
+        }
+        match self.tree.read_in(path)? {
+            Some(found) => Ok(found),
+            None => Err(fail(&mut self.failed)),
+        }
+    }
+
+    fn rename(&mut self, from: &[u8], to: &[u8]) -> Result<(), FileError>
+        ensures counts { Counts (counted self.old.failed) (counted self.new.failed) }
+        ensures cause { IsErrOf result FileError.Failed → Rose (counted self.old.failed) (counted self.new.failed) }
+        ensures tree { Changes (Some self.old.tree) (Some self.new.tree) (λ t. renamed t (parts_of from.now) (parts_of to.now)) result }
+        ensures in_the_way { IsErrOf result FileError.Failed → IsRefused (nat_lt 0 (length self.old.calls.listed)) (Some self.old.tree) (λ t. renamed t (parts_of from.now) (parts_of to.now)) }
+        ensures may_fail { nat_lt 0 (length self.new.calls.listed) ≡ nat_lt 0 (length self.old.calls.listed) }
+        ensures listed { Contains self.old.calls.listed self.old.calls.next → IsErrOf result FileError.Failed }
+        ensures answer { ¬ Contains self.old.calls.listed self.old.calls.next
+            → AnswersBy (λ _. self.new.tree) is_memory (ok_or (renamed self.old.tree (parts_of from.now) (parts_of to.now)) errors.Failed) result }
+        ensures err { OnErr result (self.new.tree ≡ self.old.tree) }
+        ensures calls { self.new.calls ≡ called self.old.calls }
+        ensures failed { self.new.failed ≡ failed_after self.old.failed result }
+    {
+        if self.calls.count() {
+            return Err(fail(&mut self.failed));
+        }
+        if self.tree.rename(from, to)? {
+            Ok(())
+        } else {
+            Err(fail(&mut self.failed))
+        }
+    }
+
+    fn remove_file(&mut self, path: &[u8]) -> Result<(), Failed>
+        ensures counts { Counts (counted self.old.failed) (counted self.new.failed) }
+        ensures cause { OnErr result (Rose (counted self.old.failed) (counted self.new.failed)) }
+        ensures tree { Changes (Some self.old.tree) (Some self.new.tree) (λ t. without_file t (parts_of path.now)) result }
+        ensures in_the_way { OnErr result (IsRefused (nat_lt 0 (length self.old.calls.listed)) (Some self.old.tree) (λ t. without_file t (parts_of path.now))) }
+        ensures may_fail { nat_lt 0 (length self.new.calls.listed) ≡ nat_lt 0 (length self.old.calls.listed) }
+        ensures listed { Contains self.old.calls.listed self.old.calls.next → IsErr result }
+        ensures answer { ¬ Contains self.old.calls.listed self.old.calls.next
+            → MatchResult result (λ _. without_file self.old.tree (parts_of path.now) ≡ Some self.new.tree) (λ _. without_file self.old.tree (parts_of path.now) ≡ None) }
+        ensures err { OnErr result (self.new.tree ≡ self.old.tree) }
+        ensures calls { self.new.calls ≡ called self.old.calls }
+        ensures failed { self.new.failed ≡ risen_after self.old.failed result }
+    {
+        if self.calls.count() {
+            return Err(fail_plainly(&mut self.failed));
+        }
+        if self.tree.remove_file(path) {
+            Ok(())
+        } else {
+            Err(fail_plainly(&mut self.failed))
+        }
+    }
+
+    fn remove_dir_all(&mut self, path: &[u8]) -> Result<(), Failed>
+        ensures counts { Counts (counted self.old.failed) (counted self.new.failed) }
+        ensures cause { OnErr result (Rose (counted self.old.failed) (counted self.new.failed)) }
+        ensures tree { Changes (Some self.old.tree) (Some self.new.tree) (λ t. without_all t (parts_of path.now)) result }
+        ensures in_the_way { OnErr result (IsRefused (nat_lt 0 (length self.old.calls.listed)) (Some self.old.tree) (λ t. without_all t (parts_of path.now))) }
+        ensures may_fail { nat_lt 0 (length self.new.calls.listed) ≡ nat_lt 0 (length self.old.calls.listed) }
+        ensures listed { Contains self.old.calls.listed self.old.calls.next → IsErr result }
+        ensures answer { ¬ Contains self.old.calls.listed self.old.calls.next
+            → MatchResult result (λ _. without_all self.old.tree (parts_of path.now) ≡ Some self.new.tree) (λ _. without_all self.old.tree (parts_of path.now) ≡ None) }
+        ensures err { OnErr result (self.new.tree ≡ self.old.tree) }
+        ensures calls { self.new.calls ≡ called self.old.calls }
+        ensures failed { self.new.failed ≡ risen_after self.old.failed result }
+    {
+        if self.calls.count() {
+            return Err(fail_plainly(&mut self.failed));
+        }
+        if self.tree.remove_directory(path) {
+            Ok(())
+        } else {
+            Err(fail_plainly(&mut self.failed))
+        }
+    }
+}

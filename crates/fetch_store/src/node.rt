@@ -1,0 +1,21 @@
+//! What stands at a path.
+
+use crate::text::Text;
+
+/// What stands at a path.
+#[derive(Clone, Copy, Debug, PartialEq, Eq)]
+pub enum Node {
+    /// A file.
+    File,
+    /// A directory.
+    Directory,
+}
+
+/// What a tree of files has at a path.
+#[derive(Debug, Drop)]
+pub enum TreeNode {
+    /// A file with these bytes.
+    File(Text),
+    /// A directory.
+    Directory,
+}
