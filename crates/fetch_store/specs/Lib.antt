@@ -19,6 +19,7 @@ pub mod Entries
 pub mod Texts
 pub mod TreeTexts
 pub mod CommitTexts
+pub mod Places
 pub mod Answers
 pub mod Calls
 pub mod Distinct

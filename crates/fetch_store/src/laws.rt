@@ -14,4 +14,7 @@ pub use closed::{
 pub use counts::distinct_stored_ids_are_no_more_than_objects;
 pub use pieces::{splits_exactly, splits_last_exactly};
 pub use reach::{reached_is_closed, reached_is_reached_on};
-pub use texts::{commits_are_texts, links_are_no_more_than_bytes, tags_are_texts, trees_are_texts};
+pub use texts::{
+    a_place_is_where_the_grammar_breaks, commits_are_texts, links_are_no_more_than_bytes,
+    tags_are_texts, trees_are_texts,
+};
