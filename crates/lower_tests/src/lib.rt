@@ -10,6 +10,8 @@ mod dated_vectors;
 #[cfg(test)]
 mod lines;
 #[cfg(test)]
+mod missing;
+#[cfg(test)]
 mod negotiating;
 #[cfg(test)]
 mod objects;
