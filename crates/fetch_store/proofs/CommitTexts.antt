@@ -38,10 +38,10 @@ mapped f (Some x) y e = (x, refl, cc)
 mapped f None y e = absurd cc
 
 -- ---- bytes that stand nowhere
-both_without : (x : ℕ) (a b : List ℕ) → IsWithout x a → IsWithout x b → IsWithout x (a ++ b)
+pub both_without : (x : ℕ) (a b : List ℕ) → IsWithout x a → IsWithout x b → IsWithout x (a ++ b)
 both_without x a b p q = list_all-append (λ c. not (eqb c x)) a b ∙ and_from _ _ p q
 
-parts_without : (x : ℕ) (a b : List ℕ) → IsWithout x (a ++ b) → IsWithout x a × IsWithout x b
+pub parts_without : (x : ℕ) (a b : List ℕ) → IsWithout x (a ++ b) → IsWithout x a × IsWithout x b
 parts_without x a b p = and_parts _ _ (sym (list_all-append (λ c. not (eqb c x)) a b) ∙ p)
 
 differs : (p : ℕ → Bool) (x c : ℕ) → p x ≡ false → p c ≡ true → not (eqb c x) ≡ true
@@ -57,33 +57,33 @@ digits_without x never (c ∷ ds) all =
     let a = and_parts (is_ascii_digit c) (all_ascii_digits ds) all in
     and_from _ _ (differs is_ascii_digit x c never a.0) (digits_without x never ds a.1)
 
-decimal_without : (x : ℕ) → is_ascii_digit x ≡ false → (ds : List ℕ) → is_decimal ds ≡ true → IsWithout x ds
+pub decimal_without : (x : ℕ) → is_ascii_digit x ≡ false → (ds : List ℕ) → is_decimal ds ≡ true → IsWithout x ds
 decimal_without x never [] all = absurd cc
 decimal_without x never (c ∷ ds) all = digits_without x never (c ∷ ds) all
 
-offset_without : (x : ℕ) → is_ascii_digit x ≡ false → (eqb x 43 || eqb x 45) ≡ false → (zone : List ℕ) → is_offset zone ≡ true → IsWithout x zone
+pub offset_without : (x : ℕ) → is_ascii_digit x ≡ false → (eqb x 43 || eqb x 45) ≡ false → (zone : List ℕ) → is_offset zone ≡ true → IsWithout x zone
 offset_without x never none [] is = absurd cc
 offset_without x never none (c ∷ ds) is =
     let a = and_parts (eqb c 43 || eqb c 45) (is_decimal ds) is in
     and_from _ _ (differs (λ b. eqb b 43 || eqb b 45) x c none a.0) (decimal_without x never ds a.1)
 
 -- ---- the committer's line
-record Signed (line : List ℕ) (n : ℕ) : Type 0 where
-  who : List ℕ
-  seconds : List ℕ
-  offset : List ℕ
-  decimal : is_decimal seconds ≡ true
-  few : length seconds ≤ 19
-  fits : digits_value 10 seconds < 2 ^ 63
-  zone : is_offset offset ≡ true
-  text : line ≡ codes "committer " ++ (who ++ 32 ∷ (seconds ++ 32 ∷ offset))
+pub record Signed (line : List ℕ) (n : ℕ) : Type 0 where
+  pub who : List ℕ
+  pub seconds : List ℕ
+  pub offset : List ℕ
+  pub decimal : is_decimal seconds ≡ true
+  pub few : length seconds ≤ 19
+  pub fits : digits_value 10 seconds < 2 ^ 63
+  pub zone : is_offset offset ≡ true
+  pub text : line ≡ codes "committer " ++ (who ++ 32 ∷ (seconds ++ 32 ∷ offset))
 
 signed_text : (line text front zone who seconds : List ℕ) → line ≡ codes "committer " ++ text → text ≡ front ++ 32 ∷ zone → front ≡ who ++ 32 ∷ seconds → line ≡ codes "committer " ++ (who ++ 32 ∷ (seconds ++ 32 ∷ zone))
 signed_text line text front zone who seconds a b c =
     let whole : text ≡ who ++ 32 ∷ (seconds ++ 32 ∷ zone) = b ∙ ap (λ y. y ++ 32 ∷ zone) c ∙ append_assoc who (32 ∷ seconds) (32 ∷ zone) in
     a ∙ ap (λ y. codes "committer " ++ y) whole
 
-signed_of : (line : List ℕ) (n : ℕ) → committed line ≡ Some n → Signed line n
+pub signed_of : (line : List ℕ) (n : ℕ) → committed line ≡ Some n → Signed line n
 signed_of line n is =
     let t = bind_some (after (codes "committer ") line) (λ text. split_last 32 text >>= λ zone. split_last 32 zone.0 >>= λ time. cond (is_offset zone.1) (seconds_in time.1) None) n is in
     let z = bind_some (split_last 32 t.0) (λ zone. split_last 32 zone.0 >>= λ time. cond (is_offset zone.1) (seconds_in time.1) None) n t.2 in
@@ -109,7 +109,7 @@ signed_of line n is =
     tested true o e = (refl, e)
     tested false o e = absurd cc
 
-committed_of : (line text front zone who seconds : List ℕ) (n : ℕ) → after (codes "committer ") line ≡ Some text → split_last 32 text ≡ Some (front, zone) → split_last 32 front ≡ Some (who, seconds)
+pub committed_of : (line text front zone who seconds : List ℕ) (n : ℕ) → after (codes "committer ") line ≡ Some text → split_last 32 text ≡ Some (front, zone) → split_last 32 front ≡ Some (who, seconds)
     → is_offset zone ≡ true → seconds_in seconds ≡ Some n → committed line ≡ Some n
 committed_of line text front zone who seconds n a b c good says =
     ap (λ o. o >>= λ text. split_last 32 text >>= λ zone. split_last 32 zone.0 >>= λ time. cond (is_offset zone.1) (seconds_in time.1) None) a
@@ -135,27 +135,27 @@ signed_feedless hash c good =
     (both_without 10 c.seconds (32 ∷ c.offset) (decimal_without 10 refl c.seconds good.decimal) (offset_without 10 refl refl c.offset good.offset))
 
 -- ---- what a commit's text says
-abbrev treed : ObjectId → List ℕ → Step
+abbrev pub treed : ObjectId → List ℕ → Step
 treed id rest = record { part = Tree id; expected = expect.ParentOrAuthor; rest = rest }
 
-abbrev parented : ObjectId → List ℕ → Step
+abbrev pub parented : ObjectId → List ℕ → Step
 parented id rest = record { part = Parent id; expected = expect.ParentOrAuthor; rest = rest }
 
-abbrev authored : List ℕ → Step
+abbrev pub authored : List ℕ → Step
 authored rest = record { part = Author; expected = expect.CommitterLine; rest = rest }
 
-abbrev at_seconds : ℕ → List ℕ → Step
+abbrev pub at_seconds : ℕ → List ℕ → Step
 at_seconds n rest = record { part = Committer n; expected = expect.Anything; rest = rest }
 
 starts_author : (a : List ℕ) → starts_with nat_eq (codes "author " ++ a) (codes "author ") ≡ true
 starts_author a = (bytes_eq-Decides (codes "author ") _).1 (sym (take_at (codes "author ") a (length (codes "author ")) refl))
 
-author_part : (hash : Kind) (a rest : List ℕ) → IsWithout 10 a → part_at hash expect.ParentOrAuthor (text_line (codes "author " ++ a) ++ rest) ≡ Some (authored rest)
+pub author_part : (hash : Kind) (a rest : List ℕ) → IsWithout 10 a → part_at hash expect.ParentOrAuthor (text_line (codes "author " ++ a) ++ rest) ≡ Some (authored rest)
 author_part hash a rest none =
     ap (λ o. o >>= λ line. parent_or_author hash line.0 line.1) ((splits 10 (text_line (codes "author " ++ a) ++ rest)).only (codes "author " ++ a) rest (append_assoc (codes "author " ++ a) (10 ∷ []) rest) none)
     ∙ ap (λ b. cond b (Some (authored rest)) (option_map (λ id. parented id rest) (id_after hash (codes "parent ") (codes "author " ++ a)))) (starts_author a)
 
-parent_part : (hash : Kind) (d rest : List ℕ) (id : ObjectId) → IsHexId hash d → id_after hash (codes "parent ") (codes "parent " ++ d) ≡ Some id
+pub parent_part : (hash : Kind) (d rest : List ℕ) (id : ObjectId) → IsHexId hash d → id_after hash (codes "parent ") (codes "parent " ++ d) ≡ Some id
     → part_at hash expect.ParentOrAuthor (parent_line d ++ rest) ≡ Some (parented id rest)
 parent_part hash d rest id hex says =
     ap (λ o. o >>= λ line. parent_or_author hash line.0 line.1) ((splits 10 (parent_line d ++ rest)).only (codes "parent " ++ d) rest (append_assoc (codes "parent " ++ d) (10 ∷ []) rest) (feedless d hex.1))
@@ -298,11 +298,11 @@ record Tail (hash : Kind) (bytes : List ℕ) : Type 0 where
   text : bytes ≡ flat_map parent_line parents ++ (text_line (codes "author " ++ author) ++ end)
 
 -- an author's line, or a parent's
-data Headed (hash : Kind) (line rest : List ℕ) (s : Step) : Type 0 where
+pub data Headed (hash : Kind) (line rest : List ℕ) (s : Step) : Type 0 where
   author : (a : List ℕ) → line ≡ codes "author " ++ a → authored rest ≡ s → Headed hash line rest s
   parent : (d : List ℕ) → line ≡ codes "parent " ++ d → IsHexId hash d → (id : ObjectId) → parented id rest ≡ s → Headed hash line rest s
 
-headed : (hash : Kind) (line rest : List ℕ) (s : Step) (b : Bool) → starts_with nat_eq line (codes "author ") ≡ b
+pub headed : (hash : Kind) (line rest : List ℕ) (s : Step) (b : Bool) → starts_with nat_eq line (codes "author ") ≡ b
     → cond b (Some (authored rest)) (option_map (λ id. parented id rest) (id_after hash (codes "parent ") line)) ≡ Some s → Headed hash line rest s
 headed hash line rest s true is e =
     let d : List ℕ = drop (length (codes "author ")) line in

@@ -29,6 +29,7 @@ pub mod GraphsAdded
 pub mod TagTexts
 pub mod TreeTexts
 pub mod CommitTexts
+pub mod Places
 pub mod LinkCounts
 pub mod Decimals
 pub mod Viewed

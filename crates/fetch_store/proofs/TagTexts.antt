@@ -102,18 +102,18 @@ kind_is x k is = one (bytes_eq x (codes "commit")) refl is
     one true e h = let same : objects.Commit ≡ k = cc in (bytes_eq-Decides x (codes "commit")).0 e ∙ ap name_of same
     one false e h = two (bytes_eq x (codes "tree")) refl h
 
-kind_after_is : (line : List ℕ) (k : ObjectKind) → kind_after line ≡ Some k → line ≡ codes "type " ++ name_of k
+pub kind_after_is : (line : List ℕ) (k : ObjectKind) → kind_after line ≡ Some k → line ≡ codes "type " ++ name_of k
 kind_after_is line k is =
     let x = bind_some (after (codes "type ") line) kind_named k is in
     after_is (codes "type ") line x.0 x.1 ∙ ap (λ y. codes "type " ++ y) (kind_is x.0 k x.2)
 
-kind_after_of : (k : ObjectKind) → kind_after (codes "type " ++ name_of k) ≡ Some k
+pub kind_after_of : (k : ObjectKind) → kind_after (codes "type " ++ name_of k) ≡ Some k
 kind_after_of objects.Commit = refl
 kind_after_of objects.Tree = refl
 kind_after_of objects.Blob = refl
 kind_after_of objects.Tag = refl
 
-kind_feedless : (k : ObjectKind) → list_all (λ b. not (eqb b 10)) (codes "type " ++ name_of k) ≡ true
+pub kind_feedless : (k : ObjectKind) → list_all (λ b. not (eqb b 10)) (codes "type " ++ name_of k) ≡ true
 kind_feedless objects.Commit = refl
 kind_feedless objects.Tree = refl
 kind_feedless objects.Blob = refl
@@ -153,10 +153,10 @@ head_of f made front behind x none says =
     ap (λ o. o >>= λ line. f line.0 >>= λ y. Some (made y line.1)) ((splits 10 (text_line front ++ behind)).only front behind (append_assoc front (10 ∷ []) behind) none)
     ∙ ap (λ o. o >>= λ y. Some (made y behind)) says
 
-abbrev tagged : ObjectId → List ℕ → Step
+abbrev pub tagged : ObjectId → List ℕ → Step
 tagged id rest = record { part = Tagged id; expected = expect.TypeLine; rest = rest }
 
-abbrev typed : ObjectKind → List ℕ → Step
+abbrev pub typed : ObjectKind → List ℕ → Step
 typed k rest = record { part = TaggedKind k; expected = expect.Anything; rest = rest }
 
 text_of : (hash : Kind) (bytes : List ℕ) → IsObject hash objects.Tag bytes → (t : TagParts) × IsHexId hash t.object × (bytes ≡ tag_text t)

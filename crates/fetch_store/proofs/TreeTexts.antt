@@ -36,15 +36,15 @@ spaceless (c ∷ mode) all =
         by_test false e = refl
         by_test true e = absurd (let same : is_in_range 48 55 32 ≡ true = subst (λ x. is_in_range 48 55 x ≡ true) (eqb-true c 32 e) h in cc)
 
-abbrev made : Kind → TreeEntry → List ℕ → Step
+abbrev pub made : Kind → TreeEntry → List ℕ → Step
 made hash e rest = record { part = entry hash e.mode e.id; expected = expect.Entry; rest = rest }
 
 -- what an entry at the front is
-record Front (hash : Kind) (bytes : List ℕ) (s : Step) : Type 0 where
-  one : TreeEntry
-  good : IsEntry hash one
-  text : bytes ≡ entry_text one ++ s.rest
-  step : made hash one s.rest ≡ s
+pub record Front (hash : Kind) (bytes : List ℕ) (s : Step) : Type 0 where
+  pub one : TreeEntry
+  pub good : IsEntry hash one
+  pub text : bytes ≡ entry_text one ++ s.rest
+  pub step : made hash one s.rest ≡ s
 
 five : (a b c d e : Bool) → (a && b && c && d && e) ≡ true → (a ≡ true) × (b ≡ true) × (c ≡ true) × (d ≡ true) × (e ≡ true)
 five true true true true e h = (refl, refl, refl, refl, h)
@@ -79,7 +79,7 @@ value_of false x y e = absurd cc
 front_text : (e : TreeEntry) (rest : List ℕ) → entry_text e ++ rest ≡ e.mode ++ 32 ∷ (e.name ++ 0 ∷ (e.id ++ rest))
 front_text e rest = append_assoc e.mode (32 ∷ (e.name ++ 0 ∷ e.id)) rest ∙ ap (λ y. e.mode ++ 32 ∷ y) (append_assoc e.name (0 ∷ e.id) rest)
 
-front_of : (hash : Kind) (bytes : List ℕ) (s : Step) → entry_at hash bytes ≡ Some s → Front hash bytes s
+pub front_of : (hash : Kind) (bytes : List ℕ) (s : Step) → entry_at hash bytes ≡ Some s → Front hash bytes s
 front_of hash bytes s is =
     let m = bind_some (split_first 32 bytes) (λ mode. split_first 0 mode.1 >>= λ name. entry_of hash mode.0 name.0 name.1) s is in
     let n = bind_some (split_first 0 m.0.1) (λ name. entry_of hash m.0.0 name.0 name.1) s m.2 in
@@ -98,7 +98,7 @@ front_of hash bytes s is =
       step = ap (λ y. made hash one y) (sym same) ∙ v.1;
     }
 
-part_of : (hash : Kind) (e : TreeEntry) (rest : List ℕ) → IsEntry hash e → part_at hash expect.Entry (entry_text e ++ rest) ≡ Some (made hash e rest)
+pub part_of : (hash : Kind) (e : TreeEntry) (rest : List ℕ) → IsEntry hash e → part_at hash expect.Entry (entry_text e ++ rest) ≡ Some (made hash e rest)
 part_of hash e rest good =
     let named : List ℕ = e.name ++ 0 ∷ (e.id ++ rest) in
     ap (entry_at hash) (front_text e rest)

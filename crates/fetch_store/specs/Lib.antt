@@ -22,6 +22,7 @@ pub mod Iter
 pub mod Texts
 pub mod TreeTexts
 pub mod CommitTexts
+pub mod Places
 pub mod Answers
 pub mod Calls
 pub mod Distinct

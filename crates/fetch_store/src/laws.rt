@@ -18,4 +18,7 @@ pub use reach::{reached_is_closed, reached_is_reached_on};
 pub use stores::{
     a_collision_is_the_first_entry_that_differs, what_stands_comes_from_the_store_or_the_list,
 };
-pub use texts::{commits_are_texts, links_are_no_more_than_bytes, tags_are_texts, trees_are_texts};
+pub use texts::{
+    a_place_is_where_the_grammar_breaks, commits_are_texts, links_are_no_more_than_bytes,
+    tags_are_texts, trees_are_texts,
+};

@@ -1,9 +1,10 @@
 //! Laws of the grammar of objects, in the words of the format.
 
-ghost use Rattle.std.specs.Prelude.{◌≤◌, ℕ, List, length};
+ghost use Rattle.std.specs.Prelude.{◌≡◌, ◌≤◌, false, ℕ, List, length};
 ghost use Rattle.fetch_store.specs.declared.id.Kind.{Kind};
 ghost use Rattle.fetch_store.specs.declared.object_kind.ObjectKind.{ObjectKind};
-ghost use Rattle.fetch_store.specs.Objects.{links_of};
+ghost use Rattle.fetch_store.specs.Objects.{links_of, is_object, place_of};
+ghost use Rattle.fetch_store.specs.Places.{BreaksAt};
 ghost use Rattle.fetch_store.specs.Texts.{TagsAreTexts};
 ghost use Rattle.fetch_store.specs.TreeTexts.{TreesAreTexts};
 ghost use Rattle.fetch_store.specs.CommitTexts.{CommitsAreTexts};
@@ -27,4 +28,10 @@ pub fn commits_are_texts()
 /// An object has no more links than bytes, so its links can be counted in 64 bits.
 pub fn links_are_no_more_than_bytes()
     ensures { (hash : Kind) (kind : ObjectKind) (bytes : List ℕ) → length (links_of hash kind bytes) ≤ length bytes }
+{}
+
+/// A text that is no object of its kind is whole lines or entries up to the place that a refusal tells, each of which
+/// may stand after the one before, and what follows begins none that may stand there; nor may the text end there.
+pub fn a_place_is_where_the_grammar_breaks()
+    ensures { (hash : Kind) (kind : ObjectKind) (bytes : List ℕ) → is_object hash kind bytes ≡ false → BreaksAt hash kind bytes (place_of hash kind bytes) }
 {}
