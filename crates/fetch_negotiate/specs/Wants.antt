@@ -1,16 +1,12 @@
 -- Which ids a fetch asks for.
-use Rattle.std.specs.Prelude.{ℕ, Bool, true, false, not, ◌&&◌, List, codes, Option, Some, None, if◌then◌else◌}
+use Rattle.std.specs.Prelude.{Bool, true, false, not, ◌&&◌, List, Option, Some, None, if◌then◌else◌}
 use Rattle.std.specs.FinMap as map
 use Rattle.std.specs.List.{filter_map, slice_get}
 use Rattle.std.specs.Option.{option_and_then, option_map_or}
-use Rattle.std.specs.Str.{bytes_eq}
 use Rattle.fetch_store.specs.declared.id.ObjectId.{ObjectId}
 use Rattle.fetch_store.specs.Graph.{Graph}
 use Rattle.fetch_specs.specs.Specs.{Spec}
-use Rattle.fetch_specs.specs.declared.operation.Mode.{Mode}
-use Rattle.fetch_specs.specs.declared.operation.Mode.TheVariants as modes
-use Rattle.fetch_specs.specs.declared.operation.Operation.{Operation}
-use Rattle.fetch_specs.specs.declared.operation.Operation.TheVariants as operations
+use Rattle.fetch_specs.specs.Tagged.{is_tag_spec}
 use Rattle.fetch_specs.specs.declared.tags.Tags.{Tags}
 use Rattle.fetch_wire.specs.declared.mapping.Mapping.{Mapping}
 use Rattle.fetch_wire.specs.declared.mapping.RefMap.{RefMap}
@@ -21,25 +17,6 @@ use Rattle.fetch_negotiate.specs.declared.algorithm.Shallow.{Shallow}
 use Rattle.fetch_negotiate.specs.declared.algorithm.Shallow.TheVariants.{NoChange}
 use Rattle.fetch_negotiate.specs.Lists.{firsts}
 use Rattle.fetch_negotiate.specs.Requests.{is_included}
-
-unfoldable pub all_tags : List ℕ
-all_tags = codes "refs/tags/*"
-
-abbrev pub is_fetch : Operation → Bool
-is_fetch operations.Push = false
-is_fetch operations.Fetch = true
-
-abbrev pub is_normal : Mode → Bool
-is_normal modes.Normal = true
-is_normal modes.Force = false
-is_normal modes.Exclusion = false
-
-abbrev pub is_all_tags : Option (List ℕ) → Bool
-is_all_tags side = option_map_or (λ text. bytes_eq text all_tags) side false
-
--- whether a refspec is `refs/tags/*:refs/tags/*`, for fetching
-abbrev pub is_tag_spec : Spec → Bool
-is_tag_spec s = is_fetch s.operation && is_normal s.mode && is_all_tags s.source && is_all_tags s.destination
 
 -- whether an extra refspec made a mapping, and it is that of the tags
 abbrev pub is_tag_index : SpecIndex → List Spec → Bool

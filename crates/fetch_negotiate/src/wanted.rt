@@ -3,7 +3,7 @@
 ghost use Rattle.std.specs.Prelude.{◌≡◌, IfOk, not, ◌&&◌, is_some, Some, None, if◌then◌else◌};
 ghost use Rattle.std.specs.FinMap as finmap;
 ghost use Rattle.std.specs.List.{filter_map};
-ghost use Rattle.std.specs.Option.{option_and_then, option_copied};
+ghost use Rattle.std.specs.Option.{option_and_then};
 ghost use Rattle.fetch_negotiate.specs.Requests as asked;
 ghost use Rattle.fetch_negotiate.specs.Wants as spec;
 ghost use Rattle.fetch_negotiate.specs.Wants.{wants_of};
@@ -11,7 +11,7 @@ ghost use Rattle.fetch_negotiate.specs.Wants.{wants_of};
 use crate::algorithm::Shallow;
 use crate::once::each_once;
 use crate::request::is_included;
-use fetch_specs::{Operation, RefSpec, Tags};
+use fetch_specs::{RefSpec, Tags};
 use fetch_store::{NoMemory, ObjectId, Objects};
 use fetch_wire::{Mapping, RefMap, SpecIndex};
 use std::alloc::Global;
@@ -105,45 +105,8 @@ fn is_tag_index(index: SpecIndex, extra: &[RefSpec]) -> bool
     match index {
         SpecIndex::ExplicitInRemote(_) => false,
         SpecIndex::Implicit(index) => match extra.get(index) {
-            Some(spec) => is_tag_spec(spec),
+            Some(spec) => spec.is_all_tags(),
             None => false,
         },
-    }
-}
-
-fn is_tag_spec(refspec: &RefSpec) -> bool
-    ensures { result ≡ spec.is_tag_spec refspec.now }
-{
-    is_plain_fetch(refspec) && is_all_tags(refspec.source()) && is_all_tags(refspec.destination())
-}
-
-fn is_plain_fetch(refspec: &RefSpec) -> bool
-    ensures { result ≡ (spec.is_fetch refspec.now.operation && spec.is_normal refspec.now.mode) }
-{
-    is_fetch(refspec.operation()) && is_normal(refspec)
-}
-
-fn is_fetch(operation: Operation) -> bool
-    ensures { result ≡ spec.is_fetch operation }
-{
-    match operation {
-        Operation::Fetch => true,
-        Operation::Push => false,
-    }
-}
-
-fn is_normal(refspec: &RefSpec) -> bool
-    ensures { result ≡ spec.is_normal refspec.now.mode }
-{
-    !refspec.is_exclusion() && !refspec.allow_non_fast_forward()
-}
-
-#[tactic(auto, unfolding(crate::specs::Wants::all_tags))]
-fn is_all_tags(side: Option<&[u8]>) -> bool
-    ensures { result ≡ spec.is_all_tags (option_copied side.entry) }
-{
-    match side {
-        Some(text) => text == b"refs/tags/*".as_slice(),
-        None => false,
     }
 }

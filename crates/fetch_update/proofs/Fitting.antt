@@ -32,7 +32,8 @@ use Rattle.fetch_update.specs.declared.verdict.Verdict.{Verdict}
 use Rattle.fetch_update.specs.Accepting.{is_accepting, IsSent, IsWritable, Stands, IsUnborn, HasIds, HasRow, KeepsTarget}
 use Rattle.fetch_update.specs.Ahead.{is_ahead}
 use Rattle.fetch_update.specs.Outcomes.{is_kept, is_kept_at}
-use Rattle.fetch_update.specs.Policy.{Policy, is_forced, is_commit, is_stored, is_tag, is_checked_out, value_of, nothing, written, after_check, if_valid, unborn_mode, at_stored, at_other, at_id, at_local, at_found, at_name, at_destination, unsent, unsent_mode, is_included, is_tag_spec, unless_unsent, verdict_of, change_unborn}
+use Rattle.fetch_update.specs.Policy.{Policy, is_forced, is_commit, is_stored, is_tag, is_checked_out, value_of, nothing, written, after_check, if_valid, unborn_mode, at_stored, at_other, at_id, at_local, at_found, at_name, at_destination, unsent, unsent_mode, is_included, unless_unsent, verdict_of, change_unborn}
+use Rattle.fetch_specs.specs.Tagged.{is_tag_spec}
 use Rattle.fetch_update.specs.Writes.{gives, expectation}
 use Rattle.fetch_update.proofs.Aheads.{ahead_is}
 

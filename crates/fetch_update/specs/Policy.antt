@@ -10,10 +10,9 @@ use Rattle.fetch_store.specs.Stores.{id_cmp}
 use Rattle.fetch_specs.specs.Categories.{category_of}
 use Rattle.fetch_specs.specs.Names.{is_full_name}
 use Rattle.fetch_specs.specs.Specs.{Spec}
+use Rattle.fetch_specs.specs.Tagged.{is_tag_spec}
 use Rattle.fetch_specs.specs.declared.category.Category.{Category}
 use Rattle.fetch_specs.specs.declared.category.Category.TheVariants as categories
-use Rattle.fetch_specs.specs.declared.operation.Operation.{Operation}
-use Rattle.fetch_specs.specs.declared.operation.Operation.TheVariants as operations
 use Rattle.fetch_specs.specs.declared.operation.Mode.{Mode as SpecMode}
 use Rattle.fetch_specs.specs.declared.operation.Mode.TheVariants as spec_modes
 use Rattle.fetch_specs.specs.declared.tags.Tags.{Tags}
@@ -113,27 +112,6 @@ abbrev pub is_forced : SpecMode → Bool
 is_forced spec_modes.Normal = false
 is_forced spec_modes.Force = true
 is_forced spec_modes.Exclusion = false
-
-abbrev pub is_normal : SpecMode → Bool
-is_normal spec_modes.Normal = true
-is_normal spec_modes.Force = false
-is_normal spec_modes.Exclusion = false
-
-abbrev pub is_fetch : Operation → Bool
-is_fetch operations.Push = false
-is_fetch operations.Fetch = true
-
--- what the refspec that brings all tags has on both sides
-unfoldable pub all_tags : List ℕ
-all_tags = codes "refs/tags/*"
-
-abbrev pub is_side : Option (List ℕ) → Bool
-is_side None = false
-is_side (Some text) = bytes_eq text all_tags
-
--- whether this is the refspec that brings all tags
-abbrev pub is_tag_spec : Spec → Bool
-is_tag_spec s = is_fetch s.operation && is_normal s.mode && is_side s.source && is_side s.destination
 
 abbrev pub is_included : Tags → Bool
 is_included wanted_tags.All = false

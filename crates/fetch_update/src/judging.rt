@@ -1,6 +1,6 @@
 //! What becomes of one mapping.
 
-ghost use Rattle.std.specs.Prelude.{◌≡◌, ◌&&◌, IfOk, MatchOption, true, false, Err, Ok};
+ghost use Rattle.std.specs.Prelude.{◌≡◌, IfOk, MatchOption, true, false, Err, Ok};
 ghost use Rattle.std.specs.Option.{option_copied};
 ghost use Rattle.std.specs.FinMap as map;
 ghost use Rattle.fetch_refs.specs.Peeled.{peeled};
@@ -20,7 +20,7 @@ use crate::verdict::Verdict;
 use crate::worktrees::Worktree;
 use crate::writing::{create, write};
 use fetch_refs::{RefError, Refs, TargetRef};
-use fetch_specs::{Category, FullName, NameError, Operation, RefSpec, Tags};
+use fetch_specs::{Category, FullName, NameError, RefSpec, Tags};
 use fetch_store::{NoMemory, ObjectId, Objects, Text};
 use fetch_wire::{Mapping, Ref, Source};
 use std::alloc::Global;
@@ -140,7 +140,7 @@ fn unsent_mode(judge: &Judge<'_>, refspec: &RefSpec, id: ObjectId) -> Mode
     ensures { result ≡ spec.unsent_mode judge.now.tags refspec.now id }
 {
     if is_included(judge.tags) {
-        if is_tag_spec(refspec) {
+        if refspec.is_all_tags() {
             return Mode::ImplicitTagNotSentByRemote;
         }
     }
@@ -156,51 +156,10 @@ fn is_included(tags: Tags) -> bool
     }
 }
 
-/// Whether this is the refspec that brings all tags.
-fn is_tag_spec(refspec: &RefSpec) -> bool
-    ensures { result ≡ spec.is_tag_spec refspec.now }
-{
-    if !is_for_fetch(refspec) {
-        return false;
-    }
-    if !is_normal(refspec) {
-        return false;
-    }
-    if !is_all_tags(refspec.source()) {
-        return false;
-    }
-    is_all_tags(refspec.destination())
-}
-
-fn is_for_fetch(refspec: &RefSpec) -> bool
-    ensures { result ≡ spec.is_fetch refspec.now.operation }
-{
-    match refspec.operation() {
-        Operation::Fetch => true,
-        Operation::Push => false,
-    }
-}
-
-fn is_normal(refspec: &RefSpec) -> bool
-    ensures { result ≡ spec.is_normal refspec.now.mode }
-{
-    !refspec.allow_non_fast_forward() && !refspec.is_exclusion()
-}
-
 pub(crate) fn is_forced(refspec: &RefSpec) -> bool
     ensures { result ≡ spec.is_forced refspec.now.mode }
 {
     refspec.allow_non_fast_forward()
-}
-
-#[tactic(auto, unfolding(crate::specs::Policy::all_tags))]
-fn is_all_tags(side: Option<&[u8]>) -> bool
-    ensures { result ≡ spec.is_side (option_copied side.entry) }
-{
-    match side {
-        Some(text) => text == b"refs/tags/*".as_slice(),
-        None => false,
-    }
 }
 
 #[tactic(auto, unfolding(crate::specs::Policy::at_destination))]
