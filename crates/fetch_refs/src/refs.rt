@@ -5,34 +5,32 @@ ghost use Rattle.std.specs.FinMap as map;
 ghost use Rattle.fetch_refs.specs.Logs.{lines_of};
 ghost use Rattle.fetch_refs.specs.Targets.{seen};
 
-use crate::copies::{copy_logs, copy_names};
-use crate::entries::{find_lines, find_target};
+use crate::contents::Contents;
+use crate::copies::copy_contents;
 use crate::log::LogLine;
-use crate::target::{Target, TargetRef};
+use crate::target::TargetRef;
 use fetch_specs::FullName;
-use fetch_store::{Kind, List, NoMemory};
+use fetch_store::{Kind, NoMemory};
 use std::alloc::Global;
-use std::collections::BTreeMap;
 use std::marker::Model;
+use std::mem;
 
 /// References and reflogs. Contracts see it as its hash and two finite maps of names.
 #[derive(Drop)]
 pub struct Refs {
-    pub(crate) alloc: Global,
-    pub(crate) hash: Kind,
-    pub(crate) names: BTreeMap<FullName, Target>,
-    pub(crate) logs: BTreeMap<FullName, List<LogLine>>,
+    pub(crate) contents: Contents,
 }
 
 impl Model for Refs {
-    ghost use Rattle.std.specs.FinMap as map;
-    ghost use Rattle.fetch_refs.specs.Names.{RefsValue, coded_refs, name_cmp};
+    ghost use Rattle.fetch_refs.specs.Names.{RefsValue, coded_refs};
 
     ghost Value = { RefsValue };
 
     ghost coded = { coded_refs };
 
-    ghost view = { λ r. record { hash = r.hash; names = map.from_entries r.names.entries; logs = map.from_entries r.logs.entries } };
+    ghost use Rattle.fetch_refs.specs.Contents.{shown_in};
+
+    ghost view = { λ r. shown_in r.contents };
 }
 
 impl Refs {
@@ -41,10 +39,7 @@ impl Refs {
         ensures { result ≡ record { hash = kind; names = map.empty; logs = map.empty } }
     {
         Refs {
-            alloc,
-            hash: kind,
-            names: BTreeMap::new(alloc),
-            logs: BTreeMap::new(alloc),
+            contents: Contents::new(alloc, kind),
         }
     }
 
@@ -52,27 +47,34 @@ impl Refs {
     pub fn find(&self, name: &FullName) -> Option<TargetRef<'_>>
         ensures { option_map seen result ≡ map.get self.now.names name.now }
     {
-        match find_target(&self.names, name) {
-            Some(target) => Some(target.as_ref()),
-            None => None,
-        }
+        self.contents.find(name)
     }
 
-    /// The lines of a name's reflog, the oldest first.
+    /// The lines of a name's reflog, the oldest first. This takes no memory.
     pub fn reflog(&self, name: &FullName) -> &[LogLine]
         ensures { result.now ≡ lines_of self.now.logs name.now }
     {
-        find_lines(&self.logs, name)
+        self.contents.lines(name)
     }
 
+    /// A copy of the references.
     pub fn try_clone(&self) -> Result<Refs, NoMemory>
         ensures { IfOk result (λ copy. copy ≡ self.now) }
     {
         Ok(Refs {
-            alloc: self.alloc,
-            hash: self.hash,
-            names: copy_names(self.alloc, &self.names)?,
-            logs: copy_logs(self.alloc, &self.logs)?,
+            contents: copy_contents(&self.contents)?,
         })
+    }
+
+    /// The references, of which none are left.
+    pub(crate) fn take(&mut self) -> Refs
+        ensures { result ≡ self.old }
+    {
+        let empty = Refs::new(self.contents.alloc, self.contents.hash);
+        mem::replace(self, empty)
+    }
+
+    pub(crate) fn allocator(&self) -> Global {
+        self.contents.alloc
     }
 }

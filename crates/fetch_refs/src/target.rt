@@ -38,16 +38,6 @@ impl Target {
             Target::Symbolic(name) => Ok(Target::Symbolic(name.try_clone()?)),
         }
     }
-
-    pub(crate) fn is_same(&self, other: &Target) -> bool
-        ensures { result ≡ spec.is_same self.now other.now }
-    {
-        match (self, other) {
-            (Target::Object(id), Target::Object(wanted)) => is_same_id(id, wanted),
-            (Target::Symbolic(name), Target::Symbolic(wanted)) => *name == *wanted,
-            _ => false,
-        }
-    }
 }
 
 /// A target that someone else keeps.
@@ -67,6 +57,17 @@ impl TargetRef<'_> {
         match self {
             TargetRef::Object(id) => Ok(Target::Object(*id)),
             TargetRef::Symbolic(name) => Ok(Target::Symbolic(name.try_clone()?)),
+        }
+    }
+
+    /// Whether it is that target.
+    pub(crate) fn is_same(&self, other: &Target) -> bool
+        ensures { result ≡ spec.is_same (seen self.now) other.now }
+    {
+        match (self, other) {
+            (TargetRef::Object(id), Target::Object(wanted)) => is_same_id(id, wanted),
+            (TargetRef::Symbolic(name), Target::Symbolic(wanted)) => **name == *wanted,
+            _ => false,
         }
     }
 }

@@ -63,8 +63,9 @@ fn a_commit_moves_references_and_writes_lines(rt: HostRuntime) -> Result<(), Fai
     assert!(rt; lines[0].new == id);
     assert!(rt; lines[0].message.as_bytes() == b"fetch: storing head".as_slice());
     let mut iter = refs.iter();
-    assert_eq!(rt; iter.len(), 2);
     assert!(rt; iter.next() == Some((b"HEAD".as_slice(), TargetRef::Symbolic(&main))));
+    assert!(rt; iter.next() == Some((b"refs/heads/main".as_slice(), TargetRef::Object(id))));
+    assert!(rt; iter.next() == None);
     Ok(())
 }
 
