@@ -6,3 +6,4 @@ pub mod Ids
 pub mod Overlays
 pub mod Undoing
 pub mod Standing
+pub mod Packs

@@ -1,5 +1,5 @@
 -- Maps of names over others, name by name.
-use Rattle.std.proofs.Common.{◌≡◌, ℕ, Bool, true, false, cond, List, [], ◌∷◌, map, Option, Some, None, unwrap_or, refl, sym, ap, ◌∙◌}
+use Rattle.std.proofs.Common.{◌≡◌, ℕ, Bool, true, false, cond, List, [], ◌∷◌, Option, Some, None, unwrap_or, refl, sym, ap, ◌∙◌}
 use Rattle.std.specs.Option.{option_map}
 use Rattle.std.specs.Ordering.{eq_by_cmp}
 use Rattle.std.specs.FinMap as finmap
@@ -9,7 +9,9 @@ use Rattle.std.specs.BTreeMap.{is_at}
 use Rattle.fetch_refs.specs.declared.log.LogLine.{LogLine}
 use Rattle.fetch_refs.specs.Logs.{lines_of}
 use Rattle.fetch_refs.specs.Names.{name_cmp}
-use Rattle.fetch_refs.specs.Overlay.{with_slot, over, shown_lines, shown_log, logs_of, with_lines}
+use Rattle.std.proofs.lemmas.Map.Made.{lookup-map_values}
+use Rattle.fetch_refs.specs.Overlay.{shown_lines, logs_of, with_lines}
+use Rattle.fetch_refs.specs.Slots.{with_slot, over, each}
 use Rattle.fetch_refs.proofs.Maps.{same_tie}
 use Rattle.fetch_refs.proofs.Names.{name_cmp_total, name_cmp_exact}
 
@@ -66,19 +68,27 @@ module _ {X : Type 0} where
   pub put_back : (m : FinMap name_cmp X) (k : List ℕ) (v : Option X) → with_slot (with_slot m k v) k (finmap.get m k) ≡ m
   put_back m k v = slot_twice m k v (finmap.get m k) ∙ same_slot m k
 
-lookup-shown : (t : List ℕ → Bool) (es : List (List ℕ × List LogLine)) → lookup t (map shown_log es) ≡ option_map shown_lines (lookup t es)
-lookup-shown t [] = refl
-lookup-shown t (e ∷ es) = ap (cond (t e.0) (Some (shown_lines e.1))) (lookup-shown t es) ∙ inside (t e.0) e.1 (lookup t es)
-  where
-    inside : (b : Bool) (ls : List LogLine) (o : Option (List LogLine)) → cond b (Some (shown_lines ls)) (option_map shown_lines o) ≡ option_map shown_lines (cond b (Some ls) o)
-    inside true ls o = refl
-    inside false ls o = refl
+module _ {S X : Type 0} (f : S → Option X) where
+  pub get-each : (es : List (List ℕ × S)) (q : List ℕ) → finmap.get (over finmap.empty (each f es)) q ≡ unwrap_or (option_map f (lookup (is_at (name_cmp q)) es)) None
+  get-each es q =
+      get-over finmap.empty (each f es) q
+      ∙ ap (unwrap_or (lookup (is_at (name_cmp q)) (each f es))) (finmap.get-empty name_cmp q)
+      ∙ ap (λ o. unwrap_or o None) (lookup-map_values f (is_at (name_cmp q)) es)
+
+  mapped : (b : Bool) (s : S) (o : Option S) → option_map f (cond b (Some s) o) ≡ cond b (Some (f s)) (option_map f o)
+  mapped true s o = refl
+  mapped false s o = refl
+
+  pub each-write : (es fs : List (List ℕ × S)) (k : List ℕ) (s : S)
+      → ((q : List ℕ) → lookup (is_at (name_cmp q)) fs ≡ cond (is_at (name_cmp k) q) (Some s) (lookup (is_at (name_cmp q)) es))
+      → over finmap.empty (each f fs) ≡ with_slot (over finmap.empty (each f es)) k (f s)
+  each-write es fs k s step =
+      over-write finmap.empty (each f es) (each f fs) k (f s) (λ q.
+      lookup-map_values f (is_at (name_cmp q)) fs ∙ ap (option_map f) (step q)
+      ∙ mapped (is_at (name_cmp k) q) s (lookup (is_at (name_cmp q)) es) ∙ ap (cond (is_at (name_cmp k) q) (Some (f s))) (sym (lookup-map_values f (is_at (name_cmp q)) es)))
 
 pub get-logs_of : (es : List (List ℕ × List LogLine)) (q : List ℕ) → finmap.get (logs_of es) q ≡ unwrap_or (option_map shown_lines (lookup (is_at (name_cmp q)) es)) None
-get-logs_of es q =
-    get-over finmap.empty (map shown_log es) q
-    ∙ ap (unwrap_or (lookup (is_at (name_cmp q)) (map shown_log es))) (finmap.get-empty name_cmp q)
-    ∙ ap (λ o. unwrap_or o None) (lookup-shown (is_at (name_cmp q)) es)
+get-logs_of es q = get-each shown_lines es q
 
 all_lines : (ls : List LogLine) → unwrap_or (shown_lines ls) [] ≡ ls
 all_lines [] = refl
@@ -95,14 +105,7 @@ lines-logs_of es q = ap (λ o. unwrap_or o []) (get-logs_of es q) ∙ inside (lo
 pub logs-write : (es fs : List (List ℕ × List LogLine)) (k : List ℕ) (ls : List LogLine)
     → ((q : List ℕ) → lookup (is_at (name_cmp q)) fs ≡ cond (is_at (name_cmp k) q) (Some ls) (lookup (is_at (name_cmp q)) es))
     → logs_of fs ≡ with_lines (logs_of es) k ls
-logs-write es fs k ls step =
-    over-write finmap.empty (map shown_log es) (map shown_log fs) k (shown_lines ls) (λ q.
-    lookup-shown (is_at (name_cmp q)) fs ∙ ap (option_map shown_lines) (step q)
-    ∙ inside (is_at (name_cmp k) q) (lookup (is_at (name_cmp q)) es) ∙ ap (cond (is_at (name_cmp k) q) (Some (shown_lines ls))) (sym (lookup-shown (is_at (name_cmp q)) es)))
-  where
-    inside : (b : Bool) (o : Option (List LogLine)) → option_map shown_lines (cond b (Some ls) o) ≡ cond b (Some (shown_lines ls)) (option_map shown_lines o)
-    inside true o = refl
-    inside false o = refl
+logs-write es fs k ls step = each-write shown_lines es fs k ls step
 
 -- the lines of a reflog, written there
 pub same_lines : (es : List (List ℕ × List LogLine)) (k : List ℕ) → with_lines (logs_of es) k (lines_of (logs_of es) k) ≡ logs_of es

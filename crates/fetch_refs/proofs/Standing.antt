@@ -1,5 +1,5 @@
 -- The values that stand, in the order of their names.
-use Rattle.std.proofs.Common.{◌≡◌, ℕ, Bool, true, false, cond, List, [], ◌∷◌, Option, Some, None, unwrap_or, refl, sym, ap, ◌∙◌}
+use Rattle.std.proofs.Common.{◌≡◌, ℕ, Bool, true, false, cond, List, [], ◌∷◌, Option, Some, None, unwrap_or, refl, sym, ap, ◌∙◌, subst}
 use Rattle.std.specs.List.{AllByRecursion}
 use Rattle.std.specs.List.Sorted.{IsStrictlySortedBy}
 use Rattle.std.specs.Ordering.{is_eq}
@@ -11,7 +11,7 @@ use Rattle.std.specs.FinMap.{find}
 use Rattle.std.specs.declared.cmp.Ordering.TheVariants.{Less}
 use Rattle.fetch_refs.specs.Iter.{stands, standing}
 use Rattle.fetch_refs.specs.Names.{name_cmp}
-use Rattle.fetch_refs.specs.Overlay.{over}
+use Rattle.fetch_refs.specs.Slots.{over, each}
 use Rattle.fetch_refs.proofs.Maps.{entries-sorted}
 use Rattle.fetch_refs.proofs.Names.{name_cmp_total, name_cmp_exact}
 use Rattle.fetch_refs.proofs.Overlays.{get-over}
@@ -59,3 +59,14 @@ module _ {X : Type 0} where
       ap finmap.entries (finmap.same_map name_cmp_total name_cmp_exact (over finmap.empty es) (finmap.from_entries (standing es)) (λ q.
       get-over finmap.empty es q ∙ ap (unwrap_or (lookup (is_at (name_cmp q)) es)) (finmap.get-empty name_cmp q) ∙ sym (find-standing es q s) ∙ sym (finmap.get-from_entries name_cmp_total (standing es) q)))
       ∙ entries-sorted name_cmp_total name_cmp_exact (standing es) (sorted-standing es s)
+
+  keys-each : {S : Type 0} (f : S → Option X) (es : List (List ℕ × S)) → keys_of (each f es) ≡ keys_of es
+  keys-each f [] = refl
+  keys-each f (e ∷ es) = ap (λ (ks : List (List ℕ)). e.0 ∷ ks) (keys-each f es)
+
+  pub entries-each : {S : Type 0} (f : S → Option X) (es : List (List ℕ × S)) → IsStrictlySortedBy name_cmp (keys_of es) → finmap.entries (over finmap.empty (each f es)) ≡ standing (each f es)
+  entries-each f es s = entries-over (each f es) (subst (IsStrictlySortedBy name_cmp) (sym (keys-each f es)) s)
+
+  pub entries-none : finmap.entries (finmap.empty {X = X} {R = name_cmp}) ≡ []
+  unfolding IsStrictlySortedBy
+  entries-none = entries-over [] tt

@@ -13,19 +13,20 @@ use Rattle.fetch_refs.specs.declared.contents.Contents.{Contents}
 use Rattle.fetch_refs.specs.declared.log.LogLine.{LogLine}
 use Rattle.fetch_refs.specs.declared.undo.Undo.{Undo}
 use Rattle.fetch_refs.specs.declared.undo.Undo.TheVariants as undos
-use Rattle.fetch_refs.specs.declared.target.Target.{Target}
 use Rattle.fetch_refs.specs.Logs.{lines_of, with_line}
 use Rattle.fetch_refs.specs.Names.{RefsValue, Logs, name_cmp}
-use Rattle.fetch_refs.specs.Overlay.{with_slot, over, shown_lines, logs_of, with_lines}
+use Rattle.fetch_refs.specs.Overlay.{shown_lines, logs_of, with_lines}
+use Rattle.fetch_refs.specs.Slots.{with_slot, over, each}
 use Rattle.fetch_refs.specs.Contents.{shown_in, has_place, has_room, undone, unwound, KeepsPlaces, TakesBackIf}
 use Rattle.fetch_refs.proofs.Names.{name_cmp_total, name_cmp_exact}
-use Rattle.fetch_refs.proofs.Overlays.{get-with_slot, get-over, over-write, put_back, get-logs_of, lines-logs_of, logs-write, same_lines, lines_back}
+use Rattle.fetch_refs.proofs.Overlays.{get-with_slot, get-each, each-write, put_back, get-logs_of, lines-logs_of, logs-write, same_lines, lines_back}
 
-pub found-some : {X : Type 0} (below : FinMap name_cmp X) (es : List (List ℕ × Option X)) (q : List ℕ) (v : Option X) → Some v ≡ lookup (is_at (name_cmp q)) es → v ≡ finmap.get (over below es) q
-found-some below es q v is = ap (λ o. unwrap_or o (finmap.get below q)) is ∙ sym (get-over below es q)
+-- what a place shows
+pub found-some : {S X : Type 0} (f : S → Option X) (es : List (List ℕ × S)) (q : List ℕ) (s : S) → Some s ≡ lookup (is_at (name_cmp q)) es → f s ≡ finmap.get (over finmap.empty (each f es)) q
+found-some {S} f es q s is = ap (λ (o : Option S). unwrap_or (option_map f o) None) is ∙ sym (get-each f es q)
 
-pub found-none : {X : Type 0} (below : FinMap name_cmp X) (es : List (List ℕ × Option X)) (q : List ℕ) → None ≡ lookup (is_at (name_cmp q)) es → finmap.get below q ≡ finmap.get (over below es) q
-found-none below es q is = ap (λ o. unwrap_or o (finmap.get below q)) is ∙ sym (get-over below es q)
+pub found-none : {S X : Type 0} (f : S → Option X) (es : List (List ℕ × S)) (q : List ℕ) → None ≡ lookup (is_at (name_cmp q)) es → None ≡ finmap.get (over finmap.empty (each f es)) q
+found-none {S} f es q is = ap (λ (o : Option S). unwrap_or (option_map f o) None) is ∙ sym (get-each f es q)
 
 -- lists of entries before and after a value is put at a key
 abbrev pub IsPut : {X : Type 0} → List (List ℕ × X) → List (List ℕ × X) → List ℕ → X → Type 0
@@ -42,15 +43,22 @@ module _ {X : Type 0} (es fs : List (List ℕ × X)) where
   pub put_keeps : (k : List ℕ) (v : X) → IsPut es fs k v → (q : List ℕ) → is_some (lookup (is_at (name_cmp q)) es) ≡ true → is_some (lookup (is_at (name_cmp q)) fs) ≡ true
   put_keeps k v put q is = ap is_some (put q) ∙ stays (is_at (name_cmp k) q) v (lookup (is_at (name_cmp q)) es) is
 
--- what a value was put over
-pub target_undone : (below : FinMap name_cmp Target) (es fs : List (List ℕ × Option Target)) (key name undo : List ℕ) (value old : Option Target)
-    → key ≡ name → undo ≡ name → IsPut es fs key value → old ≡ unwrap_or (lookup (is_at (name_cmp key)) es) (finmap.get below name)
-    → with_slot (over below fs) undo old ≡ over below es
-target_undone below es fs key name undo value old same also put was =
-    ap (λ (m : FinMap name_cmp Target). with_slot m undo old) (over-write below es fs name value (put_at es fs key name value same put))
-    ∙ ap (λ n. with_slot (with_slot (over below es) name value) n old) also
-    ∙ ap (with_slot (with_slot (over below es) name value) name) (was ∙ ap (λ n. unwrap_or (lookup (is_at (name_cmp n)) es) (finmap.get below name)) same ∙ sym (get-over below es name))
-    ∙ put_back (over below es) name value
+-- what was put in a place is taken out again
+pub slot_undone : {S X : Type 0} (f : S → Option X) (es fs : List (List ℕ × S)) (key name undo : List ℕ) (s old nothing : S)
+    → key ≡ name → undo ≡ name → IsPut es fs key s → old ≡ unwrap_or (lookup (is_at (name_cmp key)) es) nothing → f nothing ≡ None
+    → with_slot (over finmap.empty (each f fs)) undo (f old) ≡ over finmap.empty (each f es)
+slot_undone {S} {X} f es fs key name undo s old nothing same also put was none =
+    ap (λ (m : FinMap name_cmp X). with_slot m undo (f old)) (each-write f es fs name s (put_at es fs key name s same put))
+    ∙ ap (λ n. with_slot (with_slot (over finmap.empty (each f es)) name (f s)) n (f old)) also
+    ∙ ap (with_slot (with_slot (over finmap.empty (each f es)) name (f s)) name) (ap f was ∙ ap (λ n. f (unwrap_or (lookup (is_at (name_cmp n)) es) nothing)) same ∙ inside (lookup (is_at (name_cmp name)) es) ∙ sym (get-each f es name))
+    ∙ put_back (over finmap.empty (each f es)) name (f s)
+  where
+    inside : (o : Option S) → f (unwrap_or o nothing) ≡ unwrap_or (option_map f o) None
+    inside None = none
+    inside (Some x) = refl
+
+pub slot_put : {S X : Type 0} (f : S → Option X) (es fs : List (List ℕ × S)) (key name : List ℕ) (s : S) → key ≡ name → IsPut es fs key s → over finmap.empty (each f fs) ≡ with_slot (over finmap.empty (each f es)) name (f s)
+slot_put f es fs key name s same put = each-write f es fs name s (put_at es fs key name s same put)
 
 pub lines_undone : (es fs : List (List ℕ × List LogLine)) (key name undo : List ℕ) (ls old : List LogLine)
     → key ≡ name → undo ≡ name → IsPut es fs key ls → old ≡ unwrap_or (lookup (is_at (name_cmp key)) es) []
@@ -63,9 +71,6 @@ lines_undone es fs key name undo ls old same also put was =
 
 pub lines_put : (es fs : List (List ℕ × List LogLine)) (key name : List ℕ) (ls : List LogLine) → key ≡ name → IsPut es fs key ls → logs_of fs ≡ with_lines (logs_of es) name ls
 lines_put es fs key name ls same put = logs-write es fs name ls (put_at es fs key name ls same put)
-
-pub slot_put : (below : FinMap name_cmp Target) (es fs : List (List ℕ × Option Target)) (key name : List ℕ) (v : Option Target) → key ≡ name → IsPut es fs key v → over below fs ≡ with_slot (over below es) name v
-slot_put below es fs key name v same put = over-write below es fs name v (put_at es fs key name v same put)
 
 ties : (name q : List ℕ) → is_at (name_cmp name) q ≡ true → name ≡ q
 ties name q is = name_cmp_exact name q ((Equal-is (name_cmp name q)).0 is)
@@ -206,3 +211,6 @@ on_failure (Err e) p = p
 pub on_err : {X E Y : Type 0} (r : Result X E) {P : Y → List ℕ → Type 0} {S W : Y → Type 0} → ((y : Y) → S y → W y → (q : List ℕ) → P y q) → (old new : Y) → OnErr r (new ≡ old) → S old → W new → (q : List ℕ) → OnErr r (P new q)
 on_err (Ok x) f old new same s w q = tt
 on_err (Err e) {P} {S} {W} f old new same s w q = f new (subst S (sym same) s) w q
+
+pub both_of : {X Y Z : Type 0} (f : X → Y → Z) {a b : X} {c d : Y} → a ≡ b → c ≡ d → f a c ≡ f b d
+both_of f {b = b} {c = c} p q = ap (λ x. f x c) p ∙ ap (f b) q

@@ -4,6 +4,8 @@ use Rattle.std.specs.Borrow.{Bor}
 use Rattle.fetch_refs.specs.declared.iter.RefIter.{RefIter}
 use Rattle.fetch_refs.specs.declared.target.Target.{Target}
 use Rattle.fetch_refs.specs.declared.target.TargetRef.{TargetRef}
+use Rattle.fetch_refs.specs.Contents.{value_of}
+use Rattle.fetch_refs.specs.Slots.{each}
 use Rattle.fetch_refs.specs.Targets.{seen}
 
 -- a value in front of others, if it stands
@@ -18,7 +20,7 @@ standing (e ∷ es) = stands e.0 e.1 (standing es)
 
 -- the references that are still to come
 abbrev pub left : RefIter → List (List ℕ × Target)
-left it = standing it.entries
+left it = standing (each value_of it.entries)
 
 -- what an item shows
 abbrev pub shown : Bor (List ℕ) × TargetRef → List ℕ × Target

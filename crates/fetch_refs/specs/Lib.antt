@@ -5,9 +5,12 @@ pub mod Expectations
 pub mod Edits
 pub mod Laws
 pub mod Logs
+pub mod Slots
+pub mod Packed
 pub mod Overlay
 pub mod Changed
 pub mod Contents
+pub mod Packing
 pub mod Journals
 pub mod Pending
 pub mod Answers

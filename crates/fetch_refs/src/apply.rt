@@ -2,18 +2,21 @@
 
 ghost use Rattle.std.specs.Prelude.{◌≡◌, ◌||◌, not, OnOk, OnErr, IfOk};
 ghost use Rattle.std.specs.Option.{option_map};
-ghost use Rattle.fetch_refs.specs.Changed.{added, changed_in, logged_in};
+ghost use Rattle.fetch_refs.specs.Changed.{added, changed_in, logged_in, updated_in, deleted_in};
 ghost use Rattle.fetch_refs.specs.Contents.{shown_in, KeepsPlaces, TakesBackIf};
 ghost use Rattle.fetch_refs.specs.Journals.{before, now_in, HasRoom};
 ghost use Rattle.fetch_refs.specs.Logs as spec;
 ghost use Rattle.fetch_refs.specs.Logs.{logging_of};
 ghost use Rattle.fetch_refs.specs.Names.{Logs};
+ghost use Rattle.fetch_refs.specs.Packed.{packed_by, with_packed};
+ghost use Rattle.fetch_refs.specs.Slots.{with_slot};
 ghost use Rattle.fetch_refs.specs.Targets.{seen};
 
 use crate::contents::Contents;
-use crate::edit::{Change, LogChange, RefEdit, RefLog};
+use crate::edit::{Change, LogChange, PackedRefs, RefEdit, RefLog};
 use crate::journal::{Journal, note};
 use crate::log::{LogLine, Signature};
+use crate::slot::Slot;
 use crate::target::{Target, TargetRef};
 use crate::undo::Undo;
 use fetch_specs::FullName;
@@ -33,14 +36,15 @@ pub(crate) fn apply_all(
     edits: &[RefEdit],
     committer: &Signature,
     logging: bool,
+    packed: PackedRefs,
 ) -> Result<(), NoMemory>
     requires { HasRoom journal.old }
     ensures room { HasRoom journal.new }
     ensures before { before journal.new ≡ before journal.old }
-    ensures ok { OnOk result (now_in journal.new ≡ spec.after committer.now logging (now_in journal.old) edits.now) }
+    ensures ok { OnOk result (now_in journal.new ≡ spec.after committer.now logging packed (now_in journal.old) edits.now) }
 {
     'edits: for edit in edits {
-        apply(journal, edit, committer, logging)?;
+        apply(journal, edit, committer, logging, packed)?;
     }
     Ok(())
 }
@@ -50,11 +54,12 @@ fn apply(
     edit: &RefEdit,
     committer: &Signature,
     logging: bool,
+    packed: PackedRefs,
 ) -> Result<(), NoMemory>
     requires { HasRoom journal.old }
     ensures room { HasRoom journal.new }
     ensures before { before journal.new ≡ before journal.old }
-    ensures ok { OnOk result (now_in journal.new ≡ spec.applied committer.now logging (now_in journal.old) edit.now) }
+    ensures ok { OnOk result (now_in journal.new ≡ spec.applied committer.now logging packed (now_in journal.old) edit.now) }
 {
     let logger = Logger {
         hash: journal.contents.hash,
@@ -62,7 +67,7 @@ fn apply(
         enabled: logging,
     };
     apply_log(journal, edit, &logger)?;
-    apply_change(journal, edit)
+    apply_change(journal, edit, packed)
 }
 
 /// Changes the reflog.
@@ -79,37 +84,88 @@ fn apply_log(journal: &mut Journal, edit: &RefEdit, logger: &Logger<'_>) -> Resu
 }
 
 /// Changes the reference.
-fn apply_change(journal: &mut Journal, edit: &RefEdit) -> Result<(), NoMemory>
+fn apply_change(journal: &mut Journal, edit: &RefEdit, packed: PackedRefs) -> Result<(), NoMemory>
     requires { HasRoom journal.old }
     ensures room { HasRoom journal.new }
     ensures before { before journal.new ≡ before journal.old }
-    ensures ok { OnOk result (now_in journal.new ≡ changed_in (now_in journal.old) edit.now) }
+    ensures ok { OnOk result (now_in journal.new ≡ changed_in packed (now_in journal.old) edit.now) }
 {
     journal.undo.reserve(1)?;
-    let undo = change(&mut journal.contents, edit)?;
+    let undo = change(&mut journal.contents, edit, packed)?;
     note(&mut journal.undo, undo);
     Ok(())
 }
 
-fn change(contents: &mut Contents, edit: &RefEdit) -> Result<Option<Undo>, NoMemory>
-    ensures written { OnOk result (shown_in contents.new ≡ changed_in (shown_in contents.old) edit.now) }
+fn change(
+    contents: &mut Contents,
+    edit: &RefEdit,
+    packed: PackedRefs,
+) -> Result<Option<Undo>, NoMemory>
+    ensures written { OnOk result (shown_in contents.new ≡ changed_in packed (shown_in contents.old) edit.now) }
     ensures undo { IfOk result (TakesBackIf contents.old contents.new) }
     ensures err { OnErr result (shown_in contents.new ≡ shown_in contents.old) }
     ensures keeps { KeepsPlaces contents.old contents.new }
 {
     match &edit.change {
         Change::Update { log, new, .. } => match log.mode {
-            RefLog::AndReference => {
-                let new = new.try_clone()?;
-                Ok(Some(contents.write(&edit.name, Some(new))?))
-            }
+            RefLog::AndReference => update(contents, &edit.name, new, packed),
             RefLog::Only => Ok(None),
         },
         Change::Delete { log, .. } => match log {
-            RefLog::AndReference => Ok(Some(contents.write(&edit.name, None)?)),
+            RefLog::AndReference => delete(contents, &edit.name),
             RefLog::Only => Ok(None),
         },
     }
+}
+
+/// Gives a reference a value.
+fn update(
+    contents: &mut Contents,
+    name: &FullName,
+    new: &Target,
+    packed: PackedRefs,
+) -> Result<Option<Undo>, NoMemory>
+    ensures written { OnOk result (shown_in contents.new ≡ updated_in packed (shown_in contents.old) name.now new.now) }
+    ensures undo { IfOk result (TakesBackIf contents.old contents.new) }
+    ensures err { OnErr result (shown_in contents.new ≡ shown_in contents.old) }
+    ensures keeps { KeepsPlaces contents.old contents.new }
+{
+    let value = new.try_clone()?;
+    let packed = packed_for(contents, name, new, packed);
+    let slot = Slot {
+        value: Some(value),
+        packed,
+    };
+    Ok(Some(contents.write(name, slot)?))
+}
+
+/// What the packed list has at a name after an update.
+fn packed_for(
+    contents: &Contents,
+    name: &FullName,
+    new: &Target,
+    packed: PackedRefs,
+) -> Option<ObjectId>
+    ensures { with_slot (shown_in contents.now).packed name.now result ≡ with_packed (shown_in contents.now).packed name.now (packed_by packed new.now) }
+{
+    match packed {
+        PackedRefs::Never => contents.packed_id(name),
+        PackedRefs::Only => new.direct_id(),
+    }
+}
+
+/// Takes a reference away.
+fn delete(contents: &mut Contents, name: &FullName) -> Result<Option<Undo>, NoMemory>
+    ensures written { OnOk result (shown_in contents.new ≡ deleted_in (shown_in contents.old) name.now) }
+    ensures undo { IfOk result (TakesBackIf contents.old contents.new) }
+    ensures err { OnErr result (shown_in contents.new ≡ shown_in contents.old) }
+    ensures keeps { KeepsPlaces contents.old contents.new }
+{
+    let slot = Slot {
+        value: None,
+        packed: None,
+    };
+    Ok(Some(contents.write(name, slot)?))
 }
 
 fn log(

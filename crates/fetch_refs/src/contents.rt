@@ -8,14 +8,15 @@ ghost use Rattle.fetch_refs.specs.Logs.{lines_of};
 ghost use Rattle.fetch_refs.specs.Names.{name_cmp};
 ghost use Rattle.fetch_refs.specs.Overlay.{logs_of, with_lines};
 ghost use Rattle.fetch_refs.specs.Targets.{seen};
-ghost use Rattle.fetch_refs.specs.Contents.{shown_in, undone, has_place, TakesBack, KeepsPlaces};
-ghost use Rattle.fetch_refs.specs.Changed.{with_value_in, with_line_in, without_lines_in};
+ghost use Rattle.fetch_refs.specs.Contents.{shown_in, with_slot_in, undone, has_place, TakesBack, KeepsPlaces};
+ghost use Rattle.fetch_refs.specs.Changed.{with_line_in, without_lines_in};
 
 use crate::log::LogLine;
+use crate::slot::Slot;
 use crate::target::{Target, TargetRef};
 use crate::undo::Undo;
 use fetch_specs::FullName;
-use fetch_store::{Kind, List, NoMemory};
+use fetch_store::{Kind, List, NoMemory, ObjectId};
 use std::alloc::Global;
 use std::collections::BTreeMap;
 use std::mem;
@@ -26,13 +27,13 @@ use std::mem;
 pub(crate) struct Contents {
     pub(crate) alloc: Global,
     pub(crate) hash: Kind,
-    pub(crate) names: BTreeMap<FullName, Option<Target>>,
+    pub(crate) names: BTreeMap<FullName, Slot>,
     pub(crate) logs: BTreeMap<FullName, List<LogLine>>,
 }
 
 impl Contents {
     pub(crate) fn new(alloc: Global, hash: Kind) -> Contents
-        ensures { shown_in result ≡ record { hash = hash; names = map.empty; logs = map.empty } }
+        ensures { shown_in result ≡ record { hash = hash; names = map.empty; logs = map.empty; packed = map.empty } }
     {
         Contents {
             alloc,
@@ -47,7 +48,17 @@ impl Contents {
         ensures { option_map seen result ≡ map.get (shown_in self.now).names name.now }
     {
         match self.names.get(name) {
-            Some(slot) => shown(slot),
+            Some(slot) => shown(&slot.value),
+            None => None,
+        }
+    }
+
+    /// The id of a name in the packed list.
+    pub(crate) fn packed_id(&self, name: &FullName) -> Option<ObjectId>
+        ensures { result ≡ map.get (shown_in self.now).packed name.now }
+    {
+        match self.names.get(name) {
+            Some(slot) => slot.packed,
             None => None,
         }
     }
@@ -62,16 +73,16 @@ impl Contents {
         }
     }
 
-    /// Puts a value, or none, at a name.
-    pub(crate) fn write(&mut self, name: &FullName, value: Option<Target>) -> Result<Undo, NoMemory>
-        ensures written { OnOk result (shown_in self.new ≡ with_value_in (shown_in self.old) name.now value) }
+    /// Changes what the place of a name holds.
+    pub(crate) fn write(&mut self, name: &FullName, slot: Slot) -> Result<Undo, NoMemory>
+        ensures written { OnOk result (shown_in self.new ≡ with_slot_in (shown_in self.old) name.now slot) }
         ensures undo { IfOk result (TakesBack self.old self.new) }
         ensures err { OnErr result (shown_in self.new ≡ shown_in self.old) }
         ensures keeps { KeepsPlaces self.old self.new }
     {
         let key = name.try_clone()?;
         let name = name.try_clone()?;
-        let old = self.names.insert(key, value)?;
+        let old = self.names.insert(key, slot)?;
         Ok(Undo::Target {
             name,
             old: slot_or_none(old),
@@ -134,12 +145,15 @@ fn shown(slot: &Option<Target>) -> Option<TargetRef<'_>>
     }
 }
 
-fn slot_or_none(slot: Option<Option<Target>>) -> Option<Target>
-    ensures { result ≡ unwrap_or slot None }
+fn slot_or_none(slot: Option<Slot>) -> Slot
+    ensures { result ≡ unwrap_or slot (record { value = None; packed = None }) }
 {
     match slot {
-        Some(value) => value,
-        None => None,
+        Some(slot) => slot,
+        None => Slot {
+            value: None,
+            packed: None,
+        },
     }
 }
 

@@ -1,12 +1,14 @@
 //! Copies of maps of names.
 
 ghost use Rattle.std.specs.Prelude.{◌≡◌, IfOk, OnOk};
-ghost use Rattle.std.specs.BTreeMap.{insert_entry};
-ghost use Rattle.fetch_refs.specs.Contents.{shown_in};
+ghost use Rattle.std.specs.BTreeMap.{insert_entry, IsOrdered};
+ghost use Rattle.fetch_refs.specs.Contents.{shown_in, packed_slot};
 ghost use Rattle.fetch_refs.specs.Names.{name_cmp};
+ghost use Rattle.fetch_refs.specs.Slots.{each};
 
 use crate::contents::Contents;
 use crate::log::LogLine;
+use crate::slot::Slot;
 use crate::target::Target;
 use fetch_specs::FullName;
 use fetch_store::{List, NoMemory};
@@ -26,26 +28,67 @@ pub(crate) fn copy_contents(contents: &Contents) -> Result<Contents, NoMemory>
 
 fn copy_names(
     alloc: Global,
-    names: &BTreeMap<FullName, Option<Target>>,
-) -> Result<BTreeMap<FullName, Option<Target>>, NoMemory>
+    names: &BTreeMap<FullName, Slot>,
+) -> Result<BTreeMap<FullName, Slot>, NoMemory>
     ensures { IfOk result (λ copy. copy.entries ≡ names.now.entries) }
 {
     let mut copy = BTreeMap::new(alloc);
     // The keys ascend.
     let _count = names.len();
-    'names: for (name, target) in names {
-        add(&mut copy, name.try_clone()?, copy_slot(target)?)?;
+    'names: for (name, slot) in names {
+        add(&mut copy, name.try_clone()?, copy_slot(slot)?)?;
     }
     Ok(copy)
 }
 
-/// A copy of a value, if there is one.
-pub(crate) fn copy_slot(slot: &Option<Target>) -> Result<Option<Target>, NoMemory>
+fn copy_slot(slot: &Slot) -> Result<Slot, NoMemory>
     ensures { IfOk result (λ copy. copy ≡ slot.now) }
 {
-    match slot {
+    Ok(Slot {
+        value: copy_value(&slot.value)?,
+        packed: slot.packed,
+    })
+}
+
+/// A copy of a value, if there is one.
+pub(crate) fn copy_value(value: &Option<Target>) -> Result<Option<Target>, NoMemory>
+    ensures { IfOk result (λ copy. copy ≡ value.now) }
+{
+    match value {
         Some(target) => Ok(Some(target.try_clone()?)),
         None => Ok(None),
+    }
+}
+
+/// The places, where the packed list has each direct reference.
+pub(crate) fn packed_names(
+    alloc: Global,
+    names: &BTreeMap<FullName, Slot>,
+) -> Result<BTreeMap<FullName, Slot>, NoMemory>
+    ensures entries { IfOk result (λ copy. copy.entries ≡ each packed_slot names.now.entries) }
+    ensures ordered { IsOrdered name_cmp names.now }
+{
+    let mut copy = BTreeMap::new(alloc);
+    // The keys ascend.
+    let _count = names.len();
+    'names: for (name, slot) in names {
+        add(&mut copy, name.try_clone()?, pack_slot(slot)?)?;
+    }
+    Ok(copy)
+}
+
+fn pack_slot(slot: &Slot) -> Result<Slot, NoMemory>
+    ensures { IfOk result (λ packed. packed ≡ packed_slot slot.now) }
+{
+    match &slot.value {
+        Some(target) => Ok(Slot {
+            value: Some(target.try_clone()?),
+            packed: target.direct_id(),
+        }),
+        None => Ok(Slot {
+            value: None,
+            packed: None,
+        }),
     }
 }
 

@@ -2,7 +2,7 @@
 
 ghost use Rattle.std.specs.Prelude.{◌≡◌, IfOk};
 
-use crate::copies::copy_slot;
+use crate::copies::copy_value;
 use crate::target::Target;
 use fetch_specs::FullName;
 use fetch_store::{NoMemory, ObjectId};
@@ -63,7 +63,7 @@ impl RefError {
         match self {
             RefError::Expectation { index, found } => Ok(RefError::Expectation {
                 index: *index,
-                found: copy_slot(found)?,
+                found: copy_value(found)?,
             }),
             RefError::Cycle { name } => Ok(RefError::Cycle {
                 name: name.try_clone()?,

@@ -6,14 +6,15 @@ ghost use Rattle.std.specs.Iterator.{YieldsFirstBy, item_count};
 ghost use Rattle.fetch_refs.specs.Iter.{left, shown};
 
 use crate::refs::Refs;
-use crate::target::{Target, TargetRef};
+use crate::slot::Slot;
+use crate::target::TargetRef;
 use fetch_specs::FullName;
 use std::collections::btree_map;
 
 /// References by ascending name.
 #[derive(Drop)]
 pub struct RefIter<'a> {
-    entries: btree_map::Iter<'a, FullName, Option<Target>>,
+    entries: btree_map::Iter<'a, FullName, Slot>,
 }
 
 impl Refs {
@@ -36,7 +37,7 @@ impl<'a> Iterator for RefIter<'a> {
 
     fn next(&mut self) -> Option<(&'a [u8], TargetRef<'a>)> {
         'entries: while let Some((name, slot)) = self.entries.next() {
-            if let Some(target) = slot {
+            if let Some(target) = &slot.value {
                 return Some((name.as_bytes(), target.as_ref()));
             }
         }

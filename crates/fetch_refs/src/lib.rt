@@ -10,11 +10,13 @@ mod iter;
 mod journal;
 pub mod laws;
 mod log;
+mod packing;
 mod peel;
 mod pending;
 mod prepare;
 mod prepared;
 mod refs;
+mod slot;
 mod target;
 mod undo;
 

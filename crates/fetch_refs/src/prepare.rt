@@ -14,7 +14,7 @@ ghost use Rattle.fetch_refs.specs.declared.error.RefError.TheVariants as errors;
 use crate::edit::{PackedRefs, RefEdit};
 use crate::error::RefError;
 use crate::log::Signature;
-use crate::pending::{Pending, Restore};
+use crate::pending::Pending;
 use crate::prepared::Prepared;
 use crate::refs::Refs;
 use crate::target::Target;
@@ -23,26 +23,29 @@ use fetch_store::NoMemory;
 
 impl Refs {
     /// Tests what each edit expects of the references found, and makes the edits ready.
-    /// `logging` logs `HEAD`, branches, remote branches and notes.
+    /// `logging` logs `HEAD`, branches, remote branches and notes. With `packed` at `Only` an update
+    /// goes into the packed list; the map of references is the same either way.
+    ///
+    /// The edits are made in order, and none of them shows before the commit. `Expectation` comes
+    /// exactly where an edit's expectation fails of the references found, with the first such edit.
     pub fn prepare(
         &mut self,
         edits: &[RefEdit],
         committer: &Signature,
         logging: bool,
-        _packed: PackedRefs,
+        packed: PackedRefs,
     ) -> Result<Prepared<'_>, RefError>
         ensures* as_before { sem 𝓛 (RestsIfErr the_row self.entry (λ p. (lent p).ghost_name) result (λ now. now ≡ self.old)) }
         ensures same_reference { IfOk result (λ p. (lent p).ghost_name ≡ self.entry.ghost_name) }
         ensures unchanged { IfOk result (λ p. (lent p).now ≡ self.old) }
-        ensures ready { IfOk result (λ p. ready p ≡ after committer.now logging self.old edits.now) }
+        ensures ready { IfOk result (λ p. ready p ≡ after committer.now logging packed self.old edits.now) }
         ensures refusal { MatchOption (refusal_of self.old.names edits.now) (IfErr result (λ e. e ≡ errors.NoMemory)) (λ e. IsErrAnd result (IsUnlessMemory e)) }
     {
         check(self, edits)?;
-        let mut next = Pending::new(self.take());
-        match next.apply(edits, committer, logging) {
-            Ok(()) => Ok(Prepared { refs: self, next }),
-            Err(NoMemory) => {
-                *self = next.restore();
+        match Pending::made(self.take(), edits, committer, logging, packed) {
+            Ok(next) => Ok(Prepared { refs: self, next }),
+            Err(refs) => {
+                *self = refs;
                 Err(RefError::NoMemory)
             }
         }

@@ -3,6 +3,7 @@
 ghost use Rattle.std.specs.Prelude.{◌≡◌, ◌↔◌, IsTrue, IfOk};
 ghost use Rattle.std.specs.Ordering.{eq_by_cmp};
 ghost use Rattle.fetch_store.specs.Stores.{id_cmp};
+ghost use Rattle.fetch_refs.specs.Packed.{direct_id};
 ghost use Rattle.fetch_refs.specs.Targets as spec;
 ghost use Rattle.fetch_refs.specs.Targets.{seen};
 
@@ -26,6 +27,16 @@ impl Target {
         match self {
             Target::Object(id) => TargetRef::Object(*id),
             Target::Symbolic(name) => TargetRef::Symbolic(name),
+        }
+    }
+
+    /// The id of a direct reference.
+    pub(crate) fn direct_id(&self) -> Option<ObjectId>
+        ensures { result ≡ direct_id self.now }
+    {
+        match self {
+            Target::Object(id) => Some(*id),
+            Target::Symbolic(_) => None,
         }
     }
 
@@ -73,7 +84,7 @@ impl TargetRef<'_> {
 }
 
 /// Whether two ids are one.
-fn is_same_id(id: &ObjectId, other: &ObjectId) -> bool
+pub(crate) fn is_same_id(id: &ObjectId, other: &ObjectId) -> bool
     ensures { result ≡ eq_by_cmp id_cmp id.now other.now }
 {
     are_equal(id, other)

@@ -1,5 +1,6 @@
 ghost use Rattle.std.specs.Prelude.{◌≡◌, true, OnOk, OnErr};
 ghost use Rattle.fetch_refs.specs.Logs.{after};
+ghost use Rattle.fetch_refs.specs.declared.edit.PackedRefs.TheVariants.{Never};
 
 use crate::{
     Change, LogChange, PackedRefs, Prepared, PreviousValue, RefEdit, RefError, RefLog, Refs,
@@ -111,7 +112,7 @@ fn names_are_followed(rt: HostRuntime) -> Result<(), Fail> {
 
 /// Prepared and committed, the references are those after the edits.
 fn committed(refs: &mut Refs, edits: &[RefEdit], committer: &Signature) -> Result<(), RefError>
-    ensures ok { OnOk result (refs.new ≡ after committer.now true refs.old edits.now) }
+    ensures ok { OnOk result (refs.new ≡ after committer.now true Never refs.old edits.now) }
     ensures err { OnErr result (refs.new ≡ refs.old) }
 {
     let prepared: Prepared<'_> = refs.prepare(edits, committer, true, PackedRefs::Never)?;
