@@ -1,6 +1,9 @@
 pub mod Maps
 pub mod LastEdits
 pub mod Ways
-pub mod Lines
 pub mod Names
 pub mod Ids
+pub mod Overlays
+pub mod Undoing
+pub mod Standing
+pub mod Packs

@@ -69,7 +69,7 @@ twice : {Y : Type 0} (b : Bool) (x y : Y) (z : Y) → cond b x (cond b y z) ≡ 
 twice true x y z = refl
 twice false x y z = refl
 
-same_tie : {K : Type 0} {R : K → K → Ordering} → IsTotalOrder R → (k q : K) → is_eq (R k q) ≡ eq_by_cmp R q k
+pub same_tie : {K : Type 0} {R : K → K → Ordering} → IsTotalOrder R → (k q : K) → is_eq (R k q) ≡ eq_by_cmp R q k
 same_tie {R = R} o k q = ap is_eq (o.antisymm k q) ∙ is_eq-reverse (R q k)
 
 module _ {K X : Type 0} {R : K → K → Ordering} (o : IsTotalOrder R) (exact : finmap.IsAntisymmetric R) where

@@ -1,5 +1,5 @@
 -- What edits leave at a name.
-use Rattle.std.specs.Prelude.{ℕ, Bool, true, false, ◌&&◌, List, [], ◌∷◌, Option, Some, None, if◌then◌else◌}
+use Rattle.std.specs.Prelude.{◌≡◌, ℕ, Bool, true, false, ◌&&◌, List, [], ◌∷◌, Option, Some, None, if◌then◌else◌}
 use Rattle.std.specs.Option.{option_or}
 use Rattle.std.specs.Str.{bytes_eq}
 use Rattle.fetch_refs.specs.declared.edit.Change.{Change}
@@ -8,6 +8,7 @@ use Rattle.fetch_refs.specs.declared.edit.RefEdit.{RefEdit}
 use Rattle.fetch_refs.specs.declared.edit.RefLog.{RefLog}
 use Rattle.fetch_refs.specs.declared.edit.RefLog.TheVariants.{AndReference, Only}
 use Rattle.fetch_refs.specs.declared.target.Target.{Target}
+use Rattle.fetch_refs.specs.Names.{RefsValue}
 
 -- the last element that passes the test
 abbrev pub last_that : {X : Type 0} → (X → Bool) → List X → Option X
@@ -34,3 +35,9 @@ writes name e = bytes_eq name e.name && touches_reference (mode_of e.change)
 abbrev pub left_by : Option Target → Option RefEdit → Option Target
 left_by found None = found
 left_by found (Some e) = new_value e.change
+
+-- the same hash, references and reflogs, whatever the packed lists are
+pub record IsAlike (r s : RefsValue) : Type 0 where
+  pub hash : r.hash ≡ s.hash
+  pub names : r.names ≡ s.names
+  pub logs : r.logs ≡ s.logs

@@ -5,6 +5,14 @@ pub mod Expectations
 pub mod Edits
 pub mod Laws
 pub mod Logs
+pub mod Slots
+pub mod Packed
+pub mod Overlay
+pub mod Changed
+pub mod Contents
+pub mod Packing
+pub mod Journals
+pub mod Pending
 pub mod Answers
 pub mod Peeled
 pub use Rattle.fetch_store.specs.Id

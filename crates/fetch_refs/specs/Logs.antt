@@ -10,6 +10,7 @@ use Rattle.fetch_refs.specs.declared.apply.Logger.{Logger}
 use Rattle.fetch_refs.specs.declared.edit.Change.{Change}
 use Rattle.fetch_refs.specs.declared.edit.Change.TheVariants.{Update, Delete}
 use Rattle.fetch_refs.specs.declared.edit.LogChange.{LogChange}
+use Rattle.fetch_refs.specs.declared.edit.PackedRefs.{PackedRefs}
 use Rattle.fetch_refs.specs.declared.edit.RefEdit.{RefEdit}
 use Rattle.fetch_refs.specs.declared.edit.RefLog.{RefLog}
 use Rattle.fetch_refs.specs.declared.edit.RefLog.TheVariants as modes
@@ -19,6 +20,7 @@ use Rattle.fetch_refs.specs.declared.target.Target.{Target}
 use Rattle.fetch_refs.specs.declared.target.Target.TheVariants.{Object, Symbolic}
 use Rattle.fetch_refs.specs.Edits.{changed, refs_after}
 use Rattle.fetch_refs.specs.Names.{Names, Logs, RefsValue}
+use Rattle.fetch_refs.specs.Packed.{packed_after, packed_changed}
 use Rattle.fetch_refs.specs.Targets.{is_same}
 
 -- who writes the lines of a repository of this hash, and whether it logs the usual names
@@ -77,15 +79,25 @@ abbrev pub logs_after : Logging → Names → Logs → List RefEdit → Logs
 logs_after how names logs [] = logs
 logs_after how names logs (e ∷ es) = logs_after how (changed names e) (logged how logs e.name (map.get names e.name) e.change) es
 
--- references and reflogs after the edits
-abbrev pub after : Signature → Bool → RefsValue → List RefEdit → RefsValue
-after committer logging refs edits =
-    record { hash = refs.hash; names = refs_after refs.names edits; logs = logs_after (record { hash = refs.hash; committer = committer; enabled = logging }) refs.names refs.logs edits }
+-- references, reflogs and the packed list after the edits
+abbrev pub after : Signature → Bool → PackedRefs → RefsValue → List RefEdit → RefsValue
+after committer logging packed refs edits =
+    record {
+      hash = refs.hash;
+      names = refs_after refs.names edits;
+      logs = logs_after (record { hash = refs.hash; committer = committer; enabled = logging }) refs.names refs.logs edits;
+      packed = packed_after packed refs.packed edits;
+    }
 
--- references and reflogs after one edit
-abbrev pub applied : Signature → Bool → RefsValue → RefEdit → RefsValue
-applied committer logging refs e =
-    record { hash = refs.hash; names = changed refs.names e; logs = logged (record { hash = refs.hash; committer = committer; enabled = logging }) refs.logs e.name (map.get refs.names e.name) e.change }
+-- the same after one edit
+abbrev pub applied : Signature → Bool → PackedRefs → RefsValue → RefEdit → RefsValue
+applied committer logging packed refs e =
+    record {
+      hash = refs.hash;
+      names = changed refs.names e;
+      logs = logged (record { hash = refs.hash; committer = committer; enabled = logging }) refs.logs e.name (map.get refs.names e.name) e.change;
+      packed = packed_changed packed refs.packed e;
+    }
 
 -- how a logger of the code logs
 abbrev pub logging_of : Logger → Logging

@@ -5,8 +5,9 @@ use Rattle.std.specs.Cmp.Lexicographic.{slice_cmp}
 use Rattle.std.specs.FinMap as map
 use Rattle.std.specs.Ordering.{nat_cmp}
 use Rattle.std.specs.declared.cmp.Ordering.{Ordering}
-use Rattle.fetch_store.specs.Codes.{coded_kind}
+use Rattle.fetch_store.specs.Codes.{coded_kind, coded_id}
 use Rattle.fetch_store.specs.declared.id.Kind.{Kind}
+use Rattle.fetch_store.specs.declared.id.ObjectId.{ObjectId}
 use Rattle.fetch_refs.specs.declared.target.Target.{Target}
 use Rattle.fetch_refs.specs.declared.log.LogLine.{LogLine}
 use Rattle.fetch_refs.specs.Codes.{coded_target, coded_line}
@@ -21,13 +22,19 @@ Names = map.FinMap name_cmp Target
 abbrev pub Logs : Type 0
 Logs = map.FinMap name_cmp (List LogLine)
 
--- references and reflogs of a repository with this hash
+-- names with ids, by ascending name
+abbrev pub PackedList : Type 0
+PackedList = map.FinMap name_cmp ObjectId
+
+-- references, reflogs and the packed list of a repository with this hash
 pub record RefsValue : Type 0 where
   pub hash : Kind
   pub names : Names
   pub logs : Logs
+  pub packed : PackedList
 
 abbrev pub coded_refs : Coded RefsValue
 coded_refs =
-    code_by (Kind × (Names × Logs)) (coded× coded_kind (coded× (map.code {R = name_cmp} (coded_list coded_ℕ) coded_target) (map.code {R = name_cmp} (coded_list coded_ℕ) (coded_list coded_line))))
-    (λ r. (r.hash, (r.names, r.logs))) (λ p. record { hash = p.0; names = p.1.0; logs = p.1.1 }) (λ _. refl)
+    code_by (Kind × (Names × (Logs × PackedList)))
+    (coded× coded_kind (coded× (map.code {R = name_cmp} (coded_list coded_ℕ) coded_target) (coded× (map.code {R = name_cmp} (coded_list coded_ℕ) (coded_list coded_line)) (map.code {R = name_cmp} (coded_list coded_ℕ) coded_id))))
+    (λ r. (r.hash, (r.names, (r.logs, r.packed)))) (λ p. record { hash = p.0; names = p.1.0; logs = p.1.1.0; packed = p.1.1.1 }) (λ _. refl)

@@ -2,10 +2,12 @@
 use Rattle.std.specs.Borrow.{MutBor}
 use Rattle.fetch_refs.specs.declared.prepared.Prepared.{Prepared}
 use Rattle.fetch_refs.specs.Names.{RefsValue}
+use Rattle.fetch_refs.specs.Pending.{PendingValue}
 
--- the references that are lent, and what they are after the commit
-abbrev pub lent : Prepared RefsValue → MutBor RefsValue
-lent p = p.refs
+-- the references that are lent, as they are before the commit, and again after a drop
+abbrev pub lent : Prepared PendingValue → MutBor RefsValue
+lent p = record { ref_ptr = p.refs.ref_ptr; ghost_name = p.refs.ghost_name; now = p.next.before }
 
-abbrev pub ready : Prepared RefsValue → RefsValue
-ready p = p.next
+-- what they are after the commit
+abbrev pub ready : Prepared PendingValue → RefsValue
+ready p = p.next.after

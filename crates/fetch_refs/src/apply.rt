@@ -1,127 +1,217 @@
 //! Edits, made one after another.
 
-ghost use Rattle.std.specs.Prelude.{◌≡◌, ◌||◌, not, OnOk};
-ghost use Rattle.std.specs.FinMap as map;
-ghost use Rattle.std.specs.Option.{option_copied};
-ghost use Rattle.fetch_refs.specs.Edits as edits;
+ghost use Rattle.std.specs.Prelude.{◌≡◌, ◌||◌, not, OnOk, OnErr, IfOk};
+ghost use Rattle.std.specs.Option.{option_map};
+ghost use Rattle.fetch_refs.specs.Changed.{added, changed_in, logged_in, updated_in, deleted_in};
+ghost use Rattle.fetch_refs.specs.Contents.{shown_in, KeepsPlaces, TakesBackIf};
+ghost use Rattle.fetch_refs.specs.Journals.{before, now_in, HasRoom};
 ghost use Rattle.fetch_refs.specs.Logs as spec;
 ghost use Rattle.fetch_refs.specs.Logs.{logging_of};
-ghost use Rattle.fetch_refs.specs.Names.{name_cmp};
+ghost use Rattle.fetch_refs.specs.Names.{Logs};
+ghost use Rattle.fetch_refs.specs.Packed.{packed_by, with_packed};
+ghost use Rattle.fetch_refs.specs.Slots.{with_slot};
+ghost use Rattle.fetch_refs.specs.Targets.{seen};
 
-use crate::edit::{Change, LogChange, RefEdit, RefLog};
-use crate::entries::{find_target, remove_lines, remove_target, write_line, write_target};
+use crate::contents::Contents;
+use crate::edit::{Change, LogChange, PackedRefs, RefEdit, RefLog};
+use crate::journal::{Journal, note};
 use crate::log::{LogLine, Signature};
-use crate::refs::Refs;
-use crate::target::Target;
+use crate::slot::Slot;
+use crate::target::{Target, TargetRef};
+use crate::undo::Undo;
 use fetch_specs::FullName;
-use fetch_store::{Kind, List, NoMemory, ObjectId};
-use std::alloc::Global;
-use std::collections::BTreeMap;
+use fetch_store::{Kind, NoMemory, ObjectId};
 
 /// How lines are written.
 #[derive(Clone, Copy)]
 pub(crate) struct Logger<'a> {
-    pub(crate) alloc: Global,
     pub(crate) hash: Kind,
     pub(crate) committer: &'a Signature,
     pub(crate) enabled: bool,
 }
 
+/// Makes the edits. After an error some are made, and those can be taken back.
 pub(crate) fn apply_all(
-    refs: &mut Refs,
+    journal: &mut Journal,
     edits: &[RefEdit],
     committer: &Signature,
     logging: bool,
+    packed: PackedRefs,
 ) -> Result<(), NoMemory>
-    ensures { OnOk result (refs.new ≡ spec.after committer.now logging refs.old edits.now) }
+    requires { HasRoom journal.old }
+    ensures room { HasRoom journal.new }
+    ensures before { before journal.new ≡ before journal.old }
+    ensures ok { OnOk result (now_in journal.new ≡ spec.after committer.now logging packed (now_in journal.old) edits.now) }
 {
     'edits: for edit in edits {
-        apply(refs, edit, committer, logging)?;
+        apply(journal, edit, committer, logging, packed)?;
     }
     Ok(())
 }
 
 fn apply(
-    refs: &mut Refs,
+    journal: &mut Journal,
     edit: &RefEdit,
     committer: &Signature,
     logging: bool,
+    packed: PackedRefs,
 ) -> Result<(), NoMemory>
-    ensures { OnOk result (refs.new ≡ spec.applied committer.now logging refs.old edit.now) }
+    requires { HasRoom journal.old }
+    ensures room { HasRoom journal.new }
+    ensures before { before journal.new ≡ before journal.old }
+    ensures ok { OnOk result (now_in journal.new ≡ spec.applied committer.now logging packed (now_in journal.old) edit.now) }
 {
     let logger = Logger {
-        alloc: refs.alloc,
-        hash: refs.hash,
+        hash: journal.contents.hash,
         committer,
         enabled: logging,
     };
-    let found = find_target(&refs.names, &edit.name);
-    log(&logger, &mut refs.logs, found, edit)?;
-    change(&mut refs.names, edit)
+    apply_log(journal, edit, &logger)?;
+    apply_change(journal, edit, packed)
+}
+
+/// Changes the reflog.
+fn apply_log(journal: &mut Journal, edit: &RefEdit, logger: &Logger<'_>) -> Result<(), NoMemory>
+    requires { HasRoom journal.old }
+    ensures room { HasRoom journal.new }
+    ensures before { before journal.new ≡ before journal.old }
+    ensures ok { OnOk result (now_in journal.new ≡ logged_in (logging_of logger.now) (now_in journal.old) edit.now) }
+{
+    journal.undo.reserve(1)?;
+    let undo = log(&mut journal.contents, edit, logger)?;
+    note(&mut journal.undo, undo);
+    Ok(())
 }
 
 /// Changes the reference.
-fn change(names: &mut BTreeMap<FullName, Target>, edit: &RefEdit) -> Result<(), NoMemory>
-    ensures { OnOk result (map.from_entries {R = name_cmp} names.new.entries ≡ edits.changed (map.from_entries names.old.entries) edit.now) }
+fn apply_change(journal: &mut Journal, edit: &RefEdit, packed: PackedRefs) -> Result<(), NoMemory>
+    requires { HasRoom journal.old }
+    ensures room { HasRoom journal.new }
+    ensures before { before journal.new ≡ before journal.old }
+    ensures ok { OnOk result (now_in journal.new ≡ changed_in packed (now_in journal.old) edit.now) }
+{
+    journal.undo.reserve(1)?;
+    let undo = change(&mut journal.contents, edit, packed)?;
+    note(&mut journal.undo, undo);
+    Ok(())
+}
+
+fn change(
+    contents: &mut Contents,
+    edit: &RefEdit,
+    packed: PackedRefs,
+) -> Result<Option<Undo>, NoMemory>
+    ensures written { OnOk result (shown_in contents.new ≡ changed_in packed (shown_in contents.old) edit.now) }
+    ensures undo { IfOk result (TakesBackIf contents.old contents.new) }
+    ensures err { OnErr result (shown_in contents.new ≡ shown_in contents.old) }
+    ensures keeps { KeepsPlaces contents.old contents.new }
 {
     match &edit.change {
         Change::Update { log, new, .. } => match log.mode {
-            RefLog::AndReference => write_target(names, &edit.name, new),
-            RefLog::Only => Ok(()),
+            RefLog::AndReference => update(contents, &edit.name, new, packed),
+            RefLog::Only => Ok(None),
         },
-        Change::Delete { log, .. } => {
-            match log {
-                RefLog::AndReference => remove_target(names, &edit.name),
-                RefLog::Only => {}
-            }
-            Ok(())
-        }
+        Change::Delete { log, .. } => match log {
+            RefLog::AndReference => delete(contents, &edit.name),
+            RefLog::Only => Ok(None),
+        },
     }
 }
 
-/// Changes the reflog of a reference that has this value.
+/// Gives a reference a value.
+fn update(
+    contents: &mut Contents,
+    name: &FullName,
+    new: &Target,
+    packed: PackedRefs,
+) -> Result<Option<Undo>, NoMemory>
+    ensures written { OnOk result (shown_in contents.new ≡ updated_in packed (shown_in contents.old) name.now new.now) }
+    ensures undo { IfOk result (TakesBackIf contents.old contents.new) }
+    ensures err { OnErr result (shown_in contents.new ≡ shown_in contents.old) }
+    ensures keeps { KeepsPlaces contents.old contents.new }
+{
+    let value = new.try_clone()?;
+    let packed = packed_for(contents, name, new, packed);
+    let slot = Slot {
+        value: Some(value),
+        packed,
+    };
+    Ok(Some(contents.write(name, slot)?))
+}
+
+/// What the packed list has at a name after an update.
+fn packed_for(
+    contents: &Contents,
+    name: &FullName,
+    new: &Target,
+    packed: PackedRefs,
+) -> Option<ObjectId>
+    ensures { with_slot (shown_in contents.now).packed name.now result ≡ with_packed (shown_in contents.now).packed name.now (packed_by packed new.now) }
+{
+    match packed {
+        PackedRefs::Never => contents.packed_id(name),
+        PackedRefs::Only => new.direct_id(),
+    }
+}
+
+/// Takes a reference away.
+fn delete(contents: &mut Contents, name: &FullName) -> Result<Option<Undo>, NoMemory>
+    ensures written { OnOk result (shown_in contents.new ≡ deleted_in (shown_in contents.old) name.now) }
+    ensures undo { IfOk result (TakesBackIf contents.old contents.new) }
+    ensures err { OnErr result (shown_in contents.new ≡ shown_in contents.old) }
+    ensures keeps { KeepsPlaces contents.old contents.new }
+{
+    let slot = Slot {
+        value: None,
+        packed: None,
+    };
+    Ok(Some(contents.write(name, slot)?))
+}
+
 fn log(
-    logger: &Logger<'_>,
-    logs: &mut BTreeMap<FullName, List<LogLine>>,
-    found: Option<&Target>,
+    contents: &mut Contents,
     edit: &RefEdit,
-) -> Result<(), NoMemory>
-    ensures { OnOk result (map.from_entries {R = name_cmp} logs.new.entries
-        ≡ spec.logged (logging_of logger.now) (map.from_entries logs.old.entries) edit.now.name (option_copied found.entry) edit.now.change) }
+    logger: &Logger<'_>,
+) -> Result<Option<Undo>, NoMemory>
+    ensures written { OnOk result (shown_in contents.new ≡ logged_in (logging_of logger.now) (shown_in contents.old) edit.now) }
+    ensures undo { IfOk result (TakesBackIf contents.old contents.new) }
+    ensures err { OnErr result (shown_in contents.new ≡ shown_in contents.old) }
+    ensures keeps { KeepsPlaces contents.old contents.new }
 {
     match &edit.change {
-        Change::Update { log, new, .. } => log_update(logger, logs, &edit.name, log, found, new),
-        Change::Delete { .. } => {
-            let _lines = remove_lines(logs, &edit.name);
-            Ok(())
+        Change::Update { log, new, .. } => {
+            let line = line_of(logger, &edit.name, log, contents.find(&edit.name), new)?;
+            match line {
+                Some(line) => Ok(Some(contents.add_line(&edit.name, line)?)),
+                None => Ok(None),
+            }
         }
+        Change::Delete { .. } => Ok(Some(contents.clear_lines(&edit.name)?)),
     }
 }
 
-fn log_update(
+/// The line of an update, if it gets one.
+fn line_of(
     logger: &Logger<'_>,
-    logs: &mut BTreeMap<FullName, List<LogLine>>,
     name: &FullName,
     change: &LogChange,
-    found: Option<&Target>,
+    found: Option<TargetRef<'_>>,
     new: &Target,
-) -> Result<(), NoMemory>
-    ensures { OnOk result (map.from_entries {R = name_cmp} logs.new.entries
-        ≡ spec.updated (logging_of logger.now) (map.from_entries logs.old.entries) name.now change.now (option_copied found.entry) new.now) }
+) -> Result<Option<LogLine>, NoMemory>
+    ensures { IfOk result (λ line. (logs : Logs) → added logs name.now line ≡ spec.updated (logging_of logger.now) logs name.now change.now (option_map seen found.entry) new.now) }
 {
     let Target::Object(id) = new else {
-        return Ok(());
+        return Ok(None);
     };
     if !gets_line(logger.enabled, name, change, found, new) {
-        return Ok(());
+        return Ok(None);
     }
-    let line = LogLine {
+    Ok(Some(LogLine {
         old: old_id(logger.hash, found),
         new: *id,
         committer: logger.committer.try_clone()?,
         message: change.message.try_clone()?,
-    };
-    write_line(logger.alloc, logs, name, line)
+    }))
 }
 
 #[tactic(auto, unfolding(crate::specs::Logs::gets_line))]
@@ -129,10 +219,10 @@ fn gets_line(
     enabled: bool,
     name: &FullName,
     log: &LogChange,
-    found: Option<&Target>,
+    found: Option<TargetRef<'_>>,
     new: &Target,
 ) -> bool
-    ensures { result ≡ spec.gets_line enabled name.now log.now (option_copied found.entry) new.now }
+    ensures { result ≡ spec.gets_line enabled name.now log.now (option_map seen found.entry) new.now }
 {
     if !is_news(log.mode, found, new) {
         return false;
@@ -147,8 +237,8 @@ fn gets_line(
 }
 
 /// Whether the value is to be logged beside the one found.
-fn is_news(mode: RefLog, found: Option<&Target>, new: &Target) -> bool
-    ensures { result ≡ (spec.is_only mode || not (spec.is_found new.now (option_copied found.entry))) }
+fn is_news(mode: RefLog, found: Option<TargetRef<'_>>, new: &Target) -> bool
+    ensures { result ≡ (spec.is_only mode || not (spec.is_found new.now (option_map seen found.entry))) }
 {
     match (mode, found) {
         (RefLog::Only, _) => true,
@@ -175,11 +265,11 @@ fn is_logged(name: &[u8]) -> bool
 }
 
 /// The id that a reference has by itself.
-fn old_id(hash: Kind, found: Option<&Target>) -> ObjectId
-    ensures { result ≡ spec.old_id hash (option_copied found.entry) }
+fn old_id(hash: Kind, found: Option<TargetRef<'_>>) -> ObjectId
+    ensures { result ≡ spec.old_id hash (option_map seen found.entry) }
 {
     match found {
-        Some(Target::Object(id)) => *id,
+        Some(TargetRef::Object(id)) => id,
         _ => null_id(hash),
     }
 }

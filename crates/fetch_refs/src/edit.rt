@@ -1,10 +1,11 @@
 //! Changes of references.
 
 ghost use Rattle.std.specs.Prelude.{◌≡◌, IfOk};
-ghost use Rattle.std.specs.Option.{option_copied};
+ghost use Rattle.std.specs.Option.{option_map};
+ghost use Rattle.fetch_refs.specs.Targets.{seen};
 ghost use Rattle.fetch_refs.specs.Expectations as spec;
 
-use crate::target::Target;
+use crate::target::{Target, TargetRef};
 use fetch_specs::FullName;
 use fetch_store::{NoMemory, Text};
 
@@ -42,8 +43,8 @@ impl PreviousValue {
     }
 
     /// Whether this value, or none, is expected.
-    pub(crate) fn holds(&self, found: Option<&Target>) -> bool
-        ensures { result ≡ spec.holds self.now (option_copied found.entry) }
+    pub(crate) fn holds(&self, found: Option<TargetRef<'_>>) -> bool
+        ensures { result ≡ spec.holds self.now (option_map seen found.entry) }
     {
         match (self, found) {
             (PreviousValue::Any, _) => true,

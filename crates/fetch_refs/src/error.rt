@@ -2,6 +2,7 @@
 
 ghost use Rattle.std.specs.Prelude.{◌≡◌, IfOk};
 
+use crate::copies::copy_value;
 use crate::target::Target;
 use fetch_specs::FullName;
 use fetch_store::{NoMemory, ObjectId};
@@ -62,7 +63,7 @@ impl RefError {
         match self {
             RefError::Expectation { index, found } => Ok(RefError::Expectation {
                 index: *index,
-                found: copy_found(found)?,
+                found: copy_value(found)?,
             }),
             RefError::Cycle { name } => Ok(RefError::Cycle {
                 name: name.try_clone()?,
@@ -77,15 +78,6 @@ impl RefError {
             RefError::TagCycle { id } => Ok(RefError::TagCycle { id: *id }),
             RefError::NoMemory => Ok(RefError::NoMemory),
         }
-    }
-}
-
-fn copy_found(found: &Option<Target>) -> Result<Option<Target>, NoMemory>
-    ensures { IfOk result (λ copy. copy ≡ found.now) }
-{
-    match found {
-        Some(target) => Ok(Some(target.try_clone()?)),
-        None => Ok(None),
     }
 }
 

@@ -3,27 +3,27 @@
 ghost use Rattle.std.specs.Prelude.{◌≡◌};
 ghost use Rattle.std.specs.FinMap as map;
 ghost use Rattle.std.specs.Iterator.{YieldsFirstBy, item_count};
-ghost use Rattle.fetch_refs.specs.Names.{name_cmp};
 ghost use Rattle.fetch_refs.specs.Iter.{left, shown};
 
 use crate::refs::Refs;
-use crate::target::{Target, TargetRef};
+use crate::slot::Slot;
+use crate::target::TargetRef;
 use fetch_specs::FullName;
 use std::collections::btree_map;
 
 /// References by ascending name.
 #[derive(Drop)]
 pub struct RefIter<'a> {
-    entries: btree_map::Iter<'a, FullName, Target>,
+    entries: btree_map::Iter<'a, FullName, Slot>,
 }
 
 impl Refs {
-    /// The references by ascending name.
+    /// The references by ascending name. This takes no memory.
     pub fn iter(&self) -> RefIter<'_>
         ensures { left result ≡ map.entries self.now.names }
     {
         RefIter {
-            entries: self.names.iter(),
+            entries: self.contents.names.iter(),
         }
     }
 }
@@ -36,15 +36,11 @@ impl<'a> Iterator for RefIter<'a> {
     ghost remaining = { item_count left };
 
     fn next(&mut self) -> Option<(&'a [u8], TargetRef<'a>)> {
-        match self.entries.next() {
-            Some((name, target)) => Some((name.as_bytes(), target.as_ref())),
-            None => None,
+        'entries: while let Some((name, slot)) = self.entries.next() {
+            if let Some(target) = &slot.value {
+                return Some((name.as_bytes(), target.as_ref()));
+            }
         }
-    }
-}
-
-impl ExactSizeIterator for RefIter<'_> {
-    fn len(&self) -> usize {
-        self.entries.len()
+        None
     }
 }

@@ -2,24 +2,30 @@
 #![tactic(auto)]
 
 mod apply;
+mod contents;
 mod copies;
 mod edit;
-mod entries;
 mod error;
 mod iter;
+mod journal;
 pub mod laws;
 mod log;
+mod packing;
 mod peel;
+mod pending;
 mod prepare;
 mod prepared;
 mod refs;
+mod slot;
 mod target;
+mod undo;
 
 pub use edit::{Change, LogChange, PackedRefs, PreviousValue, RefEdit, RefLog};
 pub use error::RefError;
 pub use iter::RefIter;
 pub use log::{LogLine, Signature};
 pub use peel::peel_tags;
+pub use pending::{Pending, Restore};
 pub use prepared::Prepared;
 pub use refs::Refs;
 pub use target::{Target, TargetRef};

@@ -5,19 +5,17 @@ ghost use Rattle.std.specs.List.{list_any};
 ghost use Rattle.std.specs.Str.{bytes_eq};
 ghost use Rattle.std.specs.FinMap as finmap;
 ghost use Rattle.fetch_refs.specs.Answers.{Answers};
-ghost use Rattle.fetch_refs.specs.Names.{name_cmp};
 ghost use Rattle.fetch_refs.specs.declared.error.RefError.TheVariants as errors;
 ghost use Rattle.fetch_refs.specs.Peeled.{is_met, follow, resolved, through, peeled};
 ghost use Rattle.fetch_refs.specs.Targets.{seen};
 
-use crate::entries::find_target;
 use crate::error::RefError;
 use crate::refs::Refs;
-use crate::target::{Target, TargetRef};
+use crate::target::TargetRef;
 use fetch_specs::FullName;
 use fetch_store::{ObjectId, Objects};
 use std::alloc::Global;
-use std::collections::{BTreeMap, BTreeSet};
+use std::collections::BTreeSet;
 
 impl Refs {
     /// The id that a name stands for: a direct reference's as it stands, and what a symbolic one
@@ -26,12 +24,12 @@ impl Refs {
     pub fn peel<O: Objects>(&self, objects: &O, name: &FullName) -> Result<ObjectId, RefError>
         ensures { Answers (peeled self.now.names (O.graph objects.now) name.now) result }
     {
-        match find_target(&self.names, name) {
+        match self.find(name) {
             None => unborn(name),
-            Some(Target::Object(id)) => Ok(*id),
-            Some(Target::Symbolic(next)) => {
-                let id = end_of_names(self.alloc, &self.names, name.as_bytes(), next)?;
-                peel_tags(self.alloc, objects, id)
+            Some(TargetRef::Object(id)) => Ok(id),
+            Some(TargetRef::Symbolic(next)) => {
+                let id = end_of_names(self, name.as_bytes(), next)?;
+                peel_tags(self.allocator(), objects, id)
             }
         }
     }
@@ -42,7 +40,7 @@ impl Refs {
     {
         match target {
             TargetRef::Object(id) => Ok(id),
-            TargetRef::Symbolic(next) => end_of_names(self.alloc, &self.names, name, next),
+            TargetRef::Symbolic(next) => end_of_names(self, name, next),
         }
     }
 }
@@ -56,15 +54,10 @@ fn unborn(name: &FullName) -> Result<ObjectId, RefError>
 }
 
 /// The id at the end of a way of symbolic references, of which one was met.
-fn end_of_names(
-    alloc: Global,
-    names: &BTreeMap<FullName, Target>,
-    first: &[u8],
-    next: &FullName,
-) -> Result<ObjectId, RefError>
-    ensures { Answers (follow (finmap.from_entries {R = name_cmp} names.now.entries) 4 (first.now ∷ []) next.now) result }
+fn end_of_names(refs: &Refs, first: &[u8], next: &FullName) -> Result<ObjectId, RefError>
+    ensures { Answers (follow refs.now.names 4 (first.now ∷ []) next.now) result }
 {
-    let mut met: Vec<&[u8]> = Vec::new(alloc);
+    let mut met: Vec<&[u8]> = Vec::new(refs.allocator());
     met.push(first)?;
     let mut name = next;
     let mut left = 4usize;
@@ -72,10 +65,10 @@ fn end_of_names(
         if is_met(met.as_slice(), name.as_bytes()) {
             return cycle(name);
         }
-        match find_target(names, name) {
+        match refs.find(name) {
             None => return unborn(name),
-            Some(Target::Object(id)) => return Ok(*id),
-            Some(Target::Symbolic(target)) => {
+            Some(TargetRef::Object(id)) => return Ok(id),
+            Some(TargetRef::Symbolic(target)) => {
                 met.push(name.as_bytes())?;
                 name = target;
                 left -= 1;

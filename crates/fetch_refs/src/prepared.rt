@@ -2,28 +2,33 @@
 
 ghost use Rattle.std.specs.Prelude.{◌≡◌};
 
+use crate::pending::{Pending, Restore};
 use crate::refs::Refs;
 
 /// Edits of references that are ready to be made. Dropped, it changes nothing.
-pub struct Prepared<'a, N = Refs> {
+///
+/// While it lives the references themselves are in it, so one that is forgotten rather than dropped
+/// leaves none.
+pub struct Prepared<'a, N: Restore = Pending> {
     pub(crate) refs: &'a mut Refs,
     pub(crate) next: N,
 }
 
-impl Prepared<'_, Refs> {
-    /// Makes the edits.
+impl Prepared<'_, Pending> {
+    /// Makes the edits. This takes no memory.
     pub fn commit(self)
-        ensures { self.exit.0.now ≡ self.entry.next }
+        ensures { self.exit.0.now ≡ self.entry.next.after }
     {
         let Prepared { refs, next } = self;
-        *refs = next;
+        *refs = next.finish();
     }
 }
 
-impl<N: Drop> Drop for Prepared<'_, N> {
+impl<N: Restore> Drop for Prepared<'_, N> {
     fn drop(self)
-        ensures { self.exit.0.now ≡ self.entry.refs.now }
+        ensures { self.exit.0.now ≡ N.before self.entry.next }
     {
-        let Prepared { refs: _, next: _ } = self;
+        let Prepared { refs, next } = self;
+        *refs = next.restore();
     }
 }

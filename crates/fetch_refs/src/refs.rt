@@ -1,50 +1,58 @@
 //! References and their reflogs.
 
-ghost use Rattle.std.specs.Prelude.{◌≡◌, IfOk, option_map};
+ghost use Rattle.std.specs.Prelude.{◌≡◌, IfOk, IfErr, OnOk, OnErr, option_map};
 ghost use Rattle.std.specs.FinMap as map;
 ghost use Rattle.fetch_refs.specs.Logs.{lines_of};
+ghost use Rattle.fetch_refs.specs.Packed.{packed_text, all_direct};
 ghost use Rattle.fetch_refs.specs.Targets.{seen};
+ghost use Rattle.fetch_refs.specs.declared.error.RefError.TheVariants as errors;
 
-use crate::copies::{copy_logs, copy_names};
-use crate::entries::{find_lines, find_target};
+use crate::contents::Contents;
+use crate::copies::{copy_contents, packed_names};
+use crate::error::RefError;
 use crate::log::LogLine;
-use crate::target::{Target, TargetRef};
+use crate::packing::text_of;
+use crate::target::TargetRef;
 use fetch_specs::FullName;
-use fetch_store::{Kind, List, NoMemory};
+use fetch_store::{Kind, NoMemory, Text};
 use std::alloc::Global;
-use std::collections::BTreeMap;
 use std::marker::Model;
+use std::mem;
 
-/// References and reflogs. Contracts see it as its hash and two finite maps of names.
+/// References and reflogs. Contracts see it as its hash, two finite maps of names, and the packed
+/// list: the names with ids that a file of packed references would hold.
 #[derive(Drop)]
 pub struct Refs {
-    pub(crate) alloc: Global,
-    pub(crate) hash: Kind,
-    pub(crate) names: BTreeMap<FullName, Target>,
-    pub(crate) logs: BTreeMap<FullName, List<LogLine>>,
+    pub(crate) contents: Contents,
+    /// The text of the packed list.
+    pub(crate) text: Text,
 }
 
 impl Model for Refs {
-    ghost use Rattle.std.specs.FinMap as map;
-    ghost use Rattle.fetch_refs.specs.Names.{RefsValue, coded_refs, name_cmp};
+    ghost use Rattle.fetch_refs.specs.Names.{RefsValue, coded_refs};
 
     ghost Value = { RefsValue };
 
     ghost coded = { coded_refs };
 
-    ghost view = { λ r. record { hash = r.hash; names = map.from_entries r.names.entries; logs = map.from_entries r.logs.entries } };
+    ghost use Rattle.fetch_refs.specs.Contents.{shown_in};
+
+    ghost view = { λ r. shown_in r.contents };
+
+    ghost use Rattle.std.specs.Prelude.{◌≡◌};
+    ghost use Rattle.fetch_refs.specs.Packed.{packed_text};
+
+    ghost invariant = { λ r. r.text ≡ packed_text (shown_in r.contents).packed };
 }
 
 impl Refs {
     /// No references, in a repository of this hash.
     pub fn new(alloc: Global, kind: Kind) -> Refs
-        ensures { result ≡ record { hash = kind; names = map.empty; logs = map.empty } }
+        ensures { result ≡ record { hash = kind; names = map.empty; logs = map.empty; packed = map.empty } }
     {
         Refs {
-            alloc,
-            hash: kind,
-            names: BTreeMap::new(alloc),
-            logs: BTreeMap::new(alloc),
+            contents: Contents::new(alloc, kind),
+            text: Text::from(Vec::new(alloc)),
         }
     }
 
@@ -52,27 +60,57 @@ impl Refs {
     pub fn find(&self, name: &FullName) -> Option<TargetRef<'_>>
         ensures { option_map seen result ≡ map.get self.now.names name.now }
     {
-        match find_target(&self.names, name) {
-            Some(target) => Some(target.as_ref()),
-            None => None,
-        }
+        self.contents.find(name)
     }
 
-    /// The lines of a name's reflog, the oldest first.
+    /// The lines of a name's reflog, the oldest first. This takes no memory.
     pub fn reflog(&self, name: &FullName) -> &[LogLine]
         ensures { result.now ≡ lines_of self.now.logs name.now }
     {
-        find_lines(&self.logs, name)
+        self.contents.lines(name)
     }
 
+    /// The packed list as a text: a line `<hex> SP <name> LF` for each name, by ascending name.
+    pub fn packed_text(&self) -> &[u8]
+        ensures { result.now ≡ packed_text self.now.packed }
+    {
+        self.text.as_bytes()
+    }
+
+    /// Puts all direct references into the packed list, and nothing else. After an error nothing
+    /// is changed.
+    pub fn compact(&mut self) -> Result<(), RefError>
+        ensures ok { OnOk result (self.new ≡ record { hash = self.old.hash; names = self.old.names; logs = self.old.logs; packed = all_direct self.old.names }) }
+        ensures err { OnErr result (self.new ≡ self.old) }
+        ensures memory { IfErr result (λ e. e ≡ errors.NoMemory) }
+    {
+        let alloc = self.contents.alloc;
+        let names = packed_names(alloc, &self.contents.names)?;
+        let text = text_of(alloc, &names)?;
+        self.contents.names = names;
+        self.text = text;
+        Ok(())
+    }
+
+    /// A copy of the references.
     pub fn try_clone(&self) -> Result<Refs, NoMemory>
         ensures { IfOk result (λ copy. copy ≡ self.now) }
     {
         Ok(Refs {
-            alloc: self.alloc,
-            hash: self.hash,
-            names: copy_names(self.alloc, &self.names)?,
-            logs: copy_logs(self.alloc, &self.logs)?,
+            contents: copy_contents(&self.contents)?,
+            text: self.text.try_clone()?,
         })
+    }
+
+    /// The references, of which none are left.
+    pub(crate) fn take(&mut self) -> Refs
+        ensures { result ≡ self.old }
+    {
+        let empty = Refs::new(self.contents.alloc, self.contents.hash);
+        mem::replace(self, empty)
+    }
+
+    pub(crate) fn allocator(&self) -> Global {
+        self.contents.alloc
     }
 }

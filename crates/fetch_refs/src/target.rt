@@ -3,6 +3,7 @@
 ghost use Rattle.std.specs.Prelude.{◌≡◌, ◌↔◌, IsTrue, IfOk};
 ghost use Rattle.std.specs.Ordering.{eq_by_cmp};
 ghost use Rattle.fetch_store.specs.Stores.{id_cmp};
+ghost use Rattle.fetch_refs.specs.Packed.{direct_id};
 ghost use Rattle.fetch_refs.specs.Targets as spec;
 ghost use Rattle.fetch_refs.specs.Targets.{seen};
 
@@ -29,6 +30,16 @@ impl Target {
         }
     }
 
+    /// The id of a direct reference.
+    pub(crate) fn direct_id(&self) -> Option<ObjectId>
+        ensures { result ≡ direct_id self.now }
+    {
+        match self {
+            Target::Object(id) => Some(*id),
+            Target::Symbolic(_) => None,
+        }
+    }
+
     /// A copy of the target.
     pub fn try_clone(&self) -> Result<Target, NoMemory>
         ensures { IfOk result (λ copy. copy ≡ self.now) }
@@ -36,16 +47,6 @@ impl Target {
         match self {
             Target::Object(id) => Ok(Target::Object(*id)),
             Target::Symbolic(name) => Ok(Target::Symbolic(name.try_clone()?)),
-        }
-    }
-
-    pub(crate) fn is_same(&self, other: &Target) -> bool
-        ensures { result ≡ spec.is_same self.now other.now }
-    {
-        match (self, other) {
-            (Target::Object(id), Target::Object(wanted)) => is_same_id(id, wanted),
-            (Target::Symbolic(name), Target::Symbolic(wanted)) => *name == *wanted,
-            _ => false,
         }
     }
 }
@@ -69,10 +70,21 @@ impl TargetRef<'_> {
             TargetRef::Symbolic(name) => Ok(Target::Symbolic(name.try_clone()?)),
         }
     }
+
+    /// Whether it is that target.
+    pub(crate) fn is_same(&self, other: &Target) -> bool
+        ensures { result ≡ spec.is_same (seen self.now) other.now }
+    {
+        match (self, other) {
+            (TargetRef::Object(id), Target::Object(wanted)) => is_same_id(id, wanted),
+            (TargetRef::Symbolic(name), Target::Symbolic(wanted)) => **name == *wanted,
+            _ => false,
+        }
+    }
 }
 
 /// Whether two ids are one.
-fn is_same_id(id: &ObjectId, other: &ObjectId) -> bool
+pub(crate) fn is_same_id(id: &ObjectId, other: &ObjectId) -> bool
     ensures { result ≡ eq_by_cmp id_cmp id.now other.now }
 {
     are_equal(id, other)

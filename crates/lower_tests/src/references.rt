@@ -1,5 +1,6 @@
 ghost use Rattle.std.specs.Prelude.{◌≡◌, true, OnOk, OnErr};
 ghost use Rattle.fetch_refs.specs.Logs.{after};
+ghost use Rattle.fetch_refs.specs.declared.edit.PackedRefs.TheVariants.{Never};
 
 use fetch_refs::{
     Change, LogChange, PackedRefs, Prepared, PreviousValue, RefEdit, RefError, RefLog, Refs,
@@ -63,8 +64,9 @@ fn a_commit_moves_references_and_writes_lines(rt: HostRuntime) -> Result<(), Fai
     assert!(rt; lines[0].new == id);
     assert!(rt; lines[0].message.as_bytes() == b"fetch: storing head".as_slice());
     let mut iter = refs.iter();
-    assert_eq!(rt; iter.len(), 2);
     assert!(rt; iter.next() == Some((b"HEAD".as_slice(), TargetRef::Symbolic(&main))));
+    assert!(rt; iter.next() == Some((b"refs/heads/main".as_slice(), TargetRef::Object(id))));
+    assert!(rt; iter.next() == None);
     Ok(())
 }
 
@@ -110,7 +112,7 @@ fn names_are_followed(rt: HostRuntime) -> Result<(), Fail> {
 
 /// Prepared and committed, the references are those after the edits.
 fn committed(refs: &mut Refs, edits: &[RefEdit], committer: &Signature) -> Result<(), RefError>
-    ensures ok { OnOk result (refs.new ≡ after committer.now true refs.old edits.now) }
+    ensures ok { OnOk result (refs.new ≡ after committer.now true Never refs.old edits.now) }
     ensures err { OnErr result (refs.new ≡ refs.old) }
 {
     let prepared: Prepared<'_> = refs.prepare(edits, committer, true, PackedRefs::Never)?;

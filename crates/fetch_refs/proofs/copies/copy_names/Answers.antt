@@ -4,4 +4,4 @@ use Rattle.fetch_refs.proofs.copies.copy_names.Goals as goal
 
 pub names-preserved : goal.names-preserved
 names-preserved c =
-    (one-more nat_list_cmp_total c.args.names.now.entries c.names.copy.entries c.names.name-iterator c.next.new.self c.put.new.map.entries _ _ _ _ c.names.invariant.1 c.names.invariant.0 c.in-Some.ensures.steps c.in_ok-put.ensures.entries c.in_ok-try_clone.ensures c.in_ok-try_clone-2.ensures, c.names.invariant.1)
+    (one-more nat_list_cmp_total c.args.names.now.entries c.names.copy.entries c.names.name-iterator c.next.new.self c.add.new.map.entries _ _ _ _ c.names.invariant.1 c.names.invariant.0 c.in-Some.ensures.steps c.in_ok-add.ensures c.in_ok-try_clone.ensures c.in_ok-copy_slot.ensures, c.names.invariant.1)

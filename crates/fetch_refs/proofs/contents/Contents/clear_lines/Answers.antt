@@ -1,0 +1,25 @@
+use Rattle.std.proofs.Common.{[], unwrap_or, ap, sym, ◌∙◌}
+use Rattle.std.specs.Prelude.{is_some, List, Option}
+use Rattle.std.specs.Map.{lookup}
+use Rattle.std.specs.BTreeMap.{is_at}
+use Rattle.fetch_refs.specs.declared.log.LogLine.{LogLine}
+use Rattle.fetch_refs.specs.Names.{Logs, name_cmp}
+use Rattle.fetch_refs.specs.Contents.{names_of, list_of}
+use Rattle.fetch_refs.proofs.Undoing.{lines_put, lines_undone}
+use Rattle.fetch_refs.proofs.contents.Contents.clear_lines.Goals as goal
+
+pub returns-clause-written : goal.returns-clause-written
+returns-clause-written c =
+    ap (λ (m : Logs). record { hash = c.args.self.now.hash; names = names_of c.args.self.now.names.entries; logs = m; packed = list_of c.args.self.now.names.entries })
+    (lines_put c.args.self.now.logs.entries c.insert.new.self.entries c.in_ok-key.key c.args.name.now c.new.result c.in_ok-key.ensures c.in_ok-old.ensures.updates.0
+    ∙ ap (λ (ls : List LogLine). Rattle.fetch_refs.specs.Overlay.with_lines (Rattle.fetch_refs.specs.Overlay.logs_of c.args.self.now.logs.entries) c.args.name.now ls) c.new.ensures)
+
+pub returns-clause-undo : goal.returns-clause-undo
+returns-clause-undo c = record {
+  shown =
+      ap (λ (m : Logs). record { hash = c.args.self.now.hash; names = names_of c.args.self.now.names.entries; logs = m; packed = list_of c.args.self.now.names.entries })
+      (lines_undone c.args.self.now.logs.entries c.insert.new.self.entries c.in_ok-key.key c.args.name.now c.in_ok-name.name c.new.result c.lines_or_none.result
+      c.in_ok-key.ensures c.in_ok-name.ensures c.in_ok-old.ensures.updates.0
+      (c.lines_or_none.ensures ∙ ap (λ (o : Option (List LogLine)). unwrap_or o []) c.in_ok-old.ensures.old));
+  place = ap (λ k. is_some (lookup (is_at (name_cmp k)) c.insert.new.self.entries)) (c.in_ok-name.ensures ∙ sym c.in_ok-key.ensures) ∙ ap is_some c.in_ok-old.ensures.updates.1;
+}

@@ -1,0 +1,81 @@
+//! The text of the packed list.
+
+ghost use Rattle.std.specs.Prelude.{◌≡◌, ◌++◌, OnOk, IfOk};
+ghost use Rattle.std.specs.List.{list_all};
+ghost use Rattle.fetch_refs.specs.Contents.{shown_in, list_of};
+ghost use Rattle.fetch_refs.specs.Packed.{packed_text};
+ghost use Rattle.fetch_refs.specs.Packing.{line_if, same_option, keeps_packed};
+
+use crate::contents::Contents;
+use crate::slot::Slot;
+use crate::target::is_same_id;
+use crate::undo::Undo;
+use fetch_specs::FullName;
+use fetch_store::{NoMemory, ObjectId, Text};
+use std::alloc::Global;
+use std::collections::BTreeMap;
+
+/// The text of the list that the places keep.
+pub(crate) fn text_of(alloc: Global, names: &BTreeMap<FullName, Slot>) -> Result<Text, NoMemory>
+    ensures { IfOk result (λ text. text ≡ packed_text (list_of names.now.entries)) }
+{
+    let mut text = Vec::new(alloc);
+    // The names ascend.
+    let _count = names.len();
+    'names: for (name, slot) in names {
+        push_line(alloc, &mut text, name, slot.packed)?;
+    }
+    Ok(Text::from(text))
+}
+
+/// Adds the line of a name that the list has.
+fn push_line(
+    alloc: Global,
+    text: &mut Vec<u8>,
+    name: &FullName,
+    id: Option<ObjectId>,
+) -> Result<(), NoMemory>
+    ensures { OnOk result (text.new.items ≡ text.old.items ++ line_if name.now id) }
+{
+    match id {
+        Some(id) => {
+            let Ok(digits) = id.to_hex(alloc) else {
+                return Err(NoMemory);
+            };
+            text.extend_from_slice(digits.as_bytes())?;
+            text.push(b' ')?;
+            text.extend_from_slice(name.as_bytes())?;
+            text.push(b'\n')?;
+            Ok(())
+        }
+        None => Ok(()),
+    }
+}
+
+/// Whether the list has at each changed name what it had.
+pub(crate) fn keeps_list(contents: &Contents, changes: &[Undo]) -> bool
+    ensures { result ≡ list_all (keeps_packed (shown_in contents.now).packed) changes.now }
+{
+    changes.iter().all(|change| keeps(contents, change))
+}
+
+fn keeps(contents: &Contents, change: &Undo) -> bool
+    ensures { result ≡ keeps_packed (shown_in contents.now).packed change.now }
+{
+    match change {
+        Undo::Target { name, old } => is_same(contents.packed_id(name), old.packed),
+        Undo::Line { .. } => true,
+        Undo::Lines { .. } => true,
+    }
+}
+
+fn is_same(id: Option<ObjectId>, other: Option<ObjectId>) -> bool
+    ensures { result ≡ same_option id other }
+{
+    match (id, other) {
+        (Some(id), Some(other)) => is_same_id(&id, &other),
+        (None, None) => true,
+        (None, Some(_)) => false,
+        (Some(_), None) => false,
+    }
+}
