@@ -4,7 +4,9 @@ use Rattle.std.specs.FinMap as finmap
 use Rattle.fetch_store.specs.declared.id.Kind.{Kind}
 use Rattle.fetch_refs.specs.Edits.{refs_after, changed}
 use Rattle.fetch_refs.specs.Logs.{Logging, logs_after, updated, gets_line, after}
-use Rattle.fetch_refs.specs.Names.{Names, Logs}
+use Rattle.fetch_refs.specs.Names.{Names, Logs, PackedList}
+use Rattle.fetch_refs.specs.Packed.{packed_after}
+use Rattle.fetch_refs.specs.declared.edit.PackedRefs.TheVariants.{Never}
 use Rattle.fetch_refs.specs.declared.edit.LogChange.{LogChange}
 use Rattle.fetch_refs.specs.declared.log.Signature.{Signature}
 use Rattle.fetch_refs.specs.declared.target.Target.{Target}
@@ -34,7 +36,12 @@ logs_are how [] names logs off = refl
 logs_are how (r ∷ rs) names logs off =
     ap (λ (l : Logs). logs_after how (changed names (edit_of r)) l (map edit_of rs)) (same_logs how logs r.name _ _ r.target off refl) ∙ logs_are how rs (changed names (edit_of r)) logs off
 
+-- loose edits leave the packed list
+list_is : (rs : List Reference) (list : PackedList) → packed_after Never list (map edit_of rs) ≡ list
+list_is [] list = refl
+list_is (r ∷ rs) list = list_is rs list
+
 pub opened : (committer : Signature) (hash : Kind) (rs : List Reference)
-    → after committer false (record { hash = hash; names = finmap.empty; logs = finmap.empty }) (map edit_of rs) ≡ record { hash = hash; names = with_references finmap.empty rs; logs = finmap.empty }
+    → after committer false Never (record { hash = hash; names = finmap.empty; logs = finmap.empty; packed = finmap.empty }) (map edit_of rs) ≡ record { hash = hash; names = with_references finmap.empty rs; logs = finmap.empty; packed = finmap.empty }
 opened committer hash rs =
-    rw (names_are rs finmap.empty, logs_are (record { hash = hash; committer = committer; enabled = false }) rs finmap.empty finmap.empty refl) refl
+    rw (names_are rs finmap.empty, logs_are (record { hash = hash; committer = committer; enabled = false }) rs finmap.empty finmap.empty refl, list_is rs finmap.empty) refl

@@ -69,7 +69,7 @@ found_of s = record {
   hash = s.hash;
   objects = add_all map.empty s.objects;
   border = s.border;
-  refs = record { hash = s.hash; names = with_references map.empty s.refs; logs = map.empty };
+  refs = record { hash = s.hash; names = with_references map.empty s.refs; logs = map.empty; packed = map.empty };
 }
 
 -- all that the peer says

@@ -7,6 +7,7 @@ use Rattle.fetch_store.specs.Graph.{graph_of}
 use Rattle.fetch_store.specs.Stores.{Entries, collision}
 use Rattle.fetch_specs.specs.declared.tags.Tags.{Tags}
 use Rattle.fetch_refs.specs.Logs.{after}
+use Rattle.fetch_refs.specs.declared.edit.PackedRefs.TheVariants.{Never}
 use Rattle.fetch_refs.specs.declared.edit.RefEdit.{RefEdit}
 use Rattle.fetch_update.specs.Policy.{Policy, policy_over}
 use Rattle.fetch_update.specs.declared.message.RefLogMessage.{RefLogMessage}
@@ -64,7 +65,7 @@ policy_in s tags = policy_over s.refs.names (graph_of s.objects) usual_message t
 
 -- with the references after the edits
 abbrev pub with_edits : Setup → State → List RefEdit → State
-with_edits setup s edits = record s { refs = after setup.settings.committer setup.logging s.refs edits }
+with_edits setup s edits = record s { refs = after setup.settings.committer setup.logging Never s.refs edits }
 
 abbrev pub pack_told : Option (ℕ × ObjectId) → Option PackOutcome
 pack_told None = None

@@ -4,6 +4,7 @@ ghost use Rattle.std.specs.Prelude.{◌≡◌, IfOk, IfErr, IfSome, OnOk, OnErr,
 ghost use Rattle.std.specs.Option.{option_copied};
 ghost use Rattle.fetch_store.specs.Stores.{AreOf};
 ghost use Rattle.fetch_refs.specs.Logs.{after};
+ghost use Rattle.fetch_refs.specs.declared.edit.PackedRefs.TheVariants.{Never};
 ghost use Rattle.fetch_remote.specs.Judging.{Answers, judged_of};
 ghost use Rattle.fetch_remote.specs.ListStage.{shown};
 ghost use Rattle.fetch_remote.specs.Repositories.{state_of, setup_of};
@@ -193,7 +194,7 @@ fn commit(
     committer: &Signature,
     logging: bool,
 ) -> Result<(), NoMemory>
-    ensures ok { OnOk result (refs.new ≡ after committer.now logging refs.old edits.now) }
+    ensures ok { OnOk result (refs.new ≡ after committer.now logging Never refs.old edits.now) }
     ensures err { OnErr result (refs.new ≡ refs.old) }
 {
     match refs.prepare(edits, committer, logging, PackedRefs::Never) {

@@ -18,6 +18,8 @@ mod negotiating;
 #[cfg(test)]
 mod objects;
 #[cfg(test)]
+mod packed_references;
+#[cfg(test)]
 mod packs;
 #[cfg(test)]
 mod policy;

@@ -4,6 +4,7 @@ ghost use Rattle.std.specs.Prelude.{◌≡◌, [], ◌∷◌, false, map, IfOk, 
 ghost use Rattle.std.specs.FinMap as finmap;
 ghost use Rattle.fetch_store.specs.Stores.{AreOf, add_all};
 ghost use Rattle.fetch_refs.specs.Logs.{after};
+ghost use Rattle.fetch_refs.specs.declared.edit.PackedRefs.TheVariants.{Never};
 ghost use Rattle.fetch_remote.specs.Repositories.{state_of, setup_of, logging_of};
 ghost use Rattle.fetch_cli.specs.Opened as opened;
 ghost use Rattle.fetch_cli.specs.Report as spec;
@@ -73,7 +74,7 @@ fn edits_of(alloc: Global, references: &[Reference]) -> Result<Vec<RefEdit>, NoM
 
 /// Makes the edits, and logs none. Any value is expected, so that memory alone may refuse them.
 fn make(refs: &mut Refs, edits: &[RefEdit], committer: &Signature) -> Result<(), NoMemory>
-    ensures { OnOk result (refs.new ≡ after committer.now false refs.old edits.now) }
+    ensures { OnOk result (refs.new ≡ after committer.now false Never refs.old edits.now) }
 {
     match refs.prepare(edits, committer, false, PackedRefs::Never) {
         Ok(prepared) => {
@@ -91,7 +92,7 @@ fn refs_of(
     references: &[Reference],
     committer: &Signature,
 ) -> Result<Refs, NoMemory>
-    ensures { IfOk result (λ refs. refs ≡ record { hash = hash; names = spec.with_references finmap.empty references.now; logs = finmap.empty }) }
+    ensures { IfOk result (λ refs. refs ≡ record { hash = hash; names = spec.with_references finmap.empty references.now; logs = finmap.empty; packed = finmap.empty }) }
 {
     let edits = edits_of(alloc, references)?;
     let mut refs = Refs::new(alloc, hash);

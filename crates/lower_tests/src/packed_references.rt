@@ -1,0 +1,95 @@
+//! References: the packed list.
+
+use fetch_refs::{
+    Change, LogChange, PackedRefs, PreviousValue, RefEdit, RefLog, Refs, Signature, Target,
+    TargetRef,
+};
+use fetch_specs::FullName;
+use fetch_store::{Kind, NoMemory, ObjectId, Text};
+use std::alloc::Global;
+use std::test::Fail;
+
+const HEX: &[u8] = b"4b825dc642cb6eb9a060e54bf8d69288fbee4904";
+const NAME: &[u8] = b"refs/remotes/origin/main";
+const LINE: &[u8] = b"4b825dc642cb6eb9a060e54bf8d69288fbee4904 refs/remotes/origin/main\n";
+
+fn signature(alloc: Global) -> Result<Signature, NoMemory> {
+    Ok(Signature {
+        name: Text::new(alloc, b"A")?,
+        email: Text::new(alloc, b"a@x")?,
+        seconds: 1,
+        offset_minutes: 0,
+    })
+}
+
+fn update(alloc: Global, new: Target) -> Result<RefEdit, Fail> {
+    Ok(RefEdit {
+        change: Change::Update {
+            log: LogChange {
+                mode: RefLog::AndReference,
+                force_create_reflog: false,
+                message: Text::new(alloc, b"fetch: storing head")?,
+            },
+            expected: PreviousValue::Any,
+            new,
+        },
+        name: FullName::new(alloc, NAME)?,
+    })
+}
+
+fn committed(
+    alloc: Global,
+    refs: &mut Refs,
+    edit: RefEdit,
+    packed: PackedRefs,
+) -> Result<(), Fail> {
+    let mut edits = Vec::new(alloc);
+    edits.push(edit)?;
+    let committer = signature(alloc)?;
+    refs.prepare(edits.as_slice(), &committer, true, packed)?
+        .commit();
+    Ok(())
+}
+
+#[test]
+fn an_update_is_packed_and_a_deletion_taken_out(rt: HostRuntime) -> Result<(), Fail> {
+    let alloc = rt.alloc();
+    let id = ObjectId::from_hex(HEX)?;
+    let name = FullName::new(alloc, NAME)?;
+    let mut refs = Refs::new(alloc, Kind::Sha1);
+    committed(alloc, &mut refs, update(alloc, Target::Object(id))?, PackedRefs::Only)?;
+    assert!(rt; refs.packed_text() == LINE);
+    assert_eq!(rt; refs.packed_text().len(), 66);
+    assert!(rt; refs.find(&name) == Some(TargetRef::Object(id)));
+    assert_eq!(rt; refs.reflog(&name).len(), 1);
+    let deletion = RefEdit {
+        change: Change::Delete {
+            expected: PreviousValue::MustExist,
+            log: RefLog::AndReference,
+        },
+        name: FullName::new(alloc, NAME)?,
+    };
+    committed(alloc, &mut refs, deletion, PackedRefs::Never)?;
+    assert_eq!(rt; refs.packed_text().len(), 0);
+    assert!(rt; refs.find(&name).is_none());
+    assert_eq!(rt; refs.reflog(&name).len(), 0);
+    Ok(())
+}
+
+#[test]
+fn loose_references_are_packed_at_once(rt: HostRuntime) -> Result<(), Fail> {
+    let alloc = rt.alloc();
+    let id = ObjectId::from_hex(HEX)?;
+    let name = FullName::new(alloc, NAME)?;
+    let mut refs = Refs::new(alloc, Kind::Sha1);
+    committed(alloc, &mut refs, update(alloc, Target::Object(id))?, PackedRefs::Never)?;
+    assert_eq!(rt; refs.packed_text().len(), 0);
+    refs.compact()?;
+    assert!(rt; refs.packed_text() == LINE);
+    assert!(rt; refs.find(&name) == Some(TargetRef::Object(id)));
+    assert_eq!(rt; refs.reflog(&name).len(), 1);
+    let head = FullName::new(alloc, b"refs/heads/main")?;
+    committed(alloc, &mut refs, update(alloc, Target::Symbolic(head))?, PackedRefs::Only)?;
+    assert_eq!(rt; refs.packed_text().len(), 0);
+    Ok(())
+}
