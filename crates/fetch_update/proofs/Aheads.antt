@@ -15,7 +15,7 @@ use Rattle.fetch_store.specs.Graph.{Graph, Node}
 use Rattle.fetch_store.specs.Stores.{id_cmp}
 use Rattle.fetch_update.specs.Dated.{IsCommit, HasDatedPath, LeadsOn, IsLinked, IsPathAbove, commit_at, parents_at, seconds_at}
 use Rattle.fetch_update.specs.Ahead.{is_ahead, is_dated, leads}
-use Rattle.fetch_update.proofs.Pigeons.{AreDistinct, AreStored, no_more}
+use Rattle.fetch_store.proofs.Pigeons.{AreDistinct, AreStored, no_more}
 use Rattle.fetch_update.proofs.Seen.{Contains-first, Contains-later, Contains-none, Contains-cases}
 
 both : (a b : Bool) → (a && b) ≡ true → (a ≡ true) × (b ≡ true)

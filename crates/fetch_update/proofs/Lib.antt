@@ -2,7 +2,6 @@ pub mod Seen
 pub mod Visits
 pub mod Expansions
 pub mod Paths
-pub mod Pigeons
 pub mod Aheads
 pub mod Sames
 pub mod Joined
