@@ -274,8 +274,9 @@ fn exactly<R: Threads + Sync, G: Gate + Sync>(
     check_digest(hash, &framed)?;
     let objects = all_parsed(alloc, hash, bytes.len(), &framed)?;
     let ids = hash_pieces(rt, alloc, hash, objects.as_slice(), threads, gate)?;
-    check_ids(hash, &framed, ids.as_slice())?;
-    let objects = distinct(alloc, ids.as_slice(), objects)?;
+    let computed = ids.as_slice();
+    check_ids(hash, &framed, computed)?;
+    let objects = distinct(alloc, computed, objects)?;
     Ok(Pack {
         objects: List::from(objects),
         count: framed.count,

@@ -14,6 +14,6 @@ check_ids-requires g c =
     let os = c.in_ok-objects.objects.items in
     let shape = structure_takes hash c.args.bytes.now f (λ i. omega (arith, c.type_inv.bytes i)) c.in_ok-framed.ensures.frame in
     let all = parsed_found f.version hash place f.written os c.in_ok-objects.ensures in
-    let ids = ap length (c.as_slice-2.ensures.value ∙ c.in_ok-ids.ensures ∙ ap (ids_of hash) c.as_slice.ensures.value) in
+    let ids = ap length (c.as_slice-computed.ensures.value ∙ c.in_ok-ids.ensures ∙ ap (ids_of hash) c.as_slice.ensures.value) in
     let objects = ap length all.1 in
     omega (arith, ids, length-map os (hashed hash), objects, length-map (payloads_in f.written) (stored hash), length-map f.written (λ (w : Written). w.payload), shape.count)
