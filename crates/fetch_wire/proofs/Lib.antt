@@ -4,3 +4,4 @@ pub mod Receiving
 pub mod WordLaws
 pub mod ReadingLines
 pub mod Listed
+pub mod Peeling

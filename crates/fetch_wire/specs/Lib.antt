@@ -22,3 +22,4 @@ pub mod FetchReplies
 pub mod Advertisements
 pub mod Awaited
 pub mod StepLaws
+pub mod ReadSteps

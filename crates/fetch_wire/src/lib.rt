@@ -1,17 +1,20 @@
 //! What passes between a fetch and its peer: lines, replies, requests, and the records that they make.
 #![tactic(auto)]
 
+mod advertisement;
 mod awaited;
 mod bound;
 mod calls;
 mod cloning;
 mod error;
+mod fetch_reply;
 mod greeting;
 mod handshake;
 mod laws;
 mod line;
 mod listing;
 mod mapping;
+mod opening;
 mod peer;
 mod readers;
 mod reading;
@@ -19,6 +22,7 @@ mod records;
 mod reference;
 mod reply;
 mod requests;
+mod saying;
 mod scripted;
 mod section;
 mod session;
