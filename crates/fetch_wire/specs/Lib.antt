@@ -23,3 +23,5 @@ pub mod Advertisements
 pub mod Awaited
 pub mod StepLaws
 pub mod ReadSteps
+pub mod Feeding
+pub mod FeedingLends
