@@ -25,3 +25,6 @@ pub mod StepLaws
 pub mod ReadSteps
 pub mod Feeding
 pub mod FeedingLends
+pub mod WrittenLaws
+pub mod LinesTold
+pub mod FeedingLaws
