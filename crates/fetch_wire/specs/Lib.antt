@@ -28,3 +28,4 @@ pub mod FeedingLends
 pub mod WrittenLaws
 pub mod LinesTold
 pub mod FeedingLaws
+pub mod Bands

@@ -19,6 +19,11 @@ ghost use Rattle.fetch_wire.specs.declared.line.Line.TheVariants.{End};
 ghost use Rattle.fetch_wire.specs.Awaited.{start_of};
 ghost use Rattle.fetch_wire.specs.Feeding.{Feeding, fed, found_in, next_in, behind_next};
 ghost use Rattle.fetch_wire.specs.LinesTold.{Writes, Tells};
+ghost use Rattle.std.specs.Prelude.{true};
+ghost use Rattle.fetch_wire.specs.declared.awaited.AskedReply.{AskedReply};
+ghost use Rattle.fetch_wire.specs.declared.awaited.Await.TheVariants.{Reply};
+ghost use Rattle.fetch_wire.specs.declared.awaited.Told.TheVariants as told;
+ghost use Rattle.fetch_wire.specs.Bands.{Band, pack_lines, packed};
 ghost use Rattle.fetch_wire.specs.Lines.{line_len};
 ghost use Rattle.fetch_wire.specs.Written.{line_text, too_long_in};
 
@@ -81,4 +86,10 @@ pub fn replies_are_read_in_either_case()
 pub fn lines_stay()
     ensures { (feeding : Feeding) (more : List ℕ) → IsSettled (found_in feeding)
         → (next_in (fed feeding more) ≡ next_in feeding) × (behind_next (fed feeding more) ≡ fed (behind_next feeding) more) }
+{}
+
+/// A pack is read from bands, however it is cut into them, and texts of progress may stand between.
+pub fn packs_are_read_from_any_bands()
+    ensures { (asked : AskedReply) (bands : List Band) → asked.done ≡ true → asked.read_pack ≡ true
+        → Tells step_of (start_of (Reply asked)) (pack_lines bands) (told.Reply (packed bands)) }
 {}

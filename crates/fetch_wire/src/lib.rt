@@ -37,8 +37,9 @@ pub use greeting::read_greeting;
 pub use handshake::{Capability, Handshake, Version};
 pub use laws::{
     lines_are_read_as_written, lines_are_read_in_either_case, lines_stay,
-    replies_are_read_in_either_case, replies_are_read_in_pieces, replies_are_read_line_by_line,
-    replies_stay, sections_are_read_line_by_line, sections_stay, written_lines_are_read,
+    packs_are_read_from_any_bands, replies_are_read_in_either_case, replies_are_read_in_pieces,
+    replies_are_read_line_by_line, replies_stay, sections_are_read_line_by_line, sections_stay,
+    written_lines_are_read,
 };
 pub use line::{Line, LineRef};
 pub use listing::read_listing;
