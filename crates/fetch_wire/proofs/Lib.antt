@@ -6,3 +6,4 @@ pub mod ReadingLines
 pub mod Listed
 pub mod Cut
 pub mod Agents
+pub mod Peeling

@@ -25,3 +25,10 @@ pub mod FetchReplies
 pub mod Advertisements
 pub mod Awaited
 pub mod StepLaws
+pub mod ReadSteps
+pub mod Feeding
+pub mod FeedingLends
+pub mod WrittenLaws
+pub mod LinesTold
+pub mod FeedingLaws
+pub mod Bands

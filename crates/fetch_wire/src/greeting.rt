@@ -1,6 +1,6 @@
 //! What a server says first.
 
-ghost use Rattle.std.specs.Prelude.{◌≡◌, ◌<◌, ◌+◌, ◌^◌, IfOk, fold, sum_by};
+ghost use Rattle.std.specs.Prelude.{◌≡◌, ◌<◌, ◌+◌, ◌^◌, IfOk, fold, sum_by, option_and_then};
 ghost use Rattle.std.specs.Option.{option_copied};
 ghost use Rattle.fetch_wire.specs.Lines.{line_len as len_of};
 ghost use Rattle.fetch_wire.specs.Texts.{Reads, each_from};
@@ -96,9 +96,16 @@ impl Capability {
 fn read_capability(alloc: Global, line: &Line) -> Result<Option<Capability>, NoMemory>
     ensures { IfOk result (λ found. found ≡ capability_of line.now) }
 {
-    let Some(text) = text(line) else {
-        return Ok(None);
-    };
+    match text(line) {
+        Some(text) => known_capability(alloc, text),
+        None => Ok(None),
+    }
+}
+
+/// The capability that a text tells. An `object-format` names a hash that is known.
+pub(crate) fn known_capability(alloc: Global, text: &[u8]) -> Result<Option<Capability>, NoMemory>
+    ensures { IfOk result (λ found. found ≡ option_and_then if_known (capability_in text.now)) }
+{
     match capability(alloc, text)? {
         Some(found) => {
             if found.is_known() {
@@ -132,7 +139,8 @@ fn capabilities_of(
     Ok(capabilities)
 }
 
-fn hash_of(capabilities: &[Capability]) -> Kind
+/// The hash that capabilities name.
+pub(crate) fn hash_of(capabilities: &[Capability]) -> Kind
     ensures { result ≡ fold hash_after Sha1 capabilities.now }
 {
     let mut kind = Kind::Sha1;
@@ -143,7 +151,7 @@ fn hash_of(capabilities: &[Capability]) -> Kind
 }
 
 #[tactic(auto, unfolding(crate::specs::Greetings::is_version_2))]
-fn says_version_2(text: &[u8]) -> bool
+pub(crate) fn says_version_2(text: &[u8]) -> bool
     ensures { result ≡ is_version_2 text.now }
 {
     text == b"version 2".as_slice()

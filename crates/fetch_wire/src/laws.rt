@@ -15,6 +15,19 @@ ghost use Rattle.fetch_wire.specs.declared.reading.Reading.{Reading};
 ghost use Rattle.fetch_wire.specs.Awaited.{step_of, told_from, told_at};
 ghost use Rattle.fetch_wire.specs.Stepping.{after_line};
 ghost use Rattle.fetch_wire.specs.StepLaws as reply;
+ghost use Rattle.std.specs.Prelude.{◌≢◌, ◌+◌, ◌≤◌, None};
+ghost use Rattle.fetch_wire.specs.declared.awaited.Told.{Told};
+ghost use Rattle.fetch_wire.specs.declared.line.Line.TheVariants.{End};
+ghost use Rattle.fetch_wire.specs.Awaited.{start_of};
+ghost use Rattle.fetch_wire.specs.Feeding.{Feeding, fed, found_in, next_in, behind_next};
+ghost use Rattle.fetch_wire.specs.LinesTold.{Writes, Tells};
+ghost use Rattle.std.specs.Prelude.{true};
+ghost use Rattle.fetch_wire.specs.declared.awaited.AskedReply.{AskedReply};
+ghost use Rattle.fetch_wire.specs.declared.awaited.Await.TheVariants.{Reply};
+ghost use Rattle.fetch_wire.specs.declared.awaited.Told.TheVariants as told;
+ghost use Rattle.fetch_wire.specs.Bands.{Band, pack_lines, packed};
+ghost use Rattle.fetch_wire.specs.Lines.{line_len};
+ghost use Rattle.fetch_wire.specs.Written.{line_text, too_long_in};
 
 /// What was read of a reply stays when more bytes come: a section that was found, and a text that can't become one.
 pub fn sections_stay()
@@ -60,4 +73,35 @@ pub fn agents_are_named_once()
 /// Bytes that are cut into pieces are the pieces one after another.
 pub fn pieces_are_the_bytes()
     ensures { (size : ℕ) (bytes : List ℕ) → 0 < size → concat (in_pieces size bytes) ≡ bytes }
+{}
+
+/// Four digits of either case that write a line's number, and its payload, are read as that line.
+pub fn lines_are_read_in_either_case()
+    ensures { (bound place : ℕ) (bytes rest : List ℕ) (line : Line) → IsLine bound place line rest bytes
+        → line_at bound place bytes ≡ Ok (line, rest) }
+{}
+
+/// What is written of a line that fits is read as that line.
+pub fn written_lines_are_read()
+    ensures { (bound place : ℕ) (line : Line) (rest : List ℕ) → line ≢ End → too_long_in line ≡ None
+        → place + line_len line ≤ bound → line_at bound place (line_text line ++ rest) ≡ Ok (line, rest) }
+{}
+
+/// Lines that tell a reply tell it in any case of their digits, whatever comes behind.
+pub fn replies_are_read_in_either_case()
+    ensures { (bound : ℕ) (awaited : Await) (lines : List Line) (told : Told) (rest bytes : List ℕ)
+        → Writes bound 0 lines rest bytes → Tells step_of (start_of awaited) lines told → told_at bound awaited bytes ≡ Ok (told, rest) }
+{}
+
+/// A line that a reader gave, or refused, before more bytes were fed is the one that it gives or refuses behind them,
+/// and it leaves the same.
+pub fn lines_stay()
+    ensures { (feeding : Feeding) (more : List ℕ) → IsSettled (found_in feeding)
+        → (next_in (fed feeding more) ≡ next_in feeding) × (behind_next (fed feeding more) ≡ fed (behind_next feeding) more) }
+{}
+
+/// A pack is read from bands, however it is cut into them, and texts of progress may stand between.
+pub fn packs_are_read_from_any_bands()
+    ensures { (asked : AskedReply) (bands : List Band) → asked.done ≡ true → asked.read_pack ≡ true
+        → Tells step_of (start_of (Reply asked)) (pack_lines bands) (told.Reply (packed bands)) }
 {}

@@ -1,18 +1,22 @@
 //! What passes between a fetch and its peer: lines, replies, requests, and the records that they make.
 #![tactic(auto)]
 
+mod advertisement;
 mod awaited;
 mod bound;
 mod cloning;
 mod cutting;
 mod error;
+mod fetch_reply;
 mod greeting;
 mod handshake;
-mod laws;
+pub mod laws;
 mod line;
 mod listing;
 mod mapping;
+mod opening;
 mod peer;
+mod reader;
 mod readers;
 mod reading;
 mod records;
@@ -20,6 +24,7 @@ mod reference;
 mod reply;
 mod request_lines;
 mod requests;
+mod saying;
 mod scripted;
 mod section;
 mod session;
@@ -32,15 +37,11 @@ pub use cutting::in_pieces;
 pub use error::{ReceiveError, WireError};
 pub use greeting::read_greeting;
 pub use handshake::{Capability, Handshake, Version};
-pub use laws::{
-    agents_are_named_once, lines_are_read_as_written, pieces_are_the_bytes,
-    replies_are_read_in_pieces, replies_are_read_line_by_line, replies_stay,
-    sections_are_read_line_by_line, sections_stay,
-};
 pub use line::{Line, LineRef};
 pub use listing::read_listing;
 pub use mapping::{Mapping, RefMap, SpecIndex};
 pub use peer::{Interrupt, Peer, SendFault};
+pub use reader::{LineReader, Need};
 pub use records::{FetchReply, Request};
 pub use reference::{Ref, Source};
 pub use reply::{changes_border, read_reply};

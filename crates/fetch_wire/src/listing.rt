@@ -5,8 +5,10 @@ ghost use Rattle.std.specs.Option.{option_copied, option_map};
 ghost use Rattle.fetch_wire.specs.Lines.{line_len as len_of};
 ghost use Rattle.fetch_wire.specs.Texts.{Reads};
 ghost use Rattle.fetch_wire.specs.Words.{words, words_in};
-ghost use Rattle.fetch_wire.specs.Listings.{no_attributes, with_attribute, with_attributes, ref_with, id_or_unborn, named_by, ref_in, ref_of, is_listed, listing_of};
+ghost use Rattle.fetch_wire.specs.Advertisements.{with_peel, peeled_to};
+ghost use Rattle.fetch_wire.specs.Listings.{no_attributes, with_attribute, with_attributes, ref_with, id_or_unborn, named_by, ref_in, ref_of, if_new, is_listed, listing_of};
 
+use crate::advertisement::peeled_to;
 use crate::error::WireError;
 use crate::line::Line;
 use crate::readers::{line_len, text};
@@ -58,7 +60,7 @@ fn attributes(kind: Kind, text: Option<&[u8]>) -> Option<Attributes<'_>>
 }
 
 /// The reference with this name, id and attributes. An unborn one has a target.
-fn make_ref(
+pub(crate) fn make_ref(
     alloc: Global,
     name: &[u8],
     id: Option<ObjectId>,
@@ -168,7 +170,8 @@ impl Model for Listed {
 }
 
 impl Listed {
-    fn new(alloc: Global) -> Listed
+    /// No reference.
+    pub(crate) fn new(alloc: Global) -> Listed
         ensures { result ≡ [] }
     {
         Listed {
@@ -178,7 +181,7 @@ impl Listed {
     }
 
     /// Adds a reference, unless its name is listed, and says whether it was added.
-    fn add(&mut self, alloc: Global, reference: Ref) -> Result<bool, NoMemory>
+    pub(crate) fn add(&mut self, alloc: Global, reference: Ref) -> Result<bool, NoMemory>
         ensures new { IfOk result (λ is_new. is_new ≡ not (is_listed self.old reference)) }
         ensures added { OnOk result (self.new ≡ if is_listed self.old reference then self.old else self.old ++ reference ∷ []) }
     {
@@ -189,10 +192,33 @@ impl Listed {
         Ok(is_new)
     }
 
-    fn into_refs(self) -> Vec<Ref>
+    /// Tells what the tag of the last reference peels to, where it has this name, and says whether it has.
+    pub(crate) fn peel_last(&mut self, id: ObjectId, name: &[u8]) -> bool
+        ensures { (if result then Some self.new else None) ≡ with_peel id name.now self.old }
+    {
+        let Some(last) = self.refs.pop() else {
+            return false;
+        };
+        let is_last = last.unpack().0 == name;
+        self.refs.push_reserved(peel_if(is_last, id, last));
+        is_last
+    }
+
+    /// The references.
+    pub(crate) fn into_refs(self) -> Vec<Ref>
         ensures { result.items ≡ self }
     {
         self.refs
+    }
+}
+
+fn peel_if(is_last: bool, id: ObjectId, reference: Ref) -> Ref
+    ensures { result ≡ if is_last then peeled_to id reference else reference }
+{
+    if is_last {
+        peeled_to(id, reference)
+    } else {
+        reference
     }
 }
 
@@ -209,9 +235,21 @@ fn push_if(is_new: bool, refs: &mut Vec<Ref>, reference: Ref)
 fn add_line(alloc: Global, kind: Kind, listed: &mut Listed, line: &Line) -> Result<bool, NoMemory>
     ensures { IfOk result (λ is_new. (if is_new then Some listed.new else None) ≡ option_map (λ reference. listed.old ++ reference ∷ []) (ref_of kind listed.old line.now)) }
 {
-    let Some(text) = text(line) else {
-        return Ok(false);
-    };
+    match text(line) {
+        Some(text) => add_text(alloc, kind, listed, text),
+        None => Ok(false),
+    }
+}
+
+/// Adds the reference that a text lists, and says whether it lists one whose name is new.
+pub(crate) fn add_text(
+    alloc: Global,
+    kind: Kind,
+    listed: &mut Listed,
+    text: &[u8],
+) -> Result<bool, NoMemory>
+    ensures { IfOk result (λ is_new. (if is_new then Some listed.new else None) ≡ option_map (λ reference. listed.old ++ reference ∷ []) (option_and_then (if_new listed.old) (ref_in kind text.now))) }
+{
     match read_ref(alloc, kind, text)? {
         Some(reference) => listed.add(alloc, reference),
         None => Ok(false),

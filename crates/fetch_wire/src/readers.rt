@@ -8,7 +8,7 @@ ghost use Rattle.fetch_wire.specs.Texts.{without_lf, is_error, text_of};
 use crate::line::Line;
 
 #[tactic(auto, unfolding(crate::specs::Texts::without_lf))]
-fn without_line_feed(text: &[u8]) -> &[u8]
+pub(crate) fn without_line_feed(text: &[u8]) -> &[u8]
     ensures { result.now ≡ without_lf text.now }
 {
     if !text.is_empty() && text[text.len() - 1] == b'\n' {
@@ -19,7 +19,7 @@ fn without_line_feed(text: &[u8]) -> &[u8]
 }
 
 #[tactic(auto, unfolding(crate::specs::Texts::is_error))]
-fn begins_with_error(payload: &[u8]) -> bool
+pub(crate) fn begins_with_error(payload: &[u8]) -> bool
     ensures { result ≡ is_error payload.now }
 {
     payload.starts_with(b"ERR ")

@@ -1,10 +1,22 @@
 //! A reply that is being read, line by line.
 
-use crate::awaited::AskedReply;
+ghost use Rattle.std.specs.Prelude.{◌≡◌, IfOk};
+ghost use Rattle.fetch_wire.specs.Awaited.{start_of, step_of};
+ghost use Rattle.fetch_wire.specs.LineViews.{line_of};
+ghost use Rattle.fetch_wire.specs.ReadSteps.{step_in};
+ghost use Rattle.fetch_wire.specs.Stepping.{says};
+
+use crate::advertisement::{read_advertised, read_first};
+use crate::awaited::{AskedReply, Await, Told};
+use crate::fetch_reply::read_reply;
 use crate::handshake::{Capability, Handshake};
+use crate::line::LineRef;
 use crate::listing::Listed;
+use crate::opening::{read_capability, read_greeting, read_listed};
 use crate::records::FetchReply;
-use fetch_store::{Kind, List};
+use crate::saying::said_by;
+use fetch_store::{Kind, List, NoMemory, Text};
+use std::alloc::Global;
 
 /// What may come next in an advertisement of version 1.
 #[derive(Clone, Copy, Debug, PartialEq, Eq)]
@@ -51,4 +63,56 @@ pub(crate) enum Reading {
     Listing(Kind, Listed),
     /// This much of a reply to a fetch request, and what may come next.
     Reply(AskedReply, Part, FetchReply),
+}
+
+/// What a line does to a reading.
+#[derive(Drop)]
+pub(crate) enum Read {
+    /// Reading goes on.
+    On(Reading),
+    /// The reply is whole.
+    Whole(Told),
+    /// The line breaks the grammar.
+    Broken,
+    /// The server says that it fails, with this text.
+    Said(Text),
+}
+
+impl Read {
+    /// The server says that it fails.
+    pub(crate) fn said(alloc: Global, text: &[u8]) -> Result<Read, NoMemory>
+        ensures { IfOk result (λ read. step_in read ≡ says text.now) }
+    {
+        Ok(Read::Said(Text::new(alloc, text)?))
+    }
+}
+
+impl Reading {
+    /// The reading of a reply of which no line was read.
+    pub(crate) fn start(alloc: Global, awaited: Await) -> Reading
+        ensures { result ≡ start_of awaited }
+    {
+        match awaited {
+            Await::Greeting => Reading::Greeting,
+            Await::Listing(kind) => Reading::Listing(kind, Listed::new(alloc)),
+            Await::Reply(asked) => Reading::Reply(asked, Part::Beginning, FetchReply::new(alloc)),
+        }
+    }
+
+    /// Reads the next line.
+    #[tactic(auto, unfolding(crate::specs::Awaited::step_of))]
+    pub(crate) fn line(self, alloc: Global, line: LineRef<'_>) -> Result<Read, NoMemory>
+        ensures { IfOk result (λ read. step_in read ≡ step_of self (line_of line.entry)) }
+    {
+        match self {
+            Reading::Greeting => read_greeting(alloc, said_by(line)),
+            Reading::Capabilities(before) => read_capability(alloc, before, said_by(line)),
+            Reading::Version => read_first(alloc, said_by(line)),
+            Reading::Advertisement(handshake, listed, allowed) => {
+                read_advertised(alloc, handshake, listed, allowed, said_by(line))
+            }
+            Reading::Listing(kind, listed) => read_listed(alloc, kind, listed, said_by(line)),
+            Reading::Reply(asked, part, reply) => read_reply(alloc, asked, part, reply, line),
+        }
+    }
 }

@@ -1,9 +1,11 @@
 //! What one round of a fetch asks, and what is answered.
 
 ghost use Rattle.std.specs.Prelude.{◌≡◌, IfOk};
+ghost use Rattle.fetch_wire.specs.FetchReplies.{no_reply};
 
 use crate::cloning::{copy_list, copy_option};
 use fetch_store::{List, NoMemory, ObjectId, Text};
+use std::alloc::Global;
 
 /// What one round asks: text lines without their line feeds, the haves, and whether the rounds end.
 #[derive(Debug, Drop)]
@@ -44,6 +46,20 @@ pub struct FetchReply {
 }
 
 impl FetchReply {
+    /// A reply that has told nothing yet.
+    pub(crate) fn new(alloc: Global) -> FetchReply
+        ensures { result ≡ no_reply }
+    {
+        FetchReply {
+            acknowledged: List::new(alloc),
+            shallow: List::new(alloc),
+            unshallow: List::new(alloc),
+            pack: None,
+            progress: List::new(alloc),
+            last: true,
+        }
+    }
+
     /// An equal reply.
     pub fn try_clone(&self) -> Result<FetchReply, NoMemory>
         ensures { IfOk result (λ copy. copy ≡ self.now) }

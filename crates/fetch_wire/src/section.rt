@@ -3,9 +3,12 @@
 ghost use Rattle.std.specs.Prelude.{◌≡◌, ◌≤◌, ◌<◌, ◌+◌, ◌^◌, length, drop, take, IfOk, IfSome};
 ghost use Rattle.std.specs.List.{list_all};
 ghost use Rattle.hex.specs.Hex.{is_hex_digit};
+ghost use Rattle.fetch_wire.specs.Feeding.{error_of};
 ghost use Rattle.fetch_wire.specs.LineViews.{line_of};
 ghost use Rattle.fetch_wire.specs.Lines.{number_in, announced, line_at, line_len, ok_as};
 
+use crate::bound::ReplyBound;
+use crate::error::WireError;
 use crate::line::LineRef;
 use hex::FromHex;
 
@@ -18,6 +21,18 @@ pub enum Trouble {
     Broken { place: usize },
     /// The digits of a line announce more bytes than the reply may have.
     TooLong,
+}
+
+impl Trouble {
+    /// The refusal of a reply of bounded length, where no more bytes come.
+    pub fn to_error(self, bound: ReplyBound) -> WireError
+        ensures { result ≡ error_of bound self }
+    {
+        match self {
+            Trouble::Short { place } | Trouble::Broken { place } => WireError::Malformed { place },
+            Trouble::TooLong => WireError::ReplyTooLong { bound: bound.get() },
+        }
+    }
 }
 
 /// The longest line: its digits, and a payload of 65,516 bytes.

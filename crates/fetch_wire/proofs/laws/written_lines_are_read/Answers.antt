@@ -1,0 +1,5 @@
+use Rattle.fetch_wire.specs.WrittenLaws.{written-line_at}
+use Rattle.fetch_wire.proofs.laws.written_lines_are_read.Goals as goal
+
+pub returns : goal.returns
+returns c = written-line_at

@@ -1,0 +1,78 @@
+-- A pack that is cut into bands, in whatever way.
+use Rattle.std.specs.Prelude.{◌≡◌, ℕ, true, List, [], ◌∷◌, ◌++◌, map, Some, codes, refl}
+use Rattle.std.proofs.Common.{append_assoc}
+use Rattle.std.proofs.lemmas.List.{append-nil}
+use Rattle.std.specs.List.{concat}
+use Rattle.fetch_wire.specs.declared.awaited.AskedReply.{AskedReply}
+use Rattle.fetch_wire.specs.declared.awaited.Await.TheVariants.{Reply}
+use Rattle.fetch_wire.specs.declared.awaited.Told.TheVariants as told
+use Rattle.fetch_wire.specs.declared.line.Line.{Line}
+use Rattle.fetch_wire.specs.declared.line.Line.TheVariants.{Payload, Flush}
+use Rattle.fetch_wire.specs.declared.reading.Part.TheVariants.{Bands}
+use Rattle.fetch_wire.specs.declared.reading.Reading.TheVariants as reading
+use Rattle.fetch_wire.specs.declared.records.FetchReply.{FetchReply}
+use Rattle.fetch_wire.specs.Awaited.{step_of, start_of}
+use Rattle.fetch_wire.specs.FetchReplies.{no_reply}
+use Rattle.fetch_wire.specs.LinesTold.{Tells}
+use Rattle.fetch_wire.specs.Replies.{is_packfile, is_shallow_info}
+use Rattle.fetch_wire.specs.Stepping.{Step, goes}
+use Rattle.fetch_wire.specs.Texts.{is_error, without_lf}
+
+-- a part of the pack, or a text of progress
+pub data Band : Type 0 where
+  Piece : List ℕ → Band
+  Progress : List ℕ → Band
+
+abbrev pub band_line : Band → Line
+band_line (Piece bytes) = Payload (1 ∷ bytes)
+band_line (Progress text) = Payload (2 ∷ text)
+
+-- the parts of the pack, in order
+abbrev pub pieces_of : List Band → List (List ℕ)
+pieces_of [] = []
+pieces_of (Piece bytes ∷ bands) = bytes ∷ pieces_of bands
+pieces_of (Progress text ∷ bands) = pieces_of bands
+
+-- the texts of progress, in order
+abbrev pub texts_of : List Band → List (List ℕ)
+texts_of [] = []
+texts_of (Piece bytes ∷ bands) = texts_of bands
+texts_of (Progress text ∷ bands) = text ∷ texts_of bands
+
+-- the line of a reply that has no acknowledgments and doesn't change the border, and its bands
+abbrev pub pack_lines : List Band → List Line
+pack_lines bands = Payload (codes "packfile" ++ 10 ∷ []) ∷ (map band_line bands ++ Flush ∷ [])
+
+-- what that reply tells
+abbrev pub packed : List Band → FetchReply
+packed bands = record no_reply { pack = Some (concat (pieces_of bands)); progress = texts_of bands }
+
+first_tells : {S T : Type 0} (step : S → Line → Step S T) (s t : S) (line : Line) (lines : List Line) (x : T) → step s line ≡ goes t → Tells step t lines x → Tells step s (line ∷ lines) x
+first_tells step s t line [] x goes_on tells = absurd tells
+first_tells step s t line (next ∷ lines) x goes_on tells = (t, goes_on, tells)
+
+abbrev behind : FetchReply → List ℕ → List (List ℕ) → FetchReply
+behind reply pack progress = record reply { pack = Some pack; progress = progress }
+
+bands_tell : (asked : AskedReply) (reply : FetchReply) (pack : List ℕ) (progress : List (List ℕ)) (bands : List Band)
+    → Tells step_of (reading.Reply asked Bands (behind reply pack progress)) (map band_line bands ++ Flush ∷ []) (told.Reply (behind reply (pack ++ concat (pieces_of bands)) (progress ++ texts_of bands)))
+unfolding step_of
+bands_tell asked reply pack progress [] = rw (append-nil pack, append-nil progress) refl
+bands_tell asked reply pack progress (Piece bytes ∷ bands) =
+    first_tells step_of (reading.Reply asked Bands (behind reply pack progress)) (reading.Reply asked Bands (behind reply (pack ++ bytes) progress)) (Payload (1 ∷ bytes)) (map band_line bands ++ Flush ∷ [])
+    (told.Reply (behind reply (pack ++ (bytes ++ concat (pieces_of bands))) (progress ++ texts_of bands))) refl
+    (rw (← append_assoc pack bytes (concat (pieces_of bands))) (bands_tell asked reply (pack ++ bytes) progress bands))
+bands_tell asked reply pack progress (Progress text ∷ bands) =
+    first_tells step_of (reading.Reply asked Bands (behind reply pack progress)) (reading.Reply asked Bands (behind reply pack (progress ++ text ∷ []))) (Payload (2 ∷ text)) (map band_line bands ++ Flush ∷ [])
+    (told.Reply (behind reply (pack ++ concat (pieces_of bands)) (progress ++ text ∷ texts_of bands))) refl
+    (rw (← append_assoc progress (text ∷ []) (texts_of bands)) (bands_tell asked reply pack (progress ++ text ∷ []) bands))
+
+opens : (asked : AskedReply) → asked.done ≡ true → asked.read_pack ≡ true → step_of (start_of (Reply asked)) (Payload (codes "packfile" ++ 10 ∷ [])) ≡ goes (reading.Reply asked Bands (behind no_reply [] []))
+unfolding step_of is_error without_lf is_packfile is_shallow_info
+opens asked done reads = rw (done, reads) refl
+
+-- A pack is read from its bands, however it is cut.
+pub pack_tells : (asked : AskedReply) (bands : List Band) → asked.done ≡ true → asked.read_pack ≡ true → Tells step_of (start_of (Reply asked)) (pack_lines bands) (told.Reply (packed bands))
+pack_tells asked bands done reads =
+    first_tells step_of (start_of (Reply asked)) (reading.Reply asked Bands (behind no_reply [] [])) (Payload (codes "packfile" ++ 10 ∷ [])) (map band_line bands ++ Flush ∷ []) (told.Reply (packed bands)) (opens asked done reads)
+    (bands_tell asked no_reply [] [] bands)

@@ -1,0 +1,55 @@
+-- Lines of a reply, while its bytes come in pieces.
+use Rattle.std.specs.Prelude.{ℕ, ◌+◌, List, ◌++◌, Option, Some, None, Result, Ok, Err}
+use Rattle.fetch_wire.specs.declared.error.WireError.{WireError}
+use Rattle.fetch_wire.specs.declared.error.WireError.TheVariants as errors
+use Rattle.fetch_wire.specs.declared.line.Line.{Line}
+use Rattle.fetch_wire.specs.declared.reader.Need.{Need}
+use Rattle.fetch_wire.specs.declared.reader.Need.TheVariants as needs
+use Rattle.fetch_wire.specs.declared.section.Trouble.{Trouble}
+use Rattle.fetch_wire.specs.declared.section.Trouble.TheVariants.{Short, Broken, TooLong}
+use Rattle.fetch_wire.specs.LineViews.{line_of}
+use Rattle.fetch_wire.specs.Lines.{line_at, line_len}
+
+-- How many bytes a reply may have, how many its lines that were read have, and what was fed and not yet read.
+pub record Feeding : Type 0 where
+  pub bound : ℕ
+  pub place : ℕ
+  pub pending : List ℕ
+
+-- the same, with more bytes behind
+abbrev pub fed : Feeding → List ℕ → Feeding
+fed feeding more = record feeding { pending = feeding.pending ++ more }
+
+-- what is found in what was fed: a line, or nothing yet, or a line that is refused
+abbrev pub need_in : Result (Line × List ℕ) Trouble → Result (Option Line) Trouble
+need_in (Ok x) = Ok (Some x.0)
+need_in (Err (Short place)) = Ok None
+need_in (Err (Broken place)) = Err (Broken place)
+need_in (Err TooLong) = Err TooLong
+
+-- what is left: the line is read, and what is refused stays
+abbrev pub left_by : Feeding → Result (Line × List ℕ) Trouble → Feeding
+left_by feeding (Ok x) = record feeding { place = feeding.place + line_len x.0; pending = x.1 }
+left_by feeding (Err trouble) = feeding
+
+abbrev pub found_in : Feeding → Result (Line × List ℕ) Trouble
+found_in feeding = line_at feeding.bound feeding.place feeding.pending
+
+-- the next line, or None where more bytes are needed, or why it is refused
+abbrev pub next_in : Feeding → Result (Option Line) Trouble
+next_in feeding = need_in (found_in feeding)
+
+abbrev pub behind_next : Feeding → Feeding
+behind_next feeding = left_by feeding (found_in feeding)
+
+-- what a reader gives, its line seen as one that owns its payload
+abbrev pub seen : Result Need Trouble → Result (Option Line) Trouble
+seen (Ok (needs.Line line)) = Ok (Some (line_of line))
+seen (Ok needs.More) = Ok None
+seen (Err trouble) = Err trouble
+
+-- what a refused line is to a caller, in a reply of bounded length
+abbrev pub error_of : ℕ → Trouble → WireError
+error_of bound (Short place) = errors.Malformed place
+error_of bound (Broken place) = errors.Malformed place
+error_of bound TooLong = errors.ReplyTooLong bound

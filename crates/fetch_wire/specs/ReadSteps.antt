@@ -1,0 +1,39 @@
+-- What the code gives for a line, as a step.
+use Rattle.std.specs.Prelude.{List, ℕ}
+use Rattle.fetch_wire.specs.declared.awaited.AskedReply.{AskedReply}
+use Rattle.fetch_wire.specs.declared.awaited.Told.{Told}
+use Rattle.fetch_wire.specs.declared.reading.Part.{Part}
+use Rattle.fetch_wire.specs.declared.reading.Part.TheVariants.{Beginning, Acknowledgments, Ready, Rest, ShallowInfo, Packfile, Bands}
+use Rattle.fetch_wire.specs.declared.reading.Read.{Read}
+use Rattle.fetch_wire.specs.declared.reading.Read.TheVariants.{On, Whole, Broken, Said}
+use Rattle.fetch_wire.specs.declared.reading.Reading.{Reading}
+use Rattle.fetch_wire.specs.declared.saying.Saying.{Saying}
+use Rattle.fetch_wire.specs.declared.saying.Saying.TheVariants as saying
+use Rattle.fetch_wire.specs.declared.records.FetchReply.{FetchReply}
+use Rattle.fetch_wire.specs.FetchReplies.{at_beginning, at_rest, at_packfile}
+use Rattle.fetch_wire.specs.Stepping.{Step, goes, ends, breaks, says}
+
+-- the step that a line made
+abbrev pub step_in : Read → Step Reading Told
+step_in (On s) = goes s
+step_in (Whole told) = ends told
+step_in Broken = breaks
+step_in (Said text) = says text
+
+-- by what a line says
+abbrev pub by_saying : Step Reading Told → Step Reading Told → (List ℕ → Step Reading Told) → Saying → Step Reading Told
+by_saying flush delim text (saying.Text line) = text line.now
+by_saying flush delim text (saying.Error line) = says line.now
+by_saying flush delim text saying.Flush = flush
+by_saying flush delim text saying.Delim = delim
+by_saying flush delim text saying.End = breaks
+
+-- a text of a fetch reply, where no other line may stand
+abbrev pub at_text : AskedReply → Part → FetchReply → List ℕ → Step Reading Told
+at_text asked Beginning reply text = at_beginning asked reply text
+at_text asked Rest reply text = at_rest asked reply text
+at_text asked Packfile reply text = at_packfile asked reply text
+at_text asked Acknowledgments reply text = breaks
+at_text asked Ready reply text = breaks
+at_text asked ShallowInfo reply text = breaks
+at_text asked Bands reply text = breaks
