@@ -1,5 +1,5 @@
 -- Scripted objects: what they have still to do, and their calls.
-use Rattle.std.specs.Prelude.{ℕ, ◌+◌, List, ◌++◌, ◌∷◌, [], take, drop, slice_index_or, None}
+use Rattle.std.specs.Prelude.{ℕ, List, ◌++◌, ◌∷◌, [], take, drop, slice_index_or, None}
 use Rattle.std.specs.List.{concat}
 use Rattle.fetch_store.specs.Calls.{CallList}
 use Rattle.fetch_wire.specs.Talks.{Talk}
