@@ -4,6 +4,8 @@
 #[cfg(test)]
 mod configuration;
 #[cfg(test)]
+mod configuration_tables;
+#[cfg(test)]
 mod dated;
 #[cfg(test)]
 mod dated_vectors;
@@ -25,6 +27,8 @@ mod packs;
 mod policy;
 #[cfg(test)]
 mod references;
+#[cfg(test)]
+mod refspec_tables;
 #[cfg(test)]
 mod refspecs;
 #[cfg(test)]

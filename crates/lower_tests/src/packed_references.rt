@@ -10,7 +10,9 @@ use std::alloc::Global;
 use std::test::Fail;
 
 const HEX: &[u8] = b"4b825dc642cb6eb9a060e54bf8d69288fbee4904";
+
 const NAME: &[u8] = b"refs/remotes/origin/main";
+
 const LINE: &[u8] = b"4b825dc642cb6eb9a060e54bf8d69288fbee4904 refs/remotes/origin/main\n";
 
 fn signature(alloc: Global) -> Result<Signature, NoMemory> {
@@ -57,7 +59,12 @@ fn an_update_is_packed_and_a_deletion_taken_out(rt: HostRuntime) -> Result<(), F
     let id = ObjectId::from_hex(HEX)?;
     let name = FullName::new(alloc, NAME)?;
     let mut refs = Refs::new(alloc, Kind::Sha1);
-    committed(alloc, &mut refs, update(alloc, Target::Object(id))?, PackedRefs::Only)?;
+    committed(
+        alloc,
+        &mut refs,
+        update(alloc, Target::Object(id))?,
+        PackedRefs::Only,
+    )?;
     assert!(rt; refs.packed_text() == LINE);
     assert_eq!(rt; refs.packed_text().len(), 66);
     assert!(rt; refs.find(&name) == Some(TargetRef::Object(id)));
@@ -82,14 +89,24 @@ fn loose_references_are_packed_at_once(rt: HostRuntime) -> Result<(), Fail> {
     let id = ObjectId::from_hex(HEX)?;
     let name = FullName::new(alloc, NAME)?;
     let mut refs = Refs::new(alloc, Kind::Sha1);
-    committed(alloc, &mut refs, update(alloc, Target::Object(id))?, PackedRefs::Never)?;
+    committed(
+        alloc,
+        &mut refs,
+        update(alloc, Target::Object(id))?,
+        PackedRefs::Never,
+    )?;
     assert_eq!(rt; refs.packed_text().len(), 0);
     refs.compact()?;
     assert!(rt; refs.packed_text() == LINE);
     assert!(rt; refs.find(&name) == Some(TargetRef::Object(id)));
     assert_eq!(rt; refs.reflog(&name).len(), 1);
     let head = FullName::new(alloc, b"refs/heads/main")?;
-    committed(alloc, &mut refs, update(alloc, Target::Symbolic(head))?, PackedRefs::Only)?;
+    committed(
+        alloc,
+        &mut refs,
+        update(alloc, Target::Symbolic(head))?,
+        PackedRefs::Only,
+    )?;
     assert_eq!(rt; refs.packed_text().len(), 0);
     Ok(())
 }
