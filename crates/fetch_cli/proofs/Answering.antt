@@ -15,8 +15,8 @@ use Rattle.fetch_cli.specs.Run.{Are, IsSceneAnswer, IsInputAnswer, IsAnswerTo, I
 use Rattle.fetch_cli.specs.Scene.{limit, scene_of}
 use Rattle.fetch_cli.specs.Words.{command_of}
 use Rattle.fetch_cli.specs.declared.scene.Scene.{Scene}
-use Rattle.fetch_cli.specs.declared.words.Command.{Command}
-use Rattle.fetch_cli.specs.declared.words.Command.TheVariants.{Fetch, Help, Version}
+use Rattle.fetch_cli.specs.declared.program.words.Command.{Command}
+use Rattle.fetch_cli.specs.declared.program.words.Command.TheVariants.{Fetch, Help, Version}
 
 -- ---- a text that is longer than a scene may be
 

@@ -1,5 +1,5 @@
 -- A fetch from a peer that never fails, seen from the whole of what it says.
-use Rattle.std.proofs.Common.{◌≡◌, ◌≢◌, ℕ, Bool, true, false, if◌then◌else◌, List, [], ◌++◌, Some, Result, Ok, Err, IfOk, IfErr, refl, sym, ap, ◌∙◌, arith, append_assoc}
+use Rattle.std.proofs.Common.{◌≡◌, ◌≢◌, ℕ, Bool, true, false, if◌then◌else◌, List, [], ◌++◌, Some, None, Result, Ok, Err, IfOk, IfErr, refl, sym, ap, ◌∙◌, arith, append_assoc}
 use Rattle.std.proofs.lemmas.List.{append-nil}
 use Rattle.std.proofs.lemmas.Grind.{flat_map-append}
 use Rattle.fetch_store.specs.Faults.{Faults, Rose, Counts}
@@ -70,14 +70,14 @@ front_requests g s said more = front_form (is_in_form g s) (bound_of g) g s said
 -- ---- all that the peer says
 
 -- what it gave and has still to give
-whole : (a b : Talk) (heard said stream : List ℕ) → a ≡ record { heard = []; given = []; to_come = stream } → Passes false a b heard said → stream ≡ said ++ b.to_come
+whole : (a b : Talk) (heard said stream : List ℕ) → a ≡ record { heard = []; given = []; to_come = stream; rule = None } → Passes false a b heard said → stream ≡ said ++ b.to_come
 whole a b heard said stream told p =
     let e : a.to_come ≡ stream = ap (λ (t : Talk). t.to_come) told in
     let none : p.added ≡ [] = p.fixed refl in
     sym e ∙ sym (append-nil a.to_come) ∙ (rw none at p.in_order)
 
 -- what it heard
-heard_is : (a b : Talk) (heard said stream : List ℕ) → a ≡ record { heard = []; given = []; to_come = stream } → Passes false a b heard said → b.heard ≡ heard
+heard_is : (a b : Talk) (heard said stream : List ℕ) → a ≡ record { heard = []; given = []; to_come = stream; rule = None } → Passes false a b heard said → b.heard ≡ heard
 heard_is a b heard said stream told p =
     let none : a.heard ≡ [] = ap (λ (t : Talk). t.heard) told in
     p.heard_more ∙ ap (λ (l : List ℕ). l ++ heard) none
@@ -85,7 +85,7 @@ heard_is a b heard said stream told p =
 same_talk : (a : Talk) (t : Talk) → Some a ≡ Some t → a ≡ t
 same_talk a t e = cc
 
-done : (g : Given) (before after : State) (outcome : Outcome) (a b : Talk) (stream : List ℕ) → Some a ≡ Some (record { heard = []; given = []; to_come = stream })
+done : (g : Given) (before after : State) (outcome : Outcome) (a b : Talk) (stream : List ℕ) → Some a ≡ Some (record { heard = []; given = []; to_come = stream; rule = None })
     → IsFetched false (Some a) (Some b) g before after outcome → HasDone g before stream outcome after b.heard
 done g before after outcome a b stream told h =
     let same = same_talk a _ told in
@@ -95,7 +95,7 @@ done g before after outcome a b stream told h =
       requests = heard_is a b _ h.said stream same h.passed ∙ rw all (sym (h.same_requests b.to_come));
     }
 
-refused_for : (g : Given) (before after : State) (e : FetchError) (a b : Talk) (stream : List ℕ) → a ≡ record { heard = []; given = []; to_come = stream }
+refused_for : (g : Given) (before after : State) (e : FetchError) (a b : Talk) (stream : List ℕ) → a ≡ record { heard = []; given = []; to_come = stream; rule = None }
     → is_free e ≡ false → IsRefused false (Some a) (Some b) g before after e → HasRefused g before stream e after b.heard
 refused_for g before after e a b stream same sure h =
     let all = whole a b _ h.said stream same h.passed in
@@ -126,7 +126,7 @@ not_client (receive.Collision id) h = refl
 not_client (receive.UpdateRefs e) h = refl
 not_client receive.Unbuilt h = refl
 
-refused : (g : Given) (before after : State) (e : FetchError) (a b : Talk) (stream : List ℕ) → Some a ≡ Some (record { heard = []; given = []; to_come = stream })
+refused : (g : Given) (before after : State) (e : FetchError) (a b : Talk) (stream : List ℕ) → Some a ≡ Some (record { heard = []; given = []; to_come = stream; rule = None })
     → (e ≡ errors.Prepare (prepare.RefMap ref_map.Transport) → ⊥) → (e ≡ errors.Receive receive.Client → ⊥)
     → IsRefused false (Some a) (Some b) g before after e → HasRefusedBy g before stream e after b.heard
 refused g before after errors.NoMemory a b stream told transport client h = tt
@@ -136,7 +136,7 @@ refused g before after (errors.Prepare e) a b stream told transport client h =
 refused g before after (errors.Receive e) a b stream told transport client h =
     refused_for g before after (errors.Receive e) a b stream (same_talk a _ told) (not_client e (λ is. client (ap errors.Receive is))) h
 
-pub fetched : (g : Given) (before after : State) (a b : Talk) (stream : List ℕ) (result : Result Outcome FetchError) → Some a ≡ Some (record { heard = []; given = []; to_come = stream })
+pub fetched : (g : Given) (before after : State) (a b : Talk) (stream : List ℕ) (result : Result Outcome FetchError) → Some a ≡ Some (record { heard = []; given = []; to_come = stream; rule = None })
     → IfOk result (λ outcome. IsFetched false (Some a) (Some b) g before after outcome) → IfErr result (λ e. IsRefused false (Some a) (Some b) g before after e)
     → (result ≡ Err (errors.Prepare (prepare.RefMap ref_map.Transport)) → ⊥) → (result ≡ Err (errors.Receive receive.Client) → ⊥)
     → HasFetched g before stream result after b.heard

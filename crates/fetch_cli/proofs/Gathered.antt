@@ -7,7 +7,7 @@ use Rattle.std.specs.Ordering.{nat_cmp, is_eq}
 use Rattle.std.specs.Str.{bytes_eq}
 use Rattle.std.proofs.lemmas.Bool.{not-true, not-false}
 use Rattle.std.proofs.lemmas.List.Folds.{list_any-append}
-use Rattle.fetch_cli.specs.declared.references.Reference.{Reference}
+use Rattle.fetch_cli.specs.declared.scene.references.Reference.{Reference}
 use Rattle.fetch_cli.specs.SceneRefs.{HasNames, has_name}
 
 or_one : (a t : Bool) → cond t true a ≡ (a || (t || false))

@@ -3,7 +3,7 @@ use Rattle.std.proofs.Common.{◌≡◌, ℕ, ◌+◌, ◌<◌, ◌≤◌, List,
 use Rattle.std.proofs.lemmas.List.{drop_all}
 use Rattle.std.specs.Option.{option_map}
 use Rattle.fetch_store.specs.declared.id.Kind.{Kind}
-use Rattle.fetch_cli.specs.declared.references.Reference.{Reference}
+use Rattle.fetch_cli.specs.declared.scene.references.Reference.{Reference}
 use Rattle.fetch_cli.specs.SceneLines.{Placed}
 use Rattle.fetch_cli.specs.SceneRefs.{new_reference, references_behind}
 use Rattle.fetch_cli.proofs.EachLine.{from}

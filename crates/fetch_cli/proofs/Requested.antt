@@ -14,10 +14,11 @@ use Rattle.fetch_wire.specs.Greetings.{greeting_of, offers, has_word, value_of}
 use Rattle.fetch_wire.specs.Lines.{section_at}
 use Rattle.fetch_wire.specs.Listings.{listing_of}
 use Rattle.fetch_wire.specs.Replies.{has_shallow_info, reply_of}
-use Rattle.fetch_wire.specs.Requests.{first_line, listing_lines, command_lines, head_lines, agent_line, format_line, detail_lines, unborn_lines, prefix_line, where_offered, text_line}
+use Rattle.fetch_wire.specs.RequestLines.{id_lines}
+use Rattle.fetch_wire.specs.RequestWords.{have_word, done_word}
+use Rattle.fetch_wire.specs.Requests.{first_line, listing_lines, listing_word, head_texts, detail_texts, prefix_text, sent, when, text_line}
 use Rattle.fetch_wire.specs.Written.{too_long_in, first_too_long}
-use Rattle.fetch_negotiate.specs.Requests.{Asked, fetch_request, sent, head_of, asked_of, id_lines, when}
-use Rattle.fetch_negotiate.specs.Words.{have_word, done_word}
+use Rattle.fetch_negotiate.specs.Requests.{Asked, fetch_request, head_of, asked_of}
 use Rattle.fetch_remote.specs.Conversation.{Conversation, ends, asks, asking, asks_unless, sent_in, after_reply, told_as, and_then}
 use Rattle.fetch_remote.specs.ConverseStage.{converse_stage, wanting, fetching, replied, packed}
 use Rattle.fetch_remote.specs.Fetching.{requests_in, conversation, receiving_stage, bound_of, asked_in}
@@ -62,64 +63,23 @@ mapped_sent : {A : Type 0} (f : A → Line) (xs : List A) → ((x : A) → is_se
 mapped_sent f [] h = refl
 mapped_sent f (x ∷ xs) h = rw (h x) (mapped_sent f xs h)
 
-offered_sent : (b : Bool) (line : Line) → is_sent line ≡ true → AllSent (where_offered b line)
-offered_sent true line h = rw h refl
-offered_sent false line h = refl
-
-two_sent : (a b : Bool) (x y : Line) → is_sent x ≡ true → is_sent y ≡ true → AllSent (where_offered a x ++ where_offered b y)
-two_sent a b x y h k = append_sent (where_offered a x) (where_offered b y) (offered_sent a x h) (offered_sent b y k)
-
 -- ---- the lines of each request
 
 first_sent : (address : List ℕ) (parameters : List (List ℕ × Option (List ℕ))) → AllSent (first_line address parameters ∷ [])
 unfolding first_line
 first_sent address parameters = refl
 
-agent_sent : (agent : List ℕ) → is_sent (agent_line agent) ≡ true
-unfolding agent_line
-agent_sent agent = refl
-
-format_sent : (h : Handshake) → is_sent (format_line h.object_hash) ≡ true
-unfolding format_line
-format_sent h = refl
-
-head_sent : (h : Handshake) (agent : List ℕ) → AllSent (head_lines h agent)
-unfolding head_lines
-head_sent h agent =
-    two_sent (offers (codes "agent") h.capabilities) (offers (codes "object-format") h.capabilities) (agent_line agent) (format_line h.object_hash) (agent_sent agent) (format_sent h)
-
-command_sent : AllSent command_lines
-unfolding command_lines
-command_sent = refl
-
-detail_sent : AllSent detail_lines
-unfolding detail_lines
-detail_sent = refl
-
-unborn_sent : (h : Handshake) → AllSent (unborn_lines h)
-unfolding unborn_lines
-unborn_sent h = offered_sent (has_word (codes "unborn") (value_of (codes "ls-refs") h.capabilities)) (text_line (codes "unborn")) refl
-
-prefix_sent : (prefix : List ℕ) → is_sent (prefix_line prefix) ≡ true
-unfolding prefix_line
-prefix_sent prefix = refl
-
-listing_sent : (h : Handshake) (agent : List ℕ) (prefixes : List (List ℕ)) → AllSent (listing_lines h agent prefixes)
-listing_sent h agent prefixes =
-    let a = append_sent command_lines (head_lines h agent) command_sent (head_sent h agent) in
-    let b = append_sent (command_lines ++ head_lines h agent) detail_lines a detail_sent in
-    let c = append_sent (command_lines ++ head_lines h agent ++ detail_lines) (unborn_lines h) b (unborn_sent h) in
-    let d = append_sent (command_lines ++ head_lines h agent ++ detail_lines ++ unborn_lines h) (map prefix_line prefixes) c (mapped_sent prefix_line prefixes prefix_sent) in
-    append_sent (command_lines ++ head_lines h agent ++ detail_lines ++ unborn_lines h ++ map prefix_line prefixes) (Flush ∷ []) d refl
-
 texts_sent : (texts : List (List ℕ)) → AllSent (sent texts)
-texts_sent texts = mapped_sent (λ (line : List ℕ). Payload (line ++ 10 ∷ [])) texts (λ line. refl)
+texts_sent texts = mapped_sent text_line texts (λ line. refl)
 
 framed_sent : (head body : List (List ℕ)) → AllSent (sent head ++ Delim ∷ [] ++ sent body ++ Flush ∷ [])
 framed_sent head body =
     let a = append_sent (sent head) (Delim ∷ []) (texts_sent head) refl in
     let b = append_sent (sent head ++ Delim ∷ []) (sent body) a (texts_sent body) in
     append_sent (sent head ++ Delim ∷ [] ++ sent body) (Flush ∷ []) b refl
+
+listing_sent : (h : Handshake) (agent : List ℕ) (prefixes : List (List ℕ)) → AllSent (listing_lines h agent prefixes)
+listing_sent h agent prefixes = framed_sent (listing_word ∷ head_texts h agent) (detail_texts h ++ map prefix_text prefixes)
 
 fetch_sent : (a : Asked) (haves : List ObjectId) (done : Bool) → AllSent (fetch_request a haves done)
 unfolding fetch_request

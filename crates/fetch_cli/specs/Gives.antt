@@ -1,7 +1,7 @@
 -- What reading a scene answers: a value, or the place where the text is no scene.
 use Rattle.std.specs.Prelude.{◌≡◌, ℕ, Result, Ok, Err, ⊤}
-use Rattle.fetch_cli.specs.declared.fault.SceneFault.{SceneFault}
-use Rattle.fetch_cli.specs.declared.fault.SceneFault.TheVariants.{Malformed, NoMemory}
+use Rattle.fetch_cli.specs.declared.scene.fault.SceneFault.{SceneFault}
+use Rattle.fetch_cli.specs.declared.scene.fault.SceneFault.TheVariants.{Malformed, NoMemory}
 
 infixl 10 ◌>>=◌
 abbrev pub ◌>>=◌ : {A B : Type 0} → Result A ℕ → (A → Result B ℕ) → Result B ℕ

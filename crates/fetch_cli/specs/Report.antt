@@ -28,8 +28,8 @@ use Rattle.fetch_cli.specs.Heard.{lines_heard}
 use Rattle.fetch_cli.specs.MapLines.{map_line}
 use Rattle.fetch_cli.specs.ReportLines.{sent_line, ref_line, log_line, border_line, id_line, keep_line, refused_line}
 use Rattle.fetch_cli.specs.Tokens.{token}
-use Rattle.fetch_cli.specs.declared.options.SceneOptions.{SceneOptions}
-use Rattle.fetch_cli.specs.declared.references.Reference.{Reference}
+use Rattle.fetch_cli.specs.declared.scene.options.SceneOptions.{SceneOptions}
+use Rattle.fetch_cli.specs.declared.scene.references.Reference.{Reference}
 use Rattle.fetch_cli.specs.declared.scene.Scene.{Scene}
 
 -- ---- what a scene says

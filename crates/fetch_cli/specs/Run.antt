@@ -2,8 +2,8 @@
 use Rattle.std.specs.Prelude.{◌≡◌, ℕ, Bool, true, false, List, Option, Result, Ok, Err}
 use Rattle.std.specs.Io.KnownBytes.{Appends}
 use Rattle.fetch_cli.specs.declared.scene.Scene.{Scene}
-use Rattle.fetch_cli.specs.declared.words.Command.{Command}
-use Rattle.fetch_cli.specs.declared.words.Command.TheVariants.{Fetch, Help, Version}
+use Rattle.fetch_cli.specs.declared.program.words.Command.{Command}
+use Rattle.fetch_cli.specs.declared.program.words.Command.TheVariants.{Fetch, Help, Version}
 use Rattle.fetch_cli.specs.Ends.{IsFront, IsAll}
 use Rattle.fetch_cli.specs.Report.{IsReport}
 use Rattle.fetch_cli.specs.ReportLines.{malformed_line, malformed_word_line}

@@ -8,8 +8,8 @@ use Rattle.fetch_store.specs.Stores.{Entries}
 use Rattle.fetch_store.specs.Borders.{set_of}
 use Rattle.fetch_pack.specs.Reading.{read}
 use Rattle.fetch_cli.specs.declared.scene.Scene.{Scene}
-use Rattle.fetch_cli.specs.declared.local.Local.{Local}
-use Rattle.fetch_cli.specs.declared.remote_part.RemotePart.{RemotePart}
+use Rattle.fetch_cli.specs.declared.scene.local.Local.{Local}
+use Rattle.fetch_cli.specs.declared.scene.remote_part.RemotePart.{RemotePart}
 use Rattle.fetch_cli.specs.Gives.{◌>>=◌}
 use Rattle.fetch_cli.specs.LineKinds.{border_of, worktree_of, tags_of, refspec_of}
 use Rattle.fetch_cli.specs.SceneConfig.{config_of}

@@ -4,9 +4,9 @@ use Rattle.std.specs.Option.{option_map}
 use Rattle.std.specs.Str.{bytes_eq}
 use Rattle.fetch_store.specs.Scan.{◌>>=◌, split_first}
 use Rattle.fetch_wire.specs.declared.line.Line.{Line}
-use Rattle.fetch_cli.specs.declared.options.SceneOption.{SceneOption}
-use Rattle.fetch_cli.specs.declared.options.SceneOption.TheVariants.{DryRun, PackedOnly, NoFilter, Depth, Deepen, Since, Not, Parameter, Bound, Action, Message}
-use Rattle.fetch_cli.specs.declared.options.SceneOptions.{SceneOptions}
+use Rattle.fetch_cli.specs.declared.scene.options.SceneOption.{SceneOption}
+use Rattle.fetch_cli.specs.declared.scene.options.SceneOption.TheVariants.{DryRun, PackedOnly, NoFilter, Depth, Deepen, Since, Not, Parameter, Bound, Action, Message}
+use Rattle.fetch_cli.specs.declared.scene.options.SceneOptions.{SceneOptions}
 use Rattle.fetch_negotiate.specs.declared.algorithm.Shallow.{Shallow}
 use Rattle.fetch_negotiate.specs.declared.algorithm.Shallow.TheVariants as shallow
 use Rattle.fetch_update.specs.declared.message.RefLogMessage.TheVariants as messages

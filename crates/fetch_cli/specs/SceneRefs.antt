@@ -7,7 +7,7 @@ use Rattle.std.specs.Ordering.{nat_cmp, is_eq}
 use Rattle.std.specs.Str.{bytes_eq}
 use Rattle.fetch_store.specs.declared.id.Kind.{Kind}
 use Rattle.fetch_wire.specs.declared.line.Line.{Line}
-use Rattle.fetch_cli.specs.declared.references.Reference.{Reference}
+use Rattle.fetch_cli.specs.declared.scene.references.Reference.{Reference}
 use Rattle.fetch_cli.specs.Gives.{◌>>=◌}
 use Rattle.fetch_cli.specs.LineKinds.{reference_of}
 use Rattle.fetch_cli.specs.SceneLines.{Placed, Lines, value_of, group_of, behind_group}

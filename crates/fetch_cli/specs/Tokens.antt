@@ -36,6 +36,7 @@ wire_token wire.NoMemory = codes "NoMemory"
 unfoldable pub pack_token : PackError → List ℕ
 pack_token (pack.Malformed place) = keeping (codes "Malformed") (decimal place)
 pack_token (pack.PackDigest found computed) = keeping (keeping (codes "PackDigest") (hex_of found)) (hex_of computed)
+pack_token (pack.IdMismatch written computed) = keeping (keeping (codes "IdMismatch") (hex_of written)) (hex_of computed)
 pack_token (pack.Collision id) = keeping (codes "Collision") (hex_of id)
 pack_token pack.NoMemory = codes "NoMemory"
 

@@ -1,5 +1,12 @@
 //! The report of a scene.
 
+pub mod heard;
+pub mod lines;
+pub mod map_lines;
+pub mod setting;
+pub mod state_lines;
+pub mod tokens;
+
 ghost use Rattle.std.specs.Prelude.{◌≡◌, ◌++◌, IfOk, OnOk};
 ghost use Rattle.std.specs.List.{concat};
 ghost use Rattle.std.specs.Option.{option_copied};
@@ -12,13 +19,13 @@ ghost use Rattle.fetch_cli.specs.Report.{Reports};
 ghost use Rattle.fetch_cli.specs.ReportLines.{refused_line};
 ghost use Rattle.fetch_cli.specs.Tokens.{token};
 
-use crate::heard::append_heard;
-use crate::map_lines::append_map;
-use crate::report_lines::{append_keep, append_refused};
+use crate::reporting::heard::append_heard;
+use crate::reporting::lines::{append_keep, append_refused};
+use crate::reporting::map_lines::append_map;
+use crate::reporting::setting::{Setting, set_up};
+use crate::reporting::state_lines::append_state;
+use crate::reporting::tokens::append_token;
 use crate::scene::Scene;
-use crate::setting::{Setting, set_up};
-use crate::state_lines::append_state;
-use crate::tokens::append_token;
 use fetch_remote::{FetchError, Outcome, Repository, Status};
 use fetch_store::{List, MemoryFiles, NoMemory, Text};
 use fetch_update::{ScriptedWorktrees, Update, update};
@@ -37,7 +44,7 @@ pub(crate) struct Fetched {
 /// Fetches as it is set up, from a peer that never fails.
 fn fetch<R: Threads + Sync>(rt: &R, alloc: Global, setting: Setting) -> Fetched
     ensures { HasFetched (record { remote = setting.remote; options = setting.options; setup = setup_of setting.repo }) (state_of setting.repo) (concat setting.pieces)
-        result.result (state_of result.repo) result.peer.talk.heard }
+        result.result (state_of result.repo) result.peer.heard }
 {
     let Setting {
         repo,
@@ -174,7 +181,7 @@ fn append_unbuilt(out: &mut Vec<u8>) -> Result<(), NoMemory>
 
 /// The report of a fetch, and its status.
 fn append_report(out: &mut Vec<u8>, fetched: &Fetched) -> Result<u8, NoMemory>
-    ensures { IfOk result (λ status. spec.Tells out.old.items out.new.items status fetched.now.result (state_of fetched.now.repo) fetched.now.peer.talk.heard) }
+    ensures { IfOk result (λ status. spec.Tells out.old.items out.new.items status fetched.now.result (state_of fetched.now.repo) fetched.now.peer.heard) }
 {
     let heard = fetched.peer.heard();
     match &fetched.result {

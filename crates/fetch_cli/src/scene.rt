@@ -1,22 +1,39 @@
 //! A scene: all that a fetch needs, and what the peer says.
 
+pub mod configuration;
+pub mod fault;
+pub mod head;
+pub mod line_kinds;
+pub mod line_reader;
+pub mod lines;
+pub mod local;
+pub mod names;
+pub mod numbers;
+pub mod objects;
+pub mod options;
+pub mod references;
+pub mod refspecs;
+pub mod remote_part;
+pub mod text_lines;
+pub mod worktrees;
+
 ghost use Rattle.std.specs.Prelude.{◌≡◌, ◌≤◌, ◌^◌, length, IfOk};
 ghost use Rattle.fetch_store.specs.Stores.{AreOf};
 ghost use Rattle.fetch_cli.specs.Gives.{Gives};
 ghost use Rattle.fetch_cli.specs.Scene as spec;
 
-use crate::fault::SceneFault;
-use crate::head::Head;
-use crate::lines::Lines;
-use crate::local::{Local, read_local};
-use crate::objects::read_objects;
-use crate::options::SceneOptions;
-use crate::read::MAX_SCENE;
-use crate::readers::{Flush, Payload};
-use crate::reading::{read_each, read_next};
-use crate::references::Reference;
-use crate::remote_part::{RemotePart, read_remote};
-use crate::text_lines::read_lines;
+use crate::program::input::MAX_SCENE;
+use crate::scene::fault::SceneFault;
+use crate::scene::head::Head;
+use crate::scene::line_kinds::{Flush, Payload};
+use crate::scene::line_reader::{read_each, read_next};
+use crate::scene::lines::Lines;
+use crate::scene::local::{Local, read_local};
+use crate::scene::objects::read_objects;
+use crate::scene::options::SceneOptions;
+use crate::scene::references::Reference;
+use crate::scene::remote_part::{RemotePart, read_remote};
+use crate::scene::text_lines::read_lines;
 use fetch_config::File;
 use fetch_specs::{RefSpec, Tags};
 use fetch_store::{Border, Kind, List, Object, ObjectId, Text};

@@ -75,7 +75,7 @@ before-end (c ∷ cs) h = before-sign false c cs (other_byte is_comment_sign 34 
 
 -- blanks at the edges
 
-skip-blanks : (bs t : List ℕ) → list_all is_blank bs ≡ true → skip_blanks (bs ++ t) ≡ skip_blanks t
+pub skip-blanks : (bs t : List ℕ) → list_all is_blank bs ≡ true → skip_blanks (bs ++ t) ≡ skip_blanks t
 skip-blanks [] t h = refl
 skip-blanks (c ∷ cs) t h = let b = and_parts (is_blank c) (list_all is_blank cs) h in one_blank c (cs ++ t) b.0 ∙ skip-blanks cs t b.1
 
@@ -216,7 +216,7 @@ unfolding closes
 split_end [] = record { inner = []; back = []; is = refl; blank = refl; closed = refl }
 split_end (c ∷ cs) = let r = split_end cs in subst (λ t. IsSplit (c ∷ t)) (sym r.is) (add_byte c r.inner r.back r.blank r.closed)
 
-front_blanks : (text : List ℕ) → list_all is_blank (take (prefix_len is_blank text) text) ≡ true
+pub front_blanks : (text : List ℕ) → list_all is_blank (take (prefix_len is_blank text) text) ≡ true
 front_blanks [] = refl
 front_blanks (c ∷ cs) = by_test (front_blanks cs) (is_blank c) refl where
   by_test : list_all is_blank (take (prefix_len is_blank cs) cs) ≡ true → (t : Bool) → is_blank c ≡ t → list_all is_blank (take (cond t (1 + prefix_len is_blank cs) 0) (c ∷ cs)) ≡ true

@@ -12,3 +12,4 @@ pub mod WrittenTexts
 pub mod Marks
 pub mod Edges
 pub mod Letters
+pub mod Headers

@@ -103,13 +103,13 @@ no_feed (c ∷ cs) h = let b = and_parts (is_plain c) (list_all is_plain cs) h i
 
 -- a name and what stands behind it
 
-is_stop : List ℕ → Bool
+unfoldable pub is_stop : List ℕ → Bool
 is_stop [] = true
 is_stop (c ∷ cs) = not (is_name_byte c)
 
-record IsDivided (name rest : List ℕ) : Type 0 where
-  front : take_while is_name_byte (name ++ rest) ≡ name
-  back : drop (prefix_len is_name_byte (name ++ rest)) (name ++ rest) ≡ rest
+pub record IsDivided (name rest : List ℕ) : Type 0 where
+  pub front : take_while is_name_byte (name ++ rest) ≡ name
+  pub back : drop (prefix_len is_name_byte (name ++ rest)) (name ++ rest) ≡ rest
 
 stop_here : (rest : List ℕ) → is_stop rest ≡ true → IsDivided [] rest
 unfolding is_stop
@@ -122,7 +122,7 @@ stop_here (c ∷ cs) h = by_test (is_name_byte c) refl h where
     back = ap (λ t. drop (cond t (1 + prefix_len is_name_byte cs) 0) (c ∷ cs)) is;
   }
 
-divided : (name rest : List ℕ) → list_all is_name_byte name ≡ true → is_stop rest ≡ true → IsDivided name rest
+pub divided : (name rest : List ℕ) → list_all is_name_byte name ≡ true → is_stop rest ≡ true → IsDivided name rest
 divided [] rest h k = stop_here rest k
 divided (c ∷ cs) rest h k =
     let b = and_parts (is_name_byte c) (list_all is_name_byte cs) h in
@@ -153,7 +153,7 @@ unfolding is_stop
 stops-header None = refl
 stops-header (Some s) = refl
 
-name_bytes : (name : List ℕ) → is_name name ≡ true → list_all is_name_byte name ≡ true
+pub name_bytes : (name : List ℕ) → is_name name ≡ true → list_all is_name_byte name ≡ true
 name_bytes name h = (and_parts (not (eqb (length name) 0)) (list_all is_name_byte name) h).1
 
 header_read : (name : List ℕ) (sub : Option (List ℕ)) → is_name name ≡ true → header_of (name ++ (sub_text sub ++ 93 ∷ [])) ≡ Some (Header name sub)
@@ -191,7 +191,7 @@ behind_key : (key : List ℕ) (value : Option (List ℕ)) → entry_behind key (
 behind_key key None = refl
 behind_key key (Some v) = ap (λ (o : Option (List ℕ)). option_map (λ value. Entry key (Some value)) o) (value_back v)
 
-letter : (c : ℕ) → is_ascii_alphabetic c ≡ true → is_name_byte c ≡ true
+pub letter : (c : ℕ) → is_ascii_alphabetic c ≡ true → is_name_byte c ≡ true
 letter c h = by_parts (is_in_range 48 57 c) (is_in_range 65 90 c) (is_in_range 97 122 c) h where
   by_parts : (a b d : Bool) → (b || d) ≡ true → (((a || b) || d) || eqb c 45) ≡ true
   by_parts true b d h = refl
@@ -199,7 +199,7 @@ letter c h = by_parts (is_in_range 48 57 c) (is_in_range 65 90 c) (is_in_range 9
   by_parts false false true h = refl
   by_parts false false false h = absurd cc
 
-key_bytes : (key : List ℕ) → is_key key ≡ true → list_all is_name_byte key ≡ true
+pub key_bytes : (key : List ℕ) → is_key key ≡ true → list_all is_name_byte key ≡ true
 key_bytes [] h = absurd cc
 key_bytes (c ∷ cs) h = let b = and_parts (is_ascii_alphabetic c) (list_all is_name_byte cs) h in and_from (is_name_byte c) (list_all is_name_byte cs) (letter c b.0) b.1
 

@@ -35,10 +35,3 @@ IsRefusedAt broken (Syntax line) = broken ≡ Some line
 IsRefusedAt broken (BadValue place) = ⊥
 IsRefusedAt broken (InvalidKey text) = ⊥
 IsRefusedAt broken NoMemory = Unit {0}
-
--- Why an edit is refused: the first byte that can't be kept, or want of memory.
-abbrev pub IsUnkept : Option ℕ → ConfigError → Type 0
-IsUnkept bad (Syntax line) = ⊥
-IsUnkept bad (BadValue place) = bad ≡ Some place
-IsUnkept bad (InvalidKey text) = ⊥
-IsUnkept bad NoMemory = Unit {0}

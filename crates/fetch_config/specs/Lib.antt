@@ -11,3 +11,5 @@ pub mod Written
 pub mod Marks
 pub mod Subsections
 pub mod Overrides
+pub mod Overridden
+pub mod Shapes

@@ -1,5 +1,5 @@
 -- What an override says.
-use Rattle.std.specs.Prelude.{◌≡◌, ℕ, true, ◌&&◌, if◌then◌else◌, List, [], ◌∷◌, position, Option, Some, None}
+use Rattle.std.specs.Prelude.{◌≡◌, ℕ, true, ◌&&◌, if◌then◌else◌, List, [], ◌∷◌, position, Option, Some, None, is_some, IsTrue}
 use Rattle.std.specs.Option.{option_map_or}
 use Rattle.fetch_store.specs.Scan.{◌>>=◌, split_first, split_last}
 use Rattle.fetch_config.specs.declared.error.ConfigError.{ConfigError}
@@ -36,9 +36,9 @@ override_of text = let parts = path_and_value text in section_at parts.0 parts.1
 unfoldable pub unkept_place : List ℕ → Option ℕ
 unkept_place text = let path = (path_and_value text).0 in option_map_or (λ place. Some place) (position is_nul_or_feed path) (position is_nul text)
 
--- Why an override is refused: it has no key; else its first byte that can't be kept; or want of memory.
+-- Why an override is refused: it has no key, also where it has a NUL; where it has one, its first byte that can't be kept; or want of memory.
 abbrev pub IsOverrideRefusal : List ℕ → ConfigError → Type 0
 IsOverrideRefusal text (Syntax line) = ⊥
-IsOverrideRefusal text (BadValue place) = unkept_place text ≡ Some place
+IsOverrideRefusal text (BadValue place) = IsTrue (is_some (override_of text)) × (unkept_place text ≡ Some place)
 IsOverrideRefusal text (InvalidKey told) = (override_of text ≡ None) × (told ≡ text)
 IsOverrideRefusal text NoMemory = Unit {0}

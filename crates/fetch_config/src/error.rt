@@ -1,5 +1,7 @@
 //! What refuses a configuration.
 
+ghost use Rattle.std.specs.Prelude.{◌≡◌, IfOk};
+
 use fetch_store::{NoMemory, Text};
 use std::alloc::{AllocError, AllocFailed};
 use thiserror::Error;
@@ -7,17 +9,43 @@ use thiserror::Error;
 /// Why a call on a configuration is refused.
 #[derive(Debug, Drop, PartialEq, Eq, Error)]
 pub enum ConfigError {
-    /// The line with this number, from 1, breaks the grammar.
+    /// A line of a text breaks the grammar.
     #[error("malformed configuration line {line}")]
-    Syntax { line: usize },
-    /// The byte at this place can't be kept: a NUL, or a line feed in a subsection.
+    Syntax {
+        /// The number of the first such line, from 1.
+        line: usize,
+    },
+    /// A byte can't be kept: a NUL, or a line feed in a subsection.
     #[error("a byte that no value can have at {place}")]
-    BadValue { place: usize },
-    /// This override names no section and key.
+    BadValue {
+        /// The place of the first such byte, from 0, in the value, the subsection or the override.
+        place: usize,
+    },
+    /// An override has no `section.key` before its first `=`.
     #[error("an override without a section and a key")]
-    InvalidKey { text: Text },
+    InvalidKey {
+        /// The whole override.
+        text: Text,
+    },
+    /// Memory ran out.
     #[error("out of memory")]
     NoMemory,
+}
+
+impl ConfigError {
+    /// An equal refusal.
+    pub fn try_clone(&self) -> Result<ConfigError, NoMemory>
+        ensures { IfOk result (λ copy. copy ≡ self.now) }
+    {
+        match self {
+            ConfigError::Syntax { line } => Ok(ConfigError::Syntax { line: *line }),
+            ConfigError::BadValue { place } => Ok(ConfigError::BadValue { place: *place }),
+            ConfigError::InvalidKey { text } => Ok(ConfigError::InvalidKey {
+                text: text.try_clone()?,
+            }),
+            ConfigError::NoMemory => Ok(ConfigError::NoMemory),
+        }
+    }
 }
 
 impl From<NoMemory> for ConfigError {

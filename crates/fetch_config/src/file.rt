@@ -1,8 +1,8 @@
 //! A configuration.
 
-ghost use Rattle.std.specs.Prelude.{◌≡◌, ◌<◌, ◌++◌, length, IfOk, OnOk, IfErr, OnErr, None, Some, Ok, option_map, position, remove, [], ◌∷◌, slice_get};
+ghost use Rattle.std.specs.Prelude.{◌≡◌, ◌<◌, ◌++◌, length, IfOk, OnOk, IfErr, OnErr, IfSome, IsOkUnless, MatchOption, IsTrue, is_some, None, Some, Ok, Err, option_map, position, remove, [], ◌∷◌, slice_get};
 ghost use Rattle.std.specs.Option.{option_copied, option_map_or};
-ghost use Rattle.fetch_config.specs.Contents.{Contents, with_sections, on_section, with_entry, without_key, IsRefusedAt, IsUnkept};
+ghost use Rattle.fetch_config.specs.Contents.{Contents, with_sections, on_section, with_entry, without_key, IsRefusedAt};
 ghost use Rattle.fetch_config.specs.Kept as kept;
 ghost use Rattle.fetch_config.specs.Lines as lines;
 ghost use Rattle.fetch_config.specs.Lookups as lookups;
@@ -14,7 +14,7 @@ ghost use Rattle.fetch_config.specs.declared.error.ConfigError.TheVariants as er
 use crate::error::{ConfigError, Unreadable};
 use crate::lookup;
 use crate::meta::{Meta, Origin};
-use crate::overrides::{nul_or_feed_place, nul_place, override_of, unkept_place};
+use crate::overrides::{nul_or_feed_place, nul_place, override_of, section_of, unkept_place};
 use crate::print::text_of;
 use crate::reading::read_sections;
 use crate::section::{Section, push_copies, push_entry, remove_entries};
@@ -58,6 +58,7 @@ impl File {
         &self.meta
     }
 
+    /// An equal configuration.
     pub fn try_clone(&self, alloc: Global) -> Result<File, NoMemory>
         ensures { IfOk result (λ copy. copy ≡ self.now) }
     {
@@ -111,9 +112,10 @@ impl File {
         ensures ok { OnOk result (option_map (λ s. with_sections self.old (self.old.sections ++ s ∷ [])) (overrides.override_of text.now) ≡ Some self.new) }
         ensures kept { OnOk result (overrides.unkept_place text.now ≡ None) }
         ensures refused { IfErr result (overrides.IsOverrideRefusal text.now) }
+        ensures bad_value { IsTrue (is_some (overrides.override_of text.now)) → IfSome (overrides.unkept_place text.now) (λ place. result ≡ Err (errors.BadValue place)) }
         ensures err { OnErr result (self.new ≡ self.old) }
     {
-        let Some(section) = override_of(alloc, text)? else {
+        let Some(said) = override_of(text) else {
             return Err(ConfigError::InvalidKey {
                 text: Text::new(alloc, text)?,
             });
@@ -121,6 +123,7 @@ impl File {
         if let Some(place) = unkept_place(text) {
             return Err(ConfigError::BadValue { place });
         }
+        let section = section_of(alloc, said)?;
         self.sections.push(section)?;
         Ok(())
     }
@@ -181,14 +184,17 @@ impl File {
         lookup::integer(self.sections.as_slice(), section, sub, key, trusted_only)
     }
 
+    /// How many sections there are.
     pub fn section_count(&self) -> usize
         ensures { result ≡ length self.now.sections }
     {
         self.sections.len()
     }
 
+    /// A section, lent. No value that a file keeps has a NUL, and no subsection a NUL or a line feed.
     pub fn section(&self, index: usize) -> Option<&Section>
-        ensures { option_copied result ≡ slice_get self.now.sections index }
+        ensures section { option_copied result ≡ slice_get self.now.sections index }
+        ensures kept { kept.AreKept self.now.sections }
     {
         self.sections.get(index)
     }
@@ -204,7 +210,7 @@ impl File {
         ensures ok { OnOk result (self.new ≡ with_sections self.old (self.old.sections ++ record { name = name.now; sub = option_map (λ s. s.now) sub.entry; meta = meta; entries = [] } ∷ [])) }
         ensures index { IfOk result (λ index. index ≡ length self.old.sections) }
         ensures kept { OnOk result (option_map_or (λ s. position kept.is_nul_or_feed s.now) sub.entry None ≡ None) }
-        ensures refused { IfErr result (IsUnkept (option_map_or (λ s. position kept.is_nul_or_feed s.now) sub.entry None)) }
+        ensures verdict { MatchOption (option_map_or (λ s. position kept.is_nul_or_feed s.now) sub.entry None) (IsOkUnless result errors.NoMemory) (λ place. result ≡ Err (errors.BadValue place)) }
         ensures err { OnErr result (self.new ≡ self.old) }
     {
         let section = new_section(alloc, name, sub, meta)?;
@@ -224,7 +230,7 @@ impl File {
         requires { index < length self.old.sections }
         ensures ok { OnOk result (self.new ≡ with_sections self.old (on_section index (with_entry (key.now, Some value.now)) self.old.sections)) }
         ensures kept { OnOk result (position kept.is_nul value.now ≡ None) }
-        ensures refused { IfErr result (IsUnkept (position kept.is_nul value.now)) }
+        ensures verdict { MatchOption (position kept.is_nul value.now) (IsOkUnless result errors.NoMemory) (λ place. result ≡ Err (errors.BadValue place)) }
         ensures err { OnErr result (self.new ≡ self.old) }
     {
         if let Some(place) = nul_place(value) {
@@ -244,6 +250,7 @@ impl File {
         remove_entries(&mut self.sections, index, key);
     }
 
+    /// Removes a section; those behind it move up.
     pub fn remove_section(&mut self, index: usize)
         requires { index < length self.old.sections }
         ensures { self.new ≡ with_sections self.old (remove self.old.sections index) }
@@ -261,7 +268,7 @@ fn new_section(
 ) -> Result<Section, ConfigError>
     ensures ok { IfOk result (λ section. section ≡ record { name = name.now; sub = option_map (λ s. s.now) sub.entry; meta = meta; entries = [] }) }
     ensures kept { OnOk result (option_map_or (λ s. position kept.is_nul_or_feed s.now) sub.entry None ≡ None) }
-    ensures refused { IfErr result (IsUnkept (option_map_or (λ s. position kept.is_nul_or_feed s.now) sub.entry None)) }
+    ensures verdict { MatchOption (option_map_or (λ s. position kept.is_nul_or_feed s.now) sub.entry None) (IsOkUnless result errors.NoMemory) (λ place. result ≡ Err (errors.BadValue place)) }
 {
     let sub = match sub {
         Some(sub) => Some(checked_sub(alloc, sub)?),
@@ -278,7 +285,7 @@ fn new_section(
 fn checked_sub(alloc: Global, sub: &[u8]) -> Result<Text, ConfigError>
     ensures ok { IfOk result (λ copy. copy ≡ sub.now) }
     ensures kept { OnOk result (position kept.is_nul_or_feed sub.now ≡ None) }
-    ensures refused { IfErr result (IsUnkept (position kept.is_nul_or_feed sub.now)) }
+    ensures verdict { MatchOption (position kept.is_nul_or_feed sub.now) (IsOkUnless result errors.NoMemory) (λ place. result ≡ Err (errors.BadValue place)) }
 {
     if let Some(place) = nul_or_feed_place(sub) {
         return Err(ConfigError::BadValue { place });

@@ -1,10 +1,14 @@
-//! What holds of the grammar of values and subsections.
+//! What holds of the grammar of lines, values and subsections. Each law is a function without a body: its
+//! clauses are proved.
 
-ghost use Rattle.std.specs.Prelude.{◌≡◌, ◌↔◌, ◌∷◌, ℕ, List, Some, false};
+ghost use Rattle.std.specs.Prelude.{◌≡◌, ◌↔◌, ◌∷◌, ℕ, List, Option, Some, false};
+ghost use Rattle.fetch_config.specs.Lines.{line_of};
 ghost use Rattle.fetch_config.specs.Marks.{IsInParts, SaysValue};
 ghost use Rattle.fetch_config.specs.Print.{value_text};
+ghost use Rattle.fetch_config.specs.Shapes.{SaysEntry, SaysHeader};
 ghost use Rattle.fetch_config.specs.Subsections.{IsQuotedName};
 ghost use Rattle.fetch_config.specs.Values.{unquoted, value_of, subsection_of};
+ghost use Rattle.fetch_config.specs.declared.line.Line.TheVariants as lines;
 
 /// A value that is written behind `= ` is read as it was.
 pub fn a_written_value_is_read_back()
@@ -26,4 +30,16 @@ pub fn a_value_stands_between_blanks_before_a_comment()
 /// each other byte stands for itself.
 pub fn a_backslash_takes_the_next_byte_of_a_subsection()
     ensures { (text : List ℕ) → (name : List ℕ) → (rest : List ℕ) → (subsection_of false text ≡ Some (name, rest)) ↔ IsQuotedName text name rest }
+{}
+
+/// A line is a header exactly where it is blanks, a bracket, a name, maybe blanks and a subsection between
+/// quotes, a bracket, and then nothing or a comment.
+pub fn a_header_is_a_name_between_brackets()
+    ensures { (text : List ℕ) → (name : List ℕ) → (sub : Option (List ℕ)) → (line_of text ≡ Some (lines.Header name sub)) ↔ SaysHeader text name sub }
+{}
+
+/// A line is an entry exactly where it is blanks, a key, blanks, and then a `=` with a value behind it, or
+/// nothing: an implicit entry.
+pub fn an_entry_is_a_key_and_maybe_a_value()
+    ensures { (text : List ℕ) → (key : List ℕ) → (value : Option (List ℕ)) → (line_of text ≡ Some (lines.Entry key value)) ↔ SaysEntry text key value }
 {}

@@ -3,7 +3,7 @@
 
 mod error;
 mod file;
-mod laws;
+pub mod laws;
 mod line;
 mod lookup;
 mod meta;
@@ -17,13 +17,5 @@ mod value;
 
 pub use error::{ConfigError, Unreadable};
 pub use file::File;
-pub use laws::{
-    a_backslash_takes_the_next_byte_of_a_subsection,
-    a_value_stands_between_blanks_before_a_comment, a_written_value_is_read_back,
-    quotes_group_and_escapes_are_read,
-};
 pub use meta::{Meta, Origin};
 pub use section::Section;
-
-#[cfg(test)]
-mod tests;

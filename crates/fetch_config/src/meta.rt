@@ -7,8 +7,11 @@ use fetch_store::{NoMemory, Text};
 /// What kind of file a section comes from.
 #[derive(Clone, Copy, Debug, PartialEq, Eq)]
 pub enum Origin {
+    /// The configuration of the machine.
     System,
+    /// The configuration of the user.
     Global,
+    /// The configuration of the repository.
     Local,
     /// The caller.
     Api,
@@ -17,14 +20,18 @@ pub enum Origin {
 /// Where a section comes from.
 #[derive(Debug, Drop, PartialEq, Eq)]
 pub struct Meta {
+    /// The kind of file.
     pub source: Origin,
     /// How many files include the one that it stands in.
     pub level: u8,
+    /// Where the file lies, where it is one.
     pub path: Option<Text>,
+    /// Whether look-ups of trusted sections alone see the section.
     pub trusted: bool,
 }
 
 impl Meta {
+    /// An equal origin of a section.
     pub fn try_clone(&self) -> Result<Meta, NoMemory>
         ensures { IfOk result (λ copy. copy ≡ self.now) }
     {

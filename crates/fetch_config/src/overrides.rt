@@ -2,6 +2,7 @@
 
 ghost use Rattle.std.specs.Prelude.{◌≡◌, IfOk, option_map, position, [], ◌∷◌};
 ghost use Rattle.fetch_config.specs.Kept as kept;
+ghost use Rattle.fetch_config.specs.Overridden as seen;
 ghost use Rattle.fetch_config.specs.Overrides as spec;
 
 use crate::meta::{Meta, Origin};
@@ -29,6 +30,58 @@ fn text_from(alloc: Global, text: Option<&[u8]>) -> Result<Option<Text>, NoMemor
     }
 }
 
+/// What an override says, lent.
+#[derive(Clone, Copy, Debug)]
+pub struct Override<'a> {
+    pub name: &'a [u8],
+    pub sub: Option<&'a [u8]>,
+    pub key: &'a [u8],
+    pub value: Option<&'a [u8]>,
+}
+
+fn with_key<'a>(
+    name: &'a [u8],
+    sub: Option<&'a [u8]>,
+    key: &'a [u8],
+    value: Option<&'a [u8]>,
+) -> Option<Override<'a>>
+    ensures { option_map seen.section_of result ≡ spec.override_section name.now (option_map (λ s. s.now) sub.entry) key.now (option_map (λ v. v.now) value.entry) }
+{
+    if !is_name(name) {
+        return None;
+    }
+    if !is_key(key) {
+        return None;
+    }
+    Some(Override {
+        name,
+        sub,
+        key,
+        value,
+    })
+}
+
+fn at_path<'a>(path: &'a [u8], value: Option<&'a [u8]>) -> Option<Override<'a>>
+    ensures { option_map seen.section_of result ≡ spec.section_at path.now (option_map (λ v. v.now) value.entry) }
+{
+    let Some((name, behind)) = split_first(b'.', path) else {
+        return None;
+    };
+    match split_last(b'.', behind) {
+        Some((sub, key)) => with_key(name, Some(sub), key, value),
+        None => with_key(name, None, behind, value),
+    }
+}
+
+/// What an override says. None where it has no section and key.
+#[tactic(auto, unfolding(crate::specs::Overrides::override_of))]
+pub fn override_of(text: &[u8]) -> Option<Override<'_>>
+    ensures { option_map seen.section_of result ≡ spec.override_of text.now }
+{
+    let (path, value) = path_and_value(text);
+    at_path(path, value)
+}
+
 fn one_entry(
     alloc: Global,
     key: &[u8],
@@ -41,53 +94,21 @@ fn one_entry(
     Ok(List::from(entries))
 }
 
-fn override_section(
-    alloc: Global,
-    name: &[u8],
-    sub: Option<&[u8]>,
-    key: &[u8],
-    value: Option<&[u8]>,
-) -> Result<Option<Section>, NoMemory>
-    ensures { IfOk result (λ section. section ≡ spec.override_section name.now (option_map (λ s. s.now) sub.entry) key.now (option_map (λ v. v.now) value.entry)) }
+/// The section that an override adds.
+pub fn section_of(alloc: Global, said: Override<'_>) -> Result<Section, NoMemory>
+    ensures { IfOk result (λ section. section ≡ seen.section_of said.entry) }
 {
-    if !is_name(name) {
-        return Ok(None);
-    }
-    if !is_key(key) {
-        return Ok(None);
-    }
-    Ok(Some(Section {
-        name: Text::new(alloc, name)?,
-        sub: text_from(alloc, sub)?,
+    Ok(Section {
+        name: Text::new(alloc, said.name)?,
+        sub: text_from(alloc, said.sub)?,
         meta: Meta {
             source: Origin::Api,
             level: 0,
             path: None,
             trusted: true,
         },
-        entries: one_entry(alloc, key, value)?,
-    }))
-}
-
-fn section_at(alloc: Global, path: &[u8], value: Option<&[u8]>) -> Result<Option<Section>, NoMemory>
-    ensures { IfOk result (λ section. section ≡ spec.section_at path.now (option_map (λ v. v.now) value.entry)) }
-{
-    let Some((name, behind)) = split_first(b'.', path) else {
-        return Ok(None);
-    };
-    match split_last(b'.', behind) {
-        Some((sub, key)) => override_section(alloc, name, Some(sub), key, value),
-        None => override_section(alloc, name, None, behind, value),
-    }
-}
-
-/// The section that an override adds. None where it has no section and key.
-#[tactic(auto, unfolding(crate::specs::Overrides::override_of))]
-pub fn override_of(alloc: Global, text: &[u8]) -> Result<Option<Section>, NoMemory>
-    ensures { IfOk result (λ section. section ≡ spec.override_of text.now) }
-{
-    let (path, value) = path_and_value(text);
-    section_at(alloc, path, value)
+        entries: one_entry(alloc, said.key, said.value)?,
+    })
 }
 
 /// The place of the first NUL.

@@ -13,14 +13,18 @@ use std::alloc::Global;
 /// A section: its header, where it comes from, and its entries in order.
 #[derive(Debug, Drop)]
 pub struct Section {
+    /// The name in its header.
     pub name: Text,
+    /// The subsection in its header, where it has one.
     pub sub: Option<Text>,
+    /// Where it comes from.
     pub meta: Meta,
     /// Keys and values. An implicit entry has no value.
     pub entries: List<(Text, Option<Text>)>,
 }
 
 impl Section {
+    /// An equal section.
     pub fn try_clone(&self, alloc: Global) -> Result<Section, NoMemory>
         ensures { IfOk result (λ copy. copy ≡ self.now) }
     {

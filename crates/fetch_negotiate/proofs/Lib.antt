@@ -12,6 +12,5 @@ pub mod Taking
 pub mod Pairing
 pub mod Counting
 pub mod Handing
-pub mod Unread
 pub mod Descent
 pub mod Copying

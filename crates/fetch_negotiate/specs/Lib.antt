@@ -3,7 +3,6 @@ pub mod Reading
 pub mod Sharing
 pub mod Queues
 pub mod Lists
-pub mod Words
 pub mod Requests
 pub mod Wants
 pub mod Ancestors
@@ -17,3 +16,4 @@ pub mod Skipped
 pub mod Any
 pub mod Tips
 pub mod Copies
+pub mod Unread

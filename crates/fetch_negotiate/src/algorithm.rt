@@ -8,15 +8,23 @@ use std::alloc::Global;
 use std::marker::Model;
 
 /// How commits are chosen for the haves.
-#[derive(Clone, Copy, Debug, Default, PartialEq, Eq)]
+#[derive(Clone, Copy, Debug, PartialEq, Eq)]
 pub enum Algorithm {
     /// No commit is told.
     Noop,
     /// Each commit, the latest first.
-    #[default]
     Consecutive,
     /// Fewer and fewer commits, the further back they stand.
     Skipping,
+}
+
+impl Default for Algorithm {
+    /// Each commit, where nothing else is asked for.
+    fn default() -> Algorithm
+        ensures { result ≡ Algorithm.Consecutive }
+    {
+        Algorithm::Consecutive
+    }
 }
 
 /// How many commits a history is to be deep: one or more. Contracts see it as its number.
@@ -58,10 +66,9 @@ impl Depth {
 }
 
 /// How the depth of a history is to change.
-#[derive(Debug, Default, Drop)]
+#[derive(Debug, Drop)]
 pub enum Shallow {
     /// Not at all.
-    #[default]
     NoChange,
     /// So many commits, counted from the tips of the remote.
     DepthAtRemote(Depth),
@@ -76,6 +83,15 @@ pub enum Shallow {
         remote_refs: List<PartialName>,
         since_cutoff: Option<u64>,
     },
+}
+
+impl Default for Shallow {
+    /// The depth stays.
+    fn default() -> Shallow
+        ensures { result ≡ Shallow.NoChange }
+    {
+        Shallow::NoChange
+    }
 }
 
 impl Shallow {

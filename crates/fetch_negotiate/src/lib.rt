@@ -27,6 +27,3 @@ pub use request::request_of;
 pub use skipping::Skipping;
 pub use tip::tips;
 pub use wanted::wants;
-
-#[cfg(test)]
-mod tests;

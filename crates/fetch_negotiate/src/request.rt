@@ -8,17 +8,18 @@ ghost use Rattle.fetch_negotiate.specs.Lists.{firsts};
 ghost use Rattle.fetch_negotiate.specs.Requests as spec;
 ghost use Rattle.hex.specs.Hex.{encode_lower};
 ghost use Rattle.fetch_store.specs.Id.{bytes_of};
-ghost use Rattle.fetch_negotiate.specs.Words.{not_word, deepen_word, relative_word, format_word};
+ghost use Rattle.fetch_wire.specs.RequestWords.{not_word, deepen_word, relative_word};
+ghost use Rattle.fetch_wire.specs.RequestLines.{id_lines};
 
 use crate::algorithm::Shallow;
 use crate::once::each_once;
 use fetch_specs::{PartialName, Tags};
 use fetch_store::{Border, Kind, List, NoMemory, ObjectId, Text};
-use fetch_wire::{Handshake, Request, WireError};
+use fetch_wire::{Handshake, Request, WireError, append_head, append_when, joined};
 use std::alloc::Global;
 
 /// The request of one round: what is asked, the haves acknowledged so far in the order in which they first were, and
-/// then the window. The agent is the text as it is sent.
+/// then the window. `git/` is put before an agent that doesn't begin with it.
 pub fn request_of(
     alloc: Global,
     handshake: &Handshake,
@@ -63,7 +64,7 @@ fn text_lines(
     Ok(lines)
 }
 
-#[tactic(auto, unfolding(crate::specs::Words::command_word, crate::specs::Words::agent_word, crate::specs::Words::agent_is))]
+#[tactic(auto, unfolding(fetch_wire::specs::RequestWords::command_word))]
 fn push_head(
     lines: &mut Vec<Text>,
     alloc: Global,
@@ -73,37 +74,11 @@ fn push_head(
     ensures { OnOk result (lines.new.items ≡ lines.old.items ++ spec.head_of handshake.now agent.now) }
 {
     push_word(lines, alloc, b"command=fetch")?;
-    push_when(offers(handshake, b"agent"), lines, alloc, b"agent=", agent)?;
-    push_format(lines, alloc, handshake)?;
+    append_head(alloc, lines, handshake, agent)?;
     Ok(())
 }
 
-fn offers(handshake: &Handshake, name: &[u8]) -> bool
-    ensures { result ≡ spec.offers handshake.now name.now }
-{
-    let capabilities = handshake.capabilities.as_slice();
-    capabilities.iter().any(|c| c.name.as_bytes() == name)
-}
-
-#[tactic(auto, unfolding(crate::specs::Words::format_word))]
-fn push_format(lines: &mut Vec<Text>, alloc: Global, handshake: &Handshake) -> Result<(), NoMemory>
-    ensures { OnOk result (lines.new.items ≡ lines.old.items ++ spec.when (spec.offers handshake.now format_word) (spec.format_line handshake.now.object_hash)) }
-{
-    let offered = offers(handshake, b"object-format");
-    push_when(offered, lines, alloc, format_of(handshake.object_hash), b"")
-}
-
-#[tactic(auto, unfolding(crate::specs::Words::sha1_format, crate::specs::Words::sha256_format))]
-fn format_of(kind: Kind) -> &'static [u8]
-    ensures { result.now ≡ spec.format_line kind }
-{
-    match kind {
-        Kind::Sha1 => b"object-format=sha1",
-        Kind::Sha256 => b"object-format=sha256",
-    }
-}
-
-#[tactic(auto, unfolding(crate::specs::Words::plain_pack, crate::specs::Words::include_tag, crate::specs::Words::shallow_word, crate::specs::Words::want_word))]
+#[tactic(auto, unfolding(fetch_wire::specs::RequestWords::plain_pack, fetch_wire::specs::RequestWords::include_tag, fetch_wire::specs::RequestWords::shallow_word, fetch_wire::specs::RequestWords::want_word))]
 fn push_asked(
     lines: &mut Vec<Text>,
     alloc: Global,
@@ -115,7 +90,7 @@ fn push_asked(
     ensures { OnOk result (lines.new.items ≡ lines.old.items ++ spec.asked_of tags shallow.now border.now wants.now) }
 {
     push_word(lines, alloc, b"plain-pack")?;
-    push_when(is_included(tags), lines, alloc, b"include-tag", b"")?;
+    append_when(alloc, lines, is_included(tags), b"include-tag", b"")?;
     push_ids(lines, alloc, b"shallow ", border.commits())?;
     push_depth(lines, alloc, shallow)?;
     push_ids(lines, alloc, b"want ", wants)?;
@@ -131,7 +106,7 @@ pub(crate) fn is_included(tags: Tags) -> bool
     }
 }
 
-#[tactic(auto, unfolding(crate::specs::Words::deepen_word, crate::specs::Words::since_word))]
+#[tactic(auto, unfolding(fetch_wire::specs::RequestWords::deepen_word, fetch_wire::specs::RequestWords::since_word))]
 fn push_depth(lines: &mut Vec<Text>, alloc: Global, shallow: &Shallow) -> Result<(), NoMemory>
     ensures { OnOk result (lines.new.items ≡ lines.old.items ++ spec.depth_lines shallow.now) }
 {
@@ -152,7 +127,7 @@ fn push_depth(lines: &mut Vec<Text>, alloc: Global, shallow: &Shallow) -> Result
     }
 }
 
-#[tactic(auto, unfolding(crate::specs::Words::deepen_word, crate::specs::Words::relative_word))]
+#[tactic(auto, unfolding(fetch_wire::specs::RequestWords::deepen_word, fetch_wire::specs::RequestWords::relative_word))]
 fn push_relative(lines: &mut Vec<Text>, alloc: Global, depth: u32) -> Result<(), NoMemory>
     ensures { OnOk result (lines.new.items ≡ lines.old.items ++ (deepen_word ++ decimal depth) ∷ relative_word ∷ []) }
 {
@@ -160,7 +135,7 @@ fn push_relative(lines: &mut Vec<Text>, alloc: Global, depth: u32) -> Result<(),
     push_word(lines, alloc, b"deepen-relative")
 }
 
-#[tactic(auto, unfolding(crate::specs::Words::since_word))]
+#[tactic(auto, unfolding(fetch_wire::specs::RequestWords::since_word))]
 fn push_since(lines: &mut Vec<Text>, alloc: Global, cutoff: Option<u64>) -> Result<(), NoMemory>
     ensures { OnOk result (lines.new.items ≡ lines.old.items ++ spec.since_lines cutoff) }
 {
@@ -170,7 +145,7 @@ fn push_since(lines: &mut Vec<Text>, alloc: Global, cutoff: Option<u64>) -> Resu
     }
 }
 
-#[tactic(auto, unfolding(crate::specs::Words::not_word))]
+#[tactic(auto, unfolding(fetch_wire::specs::RequestWords::not_word))]
 fn push_names(lines: &mut Vec<Text>, alloc: Global, names: &[PartialName]) -> Result<(), NoMemory>
     ensures { OnOk result (lines.new.items ≡ lines.old.items ++ map (λ name. not_word ++ name) names.now) }
 {
@@ -200,7 +175,7 @@ fn push_ids(
     word: &[u8],
     ids: &[ObjectId],
 ) -> Result<(), NoMemory>
-    ensures { OnOk result (lines.new.items ≡ lines.old.items ++ spec.id_lines word.now ids.now) }
+    ensures { OnOk result (lines.new.items ≡ lines.old.items ++ id_lines word.now ids.now) }
 {
     for id in ids {
         lines.push(id_line(alloc, word, id)?)?;
@@ -220,28 +195,4 @@ fn push_word(lines: &mut Vec<Text>, alloc: Global, word: &[u8]) -> Result<(), No
 {
     lines.push(Text::new(alloc, word)?)?;
     Ok(())
-}
-
-/// A line, where the condition holds.
-fn push_when(
-    condition: bool,
-    lines: &mut Vec<Text>,
-    alloc: Global,
-    word: &[u8],
-    rest: &[u8],
-) -> Result<(), NoMemory>
-    ensures { OnOk result (lines.new.items ≡ lines.old.items ++ spec.when condition (word.now ++ rest.now)) }
-{
-    if condition {
-        lines.push(joined(alloc, word, rest)?)?;
-    }
-    Ok(())
-}
-
-fn joined(alloc: Global, word: &[u8], rest: &[u8]) -> Result<Text, NoMemory>
-    ensures { IfOk result (λ text. text ≡ word.now ++ rest.now) }
-{
-    let mut bytes = Vec::from_slice(alloc, word)?;
-    bytes.extend_from_slice(rest)?;
-    Ok(Text::from(bytes))
 }

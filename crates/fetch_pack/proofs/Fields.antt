@@ -1,17 +1,20 @@
 -- A record that is read is the record that was written, and what was written is read again.
-use Rattle.std.proofs.Common.{◌≡◌, ℕ, zero, suc, ◌+◌, ◌^◌, ◌<◌, ◌≤◌, Bool, false, cond, ltb, List, [], ◌∷◌, ◌++◌, length, get_or, take, drop, Option, Some, None, refl, sym, ap, subst, ◌∙◌, append_assoc, arith, inl, inr}
-use Rattle.std.specs.Int.{w32, from_be_bytes, to_be_bytes}
+use Rattle.std.proofs.Common.{◌≡◌, ℕ, zero, suc, ◌+◌, ◌^◌, ◌<◌, Bool, false, cond, ltb, List, [], ◌∷◌, ◌++◌, length, get_or, take, drop, Option, Some, None, refl, sym, ap, subst, ◌∙◌, append_assoc, arith, inl, inr}
+use Rattle.std.specs.Int.{w32, w64, from_be_bytes, to_be_bytes}
 use Rattle.std.specs.List.{flat_map, AllByRecursion}
 use Rattle.std.specs.Option.{option_map_or}
-use Rattle.std.proofs.lemmas.Bool.{cases_lt, ltb-false, le-ltb}
+use Rattle.std.proofs.lemmas.Bool.{cases_lt, le-ltb, lt-ltb}
 use Rattle.std.proofs.lemmas.List.{take_at, drop_at, take-append-drop, length-append, length-take, get_or-drop, get_or-take, get_or_past}
 use Rattle.std.proofs.lemmas.List.Concat.{flat_map-cons}
-use Rattle.std.proofs.lemmas.Nat.{be_bytes_4, from_be_bytes-to_be_bytes_4}
+use Rattle.std.proofs.lemmas.Nat.{be_bytes_4, be_bytes_8, from_be_bytes-to_be_bytes_4, from_be_bytes-to_be_bytes_8}
+use Rattle.fetch_store.specs.declared.id.Kind.{Kind}
 use Rattle.fetch_store.specs.declared.object_kind.ObjectKind.{ObjectKind}
 use Rattle.fetch_store.specs.declared.object_kind.ObjectKind.TheVariants.{Commit, Tree, Blob, Tag}
 use Rattle.fetch_store.specs.Scan.{◌>>=◌}
-use Rattle.fetch_pack.specs.Records.{Payload, Records, onto, record_text, code_of, kind_coded, number_at, sized, record_at, records}
-use Rattle.fetch_pack.proofs.Steps.{bind_some, tested}
+use Rattle.fetch_pack.specs.declared.version.PackVersion.{PackVersion}
+use Rattle.fetch_pack.specs.declared.version.PackVersion.TheVariants.{V1, V2}
+use Rattle.fetch_pack.specs.Records.{Written, Records, onto, IsRecord, record_text, length_text, limit_of, id_len, code_of, kind_coded, cut, number_at, long_number_at, length_at, record_at, records}
+use Rattle.fetch_pack.proofs.Steps.{IsCut, number_is, long_number_is, is_read, some_is}
 
 abbrev pub IsBytes : List ℕ → Type 0
 IsBytes bytes = (i : ℕ) → get_or bytes i 0 < 256
@@ -37,42 +40,54 @@ pub record Takes (bytes text rest : List ℕ) : Type 0 where
 pub Takes-then : (a x b y c : List ℕ) → Takes a x b → Takes b y c → Takes a (x ++ y) c
 Takes-then a x b y c p q = record { parts = p.parts ∙ ap (λ (t : List ℕ). x ++ t) q.parts ∙ sym (append_assoc x y c); rest_fits = q.rest_fits }
 
+cut_takes : (n : ℕ) (bytes front rest : List ℕ) → IsBytes bytes → IsCut n bytes (front, rest) → Takes bytes front rest
+cut_takes n bytes front rest fits is = record {
+  parts = sym (take-append-drop n bytes) ∙ ap (λ (t : List ℕ). t ++ drop n bytes) is.front ∙ ap (λ (t : List ℕ). front ++ t) is.rest;
+  rest_fits = subst IsBytes is.rest (IsBytes-drop n bytes fits);
+}
+
+cut_again : (n : ℕ) (front rest : List ℕ) → n ≡ length front → cut n (front ++ rest) ≡ Some (front, rest)
+cut_again n front rest is =
+    let long : ltb (length (front ++ rest)) n ≡ false = le-ltb _ _ (omega (arith, is, length-append front rest)) in
+    rw (long, take_at front rest n (sym is), drop_at front rest n (sym is)) refl
+
+-- ---- numbers
+
 pub number_takes : (bytes : List ℕ) (x : ℕ × List ℕ) → IsBytes bytes → number_at bytes ≡ Some x → Takes bytes (to_be_bytes w32 x.0) x.1 × (x.0 < 2 ^ 32)
 number_takes bytes x fits e =
-    let g = tested (ltb (length bytes) 4) (from_be_bytes w32 (take 4 bytes), drop 4 bytes) x e in
-    let long : 4 ≤ length bytes = ltb-false _ _ g.0 in
-    let front = IsBytes-take 4 bytes fits in
-    let back : to_be_bytes w32 (from_be_bytes w32 (take 4 bytes)) ≡ take 4 bytes = be_bytes_4 (take 4 bytes) _ (omega (arith, length-take 4 bytes)) front refl in
-    let below : from_be_bytes w32 (take 4 bytes) < 2 ^ 32 = omega (arith, front 0, front 1, front 2, front 3) in
-    let here : Takes bytes (to_be_bytes w32 (from_be_bytes w32 (take 4 bytes))) (drop 4 bytes) = record { parts = sym (ap (λ (t : List ℕ). t ++ drop 4 bytes) back ∙ take-append-drop 4 bytes); rest_fits = IsBytes-drop 4 bytes fits } in
-    subst (λ (y : ℕ × List ℕ). Takes bytes (to_be_bytes w32 y.0) y.1 × (y.0 < 2 ^ 32)) g.1 (here, below)
+    let n = number_is bytes x e in
+    let front : IsBytes n.front = subst IsBytes n.cuts.front (IsBytes-take 4 bytes fits) in
+    let back : n.front ≡ to_be_bytes w32 x.0 = sym (be_bytes_4 n.front x.0 n.cuts.front_len front (sym n.number)) in
+    let below : from_be_bytes w32 n.front < 2 ^ 32 = omega (arith, front 0, front 1, front 2, front 3) in
+    (subst (λ (t : List ℕ). Takes bytes t x.1) back (cut_takes 4 bytes n.front x.1 fits n.cuts), rw (sym n.number) below)
+
+long_number_takes : (bytes : List ℕ) (x : ℕ × List ℕ) → IsBytes bytes → long_number_at bytes ≡ Some x → Takes bytes (to_be_bytes w64 x.0) x.1 × (x.0 < 2 ^ 63)
+long_number_takes bytes x fits e =
+    let n = long_number_is bytes x e in
+    let front : IsBytes n.0.front = subst IsBytes n.0.cuts.front (IsBytes-take 8 bytes fits) in
+    let back : n.0.front ≡ to_be_bytes w64 x.0 = sym (be_bytes_8 n.0.front x.0 n.0.cuts.front_len front (sym n.0.number)) in
+    (subst (λ (t : List ℕ). Takes bytes t x.1) back (cut_takes 8 bytes n.0.front x.1 fits n.0.cuts), n.1)
+
+pub length_takes : (v : PackVersion) (bytes : List ℕ) (x : ℕ × List ℕ) → IsBytes bytes → length_at v bytes ≡ Some x → Takes bytes (length_text v x.0) x.1 × (x.0 < limit_of v)
+length_takes V1 bytes x fits e = number_takes bytes x fits e
+length_takes V2 bytes x fits e = long_number_takes bytes x fits e
 
 pub number_again : (n : ℕ) (rest : List ℕ) → n < 2 ^ 32 → number_at (to_be_bytes w32 n ++ rest) ≡ Some (n, rest)
 number_again n rest lt =
-    let whole : List ℕ = to_be_bytes w32 n ++ rest in
-    let long : ltb (length whole) 4 ≡ false = le-ltb _ _ (omega (arith, length-append (to_be_bytes w32 n) rest)) in
-    ap (λ (b : Bool). cond b None (Some (from_be_bytes w32 (take 4 whole), drop 4 whole))) long
-    ∙ ap (λ (t : List ℕ). Some (from_be_bytes w32 t, drop 4 whole)) (take_at (to_be_bytes w32 n) rest 4 refl)
-    ∙ ap (λ (t : List ℕ). Some (from_be_bytes w32 (to_be_bytes w32 n), t)) (drop_at (to_be_bytes w32 n) rest 4 refl)
+    ap (λ (o : Option (List ℕ × List ℕ)). o >>= λ front. Some (from_be_bytes w32 front.0, front.1)) (cut_again 4 (to_be_bytes w32 n) rest refl)
     ∙ ap (λ (m : ℕ). Some (m, rest)) (from_be_bytes-to_be_bytes_4 n lt)
 
-pub sized_takes : (kind : ObjectKind) (len : ℕ) (bytes : List ℕ) (x : Payload × List ℕ) → IsBytes bytes → sized kind len bytes ≡ Some x
-    → Takes bytes x.0.bytes x.1 × (length x.0.bytes ≡ len) × (x.0.kind ≡ kind)
-sized_takes kind len bytes x fits e =
-    let made : Payload = record { kind = kind; bytes = take len bytes } in
-    let g = tested (ltb (length bytes) len) (made, drop len bytes) x e in
-    let long : len ≤ length bytes = ltb-false _ _ g.0 in
-    let here : Takes bytes (take len bytes) (drop len bytes) = record { parts = sym (take-append-drop len bytes); rest_fits = IsBytes-drop len bytes fits } in
-    let all : length (take len bytes) ≡ len = omega (arith, length-take len bytes) in
-    subst (λ (y : Payload × List ℕ). Takes bytes y.0.bytes y.1 × (length y.0.bytes ≡ len) × (y.0.kind ≡ kind)) g.1 (here, all, refl)
+long_number_again : (n : ℕ) (rest : List ℕ) → n < 2 ^ 63 → long_number_at (to_be_bytes w64 n ++ rest) ≡ Some (n, rest)
+long_number_again n rest lt =
+    ap (λ (o : Option (List ℕ × List ℕ)). o >>= λ front. cond (ltb (from_be_bytes w64 front.0) (2 ^ 63)) (Some (from_be_bytes w64 front.0, front.1)) None) (cut_again 8 (to_be_bytes w64 n) rest refl)
+    ∙ ap (λ (m : ℕ). cond (ltb m (2 ^ 63)) (Some (m, rest)) None) (from_be_bytes-to_be_bytes_8 n (omega (arith, lt)))
+    ∙ ap (λ (b : Bool). cond b (Some (n, rest)) None) (lt-ltb _ _ lt)
 
-pub sized_again : (kind : ObjectKind) (bytes rest : List ℕ) → sized kind (length bytes) (bytes ++ rest) ≡ Some (record { kind = kind; bytes = bytes }, rest)
-sized_again kind bytes rest =
-    let long : ltb (length (bytes ++ rest)) (length bytes) ≡ false = le-ltb _ _ (omega (arith, length-append bytes rest)) in
-    rw (long, take_at bytes rest (length bytes) refl, drop_at bytes rest (length bytes) refl) refl
+length_again : (v : PackVersion) (n : ℕ) (rest : List ℕ) → n < limit_of v → length_at v (length_text v n ++ rest) ≡ Some (n, rest)
+length_again V1 n rest lt = number_again n rest lt
+length_again V2 n rest lt = long_number_again n rest lt
 
-some_is : (a b : ObjectKind) → Some a ≡ Some b → a ≡ b
-some_is a b e = cc
+-- ---- records
 
 -- a kind's code, and the kind of a code
 pub coded : (kind : ObjectKind) → kind_coded (code_of kind) ≡ Some kind
@@ -89,51 +104,58 @@ code_is (suc (suc (suc zero))) kind e = let same : Blob ≡ kind = some_is Blob 
 code_is (suc (suc (suc (suc zero)))) kind e = let same : Tag ≡ kind = some_is Tag kind e in ap code_of same
 code_is (suc (suc (suc (suc (suc n))))) kind e = absurd cc
 
-pub record_takes : (bytes : List ℕ) (x : Payload × List ℕ) → IsBytes bytes → record_at bytes ≡ Some x → Takes bytes (record_text x.0) x.1 × (length x.0.bytes < 2 ^ 32)
-record_takes [] x fits e = absurd cc
-record_takes (code ∷ bytes) x fits e =
-    let kind = bind_some (kind_coded code) (λ kind. number_at bytes >>= λ len. sized kind len.0 len.1) x e in
-    let len = bind_some (number_at bytes) (λ len. sized kind.0 len.0 len.1) x kind.2 in
-    let n = number_takes bytes len.0 (IsBytes-rest code bytes fits) len.1 in
-    let p = sized_takes kind.0 len.0.0 len.0.1 x n.0.rest_fits len.2 in
-    let both = Takes-then bytes (to_be_bytes w32 len.0.0) len.0.1 x.0.bytes x.1 n.0 p.0 in
-    let named : code ≡ code_of x.0.kind = code_is code kind.0 kind.1 ∙ ap code_of (sym p.2) in
-    let text : (code ∷ bytes) ≡ record_text x.0 ++ x.1 =
-    ap (λ (t : List ℕ). code ∷ t) both.parts ∙ ap (λ (k : ℕ). code ∷ ((to_be_bytes w32 k ++ x.0.bytes) ++ x.1)) (sym p.1) ∙ ap (λ (c : ℕ). c ∷ ((to_be_bytes w32 (length x.0.bytes) ++ x.0.bytes) ++ x.1)) named in
-    (record { parts = text; rest_fits = p.0.rest_fits }, omega (arith, n.1, p.1))
+pub record_takes : (v : PackVersion) (hash : Kind) (bytes : List ℕ) (x : Written × List ℕ) → IsBytes bytes → record_at v hash bytes ≡ Some x → Takes bytes (record_text v x.0) x.1 × IsRecord v hash x.0
+record_takes v hash [] x fits e = absurd cc
+record_takes v hash (code ∷ bytes) x fits e =
+    let r = is_read v hash code bytes x e in
+    let n = length_takes v bytes r.after_len (IsBytes-rest code bytes fits) r.len in
+    let id = cut_takes (id_len v hash) r.after_len.1 x.0.id r.after_id n.0.rest_fits r.id in
+    let payload = cut_takes r.after_len.0 r.after_id x.0.payload.bytes x.1 id.rest_fits r.payload in
+    let len : r.after_len.0 ≡ length x.0.payload.bytes = sym r.payload.front_len in
+    let before : Takes bytes (length_text v (length x.0.payload.bytes)) r.after_len.1 = subst (λ (k : ℕ). Takes bytes (length_text v k) r.after_len.1) len n.0 in
+    let head = Takes-then bytes (length_text v (length x.0.payload.bytes)) r.after_len.1 x.0.id r.after_id before id in
+    let both = Takes-then bytes (length_text v (length x.0.payload.bytes) ++ x.0.id) r.after_id x.0.payload.bytes x.1 head payload in
+    let text : (code ∷ bytes) ≡ record_text v x.0 ++ x.1 =
+    ap (λ (t : List ℕ). code ∷ t) both.parts ∙ ap (λ (c : ℕ). c ∷ (((length_text v (length x.0.payload.bytes) ++ x.0.id) ++ x.0.payload.bytes) ++ x.1)) (code_is code x.0.payload.kind r.kind) in
+    (record { parts = text; rest_fits = payload.rest_fits }, (subst (λ (k : ℕ). k < limit_of v) len n.1, r.id.front_len))
 
-pub record_again : (p : Payload) (rest : List ℕ) → length p.bytes < 2 ^ 32 → record_at (record_text p ++ rest) ≡ Some (p, rest)
-record_again p rest lt =
-    let regrouped : record_text p ++ rest ≡ code_of p.kind ∷ (to_be_bytes w32 (length p.bytes) ++ (p.bytes ++ rest)) = ap (λ (t : List ℕ). code_of p.kind ∷ t) (append_assoc (to_be_bytes w32 (length p.bytes)) p.bytes rest) in
-    ap record_at regrouped
-    ∙ ap (λ (o : Option ObjectKind). o >>= λ kind. number_at (to_be_bytes w32 (length p.bytes) ++ (p.bytes ++ rest)) >>= λ len. sized kind len.0 len.1) (coded p.kind)
-    ∙ ap (λ (o : Option (ℕ × List ℕ)). o >>= λ len. sized p.kind len.0 len.1) (number_again (length p.bytes) (p.bytes ++ rest) lt)
-    ∙ sized_again p.kind p.bytes rest
+pub record_again : (v : PackVersion) (hash : Kind) (w : Written) (rest : List ℕ) → IsRecord v hash w → record_at v hash (record_text v w ++ rest) ≡ Some (w, rest)
+record_again v hash w rest is =
+    let kind = w.payload.kind in
+    let n = length w.payload.bytes in
+    let after : List ℕ = w.id ++ (w.payload.bytes ++ rest) in
+    let regrouped : record_text v w ++ rest ≡ code_of kind ∷ (length_text v n ++ after) =
+    ap (λ (t : List ℕ). code_of kind ∷ t) (append_assoc (length_text v n ++ w.id) w.payload.bytes rest ∙ append_assoc (length_text v n) w.id (w.payload.bytes ++ rest)) in
+    ap (record_at v hash) regrouped
+    ∙ ap (λ (o : Option ObjectKind). o >>= λ k. length_at v (length_text v n ++ after) >>= λ len. cut (id_len v hash) len.1 >>= λ id. cut len.0 id.1 >>= λ payload. Some (record { id = id.0; payload = record { kind = k; bytes = payload.0 } }, payload.1)) (coded kind)
+    ∙ ap (λ (o : Option (ℕ × List ℕ)). o >>= λ len. cut (id_len v hash) len.1 >>= λ id. cut len.0 id.1 >>= λ payload. Some (record { id = id.0; payload = record { kind = kind; bytes = payload.0 } }, payload.1)) (length_again v n after is.0)
+    ∙ ap (λ (o : Option (List ℕ × List ℕ)). o >>= λ id. cut n id.1 >>= λ payload. Some (record { id = id.0; payload = record { kind = kind; bytes = payload.0 } }, payload.1)) (cut_again (id_len v hash) w.id (w.payload.bytes ++ rest) (sym is.1))
+    ∙ ap (λ (o : Option (List ℕ × List ℕ)). o >>= λ payload. Some (record { id = w.id; payload = record { kind = kind; bytes = payload.0 } }, payload.1)) (cut_again n w.payload.bytes rest refl)
 
--- records, one behind the other
-pub record Runs (n : ℕ) (bytes : List ℕ) (r : Records) : Type 0 where
-  pub takes : Takes bytes (flat_map record_text r.payloads) r.rest
-  pub each : AllByRecursion (λ p. length p.bytes < 2 ^ 32) r.payloads
+-- records, one after the other
+pub record Runs (v : PackVersion) (hash : Kind) (bytes : List ℕ) (r : Records) : Type 0 where
+  pub takes : Takes bytes (flat_map (record_text v) r.written) r.rest
+  pub each : AllByRecursion (IsRecord v hash) r.written
 
-runs_of : (n : ℕ) (bytes : List ℕ) (o : Option (Payload × List ℕ)) → IsBytes bytes → record_at bytes ≡ o → ((x : Payload × List ℕ) → IsBytes x.1 → Runs n x.1 (records n x.1))
-    → Runs (suc n) bytes (option_map_or (λ (x : Payload × List ℕ). onto x.0 (records n x.1)) o (record { payloads = []; rest = bytes }))
-runs_of n bytes None fits is more = record { takes = record { parts = refl; rest_fits = fits }; each = tt }
-runs_of n bytes (Some x) fits is more =
-    let first = record_takes bytes x fits is in
+runs_of : (v : PackVersion) (hash : Kind) (n : ℕ) (bytes : List ℕ) (o : Option (Written × List ℕ)) → IsBytes bytes → record_at v hash bytes ≡ o → ((x : Written × List ℕ) → IsBytes x.1 → Runs v hash x.1 (records v hash n x.1))
+    → Runs v hash bytes (option_map_or (λ (x : Written × List ℕ). onto x.0 (records v hash n x.1)) o (record { written = []; rest = bytes }))
+runs_of v hash n bytes None fits is more = record { takes = record { parts = refl; rest_fits = fits }; each = tt }
+runs_of v hash n bytes (Some x) fits is more =
+    let first = record_takes v hash bytes x fits is in
     let others = more x first.0.rest_fits in
     record {
-      takes = rw flat_map-cons (Takes-then bytes (record_text x.0) x.1 (flat_map record_text (records n x.1).payloads) (records n x.1).rest first.0 others.takes);
+      takes = rw flat_map-cons (Takes-then bytes (record_text v x.0) x.1 (flat_map (record_text v) (records v hash n x.1).written) (records v hash n x.1).rest first.0 others.takes);
       each = (first.1, others.each);
     }
 
-pub records_take : (n : ℕ) (bytes : List ℕ) → IsBytes bytes → Runs n bytes (records n bytes)
-records_take zero bytes fits = record { takes = record { parts = refl; rest_fits = fits }; each = tt }
-records_take (suc n) bytes fits = runs_of n bytes (record_at bytes) fits refl (λ x h. records_take n x.1 h)
+pub records_take : (v : PackVersion) (hash : Kind) (n : ℕ) (bytes : List ℕ) → IsBytes bytes → Runs v hash bytes (records v hash n bytes)
+records_take v hash zero bytes fits = record { takes = record { parts = refl; rest_fits = fits }; each = tt }
+records_take v hash (suc n) bytes fits = runs_of v hash n bytes (record_at v hash bytes) fits refl (λ x h. records_take v hash n x.1 h)
 
-pub records_again : (ps : List Payload) (rest : List ℕ) → AllByRecursion (λ p. length p.bytes < 2 ^ 32) ps → records (length ps) (flat_map record_text ps ++ rest) ≡ record { payloads = ps; rest = rest }
-records_again [] rest each = refl
-records_again (p ∷ ps) rest each =
-    let regrouped : flat_map record_text (p ∷ ps) ++ rest ≡ record_text p ++ (flat_map record_text ps ++ rest) = ap (λ (t : List ℕ). t ++ rest) (flat_map-cons record_text p ps) ∙ append_assoc (record_text p) (flat_map record_text ps) rest in
-    ap (records (suc (length ps))) regrouped
-    ∙ ap (λ (o : Option (Payload × List ℕ)). option_map_or (λ (x : Payload × List ℕ). onto x.0 (records (length ps) x.1)) o (record { payloads = []; rest = record_text p ++ (flat_map record_text ps ++ rest) })) (record_again p (flat_map record_text ps ++ rest) each.0)
-    ∙ ap (onto p) (records_again ps rest each.1)
+pub records_again : (v : PackVersion) (hash : Kind) (ws : List Written) (rest : List ℕ) → AllByRecursion (IsRecord v hash) ws → records v hash (length ws) (flat_map (record_text v) ws ++ rest) ≡ record { written = ws; rest = rest }
+records_again v hash [] rest each = refl
+records_again v hash (w ∷ ws) rest each =
+    let regrouped : flat_map (record_text v) (w ∷ ws) ++ rest ≡ record_text v w ++ (flat_map (record_text v) ws ++ rest) = ap (λ (t : List ℕ). t ++ rest) (flat_map-cons (record_text v) w ws) ∙ append_assoc (record_text v w) (flat_map (record_text v) ws) rest in
+    ap (records v hash (suc (length ws))) regrouped
+    ∙ ap (λ (o : Option (Written × List ℕ)). option_map_or (λ (x : Written × List ℕ). onto x.0 (records v hash (length ws) x.1)) o (record { written = []; rest = record_text v w ++ (flat_map (record_text v) ws ++ rest) })) (record_again v hash w (flat_map (record_text v) ws ++ rest) each.0)
+    ∙ ap (onto w) (records_again v hash ws rest each.1)

@@ -1,8 +1,10 @@
 pub mod Steps
 pub mod Namings
 pub mod Fields
-pub mod Laws
-pub mod Orders
+pub mod Compared
 pub mod Once
+pub mod Keeping
+pub mod Laws
 pub mod Members
 pub mod Refused
+pub mod Growing

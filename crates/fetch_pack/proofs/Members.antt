@@ -7,6 +7,7 @@ use Rattle.fetch_store.specs.Hashing.{digest, id_of}
 use Rattle.fetch_store.specs.Stores.{AreOf}
 use Rattle.fetch_pack.specs.declared.error.PackError.{PackError}
 use Rattle.fetch_pack.specs.declared.reading.Pack.{Pack}
+use Rattle.fetch_pack.specs.declared.version.PackVersion.{PackVersion}
 use Rattle.fetch_pack.specs.Records.{Payload}
 use Rattle.fetch_pack.specs.Reading.{Contents, once_from}
 use Rattle.fetch_pack.specs.Views.{contents}
@@ -15,9 +16,9 @@ use Rattle.fetch_pack.specs.Once.{AreNamed, HasDistinctIds}
 use Rattle.fetch_pack.proofs.Once.{once-each, once-distinct}
 
 -- What holds of the contents of every list of payloads holds of what was read.
-pub of_contents : (hash : Kind) (bytes : List ℕ) (P : Contents → Type 0) (r : Result Pack PackError) → ((ps : List Payload) → P (contents_of hash ps))
-    → IfOk r (λ p. (ps : List Payload) × IsPack hash bytes ps × (contents p ≡ contents_of hash ps)) → IfOk r (λ p. P (contents p))
-of_contents hash bytes P (Ok p) all (ps, is, same) = subst P (sym same) (all ps)
+pub of_contents : (hash : Kind) (bytes : List ℕ) (P : Contents → Type 0) (r : Result Pack PackError) → ((v : PackVersion) (ps : List Payload) → P (contents_of v hash ps))
+    → IfOk r (λ p. (v : PackVersion) × (ps : List Payload) × IsPack v hash bytes ps × (contents p ≡ contents_of v hash ps)) → IfOk r (λ p. P (contents p))
+of_contents hash bytes P (Ok p) all (v, ps, is, same) = subst P (sym same) (all v ps)
 of_contents hash bytes P (Err e) all found = tt
 
 kind-digest : (hash : Kind) (message : List ℕ) → kind_of (digest hash message) ≡ hash

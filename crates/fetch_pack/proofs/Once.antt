@@ -1,10 +1,7 @@
 -- Each id once, where it first comes.
-use Rattle.std.proofs.Common.{◌≡◌, ◌≢◌, Bool, true, false, cond, List, [], ◌∷◌, ◌++◌, refl, sym, ap, ◌∙◌, append_assoc, Contains, ◌||◌, arith}
+use Rattle.std.proofs.Common.{◌≡◌, ◌≢◌, Bool, true, false, cond, [], ◌∷◌, ◌++◌, refl, sym, ap, ◌∙◌, append_assoc, Contains, ◌||◌, arith}
 use Rattle.std.specs.List.{list_any, AllByRecursion}
-use Rattle.std.specs.BTreeSet.{BTreeSet, contains, Updates}
 use Rattle.std.specs.Cmp.{Equal-is, eq_by_cmp_equiv, IsEquivalence}
-use Rattle.std.specs.Ordering.{is_eq}
-use Rattle.std.specs.declared.cmp.Ordering.{Ordering}
 use Rattle.std.proofs.lemmas.Map.Views.{Contains-from_any, list_any-from_Contains}
 use Rattle.std.proofs.lemmas.List.{append-nil}
 use Rattle.std.proofs.lemmas.List.Folds.{list_any-append}
@@ -15,7 +12,6 @@ use Rattle.fetch_store.specs.Objects.{Stored}
 use Rattle.fetch_store.specs.Stores.{id_cmp, Entries}
 use Rattle.fetch_store.proofs.Ids.{id_cmp_total, id_cmp_exact}
 use Rattle.fetch_store.proofs.Finds.{ties}
-use Rattle.fetch_pack.proofs.Orders.{order_of, order_is}
 use Rattle.fetch_pack.specs.Reading.{is_id, keep, once_from}
 use Rattle.fetch_pack.specs.Once.{HasDistinctIds, ids_of, KeepsEachOnce}
 
@@ -103,24 +99,6 @@ pub has-once : (id : ObjectId) (kept os : Entries) → has id (once_from kept os
 has-once id kept [] = or_false (has id kept)
 has-once id kept (o ∷ os) =
     has-once id (keep kept o) os ∙ ap (λ (b : Bool). b || has id os) (has-keep id kept o) ∙ regroup (has id kept) (is_id id o.0) (has id os)
-
--- ---- the set of ids that were kept
-
-either : (a b : Bool) → cond b true a ≡ (a || (b || false))
-either true true = refl
-either false true = refl
-either true false = refl
-either false false = refl
-
-pub known_then : (kept : Entries) (o : Entry) (s n : BTreeSet ObjectId) → ((id : ObjectId) → contains order_of s id ≡ has id kept) → Updates order_of s n o.0 true
-    → (id : ObjectId) → contains order_of n id ≡ has id (kept ++ o ∷ [])
-known_then kept o s n known u id =
-    u.0 id ∙ ap (λ (r : Ordering). cond (is_eq r) true (contains order_of s id)) (order_is o.0 id) ∙ ap (λ (b : Bool). cond b true (contains order_of s id)) (laws.symm o.0 id)
-    ∙ ap (λ (b : Bool). cond (is_id id o.0) true b) (known id)
-    ∙ either (has id kept) (is_id id o.0) ∙ sym (list_any-append (λ x. is_id id x.0) kept (o ∷ []))
-
-pub known_still : (kept : Entries) (s n : BTreeSet ObjectId) → ((id : ObjectId) → contains order_of s id ≡ has id kept) → n.keys ≡ s.keys → (id : ObjectId) → contains order_of n id ≡ has id kept
-known_still kept s n known same_keys id = ap (λ (ks : List ObjectId). list_any (λ k. is_eq (order_of id k)) ks) same_keys ∙ known id
 
 -- one entry more, where it is told whether its id was kept before
 pub next_kept : (kept : Entries) (o : Entry) (rest : Entries) (known : Bool) → has o.0 kept ≡ known → once_from kept (o ∷ rest) ≡ once_from (cond known kept (kept ++ o ∷ [])) rest

@@ -1,8 +1,8 @@
--- What reading a pack answers: structure first, then the digest, the grammar of objects, and collisions.
-use Rattle.std.specs.Prelude.{◌≡◌, ℕ, ◌+◌, ◌-◌, Bool, not, ◌&&◌, ◌==◌, nat_eq, if◌then◌else◌, List, [], ◌∷◌, ◌++◌, length, take, drop, Option, Some, None, Result, Ok, Err}
+-- What reading a pack answers: structure first, then the digest, the grammar of objects, the ids written, and collisions.
+use Rattle.std.specs.Prelude.{◌≡◌, ℕ, ◌+◌, ◌-◌, Bool, not, ◌&&◌, ◌==◌, nat_eq, if◌then◌else◌, List, [], ◌∷◌, ◌++◌, length, map, take, drop, Option, Some, None, Result, Ok, Err}
 use Rattle.std.specs.List.{starts_with, list_any}
 use Rattle.std.specs.Ordering.{eq_by_cmp}
-use Rattle.std.specs.FinMap as map
+use Rattle.std.specs.FinMap as finmap
 use Rattle.fetch_store.specs.declared.id.Kind.{Kind}
 use Rattle.fetch_store.specs.declared.id.ObjectId.{ObjectId}
 use Rattle.fetch_store.specs.Id.{byte_len, id_of_bytes}
@@ -10,8 +10,10 @@ use Rattle.fetch_store.specs.Hashing.{digest, id_of}
 use Rattle.fetch_store.specs.Objects.{Stored, is_object}
 use Rattle.fetch_store.specs.Stores.{id_cmp, Entries, collision}
 use Rattle.fetch_pack.specs.declared.error.PackError.{PackError}
-use Rattle.fetch_pack.specs.declared.error.PackError.TheVariants.{Malformed, PackDigest, Collision, NoMemory}
-use Rattle.fetch_pack.specs.Records.{Payload, Records, mark, version, number_at, records}
+use Rattle.fetch_pack.specs.declared.error.PackError.TheVariants.{Malformed, PackDigest, IdMismatch, Collision, NoMemory}
+use Rattle.fetch_pack.specs.declared.version.PackVersion.{PackVersion}
+use Rattle.fetch_pack.specs.declared.version.PackVersion.TheVariants.{V1, V2}
+use Rattle.fetch_pack.specs.Records.{Payload, Written, Records, mark, version_text, number_at, records}
 
 infixl 10 ◌>>=◌
 abbrev pub ◌>>=◌ : {A B : Type 0} → Result A PackError → (A → Result B PackError) → Result B PackError
@@ -27,31 +29,43 @@ abbrev pub Gives : {X Y : Type 0} → (X → Y) → Result X PackError → Resul
 Gives view (Ok x) answer = answer ≡ Ok (view x)
 Gives view (Err e) answer = Fails e answer
 
+-- ---- structure
+
 -- a pack whose structure is right
 pub record Frame : Type 0 where
+  pub version : PackVersion
   pub count : ℕ
-  pub payloads : List Payload
+  pub written : List Written
   -- all before the digest
   pub body : List ℕ
   pub digest : ObjectId
 
 -- The records are whole, and the rest is as long as a digest.
-abbrev pub ended : Kind → List ℕ → ℕ → Records → Result Frame PackError
-ended hash bytes count r =
+abbrev pub ended : PackVersion → Kind → List ℕ → ℕ → Records → Result Frame PackError
+ended v hash bytes count r =
     let place = length bytes - length r.rest in
-    if length r.payloads == count && length r.rest == byte_len hash
-    then Ok (record { count = count; payloads = r.payloads; body = take place bytes; digest = id_of_bytes hash r.rest })
+    if length r.written == count && length r.rest == byte_len hash
+    then Ok (record { version = v; count = count; written = r.written; body = take place bytes; digest = id_of_bytes hash r.rest })
     else Err (Malformed place)
 
-abbrev pub counted : Kind → List ℕ → Option (ℕ × List ℕ) → Result Frame PackError
-counted hash bytes None = Err (Malformed 8)
-counted hash bytes (Some n) = ended hash bytes n.0 (records n.0 n.1)
+abbrev pub counted : PackVersion → Kind → List ℕ → Option (ℕ × List ℕ) → Result Frame PackError
+counted v hash bytes None = Err (Malformed 8)
+counted v hash bytes (Some n) = ended v hash bytes n.0 (records v hash n.0 n.1)
+
+abbrev pub version_at : List ℕ → Option PackVersion
+version_at bytes =
+    if starts_with nat_eq bytes (version_text V1) then Some V1
+    else if starts_with nat_eq bytes (version_text V2) then Some V2
+    else None
+
+abbrev pub versioned : Kind → List ℕ → Option PackVersion → Result Frame PackError
+versioned hash bytes None = Err (Malformed 4)
+versioned hash bytes (Some v) = counted v hash bytes (number_at (drop 8 bytes))
 
 abbrev pub structure : Kind → List ℕ → Result Frame PackError
-structure hash bytes =
-    if not (starts_with nat_eq bytes mark) then Err (Malformed 0)
-    else if not (starts_with nat_eq (drop 4 bytes) version) then Err (Malformed 4)
-    else counted hash bytes (number_at (drop 8 bytes))
+structure hash bytes = if not (starts_with nat_eq bytes mark) then Err (Malformed 0) else versioned hash bytes (version_at (drop 4 bytes))
+
+-- ---- digest
 
 abbrev pub is_id : ObjectId → ObjectId → Bool
 is_id a b = eq_by_cmp id_cmp a b
@@ -61,23 +75,58 @@ with_digest hash f =
     let computed = digest hash f.body in
     if is_id f.digest computed then Ok f else Err (PackDigest f.digest computed)
 
-abbrev pub record_len : Payload → ℕ
-record_len p = length p.bytes + 5
+-- ---- objects
 
--- the payload at this place of the pack, under its id
-abbrev pub named : Kind → ℕ → Payload → Result (ObjectId × Stored) PackError
-named hash place p =
-    if is_object hash p.kind p.bytes
-    then Ok (id_of hash p.kind p.bytes, record { hash = hash; kind = p.kind; bytes = p.bytes })
-    else Err (Malformed place)
+-- the bytes of a record before its payload
+abbrev pub head_len : PackVersion → ℕ
+head_len V1 = 5
+head_len V2 = 9
 
--- the same of each payload; the first one is at this place
-abbrev pub all_named : Kind → ℕ → List Payload → Result Entries PackError
-all_named hash place [] = Ok []
-all_named hash place (p ∷ ps) = do
-  o ← named hash place p
-  os ← all_named hash (place + record_len p) ps
+abbrev pub record_len : PackVersion → Written → ℕ
+record_len v w = head_len v + length w.id + length w.payload.bytes
+
+abbrev pub stored : Kind → Payload → Stored
+stored hash p = record { hash = hash; kind = p.kind; bytes = p.bytes }
+
+-- the object at this place of the pack
+abbrev pub parsed : Kind → ℕ → Payload → Result Stored PackError
+parsed hash place p = if is_object hash p.kind p.bytes then Ok (stored hash p) else Err (Malformed place)
+
+-- the same of each record; the first one is at this place
+abbrev pub all_parsed : PackVersion → Kind → ℕ → List Written → Result (List Stored) PackError
+all_parsed v hash place [] = Ok []
+all_parsed v hash place (w ∷ ws) = do
+  o ← parsed hash place w.payload
+  os ← all_parsed v hash (place + record_len v w) ws
   Ok (o ∷ os)
+
+-- ---- ids
+
+abbrev pub hashed : Kind → Stored → ObjectId
+hashed hash o = id_of hash o.kind o.bytes
+
+abbrev pub ids_of : Kind → List Stored → List ObjectId
+ids_of hash os = map (hashed hash) os
+
+-- The ids that are written are the computed ones; the first that isn't is told.
+abbrev pub compared : Kind → List Written → List ObjectId → Result (Unit {0}) PackError
+compared hash [] ids = Ok tt
+compared hash (w ∷ ws) [] = Ok tt
+compared hash (w ∷ ws) (id ∷ ids) =
+    if is_id (id_of_bytes hash w.id) id then compared hash ws ids else Err (IdMismatch (id_of_bytes hash w.id) id)
+
+-- Version 1 has no ids to compare.
+abbrev pub with_ids : PackVersion → Kind → List Written → List ObjectId → Result (Unit {0}) PackError
+with_ids V1 hash ws ids = Ok tt
+with_ids V2 hash ws ids = compared hash ws ids
+
+-- each object under its id
+abbrev pub paired : List ObjectId → List Stored → Entries
+paired [] os = []
+paired (id ∷ ids) [] = []
+paired (id ∷ ids) (o ∷ os) = (id, o) ∷ paired ids os
+
+-- ---- each object once
 
 -- each id once, where it first comes
 abbrev pub keep : Entries → ObjectId × Stored → Entries
@@ -92,13 +141,21 @@ pub record Contents : Type 0 where
   pub count : ℕ
   pub digest : ObjectId
 
-abbrev pub distinct : ℕ → ObjectId → Entries → Option ObjectId → Result Contents PackError
-distinct count digest os (Some id) = Err (Collision id)
-distinct count digest os None = Ok (record { objects = once_from [] os; count = count; digest = digest })
+-- what is kept, or the id of a collision
+abbrev pub unless : Entries → Option ObjectId → Result Entries PackError
+unless kept (Some id) = Err (Collision id)
+unless kept None = Ok kept
+
+abbrev pub distinct : Entries → Result Entries PackError
+distinct os = unless (once_from [] os) (collision finmap.empty os)
+
+-- ---- the whole
 
 abbrev pub read : Kind → List ℕ → Result Contents PackError
 read hash bytes = do
   framed ← structure hash bytes
   f ← with_digest hash framed
-  os ← all_named hash 12 f.payloads
-  distinct f.count f.digest os (collision map.empty os)
+  os ← all_parsed f.version hash 12 f.written
+  _ ← with_ids f.version hash f.written (ids_of hash os)
+  kept ← distinct (paired (ids_of hash os) os)
+  Ok (record { objects = kept; count = f.count; digest = f.digest })

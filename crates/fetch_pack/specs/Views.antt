@@ -2,14 +2,15 @@
 use Rattle.fetch_pack.specs.declared.records.Record.{Record}
 use Rattle.fetch_pack.specs.declared.reading.Framed.{Framed}
 use Rattle.fetch_pack.specs.declared.reading.Pack.{Pack}
-use Rattle.fetch_pack.specs.Records.{Payload, records}
+use Rattle.fetch_store.specs.declared.id.Kind.{Kind}
+use Rattle.fetch_pack.specs.Records.{Written, records}
 use Rattle.fetch_pack.specs.Reading.{Frame, Contents}
 
-abbrev pub payload : Record → Payload
-payload r = record { kind = r.kind; bytes = r.bytes.now }
+abbrev pub written : Record → Written
+written r = record { id = r.id.now; payload = record { kind = r.kind; bytes = r.bytes.now } }
 
-abbrev pub frame : Framed → Frame
-frame f = record { count = f.count; payloads = (records f.count f.records.now).payloads; body = f.body.now; digest = f.digest }
+abbrev pub frame : Kind → Framed → Frame
+frame hash f = record { version = f.version; count = f.count; written = (records f.version hash f.count f.records.now).written; body = f.body.now; digest = f.digest }
 
 abbrev pub contents : Pack → Contents
 contents p = record { objects = p.objects; count = p.count; digest = p.digest }

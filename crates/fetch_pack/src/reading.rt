@@ -1,8 +1,7 @@
 //! Reading a pack.
 
-ghost use Rattle.std.specs.Prelude.{◌≡◌, ◌↔◌, ◌+◌, ◌-◌, ◌≤◌, length, List as Items, [], Ok, IfOk, IfErr};
-ghost use Rattle.std.specs.FinMap as map;
-ghost use Rattle.fetch_store.specs.Stores.{AreOf, Entries, collision};
+ghost use Rattle.std.specs.Prelude.{◌≡◌, ◌↔◌, ◌+◌, ◌-◌, ◌≤◌, length, List as Items, [], Ok, IfOk, IfErr, IfSome};
+ghost use Rattle.fetch_store.specs.Stores.{AreOf, Entries};
 ghost use Rattle.fetch_pack.specs.Reading as spec;
 ghost use Rattle.fetch_pack.specs.Reading.{Gives};
 ghost use Rattle.fetch_pack.specs.Records.{Payload, records};
@@ -10,22 +9,27 @@ ghost use Rattle.fetch_pack.specs.Packs.{IsPack, contents_of};
 ghost use Rattle.fetch_pack.specs.Views.{frame, contents};
 ghost use Rattle.fetch_pack.specs.Refusals.{IsRefused};
 ghost use Rattle.fetch_pack.specs.Once.{AreNamed, HasDistinctIds, KeepsEachOnce};
+ghost use Rattle.fetch_pack.specs.declared.version.PackVersion.{PackVersion as Version};
+ghost use Rattle.fetch_pack.specs.declared.version.PackVersion.TheVariants.{V2};
 
 use crate::error::PackError;
+use crate::hashing::{Gate, OpenGate, hash_pieces};
+use crate::kept::distinct;
 use crate::records::{number_at, record_at, skip_records};
-use fetch_store::{
-    Kind, List, NoMemory, Object, ObjectId, ObjectKind, Store, StoreError, digest, id_of,
-};
-use std::alloc::{AllocError, Global};
+use crate::version::PackVersion;
+use fetch_store::{Kind, List, NoMemory, Object, ObjectId, ObjectKind, digest};
+use std::alloc::Global;
 use std::cmp::Ordering;
-use std::collections::BTreeSet;
 use std::thread::Threads;
 
 /// The objects of a pack, each once.
 #[derive(Debug, Drop)]
 pub struct Pack {
+    /// The objects under their ids, each id once, in the order in which they first come.
     pub objects: List<(ObjectId, Object)>,
+    /// How many objects the pack's text has: one that comes again counts again.
     pub count: u32,
+    /// The digest at the pack's end.
     pub digest: ObjectId,
 }
 
@@ -48,6 +52,7 @@ impl Pack {
 /// A pack whose structure is right.
 #[derive(Clone, Copy)]
 pub struct Framed<'a> {
+    version: PackVersion,
     count: u32,
     records: &'a [u8],
     body: &'a [u8],
@@ -55,37 +60,52 @@ pub struct Framed<'a> {
 }
 
 fn structure(hash: Kind, bytes: &[u8]) -> Result<Framed<'_>, PackError>
-    ensures frame { Gives frame result (spec.structure hash bytes.now) }
+    ensures frame { Gives (frame hash) result (spec.structure hash bytes.now) }
     ensures start { IfOk result (λ f. length f.records.now + 12 ≡ length bytes.now) }
 {
     if !bytes.starts_with(b"PLNP") {
         return Err(PackError::Malformed { place: 0 });
     }
-    if !bytes[4..].starts_with(b"\0\0\0\x01") {
+    let Some(version) = version_at(&bytes[4..]) else {
         return Err(PackError::Malformed { place: 4 });
-    }
+    };
     match number_at(&bytes[8..]) {
-        Some((count, records)) => ended(hash, bytes, count, records),
+        Some((count, records)) => ended(version, hash, bytes, count, records),
         None => Err(PackError::Malformed { place: 8 }),
     }
 }
 
+fn version_at(bytes: &[u8]) -> Option<PackVersion>
+    ensures version { result ≡ spec.version_at bytes.now }
+    ensures whole { IfSome result (λ _. 4 ≤ length bytes.now) }
+{
+    if bytes.starts_with(b"\0\0\0\x01") {
+        Some(PackVersion::V1)
+    } else if bytes.starts_with(b"\0\0\0\x02") {
+        Some(PackVersion::V2)
+    } else {
+        None
+    }
+}
+
 fn ended<'a>(
+    version: PackVersion,
     hash: Kind,
     bytes: &'a [u8],
     count: u32,
-    behind: &'a [u8],
+    after: &'a [u8],
 ) -> Result<Framed<'a>, PackError>
-    requires { length behind.now ≤ length bytes.now }
-    ensures frame { Gives frame result (spec.ended hash bytes.now count (records count behind.now)) }
-    ensures start { IfOk result (λ f. f.records.now ≡ behind.now) }
+    requires { length after.now ≤ length bytes.now }
+    ensures frame { Gives (frame hash) result (spec.ended version hash bytes.now count (records version hash count after.now)) }
+    ensures start { IfOk result (λ f. f.records.now ≡ after.now) }
 {
-    let (whole, rest) = skip_records(count, behind);
+    let (whole, rest) = skip_records(version, hash, count, after);
     let place = bytes.len() - rest.len();
     if whole == count && rest.len() == hash.len_in_bytes() {
         Ok(Framed {
+            version,
             count,
-            records: behind,
+            records: after,
             body: &bytes[..place],
             digest: ObjectId::from_bytes(hash, rest),
         })
@@ -95,7 +115,7 @@ fn ended<'a>(
 }
 
 fn check_digest(hash: Kind, framed: &Framed<'_>) -> Result<(), PackError>
-    ensures { Gives (λ _. frame framed.now) result (spec.with_digest hash (frame framed.now)) }
+    ensures { Gives (λ _. frame hash framed.now) result (spec.with_digest hash (frame hash framed.now)) }
 {
     let computed = digest(hash, framed.body);
     if is_same(&framed.digest, &computed) {
@@ -114,41 +134,41 @@ fn is_same(id: &ObjectId, other: &ObjectId) -> bool
     id.cmp(other) == Ordering::Equal
 }
 
-fn named(
+fn parsed(
     alloc: Global,
     hash: Kind,
     place: usize,
     kind: ObjectKind,
     bytes: &[u8],
-) -> Result<(ObjectId, Object), PackError>
-    ensures { Gives (λ x. x) result (spec.named hash place (record { kind = kind; bytes = bytes.now })) }
+) -> Result<Object, PackError>
+    ensures { Gives (λ o. o) result (spec.parsed hash place (record { kind = kind; bytes = bytes.now })) }
 {
     match Object::parse(hash, kind, Vec::from_slice(alloc, bytes)?) {
-        Ok(object) => Ok((id_of(hash, kind, bytes), object)),
+        Ok(object) => Ok(object),
         Err(_) => Err(PackError::Malformed { place }),
     }
 }
 
-/// The objects of records that lie at the end of a pack of this length.
-fn all_named(
+/// The objects of the records, which end with the digest at the end of a pack of this length.
+fn all_parsed(
     alloc: Global,
     hash: Kind,
     pack_len: usize,
-    count: u32,
-    bytes: &[u8],
-) -> Result<Vec<(ObjectId, Object)>, PackError>
-    requires { length bytes.now ≤ pack_len }
-    ensures { Gives (λ v. v.items) result (spec.all_named hash (pack_len - length bytes.now) (records count bytes.now).payloads) }
+    framed: &Framed<'_>,
+) -> Result<Vec<Object>, PackError>
+    requires { length framed.now.records.now ≤ pack_len }
+    ensures { Gives (λ v. v.items) result (spec.all_parsed framed.now.version hash (pack_len - length framed.now.records.now) (records framed.now.version hash framed.now.count framed.now.records.now).written) }
 {
+    let version = framed.version;
     let mut objects = Vec::new(alloc);
-    let mut rest = bytes;
-    for i in 0..count {
-        match record_at(rest) {
-            Some((record, behind)) => {
+    let mut rest = framed.records;
+    for i in 0..framed.count {
+        match record_at(version, hash, rest) {
+            Some((record, after)) => {
                 let place = pack_len - rest.len();
-                let object = named(alloc, hash, place, record.kind, record.bytes)?;
+                let object = parsed(alloc, hash, place, record.kind, record.bytes)?;
                 objects.push(object)?;
-                rest = behind;
+                rest = after;
             }
             None => return Ok(objects),
         }
@@ -156,56 +176,52 @@ fn all_named(
     Ok(objects)
 }
 
-/// Each id once, where it first comes.
-fn once(
-    alloc: Global,
-    objects: Vec<(ObjectId, Object)>,
-) -> Result<Vec<(ObjectId, Object)>, AllocError>
-    ensures { IfOk result (λ v. v.items ≡ spec.once_from [] objects.items) }
+/// Compares the ids that are written before the payloads of version 2.
+fn compared(hash: Kind, bytes: &[u8], ids: &[ObjectId]) -> Result<(), PackError>
+    ensures { Gives (λ _. tt) result (spec.compared hash (records V2 hash (length ids.now) bytes.now).written ids.now) }
 {
-    let mut kept = Vec::new(alloc);
-    let mut seen = BTreeSet::new(alloc);
-    for (id, object) in objects {
-        let is_new = seen.insert(id)?;
-        if is_new {
-            kept.push((id, object))?;
+    let mut rest = bytes;
+    for id in ids {
+        match record_at(PackVersion::V2, hash, rest) {
+            Some((record, after)) => {
+                let written = ObjectId::from_bytes(hash, record.id);
+                if is_same(&written, id) {
+                    rest = after;
+                } else {
+                    return Err(PackError::IdMismatch {
+                        written,
+                        computed: *id,
+                    });
+                }
+            }
+            None => return Ok(()),
         }
     }
-    Ok(kept)
+    Ok(())
 }
 
-fn distinct(
-    alloc: Global,
-    hash: Kind,
-    count: u32,
-    digest: ObjectId,
-    objects: Vec<(ObjectId, Object)>,
-) -> Result<Pack, PackError>
-    ensures { Gives contents result (spec.distinct count digest objects.items (collision map.empty objects.items)) }
+fn check_ids(hash: Kind, framed: &Framed<'_>, ids: &[ObjectId]) -> Result<(), PackError>
+    requires { length ids.now ≡ framed.now.count }
+    ensures { Gives (λ _. tt) result (spec.with_ids framed.now.version hash (frame hash framed.now).written ids.now) }
 {
-    match Store::new(alloc, hash).check(objects.as_slice()) {
-        Ok(()) => Ok(Pack {
-            objects: List::from(once(alloc, objects)?),
-            count,
-            digest,
-        }),
-        Err(StoreError::Collision { id }) => Err(PackError::Collision { id }),
-        Err(_) => Err(PackError::NoMemory),
+    match framed.version {
+        PackVersion::V1 => Ok(()),
+        PackVersion::V2 => compared(hash, framed.records, ids),
     }
 }
 
-/// Reads a pack, all of the bytes.
+/// Reads a pack of either version, all of the bytes: `read_pack_gated` with a gate that does nothing.
 pub fn read_pack<R: Threads + Sync>(
-    _rt: &R,
+    rt: &R,
     alloc: Global,
     kind: Kind,
     bytes: &[u8],
-    _threads: usize,
+    threads: usize,
 ) -> Result<Pack, PackError>
     // What is read is a pack.
-    ensures found { IfOk result (λ p. (ps : Items Payload) × IsPack kind bytes.now ps × (contents p ≡ contents_of kind ps)) }
+    ensures found { IfOk result (λ p. (v : Version) × (ps : Items Payload) × IsPack v kind bytes.now ps × (contents p ≡ contents_of v kind ps)) }
     // A pack is read, unless memory runs out.
-    ensures only { (ps : Items Payload) → IsPack kind bytes.now ps → Gives contents result (Ok (contents_of kind ps)) }
+    ensures only { (v : Version) (ps : Items Payload) → IsPack v kind bytes.now ps → Gives contents result (Ok (contents_of v kind ps)) }
     // The objects are of the kind that was asked for, and their ids are their hashes.
     ensures of_kind { IfOk result (λ p. AreOf kind p.objects) }
     ensures ids { IfOk result (λ p. AreNamed p.objects) }
@@ -215,16 +231,56 @@ pub fn read_pack<R: Threads + Sync>(
     ensures refused { IfErr result (λ e. IsRefused kind bytes.now e) }
     ensures exact { Gives contents result (spec.read kind bytes.now) }
 {
-    exactly(alloc, kind, bytes)
+    read_pack_gated(rt, alloc, kind, bytes, threads, &OpenGate)
 }
 
-fn exactly(alloc: Global, hash: Kind, bytes: &[u8]) -> Result<Pack, PackError>
+/// Reads a pack of either version, all of the bytes. Its objects are hashed by `hash_pieces` with this gate. The answer
+/// is the same for every number of threads and every gate.
+pub fn read_pack_gated<R: Threads + Sync, G: Gate + Sync>(
+    rt: &R,
+    alloc: Global,
+    kind: Kind,
+    bytes: &[u8],
+    threads: usize,
+    gate: &G,
+) -> Result<Pack, PackError>
+    // What is read is a pack.
+    ensures found { IfOk result (λ p. (v : Version) × (ps : Items Payload) × IsPack v kind bytes.now ps × (contents p ≡ contents_of v kind ps)) }
+    // A pack is read, unless memory runs out.
+    ensures only { (v : Version) (ps : Items Payload) → IsPack v kind bytes.now ps → Gives contents result (Ok (contents_of v kind ps)) }
+    // The objects are of the kind that was asked for, and their ids are their hashes.
+    ensures of_kind { IfOk result (λ p. AreOf kind p.objects) }
+    ensures ids { IfOk result (λ p. AreNamed p.objects) }
+    // No id comes twice.
+    ensures distinct { IfOk result (λ p. HasDistinctIds p.objects) }
+    // Why it is refused, and which refusal it is.
+    ensures refused { IfErr result (λ e. IsRefused kind bytes.now e) }
+    ensures exact { Gives contents result (spec.read kind bytes.now) }
+{
+    exactly(rt, alloc, kind, bytes, threads, gate)
+}
+
+fn exactly<R: Threads + Sync, G: Gate + Sync>(
+    rt: &R,
+    alloc: Global,
+    hash: Kind,
+    bytes: &[u8],
+    threads: usize,
+    gate: &G,
+) -> Result<Pack, PackError>
     ensures { Gives contents result (spec.read hash bytes.now) }
 {
     let framed = structure(hash, bytes)?;
     check_digest(hash, &framed)?;
-    let objects = all_named(alloc, hash, bytes.len(), framed.count, framed.records)?;
-    distinct(alloc, hash, framed.count, framed.digest, objects)
+    let objects = all_parsed(alloc, hash, bytes.len(), &framed)?;
+    let ids = hash_pieces(rt, alloc, hash, objects.as_slice(), threads, gate)?;
+    check_ids(hash, &framed, ids.as_slice())?;
+    let objects = distinct(alloc, ids.as_slice(), objects)?;
+    Ok(Pack {
+        objects: List::from(objects),
+        count: framed.count,
+        digest: framed.digest,
+    })
 }
 
 /// The objects of a pack are its payloads' objects, each once, in order of first coming.

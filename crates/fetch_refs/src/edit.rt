@@ -11,14 +11,20 @@ use fetch_store::{NoMemory, Text};
 /// What is expected of a reference before it is changed.
 #[derive(Debug, Drop)]
 pub enum PreviousValue {
+    /// Whatever stands there, also nothing.
     Any,
+    /// Some value.
     MustExist,
+    /// Nothing.
     MustNotExist,
+    /// This value.
     MustExistAndMatch(Target),
+    /// This value or nothing.
     ExistingMustMatch(Target),
 }
 
 impl PreviousValue {
+    /// A copy of the expectation.
     pub fn try_clone(&self) -> Result<PreviousValue, NoMemory>
         ensures { IfOk result (λ copy. copy ≡ self.now) }
     {
@@ -54,20 +60,25 @@ impl PreviousValue {
 /// Whether a change touches the reference, or its reflog alone.
 #[derive(Clone, Copy, Debug, PartialEq, Eq)]
 pub enum RefLog {
+    /// The reference and its reflog.
     AndReference,
+    /// The reflog alone.
     Only,
 }
 
 /// How a change is logged.
 #[derive(Debug, Drop)]
 pub struct LogChange {
+    /// What the update touches.
     pub mode: RefLog,
-    /// Log a name that isn't logged otherwise.
+    /// Whether a name that isn't logged otherwise gets a line.
     pub force_create_reflog: bool,
+    /// The message of the line.
     pub message: Text,
 }
 
 impl LogChange {
+    /// A copy of the value.
     pub fn try_clone(&self) -> Result<LogChange, NoMemory>
         ensures { IfOk result (λ copy. copy ≡ self.now) }
     {
@@ -79,20 +90,29 @@ impl LogChange {
     }
 }
 
+/// What becomes of a reference.
 #[derive(Debug, Drop)]
 pub enum Change {
+    /// The reference gets a value.
     Update {
+        /// How the update is logged.
         log: LogChange,
+        /// What has to stand there before.
         expected: PreviousValue,
+        /// The new value.
         new: Target,
     },
+    /// The reflog goes, and the reference too unless the reflog alone is meant.
     Delete {
+        /// What has to stand there before.
         expected: PreviousValue,
+        /// What is deleted.
         log: RefLog,
     },
 }
 
 impl Change {
+    /// A copy of the change.
     pub fn try_clone(&self) -> Result<Change, NoMemory>
         ensures { IfOk result (λ copy. copy ≡ self.now) }
     {
@@ -123,11 +143,14 @@ impl Change {
 /// A change of one reference.
 #[derive(Debug, Drop)]
 pub struct RefEdit {
+    /// What becomes of it.
     pub change: Change,
+    /// Its name.
     pub name: FullName,
 }
 
 impl RefEdit {
+    /// A copy of the edit.
     pub fn try_clone(&self) -> Result<RefEdit, NoMemory>
         ensures { IfOk result (λ copy. copy ≡ self.now) }
     {

@@ -1,26 +1,92 @@
+//! Why references are refused.
+
+ghost use Rattle.std.specs.Prelude.{◌≡◌, IfOk};
+
 use crate::target::Target;
 use fetch_specs::FullName;
 use fetch_store::{NoMemory, ObjectId};
 use std::alloc::{AllocError, AllocFailed};
 use thiserror::Error;
 
+/// Why references aren't read or changed.
 #[derive(Debug, Drop, PartialEq, Eq, Error)]
 pub enum RefError {
-    /// The edit at this index expected another value.
+    /// An edit expected another value than the one that stands at its name.
     #[error("edit {index} expected another value")]
-    Expectation { index: usize, found: Option<Target> },
+    Expectation {
+        /// The place of the first such edit in the list, from 0.
+        index: usize,
+        /// What stands at the edit's name, if anything does.
+        found: Option<Target>,
+    },
+    /// A symbolic reference leads to a name that was met before.
     #[error("a symbolic reference leads back to itself")]
-    Cycle { name: FullName },
+    Cycle {
+        /// The name that is met a second time.
+        name: FullName,
+    },
+    /// Five symbolic references stand on one way, and the fifth names a further one.
     #[error("too many symbolic references on one way")]
-    Depth { name: FullName },
+    Depth {
+        /// The name that the fifth symbolic reference leads to.
+        name: FullName,
+    },
+    /// Nothing stands at the name, or at the end of the way of symbolic references.
     #[error("a reference that doesn't exist")]
-    Unborn { name: FullName },
+    Unborn {
+        /// The first name on the way at which nothing stands.
+        name: FullName,
+    },
+    /// The way through tags leads to an object that isn't stored.
     #[error("an object isn't stored")]
-    MissingObject { id: ObjectId },
+    MissingObject {
+        /// The first id on the way that isn't stored.
+        id: ObjectId,
+    },
+    /// A tag leads to a tag that was met before.
     #[error("a tag leads back to itself")]
-    TagCycle { id: ObjectId },
+    TagCycle {
+        /// The tag that is met a second time.
+        id: ObjectId,
+    },
+    /// Memory ran out. Nothing was changed.
     #[error("out of memory")]
     NoMemory,
+}
+
+impl RefError {
+    /// A copy of the error.
+    pub fn try_clone(&self) -> Result<RefError, NoMemory>
+        ensures { IfOk result (λ copy. copy ≡ self.now) }
+    {
+        match self {
+            RefError::Expectation { index, found } => Ok(RefError::Expectation {
+                index: *index,
+                found: copy_found(found)?,
+            }),
+            RefError::Cycle { name } => Ok(RefError::Cycle {
+                name: name.try_clone()?,
+            }),
+            RefError::Depth { name } => Ok(RefError::Depth {
+                name: name.try_clone()?,
+            }),
+            RefError::Unborn { name } => Ok(RefError::Unborn {
+                name: name.try_clone()?,
+            }),
+            RefError::MissingObject { id } => Ok(RefError::MissingObject { id: *id }),
+            RefError::TagCycle { id } => Ok(RefError::TagCycle { id: *id }),
+            RefError::NoMemory => Ok(RefError::NoMemory),
+        }
+    }
+}
+
+fn copy_found(found: &Option<Target>) -> Result<Option<Target>, NoMemory>
+    ensures { IfOk result (λ copy. copy ≡ found.now) }
+{
+    match found {
+        Some(target) => Ok(Some(target.try_clone()?)),
+        None => Ok(None),
+    }
 }
 
 impl From<NoMemory> for RefError {

@@ -23,6 +23,3 @@ pub use peel::peel_tags;
 pub use prepared::Prepared;
 pub use refs::Refs;
 pub use target::{Target, TargetRef};
-
-#[cfg(test)]
-mod tests;

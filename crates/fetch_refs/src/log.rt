@@ -7,15 +7,18 @@ use fetch_store::{NoMemory, ObjectId, Text};
 /// Who changed a reference, and when.
 #[derive(Debug, Drop)]
 pub struct Signature {
+    /// The person's name, any bytes.
     pub name: Text,
+    /// The person's address, any bytes.
     pub email: Text,
-    /// Since 1970.
+    /// Seconds since 1970, in UTC.
     pub seconds: u64,
-    /// East of Greenwich.
+    /// The time zone: minutes east of Greenwich.
     pub offset_minutes: i32,
 }
 
 impl Signature {
+    /// A copy of the signature.
     pub fn try_clone(&self) -> Result<Signature, NoMemory>
         ensures { IfOk result (λ copy. copy ≡ self.now) }
     {
@@ -28,17 +31,21 @@ impl Signature {
     }
 }
 
-/// One change of a reference.
+/// One change of a reference, as its reflog tells it.
 #[derive(Debug, Drop)]
 pub struct LogLine {
-    /// The null id where there was none.
+    /// The id that the reference had by itself: the null id where it was absent or symbolic.
     pub old: ObjectId,
+    /// The id that it has from here on.
     pub new: ObjectId,
+    /// Who changed it, and when.
     pub committer: Signature,
+    /// Why, any bytes.
     pub message: Text,
 }
 
 impl LogLine {
+    /// A copy of the line.
     pub fn try_clone(&self) -> Result<LogLine, NoMemory>
         ensures { IfOk result (λ copy. copy ≡ self.now) }
     {

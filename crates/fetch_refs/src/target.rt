@@ -12,7 +12,9 @@ use fetch_store::{NoMemory, ObjectId};
 /// An object, or the name of another reference.
 #[derive(Debug, PartialEq, Eq, Drop)]
 pub enum Target {
+    /// The id of an object, stored or not.
     Object(ObjectId),
+    /// The name of another reference, which may be absent.
     Symbolic(FullName),
 }
 
@@ -27,6 +29,7 @@ impl Target {
         }
     }
 
+    /// A copy of the target.
     pub fn try_clone(&self) -> Result<Target, NoMemory>
         ensures { IfOk result (λ copy. copy ≡ self.now) }
     {
@@ -50,7 +53,9 @@ impl Target {
 /// A target that someone else keeps.
 #[derive(Clone, Copy, Debug, PartialEq, Eq)]
 pub enum TargetRef<'a> {
+    /// The id of an object, stored or not.
     Object(ObjectId),
+    /// The name of another reference, which may be absent.
     Symbolic(&'a FullName),
 }
 

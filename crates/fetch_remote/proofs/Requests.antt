@@ -5,25 +5,25 @@ use Rattle.std.specs.List.{list_all, prefix_len}
 use Rattle.std.proofs.lemmas.Bool.{lt-ltb}
 use Rattle.std.proofs.lemmas.List.{take_all, drop_all, take-append-le, drop-append-le, length-append}
 use Rattle.fetch_store.specs.declared.id.Kind.{Kind}
-use Rattle.fetch_store.specs.declared.id.Kind.TheVariants as kinds
 use Rattle.fetch_store.specs.declared.id.ObjectId.{ObjectId}
 use Rattle.fetch_wire.specs.declared.line.Line.TheVariants.{Delim, Flush}
-use Rattle.fetch_negotiate.specs.Requests.{Asked, when, format_line, text_lines, fetch_request, offers, sent, id_lines}
-use Rattle.fetch_negotiate.specs.Words.{command_word, agent_is, agent_word, format_word, sha1_format, sha256_format, plain_pack, have_word, done_word}
-use Rattle.fetch_remote.specs.RequestLines.{is_plain_pack, pack_place, request_lines}
+use Rattle.fetch_wire.specs.Greetings.{offers}
+use Rattle.fetch_wire.specs.Requests.{when, sent, kind_text, agent_text}
+use Rattle.fetch_wire.specs.RequestWords.{command_word, agent_is, agent_word, format_word, format_is, plain_pack, plain_pack_2, have_word, done_word}
+use Rattle.fetch_wire.specs.RequestLines.{id_lines, is_plain_pack, pack_place, request_lines}
+use Rattle.fetch_negotiate.specs.Requests.{Asked, text_lines, fetch_request}
 
 command_isnt : is_plain_pack command_word ≡ false
-unfolding is_plain_pack command_word plain_pack
+unfolding is_plain_pack command_word plain_pack plain_pack_2
 command_isnt = refl
 
 agent_isnt : (agent : List ℕ) → is_plain_pack (agent_is ++ agent) ≡ false
-unfolding is_plain_pack agent_is plain_pack
+unfolding is_plain_pack agent_is plain_pack plain_pack_2
 agent_isnt agent = refl
 
-format_isnt : (kind : Kind) → is_plain_pack (format_line kind) ≡ false
-unfolding is_plain_pack sha1_format sha256_format plain_pack
-format_isnt kinds.Sha1 = refl
-format_isnt kinds.Sha256 = refl
+format_isnt : (kind : Kind) → is_plain_pack (format_is ++ kind_text kind) ≡ false
+unfolding is_plain_pack format_is plain_pack plain_pack_2
+format_isnt kind = refl
 
 pack_is : is_plain_pack plain_pack ≡ true
 unfolding is_plain_pack plain_pack
@@ -58,15 +58,15 @@ lines_are head behind haves done h =
 
 -- the lines before the delimiter, by what the server offers
 abbrev head_by : Bool → Bool → List ℕ → Kind → List (List ℕ)
-head_by a f agent kind = command_word ∷ [] ++ when a (agent_is ++ agent) ++ when f (format_line kind)
+head_by a f agent kind = command_word ∷ [] ++ when a (agent_is ++ agent_text agent) ++ when f (format_is ++ kind_text kind)
 
 none_in : (a f : Bool) (agent : List ℕ) (kind : Kind) → has_none (head_by a f agent kind) ≡ true
-none_in true true agent kind = rw (command_isnt, agent_isnt agent, format_isnt kind) refl
-none_in true false agent kind = rw (command_isnt, agent_isnt agent) refl
+none_in true true agent kind = rw (command_isnt, agent_isnt (agent_text agent), format_isnt kind) refl
+none_in true false agent kind = rw (command_isnt, agent_isnt (agent_text agent)) refl
 none_in false true agent kind = rw (command_isnt, format_isnt kind) refl
 none_in false false agent kind = rw command_isnt refl
 
 pub request_is : (a : Asked) (haves : List ObjectId) (done : Bool) → request_lines (record { lines = text_lines a; haves = haves; done = done }) ≡ fetch_request a haves done
 unfolding fetch_request
 request_is a haves done =
-    lines_are (head_by (offers a.handshake agent_word) (offers a.handshake format_word) a.agent a.handshake.object_hash) _ haves done (none_in (offers a.handshake agent_word) (offers a.handshake format_word) a.agent a.handshake.object_hash)
+    lines_are (head_by (offers agent_word a.handshake.capabilities) (offers format_word a.handshake.capabilities) a.agent a.handshake.object_hash) _ haves done (none_in (offers agent_word a.handshake.capabilities) (offers format_word a.handshake.capabilities) a.agent a.handshake.object_hash)

@@ -12,7 +12,6 @@ use Rattle.fetch_wire.specs.declared.records.FetchReply.{FetchReply}
 use Rattle.fetch_wire.specs.declared.section.Trouble.{Trouble}
 use Rattle.fetch_wire.specs.declared.section.Trouble.TheVariants as troubles
 use Rattle.fetch_wire.specs.Replies.{has_shallow_info, reply_of}
-use Rattle.fetch_wire.specs.Requests.{agent_text}
 use Rattle.fetch_negotiate.specs.Requests.{Asked, fetch_request}
 use Rattle.fetch_negotiate.specs.declared.algorithm.Round.{Round}
 use Rattle.fetch_negotiate.specs.declared.algorithm.Shallow.{Shallow}
@@ -68,7 +67,7 @@ is_client errors.Unbuilt = false
 
 -- what the request is made of
 abbrev pub asked_by : Handshake → View → Tags → Shallow → Asked
-asked_by h view tags shallow = record { handshake = h; agent = agent_text default_agent; tags = tags; shallow = shallow; border = view.border; wants = view.wants }
+asked_by h view tags shallow = record { handshake = h; agent = default_agent; tags = tags; shallow = shallow; border = view.border; wants = view.wants }
 
 -- one request, which says nothing of what is there
 abbrev pub only_round : Round

@@ -5,7 +5,6 @@ pub mod Mapped
 pub mod Errors
 pub mod ListStage
 pub mod Repositories
-pub mod RequestLines
 pub mod ConverseStage
 pub mod Judging
 pub mod Settling

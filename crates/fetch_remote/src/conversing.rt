@@ -14,13 +14,12 @@ use crate::ask::{AskError, ask};
 use crate::fetch;
 use crate::listing::{AGENT, Listed};
 use crate::outcome::Negotiate;
-use crate::request::lines_of;
 use fetch_negotiate::{Round, Shallow, request_of};
 use fetch_pack::{Pack, PackError, read_pack};
 use fetch_specs::Tags;
 use fetch_store::{Border, Kind, List, NoMemory, Object, ObjectId};
 use fetch_wire::{
-    Handshake, Interrupt, Line, Peer, Request, Session, WireError, agent_text, changes_border,
+    Handshake, Interrupt, Line, Peer, Request, Session, WireError, changes_border,
     read_reply,
 };
 use std::alloc::Global;
@@ -132,7 +131,7 @@ fn fetch_lines(
     ensures { IfOk result (λ lines. lines.items ≡ fetch_request (asked_by handshake.now view.now tags shallow.now) [] true) }
 {
     let request = only_request(alloc, handshake, view, tags, shallow)?;
-    lines_of(alloc, &request)
+    request.to_lines(alloc)
 }
 
 #[tactic(auto, unfolding(crate::specs::ListStage::default_agent))]
@@ -145,11 +144,10 @@ fn only_request(
 ) -> Result<Request, NoMemory>
     ensures { IfOk result (λ r. r ≡ record { lines = text_lines (asked_by handshake.now view.now tags shallow.now); haves = []; done = true }) }
 {
-    let agent = agent_text(alloc, AGENT)?;
     let request = request_of(
         alloc,
         handshake,
-        agent.as_bytes(),
+        AGENT,
         tags,
         shallow,
         &view.border,

@@ -21,7 +21,6 @@ pub mod prepare;
 pub mod ref_map;
 mod remote;
 mod repository;
-mod request;
 mod settings;
 mod settling;
 
@@ -32,6 +31,3 @@ pub use options::FetchOptions;
 pub use outcome::{Negotiate, Outcome, PackOutcome, Status};
 pub use remote::Remote;
 pub use repository::{OpenOptions, Parts, Repository};
-
-#[cfg(test)]
-mod tests;

@@ -1,5 +1,5 @@
 -- What a listing is asked for ascends, and is what the refspecs ask for.
-use Rattle.std.proofs.Common.{◌≡◌, ℕ, Bool, true, false, ◌&&◌, ◌||◌, List, [], ◌∷◌, refl, sym, ap, ◌∙◌}
+use Rattle.std.proofs.Common.{◌≡◌, ℕ, Bool, true, false, cond, not, ◌&&◌, ◌||◌, List, [], ◌∷◌, refl, sym, ap, ◌∙◌}
 use Rattle.std.specs.List.{list_any, list_all, flat_map}
 use Rattle.std.specs.Ordering.{nat_cmp, is_lt, is_eq, ordering_reverse}
 use Rattle.std.specs.Cmp.Lexicographic.{slice_cmp, nat_list_cmp_total, texts_ties}
@@ -10,7 +10,7 @@ use Rattle.std.proofs.lemmas.Bool.{and_parts}
 use Rattle.std.proofs.lemmas.List.Folds.{list_any-append}
 use Rattle.std.proofs.lemmas.Slice.Eq.{bytes_eq-Decides}
 use Rattle.fetch_specs.specs.Specs.{Spec}
-use Rattle.fetch_specs.specs.Prefixes.{placed, put, put_all, spec_prefixes, prefixes_of, ascends, IsListing}
+use Rattle.fetch_specs.specs.Prefixes.{placed, put, put_all, spec_prefixes, asks_for_all, prefixes_of, ascends, IsListing}
 
 abbrev before : List ℕ → List ℕ → Bool
 before a b = is_lt (slice_cmp nat_cmp a b)
@@ -66,17 +66,17 @@ or-again : (a r : Bool) → (a || r) ≡ (a || (a || r))
 or-again true r = refl
 or-again false r = refl
 
-put-members : (q text : List ℕ) (ts : List (List ℕ)) → list_any (bytes_eq q) (put text ts) ≡ (bytes_eq q text || list_any (bytes_eq q) ts)
-put-members q text [] = refl
-put-members q text (t ∷ ts) = step (slice_cmp nat_cmp text t) refl (put-members q text ts)
+put-members : (p : List ℕ → Bool) (text : List ℕ) (ts : List (List ℕ)) → list_any p (put text ts) ≡ (p text || list_any p ts)
+put-members p text [] = refl
+put-members p text (t ∷ ts) = step (slice_cmp nat_cmp text t) refl (put-members p text ts)
   where
-    step : (o : Ordering) → slice_cmp nat_cmp text t ≡ o → list_any (bytes_eq q) (put text ts) ≡ (bytes_eq q text || list_any (bytes_eq q) ts)
-        → list_any (bytes_eq q) (placed o text t ts (put text ts)) ≡ (bytes_eq q text || (bytes_eq q t || list_any (bytes_eq q) ts))
+    step : (o : Ordering) → slice_cmp nat_cmp text t ≡ o → list_any p (put text ts) ≡ (p text || list_any p ts)
+        → list_any p (placed o text t ts (put text ts)) ≡ (p text || (p t || list_any p ts))
     step Less is on = refl
     step Equal is on =
         let same : text ≡ t = (bytes_eq-Decides text t).0 (texts_ties text t ∙ ap is_eq is) in
-        or-again (bytes_eq q t) (list_any (bytes_eq q) ts) ∙ ap (λ (x : List ℕ). bytes_eq q x || (bytes_eq q t || list_any (bytes_eq q) ts)) (sym same)
-    step Greater is on = ap (λ (x : Bool). bytes_eq q t || x) on ∙ or-swap (bytes_eq q t) (bytes_eq q text) (list_any (bytes_eq q) ts)
+        or-again (p t) (list_any p ts) ∙ ap (λ (x : List ℕ). p x || (p t || list_any p ts)) (sym same)
+    step Greater is on = ap (λ (x : Bool). p t || x) on ∙ or-swap (p t) (p text) (list_any p ts)
 
 all-ascend : (into ts : List (List ℕ)) → ascends into ≡ true → ascends (put_all into ts) ≡ true
 all-ascend into [] up = up
@@ -88,24 +88,32 @@ or-across true false r = refl
 or-across false true r = refl
 or-across false false r = refl
 
-all-members : (q : List ℕ) (into ts : List (List ℕ)) → list_any (bytes_eq q) (put_all into ts) ≡ (list_any (bytes_eq q) into || list_any (bytes_eq q) ts)
-all-members q into [] = or-false (list_any (bytes_eq q) into)
+pub all-members : (p : List ℕ → Bool) (into ts : List (List ℕ)) → list_any p (put_all into ts) ≡ (list_any p into || list_any p ts)
+all-members p into [] = or-false (list_any p into)
   where
     or-false : (a : Bool) → a ≡ (a || false)
     or-false true = refl
     or-false false = refl
-all-members q into (t ∷ ts) =
-    all-members q (put t into) ts ∙ ap (λ (x : Bool). x || list_any (bytes_eq q) ts) (put-members q t into)
-    ∙ or-across (bytes_eq q t) (list_any (bytes_eq q) into) (list_any (bytes_eq q) ts)
+all-members p into (t ∷ ts) =
+    all-members p (put t into) ts ∙ ap (λ (x : Bool). x || list_any p ts) (put-members p t into)
+    ∙ or-across (p t) (list_any p into) (list_any p ts)
 
-given : (q : List ℕ) (specs : List Spec) → list_any (bytes_eq q) (flat_map spec_prefixes specs) ≡ list_any (λ spec. list_any (bytes_eq q) (spec_prefixes spec)) specs
-given q [] = refl
-given q (spec ∷ specs) =
-    list_any-append (bytes_eq q) (spec_prefixes spec) (flat_map spec_prefixes specs) ∙ ap (λ (x : Bool). list_any (bytes_eq q) (spec_prefixes spec) || x) (given q specs)
+pub given : (p : List ℕ → Bool) (specs : List Spec) → list_any p (flat_map spec_prefixes specs) ≡ list_any (λ spec. list_any p (spec_prefixes spec)) specs
+given p [] = refl
+given p (spec ∷ specs) =
+    list_any-append p (spec_prefixes spec) (flat_map spec_prefixes specs) ∙ ap (λ (x : Bool). list_any p (spec_prefixes spec) || x) (given p specs)
 
 pub is_listing : (specs : List Spec) → IsListing specs (prefixes_of specs)
 unfolding prefixes_of
-is_listing specs = record {
-  sorted = all-ascend [] (flat_map spec_prefixes specs) refl;
-  members = λ q. all-members q [] (flat_map spec_prefixes specs) ∙ given q specs;
-}
+is_listing specs = by_all (list_any asks_for_all specs) refl
+  where
+    by_all : (t : Bool) → list_any asks_for_all specs ≡ t → IsListing specs (cond t [] (put_all [] (flat_map spec_prefixes specs)))
+    by_all true all = record {
+      sorted = refl;
+      members = λ q. ap (λ (t : Bool). not t && list_any (λ spec. list_any (bytes_eq q) (spec_prefixes spec)) specs) (sym all);
+    }
+    by_all false none = record {
+      sorted = all-ascend [] (flat_map spec_prefixes specs) refl;
+      members = λ q. all-members (bytes_eq q) [] (flat_map spec_prefixes specs) ∙ given (bytes_eq q) specs
+          ∙ ap (λ (t : Bool). not t && list_any (λ spec. list_any (bytes_eq q) (spec_prefixes spec)) specs) (sym none);
+    }

@@ -11,3 +11,14 @@ pub mod Conflicting
 pub mod Ascending
 pub mod Stars
 pub mod Taking
+pub mod Covering
+pub mod Forms
+pub mod Between
+pub mod Members
+pub mod InOrder
+pub mod Telling
+pub mod AllTags
+pub mod Joined
+pub mod Firsts
+pub mod Places
+pub mod Doubles

@@ -1,5 +1,5 @@
 -- What a source with a star asks for.
-use Rattle.std.proofs.Common.{◌≡◌, ℕ, suc, ◌+◌, Bool, true, false, cond, not, ◌||◌, eqb, ◌⊎◌, List, [], ◌∷◌, ◌++◌, length, take, drop, refl, sym, ap, ◌∙◌, inl, inr, arith, append_assoc}
+use Rattle.std.proofs.Common.{◌≡◌, ℕ, suc, ◌+◌, Bool, true, false, cond, not, ◌&&◌, ◌||◌, eqb, ◌⊎◌, List, [], ◌∷◌, ◌++◌, length, take, drop, refl, sym, ap, ◌∙◌, inl, inr, arith, append_assoc}
 use Rattle.std.specs.Prelude.{nat_eq, is_some}
 use Rattle.std.specs.List.{list_any, starts_with, position_or_len}
 use Rattle.std.specs.Str.{bytes_eq}
@@ -11,7 +11,7 @@ use Rattle.fetch_specs.specs.Categories.{refs}
 use Rattle.fetch_specs.specs.Parses.{head, id_named}
 use Rattle.fetch_specs.specs.Matches.{has_star, is_exclusion}
 use Rattle.fetch_specs.specs.Specs.{Spec}
-use Rattle.fetch_specs.specs.Prefixes.{second_slash, refs_prefix, expansions, source_prefixes, side_prefixes, spec_prefixes, IsPlainFront}
+use Rattle.fetch_specs.specs.Prefixes.{second_slash, refs_prefix, expansions, source_prefixes, side_prefixes, spec_prefixes, is_open_side, asks_for_all, IsPlainFront}
 
 record Cut (r front : List ℕ) : Type 0 where
   name : List ℕ
@@ -126,5 +126,5 @@ pub of_id : (source : List ℕ) → is_some (id_named source) ≡ true → sourc
 of_id source is =
     ap (λ (t : Bool). cond t [] (cond (bytes_eq source head) (head ∷ []) (cond (starts_with nat_eq source refs) (refs_prefix source) (cond (has_star source) [] (expansions source))))) is
 
-pub of_exclusion : (spec : Spec) → is_exclusion spec.mode ≡ true → spec_prefixes spec ≡ []
-of_exclusion spec is = ap (λ (t : Bool). cond t [] (side_prefixes spec.source)) is
+pub of_exclusion : (spec : Spec) → is_exclusion spec.mode ≡ true → (spec_prefixes spec ≡ []) × (asks_for_all spec ≡ false)
+of_exclusion spec is = (ap (λ (t : Bool). cond t [] (side_prefixes spec.source)) is, ap (λ (t : Bool). not t && is_open_side spec.source) is)

@@ -1,5 +1,5 @@
 -- What a full name is for, by what it begins with.
-use Rattle.std.specs.Prelude.{ℕ, ◌==◌, List, [], codes, nat_eq, length, drop, Option, Some, None, if◌then◌else◌}
+use Rattle.std.specs.Prelude.{ℕ, ◌==◌, Bool, true, false, List, [], codes, nat_eq, length, drop, Option, Some, None, if◌then◌else◌}
 use Rattle.std.specs.List.{starts_with, list_any}
 use Rattle.fetch_specs.specs.declared.category.Category.{Category}
 use Rattle.fetch_specs.specs.declared.category.Category.TheVariants.{Tag, LocalBranch, RemoteBranch, Note, PseudoRef}
@@ -26,6 +26,14 @@ prefix_of LocalBranch = heads
 prefix_of RemoteBranch = remotes
 prefix_of Note = notes
 prefix_of PseudoRef = []
+
+-- whether the names of a category stand alone, behind no prefix
+abbrev pub is_pseudo : Category → Bool
+is_pseudo Tag = false
+is_pseudo LocalBranch = false
+is_pseudo RemoteBranch = false
+is_pseudo Note = false
+is_pseudo PseudoRef = true
 
 -- the category whose prefix a name has; one without a slash is a pseudo reference
 abbrev pub category_of : List ℕ → Option Category

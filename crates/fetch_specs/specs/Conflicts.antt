@@ -1,6 +1,6 @@
 -- The destinations that two sources lead to.
-use Rattle.std.specs.Prelude.{ℕ, nat_lt, Bool, false, if◌then◌else◌, List, [], ◌∷◌, ◌++◌, length, map, filter, Option, Some, None}
-use Rattle.std.specs.List.{list_any, filter_map}
+use Rattle.std.specs.Prelude.{◌≡◌, ℕ, nat_lt, Bool, false, if◌then◌else◌, List, [], ◌∷◌, ◌++◌, length, map, filter, Option, Some, None}
+use Rattle.std.specs.List.{Contains, list_any, filter_map}
 use Rattle.std.specs.Map.{lookup}
 use Rattle.std.specs.Cmp.Lexicographic.{slice_cmp}
 use Rattle.std.specs.Ordering.{nat_cmp, is_eq}
@@ -38,6 +38,17 @@ is_double c = nat_lt 1 (length c.sources)
 -- the destinations that have two different sources
 unfoldable pub conflicts_of : List Match → List Conflict
 conflicts_of ms = filter is_double (map (sourced ms) (destinations_of ms))
+
+-- Two matches have the destination and their sources differ; the sources are those of all its matches.
+pub record IsConflict (ms : List Match) (c : Conflict) : Type 0 where
+  pub one : Match
+  pub two : Match
+  pub first : Contains ms one
+  pub second : Contains ms two
+  pub leads : one.rhs ≡ Some c.destination
+  pub leads_too : two.rhs ≡ Some c.destination
+  pub differ : is_same_source one.lhs two.lhs ≡ false
+  pub all : c.sources ≡ sources_to ms c.destination
 
 -- one more source, unless the same is there
 abbrev pub more_sources : List SourceRef → SourceRef → List SourceRef

@@ -9,3 +9,5 @@ pub mod Matches
 pub mod FoundSets
 pub mod Prefixes
 pub mod Conflicts
+pub mod Leads
+pub mod Made

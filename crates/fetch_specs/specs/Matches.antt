@@ -1,6 +1,6 @@
 -- Which names a list of refspecs maps, and where to.
-use Rattle.std.specs.Prelude.{ℕ, ◌+◌, ◌-◌, ◌==◌, nat_eq, nat_le, Bool, true, false, not, ◌&&◌, ◌||◌, if◌then◌else◌, List, [], ◌∷◌, ◌++◌, length, take, drop, filter, codes, Option, Some, None, is_some, option_and_then}
-use Rattle.std.specs.List.{list_any, starts_with, ends_with, before_first, after_first}
+use Rattle.std.specs.Prelude.{ℕ, ◌+◌, ◌-◌, ◌==◌, nat_eq, nat_le, Bool, true, false, not, ◌&&◌, ◌||◌, if◌then◌else◌, List, [], ◌∷◌, ◌++◌, length, take, drop, map, filter, codes, Option, Some, None, is_some, option_and_then}
+use Rattle.std.specs.List.{list_any, filter_map, starts_with, ends_with, before_first, after_first}
 use Rattle.std.specs.Option.{option_map}
 use Rattle.std.specs.declared.cmp.Ordering.{Ordering}
 use Rattle.std.specs.Ordering.{nat_cmp, ordering_then}
@@ -100,6 +100,10 @@ abbrev pub source_taken : Option (List ℕ) → List ℕ → Option (List ℕ)
 source_taken None name = None
 source_taken (Some source) name = taken source name
 
+-- whether a positive spec whose source is no id matches a name
+abbrev pub takes : Spec → List ℕ → Bool
+takes spec name = not (is_exclusion spec.mode) && not (is_some (source_id spec.source)) && is_some (source_taken spec.source name)
+
 -- whether an exclusion matches a name
 abbrev pub excludes : List ℕ → Spec → Bool
 excludes name spec = is_exclusion spec.mode && is_some (source_taken spec.source name)
@@ -133,46 +137,64 @@ name_mapping specs i spec j name (Some middle) =
 abbrev pub name_match : List Spec → ℕ → Spec → ℕ → List ℕ → Option Match
 name_match specs i spec j name = name_mapping specs i spec j name (source_taken spec.source name)
 
--- what a destination's star stands for in a name
+-- the texts that are this name when they are completed: itself, without `refs/`, without `refs/heads/`
+abbrev pub forms_of : List ℕ → List (List ℕ)
+forms_of name = filter (λ text. bytes_eq (completed text) name) (name ∷ drop (length refs) name ∷ drop (length heads) name ∷ [])
+
+-- what a destination's star stands for in a text (nothing, where it has none)
 abbrev pub given : List ℕ → List ℕ → Option (List ℕ)
-given destination name =
-    if has_star destination then between (front_of (completed destination)) (back_of (completed destination)) name
-    else where_true (bytes_eq (completed destination) name)
+given destination text = if has_star destination then between (front_of destination) (back_of destination) text else where_true (bytes_eq destination text)
 
--- the source of a name that a destination gives, where it is not excluded and leads back to that name
-abbrev pub source_mapping : List Spec → ℕ → Spec → ℕ → List ℕ → List ℕ → List ℕ → Option (List ℕ) → Option Match
-source_mapping specs i spec j name source destination None = None
-source_mapping specs i spec j name source destination (Some middle) =
-    if is_exclusion spec.mode || is_some (id_named source) || not (bytes_eq (expanded middle destination) name) || is_excluded specs (with_middle source middle) then None
-    else Some (record { lhs = sources.FullName (with_middle source middle); rhs = Some name; item_index = Some j; spec_index = i })
+-- a source with its star replaced, unless a name is taken out
+abbrev pub unless_excluded : List Spec → List ℕ → Option (List ℕ)
+unless_excluded specs source = if is_excluded specs source then None else Some source
 
-abbrev pub sides_match : List Spec → ℕ → Spec → ℕ → List ℕ → Option (List ℕ) → Option (List ℕ) → Option Match
-sides_match specs i spec j name None destination = None
-sides_match specs i spec j name (Some source) None = None
-sides_match specs i spec j name (Some source) (Some destination) = source_mapping specs i spec j name source destination (given destination name)
+-- the source of a positive spec whose destination, its star replaced, is this text
+abbrev pub source_to : List Spec → Spec → List ℕ → Option (List ℕ) → Option (List ℕ) → Option (List ℕ)
+source_to specs spec text None destination = None
+source_to specs spec text (Some source) None = None
+source_to specs spec text (Some source) (Some destination) =
+    if is_exclusion spec.mode || is_some (id_named source) then None
+    else option_and_then (λ middle. unless_excluded specs (with_middle source middle)) (given destination text)
 
-abbrev pub source_match : List Spec → ℕ → Spec → ℕ → List ℕ → Option Match
-source_match specs i spec j name = sides_match specs i spec j name spec.source spec.destination
+abbrev pub source_given : List Spec → Spec → List ℕ → Option (List ℕ)
+source_given specs spec text = source_to specs spec text spec.source spec.destination
+
+-- the sources of a spec that lead to a name: that of the full destination first, then without `refs/`, then without `refs/heads/`
+abbrev pub sources_leading : List Spec → Spec → List ℕ → List (List ℕ)
+sources_leading specs spec name = filter_map (source_given specs spec) (forms_of name)
+
+-- a source that leads to a name
+abbrev pub leading : ℕ → ℕ → List ℕ → List ℕ → Match
+leading i j name source = record { lhs = sources.FullName source; rhs = Some name; item_index = Some j; spec_index = i }
+
+abbrev pub source_matches : List Spec → ℕ → Spec → ℕ → List ℕ → List Match
+source_matches specs i spec j name = map (leading i j name) (sources_leading specs spec name)
 
 -- one or none, behind others
 abbrev pub found : Option Match → List Match
 found None = []
 found (Some m) = m ∷ []
 
+-- what each element gives with its number, one behind the other
+abbrev pub numbered : {X : Type 0} → (ℕ → X → List Match) → ℕ → List X → List Match
+numbered f i [] = []
+numbered f i (x ∷ xs) = f i x ++ numbered f (i + 1) xs
+
 -- the ids, in the order of the specs
 abbrev pub ids_from : Kind → ℕ → List Spec → List Match
-ids_from kind i [] = []
-ids_from kind i (spec ∷ specs) = found (id_match kind i spec) ++ ids_from kind (i + 1) specs
+ids_from kind i specs = numbered (λ i spec. found (id_match kind i spec)) i specs
+
+abbrev pub name_matches : List Spec → ℕ → Spec → ℕ → List ℕ → List Match
+name_matches specs i spec j name = found (name_match specs i spec j name)
 
 -- one spec, name by name
-abbrev pub names_from : (ℕ → List ℕ → Option Match) → ℕ → List (List ℕ) → List Match
-names_from mapped j [] = []
-names_from mapped j (name ∷ names) = found (mapped j name) ++ names_from mapped (j + 1) names
+abbrev pub names_from : (ℕ → List ℕ → List Match) → ℕ → List (List ℕ) → List Match
+names_from mapped j names = numbered mapped j names
 
 -- spec by spec
-abbrev pub specs_from : (ℕ → Spec → ℕ → List ℕ → Option Match) → ℕ → List Spec → List (List ℕ) → List Match
-specs_from mapped i [] names = []
-specs_from mapped i (spec ∷ specs) names = names_from (mapped i spec) 0 names ++ specs_from mapped (i + 1) specs names
+abbrev pub specs_from : (ℕ → Spec → ℕ → List ℕ → List Match) → ℕ → List Spec → List (List ℕ) → List Match
+specs_from mapped i specs names = numbered (λ i spec. names_from (mapped i spec) 0 names) i specs
 
 -- a source as a text, names and ids apart
 abbrev pub source_key : SourceRef → List ℕ
@@ -199,11 +221,11 @@ once same (x ∷ xs) = x ∷ filter (λ y. not (same x y)) (once same xs)
 
 -- what the specs map: the ids, then spec by spec and name by name, each pair of source and destination once
 unfoldable pub mappings_of : List Spec → List (List ℕ) → Kind → List Match
-mappings_of specs names kind = once (is_same true) (ids_from kind 0 specs ++ specs_from (name_match specs) 0 specs names)
+mappings_of specs names kind = once (is_same true) (ids_from kind 0 specs ++ specs_from (name_matches specs) 0 specs names)
 
 -- the sources that lead to the names, each once
 unfoldable pub sources_of : List Spec → List (List ℕ) → List Match
-sources_of specs names = once (is_same false) (specs_from (source_match specs) 0 specs names)
+sources_of specs names = once (is_same false) (specs_from (source_matches specs) 0 specs names)
 
 -- the order of keys
 abbrev pub key_cmp : List ℕ × List ℕ → List ℕ × List ℕ → Ordering

@@ -1,5 +1,5 @@
 -- The prefixes that a listing is asked for.
-use Rattle.std.specs.Prelude.{◌≡◌, ℕ, ◌+◌, ◌==◌, nat_eq, Bool, true, false, ◌&&◌, if◌then◌else◌, List, [], ◌∷◌, ◌++◌, take, drop, Option, Some, None, is_some, IsTrue}
+use Rattle.std.specs.Prelude.{◌≡◌, ℕ, ◌+◌, ◌==◌, nat_eq, Bool, true, false, not, ◌&&◌, ◌⊎◌, if◌then◌else◌, List, [], ◌∷◌, ◌++◌, take, drop, Option, Some, None, is_some, IsTrue}
 use Rattle.std.specs.List.{list_any, list_all, starts_with, flat_map, position_or_len}
 use Rattle.std.specs.Ordering.{nat_cmp, is_lt}
 use Rattle.std.specs.Cmp.Lexicographic.{slice_cmp}
@@ -39,7 +39,7 @@ abbrev pub expansions : List ℕ → List (List ℕ)
 expansions source =
     source ∷ (refs ++ source) ∷ (tags ++ source) ∷ (heads ++ source) ∷ (remotes ++ source) ∷ (remotes ++ (source ++ slash_head)) ∷ []
 
--- what a source asks for: `HEAD`, a front under `refs/`, or what it may stand for; an id, or a star elsewhere, asks for nothing
+-- what a source asks for: `HEAD`, a front under `refs/`, or what it may stand for; an id asks for nothing, and a star elsewhere has no prefix
 abbrev pub source_prefixes : List ℕ → List (List ℕ)
 source_prefixes source =
     if is_some (id_named source) then []
@@ -59,19 +59,35 @@ abbrev pub put_all : List (List ℕ) → List (List ℕ) → List (List ℕ)
 put_all into [] = into
 put_all into (text ∷ texts) = put_all (put text into) texts
 
--- what the specs ask for, sorted and each once
+-- whether a source has a star with no front `refs/x/` before it
+abbrev pub has_open_star : List ℕ → Bool
+has_open_star source = if starts_with nat_eq source refs then has_star (take (second_slash source) source) else has_star source
+
+abbrev pub is_open_side : Option (List ℕ) → Bool
+is_open_side None = false
+is_open_side (Some source) = has_open_star source
+
+-- whether a spec takes names that no prefix finds: never an exclusion
+abbrev pub asks_for_all : Spec → Bool
+asks_for_all spec = not (is_exclusion spec.mode) && is_open_side spec.source
+
+-- what the specs ask for, sorted and each once; nothing, which asks for everything, where one of them asks for all
 unfoldable pub prefixes_of : List Spec → List (List ℕ)
-prefixes_of specs = put_all [] (flat_map spec_prefixes specs)
+prefixes_of specs = if list_any asks_for_all specs then [] else put_all [] (flat_map spec_prefixes specs)
 
 -- each text stands before all that follow it
 abbrev pub ascends : List (List ℕ) → Bool
 ascends [] = true
 ascends (text ∷ texts) = list_all (λ t. is_lt (slice_cmp nat_cmp text t)) texts && ascends texts
 
--- the texts ascend, and have what some spec asks for and nothing else
+-- the texts ascend, and where no spec asks for all they have what some spec asks for and nothing else; else there are none
 pub record IsListing (specs : List Spec) (texts : List (List ℕ)) : Type 0 where
   pub sorted : IsTrue (ascends texts)
-  pub members : (text : List ℕ) → list_any (bytes_eq text) texts ≡ list_any (λ spec. list_any (bytes_eq text) (spec_prefixes spec)) specs
+  pub members : (text : List ℕ) → list_any (bytes_eq text) texts ≡ (not (list_any asks_for_all specs) && list_any (λ spec. list_any (bytes_eq text) (spec_prefixes spec)) specs)
+
+-- a name begins with one of the prefixes, or there are none
+abbrev pub IsAskedFor : List (List ℕ) → List ℕ → Type 0
+IsAskedFor prefixes name = (prefixes ≡ []) ⊎ IsTrue (list_any (starts_with nat_eq name) prefixes)
 
 -- a text is a source's front `refs/x/`, where x has neither a star nor a slash
 pub record IsPlainFront (source text : List ℕ) : Type 0 where

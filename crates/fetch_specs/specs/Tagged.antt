@@ -1,7 +1,10 @@
 -- The refspec that brings all tags.
-use Rattle.std.specs.Prelude.{ℕ, List, codes, Option, Some, None}
-use Rattle.fetch_specs.specs.declared.operation.Operation.TheVariants.{Fetch}
-use Rattle.fetch_specs.specs.declared.operation.Mode.TheVariants.{Normal}
+use Rattle.std.specs.Prelude.{ℕ, Bool, true, false, ◌&&◌, List, codes, Option, Some, None}
+use Rattle.std.specs.Str.{bytes_eq}
+use Rattle.fetch_specs.specs.declared.operation.Operation.{Operation}
+use Rattle.fetch_specs.specs.declared.operation.Operation.TheVariants.{Push, Fetch}
+use Rattle.fetch_specs.specs.declared.operation.Mode.{Mode}
+use Rattle.fetch_specs.specs.declared.operation.Mode.TheVariants.{Normal, Force, Exclusion}
 use Rattle.fetch_specs.specs.declared.tags.Tags.{Tags}
 use Rattle.fetch_specs.specs.declared.tags.Tags.TheVariants as wanted
 use Rattle.fetch_specs.specs.Specs.{Spec}
@@ -17,3 +20,20 @@ abbrev pub tag_spec_of : Tags → Option Spec
 tag_spec_of wanted.All = Some tag_spec
 tag_spec_of wanted.Included = Some tag_spec
 tag_spec_of wanted.None = None
+
+abbrev pub is_fetch : Operation → Bool
+is_fetch Push = false
+is_fetch Fetch = true
+
+abbrev pub is_normal : Mode → Bool
+is_normal Normal = true
+is_normal Force = false
+is_normal Exclusion = false
+
+abbrev pub is_all_tags : Option (List ℕ) → Bool
+is_all_tags None = false
+is_all_tags (Some text) = bytes_eq text all_tags
+
+-- whether a spec is the one that brings all tags
+abbrev pub is_tag_spec : Spec → Bool
+is_tag_spec spec = is_fetch spec.operation && is_normal spec.mode && is_all_tags spec.source && is_all_tags spec.destination

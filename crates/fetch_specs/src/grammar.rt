@@ -7,17 +7,6 @@ ghost use Rattle.fetch_specs.specs.Names as spec;
 ghost use Rattle.fetch_specs.specs.Names.{is_full_name, is_name, full_name_place, name_place, IsLongestBeginning};
 ghost use Rattle.fetch_specs.specs.Scans as scan;
 
-/// The place of a name that is refused is the length of the text's longest front that begins some name.
-pub fn name_place_is_of_the_longest_beginning()
-    ensures { (star : Bool) (text : List ℕ) → IsLongestBeginning (is_name star) text (name_place star text) }
-{}
-
-/// The place of a full name that is refused is the length of the text's longest front that begins some
-/// full name.
-pub fn full_name_place_is_of_the_longest_beginning()
-    ensures { (text : List ℕ) → IsLongestBeginning is_full_name text (full_name_place text) }
-{}
-
 /// Whether a byte may stand in a name; a pattern may have stars.
 fn may_stand(star: bool, byte: u8) -> bool
     ensures { result ≡ spec.may_stand star byte }

@@ -6,6 +6,8 @@ mod conflict;
 mod error;
 mod found;
 mod grammar;
+pub mod laws;
+mod leading;
 mod listing;
 mod matching;
 mod name;
@@ -19,15 +21,9 @@ pub use category::Category;
 pub use conflict::{Conflict, validate};
 pub use error::{NameError, SpecError};
 pub use found::{Match, SourceRef};
-pub use grammar::{
-    full_name_place_is_of_the_longest_beginning, name_place_is_of_the_longest_beginning,
-};
-pub use listing::{prefixes, prefixes_ascend_and_are_asked_for, what_a_refspec_asks_for};
-pub use matching::{Item, MatchGroup};
+pub use listing::prefixes;
+pub use matching::{Item, MatchGroup, matches};
 pub use name::{FullName, PartialName};
 pub use operation::{Mode, Operation};
 pub use spec::{RefSpec, parse};
 pub use tags::Tags;
-
-#[cfg(test)]
-mod tests;

@@ -1,14 +1,14 @@
 //! The prefixes that a listing is asked for.
 
-ghost use Rattle.std.specs.Prelude.{ℕ, List, [], is_some, IsTrue, ◌≡◌, ◌++◌, ◌∷◌, ◌≤◌, ◌==◌, length, take, drop, IfOk, OnOk, IsOkUnless, MatchOption};
-ghost use Rattle.std.specs.List.{flat_map, list_any, position_or_len};
+ghost use Rattle.std.specs.Prelude.{ℕ, List, [], false, is_some, IsTrue, ◌≡◌, ◌++◌, ◌∷◌, ◌≤◌, ◌==◌, length, take, drop, IfOk, OnOk, IsOkUnless, MatchOption};
+ghost use Rattle.std.specs.List.{Contains, flat_map, list_any, position_or_len};
 ghost use Rattle.std.specs.Option.{option_copied};
 ghost use Rattle.std.specs.Str.{bytes_eq};
 ghost use Rattle.fetch_specs.specs.Matches as stars;
-ghost use Rattle.fetch_specs.specs.Matches.{is_exclusion};
+ghost use Rattle.fetch_specs.specs.Matches.{is_exclusion, takes};
 ghost use Rattle.fetch_specs.specs.Parses as spec;
 ghost use Rattle.fetch_specs.specs.Prefixes as words;
-ghost use Rattle.fetch_specs.specs.Prefixes.{prefixes_of, put_all, IsListing};
+ghost use Rattle.fetch_specs.specs.Prefixes.{prefixes_of, put_all, IsAskedFor, IsListing};
 ghost use Rattle.fetch_specs.specs.Specs.{Spec};
 ghost use Rattle.fetch_specs.specs.declared.error.SpecError.TheVariants as errors;
 
@@ -20,30 +20,51 @@ use fetch_store::{NoMemory, Text};
 use std::alloc::Global;
 use std::cmp::Ordering;
 
-/// What a listing is to be asked for, sorted and each prefix once.
+/// What a listing is to be asked for, sorted and each prefix once. No prefix asks for everything: so it is
+/// where a star has no `refs/x/` before it, for a name that it takes need not begin with a prefix of
+/// another refspec.
 #[tactic(auto, unfolding(crate::specs::Prefixes::prefixes_of))]
 pub fn prefixes(alloc: Global, specs: &[RefSpec]) -> Result<Vec<Text>, SpecError>
     ensures prefixes { IfOk result (λ texts. texts.items ≡ prefixes_of specs.now) }
     ensures memory { IsOkUnless result errors.NoMemory }
 {
     let mut texts = Vec::new(alloc);
+    if some_asks_for_all(specs) {
+        return Ok(texts);
+    }
     put_specs(alloc, &mut texts, specs)?;
     Ok(texts)
 }
 
-/// What a listing is asked for ascends, each text once, and is what some refspec asks for and nothing
-/// else.
-pub fn prefixes_ascend_and_are_asked_for()
-    ensures { (specs : List Spec) → IsListing specs (prefixes_of specs) }
-{}
+#[tactic(auto, unfolding(crate::specs::Categories::refs))]
+fn has_open_star(source: &[u8]) -> bool
+    ensures { result ≡ words.has_open_star source.now }
+{
+    if source.starts_with(b"refs/") {
+        has_star(front_of(source))
+    } else {
+        has_star(source)
+    }
+}
 
-/// An exclusion and an id ask for nothing, and a source with a star asks at most for its front
-/// `refs/x/`, where the star stands behind it.
-pub fn what_a_refspec_asks_for()
-    ensures exclusion { (spec : Spec) → IsTrue (is_exclusion spec.mode) → words.spec_prefixes spec ≡ [] }
-    ensures id { (source : List ℕ) → IsTrue (is_some (spec.id_named source)) → words.source_prefixes source ≡ [] }
-    ensures star { (source : List ℕ) (text : List ℕ) → IsTrue (stars.has_star source) → IsTrue (list_any (bytes_eq text) (words.source_prefixes source)) → words.IsPlainFront source text }
-{}
+/// Whether a refspec takes names that no prefix finds.
+fn asks_for_all(spec: &RefSpec) -> bool
+    ensures { result ≡ words.asks_for_all spec.now }
+{
+    if spec.is_exclusion() {
+        return false;
+    }
+    match spec.source() {
+        Some(source) => has_open_star(source),
+        None => false,
+    }
+}
+
+fn some_asks_for_all(specs: &[RefSpec]) -> bool
+    ensures { result ≡ list_any words.asks_for_all specs.now }
+{
+    specs.iter().any(|spec| asks_for_all(spec))
+}
 
 fn put_specs(alloc: Global, texts: &mut Vec<Text>, specs: &[RefSpec]) -> Result<(), NoMemory>
     ensures { OnOk result (texts.new.items ≡ put_all texts.old.items (flat_map words.spec_prefixes specs.now)) }

@@ -1,6 +1,6 @@
 //! What a list of refspecs maps, and what leads to a name.
 
-ghost use Rattle.std.specs.Prelude.{◌≡◌, map, IfOk, OnOk, IsOkUnless};
+ghost use Rattle.std.specs.Prelude.{◌≡◌, is_some, map, IfOk, OnOk, IsOkUnless};
 ghost use Rattle.std.specs.Option.{option_copied, option_map};
 ghost use Rattle.fetch_specs.specs.Matches as words;
 ghost use Rattle.fetch_specs.specs.Matches.{added_all, mappings_of, sources_of};
@@ -8,9 +8,9 @@ ghost use Rattle.fetch_specs.specs.declared.error.SpecError.TheVariants as error
 
 use crate::error::SpecError;
 use crate::found::{Found, Match, SourceRef};
-use crate::pattern::{
-    back_of, between, completed, expanded, front_of, has_star, taken, with_middle,
-};
+use crate::leading::add_sources;
+use crate::name::PartialName;
+use crate::pattern::{expanded, taken};
 use crate::reading::id_named;
 use crate::spec::RefSpec;
 use fetch_store::{Kind, NoMemory, ObjectId, Text};
@@ -75,7 +75,9 @@ impl<'a> MatchGroup<'a> {
         Ok(found.into_matches())
     }
 
-    /// The sources that lead to the items, refspec by refspec and item by item, each source once.
+    /// The sources that lead to the items, refspec by refspec and item by item, each source once. Where
+    /// several sources of a refspec lead to an item, the one that the full destination gives comes first,
+    /// then the one of it without `refs/`, then the one of it without `refs/heads/`.
     pub fn match_rhs(&self, alloc: Global, items: &[Item]) -> Result<Vec<Match>, SpecError>
         ensures sources { IfOk result (λ found. found.items ≡ sources_of self.now (map (λ item. item.full_ref_name) items.now)) }
         ensures memory { IsOkUnless result errors.NoMemory }
@@ -84,6 +86,13 @@ impl<'a> MatchGroup<'a> {
         add_sources(alloc, &mut found, self.specs, items)?;
         Ok(found.into_matches())
     }
+}
+
+/// Whether a source without a star, full or short, matches a name.
+pub fn matches(source: &PartialName, name: &[u8]) -> bool
+    ensures { result ≡ is_some (words.taken source.now name.now) }
+{
+    taken(source.as_bytes(), name).is_some()
 }
 
 fn source_taken<'a>(source: Option<&[u8]>, name: &'a [u8]) -> Option<&'a [u8]>
@@ -104,7 +113,7 @@ fn source_id(source: Option<&[u8]>) -> Option<ObjectId>
     }
 }
 
-fn is_exclusion(spec: &RefSpec) -> bool
+pub fn is_exclusion(spec: &RefSpec) -> bool
     ensures { result ≡ words.is_exclusion spec.now.mode }
 {
     spec.is_exclusion()
@@ -116,7 +125,7 @@ fn excludes(name: &[u8], spec: &RefSpec) -> bool
     is_exclusion(spec) && source_taken(spec.source(), name).is_some()
 }
 
-fn is_excluded(specs: &[RefSpec], name: &[u8]) -> bool
+pub fn is_excluded(specs: &[RefSpec], name: &[u8]) -> bool
     ensures { result ≡ words.is_excluded specs.now name.now }
 {
     for spec in specs {
@@ -202,80 +211,6 @@ fn name_match(
     }))
 }
 
-/// What a destination's star stands for in a name.
-fn given<'a>(
-    alloc: Global,
-    destination: &[u8],
-    name: &'a [u8],
-) -> Result<Option<&'a [u8]>, NoMemory>
-    ensures { IfOk result (λ middle. option_copied middle ≡ words.given destination.now name.now) }
-{
-    let full = completed(alloc, destination)?;
-    let full = full.as_slice();
-    if has_star(destination) {
-        Ok(between(front_of(full), back_of(full), name))
-    } else if full == name {
-        Ok(Some(b""))
-    } else {
-        Ok(None)
-    }
-}
-
-/// The source that leads to a name by a refspec with both sides.
-fn sides_match(
-    alloc: Global,
-    specs: &[RefSpec],
-    index: usize,
-    spec: &RefSpec,
-    item: usize,
-    name: &[u8],
-    source: &[u8],
-    destination: &[u8],
-) -> Result<Option<Match>, NoMemory>
-    ensures { IfOk result (λ found. found ≡ words.source_mapping specs.now index spec.now item name.now source.now destination.now (words.given destination.now name.now)) }
-{
-    let Some(middle) = given(alloc, destination, name)? else {
-        return Ok(None);
-    };
-    if is_exclusion(spec) || id_named(source).is_some() {
-        return Ok(None);
-    }
-    let back = expanded(alloc, middle, destination)?;
-    if back.as_slice() != name {
-        return Ok(None);
-    }
-    let source = with_middle(alloc, source, middle)?;
-    if is_excluded(specs, source.as_slice()) {
-        return Ok(None);
-    }
-    Ok(Some(Match {
-        lhs: SourceRef::FullName(Text::from(source)),
-        rhs: Some(Text::new(alloc, name)?),
-        item_index: Some(item),
-        spec_index: index,
-    }))
-}
-
-/// The source that leads to a name by a refspec.
-fn source_match(
-    alloc: Global,
-    specs: &[RefSpec],
-    index: usize,
-    spec: &RefSpec,
-    item: usize,
-    name: &[u8],
-) -> Result<Option<Match>, NoMemory>
-    ensures { IfOk result (λ found. found ≡ words.source_match specs.now index spec.now item name.now) }
-{
-    let Some(source) = spec.source() else {
-        return Ok(None);
-    };
-    let Some(destination) = spec.destination() else {
-        return Ok(None);
-    };
-    sides_match(alloc, specs, index, spec, item, name, source, destination)
-}
-
 fn add_some(found: &mut Found, one: Option<Match>) -> Result<(), NoMemory>
     ensures added { OnOk result (found.new.matches ≡ added_all found.old.pairs found.old.matches (words.found one)) }
     ensures pairs { found.new.pairs ≡ found.old.pairs }
@@ -305,7 +240,7 @@ fn add_names_of(
     spec: &RefSpec,
     items: &[Item],
 ) -> Result<(), NoMemory>
-    ensures added { OnOk result (found.new.matches ≡ added_all found.old.pairs found.old.matches (words.names_from (words.name_match specs.now index spec.now) 0 (map (λ item. item.full_ref_name) items.now))) }
+    ensures added { OnOk result (found.new.matches ≡ added_all found.old.pairs found.old.matches (words.names_from (words.name_matches specs.now index spec.now) 0 (map (λ item. item.full_ref_name) items.now))) }
     ensures pairs { found.new.pairs ≡ found.old.pairs }
 {
     for j in 0..items.len() {
@@ -322,45 +257,11 @@ fn add_names(
     specs: &[RefSpec],
     items: &[Item],
 ) -> Result<(), NoMemory>
-    ensures added { OnOk result (found.new.matches ≡ added_all found.old.pairs found.old.matches (words.specs_from (words.name_match specs.now) 0 specs.now (map (λ item. item.full_ref_name) items.now))) }
+    ensures added { OnOk result (found.new.matches ≡ added_all found.old.pairs found.old.matches (words.specs_from (words.name_matches specs.now) 0 specs.now (map (λ item. item.full_ref_name) items.now))) }
     ensures pairs { found.new.pairs ≡ found.old.pairs }
 {
     for i in 0..specs.len() {
         add_names_of(alloc, found, specs, i, &specs[i], items)?;
-    }
-    Ok(())
-}
-
-fn add_sources_of(
-    alloc: Global,
-    found: &mut Found,
-    specs: &[RefSpec],
-    index: usize,
-    spec: &RefSpec,
-    items: &[Item],
-) -> Result<(), NoMemory>
-    ensures added { OnOk result (found.new.matches ≡ added_all found.old.pairs found.old.matches (words.names_from (words.source_match specs.now index spec.now) 0 (map (λ item. item.full_ref_name) items.now))) }
-    ensures pairs { found.new.pairs ≡ found.old.pairs }
-{
-    for j in 0..items.len() {
-        let name = items[j].full_ref_name.as_bytes();
-        let one = source_match(alloc, specs, index, spec, j, name)?;
-        add_some(found, one)?;
-    }
-    Ok(())
-}
-
-fn add_sources(
-    alloc: Global,
-    found: &mut Found,
-    specs: &[RefSpec],
-    items: &[Item],
-) -> Result<(), NoMemory>
-    ensures added { OnOk result (found.new.matches ≡ added_all found.old.pairs found.old.matches (words.specs_from (words.source_match specs.now) 0 specs.now (map (λ item. item.full_ref_name) items.now))) }
-    ensures pairs { found.new.pairs ≡ found.old.pairs }
-{
-    for i in 0..specs.len() {
-        add_sources_of(alloc, found, specs, i, &specs[i], items)?;
     }
     Ok(())
 }

@@ -1,6 +1,6 @@
 //! Names of references.
 
-ghost use Rattle.std.specs.Prelude.{◌≡◌, ◌⊎◌, ◌++◌, IfOk, IsOkUnless, IsTrue, MatchOption, Some, Err, refl, List, ℕ, false};
+ghost use Rattle.std.specs.Prelude.{◌≡◌, ◌++◌, ◌∷◌, [], IfOk, IsOkUnless, IsTrue, MatchOption, Some, Err, refl, List, ℕ, false};
 ghost use Rattle.std.specs.Cmp.{partial_equiv_from_equiv};
 ghost use Rattle.std.specs.Cmp.Lexicographic.{slice_cmp, nat_list_eq_equiv, nat_list_cmp_total, texts_ties, texts_po};
 ghost use Rattle.std.specs.Ordering.{nat_cmp};
@@ -143,11 +143,47 @@ impl Category {
     /// The full name that the category's prefix and a short name make.
     pub fn to_full_name(self, alloc: Global, short: &[u8]) -> Result<FullName, NameError>
         ensures name { IfOk result (λ name. name ≡ prefix_of self ++ short.now) }
-        ensures verdict { MatchOption (full_name_trouble (prefix_of self ++ short.now)) (IsOkUnless result errors.NoMemory) (λ place. (result ≡ Err (errors.Invalid place)) ⊎ (result ≡ Err errors.NoMemory)) }
+        ensures verdict { MatchOption (full_name_trouble (prefix_of self ++ short.now)) (IsOkUnless result errors.NoMemory) (λ place. result ≡ Err (errors.Invalid place)) }
     {
+        if let Some(place) = trouble_behind(self, short) {
+            return Err(NameError::Invalid { place });
+        }
         let mut text = Vec::from_slice(alloc, self.prefix())?;
         text.extend_from_slice(short)?;
-        FullName::new(alloc, text.as_slice())
+        Ok(FullName {
+            text: Text::from(text),
+        })
+    }
+}
+
+fn is_pseudo(category: Category) -> bool
+    ensures { result ≡ spec.is_pseudo category }
+{
+    match category {
+        Category::PseudoRef => true,
+        Category::Tag | Category::LocalBranch | Category::RemoteBranch | Category::Note => false,
+    }
+}
+
+fn is_at_sign(text: &[u8]) -> bool
+    ensures { result ≡ bytes_eq text.now (64 ∷ []) }
+{
+    text == b"@".as_slice()
+}
+
+/// The place of what a category's prefix and a short name make, where it is no full name.
+fn trouble_behind(category: Category, short: &[u8]) -> Option<usize>
+    ensures { result ≡ full_name_trouble (prefix_of category ++ short.now) }
+{
+    if is_pseudo(category) {
+        return grammar::full_name_trouble(short);
+    }
+    if is_at_sign(short) {
+        return None;
+    }
+    match grammar::name_trouble(false, short) {
+        Some(place) => Some(category.prefix().len() + place),
+        None => None,
     }
 }
 

@@ -63,7 +63,6 @@ fn is_full(source: &[u8]) -> bool
 }
 
 /// Whether a name is a front and a text.
-
 fn is_joined(front: &[u8], text: &[u8], name: &[u8]) -> bool
     ensures { result ≡ bytes_eq (front.now ++ text.now) name.now }
 {
@@ -98,7 +97,7 @@ fn is_expansion(source: &[u8], name: &[u8]) -> bool
         || is_wrapped(b"refs/remotes/", source, b"/HEAD", name)
 }
 
-fn where_true(holds: bool) -> Option<&'static [u8]>
+pub fn where_true(holds: bool) -> Option<&'static [u8]>
     ensures { option_copied result ≡ spec.where_true holds }
 {
     if holds { Some(b"") } else { None }
@@ -132,8 +131,15 @@ fn missing_front(text: &[u8]) -> &'static [u8]
     }
 }
 
+/// Whether a text is this name when it is completed.
+pub fn is_completed(text: &[u8], name: &[u8]) -> bool
+    ensures { result ≡ bytes_eq (spec.completed text.now) name.now }
+{
+    is_joined(missing_front(text), text, name)
+}
+
 /// A destination in full.
-pub fn completed(alloc: Global, text: &[u8]) -> Result<Vec<u8>, NoMemory>
+fn completed(alloc: Global, text: &[u8]) -> Result<Vec<u8>, NoMemory>
     ensures { IfOk result (λ full. full.items ≡ spec.completed text.now) }
 {
     let mut full = Vec::from_slice(alloc, missing_front(text))?;

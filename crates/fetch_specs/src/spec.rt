@@ -2,7 +2,9 @@
 
 ghost use Rattle.std.specs.Prelude.{◌≡◌, ◌↔◌, ◌++◌, ◌∷◌, IfOk, IfErr, OnOk, IsOk, IsOkUnless, IsTrue, Ok, Err};
 ghost use Rattle.std.specs.Option.{option_copied};
+ghost use Rattle.fetch_specs.specs.Leads.{IsInOrder};
 ghost use Rattle.fetch_specs.specs.Parses.{IsSpec, mark_of, parsed, printed, sides_text};
+ghost use Rattle.fetch_specs.specs.Specs.{Spec};
 ghost use Rattle.fetch_specs.specs.Views.{parts_spec};
 ghost use Rattle.fetch_specs.specs.declared.error.SpecError.TheVariants as errors;
 ghost use Rattle.fetch_specs.specs.declared.operation.Mode.TheVariants as modes;
@@ -24,6 +26,7 @@ pub struct RefSpec {
 }
 
 impl Model for RefSpec {
+    ghost use Rattle.fetch_specs.specs.Leads.{IsInOrder};
     ghost use Rattle.fetch_specs.specs.Parses.{IsSpec};
     ghost use Rattle.fetch_specs.specs.Specs.{Spec};
 
@@ -78,9 +81,10 @@ impl RefSpec {
         self.operation
     }
 
-    /// What is taken, lent: a name, a pattern or an id.
+    /// What is taken, lent: a name, a pattern or an id. A refspec says what its own text says.
     pub fn source(&self) -> Option<&[u8]>
-        ensures { option_copied result ≡ self.now.source }
+        ensures source { option_copied result ≡ self.now.source }
+        ensures kept { IsSpec self.now }
     {
         side(&self.source)
     }

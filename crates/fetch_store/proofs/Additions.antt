@@ -83,12 +83,12 @@ add_all-push m [] e = refl
 add_all-push m (x ∷ es) e = add_all-push (add m x) es e
 
 -- one object more of a list without a collision so far
-pub collision_at : (stored es : Entries) (i : ℕ) (e : ObjectId × Stored) (known : Option Stored) → i < length es → e ≡ get_or es i e
-    → known ≡ first_some (find id_cmp e.0 stored) (find id_cmp e.0 (take i es))
-    → collision (add_all (map_of stored) (take i es)) (drop i es) ≡ cond (clashes known e.1) (Some e.0) (collision (add_all (map_of stored) (take (i + 1) es)) (drop (i + 1) es))
+pub collision_at : (stored : ObjectMap) (es : Entries) (i : ℕ) (e : ObjectId × Stored) (known : Option Stored) → i < length es → e ≡ get_or es i e
+    → known ≡ first_some (get stored e.0) (find id_cmp e.0 (take i es))
+    → collision (add_all stored (take i es)) (drop i es) ≡ cond (clashes known e.1) (Some e.0) (collision (add_all stored (take (i + 1) es)) (drop (i + 1) es))
 collision_at stored es i e known lt is found =
-    let m = add_all (map_of stored) (take i es) in
-    let here : get m e.0 ≡ known = get-add_all (map_of stored) (take i es) e.0 ∙ ap (λ o. first_some o (find id_cmp e.0 (take i es))) (get-map_of stored e.0) ∙ sym found in
-    let more : add m e ≡ add_all (map_of stored) (take (i + 1) es) = sym (add_all-push (map_of stored) (take i es) e) ∙ ap (add_all (map_of stored)) (ap (λ (x : ObjectId × Stored). take i es ++ x ∷ []) is ∙ sym (take_more es i e lt)) in
+    let m = add_all stored (take i es) in
+    let here : get m e.0 ≡ known = get-add_all stored (take i es) e.0 ∙ sym found in
+    let more : add m e ≡ add_all stored (take (i + 1) es) = sym (add_all-push stored (take i es) e) ∙ ap (add_all stored) (ap (λ (x : ObjectId × Stored). take i es ++ x ∷ []) is ∙ sym (take_more es i e lt)) in
     ap (collision m) (from es i e lt is) ∙ ap (λ o. cond (clashes o e.1) (Some e.0) (collision (add m e) (drop (i + 1) es))) here
     ∙ ap (λ n. cond (clashes known e.1) (Some e.0) (collision n (drop (i + 1) es))) more

@@ -1,5 +1,5 @@
 -- Entries in the order of their ids.
-use Rattle.std.proofs.Common.{◌≡◌, ℕ, ◌+◌, ◌<◌, Bool, true, false, ◌&&◌, cond, T, List, [], ◌∷◌, length, get_or, Option, Some, None, All, Err, Ordering, Less, Equal, Greater, ⊎_elim, refl, sym, ap, subst, ◌∙◌, arith}
+use Rattle.std.proofs.Common.{◌≡◌, ℕ, ◌+◌, ◌<◌, Bool, true, false, ◌&&◌, cond, T, List, [], ◌∷◌, length, get_or, Option, Some, None, All, Err, Ordering, Less, Equal, Greater, is_some, ⊎_elim, refl, sym, ap, subst, ◌∙◌, arith}
 use Rattle.std.specs.List.{AllByRecursion, Contains, Any, dedup}
 use Rattle.std.specs.List.Sorted.{IsPermutation, IsStrictlySortedBy, IsSortedByKey, IsBinarySearchResult}
 use Rattle.std.specs.Ordering.{eq_by_cmp, is_eq, is_lt}
@@ -9,7 +9,7 @@ use Rattle.std.specs.FinMap.Entries.{below_all}
 use Rattle.std.proofs.lemmas.Bool.{cases_lt}
 use Rattle.std.proofs.lemmas.Cmp.{on_total, eq_by_cmp_equiv}
 use Rattle.std.proofs.lemmas.Map.Keys.{sorted_head, sorted_tail, Less-from_sorted}
-use Rattle.std.proofs.lemmas.List.Elements.{All-nil, All-cons, All-head, All-tail, All-contains, All-contains_itself}
+use Rattle.std.proofs.lemmas.List.Elements.{All-nil, All-cons, All-weaker, All-head, All-tail, All-contains, All-contains_itself}
 use Rattle.std.proofs.lemmas.List.Kept.{IsStrictlySortedBy-dedup, Any-dedup, Contains-from_dedup}
 use Rattle.std.proofs.lemmas.List.Sorted.{searchable_from_sorted, IsPermutation-sym, Contains-permutation}
 use Rattle.fetch_store.specs.declared.id.ObjectId.{ObjectId}
@@ -20,11 +20,11 @@ use Rattle.fetch_store.proofs.Finds.{ties}
 use Rattle.fetch_store.proofs.Borders.{reversed}
 use Rattle.fetch_store.proofs.Lists.{All-find}
 
-halves : (a b : Bool) → T (a && b) → T a × T b
+pub halves : (a b : Bool) → T (a && b) → T a × T b
 halves true b h = (tt, h)
 halves false b h = absurd h
 
-whole : (a b : Bool) → T a → T b → T (a && b)
+pub whole : (a b : Bool) → T a → T b → T (a && b)
 whole true b p q = q
 whole false b p q = absurd p
 
@@ -32,8 +32,18 @@ pub truth : (b : Bool) → T b → b ≡ true
 truth true h = refl
 truth false h = absurd h
 
+pub less : (o : Ordering) → T (is_lt o) → o ≡ Less
+less Less h = refl
+less Equal h = absurd h
+less Greater h = absurd h
+
 pub order_of : (b : Bool) → b ≡ true → T b
 order_of b h = subst T (sym h) tt
+
+same_truth : (a b : Bool) → (a ≡ true → b ≡ true) → (b ≡ true → a ≡ true) → a ≡ b
+same_truth true b f g = sym (f refl)
+same_truth false true f g = g refl
+same_truth false false f g = refl
 
 module _ {X : Type 0} where
   -- ---- a list in order finds what it has
@@ -104,39 +114,67 @@ module _ {X : Type 0} where
   pub dedup_in_order : (ys : List (ObjectId × X)) → IsSortedByKey (λ (e : ObjectId × X). e.0) id_cmp ys → T (is_sorted id_cmp (kept_of ys))
   dedup_in_order ys sorted = rises (kept_of ys) (IsStrictlySortedBy-dedup by_id_total (λ x y. refl) ys sorted)
 
-  -- an entry of a consistent list is kept, or an equal one
-  dedup_keeps : (xs ys : List (ObjectId × X)) → IsConsistent xs → ((e : ObjectId × X) → Contains ys e → Contains xs e) → (e : ObjectId × X) → Contains ys e → Contains (kept_of ys) e
-  dedup_keeps xs ys p back e at =
+  -- each id of the entries is found
+  pub present : (es : List (ObjectId × X)) → All (λ e. is_some (find id_cmp e.0 es) ≡ true) es
+  present [] = All-nil (λ (e : ObjectId × X). is_some {T = X} (find id_cmp e.0 []) ≡ true)
+  present (e ∷ es) =
+      All-cons (λ (x : ObjectId × X). is_some (find id_cmp x.0 (e ∷ es)) ≡ true) e es (ap (λ b. is_some (cond b (Some e.1) (find id_cmp e.0 es))) (ties e.0 e.0 refl))
+      (All-weaker (λ (x : ObjectId × X). is_some (find id_cmp x.0 es) ≡ true) (λ (x : ObjectId × X). is_some (find id_cmp x.0 (e ∷ es)) ≡ true) (λ x h. either (eq_by_cmp id_cmp x.0 e.0) (find id_cmp x.0 es) h) es (present es))
+    where
+      either : (b : Bool) (o : Option X) → is_some o ≡ true → is_some (cond b (Some e.1) o) ≡ true
+      either true o h = refl
+      either false o h = h
+
+  present_at : (es : List (ObjectId × X)) (e : ObjectId × X) → Contains es e → is_some (find id_cmp e.0 es) ≡ true
+  present_at es e at = All-contains (λ (x : ObjectId × X). is_some (find id_cmp x.0 es) ≡ true) es e (present es) at
+
+  -- an id that is found in one list is found in another that has an entry of each of its ids
+  found_too : (xs ys : List (ObjectId × X)) → ((e : ObjectId × X) → Contains xs e → is_some (find id_cmp e.0 ys) ≡ true) → (q : ObjectId) → is_some (find id_cmp q xs) ≡ true → is_some (find id_cmp q ys) ≡ true
+  found_too xs ys to q there = by_value (find id_cmp q xs) refl there
+    where
+      by_value : (o : Option X) → find id_cmp q xs ≡ o → is_some o ≡ true → is_some (find id_cmp q ys) ≡ true
+      by_value None is h = absurd cc
+      by_value (Some v) is h = to (q, v) (Contains-found xs q v is)
+
+  -- an id of the list is one of what is kept
+  dedup_keeps : (ys : List (ObjectId × X)) (e : ObjectId × X) → Contains ys e → is_some (find id_cmp e.0 (kept_of ys)) ≡ true
+  dedup_keeps ys e at =
       let some : Any (λ y. eq_by_cmp id_cmp e.0 y.0 ≡ true) (kept_of ys) = Any-dedup (eq_by_cmp_equiv by_id_total) ys e at in
       let y = some.1 in
       let key : e.0 ≡ y.0 = id_cmp_exact e.0 y.0 ((Equal-is (id_cmp e.0 y.0)).0 some.4) in
       let here : Contains (kept_of ys) y = (some.0, some.2, some.3) in
-      let mine : find id_cmp e.0 xs ≡ Some e.1 = All-contains (λ x. find id_cmp x.0 xs ≡ Some x.1) xs e p (back e at) in
-      let its : find id_cmp y.0 xs ≡ Some y.1 = All-contains (λ x. find id_cmp x.0 xs ≡ Some x.1) xs y p (back y (Contains-from_dedup (λ (a : ObjectId × X) b. eq_by_cmp id_cmp a.0 b.0) ys y here)) in
-      let value : Some e.1 ≡ Some y.1 = sym mine ∙ ap (λ k. find id_cmp k xs) key ∙ its in
-      let inner : e.1 ≡ y.1 = cc in
-      let both : ◌≡◌ {A = ObjectId × X} y e = λ i. (sym key i, sym inner i) in
-      subst (Contains (kept_of ys)) both here
+      ap (λ k. is_some (find id_cmp k (kept_of ys))) key ∙ present_at (kept_of ys) y here
 
-  -- what is left of a consistent list by a sort and a dedup
+  -- what is left of a list by a sort and a dedup
   pub record IsArranged (xs zs : List (ObjectId × X)) : Type 0 where
     pub in_order : IsInOrder zs
-    pub values : (q : ObjectId) → find id_cmp q zs ≡ find id_cmp q xs
+    pub known : (q : ObjectId) → is_some (find id_cmp q zs) ≡ is_some (find id_cmp q xs)
     pub kept : (e : ObjectId × X) → Contains zs e → Contains xs e
 
-  pub arranged : (xs ys zs : List (ObjectId × X)) → IsConsistent xs → IsPermutation xs ys → IsSortedByKey (λ (e : ObjectId × X). e.0) id_cmp ys → zs ≡ kept_of ys → IsArranged xs zs
-  arranged xs ys zs p moved sorted is =
+  pub arranged : (xs ys zs : List (ObjectId × X)) → IsPermutation xs ys → IsSortedByKey (λ (e : ObjectId × X). e.0) id_cmp ys → zs ≡ kept_of ys → IsArranged xs zs
+  arranged xs ys zs moved sorted is =
       let order : T (is_sorted id_cmp zs) = subst (λ l. T (is_sorted id_cmp l)) (sym is) (dedup_in_order ys sorted) in
-      let back : (e : ObjectId × X) → Contains ys e → Contains xs e = λ e at. Contains-permutation ys xs e (IsPermutation-sym xs ys moved) at in
       let from : (e : ObjectId × X) → Contains zs e → Contains xs e = λ e at.
-      back e (Contains-from_dedup (λ (a : ObjectId × X) b. eq_by_cmp id_cmp a.0 b.0) ys e (subst (λ l. Contains l e) is at)) in
-      let to : (e : ObjectId × X) → Contains xs e → Contains zs e = λ e at.
-      subst (λ l. Contains l e) (sym is) (dedup_keeps xs ys p back e (Contains-permutation xs ys e moved at)) in
+      Contains-permutation ys xs e (IsPermutation-sym xs ys moved) (Contains-from_dedup (λ (a : ObjectId × X) b. eq_by_cmp id_cmp a.0 b.0) ys e (subst (λ l. Contains l e) is at)) in
+      let to : (e : ObjectId × X) → Contains xs e → is_some (find id_cmp e.0 zs) ≡ true = λ e at.
+      ap (λ l. is_some (find id_cmp e.0 l)) is ∙ dedup_keeps ys e (Contains-permutation xs ys e moved at) in
       record {
         in_order = truth (is_sorted id_cmp zs) order;
-        values = same_found zs xs (consistent_in_order zs order) p from to;
+        known = λ q. same_truth (is_some (find id_cmp q zs)) (is_some (find id_cmp q xs)) (found_too zs xs (λ e at. present_at xs e (from e at)) q) (found_too xs zs to q);
         kept = from;
       }
+
+  -- where those of one id are one, each id finds what it found
+  pub arranged_found : (xs zs : List (ObjectId × X)) → IsArranged xs zs → IsConsistent xs → (q : ObjectId) → find id_cmp q zs ≡ find id_cmp q xs
+  arranged_found xs zs a same q = by_value (find id_cmp q zs) refl
+    where
+      nothing : (o : Option X) → is_some o ≡ false → None ≡ o
+      nothing None is = refl
+      nothing (Some x) is = absurd cc
+
+      by_value : (o : Option X) → find id_cmp q zs ≡ o → o ≡ find id_cmp q xs
+      by_value None is = nothing (find id_cmp q xs) (sym (a.known q) ∙ ap is_some is)
+      by_value (Some v) is = sym (All-contains (λ e. find id_cmp e.0 xs ≡ Some e.1) xs (q, v) same (a.kept (q, v) (Contains-found zs q v is)))
 
   -- ---- what a binary search tells
   pub searched : (es : List (ObjectId × X)) (q : ObjectId) (i : ℕ) → T (is_sorted id_cmp es) → i < length es → ((d : ObjectId × X) → id_cmp (get_or es i d).0 q ≡ Equal)
@@ -145,7 +183,7 @@ module _ {X : Type 0} where
       let here : find id_cmp (get_or es i d).0 es ≡ Some (get_or es i d).1 = consistent_in_order es s i d lt in
       ap (λ k. find id_cmp k es) (sym (id_cmp_exact (get_or es i d).0 q (at d))) ∙ here
 
-  none_found : (es : List (ObjectId × X)) (q : ObjectId) → All (λ e. eq_by_cmp id_cmp q e.0 ≡ false) es → find id_cmp q es ≡ None
+  pub none_found : (es : List (ObjectId × X)) (q : ObjectId) → All (λ e. eq_by_cmp id_cmp q e.0 ≡ false) es → find id_cmp q es ≡ None
   none_found [] q all = refl
   none_found (e ∷ es) q all =
       ap (λ b. cond b (Some e.1) (find id_cmp q es)) (All-head (λ (x : ObjectId × X). eq_by_cmp id_cmp q x.0 ≡ false) e es all)
@@ -157,18 +195,17 @@ module _ {X : Type 0} where
   strictly (e ∷ es) s =
       let parts = halves (below_all id_cmp e.0 es) (is_sorted id_cmp es) s in (above e es parts.0, strictly es parts.1)
     where
-      less : (o : Ordering) → T (is_lt o) → o ≡ Less
-      less Less h = refl
-      less Equal h = absurd h
-      less Greater h = absurd h
-
       above : (e : ObjectId × X) (es : List (ObjectId × X)) → T (below_all id_cmp e.0 es) → AllByRecursion (λ y. by_id e y ≡ Less) es
       above e [] h = tt
       above e (x ∷ es) h = let both = halves (is_lt (id_cmp e.0 x.0)) (below_all id_cmp e.0 es) h in (less (id_cmp e.0 x.0) both.0, above e es both.1)
 
+  -- of two entries in order the earlier one has the smaller id
+  pub rises_at : (es : List (ObjectId × X)) → T (is_sorted id_cmp es) → (i j : ℕ) (d : ObjectId × X) → i < j → j < length es → id_cmp (get_or es i d).0 (get_or es j d).0 ≡ Less
+  rises_at es s i j d low high = Less-from_sorted by_id es i j d (strictly es s) low high
+
   sorted_keys : (es : List (ObjectId × X)) → T (is_sorted id_cmp es) → IsSortedByKey (λ (e : ObjectId × X). e.0) id_cmp es
   sorted_keys es s k d low high =
-      ap is_lt (reversed (get_or es k d).0 (get_or es (k + 1) d).0 Less (Less-from_sorted by_id es k (k + 1) d (strictly es s) (omega arith) high))
+      ap is_lt (reversed (get_or es k d).0 (get_or es (k + 1) d).0 Less (rises_at es s k (k + 1) d (omega arith) high))
 
   pub unsearched : (es : List (ObjectId × X)) (q : ObjectId) (i : ℕ) → T (is_sorted id_cmp es) → IsBinarySearchResult (λ (y : ObjectId × X). id_cmp y.0 q) es (Err i) → find id_cmp q es ≡ None
   unsearched es q i s at =

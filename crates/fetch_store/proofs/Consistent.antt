@@ -16,7 +16,7 @@ use Rattle.fetch_store.specs.Entries.{IsConsistent, IsInOrder}
 use Rattle.fetch_store.proofs.Ids.{id_cmp_total, id_cmp_exact}
 use Rattle.fetch_store.proofs.Finds.{ties, get-map_of}
 use Rattle.fetch_store.proofs.Additions.{get-add, get-add_all}
-use Rattle.fetch_store.proofs.Arranged.{IsArranged, consistent_in_order, order_of}
+use Rattle.fetch_store.proofs.Arranged.{consistent_in_order, order_of, present}
 use Rattle.fetch_store.proofs.Lists.{All-find, All-of}
 use Rattle.fetch_store.proofs.Growth.{grows-add_all}
 use Rattle.fetch_store.proofs.Agreement.{first_of, same_object}
@@ -40,16 +40,6 @@ choice false x o p = refl
 pub find-both : (q : ObjectId) (xs ys : Entries) → find id_cmp q (xs ++ ys) ≡ first_some (find id_cmp q xs) (find id_cmp q ys)
 find-both q [] ys = refl
 find-both q (x ∷ xs) ys = ap (cond (eq_by_cmp id_cmp q x.0) (Some x.1)) (find-both q xs ys) ∙ choice (eq_by_cmp id_cmp q x.0) x.1 (find id_cmp q xs) (find id_cmp q ys)
-
-present : (es : Entries) → All (λ e. is_some (find id_cmp e.0 es) ≡ true) es
-present [] = All-nil (λ (e : ObjectId × Stored). is_some {T = Stored} (find id_cmp e.0 []) ≡ true)
-present (e ∷ es) =
-    All-cons (λ x. is_some (find id_cmp x.0 (e ∷ es)) ≡ true) e es (ap (λ b. is_some (cond b (Some e.1) (find id_cmp e.0 es))) (ties e.0 e.0 refl))
-    (All-weaker (λ x. is_some (find id_cmp x.0 es) ≡ true) (λ x. is_some (find id_cmp x.0 (e ∷ es)) ≡ true) (λ x h. either (eq_by_cmp id_cmp x.0 e.0) (find id_cmp x.0 es) h) es (present es))
-  where
-    either : (b : Bool) (o : Option Stored) → is_some o ≡ true → is_some (cond b (Some e.1) o) ≡ true
-    either true o h = refl
-    either false o h = h
 
 -- ---- texts
 same_as_itself : (k : ObjectKind) → is_kind k k ≡ true
@@ -115,12 +105,6 @@ consistent hash s es order old new none =
     by_value e (Some x) is there text of =
         let its : x.hash ≡ hash = All-find (λ (y : ObjectId × Stored). y.1.hash ≡ hash) e.0 x (s ++ es) (All-of hash (s ++ es) (AreOf-both hash s es old new)) is in
         is ∙ ap Some (same_object x e.1 (its ∙ sym of) (text x (at e.0 ∙ is)))
-
--- ---- what is arranged of both
-pub added : (s es zs : Entries) → IsArranged (s ++ es) zs → map_of zs ≡ add_all (map_of s) es
-added s es zs a =
-    same_map id_cmp_total id_cmp_exact (map_of zs) (add_all (map_of s) es) (λ q.
-    get-map_of zs q ∙ a.values q ∙ find-both q s es ∙ ap (λ o. first_some o (find id_cmp q es)) (sym (get-map_of s q)) ∙ sym (get-add_all (map_of s) es q))
 
 pub AreOf-arranged : (hash : Kind) (xs zs : Entries) → ((e : ObjectId × Stored) → Contains zs e → Contains xs e) → AreOf hash xs → AreOf hash zs
 AreOf-arranged hash xs zs kept of =

@@ -1,6 +1,6 @@
 -- The first entry of an id, in a list and in its map.
 use Rattle.std.proofs.Common.{◌≡◌, ℕ, suc, ◌+◌, ◌<◌, Bool, true, false, cond, ◌∷◌, length, get_or, drop, drop-cons, add-one, Option, Some, None, Bor, refl, sym, ap, ◌∙◌}
-use Rattle.std.specs.Prelude.{is_some}
+use Rattle.std.specs.Prelude.{is_some, option_map}
 use Rattle.std.specs.Option.{option_copied}
 use Rattle.std.specs.Ordering.{eq_by_cmp, is_eq}
 use Rattle.std.specs.Cmp.{Equal-is, tied_itself}
@@ -36,3 +36,7 @@ get-map_of es id = get-from_entries id_cmp_total es id
 pub is_some-copied : {X : Type 0} (o : Option (Bor X)) → is_some o ≡ is_some (option_copied o)
 is_some-copied None = refl
 is_some-copied (Some x) = refl
+
+pub is_some-mapped : {X Y : Type 0} (f : X → Y) (o : Option X) → is_some (option_map f o) ≡ is_some o
+is_some-mapped f None = refl
+is_some-mapped f (Some x) = refl

@@ -31,7 +31,7 @@ walked stored es q = first_some (find id_cmp q stored) (find id_cmp q es)
 pub record Indexes (stored es : Entries) (index : Index) : Type 0 where
   pub each : (q : ObjectId) → held stored index q ≡ walked stored es q
 
-abbrev here : (q : ObjectId) (e : ObjectId × Stored) → Option Stored
+abbrev pub here : (q : ObjectId) (e : ObjectId × Stored) → Option Stored
 here q e = cond (eq_by_cmp id_cmp q e.0) (Some e.1) None
 
 pushed : (b : Bool) (x : Stored) (more rest end : Option Stored) → more ≡ first_some rest end → cond b (Some x) more ≡ first_some (cond b (Some x) rest) end
@@ -46,10 +46,10 @@ regroup : (a b c : Option Stored) → first_some a (first_some b c) ≡ first_so
 regroup None b c = refl
 regroup (Some x) b c = refl
 
-walked-push : (stored es : Entries) (e : ObjectId × Stored) (q : ObjectId) → walked stored (es ++ e ∷ []) q ≡ first_some (walked stored es q) (here q e)
+pub walked-push : (stored es : Entries) (e : ObjectId × Stored) (q : ObjectId) → walked stored (es ++ e ∷ []) q ≡ first_some (walked stored es q) (here q e)
 walked-push stored es e q = ap (first_some (find id_cmp q stored)) (find-push q es e) ∙ regroup (find id_cmp q stored) (find id_cmp q es) (here q e)
 
-stays : (a b : Option Stored) → is_some a ≡ true → a ≡ first_some a b
+pub stays : (a b : Option Stored) → is_some a ≡ true → a ≡ first_some a b
 stays None b is = absurd cc
 stays (Some x) b is = refl
 

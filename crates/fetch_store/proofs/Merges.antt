@@ -23,6 +23,11 @@ contains-merged b p q =
     (set.contains-union id_cmp_total b (set.from_list p.shallow) q ∙ ap (λ x. set.contains b q || x) (set.contains-from_list id_cmp_total p.shallow q))
     (set.contains-from_list id_cmp_total p.unshallow q)
 
+-- a border with one set and then without another
+pub contains-within : (b s u : IdSet) (q : ObjectId) (v : Bool) → v ≡ (set.contains b q || set.contains s q) → (v && not (set.contains u q)) ≡ set.contains (set.difference (set.union b s) u) q
+contains-within b s u q v is =
+    ap (λ x. x && not (set.contains u q)) (is ∙ sym (set.contains-union id_cmp_total b s q)) ∙ sym (set.contains-difference id_cmp_total (set.union b s) u q)
+
 -- an id of the merged border stood in the border, or a shallow line names it
 pub merged_cases : (b : IdSet) (p : Pack) (q : ObjectId) → set.contains (merged b p.shallow p.unshallow) q ≡ true → (set.contains b q ≡ true) ⊎ (named q p.shallow ≡ true)
 merged_cases b p q is = split (set.contains b q) (named q p.shallow) (not (named q p.unshallow)) (sym (contains-merged b p q) ∙ is)

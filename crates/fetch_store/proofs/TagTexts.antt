@@ -1,6 +1,6 @@
 -- A tag's text in the words of its format.
 use Rattle.std.proofs.Common.{◌≡◌, ℕ, Bool, true, false, cond, not, ◌&&◌, eqb, List, [], ◌∷◌, ◌++◌, length, take, drop, Option, None, Some, Result, Ok, Err, refl, sym, ap, ap₂, subst, ◌∙◌, append_assoc}
-use Rattle.std.specs.Prelude.{codes, nat_eq, is_ok, IsTrue}
+use Rattle.std.specs.Prelude.{codes, nat_eq, is_ok, IsTrue, map, slice_get}
 use Rattle.std.specs.List.{list_all, starts_with, AllPass}
 use Rattle.std.specs.Option.{option_map}
 use Rattle.std.specs.Result.{result_ok}
@@ -23,10 +23,10 @@ use Rattle.fetch_store.specs.Id.{byte_len, id_of_bytes, id_in_hex}
 use Rattle.fetch_store.specs.Scan.{◌>>=◌, split_first, after}
 use Rattle.fetch_store.specs.Lines.{IsWithout}
 use Rattle.fetch_store.specs.Grammar.{Step, id_after, kind_named, kind_after, part_at}
-use Rattle.fetch_store.specs.Objects.{Reading, reading, may_end, IsObject}
+use Rattle.fetch_store.specs.Objects.{Reading, reading, may_end, IsObject, link_in, links_of}
 use Rattle.fetch_store.specs.Texts.{IsHexId, TagParts, line as text_line, tag_text, TagsAreTexts}
 use Rattle.fetch_store.proofs.LineLaws.{splits}
-use Rattle.fetch_store.proofs.Readings.{bind_some, reading_step, reading_end}
+use Rattle.fetch_store.proofs.Readings.{bind_some, reading_step, reading_end, parts_take, parts_skip, parts_end}
 
 -- ---- words and ids
 pub after_is : (word line x : List ℕ) → after word line ≡ Some x → line ≡ word ++ x
@@ -171,14 +171,41 @@ text_of hash bytes h =
     let kind = kind_after_is m.0.0 m.2 m.3 in
     (record { object = object.0; kind = m.2; rest = m.0.1 }, object.2, l.1 ∙ ap₂ (λ a b. text_line a ++ b) object.1 (m.1 ∙ ap (λ a. text_line a ++ m.0.1) kind))
 
-tag_of : (hash : Kind) (t : TagParts) → IsHexId hash t.object → IsObject hash objects.Tag (tag_text t)
-unfolding tag_text
-tag_of hash t hex =
-    let id = id_after_of hash (codes "object ") t.object hex in
-    let second : List ℕ = text_line (codes "type " ++ name_of t.kind) ++ t.rest in
-    let inner : Accepts hash expect.TypeLine second =
-    part_then hash expect.TypeLine second (typed t.kind t.rest) (head_of kind_after typed (codes "type " ++ name_of t.kind) t.rest t.kind (kind_feedless t.kind) (kind_after_of t.kind)) (anything hash t.rest) in
-    part_then hash expect.TaggedLine (text_line (codes "object " ++ t.object) ++ second) (tagged id.0 second) (head_of (id_after hash (codes "object ")) tagged (codes "object " ++ t.object) second id.0 (feedless t.object hex.1) id.1) inner
+module _ (hash : Kind) (t : TagParts) (hex : IsHexId hash t.object) where
+  abbrev id : (id : ObjectId) × (id_in_hex hash t.object ≡ Some id)
+  id = of_hex hash t.object hex
+
+  abbrev second : List ℕ
+  second = text_line (codes "type " ++ name_of t.kind) ++ t.rest
+
+  abbrev whole : List ℕ
+  whole = text_line (codes "object " ++ t.object) ++ second
+
+  first_part : part_at hash expect.TaggedLine whole ≡ Some (tagged id.0 second)
+  first_part = head_of (id_after hash (codes "object ")) tagged (codes "object " ++ t.object) second id.0 (feedless t.object hex.1) (ap (λ o. o >>= id_in_hex hash) (after_of (codes "object ") t.object) ∙ id.1)
+
+  second_part : part_at hash expect.TypeLine second ≡ Some (typed t.kind t.rest)
+  second_part = head_of kind_after typed (codes "type " ++ name_of t.kind) t.rest t.kind (kind_feedless t.kind) (kind_after_of t.kind)
+
+  tag_of : IsObject hash objects.Tag whole
+  tag_of = part_then hash expect.TaggedLine whole (tagged id.0 second) first_part (part_then hash expect.TypeLine second (typed t.kind t.rest) second_part (anything hash t.rest))
+
+  link_of : links_of hash objects.Tag whole ≡ id.0 ∷ []
+  link_of =
+      parts_take link_in hash expect.TaggedLine whole (tagged id.0 second) id.0 first_part refl
+      ∙ ap (λ (l : List ObjectId). id.0 ∷ l) (parts_skip link_in hash expect.TypeLine second (typed t.kind t.rest) second_part refl ∙ parts_end link_in hash expect.Anything t.rest refl)
+
+  links_are : map Some (links_of hash objects.Tag whole) ≡ id_in_hex hash t.object ∷ []
+  links_are = ap (map Some) link_of ∙ ap (λ (o : Option ObjectId). o ∷ []) (sym id.1)
+
+  target_is : slice_get (links_of hash objects.Tag whole) 0 ≡ id_in_hex hash t.object
+  target_is = ap (λ (l : List ObjectId). slice_get l 0) link_of ∙ sym id.1
 
 pub tags_are_texts : (hash : Kind) (bytes : List ℕ) → TagsAreTexts hash bytes
-tags_are_texts hash bytes = record { text = text_of hash bytes; tag = λ t hex is. subst (IsObject hash objects.Tag) (sym is) (tag_of hash t hex) }
+unfolding tag_text
+tags_are_texts hash bytes = record {
+  text = text_of hash bytes;
+  tag = λ t hex is. subst (IsObject hash objects.Tag) (sym is) (tag_of hash t hex);
+  links = λ t hex is. ap (λ b. map Some (links_of hash objects.Tag b)) is ∙ links_are hash t hex;
+  target = λ t hex is. ap (λ b. slice_get (links_of hash objects.Tag b) 0) is ∙ target_is hash t hex;
+}

@@ -9,7 +9,7 @@ use Rattle.fetch_store.specs.Stores.{ObjectMap, add_all}
 use Rattle.fetch_store.specs.Borders.{IdSet, merged}
 use Rattle.fetch_store.specs.Closed.{Grows, Holding, IsClosed, IsStored, IsCommit, is_commit, links_within, parents}
 use Rattle.fetch_store.specs.Honest.{Pack, taken}
-use Rattle.fetch_store.specs.Missing.{missing_link, parents_at, unstored, unlinked, unknown, orphaned, missing_over}
+use Rattle.fetch_store.specs.Missing.{missing_link, parents_at, unstored, unheld_in, unlinked, unknown, orphaned, unconnected, missing}
 use Rattle.fetch_store.proofs.Borders.{All-any}
 use Rattle.fetch_store.proofs.Lists.{All-find, filter_none, none_filter, map_nil, nil_left, nil_right, both_nil, flat_map_none, none_flat_map}
 use Rattle.fetch_store.proofs.Growth.{grows-add_all, stored_grows, commit_grows, added_cases}
@@ -49,8 +49,15 @@ unstored_none m from ids all = ap (map (λ (to : ObjectId). missing_link from to
 pub none_unstored : (m : ObjectMap) (from : ObjectId) (ids : List ObjectId) → unstored m from ids ≡ [] → All (IsStored m) ids
 none_unstored m from ids is = none_filter (contains_key m) ids (map_nil (λ (to : ObjectId). missing_link from to) _ is)
 
+-- what is missing of these ids, and whether each is stored
+pub unheld_none : (m : ObjectMap) (ids : List ObjectId) → All (IsStored m) ids → unheld_in m ids ≡ []
+unheld_none m ids all = ap (map (λ id. missing_link id id)) (filter_none (contains_key m) ids all)
+
+pub none_unheld : (m : ObjectMap) (ids : List ObjectId) → unheld_in m ids ≡ [] → All (IsStored m) ids
+none_unheld m ids is = none_filter (contains_key m) ids (map_nil (λ id. missing_link id id) _ is)
+
 module _ (h : Holding) (pack : Pack) where
-  pub whole_none : IsWhole h pack → missing_over h pack ≡ []
+  pub whole_none : IsWhole h pack → unconnected h pack ≡ []
   whole_none whole =
       both_nil (unlinked h pack ++ unknown h pack) (orphaned h pack)
       (both_nil (unlinked h pack) (unknown h pack)
@@ -60,7 +67,7 @@ module _ (h : Holding) (pack : Pack) where
       (flat_map_none (λ id. unstored h.objects id (parents_at h.objects id)) pack.unshallow
       (λ k d lt. unstored_none h.objects (get_or pack.unshallow k d) (parents_at h.objects (get_or pack.unshallow k d)) (whole.deepened k d lt)))
 
-  pub none_whole : missing_over h pack ≡ [] → IsWhole h pack
+  pub none_whole : unconnected h pack ≡ [] → IsWhole h pack
   none_whole is =
       let front : unlinked h pack ++ unknown h pack ≡ [] = nil_left (unlinked h pack ++ unknown h pack) (orphaned h pack) is in
       let links = none_flat_map (λ e. unstored h.objects e.0 (links_within h.border e.0 e.1)) pack.objects (nil_left (unlinked h pack) (unknown h pack) front) in
@@ -70,3 +77,15 @@ module _ (h : Holding) (pack : Pack) where
         known = none_filter (λ id. is_commit (get h.objects id)) pack.shallow (map_nil (λ id. missing_link id id) _ (nil_right (unlinked h pack) (unknown h pack) front));
         deepened = λ k d lt. none_unstored h.objects (get_or pack.unshallow k d) (parents_at h.objects (get_or pack.unshallow k d)) (lines k d lt);
       }
+
+-- of a take with its wants
+module _ (h : Holding) (wants : List ObjectId) (pack : Pack) where
+  pub connects_none : All (IsStored (taken h pack).objects) wants → IsWhole (taken h pack) pack → missing h wants pack ≡ []
+  connects_none held whole =
+      both_nil (unheld_in (taken h pack).objects wants) (unconnected (taken h pack) pack) (unheld_none (taken h pack).objects wants held) (whole_none (taken h pack) pack whole)
+
+  pub none_held : missing h wants pack ≡ [] → All (IsStored (taken h pack).objects) wants
+  none_held is = none_unheld (taken h pack).objects wants (nil_left (unheld_in (taken h pack).objects wants) (unconnected (taken h pack) pack) is)
+
+  pub none_connects : missing h wants pack ≡ [] → IsWhole (taken h pack) pack
+  none_connects is = none_whole (taken h pack) pack (nil_right (unheld_in (taken h pack).objects wants) (unconnected (taken h pack) pack) is)

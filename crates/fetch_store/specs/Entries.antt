@@ -1,5 +1,7 @@
 -- Lists of ids, each with a value.
-use Rattle.std.specs.Prelude.{◌≡◌, List, Some, IsTrue, All}
+use Rattle.std.specs.Prelude.{◌≡◌, ◌-◌, Bool, false, List, Some, IsTrue, All, length, slice_get}
+use Rattle.std.specs.Ordering.{is_lt}
+use Rattle.std.specs.Option.{option_map_or}
 use Rattle.std.specs.FinMap as map
 use Rattle.fetch_store.specs.declared.id.ObjectId.{ObjectId}
 use Rattle.fetch_store.specs.Stores.{id_cmp}
@@ -11,3 +13,7 @@ IsConsistent es = All (λ e. map.find id_cmp e.0 es ≡ Some e.1) es
 -- in ascending order of ids, each once
 abbrev pub IsInOrder : {X : Type 0} → List (ObjectId × X) → Type 0
 IsInOrder es = IsTrue (map.is_sorted id_cmp es)
+
+-- whether the last id is greater than this one
+abbrev pub ends_above : {X : Type 0} → ObjectId → List (ObjectId × X) → Bool
+ends_above q es = option_map_or (λ e. is_lt (id_cmp q e.0)) (slice_get es (length es - 1)) false

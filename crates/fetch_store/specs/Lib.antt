@@ -14,7 +14,13 @@ pub mod Borders
 pub mod Closed
 pub mod Honest
 pub mod Missing
+pub mod Indexes
 pub mod Entries
+pub mod Buffers
+pub mod Iter
 pub mod Texts
 pub mod TreeTexts
 pub mod CommitTexts
+pub mod Answers
+pub mod Calls
+pub mod Distinct

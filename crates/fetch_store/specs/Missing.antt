@@ -1,5 +1,5 @@
 -- The links that are missing, in the order in which they are told.
-use Rattle.std.specs.Prelude.{not, List, [], ◌++◌, map, filter, flat_map, Option, slice_get}
+use Rattle.std.specs.Prelude.{not, List, [], ◌++◌, map, filter, flat_map}
 use Rattle.std.specs.Option.{option_map_or}
 use Rattle.std.specs.FinMap as fin
 use Rattle.fetch_store.specs.declared.id.ObjectId.{ObjectId}
@@ -18,6 +18,10 @@ unstored objects from ids = map (missing_link from) (filter (λ to. not (fin.con
 
 abbrev pub parents_at : ObjectMap → ObjectId → List ObjectId
 parents_at objects id = option_map_or parents (fin.get objects id) []
+
+-- those that aren't stored
+abbrev pub unheld_in : ObjectMap → List ObjectId → List Missing
+unheld_in objects ids = map (λ id. missing_link id id) (filter (λ id. not (fin.contains_key objects id)) ids)
 
 -- links of these objects, parents of border commits aside
 abbrev pub unlinked_in : ObjectMap → IdSet → Entries → List Missing
@@ -41,18 +45,12 @@ abbrev pub orphaned : Holding → Pack → List Missing
 orphaned h pack = orphaned_in h.objects pack.unshallow
 
 -- of a pack, over what is held with it: first links, then shallow lines, then unshallow lines
-abbrev pub missing_over : Holding → Pack → List Missing
-missing_over h pack = unlinked h pack ++ unknown h pack ++ orphaned h pack
+abbrev pub unconnected : Holding → Pack → List Missing
+unconnected h pack = unlinked h pack ++ unknown h pack ++ orphaned h pack
 
-abbrev pub missing : Holding → Pack → List Missing
-missing h pack = missing_over (taken h pack) pack
-
-abbrev pub first_missing : Holding → Pack → Option Missing
-first_missing h pack = slice_get (missing h pack) 0
-
--- wants that aren't stored
-abbrev pub unheld : Holding → List ObjectId → List Missing
-unheld h wants = map (λ id. missing_link id id) (filter (λ id. not (fin.contains_key h.objects id)) wants)
+-- what is missing once a pack is taken for these wants: first wants, then what the pack leaves
+abbrev pub missing : Holding → List ObjectId → Pack → List Missing
+missing h wants pack = unheld_in (taken h pack).objects wants ++ unconnected (taken h pack) pack
 
 -- what keeps a repository from being closed: links of what is stored, then border ids that are no stored commits
 abbrev pub unclosed : Holding → List Missing

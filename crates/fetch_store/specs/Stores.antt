@@ -1,7 +1,7 @@
 -- A store: a finite map of ids to objects of one hash.
-use Rattle.std.specs.Prelude.{◌≡◌, ℕ, Bool, false, not, List, [], ◌∷◌, Option, Some, None, if◌then◌else◌, refl}
+use Rattle.std.specs.Prelude.{◌≡◌, ℕ, Bool, false, not, List, [], ◌∷◌, length, Option, Some, None, if◌then◌else◌, refl}
 use Rattle.std.specs.Coded.{Coded, code_by, coded_ℕ, coded×}
-use Rattle.std.specs.List.{AllByRecursion}
+use Rattle.std.specs.List.{AllByRecursion, sum_by}
 use Rattle.std.specs.Ordering.{nat_cmp}
 use Rattle.std.specs.Cmp.Lexicographic.{slice_cmp}
 use Rattle.std.specs.FinMap as map
@@ -24,16 +24,17 @@ id_cmp (ids.Sha256 a) (ids.Sha256 b) = slice_cmp nat_cmp a b
 abbrev pub ObjectMap : Type 0
 ObjectMap = map.FinMap id_cmp Stored
 
--- its objects, and how many more it has room for
+-- its objects, and for how many more objects and bytes there is room
 pub record StoreValue : Type 0 where
   pub hash : Kind
   pub objects : ObjectMap
   pub spare : ℕ
+  pub spare_bytes : ℕ
 
 abbrev pub coded_store : Coded StoreValue
 coded_store =
-    code_by (Kind × (ObjectMap × ℕ)) (coded× coded_kind (coded× (map.code {R = id_cmp} coded_id coded_stored) coded_ℕ))
-    (λ s. (s.hash, (s.objects, s.spare))) (λ p. record { hash = p.0; objects = p.1.0; spare = p.1.1 }) (λ _. refl)
+    code_by (Kind × (ObjectMap × (ℕ × ℕ))) (coded× coded_kind (coded× (map.code {R = id_cmp} coded_id coded_stored) (coded× coded_ℕ coded_ℕ)))
+    (λ s. (s.hash, (s.objects, (s.spare, s.spare_bytes)))) (λ p. record { hash = p.0; objects = p.1.0; spare = p.1.1.0; spare_bytes = p.1.1.1 }) (λ _. refl)
 
 abbrev pub Entries : Type 0
 Entries = List (ObjectId × Stored)
@@ -45,6 +46,10 @@ map_of os = map.from_entries os
 -- the ids and the objects are of this hash
 abbrev pub AreOf : Kind → Entries → Type 0
 AreOf hash os = AllByRecursion (λ o. (kind_of o.0 ≡ hash) × (o.1.hash ≡ hash)) os
+
+-- how many bytes the objects of a list have
+abbrev pub payload_len : Entries → ℕ
+payload_len os = sum_by (λ o. length o.1.bytes) os
 
 -- An id keeps the object that it has.
 abbrev pub add : ObjectMap → ObjectId × Stored → ObjectMap

@@ -1,13 +1,14 @@
 -- The grammar of objects in the words of the format: a text is put together from its parts.
-use Rattle.std.specs.Prelude.{◌≡◌, ℕ, ◌*◌, List, [], ◌∷◌, ◌++◌, length, codes}
+use Rattle.std.specs.Prelude.{◌≡◌, ℕ, ◌*◌, List, [], ◌∷◌, ◌++◌, length, map, codes, Some}
 use Rattle.std.specs.List.{AllPass}
 use Rattle.hex.specs.Hex.{is_hex_digit}
 use Rattle.fetch_store.specs.declared.id.Kind.{Kind}
 use Rattle.fetch_store.specs.declared.object_kind.ObjectKind.{ObjectKind}
 use Rattle.fetch_store.specs.declared.object_kind.ObjectKind.TheVariants.{Tag}
 use Rattle.fetch_store.specs.Hashing.{name_of}
-use Rattle.fetch_store.specs.Id.{byte_len}
-use Rattle.fetch_store.specs.Objects.{IsObject}
+use Rattle.fetch_store.specs.Graph.{target_of}
+use Rattle.fetch_store.specs.Id.{byte_len, id_in_hex}
+use Rattle.fetch_store.specs.Objects.{IsObject, links_of}
 
 -- an id in hex digits of either case
 abbrev pub IsHexId : Kind → List ℕ → Type 0
@@ -26,7 +27,9 @@ line text = text ++ 10 ∷ []
 unfoldable pub tag_text : TagParts → List ℕ
 tag_text t = line (codes "object " ++ t.object) ++ (line (codes "type " ++ name_of t.kind) ++ t.rest)
 
--- A tag is a text of that form, and each such text is a tag.
+-- A tag is a text of that form, and each such text is a tag. Its one link, which is its target, is the id in its first line.
 pub record TagsAreTexts (hash : Kind) (bytes : List ℕ) : Type 0 where
   pub text : IsObject hash Tag bytes → (t : TagParts) × IsHexId hash t.object × (bytes ≡ tag_text t)
   pub tag : (t : TagParts) → IsHexId hash t.object → bytes ≡ tag_text t → IsObject hash Tag bytes
+  pub links : (t : TagParts) → IsHexId hash t.object → bytes ≡ tag_text t → map Some (links_of hash Tag bytes) ≡ id_in_hex hash t.object ∷ []
+  pub target : (t : TagParts) → IsHexId hash t.object → bytes ≡ tag_text t → target_of (record { hash = hash; kind = Tag; bytes = bytes }) ≡ id_in_hex hash t.object

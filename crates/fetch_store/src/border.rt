@@ -1,4 +1,4 @@
-//! The commits whose parents are left aside.
+//! The shallow border: the commits whose parents are left aside, as Git lists them in its file `shallow`.
 
 ghost use Rattle.std.specs.Prelude.{◌≡◌, ◌↔◌, ◌++◌, not, filter, IsTrue, IfOk, IfErr, OnOk};
 ghost use Rattle.std.specs.List.Sorted.{IsStrictlySortedBy};
@@ -12,7 +12,8 @@ use crate::id::ObjectId;
 use std::alloc::Global;
 use std::marker::Model;
 
-/// A set of commits. Contracts see it as a finite set of ids.
+/// The commits at which a history was cut: those that Git's file `shallow` lists, and the `shallow` lines of a request.
+/// Their parents need not be stored, and no walk goes from one of them to a parent. Contracts see a finite set of ids.
 #[derive(Debug, Drop)]
 pub struct Border {
     ids: Vec<ObjectId>,
@@ -33,7 +34,7 @@ impl Model for Border {
 }
 
 impl Border {
-    /// The border with no commit.
+    /// The border with no commit, as of a repository with its whole history. Takes no memory.
     pub fn new(alloc: Global) -> Border
         ensures { result ≡ set.empty }
     {
@@ -42,22 +43,22 @@ impl Border {
         }
     }
 
-    /// The border of these ids, of which some may come more than once.
+    /// The border of these ids, in any order, of which some may come more than once. The only error is want of memory.
     pub fn from_ids(alloc: Global, ids: &[ObjectId]) -> Result<Border, StoreError>
         ensures border { IfOk result (λ border. border ≡ set_of ids.now) }
         ensures memory { IfErr result (λ e. e ≡ errors.NoMemory) }
     {
-        Ok(border_of(Vec::from_slice(alloc, ids)?))
+        Ok(border_from(alloc, ids)?)
     }
 
-    /// Whether the commit is one of the border.
+    /// Whether the commit is one of the border. Takes no memory.
     pub fn contains(&self, id: &ObjectId) -> bool
         ensures { result ≡ set.contains self.now id.now }
     {
         self.ids.as_slice().binary_search(id).is_ok()
     }
 
-    /// The commits, each once, in ascending order.
+    /// The commits, each once, in ascending order of their ids, as the lines of a shallow file are written.
     pub fn commits(&self) -> &[ObjectId]
         ensures members { result.now ≡ ids_of self.now }
         ensures set { set_of result.now ≡ self.now }
@@ -66,14 +67,15 @@ impl Border {
         self.ids.as_slice()
     }
 
-    /// Whether there is no commit.
+    /// Whether there is no commit, so that nothing is left aside.
     pub fn is_empty(&self) -> bool
         ensures { IsTrue result ↔ (self.now ≡ set.empty) }
     {
         self.commits().is_empty()
     }
 
-    /// This border with the shallow commits, and then without the unshallow ones.
+    /// This border with the `shallow` commits of a reply, and then without its `unshallow` ones: an id that both lists
+    /// name leaves. The only error is want of memory.
     pub fn merged(
         &self,
         alloc: Global,
@@ -90,7 +92,7 @@ impl Border {
         Ok(border_of(ids))
     }
 
-    /// A border with the same commits.
+    /// A border with the same commits. The only error is want of memory.
     pub fn try_clone(&self) -> Result<Border, NoMemory>
         ensures { IfOk result (λ copy. copy ≡ self.now) }
     {
@@ -100,7 +102,13 @@ impl Border {
     }
 }
 
-/// The border of these ids.
+/// The border of these ids, of which some may come more than once.
+pub(crate) fn border_from(alloc: Global, ids: &[ObjectId]) -> Result<Border, NoMemory>
+    ensures { IfOk result (λ border. border ≡ set_of ids.now) }
+{
+    Ok(border_of(Vec::from_slice(alloc, ids)?))
+}
+
 fn border_of(ids: Vec<ObjectId>) -> Border
     ensures { result ≡ set_of ids.items }
 {
@@ -108,8 +116,9 @@ fn border_of(ids: Vec<ObjectId>) -> Border
     Border { ids }
 }
 
-/// The ids, each once, in ascending order.
+/// The ids, sorted, and each of them once. Takes no memory.
 pub fn ascending(mut ids: Vec<ObjectId>) -> Vec<ObjectId>
+    ensures each { result.items ≡ ids_of (set_of ids.items) }
     ensures rises { IsStrictlySortedBy id_cmp result.items }
     ensures set { set_of result.items ≡ set_of ids.items }
 {

@@ -1,47 +1,45 @@
 //! Objects that collide.
 
-ghost use Rattle.std.specs.Prelude.{◌≡◌, ◌↔◌, IsTrue, IfOk};
+ghost use Rattle.std.specs.Prelude.{◌≡◌, ◌↔◌, IsTrue, IfOk, option_map};
 ghost use Rattle.std.specs.BTreeMap as tree;
 ghost use Rattle.std.specs.FinMap as map;
 ghost use Rattle.std.specs.Option.{option_copied};
-ghost use Rattle.fetch_store.specs.Entries.{IsInOrder};
+ghost use Rattle.fetch_store.specs.References.{seen};
 ghost use Rattle.fetch_store.specs.Stores as spec;
-ghost use Rattle.fetch_store.specs.Stores.{id_cmp, map_of, first_some, collision};
+ghost use Rattle.fetch_store.specs.Stores.{id_cmp, first_some, collision};
 
-use crate::entries::find_in_order;
 use crate::error::NoMemory;
 use crate::id::ObjectId;
-use crate::object::Object;
+use crate::object::{Object, ObjectRef};
+use crate::store::Store;
 use std::alloc::Global;
 use std::collections::BTreeMap;
 
 /// The first id of the list that has another object in the store or earlier in the list.
 pub(crate) fn first_collision(
     alloc: Global,
-    stored: &[(ObjectId, Object)],
+    store: &Store,
     objects: &[(ObjectId, Object)],
 ) -> Option<ObjectId>
-    requires { IsInOrder stored.now }
-    ensures { result ≡ collision (map_of stored.now) objects.now }
+    ensures { result ≡ collision store.now.objects objects.now }
 {
-    match first_collision_by_index(alloc, stored, objects) {
+    match first_collision_by_index(alloc, store, objects) {
         Ok(found) => found,
-        Err(_) => first_collision_by_walk(stored, objects),
+        Err(_) => first_collision_by_walk(store, objects),
     }
 }
 
 /// Keeps what came earlier in the list in an ordered map, for which there may be no memory.
 fn first_collision_by_index(
     alloc: Global,
-    stored: &[(ObjectId, Object)],
+    store: &Store,
     objects: &[(ObjectId, Object)],
 ) -> Result<Option<ObjectId>, NoMemory>
-    requires { IsInOrder stored.now }
-    ensures { IfOk result (λ found. found ≡ collision (map_of stored.now) objects.now) }
+    ensures { IfOk result (λ found. found ≡ collision store.now.objects objects.now) }
 {
     let mut earlier = BTreeMap::new(alloc);
     for (id, object) in objects {
-        let known = find_in_store_or_index(stored, &earlier, id);
+        let known = find_in_store_or_index(store, &earlier, id);
         if clashes(known, object) {
             return Ok(Some(*id));
         }
@@ -53,16 +51,18 @@ fn first_collision_by_index(
 }
 
 fn find_in_store_or_index<'a>(
-    stored: &'a [(ObjectId, Object)],
+    store: &'a Store,
     index: &BTreeMap<ObjectId, &'a Object>,
     id: &ObjectId,
-) -> Option<&'a Object>
-    requires { IsInOrder stored.now }
-    ensures { option_copied result ≡ first_some (map.find id_cmp id.now stored.now) (option_copied (tree.get id_cmp index.now id.now)) }
+) -> Option<ObjectRef<'a>>
+    ensures { option_map seen result ≡ first_some (map.get store.now.objects id.now) (option_copied (tree.get id_cmp index.now id.now)) }
 {
-    match find_in_order(stored, id) {
-        Some(object) => Some(object),
-        None => index.get(id).copied(),
+    if let Some(object) = store.get(id) {
+        return Some(object);
+    }
+    match index.get(id) {
+        Some(object) => Some(object.as_ref()),
+        None => None,
     }
 }
 
@@ -85,16 +85,12 @@ fn is_same(id: &ObjectId, other: &ObjectId) -> bool
 }
 
 /// Walks what came earlier in the list again for each object.
-fn first_collision_by_walk(
-    stored: &[(ObjectId, Object)],
-    objects: &[(ObjectId, Object)],
-) -> Option<ObjectId>
-    requires { IsInOrder stored.now }
-    ensures { result ≡ collision (map_of stored.now) objects.now }
+fn first_collision_by_walk(store: &Store, objects: &[(ObjectId, Object)]) -> Option<ObjectId>
+    ensures { result ≡ collision store.now.objects objects.now }
 {
     for i in 0..objects.len() {
         let (id, object) = &objects[i];
-        let known = find_in_store_or_list(stored, &objects[..i], id);
+        let known = find_in_store_or_list(store, &objects[..i], id);
         if clashes(known, object) {
             return Some(*id);
         }
@@ -103,24 +99,26 @@ fn first_collision_by_walk(
 }
 
 fn find_in_store_or_list<'a>(
-    first: &'a [(ObjectId, Object)],
-    second: &'a [(ObjectId, Object)],
+    store: &'a Store,
+    list: &'a [(ObjectId, Object)],
     id: &ObjectId,
-) -> Option<&'a Object>
-    requires { IsInOrder first.now }
-    ensures { option_copied result ≡ first_some (map.find id_cmp id.now first.now) (map.find id_cmp id.now second.now) }
+) -> Option<ObjectRef<'a>>
+    ensures { option_map seen result ≡ first_some (map.get store.now.objects id.now) (map.find id_cmp id.now list.now) }
 {
-    match find_in_order(first, id) {
-        Some(object) => Some(object),
-        None => find(second, id),
+    if let Some(object) = store.get(id) {
+        return Some(object);
+    }
+    match find(list, id) {
+        Some(object) => Some(object.as_ref()),
+        None => None,
     }
 }
 
-fn clashes(known: Option<&Object>, object: &Object) -> bool
-    ensures { result ≡ spec.clashes (option_copied known.entry) object.now }
+fn clashes(known: Option<ObjectRef<'_>>, object: &Object) -> bool
+    ensures { result ≡ spec.clashes (option_map seen known.entry) object.now }
 {
     match known {
-        Some(other) => !other.has_same_text(object),
+        Some(other) => !other.has_text_of(object.as_ref()),
         None => false,
     }
 }

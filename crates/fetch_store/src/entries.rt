@@ -1,13 +1,15 @@
 //! Lists of ids, each with a value.
 
-ghost use Rattle.std.specs.Prelude.{◌≡◌, ◌≤◌, Contains, vec_len, vec_capacity};
+ghost use Rattle.std.specs.Prelude.{◌≡◌, ◌≤◌, ◌+◌, ◌*◌, ◌^◌, ◌++◌, [], ℕ, All, Contains, None, is_some, length, vec_len, vec_capacity};
 ghost use Rattle.std.specs.FinMap as map;
 ghost use Rattle.std.specs.Option.{option_copied};
 ghost use Rattle.fetch_store.specs.declared.id.ObjectId.{ObjectId};
-ghost use Rattle.fetch_store.specs.Entries.{IsConsistent, IsInOrder};
+ghost use Rattle.fetch_store.specs.Entries.{IsInOrder, ends_above};
 ghost use Rattle.fetch_store.specs.Stores.{id_cmp};
 
+use crate::counter::Steps;
 use crate::id::ObjectId;
+use std::sync::ledger::Ledger;
 
 /// The value at an id.
 pub fn find_in_order<'a, X>(entries: &'a [(ObjectId, X)], id: &ObjectId) -> Option<&'a X>
@@ -20,15 +22,81 @@ pub fn find_in_order<'a, X>(entries: &'a [(ObjectId, X)], id: &ObjectId) -> Opti
     }
 }
 
+/// The value at an id. A step is a comparison with the id of an entry.
+pub fn find_counted<'a, X, L: Ledger>(
+    entries: &'a [(ObjectId, X)],
+    id: &ObjectId,
+    steps: &mut Steps<L>,
+) -> Option<&'a X>
+    requires { IsInOrder entries.now }
+    ensures value { option_copied result ≡ map.find id_cmp id.now entries.now }
+    ensures steps { (k : ℕ) × (steps.new ≡ steps.old + k) × (2 ^ k ≤ 2 * length entries.now + 1) }
+{
+    let mut low = 0;
+    let mut high = entries.len();
+    while low < high {
+        let middle = low + (high - low) / 2;
+        let (key, value) = &entries[middle];
+        steps.tick();
+        let order = id.cmp(key);
+        if order.is_eq() {
+            return Some(value);
+        }
+        if order.is_lt() {
+            high = middle;
+            continue;
+        }
+        low = middle + 1;
+    }
+    None
+}
+
 /// Puts the entries into the order of their ids, and keeps one of each id.
 pub fn arrange<X: Drop>(entries: &mut Vec<(ObjectId, X)>)
-    requires { IsConsistent entries.old.items }
     ensures in_order { IsInOrder entries.new.items }
-    ensures values { (q : ObjectId) → map.find id_cmp q entries.new.items ≡ map.find id_cmp q entries.old.items }
+    ensures known { (q : ObjectId) → is_some (map.find id_cmp q entries.new.items) ≡ is_some (map.find id_cmp q entries.old.items) }
     ensures kept { (e : ObjectId × X) → Contains entries.new.items e → Contains entries.old.items e }
     ensures capacity { vec_capacity entries.new ≡ vec_capacity entries.old }
     ensures len { vec_len entries.new ≤ vec_len entries.old }
 {
     entries.sort_unstable_by_key(|entry| entry.0);
     entries.dedup_by_key(|entry| entry.0);
+}
+
+/// Merges entries of new ids into those that stand in order, from the back: what stands before the new ids stays where
+/// it is.
+pub fn merge<X: Copy>(entries: &mut Vec<(ObjectId, X)>, fresh: &mut Vec<(ObjectId, X)>)
+    requires in_order { IsInOrder entries.old.items }
+    requires fresh_in_order { IsInOrder fresh.old.items }
+    requires new_ids { All (λ e. map.find id_cmp e.0 entries.old.items ≡ None) fresh.old.items }
+    requires room { vec_len entries.old + vec_len fresh.old ≤ vec_capacity entries.old }
+    ensures in_order { IsInOrder entries.new.items }
+    ensures values { (q : ObjectId) → map.find id_cmp q entries.new.items ≡ map.find id_cmp q (entries.old.items ++ fresh.old.items) }
+    ensures len { vec_len entries.new ≡ vec_len entries.old + vec_len fresh.old }
+    ensures capacity { vec_capacity entries.old ≤ vec_capacity entries.new }
+    ensures taken { fresh.new.items ≡ [] }
+    ensures fresh_capacity { vec_capacity fresh.new ≡ vec_capacity fresh.old }
+{
+    let mut kept = entries.len();
+    let _fits = entries.extend_from_slice(fresh.as_slice());
+    let mut end = entries.len();
+    while let Some(next) = fresh.pop() {
+        while end_is_above(&entries[..kept], &next.0) {
+            end -= 1;
+            kept -= 1;
+            entries[end] = entries[kept];
+        }
+        end -= 1;
+        entries[end] = next;
+    }
+}
+
+/// Whether there is a last entry, and its id is greater than this one.
+fn end_is_above<X>(entries: &[(ObjectId, X)], id: &ObjectId) -> bool
+    ensures { result ≡ ends_above id.now entries.now }
+{
+    match entries.last() {
+        Some(entry) => id.cmp(&entry.0).is_lt(),
+        None => false,
+    }
 }

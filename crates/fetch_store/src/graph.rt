@@ -79,7 +79,7 @@ impl Graph {
         ensures memory { IfErr result (λ e. e ≡ errors.NoMemory) }
     {
         let mut nodes = Vec::new(alloc);
-        append(&mut nodes, alloc, store.entries())?;
+        append_stored(&mut nodes, alloc, store)?;
         Ok(Graph { nodes })
     }
 
@@ -95,7 +95,7 @@ impl Graph {
         ensures memory { IfErr result (λ e. e ≡ errors.NoMemory) }
     {
         let mut nodes = Vec::new(alloc);
-        append(&mut nodes, alloc, store.entries())?;
+        append_stored(&mut nodes, alloc, store)?;
         append(&mut nodes, alloc, objects)?;
         arrange(&mut nodes);
         Ok(Graph { nodes })
@@ -127,6 +127,23 @@ fn copies(
         copies.push((*id, history.try_clone()?))?;
     }
     Ok(copies)
+}
+
+/// Puts the histories of the stored objects behind the others.
+fn append_stored(
+    nodes: &mut Vec<(ObjectId, History)>,
+    alloc: Global,
+    store: &Store,
+) -> Result<(), NoMemory>
+    ensures nodes { OnOk result (nodes.new.items ≡ nodes.old.items ++ listed (λ e. (e.0, node_of e.1)) (map.entries store.now.objects)) }
+    ensures of_hash { AreOf store.now.hash (map.entries store.now.objects) }
+{
+    let mut objects = store.iter();
+    while let Some((id, object)) = objects.next() {
+        let history = history_of(alloc, object)?;
+        nodes.push((id, history))?;
+    }
+    Ok(())
 }
 
 /// Puts the histories of the objects behind the others.

@@ -2,8 +2,13 @@
 #![tactic(auto)]
 
 mod border;
+mod buffer;
+mod calls;
+mod cloning;
 mod collisions;
 mod counter;
+mod digits;
+mod distinct;
 mod entries;
 mod error;
 mod files;
@@ -11,36 +16,38 @@ mod grammar;
 mod graph;
 mod hashing;
 mod id;
-mod laws;
+mod iter;
+pub mod laws;
 mod list;
 mod missing;
 mod object;
 mod object_kind;
 mod objects;
 mod scan;
+mod span;
 mod store;
+mod store_iter;
+mod take;
 mod text;
 
-pub use border::Border;
+pub use border::{Border, ascending};
+pub use calls::Calls;
+pub use cloning::TryClone;
 pub use counter::Steps;
+pub use digits::{decimal, is_decimal};
+pub use distinct::{Distinct, Keyed};
 pub use error::{NoMemory, StoreError};
 pub use files::{Failed, FileError, Files, MemoryFiles, Node};
 pub use graph::Graph;
 pub use hashing::{digest, id_of};
-pub use id::{Kind, ObjectId};
-pub use laws::{
-    a_connected_pack_keeps_a_repository_closed, adding_keeps_what_is_stored,
-    an_honest_pack_keeps_a_repository_closed, an_honest_pack_still_connects,
-    closed_is_nothing_missing, tags_are_texts,
-};
+pub use id::{Kind, ObjectId, same_id};
 pub use list::List;
 pub use missing::{Missing, first_missing};
 pub use object::{Links, Object, ObjectRef};
 pub use object_kind::ObjectKind;
 pub use objects::Objects;
-pub use scan::{after, split_first, split_last, splits_exactly};
+pub use scan::{after, split_first, split_last};
 pub use store::Store;
+pub use store_iter::StoreIter;
+pub use take::{Take, first_missing_of_take};
 pub use text::Text;
-
-#[cfg(test)]
-mod tests;

@@ -8,6 +8,7 @@ ghost use Rattle.fetch_store.specs.Closed.{IsClosed, holding};
 ghost use Rattle.fetch_store.specs.Missing as spec;
 ghost use Rattle.fetch_store.specs.Objects.{is_kind};
 ghost use Rattle.fetch_store.specs.References.{seen, ids_left};
+ghost use Rattle.fetch_store.specs.Stores.{ObjectMap};
 
 use crate::border::Border;
 use crate::error::StoreError;
@@ -19,8 +20,27 @@ use crate::store::Store;
 /// A link, and what it leads to.
 #[derive(Clone, Copy, Debug, PartialEq, Eq)]
 pub struct Missing {
+    /// The object that links, or the id itself where nothing links to it.
     pub from: ObjectId,
+    /// The id that isn't there.
     pub to: ObjectId,
+}
+
+/// Objects by id, in which links are looked up.
+pub(crate) trait Held {
+    /// The objects.
+    ghost objects: { Self → ObjectMap };
+
+    fn object(&self, id: &ObjectId) -> Option<ObjectRef<'_>>
+        ensures { option_map seen result ≡ map.get (objects self.now) id.now };
+}
+
+impl Held for Store {
+    ghost objects = { λ s. s.objects };
+
+    fn object(&self, id: &ObjectId) -> Option<ObjectRef<'_>> {
+        self.get(id)
+    }
 }
 
 /// The first link that keeps the repository from being closed: of the stored objects in ascending order, each one's
@@ -40,41 +60,59 @@ pub fn first_missing(store: &Store, border: &Border) -> Result<Option<Missing>, 
 fn first_unlinked(store: &Store, border: &Border) -> Option<Missing>
     ensures { result ≡ slice_get (spec.unlinked_in store.now.objects border.now (map.entries store.now.objects)) 0 }
 {
-    let objects = store.entries();
-    for (id, object) in objects {
-        let links = links_within(object.as_ref(), border.contains(id));
-        if let Some(missing) = first_unstored(store, id, links) {
+    let mut objects = store.iter();
+    while let Some((id, object)) = objects.next() {
+        let links = links_within(object, border.contains(&id));
+        if let Some(missing) = first_unstored(store, &id, links) {
             return Some(missing);
         }
     }
     None
 }
 
-fn first_unknown(store: &Store, ids: &[ObjectId]) -> Option<Missing>
-    ensures { result ≡ slice_get (spec.unknown_in store.now.objects ids.now) 0 }
+/// The first of the ids that isn't held.
+pub(crate) fn first_unheld<H: Held>(held: &H, ids: &[ObjectId]) -> Option<Missing>
+    ensures { result ≡ slice_get (spec.unheld_in (H.objects held.now) ids.now) 0 }
 {
     for id in ids {
-        if !is_commit(store.get(id)) {
+        if held.object(id).is_none() {
             return Some(Missing { from: *id, to: *id });
         }
     }
     None
 }
 
-/// The first of the links to what is not stored.
-fn first_unstored(store: &Store, from: &ObjectId, links: Links<'_>) -> Option<Missing>
-    ensures { result ≡ slice_get (spec.unstored store.now.objects from.now (ids_left links.entry)) 0 }
+/// The first of the ids that is no commit that is held.
+pub(crate) fn first_unknown<H: Held>(held: &H, ids: &[ObjectId]) -> Option<Missing>
+    ensures { result ≡ slice_get (spec.unknown_in (H.objects held.now) ids.now) 0 }
+{
+    for id in ids {
+        if !is_commit(held.object(id)) {
+            return Some(Missing { from: *id, to: *id });
+        }
+    }
+    None
+}
+
+/// The first of the links to what isn't held.
+pub(crate) fn first_unstored<H: Held>(
+    held: &H,
+    from: &ObjectId,
+    links: Links<'_>,
+) -> Option<Missing>
+    ensures { result ≡ slice_get (spec.unstored (H.objects held.now) from.now (ids_left links.entry)) 0 }
 {
     let mut links = links;
     while let Some(to) = links.next() {
-        if !store.contains(&to) {
+        if held.object(&to).is_none() {
             return Some(Missing { from: *from, to });
         }
     }
     None
 }
 
-fn links_within<'a>(object: ObjectRef<'a>, in_border: bool) -> Links<'a>
+/// Its links, without parents where it stands in the border.
+pub(crate) fn links_within<'a>(object: ObjectRef<'a>, in_border: bool) -> Links<'a>
     ensures { ids_left result ≡ (if in_border then closed.others (seen object.entry) else closed.links (seen object.entry)) }
 {
     if in_border {

@@ -64,6 +64,13 @@ impl Object {
         })
     }
 
+    /// How many bytes it has.
+    pub fn len(&self) -> usize
+        ensures { result ≡ length self.now.bytes }
+    {
+        self.bytes.len()
+    }
+
     /// Whether both have one kind and the same bytes.
     pub fn has_same_text(&self, other: &Object) -> bool
         ensures { result ≡ spec.has_same_text self.now other.now }
@@ -128,6 +135,20 @@ pub struct ObjectRef<'a> {
 }
 
 impl<'a> ObjectRef<'a> {
+    /// An object of a hash and a kind with these bytes.
+    pub(crate) fn new(hash: Kind, kind: ObjectKind, bytes: &'a [u8]) -> ObjectRef<'a>
+        ensures { seen result ≡ record { hash = hash; kind = kind; bytes = bytes.now } }
+    {
+        ObjectRef { hash, kind, bytes }
+    }
+
+    /// Whether the other object has the same kind and the same bytes.
+    pub(crate) fn has_text_of(&self, other: ObjectRef<'_>) -> bool
+        ensures { result ≡ spec.has_same_text (seen self.now) (seen other.entry) }
+    {
+        self.kind == other.kind && self.bytes == other.bytes
+    }
+
     pub fn kind(&self) -> ObjectKind
         ensures { result ≡ (seen self.now).kind }
     {

@@ -1,55 +1,69 @@
 //! A store of objects.
 
-ghost use Rattle.std.specs.Prelude.{map as listed, ◌≡◌, ◌↔◌, ◌+◌, ◌++◌, IsTrue, ◌≤◌, length, is_some, option_map, None, MatchOption, IfSome, IfOk, IfErr, OnOk, OnErr, IsOkUnless, vec_len, vec_capacity};
+ghost use Rattle.std.specs.Prelude.{map as listed, ◌≡◌, ◌↔◌, ◌+◌, ◌*◌, ◌^◌, ℕ, IsTrue, ◌≤◌, length, option_map, None, MatchOption, IfSome, IfOk, IfErr, OnOk, OnErr, IsOkUnless, vec_len};
 ghost use Rattle.std.specs.FinMap as map;
-ghost use Rattle.std.specs.Option.{option_copied};
 ghost use Rattle.std.specs.List.Sorted.{IsStrictlySortedBy};
-ghost use Rattle.std.specs.Ordering.{eq_by_cmp};
 ghost use Rattle.fetch_store.specs.Closed.{AreAllOf};
-ghost use Rattle.fetch_store.specs.Entries.{IsConsistent, IsInOrder};
+ghost use Rattle.fetch_store.specs.Iter.{left};
 ghost use Rattle.fetch_store.specs.Objects.{IsObject};
 ghost use Rattle.fetch_store.specs.References.{seen};
 ghost use Rattle.fetch_store.specs.Stores as spec;
-ghost use Rattle.fetch_store.specs.Stores.{id_cmp, map_of, first_some, AreOf, collision};
-ghost use Rattle.fetch_store.specs.declared.id.Kind.{Kind};
+ghost use Rattle.fetch_store.specs.Stores.{id_cmp, AreOf, collision, payload_len};
 ghost use Rattle.fetch_store.specs.declared.error.StoreError.TheVariants as errors;
 
+use crate::buffer::{self, add_new, lend};
 use crate::collisions::first_collision;
-use crate::entries::{arrange, find_in_order};
+use crate::counter::Steps;
+use crate::entries::{find_counted, find_in_order};
 use crate::error::{NoMemory, StoreError};
 use crate::id::{Kind, ObjectId};
 use crate::object::{Object, ObjectRef};
+use crate::span::Span;
+use crate::store_iter::StoreIter;
 use std::alloc::Global;
 use std::marker::Model;
+use std::sync::ledger::Ledger;
 
-/// Objects of one hash, by id.
+/// Objects of one hash, by id. The bytes of all of them stand in one buffer, under an index of ids.
 #[derive(Debug, Drop)]
 pub struct Store {
     hash: Kind,
-    objects: Vec<(ObjectId, Object)>,
+    index: Vec<(ObjectId, Span)>,
+    buffer: Vec<u8>,
+    /// A place to sort what is added. It is empty between calls.
+    fresh: Vec<(ObjectId, Span)>,
+    /// For how many more objects there is room.
+    spare: usize,
+    /// For how many more bytes there is room.
+    spare_bytes: usize,
 }
 
 impl Model for Store {
-    ghost use Rattle.std.specs.Prelude.{map as listed, ◌≡◌, ◌-◌, vec_len, vec_capacity};
-    ghost use Rattle.fetch_store.specs.Entries.{IsInOrder};
-    ghost use Rattle.fetch_store.specs.Stores.{StoreValue, coded_store, map_of, AreOf};
+    ghost use Rattle.std.specs.Prelude.{◌≡◌, ◌+◌, ◌≤◌, [], vec_len, vec_capacity};
+    ghost use Rattle.fetch_store.specs.Buffers.{IsIndexed, entries_in};
+    ghost use Rattle.fetch_store.specs.Stores.{StoreValue, coded_store, map_of};
 
     ghost Value = { StoreValue };
 
     ghost coded = { coded_store };
 
-    ghost view = { λ s. record { hash = s.hash; objects = map_of s.objects.items; spare = vec_capacity s.objects - vec_len s.objects } };
+    ghost view = { λ s. record { hash = s.hash; objects = map_of (entries_in s.hash s.buffer.items s.index.items); spare = s.spare; spare_bytes = s.spare_bytes } };
 
-    ghost invariant = { λ s. AreOf s.hash s.objects.items × IsInOrder s.objects.items };
+    ghost invariant = { λ s.
+        IsIndexed s.hash s.buffer.items s.index.items × (s.fresh.items ≡ []) × (vec_len s.index + s.spare ≤ vec_capacity s.index) × (s.spare ≤ vec_capacity s.fresh) × (vec_len s.buffer + s.spare_bytes ≤ vec_capacity s.buffer) };
 }
 
 impl Store {
     pub fn new(alloc: Global, kind: Kind) -> Store
-        ensures { result ≡ record { hash = kind; objects = map.empty; spare = 0 } }
+        ensures { result ≡ record { hash = kind; objects = map.empty; spare = 0; spare_bytes = 0 } }
     {
         Store {
             hash: kind,
-            objects: Vec::new(alloc),
+            index: Vec::new(alloc),
+            buffer: Vec::new(alloc),
+            fresh: Vec::new(alloc),
+            spare: 0,
+            spare_bytes: 0,
         }
     }
 
@@ -65,8 +79,25 @@ impl Store {
         ensures object { option_map seen result ≡ map.get self.now.objects id.now }
         ensures valid { IfSome result (λ o. let s = seen o in IsObject s.hash s.kind s.bytes) }
     {
-        match find_in_order(self.objects.as_slice(), id) {
-            Some(object) => Some(object.as_ref()),
+        match find_in_order(self.index.as_slice(), id) {
+            Some(span) => Some(lend(self.hash, self.buffer.as_slice(), span)),
+            None => None,
+        }
+    }
+
+    /// As `get`, with its steps: comparisons with ids of the index. With n objects there are k steps more, where 2 ^ k is
+    /// at most 2n + 1. It takes no memory.
+    pub fn find_counted<L: Ledger>(
+        &self,
+        id: &ObjectId,
+        steps: &mut Steps<L>,
+    ) -> Option<ObjectRef<'_>>
+        ensures object { option_map seen result ≡ map.get self.now.objects id.now }
+        ensures valid { IfSome result (λ o. let s = seen o in IsObject s.hash s.kind s.bytes) }
+        ensures steps { (k : ℕ) × (steps.new ≡ steps.old + k) × (2 ^ k ≤ 2 * map.len self.now.objects + 1) }
+    {
+        match find_counted(self.index.as_slice(), id, steps) {
+            Some(span) => Some(lend(self.hash, self.buffer.as_slice(), span)),
             None => None,
         }
     }
@@ -77,17 +108,20 @@ impl Store {
         ensures ascending { IfOk result (λ ids. IsStrictlySortedBy id_cmp ids.items) }
         ensures memory { IfErr result (λ e. e ≡ errors.NoMemory) }
     {
-        Ok(ids_in(alloc, self.entries())?)
+        Ok(ids_in(alloc, self.index.as_slice())?)
     }
 
     /// A store with the same objects.
     pub fn try_clone(&self, alloc: Global) -> Result<Store, NoMemory>
         ensures { IfOk result (λ copy. (copy.hash ≡ self.now.hash) × (copy.objects ≡ self.now.objects)) }
     {
-        let objects = copies(alloc, self.objects.as_slice())?;
         Ok(Store {
             hash: self.hash,
-            objects,
+            index: Vec::from_slice(alloc, self.index.as_slice())?,
+            buffer: Vec::from_slice(alloc, self.buffer.as_slice())?,
+            fresh: Vec::new(alloc),
+            spare: 0,
+            spare_bytes: 0,
         })
     }
 
@@ -95,7 +129,7 @@ impl Store {
     pub fn len(&self) -> usize
         ensures { result ≡ map.len self.now.objects }
     {
-        self.entries().len()
+        self.index.len()
     }
 
     pub fn is_empty(&self) -> bool
@@ -107,16 +141,19 @@ impl Store {
     pub fn contains(&self, id: &ObjectId) -> bool
         ensures { result ≡ map.contains_key self.now.objects id.now }
     {
-        find_in_order(self.objects.as_slice(), id).is_some()
+        find_in_order(self.index.as_slice(), id).is_some()
     }
 
-    /// The ids with their objects, in ascending order of ids.
-    pub(crate) fn entries(&self) -> &[(ObjectId, Object)]
-        ensures entries { result.now ≡ map.entries self.now.objects }
-        ensures in_order { IsInOrder result.now }
-        ensures of_hash { AreOf self.now.hash result.now }
+    /// The ids with their objects, lent, in ascending order of ids.
+    pub fn iter(&self) -> StoreIter<'_>
+        ensures objects { left result ≡ map.entries self.now.objects }
+        ensures of_hash { AreOf self.now.hash (map.entries self.now.objects) }
     {
-        self.objects.as_slice()
+        StoreIter {
+            hash: self.hash,
+            buffer: self.buffer.as_slice(),
+            index: self.index.as_slice(),
+        }
     }
 
     /// Whether each id of the list has this object, and no other, in the store and earlier in the list. It keeps an
@@ -124,32 +161,49 @@ impl Store {
     pub fn check(&self, objects: &[(ObjectId, Object)]) -> Result<(), StoreError>
         ensures { MatchOption (collision self.now.objects objects.now) (result ≡ Ok tt) (λ id. result ≡ Err (errors.Collision id)) }
     {
-        match first_collision(*self.objects.allocator(), self.objects.as_slice(), objects) {
+        match first_collision(*self.index.allocator(), self, objects) {
             Some(id) => Err(StoreError::Collision { id }),
             None => Ok(()),
         }
     }
 
-    /// Makes room for the list.
+    /// Makes room for the list: for its objects and for their bytes.
     pub fn reserve(&mut self, objects: &[(ObjectId, Object)]) -> Result<(), StoreError>
         ensures room { OnOk result (length objects.now ≤ self.new.spare) }
+        ensures room_for_bytes { OnOk result (payload_len objects.now ≤ self.new.spare_bytes) }
         ensures same { (self.new.hash ≡ self.old.hash) × (self.new.objects ≡ self.old.objects) }
         ensures err { IfErr result (λ e. (e ≡ errors.NoMemory) × (self.new ≡ self.old)) }
     {
-        self.objects.reserve(objects.len())?;
+        let bytes = buffer::payload_len(objects)?;
+        self.index.reserve(objects.len())?;
+        self.fresh.reserve(objects.len())?;
+        self.buffer.reserve(bytes)?;
+        self.spare = self.spare.max(objects.len());
+        self.spare_bytes = self.spare_bytes.max(bytes);
         Ok(())
     }
 
-    /// Adds the list, for which there is room.
+    /// Adds the list, for which there is room. It moves the index once at most, and no bytes that are stored.
     pub fn add_reserved(&mut self, objects: Vec<(ObjectId, Object)>)
         requires of_hash { AreOf self.old.hash objects.items }
         requires no_collision { collision self.old.objects objects.items ≡ None }
         requires room { vec_len objects ≤ self.old.spare }
+        requires room_for_bytes { payload_len objects.items ≤ self.old.spare_bytes }
         ensures objects { self.new.objects ≡ spec.add_all self.old.objects objects.items }
         ensures hash { self.new.hash ≡ self.old.hash }
         ensures room { self.new.spare + map.len self.new.objects ≡ self.old.spare + map.len self.old.objects }
+        ensures room_for_bytes { self.old.spare_bytes ≤ self.new.spare_bytes + payload_len objects.items }
     {
-        add_new(&mut self.objects, objects);
+        let count = self.index.len();
+        let bytes = self.buffer.len();
+        add_new(
+            &mut self.index,
+            &mut self.buffer,
+            &mut self.fresh,
+            objects.as_slice(),
+        );
+        self.spare -= self.index.len() - count;
+        self.spare_bytes -= self.buffer.len() - bytes;
     }
 
     /// Adds the list, or nothing of it.
@@ -167,49 +221,12 @@ impl Store {
 }
 
 /// The ids of the entries, in their order.
-fn ids_in(alloc: Global, objects: &[(ObjectId, Object)]) -> Result<Vec<ObjectId>, NoMemory>
-    ensures { IfOk result (λ ids. ids.items ≡ listed (λ entry. entry.0) objects.now) }
+fn ids_in(alloc: Global, index: &[(ObjectId, Span)]) -> Result<Vec<ObjectId>, NoMemory>
+    ensures { IfOk result (λ ids. ids.items ≡ listed (λ entry. entry.0) index.now) }
 {
-    let mut ids = Vec::new(alloc);
-    for (id, _) in objects {
+    let mut ids = Vec::with_capacity(alloc, index.len())?;
+    for (id, _) in index {
         ids.push(*id)?;
     }
     Ok(ids)
-}
-
-fn copies(
-    alloc: Global,
-    objects: &[(ObjectId, Object)],
-) -> Result<Vec<(ObjectId, Object)>, NoMemory>
-    ensures { IfOk result (λ copies. copies.items ≡ objects.now) }
-{
-    let mut copies = Vec::new(alloc);
-    for (id, object) in objects {
-        copies.push((*id, object.try_clone()?))?;
-    }
-    Ok(copies)
-}
-
-/// Adds the objects whose ids are new.
-fn add_new(stored: &mut Vec<(ObjectId, Object)>, objects: Vec<(ObjectId, Object)>)
-    requires room { vec_len stored.old + vec_len objects ≤ vec_capacity stored.old }
-    requires consistent { IsConsistent (stored.old.items ++ objects.items) }
-    ensures arranged { IsInOrder stored.new.items }
-    ensures added { map_of stored.new.items ≡ spec.add_all (map_of stored.old.items) objects.items }
-    ensures of_hash { (hash : Kind) → AreOf hash stored.old.items → AreOf hash objects.items → AreOf hash stored.new.items }
-    ensures capacity { vec_capacity stored.new ≡ vec_capacity stored.old }
-{
-    append(stored, objects);
-    arrange(stored);
-}
-
-/// Puts the entries behind those that are there.
-fn append(stored: &mut Vec<(ObjectId, Object)>, objects: Vec<(ObjectId, Object)>)
-    requires { vec_len stored.old + vec_len objects ≤ vec_capacity stored.old }
-    ensures items { stored.new.items ≡ stored.old.items ++ objects.items }
-    ensures capacity { vec_capacity stored.new ≡ vec_capacity stored.old }
-{
-    for entry in objects {
-        stored.push_reserved(entry);
-    }
 }

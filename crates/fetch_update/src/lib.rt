@@ -12,8 +12,6 @@ mod pairs;
 mod scripted;
 mod settling;
 mod stored;
-#[cfg(test)]
-mod tests;
 mod trees;
 pub mod update;
 mod verdict;

@@ -5,3 +5,5 @@ pub mod WordLaws
 pub mod ReadingLines
 pub mod Listed
 pub mod Peeling
+pub mod Cut
+pub mod Agents

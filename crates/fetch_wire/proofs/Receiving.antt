@@ -9,7 +9,7 @@ use Rattle.fetch_wire.specs.declared.line.Line.{Line}
 use Rattle.fetch_wire.specs.Lines.{section_from, section_at}
 use Rattle.fetch_wire.specs.SectionSteps.{then_lines, section_from-step}
 use Rattle.fetch_wire.specs.Reading.{with_front, IsReadTo, IsReadWhole, IsShortAt, HasReadLines, ExplainsStop, IsFaultOrMemory}
-use Rattle.fetch_wire.specs.Talks.{Talk, Talks, Talks-then, IsDrained}
+use Rattle.fetch_wire.specs.Talks.{Talk, Talks, Talks-then, Talks-stay, IsDrained}
 use Rattle.fetch_wire.specs.Sessions.{Receiving, HasReceived, HasRefused, ExplainsRefusal, IsShort, to_come_in}
 
 -- what was read of a session's bytes, for an equal session
@@ -48,10 +48,10 @@ section_in a b found pending bound is = rw (pending, bound) is
 
 -- the peer failed, or memory ran out before it was asked
 pub fault_refuses : (answers : Bool) (t0 t1 t2 : Option Talk) (old mid new : Receiving) (lines : List Line) (place : ℕ) (e : ReceiveError) (got : List ℕ) → Talks answers t0 t1 [] got → mid.pending ≡ old.pending ++ got → mid.bound ≡ old.bound
-    → HasReadLines mid.bound lines mid.pending place false → Talks answers t1 t2 [] [] → new.pending ≡ mid.pending → new.bound ≡ mid.bound → IsFaultOrMemory e → HasRefused answers t0 t2 old new e
+    → HasReadLines mid.bound lines mid.pending place false → Talks false t1 t2 [] [] → new.pending ≡ mid.pending → new.bound ≡ mid.bound → IsFaultOrMemory e → HasRefused answers t0 t2 old new e
 fault_refuses answers t0 t1 t2 old mid new lines place e got passed came same read none kept bound fault = record {
   got = got ++ [];
-  passed = Talks-then answers t0 t1 t2 [] got [] [] passed none;
+  passed = Talks-then answers t0 t1 t2 [] got [] [] passed (Talks-stay answers t1 t2 [] [] none);
   kept = kept ∙ came ∙ ap (λ (l : List ℕ). old.pending ++ l) (sym (append-nil got));
   bound = bound ∙ same;
   why = explain_fault t2 new e fault (place, section_in new mid (Err (Short place)) kept bound (short_section mid.bound place lines mid.pending read.0 read.1));
@@ -63,14 +63,14 @@ drained (Some a) h = h
 
 -- the peer's bytes end inside a reply
 pub end_refuses : (answers : Bool) (t0 t1 t2 : Option Talk) (old mid new : Receiving) (lines : List Line) (place : ℕ) (got got' : List ℕ) → Talks answers t0 t1 [] got → mid.pending ≡ old.pending ++ got → mid.bound ≡ old.bound
-    → HasReadLines mid.bound lines mid.pending place false → Talks answers t1 t2 [] got' → length got' ≡ 0 → new.pending ≡ mid.pending ++ got' → new.bound ≡ mid.bound → IsDrained t2 → HasRefused answers t0 t2 old new (errors.Malformed place)
+    → HasReadLines mid.bound lines mid.pending place false → Talks false t1 t2 [] got' → length got' ≡ 0 → new.pending ≡ mid.pending ++ got' → new.bound ≡ mid.bound → IsDrained t2 → HasRefused answers t0 t2 old new (errors.Malformed place)
 end_refuses answers t0 t1 t2 old mid new lines place got got' passed came same read none empty more bound dry =
     let nil : got' ≡ [] = nil_from_length got' empty in
     let kept : new.pending ≡ mid.pending = more ∙ ap (λ (l : List ℕ). mid.pending ++ l) nil ∙ append-nil mid.pending in
     let short : section_at new.bound new.pending ≡ Err (Short place) = section_in new mid (Err (Short place)) kept bound (short_section mid.bound place lines mid.pending read.0 read.1) in
     record {
       got = got ++ got';
-      passed = Talks-then answers t0 t1 t2 [] got [] got' passed none;
+      passed = Talks-then answers t0 t1 t2 [] got [] got' passed (Talks-stay answers t1 t2 [] got' none);
       kept = more ∙ ap (λ (l : List ℕ). l ++ got') came ∙ append_assoc old.pending got got';
       bound = bound ∙ same;
       why = inr (ap (λ (l : List ℕ). section_at new.bound (new.pending ++ l)) (drained t2 dry) ∙ ap (section_at new.bound) (append-nil new.pending) ∙ short);
@@ -100,10 +100,10 @@ whole_receives answers t0 t1 old mid new lines place got passed came same read l
 }
 
 -- more came
-pub came_more : (answers : Bool) (t0 t1 t2 : Option Talk) (old mid new : List ℕ) (got got' : List ℕ) → Talks answers t0 t1 [] got → mid ≡ old ++ got → Talks answers t1 t2 [] got' → new ≡ mid ++ got'
+pub came_more : (answers : Bool) (t0 t1 t2 : Option Talk) (old mid new : List ℕ) (got got' : List ℕ) → Talks answers t0 t1 [] got → mid ≡ old ++ got → Talks false t1 t2 [] got' → new ≡ mid ++ got'
     → (all : List ℕ) × Talks answers t0 t2 [] all × (new ≡ old ++ all)
 came_more answers t0 t1 t2 old mid new got got' passed came passed' more =
-    (got ++ got', Talks-then answers t0 t1 t2 [] got [] got' passed passed', more ∙ ap (λ (l : List ℕ). l ++ got') came ∙ append_assoc old got got')
+    (got ++ got', Talks-then answers t0 t1 t2 [] got [] got' passed (Talks-stay answers t1 t2 [] got' passed'), more ∙ ap (λ (l : List ℕ). l ++ got') came ∙ append_assoc old got got')
 
 pub read_more : (bound bound' place : ℕ) (lines : List Line) (bytes got new : List ℕ) → IsReadTo bound lines place bytes → new ≡ bytes ++ got → bound' ≡ bound → IsReadTo bound' lines place new
 read_more bound bound' place lines bytes got new read more same = rw (more, same) (grows bound place lines bytes got read)

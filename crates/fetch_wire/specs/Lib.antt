@@ -15,7 +15,10 @@ pub mod Words
 pub mod Greetings
 pub mod Listings
 pub mod Replies
+pub mod Cutting
+pub mod RequestWords
 pub mod Requests
+pub mod RequestLines
 pub mod Stepping
 pub mod Steps
 pub mod FetchReplies

@@ -7,6 +7,7 @@ use Rattle.fetch_wire.specs.declared.line.Line.{Line}
 use Rattle.fetch_wire.specs.declared.line.Line.TheVariants.{Payload, Flush, Delim}
 use Rattle.fetch_wire.specs.declared.handshake.Handshake.{Handshake}
 use Rattle.fetch_wire.specs.Greetings.{offers, value_of, has_word}
+use Rattle.fetch_wire.specs.RequestWords.{agent_word, agent_is, format_word, format_is}
 
 -- a text line has a line feed
 abbrev pub text_line : List ℕ → Line
@@ -28,41 +29,36 @@ first_line address parameters = Payload (codes "git-upload-pack " ++ address ++ 
 unfoldable pub agent_text : List ℕ → List ℕ
 agent_text agent = if starts_with nat_eq agent (codes "git/") then agent else codes "git/" ++ agent
 
--- a line that is sent where the server offers it
-abbrev pub where_offered : Bool → Line → List Line
-where_offered offers line = if offers then line ∷ [] else []
+-- texts as they are sent, each with a line feed
+abbrev pub sent : List (List ℕ) → List Line
+sent texts = map text_line texts
+
+-- a text that stands only under a condition
+abbrev pub when : Bool → List ℕ → List (List ℕ)
+when condition text = if condition then text ∷ [] else []
 
 unfoldable pub kind_text : Kind → List ℕ
 kind_text Sha1 = codes "sha1"
 kind_text Sha256 = codes "sha256"
 
-unfoldable pub agent_line : List ℕ → Line
-agent_line agent = text_line (codes "agent=" ++ agent_text agent)
-
-unfoldable pub format_line : Kind → Line
-format_line kind = text_line (codes "object-format=" ++ kind_text kind)
-
 -- what each request tells of itself: agent and hash, where they are offered
-unfoldable pub head_lines : Handshake → List ℕ → List Line
-head_lines handshake agent =
-    where_offered (offers (codes "agent") handshake.capabilities) (agent_line agent)
-    ++ where_offered (offers (codes "object-format") handshake.capabilities) (format_line handshake.object_hash)
+abbrev pub head_texts : Handshake → List ℕ → List (List ℕ)
+head_texts handshake agent =
+    when (offers agent_word handshake.capabilities) (agent_is ++ agent_text agent)
+    ++ when (offers format_word handshake.capabilities) (format_is ++ kind_text handshake.object_hash)
 
-unfoldable pub prefix_line : List ℕ → Line
-prefix_line prefix = text_line (codes "ref-prefix " ++ prefix)
+unfoldable pub listing_word : List ℕ
+listing_word = codes "command=ls-refs"
 
-unfoldable pub command_lines : List Line
-command_lines = text_line (codes "command=ls-refs") ∷ []
+-- Symbolic references and peeled ids are asked for, and unborn references where the server tells them.
+unfoldable pub detail_texts : Handshake → List (List ℕ)
+detail_texts handshake =
+    codes "symrefs" ∷ codes "peel" ∷ when (has_word (codes "unborn") (value_of (codes "ls-refs") handshake.capabilities)) (codes "unborn")
 
--- symbolic references and peeled ids are asked for
-unfoldable pub detail_lines : List Line
-detail_lines = Delim ∷ text_line (codes "symrefs") ∷ text_line (codes "peel") ∷ []
-
--- unborn references are asked for where the server tells them
-unfoldable pub unborn_lines : Handshake → List Line
-unborn_lines handshake = where_offered (has_word (codes "unborn") (value_of (codes "ls-refs") handshake.capabilities)) (text_line (codes "unborn"))
+unfoldable pub prefix_text : List ℕ → List ℕ
+prefix_text prefix = codes "ref-prefix " ++ prefix
 
 -- the request for the references, of these prefixes alone where there are some
 abbrev pub listing_lines : Handshake → List ℕ → List (List ℕ) → List Line
 listing_lines handshake agent prefixes =
-    command_lines ++ head_lines handshake agent ++ detail_lines ++ unborn_lines handshake ++ map prefix_line prefixes ++ Flush ∷ []
+    sent (listing_word ∷ head_texts handshake agent) ++ Delim ∷ [] ++ sent (detail_texts handshake ++ map prefix_text prefixes) ++ Flush ∷ []

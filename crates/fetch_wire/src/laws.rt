@@ -1,6 +1,8 @@
 //! What the definitions of lines and replies say, in other words.
 
-ghost use Rattle.std.specs.Prelude.{◌≡◌, List, [], ℕ, ◌++◌};
+ghost use Rattle.std.specs.Prelude.{◌≡◌, ◌<◌, List, [], ℕ, ◌++◌};
+ghost use Rattle.fetch_wire.specs.Cutting.{in_pieces};
+ghost use Rattle.fetch_wire.specs.Requests.{agent_text};
 ghost use Rattle.fetch_wire.specs.Lines.{line_at, section_at, section_from};
 ghost use Rattle.std.specs.Prelude.{Ok};
 ghost use Rattle.fetch_wire.specs.declared.line.Line.{Line};
@@ -92,4 +94,14 @@ pub fn lines_stay()
 pub fn packs_are_read_from_any_bands()
     ensures { (asked : AskedReply) (bands : List Band) → asked.done ≡ true → asked.read_pack ≡ true
         → Tells step_of (start_of (Reply asked)) (pack_lines bands) (told.Reply (packed bands)) }
+{}
+
+/// `git/` is put before an agent that lacks it, and once.
+pub fn agents_are_named_once()
+    ensures { (agent : List ℕ) → agent_text (agent_text agent) ≡ agent_text agent }
+{}
+
+/// Bytes that are cut into pieces are the pieces one after another.
+pub fn pieces_are_the_bytes()
+    ensures { (size : ℕ) (bytes : List ℕ) → 0 < size → concat (in_pieces size bytes) ≡ bytes }
 {}

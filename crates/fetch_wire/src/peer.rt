@@ -32,10 +32,10 @@ pub trait Peer {
         ensures counts { Counts (faults self.old) (faults self.new) }
         ensures cause { IsErrOf result SendFault.Failed → Rose (faults self.old) (faults self.new) };
 
-    /// Fills the front of `into` and answers how many bytes came. 0 is the end.
+    /// Fills the front of `into` and answers how many bytes came. 0 is the end. What is to come grows in no such call.
     fn receive(&mut self, into: &mut [u8]) -> Result<usize, Failed>
         ensures bound { IfOk result (λ count. count ≤ length into.new) }
-        ensures talk { Receives answers (told self.old) (told self.new) result into.new }
+        ensures talk { Receives (told self.old) (told self.new) result into.new }
         ensures counts { Counts (faults self.old) (faults self.new) }
         ensures cause { OnErr result (Rose (faults self.old) (faults self.new)) };
 }

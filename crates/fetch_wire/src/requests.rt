@@ -1,7 +1,9 @@
 //! The requests of a fetch.
 
-ghost use Rattle.std.specs.Prelude.{◌≡◌, ◌++◌, map, IfOk, OnOk};
-ghost use Rattle.fetch_wire.specs.Requests.{parameter_text, parameters_text, first_line, agent_text, text_line, where_offered, kind_text, agent_line, format_line, head_lines, prefix_line, command_lines, detail_lines, unborn_lines, listing_lines};
+ghost use Rattle.std.specs.Prelude.{◌≡◌, ◌∷◌, ◌++◌, map, IfOk, OnOk};
+ghost use Rattle.fetch_wire.specs.Greetings.{offers};
+ghost use Rattle.fetch_wire.specs.RequestWords.{agent_word, agent_is, format_word, format_is};
+ghost use Rattle.fetch_wire.specs.Requests.{parameter_text, parameters_text, first_line, agent_text, text_line, sent, when, kind_text, head_texts, listing_word, detail_texts, prefix_text, listing_lines};
 
 use crate::handshake::Handshake;
 use crate::line::Line;
@@ -81,94 +83,132 @@ fn kind_text(kind: Kind) -> &'static [u8]
     }
 }
 
-#[tactic(auto, unfolding(crate::specs::Requests::agent_line))]
-fn agent_line(alloc: Global, agent: &[u8]) -> Result<Line, NoMemory>
-    ensures { IfOk result (λ line. line ≡ agent_line agent.now) }
+/// The text of a word and what is behind it.
+pub fn joined(alloc: Global, word: &[u8], rest: &[u8]) -> Result<Text, NoMemory>
+    ensures { IfOk result (λ text. text ≡ word.now ++ rest.now) }
 {
-    let agent = agent_text(alloc, agent)?;
-    text_line(alloc, b"agent=", agent.as_bytes())
+    let mut bytes = Vec::from_slice(alloc, word)?;
+    bytes.extend_from_slice(rest)?;
+    Ok(Text::from(bytes))
 }
 
-#[tactic(auto, unfolding(crate::specs::Requests::format_line))]
-fn format_line(alloc: Global, kind: Kind) -> Result<Line, NoMemory>
-    ensures { IfOk result (λ line. line ≡ format_line kind) }
+/// Appends the text of a word and what is behind it, where the condition holds.
+pub fn append_when(
+    alloc: Global,
+    texts: &mut Vec<Text>,
+    condition: bool,
+    word: &[u8],
+    rest: &[u8],
+) -> Result<(), NoMemory>
+    ensures { OnOk result (texts.new.items ≡ texts.old.items ++ when condition (word.now ++ rest.now)) }
 {
-    text_line(alloc, b"object-format=", kind_text(kind))
-}
-
-#[tactic(auto, unfolding(crate::specs::Requests::prefix_line))]
-fn prefix_line(alloc: Global, prefix: &[u8]) -> Result<Line, NoMemory>
-    ensures { IfOk result (λ line. line ≡ prefix_line prefix.now) }
-{
-    text_line(alloc, b"ref-prefix ", prefix)
-}
-
-/// Appends the line where it is offered.
-fn append_offered(lines: &mut Vec<Line>, offers: bool, line: Line) -> Result<(), NoMemory>
-    ensures { OnOk result (lines.new.items ≡ lines.old.items ++ where_offered offers line) }
-{
-    if offers {
-        lines.push(line)?;
+    if condition {
+        texts.push(joined(alloc, word, rest)?)?;
     }
     Ok(())
 }
 
-/// Appends what each request tells of itself: agent and hash, where they are offered.
-#[tactic(auto, unfolding(crate::specs::Requests::head_lines))]
-pub fn append_head(
+#[tactic(auto, unfolding(crate::specs::RequestWords::agent_word, crate::specs::RequestWords::agent_is))]
+fn append_agent(
     alloc: Global,
-    lines: &mut Vec<Line>,
+    texts: &mut Vec<Text>,
     handshake: &Handshake,
     agent: &[u8],
 ) -> Result<(), NoMemory>
-    ensures { OnOk result (lines.new.items ≡ lines.old.items ++ head_lines handshake.now agent.now) }
+    ensures { OnOk result (texts.new.items ≡ texts.old.items ++ when (offers agent_word handshake.now.capabilities) (agent_is ++ agent_text agent.now)) }
 {
-    let agent = agent_line(alloc, agent)?;
-    append_offered(lines, handshake.offers(b"agent"), agent)?;
-    let format = format_line(alloc, handshake.object_hash)?;
-    append_offered(lines, handshake.offers(b"object-format"), format)?;
-    Ok(())
+    let agent = agent_text(alloc, agent)?;
+    append_when(
+        alloc,
+        texts,
+        handshake.offers(b"agent"),
+        b"agent=",
+        agent.as_bytes(),
+    )
 }
 
-#[tactic(auto, unfolding(crate::specs::Requests::command_lines))]
-fn append_command(alloc: Global, lines: &mut Vec<Line>) -> Result<(), NoMemory>
-    ensures { OnOk result (lines.new.items ≡ lines.old.items ++ command_lines) }
-{
-    let line = text_line(alloc, b"command=ls-refs", b"")?;
-    lines.push(line)?;
-    Ok(())
-}
-
-#[tactic(auto, unfolding(crate::specs::Requests::detail_lines))]
-fn append_details(alloc: Global, lines: &mut Vec<Line>) -> Result<(), NoMemory>
-    ensures { OnOk result (lines.new.items ≡ lines.old.items ++ detail_lines) }
-{
-    let symrefs = text_line(alloc, b"symrefs", b"")?;
-    let peel = text_line(alloc, b"peel", b"")?;
-    lines.push(Line::Delim)?;
-    lines.push(symrefs)?;
-    lines.push(peel)?;
-    Ok(())
-}
-
-#[tactic(auto, unfolding(crate::specs::Requests::unborn_lines))]
-fn append_unborn(
+#[tactic(auto, unfolding(crate::specs::RequestWords::format_word, crate::specs::RequestWords::format_is))]
+fn append_format(
     alloc: Global,
-    lines: &mut Vec<Line>,
+    texts: &mut Vec<Text>,
     handshake: &Handshake,
 ) -> Result<(), NoMemory>
-    ensures { OnOk result (lines.new.items ≡ lines.old.items ++ unborn_lines handshake.now) }
+    ensures { OnOk result (texts.new.items ≡ texts.old.items ++ when (offers format_word handshake.now.capabilities) (format_is ++ kind_text handshake.now.object_hash)) }
 {
-    let unborn = text_line(alloc, b"unborn", b"")?;
-    append_offered(lines, handshake.supports(b"ls-refs", b"unborn"), unborn)
+    let offered = handshake.offers(b"object-format");
+    append_when(
+        alloc,
+        texts,
+        offered,
+        b"object-format=",
+        kind_text(handshake.object_hash),
+    )
 }
 
-fn append_prefixes(alloc: Global, lines: &mut Vec<Line>, prefixes: &[Text]) -> Result<(), NoMemory>
-    ensures { OnOk result (lines.new.items ≡ lines.old.items ++ map prefix_line prefixes.now) }
+/// Appends what each request tells of itself: agent and hash, where they are offered. `git/` is put before an agent that
+/// doesn't begin with it.
+pub fn append_head(
+    alloc: Global,
+    texts: &mut Vec<Text>,
+    handshake: &Handshake,
+    agent: &[u8],
+) -> Result<(), NoMemory>
+    ensures { OnOk result (texts.new.items ≡ texts.old.items ++ head_texts handshake.now agent.now) }
+{
+    append_agent(alloc, texts, handshake, agent)?;
+    append_format(alloc, texts, handshake)
+}
+
+/// What stands before the delimiter of a listing request.
+#[tactic(auto, unfolding(crate::specs::Requests::listing_word))]
+fn listing_head(alloc: Global, handshake: &Handshake, agent: &[u8]) -> Result<Vec<Text>, NoMemory>
+    ensures { IfOk result (λ texts. texts.items ≡ listing_word ∷ head_texts handshake.now agent.now) }
+{
+    let mut texts = Vec::new(alloc);
+    texts.push(Text::new(alloc, b"command=ls-refs")?)?;
+    append_head(alloc, &mut texts, handshake, agent)?;
+    Ok(texts)
+}
+
+/// What it asks to be told of each reference.
+#[tactic(auto, unfolding(crate::specs::Requests::detail_texts))]
+fn details(alloc: Global, handshake: &Handshake) -> Result<Vec<Text>, NoMemory>
+    ensures { IfOk result (λ texts. texts.items ≡ detail_texts handshake.now) }
+{
+    let mut texts = Vec::new(alloc);
+    texts.push(Text::new(alloc, b"symrefs")?)?;
+    texts.push(Text::new(alloc, b"peel")?)?;
+    let unborn = handshake.supports(b"ls-refs", b"unborn");
+    append_when(alloc, &mut texts, unborn, b"unborn", b"")?;
+    Ok(texts)
+}
+
+#[tactic(auto, unfolding(crate::specs::Requests::prefix_text))]
+fn prefix_text(alloc: Global, prefix: &[u8]) -> Result<Text, NoMemory>
+    ensures { IfOk result (λ text. text ≡ prefix_text prefix.now) }
+{
+    joined(alloc, b"ref-prefix ", prefix)
+}
+
+fn append_prefixes(alloc: Global, texts: &mut Vec<Text>, prefixes: &[Text]) -> Result<(), NoMemory>
+    ensures { OnOk result (texts.new.items ≡ texts.old.items ++ map prefix_text prefixes.now) }
 {
     for prefix in prefixes {
-        let line = prefix_line(alloc, prefix.as_bytes())?;
-        lines.push(line)?;
+        texts.push(prefix_text(alloc, prefix.as_bytes())?)?;
+    }
+    Ok(())
+}
+
+/// Appends each text as a line.
+pub(crate) fn append_texts(
+    alloc: Global,
+    lines: &mut Vec<Line>,
+    texts: &[Text],
+) -> Result<(), NoMemory>
+    ensures { OnOk result (lines.new.items ≡ lines.old.items ++ sent texts.now) }
+{
+    for text in texts {
+        lines.push(text_line(alloc, b"", text.as_bytes())?)?;
     }
     Ok(())
 }
@@ -182,12 +222,13 @@ pub fn listing_request(
 ) -> Result<Vec<Line>, NoMemory>
     ensures { IfOk result (λ lines. lines.items ≡ listing_lines handshake.now agent.now prefixes.now) }
 {
+    let head = listing_head(alloc, handshake, agent)?;
+    let mut asked = details(alloc, handshake)?;
+    append_prefixes(alloc, &mut asked, prefixes)?;
     let mut lines = Vec::new(alloc);
-    append_command(alloc, &mut lines)?;
-    append_head(alloc, &mut lines, handshake, agent)?;
-    append_details(alloc, &mut lines)?;
-    append_unborn(alloc, &mut lines, handshake)?;
-    append_prefixes(alloc, &mut lines, prefixes)?;
+    append_texts(alloc, &mut lines, &head)?;
+    lines.push(Line::Delim)?;
+    append_texts(alloc, &mut lines, &asked)?;
     lines.push(Line::Flush)?;
     Ok(lines)
 }

@@ -1,19 +1,20 @@
 //! A peer and an interrupt that follow a script.
 
-ghost use Rattle.std.specs.Prelude.{◌≡◌, ◌≤◌, ◌<◌, ◌↔◌, ◌+◌, ◌++◌, ℕ, [], nat_lt, length, drop, take, Some, IsErr, IsOk, IsErrOf, IsTrue, OnErr, IfOk, Contains, false, slice_index_or};
+ghost use Rattle.std.specs.Prelude.{◌≡◌, ◌≤◌, ◌↔◌, ◌+◌, ◌-◌, ◌++◌, ℕ, [], nat_lt, min, length, drop, take, Some, None, IsErr, IsOk, IsErrOf, IsTrue, OnErr, IfOk, Contains, false, slice_index_or};
 ghost use Rattle.std.specs.List.{concat};
 ghost use Rattle.fetch_store.specs.Faults.{Faults, Rose, Counts};
 ghost use Rattle.fetch_wire.specs.Talks.{Talk, Sends, Receives};
-ghost use Rattle.fetch_wire.specs.Scripts.{given_of, to_come_of, one_more, faults_of};
+ghost use Rattle.fetch_store.specs.Calls.{one_more, faults_of};
+ghost use Rattle.fetch_wire.specs.Scripts.{given_of, pieces_from, from_first, first_of, without, talk_of};
 
-use crate::calls::Calls;
 use crate::peer::{Interrupt, Peer, SendFault};
-use fetch_store::{Failed, Text};
+use fetch_store::{Calls, Failed, Text};
 use std::alloc::Global;
 use std::marker::Model;
 
 /// A peer that gives these pieces, whatever it hears, one piece at most for each `receive`. The calls whose numbers
-/// are listed fail, where numbers count its calls of both kinds from 0. Contracts see its talk and its calls.
+/// are listed fail, where numbers count its calls of both kinds from 0. Contracts see what it heard and gave, the pieces
+/// still to be given, and its calls.
 #[derive(Debug, Drop)]
 pub struct ScriptedPeer {
     pieces: Vec<Text>,
@@ -26,16 +27,14 @@ pub struct ScriptedPeer {
 
 impl Model for ScriptedPeer {
     ghost use Rattle.std.specs.Prelude.{◌≤◌, length, slice_index_or, []};
-    ghost use Rattle.fetch_wire.specs.Scripts.{Script, given_of, to_come_of};
+    ghost use Rattle.fetch_wire.specs.Scripts.{Script, given_of, pieces_from};
 
     ghost Value = { Script };
 
     ghost view = { λ p. record {
-      talk = record {
-        heard = p.heard.items;
-        given = given_of p.pieces.items p.piece p.offset;
-        to_come = to_come_of p.pieces.items p.piece p.offset;
-      };
+      heard = p.heard.items;
+      given = given_of p.pieces.items p.piece p.offset;
+      pieces = pieces_from p.pieces.items p.piece p.offset;
       calls = p.calls;
       failed = p.failed;
     } };
@@ -44,9 +43,11 @@ impl Model for ScriptedPeer {
 }
 
 impl ScriptedPeer {
+    /// A peer that gives these pieces in order and fails at the calls with these numbers, in any order.
     pub fn new(alloc: Global, pieces: Vec<Text>, failing: Vec<u64>) -> ScriptedPeer
-        ensures told { ⟦<ScriptedPeer as Peer>⟧.told result ≡ Some (record { heard = []; given = []; to_come = concat pieces.items }) }
+        ensures told { ⟦<ScriptedPeer as Peer>⟧.told result ≡ Some (record { heard = []; given = []; to_come = concat pieces.items; rule = None }) }
         ensures faults { ⟦<ScriptedPeer as Peer>⟧.faults result ≡ record { count = 0; possible = nat_lt 0 (length failing.items) } }
+        ensures pieces { result.pieces ≡ pieces.items }
         ensures failing { (n : ℕ) → Contains result.calls.listed n ↔ Contains failing.items n }
         ensures first { result.calls.next ≡ 0 }
     {
@@ -62,7 +63,7 @@ impl ScriptedPeer {
 
     /// What it heard so far.
     pub fn heard(&self) -> &[u8]
-        ensures { result.now ≡ self.now.talk.heard }
+        ensures { result.now ≡ self.now.heard }
     {
         &self.heard
     }
@@ -75,8 +76,7 @@ fn next_place(pieces: &[Text], piece: usize, offset: usize) -> (usize, usize)
     ensures in_pieces { result.0 ≤ length pieces.now }
     ensures in_piece { result.1 ≤ length (slice_index_or pieces.now result.0 []) }
     ensures given { given_of pieces.now result.0 result.1 ≡ given_of pieces.now piece offset }
-    ensures to_come { to_come_of pieces.now result.0 result.1 ≡ to_come_of pieces.now piece offset }
-    ensures found { result.0 < length pieces.now → result.1 < length (slice_index_or pieces.now result.0 []) }
+    ensures left { pieces_from pieces.now result.0 result.1 ≡ from_first (pieces_from pieces.now piece offset) }
 {
     let mut piece = piece;
     let mut offset = offset;
@@ -90,10 +90,8 @@ fn next_place(pieces: &[Text], piece: usize, offset: usize) -> (usize, usize)
 /// Copies what stands behind this place to the front of `into`, as far as it fits.
 fn copy_from(bytes: &[u8], place: usize, into: &mut [u8]) -> usize
     requires { place ≤ length bytes.now }
-    ensures bound { result ≤ length into.new }
-    ensures within { place + result ≤ length bytes.now }
+    ensures count { result ≡ min (length into.new) (length bytes.now - place) }
     ensures copied { drop place bytes.now ≡ take result into.new ++ drop (place + result) bytes.now }
-    ensures none { result ≡ 0 → 0 < length into.new → place ≡ length bytes.now }
 {
     let count = into.len().min(bytes.len() - place);
     into[..count].copy_from_slice(&bytes[place..place + count]);
@@ -101,17 +99,20 @@ fn copy_from(bytes: &[u8], place: usize, into: &mut [u8]) -> usize
 }
 
 impl Peer for ScriptedPeer {
-    ghost told = { λ p. Some p.talk };
+    ghost told = { λ p. Some (talk_of p) };
 
     ghost faults = { λ p. faults_of p.calls p.failed };
 
     ghost answers = { false };
 
+    /// Hears the bytes, or fails where this call is listed.
     fn send(&mut self, bytes: &[u8]) -> Result<(), SendFault>
-        ensures talk { Sends false (Some self.old.talk) (Some self.new.talk) result bytes.now }
+        ensures talk { Sends false (Some (talk_of self.old)) (Some (talk_of self.new)) result bytes.now }
         ensures counts { Counts (faults_of self.old.calls self.old.failed) (faults_of self.new.calls self.new.failed) }
         ensures cause { IsErrOf result SendFault.Failed → Rose (faults_of self.old.calls self.old.failed) (faults_of self.new.calls self.new.failed) }
         ensures fails { IsErrOf result SendFault.Failed ↔ Contains self.old.calls.listed self.old.calls.next }
+        ensures unheard { OnErr result (self.new.heard ≡ self.old.heard) }
+        ensures pieces { self.new.pieces ≡ self.old.pieces }
         ensures next { self.new.calls.next ≡ one_more self.old.calls.next }
         ensures listed { self.new.calls.listed ≡ self.old.calls.listed }
     {
@@ -125,9 +126,14 @@ impl Peer for ScriptedPeer {
         }
     }
 
+    /// Gives the next piece that isn't empty, as far as it fits, or fails where this call is listed. What didn't fit is
+    /// the piece that comes next.
     fn receive(&mut self, into: &mut [u8]) -> Result<usize, Failed>
         ensures bound { IfOk result (λ count. count ≤ length into.new) }
-        ensures talk { Receives false (Some self.old.talk) (Some self.new.talk) result into.new }
+        ensures talk { Receives (Some (talk_of self.old)) (Some (talk_of self.new)) result into.new }
+        ensures fits { IfOk result (λ count. count ≡ min (length into.new) (length (first_of (from_first self.old.pieces)))) }
+        ensures left { IfOk result (λ count. self.new.pieces ≡ without count (from_first self.old.pieces)) }
+        ensures kept { OnErr result (self.new.pieces ≡ self.old.pieces) }
         ensures counts { Counts (faults_of self.old.calls self.old.failed) (faults_of self.new.calls self.new.failed) }
         ensures cause { OnErr result (Rose (faults_of self.old.calls self.old.failed) (faults_of self.new.calls self.new.failed)) }
         ensures fails { IsErr result ↔ Contains self.old.calls.listed self.old.calls.next }
@@ -139,11 +145,12 @@ impl Peer for ScriptedPeer {
             return Err(Failed);
         }
         let (piece, offset) = next_place(&self.pieces, self.piece, self.offset);
+        self.piece = piece;
+        self.offset = offset;
         if piece >= self.pieces.len() {
             return Ok(0);
         }
         let count = copy_from(self.pieces[piece].as_bytes(), offset, into);
-        self.piece = piece;
         self.offset = offset + count;
         Ok(count)
     }
@@ -165,6 +172,7 @@ impl Model for ScriptedInterrupt {
 }
 
 impl ScriptedInterrupt {
+    /// An interrupt that says yes at the calls with these numbers, in any order.
     pub fn new(yes: Vec<u64>) -> ScriptedInterrupt
         ensures count { ⟦<ScriptedInterrupt as Interrupt>⟧.yes result ≡ record { count = 0; possible = nat_lt 0 (length yes.items) } }
         ensures yes { (n : ℕ) → Contains result.calls.listed n ↔ Contains yes.items n }

@@ -112,8 +112,8 @@ impl Session {
     /// Takes the next bytes that the peer gives. 0 is the end. Room for them is made before they come.
     fn receive_more<P: Peer>(&mut self, peer: &mut P) -> Result<usize, ReceiveError>
         ensures got { IfOk result (λ count. (got : List ℕ) × (length got ≡ count) × (self.new.pending ≡ self.old.pending ++ got)
-            × Talks P.answers (P.told peer.old) (P.told peer.new) [] got × (count ≡ 0 → IsDrained (P.told peer.new))) }
-        ensures refused { OnErr result (Talks P.answers (P.told peer.old) (P.told peer.new) [] []) }
+            × Talks false (P.told peer.old) (P.told peer.new) [] got × (count ≡ 0 → IsDrained (P.told peer.new))) }
+        ensures refused { OnErr result (Talks false (P.told peer.old) (P.told peer.new) [] []) }
         ensures kept { OnErr result (self.new.pending ≡ self.old.pending) }
         ensures bound { self.new.bound ≡ self.old.bound }
         ensures counts { Counts (P.faults peer.old) (P.faults peer.new) }

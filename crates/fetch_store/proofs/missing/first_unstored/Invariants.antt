@@ -5,7 +5,7 @@ use Rattle.fetch_store.specs.Missing.{unstored}
 use Rattle.fetch_store.proofs.missing.first_unstored.Given as goal
 
 abbrev pub invariant-loop-to : goal.invariant-loop-to
-invariant-loop-to l = slice_get (unstored l.store.objects l.from (ids_left l.links)) 0 ≡ slice_get (unstored l.store.objects l.from (ids_left l.initial.links)) 0
+invariant-loop-to g l = slice_get (unstored (g.H.Held.objects l.held) l.from (ids_left l.links)) 0 ≡ slice_get (unstored (g.H.Held.objects l.held) l.from (ids_left l.initial.links)) 0
 
 abbrev pub decreases-loop-to : goal.decreases-loop-to
-decreases-loop-to l = length (ids_left l.links)
+decreases-loop-to g l = length (ids_left l.links)

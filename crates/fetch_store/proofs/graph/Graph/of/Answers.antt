@@ -12,5 +12,5 @@ pub invariant_of-result : goal.invariant_of-result
 invariant_of-result c =
     let m = c.args.store.now.objects in
     subst (λ (ns : List (ObjectId × Node)). IsInOrder ns)
-    (sym (c.in_ok-append.ensures ∙ ap (λ (ns : List (ObjectId × Node)). ns ++ nodes c.entries.result.now) c.new-nodes.ensures.items ∙ ap nodes c.entries.ensures.entries))
+    (sym (c.in_ok-append_stored.ensures.nodes ∙ ap (λ (ns : List (ObjectId × Node)). ns ++ nodes (entries m)) c.new-nodes.ensures.items))
     (truth (is_sorted id_cmp (nodes (entries m))) (all_sorted m))

@@ -1,28 +1,22 @@
-use Rattle.std.proofs.Common.{sym, ap, ◌∙◌, subst, arith}
+use Rattle.std.proofs.Common.{rules, ◌≡◌, None, sym, ap, ◌∙◌, subst, arith}
 use Rattle.std.specs.FinMap.{len}
 use Rattle.fetch_store.specs.declared.id.Kind.{Kind}
-use Rattle.fetch_store.specs.Stores.{StoreValue, AreOf, collision}
-use Rattle.fetch_store.proofs.Consistent.{consistent, len_in_order}
+use Rattle.fetch_store.specs.Stores.{StoreValue, AreOf, map_of, collision}
+use Rattle.fetch_store.specs.Buffers.{entries_in}
+use Rattle.fetch_store.proofs.Buffers.{len-lent}
 use Rattle.fetch_store.proofs.store.Store.add_reserved.Goals as goal
-
-pub add_new-requires-clause-consistent : goal.add_new-requires-clause-consistent
-add_new-requires-clause-consistent c =
-    consistent c.self.inside.hash c.self.inside.objects.items c.args.objects.items c.self.invariant.1 c.self.invariant.0
-    (subst (λ (k : Kind). AreOf k c.args.objects.items) (sym (ap (λ (s : StoreValue). s.hash) c.self.view_is)) c.requires.of_hash)
-    (ap (λ (s : StoreValue). collision s.objects c.args.objects.items) c.self.view_is ∙ c.requires.no_collision)
-
-pub invariant_of-self : goal.invariant_of-self
-invariant_of-self c = (
-  c.add_new.ensures.of_hash c.self.inside.hash c.self.invariant.0 (subst (λ (k : Kind). AreOf k c.args.objects.items) (sym (ap (λ (s : StoreValue). s.hash) c.self.view_is)) c.requires.of_hash),
-  c.add_new.ensures.arranged,
-)
 
 pub returns-clause-room : goal.returns-clause-room
 returns-clause-room c =
-    let new = len_in_order c.add_new.new.stored.items c.add_new.ensures.arranged in
-    let old = len_in_order c.self.inside.objects.items c.self.invariant.1 in
-    let spare = ap (λ (s : StoreValue). s.spare) c.self.view_is in
-    let count = ap (λ (s : StoreValue). len s.objects) c.self.view_is in
-    let fits = c.add_new.new.stored.ok in
-    let fitted = c.self.inside.objects.ok in
-    omega (arith, new, old, spare, count, fits.0, fits.1, fitted.0, fitted.1, c.add_new.ensures.capacity)
+    let s = c.self.inside in
+    let es = c.as_slice.result.now in
+    let of = subst (λ (k : Kind). AreOf k es) (sym (ap (λ (v : StoreValue). v.hash) c.self.view_is)) (search rules) in
+    let none : collision (map_of (entries_in s.hash s.buffer.items s.index.items)) es ≡ None = ap (λ (v : StoreValue). collision v.objects es) c.self.view_is ∙ search rules in
+    let taken = c.add_new.ensures.taken s.hash c.self.invariant.0 of none in
+    let new = len-lent s.hash c.add_new.new.buffer.items c.add_new.new.index.items taken.indexed in
+    let old = len-lent s.hash s.buffer.items s.index.items c.self.invariant.0 in
+    let spare = ap (λ (v : StoreValue). v.spare) c.self.view_is in
+    let count = ap (λ (v : StoreValue). len v.objects) c.self.view_is in
+    let fits = c.add_new.new.index.ok in
+    let fitted = s.index.ok in
+    omega (arith, new, old, spare, count, fits.0, fits.1, fitted.0, fitted.1, c.len.ensures, c.len-count.ensures, c.add_new.ensures.len.0, c.add_new.ensures.len.1, c.requires.room, c.as_slice.ensures.len)

@@ -1,0 +1,239 @@
+//! What a scene sets up.
+
+ghost use Rattle.std.specs.Prelude.{◌≡◌, [], ◌∷◌, false, map, IfOk, OnOk};
+ghost use Rattle.std.specs.FinMap as finmap;
+ghost use Rattle.fetch_store.specs.Stores.{AreOf, add_all};
+ghost use Rattle.fetch_refs.specs.Logs.{after};
+ghost use Rattle.fetch_remote.specs.Repositories.{state_of, setup_of, logging_of};
+ghost use Rattle.fetch_cli.specs.Opened as opened;
+ghost use Rattle.fetch_cli.specs.Report as spec;
+
+use crate::scene::Scene;
+use crate::scene::options::SceneOptions;
+use crate::scene::references::Reference;
+use fetch_config::{ConfigError, File};
+use fetch_refs::{Change, LogChange, PackedRefs, PreviousValue, RefEdit, RefLog, Refs, Signature};
+use fetch_remote::{FetchOptions, OpenOptions, Parts, Remote, Repository, ref_map};
+use fetch_specs::RefSpec;
+use fetch_store::{Border, Kind, List, NoMemory, Object, ObjectId, Store, Text};
+use fetch_update::Worktree;
+use std::alloc::Global;
+
+/// A repository and a remote, as a scene says; and how it is to be fetched, what is checked out, and what the peer says.
+#[derive(Drop)]
+pub(crate) struct Setting {
+    pub(crate) repo: Repository,
+    pub(crate) remote: Remote,
+    pub(crate) options: FetchOptions,
+    pub(crate) worktrees: List<Worktree>,
+    pub(crate) pieces: List<Text>,
+}
+
+/// Who writes the lines of reflogs.
+#[tactic(auto, unfolding(crate::specs::Report::committer))]
+fn committer(alloc: Global) -> Result<Signature, NoMemory>
+    ensures { IfOk result (λ signature. signature ≡ spec.committer) }
+{
+    Ok(Signature {
+        name: Text::new(alloc, b"fetch")?,
+        email: Text::new(alloc, b"fetch@localhost")?,
+        seconds: 0,
+        offset_minutes: 0,
+    })
+}
+
+/// The edit that puts a reference at its name, and isn't logged.
+fn edit_of(alloc: Global, reference: &Reference) -> Result<RefEdit, NoMemory>
+    ensures { IfOk result (λ edit. edit ≡ opened.edit_of reference.now) }
+{
+    let log = LogChange {
+        mode: RefLog::AndReference,
+        force_create_reflog: false,
+        message: Text::new(alloc, b"")?,
+    };
+    Ok(RefEdit {
+        change: Change::Update {
+            log,
+            expected: PreviousValue::Any,
+            new: reference.target.try_clone()?,
+        },
+        name: reference.name.try_clone()?,
+    })
+}
+
+fn edits_of(alloc: Global, references: &[Reference]) -> Result<Vec<RefEdit>, NoMemory>
+    ensures { IfOk result (λ edits. edits.items ≡ map opened.edit_of references.now) }
+{
+    let mut edits = Vec::new(alloc);
+    for reference in references {
+        edits.push(edit_of(alloc, reference)?)?;
+    }
+    Ok(edits)
+}
+
+/// Makes the edits, and logs none. Any value is expected, so that memory alone may refuse them.
+fn make(refs: &mut Refs, edits: &[RefEdit], committer: &Signature) -> Result<(), NoMemory>
+    ensures { OnOk result (refs.new ≡ after committer.now false refs.old edits.now) }
+{
+    match refs.prepare(edits, committer, false, PackedRefs::Never) {
+        Ok(prepared) => {
+            prepared.commit();
+            Ok(())
+        }
+        Err(_) => Err(NoMemory),
+    }
+}
+
+/// The references, without reflogs.
+fn refs_of(
+    alloc: Global,
+    hash: Kind,
+    references: &[Reference],
+    committer: &Signature,
+) -> Result<Refs, NoMemory>
+    ensures { IfOk result (λ refs. refs ≡ record { hash = hash; names = spec.with_references finmap.empty references.now; logs = finmap.empty }) }
+{
+    let edits = edits_of(alloc, references)?;
+    let mut refs = Refs::new(alloc, hash);
+    make(&mut refs, &edits, committer)?;
+    Ok(refs)
+}
+
+/// The objects. No two have one id, so that memory alone may refuse them.
+fn store_of(alloc: Global, hash: Kind, objects: Vec<(ObjectId, Object)>) -> Result<Store, NoMemory>
+    requires { AreOf hash objects.items }
+    ensures hash { IfOk result (λ store. store.hash ≡ hash) }
+    ensures objects { IfOk result (λ store. store.objects ≡ add_all finmap.empty objects.items) }
+{
+    let mut store = Store::new(alloc, hash);
+    match store.add_all(objects) {
+        Ok(()) => Ok(store),
+        Err(_) => Err(NoMemory),
+    }
+}
+
+/// A configuration without sections, from where the other comes.
+fn base_of(alloc: Global, config: &File) -> Result<File, NoMemory>
+    ensures { IfOk result (λ base. base ≡ record { meta = config.now.meta; sections = [] }) }
+{
+    let meta = config.meta().try_clone()?;
+    match File::new(alloc, meta) {
+        Ok(base) => Ok(base),
+        Err(
+            ConfigError::NoMemory
+            | ConfigError::Syntax { .. }
+            | ConfigError::BadValue { .. }
+            | ConfigError::InvalidKey { .. },
+        ) => Err(NoMemory),
+    }
+}
+
+fn options_of(options: SceneOptions, extra: List<RefSpec>) -> FetchOptions
+    ensures { result ≡ spec.fetch_options options extra }
+{
+    let SceneOptions {
+        dry_run,
+        packed_only,
+        filter,
+        shallow,
+        parameters,
+        bound,
+        message,
+    } = options;
+    FetchOptions {
+        map: ref_map::Options {
+            prefix_from_spec_as_filter_on_remote: filter,
+            handshake_parameters: parameters,
+            extra_refspecs: extra,
+            max_reply_bytes: bound,
+        },
+        dry_run,
+        write_packed_refs_only: packed_only,
+        reflog_message: message,
+        shallow,
+    }
+}
+
+fn remote_of(
+    alloc: Global,
+    address: Text,
+    specs: List<RefSpec>,
+    tags: fetch_specs::Tags,
+) -> Result<Remote, NoMemory>
+    ensures { IfOk result (λ remote. remote ≡ record { urls = address ∷ []; fetch_specs = specs; tags = tags }) }
+{
+    let mut urls = List::new(alloc);
+    urls.push(address)?;
+    Ok(Remote::new(urls, specs, tags))
+}
+
+/// The repository of a scene. There are no overrides, so that memory alone may refuse it.
+fn open(
+    alloc: Global,
+    store: Store,
+    refs: Refs,
+    border: Border,
+    config: File,
+    committer: Signature,
+    git_dir: Text,
+    workdir: Option<Text>,
+    lenient: bool,
+) -> Result<Repository, NoMemory>
+    requires { store.hash ≡ refs.hash }
+    ensures state { IfOk result (λ repo. state_of repo ≡ record { hash = store.hash; objects = store.objects; border = border; refs = refs }) }
+    ensures setup { IfOk result (λ repo. setup_of repo ≡ record {
+      settings = record { kind = store.hash; config = config; lenient = lenient; git_dir = git_dir; committer = committer };
+      logging = logging_of config workdir;
+    }) }
+{
+    let base = base_of(alloc, &config)?;
+    let options = OpenOptions {
+        lenient_config: lenient,
+        api_config_overrides: List::new(alloc),
+        base,
+    };
+    let parts = Parts {
+        store,
+        refs,
+        border,
+        local: config,
+        committer,
+        git_dir,
+        workdir,
+        options,
+    };
+    match Repository::from_parts(alloc, parts) {
+        Ok(repo) => Ok(repo),
+        Err(_) => Err(NoMemory),
+    }
+}
+
+/// Sets up what a scene says.
+pub(crate) fn set_up(alloc: Global, scene: Scene) -> Result<Setting, NoMemory>
+    requires { AreOf scene.hash scene.objects }
+    ensures given { IfOk result (λ s. record { remote = s.remote; options = s.options; setup = setup_of s.repo } ≡ spec.given_of scene) }
+    ensures found { IfOk result (λ s. state_of s.repo ≡ spec.found_of scene) }
+    ensures pieces { IfOk result (λ s. s.pieces ≡ scene.pieces) }
+{
+    let committer = committer(alloc)?;
+    let refs = refs_of(alloc, scene.hash, scene.refs.as_slice(), &committer)?;
+    let store = store_of(alloc, scene.hash, scene.objects.into_vec())?;
+    let repo = open(
+        alloc,
+        store,
+        refs,
+        scene.border,
+        scene.config,
+        committer,
+        scene.git_dir,
+        scene.workdir,
+        scene.lenient,
+    )?;
+    Ok(Setting {
+        repo,
+        remote: remote_of(alloc, scene.address, scene.specs, scene.tags)?,
+        options: options_of(scene.options, scene.extra),
+        worktrees: scene.worktrees,
+        pieces: scene.pieces,
+    })
+}

@@ -1,0 +1,65 @@
+//! The repository of a scene.
+
+ghost use Rattle.std.specs.Prelude.{◌≡◌, IfOk};
+ghost use Rattle.fetch_store.specs.Borders.{set_of};
+ghost use Rattle.fetch_cli.specs.Gives.{Gives};
+ghost use Rattle.fetch_cli.specs.Scene.{local_of};
+
+use crate::scene::configuration::read_config;
+use crate::scene::fault::SceneFault;
+use crate::scene::head::{Head, read_head};
+use crate::scene::line_kinds::{BorderLine, Delimiter};
+use crate::scene::line_reader::{read_group, read_next};
+use crate::scene::lines::Lines;
+use crate::scene::references::{Reference, read_references};
+use crate::scene::worktrees::WorktreeLine;
+use fetch_config::File;
+use fetch_store::{Border, List, NoMemory, ObjectId};
+use fetch_update::Worktree;
+use std::alloc::Global;
+
+/// The repository of a scene, without its objects.
+#[derive(Drop)]
+pub(crate) struct Local {
+    pub head: Head,
+    pub refs: List<Reference>,
+    pub border: Border,
+    pub config: File,
+    pub worktrees: List<Worktree>,
+}
+
+fn border_of(alloc: Global, ids: List<ObjectId>) -> Result<Border, NoMemory>
+    ensures { IfOk result (λ border. border ≡ set_of ids) }
+{
+    match Border::from_ids(alloc, ids.as_slice()) {
+        Ok(border) => Ok(border),
+        Err(_) => Err(NoMemory),
+    }
+}
+
+/// Reads the repository of a scene, and the delimiter behind it.
+#[tactic(auto, unfolding(crate::specs::Scene::local_of))]
+pub(crate) fn read_local<'a>(
+    alloc: Global,
+    lines: Lines<'a>,
+) -> Result<(Local, Lines<'a>), SceneFault>
+    ensures { Gives result (local_of lines.entry) }
+{
+    let (head, lines) = read_head(alloc, lines)?;
+    let (refs, lines) = read_references(alloc, head.hash, lines)?;
+    let (ids, lines) = read_group(alloc, b"border ", &BorderLine { hash: head.hash }, lines)?;
+    let (config, lines) = read_config(alloc, lines)?;
+    let (worktrees, lines) = read_group(alloc, b"worktree ", &WorktreeLine, lines)?;
+    let (_, lines) = read_next(alloc, &Delimiter, lines)?;
+    let border = border_of(alloc, ids)?;
+    Ok((
+        Local {
+            head,
+            refs,
+            border,
+            config,
+            worktrees,
+        },
+        lines,
+    ))
+}

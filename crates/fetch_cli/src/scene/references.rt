@@ -1,0 +1,198 @@
+//! The references of a scene.
+
+ghost use Rattle.std.specs.Prelude.{◌≡◌, ◌<◌, ◌++◌, ◌∷◌, [], if◌then◌else◌, not, Some, None, IfOk, OnOk, vec_len, vec_capacity};
+ghost use Rattle.std.specs.Option.{option_map};
+ghost use Rattle.fetch_cli.specs.Gives.{Gives};
+ghost use Rattle.fetch_cli.specs.LineKinds.{symbolic_in, object_in, target_in, reference_in, reference_of};
+ghost use Rattle.fetch_cli.specs.SceneRefs as spec;
+
+use crate::scene::fault::SceneFault;
+use crate::scene::lines::{Lines, Placed};
+use crate::scene::names::full_name;
+use fetch_refs::Target;
+use fetch_specs::FullName;
+use fetch_store::{Kind, List, NoMemory, ObjectId, split_first};
+use std::alloc::Global;
+use std::collections::BTreeSet;
+use std::marker::Model;
+
+/// A reference of a scene.
+#[derive(Debug, Drop)]
+pub struct Reference {
+    pub name: FullName,
+    pub target: Target,
+}
+
+impl Reference {
+    /// An equal reference.
+    pub fn try_clone(&self) -> Result<Reference, NoMemory>
+        ensures { IfOk result (λ copy. copy ≡ self.now) }
+    {
+        Ok(Reference {
+            name: self.name.try_clone()?,
+            target: self.target.try_clone()?,
+        })
+    }
+}
+
+#[tactic(auto, unfolding(crate::specs::LineKinds::target_in))]
+fn target(alloc: Global, hash: Kind, text: &[u8]) -> Result<Option<Target>, NoMemory>
+    ensures { IfOk result (λ found. found ≡ target_in hash text.now) }
+{
+    match text {
+        [] => Ok(None),
+        [b'@', name @ ..] => symbolic(alloc, name),
+        _ => Ok(object(hash, text)),
+    }
+}
+
+fn symbolic(alloc: Global, name: &[u8]) -> Result<Option<Target>, NoMemory>
+    ensures { IfOk result (λ found. found ≡ symbolic_in name.now) }
+{
+    match full_name(alloc, name)? {
+        Some(name) => Ok(Some(Target::Symbolic(name))),
+        None => Ok(None),
+    }
+}
+
+fn object(hash: Kind, digits: &[u8]) -> Option<Target>
+    ensures { result ≡ object_in hash digits.now }
+{
+    match ObjectId::in_hex(hash, digits) {
+        Some(id) => Some(Target::Object(id)),
+        None => None,
+    }
+}
+
+const SPACE: u8 = b' ';
+
+#[tactic(auto, unfolding(crate::specs::LineKinds::reference_in))]
+fn named_target(alloc: Global, hash: Kind, value: &[u8]) -> Result<Option<Reference>, NoMemory>
+    ensures { IfOk result (λ found. found ≡ reference_in hash value.now) }
+{
+    let Some((text, name)) = split_first(SPACE, value) else {
+        return Ok(None);
+    };
+    let Some(target) = target(alloc, hash, text)? else {
+        return Ok(None);
+    };
+    let Some(name) = full_name(alloc, name)? else {
+        return Ok(None);
+    };
+    Ok(Some(Reference { name, target }))
+}
+
+#[tactic(auto, unfolding(crate::specs::LineKinds::reference_of))]
+fn reference_at(alloc: Global, hash: Kind, line: &Placed<'_>) -> Result<Option<Reference>, NoMemory>
+    ensures { IfOk result (λ found. found ≡ reference_of hash line.now.line) }
+{
+    match line.value(b"ref ") {
+        Some(value) => named_target(alloc, hash, value),
+        None => Ok(None),
+    }
+}
+
+/// The references read so far, and their names, by which a repeated one is known.
+#[derive(Drop)]
+struct Gathered {
+    references: Vec<Reference>,
+    names: BTreeSet<FullName>,
+}
+
+impl Model for Gathered {
+    ghost use Rattle.std.specs.Prelude.{List};
+    ghost use Rattle.fetch_cli.specs.SceneRefs.{HasNames};
+    ghost use Rattle.fetch_cli.specs.declared.scene.references.Reference.{Reference};
+
+    ghost Value = { List Reference };
+
+    ghost view = { λ gathered. gathered.references.items };
+
+    ghost invariant = { λ gathered. HasNames gathered.references.items gathered.names.keys };
+}
+
+impl Gathered {
+    fn new(alloc: Global) -> Gathered
+        ensures { result ≡ [] }
+    {
+        Gathered {
+            references: Vec::new(alloc),
+            names: BTreeSet::new(alloc),
+        }
+    }
+
+    /// Adds a reference, unless its name came before, and says whether it was added.
+    fn add(&mut self, reference: Reference) -> Result<bool, NoMemory>
+        ensures new { IfOk result (λ is_new. is_new ≡ not (spec.has_name self.old reference.name)) }
+        ensures added { OnOk result (self.new ≡ if spec.has_name self.old reference.name then self.old else self.old ++ reference ∷ []) }
+    {
+        let name = reference.name.try_clone()?;
+        self.references.reserve(1)?;
+        let is_new = self.names.insert(name)?;
+        push_if(is_new, &mut self.references, reference);
+        Ok(is_new)
+    }
+
+    fn into_references(self) -> Vec<Reference>
+        ensures { result.items ≡ self }
+    {
+        self.references
+    }
+}
+
+fn push_if(is_new: bool, references: &mut Vec<Reference>, reference: Reference)
+    requires { vec_len references.old < vec_capacity references.old }
+    ensures { references.new.items ≡ if is_new then references.old.items ++ reference ∷ [] else references.old.items }
+{
+    if is_new {
+        references.push_reserved(reference);
+    }
+}
+
+/// Adds the reference of a line, and says whether it has one whose name is new.
+#[tactic(auto, unfolding(crate::specs::SceneRefs::new_reference))]
+fn add_line(
+    alloc: Global,
+    hash: Kind,
+    gathered: &mut Gathered,
+    line: &Placed<'_>,
+) -> Result<bool, NoMemory>
+    ensures { IfOk result (λ is_new. (if is_new then Some gathered.new else None) ≡ option_map (λ r. gathered.old ++ r ∷ []) (spec.new_reference hash gathered.old line.now.line)) }
+{
+    match reference_at(alloc, hash, line)? {
+        Some(reference) => gathered.add(reference),
+        None => Ok(false),
+    }
+}
+
+fn read_lines_of(
+    alloc: Global,
+    hash: Kind,
+    lines: &[Placed<'_>],
+) -> Result<List<Reference>, SceneFault>
+    ensures { Gives result (spec.references_behind hash [] lines.now) }
+{
+    let mut gathered = Gathered::new(alloc);
+    for line in lines {
+        if !add_line(alloc, hash, &mut gathered, line)? {
+            return Err(SceneFault::Malformed {
+                place: line.place(),
+            });
+        }
+    }
+    Ok(List::from(gathered.into_references()))
+}
+
+/// The references of a scene.
+#[tactic(auto, unfolding(crate::specs::SceneRefs::references_of))]
+pub(crate) fn read_references<'a>(
+    alloc: Global,
+    hash: Kind,
+    lines: Lines<'a>,
+) -> Result<(List<Reference>, Lines<'a>), SceneFault>
+    ensures { Gives result (spec.references_of hash lines.entry) }
+{
+    let (group, lines) = lines.group(b"ref ");
+    let references = read_lines_of(alloc, hash, group)?;
+    Ok((references, lines))
+}

@@ -1,0 +1,179 @@
+-- One conversation after another, and refusals told in another type.
+use Rattle.std.proofs.Common.{◌≡◌, ℕ, Bool, false, List, [], ◌++◌, Option, Result, Ok, Err, refl, sym, ap, subst, ◌∙◌, append_assoc, inl, inr}
+use Rattle.std.proofs.lemmas.List.{append-nil}
+use Rattle.std.proofs.lemmas.List.Concat.{flat_map-append}
+use Rattle.fetch_wire.specs.Talks.{Talk, IsFront}
+use Rattle.fetch_wire.specs.Talks.{Talks-then}
+use Rattle.fetch_wire.specs.declared.awaited.Fault.{Fault}
+use Rattle.fetch_wire.specs.declared.awaited.Told.{Told}
+use Rattle.fetch_wire.specs.declared.line.Line.{Line}
+use Rattle.fetch_wire.specs.Awaited.{told_at}
+use Rattle.fetch_wire.specs.Written.{line_text, lines_text}
+use Rattle.fetch_conversation.specs.Conversation.{Conversation, ends, asks, sent_in, answer_in, after_reply, after_answer, and_then, map_refusal, told_as, beside, Concludes, RefusesWith, IsRefusedBy, Breaks}
+
+abbrev pub sent_behind : {X Y E : Type 0} → ℕ → (X → Conversation Y E) → Result (X × List ℕ) E → List Line
+sent_behind bound f (Ok x) = sent_in bound (f x.0) x.1
+sent_behind bound f (Err e) = []
+
+abbrev pub answer_behind : {X Y E : Type 0} → ℕ → (X → Conversation Y E) → Result (X × List ℕ) E → Result (Y × List ℕ) E
+answer_behind bound f (Ok x) = answer_in bound (f x.0) x.1
+answer_behind bound f (Err e) = Err e
+
+-- what is sent by the second, behind the first
+sent_at_end : {X Y E : Type 0} (bound : ℕ) (f : X → Conversation Y E) (answer : Result X E) (stream : List ℕ) → sent_in bound (after_answer f answer) stream ≡ sent_behind bound f (beside stream answer)
+unfolding sent_in
+sent_at_end bound f (Ok x) stream = refl
+sent_at_end bound f (Err e) stream = refl
+
+answer_at_end : {X Y E : Type 0} (bound : ℕ) (f : X → Conversation Y E) (answer : Result X E) (stream : List ℕ) → answer_in bound (after_answer f answer) stream ≡ answer_behind bound f (beside stream answer)
+unfolding answer_in
+answer_at_end bound f (Ok x) stream = refl
+answer_at_end bound f (Err e) stream = refl
+
+sent_asking : {X Y E : Type 0} (bound : ℕ) (f : X → Conversation Y E) (lines : List Line) (failed : Fault → E) (next : Told → Conversation X E) (reading : Result (Told × List ℕ) Fault)
+    → ((told : Told) (rest : List ℕ) → sent_in bound (and_then (next told) f) rest ≡ sent_in bound (next told) rest ++ sent_behind bound f (answer_in bound (next told) rest))
+    → lines ++ after_reply (λ _. []) (λ told rest. sent_in bound (and_then (next told) f) rest) reading
+    ≡ (lines ++ after_reply (λ _. []) (λ told rest. sent_in bound (next told) rest) reading) ++ sent_behind bound f (after_reply (λ fault. Err (failed fault)) (λ told rest. answer_in bound (next told) rest) reading)
+sent_asking bound f lines failed next (Err fault) again = sym (append-nil (lines ++ []))
+sent_asking bound f lines failed next (Ok x) again = ap (λ (l : List Line). lines ++ l) (again x.0 x.1) ∙ sym (append_assoc lines _ _)
+
+pub sent_then : {X Y E : Type 0} (bound : ℕ) (c : Conversation X E) (f : X → Conversation Y E) (stream : List ℕ) → sent_in bound (and_then c f) stream ≡ sent_in bound c stream ++ sent_behind bound f (answer_in bound c stream)
+unfolding sent_in answer_in and_then
+sent_then bound (ends answer) f stream = sent_at_end bound f answer stream
+sent_then bound (asks lines awaited failed next) f stream = sent_asking bound f lines failed next (told_at bound awaited stream) (λ told rest. sent_then bound (next told) f rest)
+
+answer_asking : {X Y E : Type 0} (bound : ℕ) (f : X → Conversation Y E) (failed : Fault → E) (next : Told → Conversation X E) (reading : Result (Told × List ℕ) Fault)
+    → ((told : Told) (rest : List ℕ) → answer_in bound (and_then (next told) f) rest ≡ answer_behind bound f (answer_in bound (next told) rest))
+    → after_reply (λ fault. Err (failed fault)) (λ told rest. answer_in bound (and_then (next told) f) rest) reading ≡ answer_behind bound f (after_reply (λ fault. Err (failed fault)) (λ told rest. answer_in bound (next told) rest) reading)
+answer_asking bound f failed next (Err fault) again = refl
+answer_asking bound f failed next (Ok x) again = again x.0 x.1
+
+pub answer_then : {X Y E : Type 0} (bound : ℕ) (c : Conversation X E) (f : X → Conversation Y E) (stream : List ℕ) → answer_in bound (and_then c f) stream ≡ answer_behind bound f (answer_in bound c stream)
+unfolding answer_in and_then
+answer_then bound (ends answer) f stream = answer_at_end bound f answer stream
+answer_then bound (asks lines awaited failed next) f stream = answer_asking bound f failed next (told_at bound awaited stream) (λ told rest. answer_then bound (next told) f rest)
+
+pub text_then : {X Y E : Type 0} (bound : ℕ) (c : Conversation X E) (f : X → Conversation Y E) (stream rest : List ℕ) (x : X) → answer_in bound c stream ≡ Ok (x, rest)
+    → lines_text (sent_in bound (and_then c f) stream) ≡ lines_text (sent_in bound c stream) ++ lines_text (sent_in bound (f x) rest)
+text_then bound c f stream rest x is = ap lines_text (sent_then bound c f stream ∙ ap (λ (a : _). sent_in bound c stream ++ sent_behind bound f a) is) ∙ flat_map-append line_text (sent_in bound c stream) (sent_in bound (f x) rest)
+
+front_then : {X Y E : Type 0} (bound : ℕ) (c : Conversation X E) (f : X → Conversation Y E) (stream heard : List ℕ) → IsFront heard (lines_text (sent_in bound c stream)) → IsFront heard (lines_text (sent_in bound (and_then c f) stream))
+front_then bound c f stream heard front =
+    let behind = sent_behind bound f (answer_in bound c stream) in
+    (front.0 ++ lines_text behind, ap lines_text (sent_then bound c f stream) ∙ flat_map-append line_text (sent_in bound c stream) behind ∙ ap (λ (l : List ℕ). l ++ lines_text behind) front.1 ∙ append_assoc heard front.0 (lines_text behind))
+
+-- both to their ends
+pub concludes_then : {X Y E : Type 0} (answers : Bool) (bound : ℕ) (old mid new : Option Talk) (pending rest left : List ℕ) (c : Conversation X E) (f : X → Conversation Y E) (x : X) (y : Y)
+    → Concludes answers bound old mid pending c x rest → Concludes answers bound mid new rest (f x) y left → Concludes answers bound old new pending (and_then c f) y left
+concludes_then answers bound old mid new pending rest left c f x y h k = record {
+  said = h.said ++ k.said;
+  heard = h.heard ++ k.heard;
+  passed = Talks-then answers old mid new h.heard h.said k.heard k.said h.passed k.passed;
+  asked = λ more. rw append_assoc (text_then bound c f _ _ x (h.answered (k.said ++ more)) ∙ ap (λ (l : List ℕ). l ++ _) (h.asked (k.said ++ more)) ∙ ap (λ (l : List ℕ). h.heard ++ l) (k.asked more));
+  answered = λ more. rw append_assoc (answer_then bound c f _ ∙ ap (answer_behind bound f) (h.answered (k.said ++ more)) ∙ k.answered more);
+}
+
+late_with : {X Y E : Type 0} (bound : ℕ) (pending rest said heard tail heard' : List ℕ) (c : Conversation X E) (f : X → Conversation Y E) (x : X) (e : E)
+    → ((more : List ℕ) → lines_text (sent_in bound c (pending ++ (said ++ more))) ≡ heard) → ((more : List ℕ) → answer_in bound c (pending ++ (said ++ more)) ≡ Ok (x, rest ++ more))
+    → RefusesWith bound (f x) (rest ++ tail) heard' e → RefusesWith bound (and_then c f) (pending ++ (said ++ tail)) (heard ++ heard') e
+late_with bound pending rest said heard tail heard' c f x e asked answered k = record {
+  answer = answer_then bound c f _ ∙ ap (answer_behind bound f) (answered tail) ∙ k.answer;
+  asked = text_then bound c f _ _ x (answered tail) ∙ ap (λ (l : List ℕ). l ++ lines_text (sent_in bound (f x) (rest ++ tail))) (asked tail) ∙ ap (λ (l : List ℕ). heard ++ l) k.asked;
+}
+
+late_by : {X Y E : Type 0} (bound : ℕ) (now : Option Talk) (pending rest said heard said' heard' : List ℕ) (c : Conversation X E) (f : X → Conversation Y E) (x : X) (e : E)
+    → ((more : List ℕ) → lines_text (sent_in bound c (pending ++ (said ++ more))) ≡ heard) → ((more : List ℕ) → answer_in bound c (pending ++ (said ++ more)) ≡ Ok (x, rest ++ more))
+    → IsRefusedBy bound now (f x) (rest ++ said') heard' e → IsRefusedBy bound now (and_then c f) (pending ++ (said ++ said')) (heard ++ heard') e
+late_by bound now pending rest said heard said' heard' c f x e asked answered (inl all) = inl (λ more.
+    let g : (pending ++ (said ++ said')) ++ more ≡ pending ++ (said ++ (said' ++ more)) = simp append_assoc in
+    let k : RefusesWith bound (f x) (rest ++ (said' ++ more)) heard' e = subst (λ (l : List ℕ). RefusesWith bound (f x) l heard' e) (append_assoc rest said' more) (all more) in
+    subst (λ (l : List ℕ). RefusesWith bound (and_then c f) l (heard ++ heard') e) (sym g) (late_with bound pending rest said heard (said' ++ more) heard' c f x e asked answered k))
+late_by bound now pending rest said heard said' heard' c f x e asked answered (inr last) = inr (last.0, late_with bound pending rest said heard said' heard' c f x e asked answered last.1)
+
+-- the first to its end, and the second broken off
+pub breaks_late : {X Y E : Type 0} (free : E → Bool) (answers : Bool) (bound : ℕ) (old mid new : Option Talk) (pending rest : List ℕ) (c : Conversation X E) (f : X → Conversation Y E) (x : X) (e : E)
+    → Concludes answers bound old mid pending c x rest → Breaks free answers bound mid new rest (f x) e → Breaks free answers bound old new pending (and_then c f) e
+breaks_late free answers bound old mid new pending rest c f x e h k = record {
+  said = h.said ++ k.said;
+  heard = h.heard ++ k.heard;
+  passed = Talks-then answers old mid new h.heard h.said k.heard k.said h.passed k.passed;
+  front = (k.front.0, text_then bound c f _ _ x (h.answered k.said) ∙ ap (λ (l : List ℕ). l ++ _) (h.asked k.said) ∙ ap (λ (l : List ℕ). h.heard ++ l) k.front.1 ∙ sym (append_assoc h.heard k.heard k.front.0));
+  why = λ bound_to. late_by bound new pending rest h.said h.heard k.said k.heard c f x e h.asked h.answered (k.why bound_to);
+}
+
+early_with : {X Y E : Type 0} (bound : ℕ) (stream heard : List ℕ) (c : Conversation X E) (f : X → Conversation Y E) (e : E) → RefusesWith bound c stream heard e → RefusesWith bound (and_then c f) stream heard e
+early_with bound stream heard c f e h = record {
+  answer = answer_then bound c f _ ∙ ap (answer_behind bound f) h.answer;
+  asked = ap lines_text (sent_then bound c f stream ∙ ap (λ (a : _). sent_in bound c stream ++ sent_behind bound f a) h.answer ∙ append-nil _) ∙ h.asked;
+}
+
+early_by : {X Y E : Type 0} (bound : ℕ) (now : Option Talk) (stream heard : List ℕ) (c : Conversation X E) (f : X → Conversation Y E) (e : E) → IsRefusedBy bound now c stream heard e → IsRefusedBy bound now (and_then c f) stream heard e
+early_by bound now stream heard c f e (inl all) = inl (λ more. early_with bound (stream ++ more) heard c f e (all more))
+early_by bound now stream heard c f e (inr last) = inr (last.0, early_with bound stream heard c f e last.1)
+
+-- the first broken off
+pub breaks_early : {X Y E : Type 0} (free : E → Bool) (answers : Bool) (bound : ℕ) (old new : Option Talk) (pending : List ℕ) (c : Conversation X E) (f : X → Conversation Y E) (e : E)
+    → Breaks free answers bound old new pending c e → Breaks free answers bound old new pending (and_then c f) e
+breaks_early free answers bound old new pending c f e h = record {
+  said = h.said;
+  heard = h.heard;
+  passed = h.passed;
+  front = front_then bound c f _ h.heard h.front;
+  why = λ bound_to. early_by bound new _ h.heard c f e (h.why bound_to);
+}
+
+sent_asking_as : {X E F : Type 0} (bound : ℕ) (g : E → F) (next : Told → Conversation X E) (reading : Result (Told × List ℕ) Fault)
+    → ((told : Told) (rest : List ℕ) → sent_in bound (told_as g (next told)) rest ≡ sent_in bound (next told) rest)
+    → after_reply (λ _. []) (λ told rest. sent_in bound (told_as g (next told)) rest) reading ≡ after_reply (λ _. []) (λ told rest. sent_in bound (next told) rest) reading
+sent_asking_as bound g next (Err fault) again = refl
+sent_asking_as bound g next (Ok x) again = again x.0 x.1
+
+pub sent_as : {X E F : Type 0} (bound : ℕ) (g : E → F) (c : Conversation X E) (stream : List ℕ) → sent_in bound (told_as g c) stream ≡ sent_in bound c stream
+unfolding sent_in told_as
+sent_as bound g (ends answer) stream = refl
+sent_as bound g (asks lines awaited failed next) stream = ap (λ (l : List Line). lines ++ l) (sent_asking_as bound g next (told_at bound awaited stream) (λ told rest. sent_as bound g (next told) rest))
+
+end_as : {X E F : Type 0} (g : E → F) (answer : Result X E) (stream : List ℕ) → beside stream (map_refusal g answer) ≡ map_refusal g (beside stream answer)
+end_as g (Ok x) stream = refl
+end_as g (Err e) stream = refl
+
+answer_asking_as : {X E F : Type 0} (bound : ℕ) (g : E → F) (failed : Fault → E) (next : Told → Conversation X E) (reading : Result (Told × List ℕ) Fault)
+    → ((told : Told) (rest : List ℕ) → answer_in bound (told_as g (next told)) rest ≡ map_refusal g (answer_in bound (next told) rest))
+    → after_reply (λ fault. Err (g (failed fault))) (λ told rest. answer_in bound (told_as g (next told)) rest) reading ≡ map_refusal g (after_reply (λ fault. Err (failed fault)) (λ told rest. answer_in bound (next told) rest) reading)
+answer_asking_as bound g failed next (Err fault) again = refl
+answer_asking_as bound g failed next (Ok x) again = again x.0 x.1
+
+pub answer_as : {X E F : Type 0} (bound : ℕ) (g : E → F) (c : Conversation X E) (stream : List ℕ) → answer_in bound (told_as g c) stream ≡ map_refusal g (answer_in bound c stream)
+unfolding answer_in told_as
+answer_as bound g (ends answer) stream = end_as g answer stream
+answer_as bound g (asks lines awaited failed next) stream = answer_asking_as bound g failed next (told_at bound awaited stream) (λ told rest. answer_as bound g (next told) rest)
+
+pub concludes_as : {X E F : Type 0} (answers : Bool) (bound : ℕ) (old new : Option Talk) (pending rest : List ℕ) (g : E → F) (c : Conversation X E) (x : X)
+    → Concludes answers bound old new pending c x rest → Concludes answers bound old new pending (told_as g c) x rest
+concludes_as answers bound old new pending rest g c x h = record {
+  said = h.said;
+  heard = h.heard;
+  passed = h.passed;
+  asked = λ more. ap lines_text (sent_as bound g c _) ∙ h.asked more;
+  answered = λ more. answer_as bound g c _ ∙ ap (map_refusal g) (h.answered more);
+}
+
+as_with : {X E F : Type 0} (bound : ℕ) (stream heard : List ℕ) (g : E → F) (c : Conversation X E) (e : E) → RefusesWith bound c stream heard e → RefusesWith bound (told_as g c) stream heard (g e)
+as_with bound stream heard g c e h = record {
+  answer = answer_as bound g c _ ∙ ap (map_refusal g) h.answer;
+  asked = ap lines_text (sent_as bound g c _) ∙ h.asked;
+}
+
+as_by : {X E F : Type 0} (bound : ℕ) (now : Option Talk) (stream heard : List ℕ) (g : E → F) (c : Conversation X E) (e : E) → IsRefusedBy bound now c stream heard e → IsRefusedBy bound now (told_as g c) stream heard (g e)
+as_by bound now stream heard g c e (inl all) = inl (λ more. as_with bound (stream ++ more) heard g c e (all more))
+as_by bound now stream heard g c e (inr last) = inr (last.0, as_with bound stream heard g c e last.1)
+
+pub breaks_as : {X E F : Type 0} (free : E → Bool) (free' : F → Bool) (answers : Bool) (bound : ℕ) (old new : Option Talk) (pending : List ℕ) (g : E → F) (c : Conversation X E) (e : E)
+    → (free' (g e) ≡ false → free e ≡ false) → Breaks free answers bound old new pending c e → Breaks free' answers bound old new pending (told_as g c) (g e)
+breaks_as free free' answers bound old new pending g c e same h = record {
+  said = h.said;
+  heard = h.heard;
+  passed = h.passed;
+  front = (h.front.0, ap lines_text (sent_as bound g c _) ∙ h.front.1);
+  why = λ bound_to. as_by bound new _ h.heard g c e (h.why (same bound_to));
+}

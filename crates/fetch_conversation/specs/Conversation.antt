@@ -1,0 +1,97 @@
+-- A conversation: lines that are sent, what the reply tells, and how it goes on by that.
+use Rattle.std.specs.Prelude.{◌≡◌, ◌⊎◌, ℕ, Bool, false, List, [], ◌++◌, Option, Some, None, Result, Ok, Err}
+use Rattle.fetch_wire.specs.Awaited.{told_at}
+use Rattle.fetch_wire.specs.Talks.{Talk, Talks, IsDrained, IsFront}
+use Rattle.fetch_wire.specs.Written.{lines_text, first_too_long}
+use Rattle.fetch_wire.specs.declared.awaited.Await.{Await}
+use Rattle.fetch_wire.specs.declared.awaited.Fault.{Fault}
+use Rattle.fetch_wire.specs.declared.awaited.Told.{Told}
+use Rattle.fetch_wire.specs.declared.line.Line.{Line}
+
+-- It ends with an answer, or it asks: it sends lines, awaits a reply, and goes on by what the reply tells. Where the
+-- bytes of the peer hold no such reply, it ends with a refusal by what is wrong with them.
+pub data Conversation (X E : Type 0) : Type 0 where
+  ends : Result X E → Conversation X E
+  asks : List Line → Await → (Fault → E) → (Told → Conversation X E) → Conversation X E
+
+-- a question whose lines fit, or the refusal of the first one that is too long
+abbrev pub asks_unless : {X E : Type 0} → Option ℕ → (ℕ → E) → Conversation X E → Conversation X E
+asks_unless None long c = c
+asks_unless (Some length) long c = ends (Err (long length))
+
+abbrev pub asking : {X E : Type 0} → (ℕ → E) → List Line → Await → (Fault → E) → (Told → Conversation X E) → Conversation X E
+asking long lines awaited failed next = asks_unless (first_too_long lines) long (asks lines awaited failed next)
+
+abbrev pub after_reply : {A : Type 0} → (Fault → A) → (Told → List ℕ → A) → Result (Told × List ℕ) Fault → A
+after_reply none go (Err fault) = none fault
+after_reply none go (Ok x) = go x.0 x.1
+
+-- the lines that are sent to a peer that says this
+unfoldable pub sent_in : {X E : Type 0} → ℕ → Conversation X E → List ℕ → List Line
+sent_in bound (ends answer) stream = []
+sent_in bound (asks lines awaited failed next) stream =
+    lines ++ after_reply (λ _. []) (λ told rest. sent_in bound (next told) rest) (told_at bound awaited stream)
+
+abbrev pub beside : {X E : Type 0} → List ℕ → Result X E → Result (X × List ℕ) E
+beside rest (Ok x) = Ok (x, rest)
+beside rest (Err e) = Err e
+
+-- how it ends with a peer that says this and nothing else, and what of that is left
+unfoldable pub answer_in : {X E : Type 0} → ℕ → Conversation X E → List ℕ → Result (X × List ℕ) E
+answer_in bound (ends answer) stream = beside stream answer
+answer_in bound (asks lines awaited failed next) stream =
+    after_reply (λ fault. Err (failed fault)) (λ told rest. answer_in bound (next told) rest) (told_at bound awaited stream)
+
+-- one conversation after another
+abbrev pub after_answer : {X Y E : Type 0} → (X → Conversation Y E) → Result X E → Conversation Y E
+after_answer f (Ok x) = f x
+after_answer f (Err e) = ends (Err e)
+
+unfoldable pub and_then : {X Y E : Type 0} → Conversation X E → (X → Conversation Y E) → Conversation Y E
+and_then (ends answer) f = after_answer f answer
+and_then (asks lines awaited failed next) f = asks lines awaited failed (λ told. and_then (next told) f)
+
+abbrev pub map_refusal : {X E F : Type 0} → (E → F) → Result X E → Result X F
+map_refusal g (Ok x) = Ok x
+map_refusal g (Err e) = Err (g e)
+
+-- the same conversation, its refusals told in another type
+unfoldable pub told_as : {X E F : Type 0} → (E → F) → Conversation X E → Conversation X F
+told_as g (ends answer) = ends (map_refusal g answer)
+told_as g (asks lines awaited failed next) = asks lines awaited (λ fault. g (failed fault)) (λ told. told_as g (next told))
+
+-- The conversation was held to its end: the peer heard its lines, and this is its answer, whatever comes after.
+pub record Concludes {X E : Type 0} (answers : Bool) (bound : ℕ) (old new : Option Talk) (pending : List ℕ) (c : Conversation X E) (x : X) (rest : List ℕ) : Type 0 where
+  pub said : List ℕ
+  pub heard : List ℕ
+  pub passed : Talks answers old new heard said
+  pub asked : (more : List ℕ) → lines_text (sent_in bound c (pending ++ (said ++ more))) ≡ heard
+  pub answered : (more : List ℕ) → answer_in bound c (pending ++ (said ++ more)) ≡ Ok (x, rest ++ more)
+
+-- A peer that says this and nothing else is refused so, and all that it heard are the lines for that.
+pub record RefusesWith {X E : Type 0} (bound : ℕ) (c : Conversation X E) (stream heard : List ℕ) (e : E) : Type 0 where
+  pub answer : answer_in bound c stream ≡ Err e
+  pub asked : lines_text (sent_in bound c stream) ≡ heard
+
+-- The refusal is that of what was said, whatever comes after; or nothing is to come, and it is that of all that was said.
+abbrev pub IsRefusedBy : {X E : Type 0} → ℕ → Option Talk → Conversation X E → List ℕ → List ℕ → E → Type 0
+IsRefusedBy bound now c stream heard e =
+    ((more : List ℕ) → RefusesWith bound c (stream ++ more) heard e) ⊎ (IsDrained now × RefusesWith bound c stream heard e)
+
+-- It broke off: the peer heard a prefix of its lines. Unless the refusal is a free one, as want of memory and a counted
+-- fault are, it is the one of this conversation with this peer, which heard all lines up to it.
+pub record Breaks {X E : Type 0} (free : E → Bool) (answers : Bool) (bound : ℕ) (old new : Option Talk) (pending : List ℕ) (c : Conversation X E) (e : E) : Type 0 where
+  pub said : List ℕ
+  pub heard : List ℕ
+  pub passed : Talks answers old new heard said
+  pub front : IsFront heard (lines_text (sent_in bound c (pending ++ said)))
+  pub why : free e ≡ false → IsRefusedBy bound new c (pending ++ said) heard e
+
+abbrev pub ConversesBy : {X E : Type 0} → (E → Bool) → Bool → ℕ → Option Talk → Option Talk → List ℕ → List ℕ → Conversation X E → Result X E → Type 0
+ConversesBy free answers bound old new pending rest c (Ok x) = Concludes answers bound old new pending c x rest
+ConversesBy free answers bound old new pending rest c (Err e) = Breaks free answers bound old new pending c e
+
+-- What a call leaves that holds the conversation. Pending is what was received and not read before it, and rest what
+-- was received and not read after it.
+pub record Converses {X E : Type 0} (free : E → Bool) (answers : Bool) (bound : ℕ) (old new : Option Talk) (pending rest : List ℕ) (c : Conversation X E) (result : Result X E) : Type 0 where
+  pub held : ConversesBy free answers bound old new pending rest c result

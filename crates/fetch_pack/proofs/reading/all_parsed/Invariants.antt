@@ -1,0 +1,10 @@
+use Rattle.std.proofs.Common.{◌≡◌, ◌≤◌, ◌-◌, length}
+use Rattle.fetch_pack.proofs.Namings.{with_front, parsed_from}
+use Rattle.fetch_pack.proofs.reading.all_parsed.Given as goal
+
+abbrev pub invariant-loop-i : goal.invariant-loop-i
+invariant-loop-i l = record {
+  within : length l.rest ≤ length l.framed.records.now;
+  same : with_front l.objects.items (parsed_from l.framed.version l.hash l.pack_len (l.framed.count - l.i) l.rest)
+      ≡ parsed_from l.framed.version l.hash l.pack_len l.framed.count l.framed.records.now;
+}

@@ -1,0 +1,75 @@
+//! Each object once, and two of one id.
+
+ghost use Rattle.std.specs.Prelude.{◌≡◌, ◌<◌, get_or, length, vec_len};
+ghost use Rattle.std.specs.BTreeMap as tree;
+ghost use Rattle.std.specs.FinMap as map;
+ghost use Rattle.std.specs.Option.{option_copied};
+ghost use Rattle.fetch_store.specs.declared.id.ObjectId.{ObjectId as Id};
+ghost use Rattle.fetch_store.specs.Objects.{Stored};
+ghost use Rattle.fetch_store.specs.Stores.{id_cmp};
+ghost use Rattle.fetch_pack.specs.Reading as spec;
+ghost use Rattle.fetch_pack.specs.Reading.{Gives};
+ghost use Rattle.fetch_pack.specs.Places.{ArePlaces};
+
+use crate::error::PackError;
+use fetch_store::{Object, ObjectId};
+use std::alloc::Global;
+use std::collections::BTreeMap;
+
+/// The objects under their ids, each id once, where it first comes. Two that differ collide.
+pub(crate) fn distinct(
+    alloc: Global,
+    ids: &[ObjectId],
+    objects: Vec<Object>,
+) -> Result<Vec<(ObjectId, Object)>, PackError>
+    requires { length ids.now ≡ vec_len objects }
+    ensures { Gives (λ v. v.items) result (spec.distinct (spec.paired ids.now objects.items)) }
+{
+    let mut kept = Vec::new(alloc);
+    let mut places = BTreeMap::new(alloc);
+    let mut i = 0;
+    for object in objects {
+        let id = ids[i];
+        i += 1;
+        match find_kept(kept.as_slice(), &places, &id) {
+            Some(earlier) => {
+                if earlier.has_same_text(&object) {
+                    continue;
+                }
+                return Err(PackError::Collision { id });
+            }
+            None => {
+                places.insert(id, kept.len())?;
+                kept.push((id, object))?;
+            }
+        }
+    }
+    Ok(kept)
+}
+
+fn find_kept<'a>(
+    kept: &'a [(ObjectId, Object)],
+    places: &BTreeMap<ObjectId, usize>,
+    id: &ObjectId,
+) -> Option<&'a Object>
+    requires { ArePlaces kept.now places.now }
+    ensures { option_copied result ≡ map.find id_cmp id.now kept.now }
+{
+    match place_of(places, id) {
+        Some(place) => Some(object_at(kept, place)),
+        None => None,
+    }
+}
+
+fn place_of(places: &BTreeMap<ObjectId, usize>, id: &ObjectId) -> Option<usize>
+    ensures { result ≡ tree.get id_cmp places.now id.now }
+{
+    places.get(id).copied()
+}
+
+fn object_at(kept: &[(ObjectId, Object)], place: usize) -> &Object
+    requires { place < length kept.now }
+    ensures { (d : Id × Stored) → result.now ≡ (get_or kept.now place d).1 }
+{
+    &kept[place].1
+}

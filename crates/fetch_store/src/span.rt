@@ -1,0 +1,13 @@
+//! Where an object stands in a buffer.
+
+use crate::object_kind::ObjectKind;
+
+/// An object's kind, and its bytes' place in a buffer.
+#[derive(Clone, Copy, Debug)]
+pub struct Span {
+    pub kind: ObjectKind,
+    /// The index of the first byte.
+    pub start: usize,
+    /// How many bytes there are.
+    pub length: usize,
+}

@@ -1,0 +1,219 @@
+//! What a take would leave missing.
+
+ghost use Rattle.std.specs.Prelude.{◌≡◌, IfOk, slice_get, option_map};
+ghost use Rattle.std.specs.BTreeMap as tree;
+ghost use Rattle.std.specs.FinMap as map;
+ghost use Rattle.std.specs.FinSet as set;
+ghost use Rattle.std.specs.Option.{option_copied};
+ghost use Rattle.fetch_store.specs.Borders.{merged};
+ghost use Rattle.fetch_store.specs.Closed.{holding};
+ghost use Rattle.fetch_store.specs.Indexes.{IsIndexOf};
+ghost use Rattle.fetch_store.specs.Missing as spec;
+ghost use Rattle.fetch_store.specs.References.{seen, pack_of};
+ghost use Rattle.fetch_store.specs.Stores.{add_all, id_cmp};
+
+use crate::border::{Border, border_from};
+use crate::error::NoMemory;
+use crate::id::ObjectId;
+use crate::missing::{Held, Missing, first_unheld, first_unknown, first_unstored, links_within};
+use crate::object::{Object, ObjectRef};
+use crate::store::Store;
+use std::alloc::Global;
+use std::collections::BTreeMap;
+use std::marker::Model;
+
+/// What is about to be taken into a store, lent.
+#[derive(Clone, Copy, Debug)]
+pub struct Take<'a> {
+    /// The ids that were asked for.
+    pub wants: &'a [ObjectId],
+    /// The objects of the pack with their ids, in its order.
+    pub objects: &'a [(ObjectId, Object)],
+    /// The commits that enter the border.
+    pub shallow: &'a [ObjectId],
+    /// The commits that leave the border.
+    pub unshallow: &'a [ObjectId],
+}
+
+/// The first link that would be missing once this is taken into the store, whose border is the one found: an id that
+/// was asked for and isn't there, told with `from` and `to` equal; a link of an object of the pack to what isn't
+/// there, parents of commits in the border after the take aside; a shallow commit that is no commit there, told with
+/// `from` and `to` equal; or a parent, not there, of a commit there that leaves the border. Costs a sort of the pack
+/// and a look-up for each want, link and line; no object of the store is read for another cause.
+pub fn first_missing_of_take(
+    alloc: Global,
+    store: &Store,
+    border: &Border,
+    take: &Take<'_>,
+) -> Result<Option<Missing>, NoMemory>
+    ensures { IfOk result (λ missing. missing ≡ slice_get (spec.missing (holding store.now.objects border.now) take.now.wants.now (pack_of take.now)) 0) }
+{
+    let held = Joined::new(alloc, store, take.objects)?;
+    let border = MergedBorder::new(alloc, border, take.shallow, take.unshallow)?;
+    if let Some(missing) = first_unheld(&held, take.wants) {
+        return Ok(Some(missing));
+    }
+    if let Some(missing) = first_unlinked(&held, &border, take.objects) {
+        return Ok(Some(missing));
+    }
+    if let Some(missing) = first_unknown(&held, take.shallow) {
+        return Ok(Some(missing));
+    }
+    Ok(first_orphaned(&held, take.unshallow))
+}
+
+/// The objects of a store with those of a list. Contracts see the finite map.
+#[derive(Drop)]
+struct Joined<'a> {
+    store: &'a Store,
+    objects: &'a [(ObjectId, Object)],
+    index: BTreeMap<ObjectId, &'a Object>,
+}
+
+impl<'a> Model for Joined<'a> {
+    ghost use Rattle.std.specs.FinMap as map;
+    ghost use Rattle.fetch_store.specs.Codes.{coded_id, coded_stored};
+    ghost use Rattle.fetch_store.specs.Indexes.{IsIndexOf};
+    ghost use Rattle.fetch_store.specs.Stores.{ObjectMap, add_all, id_cmp};
+
+    ghost Value = { ObjectMap };
+
+    ghost coded = { map.code {R = id_cmp} coded_id coded_stored };
+
+    ghost view = { λ j. add_all j.store.now.objects j.objects.now };
+
+    ghost invariant = { λ j. IsIndexOf j.objects.now j.index };
+}
+
+impl<'a> Joined<'a> {
+    fn new(
+        alloc: Global,
+        store: &'a Store,
+        objects: &'a [(ObjectId, Object)],
+    ) -> Result<Joined<'a>, NoMemory>
+        ensures { IfOk result (λ joined. joined ≡ add_all store.now.objects objects.now) }
+    {
+        let index = index_of(alloc, objects)?;
+        Ok(Joined {
+            store,
+            objects,
+            index,
+        })
+    }
+}
+
+impl Held for Joined<'_> {
+    ghost objects = { λ j. j };
+
+    fn object(&self, id: &ObjectId) -> Option<ObjectRef<'_>> {
+        match self.store.get(id) {
+            Some(object) => Some(object),
+            None => find_in_index(&self.index, id),
+        }
+    }
+}
+
+fn find_in_index<'a>(index: &BTreeMap<ObjectId, &'a Object>, id: &ObjectId) -> Option<ObjectRef<'a>>
+    ensures { option_map seen result ≡ option_copied (tree.get id_cmp index.now id.now) }
+{
+    match index.get(id) {
+        Some(object) => Some(object.as_ref()),
+        None => None,
+    }
+}
+
+/// The objects by id; of an id that comes again the first counts.
+fn index_of<'a>(
+    alloc: Global,
+    objects: &'a [(ObjectId, Object)],
+) -> Result<BTreeMap<ObjectId, &'a Object>, NoMemory>
+    ensures { IfOk result (λ index. IsIndexOf objects.now index) }
+{
+    let mut index = BTreeMap::new(alloc);
+    for (id, object) in objects.iter().rev() {
+        index.insert(*id, object)?;
+    }
+    Ok(index)
+}
+
+/// A border with shallow commits and then without unshallow ones, of which no commit is copied.
+#[derive(Drop)]
+struct MergedBorder<'a> {
+    found: &'a Border,
+    shallow: Border,
+    unshallow: Border,
+}
+
+impl<'a> Model for MergedBorder<'a> {
+    ghost use Rattle.std.specs.FinSet as set;
+    ghost use Rattle.fetch_store.specs.Borders.{IdSet, coded_ids};
+
+    ghost Value = { IdSet };
+
+    ghost coded = { coded_ids };
+
+    ghost view = { λ m. set.difference (set.union m.found.now m.shallow) m.unshallow };
+}
+
+impl<'a> MergedBorder<'a> {
+    fn new(
+        alloc: Global,
+        found: &'a Border,
+        shallow: &[ObjectId],
+        unshallow: &[ObjectId],
+    ) -> Result<MergedBorder<'a>, NoMemory>
+        ensures { IfOk result (λ border. border ≡ merged found.now shallow.now unshallow.now) }
+    {
+        let shallow = border_from(alloc, shallow)?;
+        let unshallow = border_from(alloc, unshallow)?;
+        Ok(MergedBorder {
+            found,
+            shallow,
+            unshallow,
+        })
+    }
+
+    fn contains(&self, id: &ObjectId) -> bool
+        ensures { result ≡ set.contains self.now id.now }
+    {
+        (self.found.contains(id) || self.shallow.contains(id)) && !self.unshallow.contains(id)
+    }
+}
+
+/// The first link of these objects to what isn't held, parents of border commits aside.
+fn first_unlinked(
+    held: &Joined<'_>,
+    border: &MergedBorder<'_>,
+    objects: &[(ObjectId, Object)],
+) -> Option<Missing>
+    ensures { result ≡ slice_get (spec.unlinked_in held.now border.now objects.now) 0 }
+{
+    for (id, object) in objects {
+        let links = links_within(object.as_ref(), border.contains(id));
+        if let Some(missing) = first_unstored(held, id, links) {
+            return Some(missing);
+        }
+    }
+    None
+}
+
+/// The first parent, not held, of a commit of these that is held.
+fn first_orphaned(held: &Joined<'_>, ids: &[ObjectId]) -> Option<Missing>
+    ensures { result ≡ slice_get (spec.orphaned_in held.now ids.now) 0 }
+{
+    for id in ids {
+        if let Some(missing) = first_orphan(held, id) {
+            return Some(missing);
+        }
+    }
+    None
+}
+
+fn first_orphan(held: &Joined<'_>, id: &ObjectId) -> Option<Missing>
+    ensures { result ≡ slice_get (spec.unstored held.now id.now (spec.parents_at held.now id.now)) 0 }
+{
+    match held.object(id) {
+        Some(object) => first_unstored(held, id, object.parents()),
+        None => None,
+    }
+}

@@ -1,0 +1,27 @@
+//! Tests of the crates below the fetch, of what no clause of theirs says. They use public calls alone.
+#![tactic(auto)]
+
+#[cfg(test)]
+mod configuration;
+#[cfg(test)]
+mod dated;
+#[cfg(test)]
+mod dated_vectors;
+#[cfg(test)]
+mod lines;
+#[cfg(test)]
+mod negotiating;
+#[cfg(test)]
+mod objects;
+#[cfg(test)]
+mod packs;
+#[cfg(test)]
+mod policy;
+#[cfg(test)]
+mod references;
+#[cfg(test)]
+mod refspecs;
+#[cfg(test)]
+mod replies;
+#[cfg(test)]
+mod requests;
