@@ -32,4 +32,6 @@ mod refspec_tables;
 #[cfg(test)]
 mod refspecs;
 #[cfg(test)]
+mod replies;
+#[cfg(test)]
 mod requests;
