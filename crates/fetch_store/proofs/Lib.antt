@@ -40,3 +40,4 @@ pub mod Collided
 pub mod Slashes
 pub mod FiniteMaps
 pub mod TreeChanges
+pub mod Silent

@@ -18,11 +18,11 @@ pub bind_some : {A B : Type 0} (o : Option A) (f : A → Option B) (y : B) → (
 bind_some (Some x) f y e = (x, refl, e)
 bind_some None f y e = absurd cc
 
-some_is : {A : Type 0} (x y : A) → Some x ≡ Some y → x ≡ y
+pub some_is : {A : Type 0} (x y : A) → Some x ≡ Some y → x ≡ y
 some_is x y e = cc
 
 -- a value behind a test
-tested : {A : Type 0} (b : Bool) (x y : A) → cond b (Some x) None ≡ Some y → x ≡ y
+pub tested : {A : Type 0} (b : Bool) (x y : A) → cond b (Some x) None ≡ Some y → x ≡ y
 tested true x y e = cc
 tested false x y e = absurd cc
 
@@ -91,7 +91,7 @@ same_step : (m n : ℕ) (hash : Kind) (e : Expected) (bytes : List ℕ) (o : Opt
 same_step m n hash e bytes None h = refl
 same_step m n hash e bytes (Some s) h = h s refl
 
-no_part : (hash : Kind) (e : Expected) (s : Step) → (bytes : List ℕ) → length bytes ≤ 0 → part_at hash e bytes ≡ Some s → ⊥
+pub no_part : (hash : Kind) (e : Expected) (s : Step) → (bytes : List ℕ) → length bytes ≤ 0 → part_at hash e bytes ≡ Some s → ⊥
 no_part hash e s bytes short is = let p = part_shorter hash e bytes s is in omega arith
 
 stops : (n : ℕ) (hash : Kind) (e : Expected) (bytes : List ℕ) (o : Option Step) → ((s : Step) → o ≡ Some s → ⊥) → ended e bytes ≡ option_map_or (goes_on n hash) o (ended e bytes)

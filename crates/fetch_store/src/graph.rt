@@ -11,7 +11,7 @@ ghost use Rattle.fetch_store.specs.Stores.{AreOf, add_all, collision};
 use crate::entries::{arrange, find_in_order};
 use crate::error::{NoMemory, StoreError};
 use crate::id::ObjectId;
-use crate::object::{Object, ObjectRef};
+use crate::object::{Object, ObjectRef, read_history};
 use crate::object_kind::ObjectKind;
 use crate::objects::{Objects, target};
 use crate::store::Store;
@@ -164,10 +164,11 @@ fn append(
 fn history_of(alloc: Global, object: ObjectRef<'_>) -> Result<History, NoMemory>
     ensures { IfOk result (λ history. history ≡ node_of (seen object.entry)) }
 {
+    let (parents, seconds) = read_history(alloc, object)?;
     Ok(History {
         kind: object.kind(),
-        parents: object.parents().collect(alloc)?,
-        seconds: object.seconds(),
+        parents,
+        seconds,
         target: target(&object),
     })
 }

@@ -1,7 +1,8 @@
 //! Objects, and what they say.
 
-ghost use Rattle.std.specs.Prelude.{◌≡◌, ◌↔◌, ◌≤◌, length, IsOk, IfOk, IfErr, List, ℕ, if◌then◌else◌};
+ghost use Rattle.std.specs.Prelude.{◌≡◌, ◌↔◌, ◌≤◌, ◌++◌, [], OnOk, length, IsOk, IfOk, IfErr, List, ℕ, if◌then◌else◌};
 ghost use Rattle.std.specs.Iterator.{YieldsFirst, item_count};
+ghost use Rattle.std.specs.Option.{option_to_list};
 ghost use Rattle.fetch_store.specs.Objects as spec;
 ghost use Rattle.fetch_store.specs.References.{seen, ids_left, wanted_id};
 ghost use Rattle.fetch_store.specs.declared.error.StoreError.TheVariants as errors;
@@ -10,6 +11,7 @@ use crate::error::{NoMemory, StoreError};
 use crate::grammar::{Expected, Part, part_at};
 use crate::id::{Kind, ObjectId};
 use crate::object_kind::ObjectKind;
+use std::alloc::Global;
 use std::marker::Model;
 
 /// An object of the grammar.
@@ -172,7 +174,10 @@ impl<'a> ObjectRef<'a> {
     pub fn parents(&self) -> Links<'a>
         ensures { let o = seen self.now in ids_left result ≡ spec.parents_of o.hash o.kind o.bytes }
     {
-        self.ids(Wanted::Parents)
+        match self.kind {
+            ObjectKind::Commit => self.ids(Wanted::Parents),
+            ObjectKind::Tree | ObjectKind::Blob | ObjectKind::Tag => self.no_ids(),
+        }
     }
 
     /// The links but a commit's parents, in order.
@@ -193,8 +198,28 @@ impl<'a> ObjectRef<'a> {
         }
     }
 
+    fn no_ids(&self) -> Links<'a>
+        ensures { ids_left result ≡ [] }
+    {
+        Links {
+            hash: self.hash,
+            wanted: Wanted::Parents,
+            expected: Expected::Anything,
+            rest: self.bytes,
+        }
+    }
+
     /// The committer's number, for a commit.
     pub fn seconds(&self) -> Option<u64>
+        ensures { let o = seen self.now in result ≡ spec.seconds_of o.hash o.kind o.bytes }
+    {
+        match self.kind {
+            ObjectKind::Commit => self.committed(),
+            ObjectKind::Tree | ObjectKind::Blob | ObjectKind::Tag => None,
+        }
+    }
+
+    fn committed(&self) -> Option<u64>
         ensures { let o = seen self.now in result ≡ spec.seconds_of o.hash o.kind o.bytes }
     {
         let mut expected = first_of(self.kind);
@@ -208,6 +233,50 @@ impl<'a> ObjectRef<'a> {
         }
         None
     }
+}
+
+/// A commit's parents and its seconds, read at once. Other objects have none, and aren't read.
+pub(crate) fn read_history(
+    alloc: Global,
+    object: ObjectRef<'_>,
+) -> Result<(Vec<ObjectId>, Option<u64>), NoMemory>
+    ensures parents { let o = seen object.entry in IfOk result (λ history. history.0.items ≡ spec.parents_of o.hash o.kind o.bytes) }
+    ensures seconds { let o = seen object.entry in IfOk result (λ history. history.1 ≡ spec.seconds_of o.hash o.kind o.bytes) }
+{
+    match object.kind {
+        ObjectKind::Commit => read_parts(alloc, object),
+        ObjectKind::Tree | ObjectKind::Blob | ObjectKind::Tag => Ok((Vec::new(alloc), None)),
+    }
+}
+
+fn read_parts(
+    alloc: Global,
+    object: ObjectRef<'_>,
+) -> Result<(Vec<ObjectId>, Option<u64>), NoMemory>
+    ensures parents { let o = seen object.entry in IfOk result (λ history. history.0.items ≡ spec.parents_of o.hash o.kind o.bytes) }
+    ensures seconds { let o = seen object.entry in IfOk result (λ history. history.1 ≡ spec.seconds_of o.hash o.kind o.bytes) }
+{
+    let mut parents = Vec::new(alloc);
+    let mut seconds: Option<u64> = None;
+    let mut expected = first_of(object.kind);
+    let mut rest = object.bytes;
+    while let Some(step) = part_at(object.hash, expected, rest) {
+        push_parent(&mut parents, step.part)?;
+        seconds = seconds.or(seconds_in(step.part));
+        expected = step.expected;
+        rest = step.rest;
+    }
+    Ok((parents, seconds))
+}
+
+/// Puts the parent that a part names, if it does, behind the others.
+fn push_parent(parents: &mut Vec<ObjectId>, part: Part) -> Result<(), NoMemory>
+    ensures { OnOk result (parents.new.items ≡ parents.old.items ++ option_to_list (spec.parent_in part)) }
+{
+    if let Part::Parent(id) = part {
+        parents.push(id)?;
+    }
+    Ok(())
 }
 
 /// Which of its ids an object is read for.
