@@ -7,3 +7,4 @@ pub mod Overlays
 pub mod Undoing
 pub mod Standing
 pub mod Packs
+pub mod GainedLines

@@ -1,9 +1,11 @@
 -- References in the order of their names.
 use Rattle.std.specs.Prelude.{ℕ, List, [], ◌∷◌, Option, Some, None}
 use Rattle.std.specs.Borrow.{Bor}
-use Rattle.fetch_refs.specs.declared.iter.RefIter.{RefIter}
+use Rattle.std.specs.Coded.{Coded, coded_ℕ, coded_list, coded×}
+use Rattle.fetch_refs.specs.declared.slot.Slot.{Slot}
 use Rattle.fetch_refs.specs.declared.target.Target.{Target}
 use Rattle.fetch_refs.specs.declared.target.TargetRef.{TargetRef}
+use Rattle.fetch_refs.specs.Codes.{coded_target}
 use Rattle.fetch_refs.specs.Contents.{value_of}
 use Rattle.fetch_refs.specs.Slots.{each}
 use Rattle.fetch_refs.specs.Targets.{seen}
@@ -18,9 +20,20 @@ abbrev pub standing : {X : Type 0} → List (List ℕ × Option X) → List (Lis
 standing [] = []
 standing (e ∷ es) = stands e.0 e.1 (standing es)
 
+-- references by ascending name
+abbrev pub References : Type 0
+References = List (List ℕ × Target)
+
+abbrev pub coded_references : Coded References
+coded_references = coded_list (coded× (coded_list coded_ℕ) coded_target)
+
+-- the references that stand in places
+abbrev pub standing_in : List (List ℕ × Slot) → References
+standing_in es = standing (each value_of es)
+
 -- the references that are still to come
-abbrev pub left : RefIter → List (List ℕ × Target)
-left it = standing (each value_of it.entries)
+abbrev pub left : References → References
+left it = it
 
 -- what an item shows
 abbrev pub shown : Bor (List ℕ) × TargetRef → List ℕ × Target

@@ -5,6 +5,7 @@ pub mod Expectations
 pub mod Edits
 pub mod Laws
 pub mod Logs
+pub mod Gained
 pub mod Slots
 pub mod Packed
 pub mod Overlay

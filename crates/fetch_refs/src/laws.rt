@@ -1,11 +1,13 @@
 //! Laws of edits, each the contract of a function that does nothing.
 
-ghost use Rattle.std.specs.Prelude.{◌≡◌, ℕ, Bool, List};
+ghost use Rattle.std.specs.Prelude.{◌≡◌, ℕ, Bool, true, false, List, [], ◌∷◌, ◌++◌};
 ghost use Rattle.std.specs.FinMap as map;
+ghost use Rattle.std.specs.List.{list_any};
 ghost use Rattle.fetch_refs.specs.Edits.{refs_after};
+ghost use Rattle.fetch_refs.specs.Gained.{deletes, gained};
 ghost use Rattle.fetch_refs.specs.Laws.{last_that, writes, left_by, IsAlike};
-ghost use Rattle.fetch_refs.specs.Logs.{after};
-ghost use Rattle.fetch_refs.specs.Names.{Names, RefsValue};
+ghost use Rattle.fetch_refs.specs.Logs.{Logging, after, lines_of, logs_after};
+ghost use Rattle.fetch_refs.specs.Names.{Logs, Names, RefsValue};
 ghost use Rattle.fetch_refs.specs.declared.edit.PackedRefs.TheVariants.{Never, Only};
 ghost use Rattle.fetch_refs.specs.declared.edit.RefEdit.{RefEdit};
 ghost use Rattle.fetch_refs.specs.declared.log.Signature.{Signature};
@@ -18,4 +20,13 @@ pub fn the_last_edit_stands()
 /// Written packed or loose, edits leave the same references and reflogs.
 pub fn packed_and_loose_leave_the_same()
     ensures { (committer : Signature) (logging : Bool) (refs : RefsValue) (edits : List RefEdit) → IsAlike (after committer logging Only refs edits) (after committer logging Never refs edits) }
+{}
+
+/// A name's reflog holds what stood there, or nothing where an edit deletes the name, and then one line for each edit of
+/// the name since then that gets one, in order.
+pub fn a_reflog_gains_a_line_for_each_edit_since_the_last_deletion()
+    ensures stood { (how : Logging) (names : Names) (logs : Logs) (edits : List RefEdit) (name : List ℕ) → list_any (deletes name) edits ≡ false
+        → lines_of (logs_after how names logs edits) name ≡ lines_of logs name ++ gained how names name edits }
+    ensures deleted { (how : Logging) (names : Names) (logs : Logs) (front : List RefEdit) (deletion : RefEdit) (since : List RefEdit) (name : List ℕ) → deletes name deletion ≡ true → list_any (deletes name) since ≡ false
+        → lines_of (logs_after how names logs (front ++ deletion ∷ since)) name ≡ gained how (refs_after names (front ++ deletion ∷ [])) name since }
 {}

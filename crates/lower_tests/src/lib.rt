@@ -12,6 +12,8 @@ mod dated_vectors;
 #[cfg(test)]
 mod files;
 #[cfg(test)]
+mod following;
+#[cfg(test)]
 mod lines;
 #[cfg(test)]
 mod missing;
@@ -27,6 +29,8 @@ mod packs;
 mod policy;
 #[cfg(test)]
 mod references;
+#[cfg(test)]
+mod reflogs;
 #[cfg(test)]
 mod refspec_tables;
 #[cfg(test)]
