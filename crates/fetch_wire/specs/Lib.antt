@@ -32,3 +32,4 @@ pub mod WrittenLaws
 pub mod LinesTold
 pub mod FeedingLaws
 pub mod Bands
+pub mod Progressing

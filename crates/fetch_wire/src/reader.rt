@@ -57,6 +57,21 @@ impl LineReader {
         }
     }
 
+    /// How many bytes the lines that were read have.
+    pub fn place(&self) -> usize
+        ensures place { result ≡ self.now.place }
+        ensures within { result ≤ self.now.bound }
+    {
+        self.place
+    }
+
+    /// The bytes that were fed and not yet read.
+    pub fn pending(&self) -> &[u8]
+        ensures { result.now ≡ self.now.pending }
+    {
+        &self.bytes[self.start..]
+    }
+
     /// Takes the next bytes. Want of memory alone is an error, and leaves the reader as it was.
     pub fn feed(&mut self, piece: &[u8]) -> Result<(), WireError>
         ensures ok { OnOk result (self.new ≡ fed self.old piece.now) }
