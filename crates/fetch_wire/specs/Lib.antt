@@ -33,3 +33,5 @@ pub mod LinesTold
 pub mod FeedingLaws
 pub mod Bands
 pub mod Progressing
+pub mod Parameters
+pub mod Intakes

@@ -10,11 +10,13 @@ mod error;
 mod fetch_reply;
 mod greeting;
 mod handshake;
+mod intake;
 pub mod laws;
 mod line;
 mod listing;
 mod mapping;
 mod opening;
+mod parameters;
 mod peer;
 mod progress;
 mod reader;
@@ -30,6 +32,7 @@ mod saying;
 mod scripted;
 mod section;
 mod session;
+mod turn;
 mod words;
 mod write;
 
@@ -52,4 +55,5 @@ pub use requests::{agent_text, append_head, append_when, first_line, joined, lis
 pub use scripted::{ScriptedInterrupt, ScriptedPeer};
 pub use section::{Trouble, line_in};
 pub use session::Session;
+pub use turn::Turn;
 pub use write::{write_line, write_lines};

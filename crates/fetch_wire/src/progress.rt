@@ -39,7 +39,8 @@ pub(crate) fn read_on(
     lines: &mut LineReader,
     reading: Reading,
 ) -> Result<Progress, NoMemory>
-    ensures { IfOk result (λ progress. Goes lines.old reading lines.new progress) }
+    ensures read { IfOk result (λ progress. Goes lines.old reading lines.new progress) }
+    ensures bound { lines.new.bound ≡ lines.old.bound }
 {
     let mut reading = reading;
     'lines: loop {

@@ -57,6 +57,11 @@ impl LineReader {
         }
     }
 
+    /// The allocator that the reader was made with.
+    pub fn allocator(&self) -> Global {
+        *self.bytes.allocator()
+    }
+
     /// How many bytes the lines that were read have.
     pub fn place(&self) -> usize
         ensures place { result ≡ self.now.place }
@@ -96,6 +101,15 @@ impl LineReader {
         self.start = start + count;
         self.place = place + count;
         Ok(need_next(self.bound, place, start, &self.bytes))
+    }
+
+    /// Forgets what was fed and not yet read, and begins anew.
+    pub(crate) fn clear(&mut self)
+        ensures { self.new ≡ record self.old { place = 0; pending = [] } }
+    {
+        self.bytes.clear();
+        self.start = 0;
+        self.place = 0;
     }
 
     /// Begins the next reply: its place is 0, and it may have as many bytes as the one before.

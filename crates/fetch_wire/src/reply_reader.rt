@@ -49,7 +49,7 @@ impl ReplyReader {
 
     /// Takes the next bytes, and reads on as far as lines are whole. Want of memory alone is an error: nothing is known
     /// of the reply then, and each later call answers it again.
-    pub fn feed(&mut self, alloc: Global, piece: &[u8]) -> Result<(), WireError>
+    pub fn feed(&mut self, piece: &[u8]) -> Result<(), WireError>
         ensures fed { OnOk result ((more : List ℕ) → tells self.new more ≡ tells self.old (piece.now ++ more)) }
         ensures lost { OnErr result ((more : List ℕ) → tells self.new more ≡ None) }
         ensures again { tells self.old [] ≡ None → IsErr result }
@@ -58,6 +58,7 @@ impl ReplyReader {
         let Some(progress) = self.progress.take() else {
             return Err(WireError::NoMemory);
         };
+        let alloc = self.lines.allocator();
         self.lines.feed(piece)?;
         self.progress = Some(go_on(alloc, &mut self.lines, progress)?);
         Ok(())

@@ -2,8 +2,8 @@ use Rattle.std.proofs.Common.{refl, sym, ◌∙◌}
 use Rattle.fetch_wire.proofs.Driving as on
 use Rattle.fetch_wire.proofs.progress.read_on.Goals as goal
 
-pub returns-in-Ok-More : goal.returns-in-Ok-More
-returns-in-Ok-More c =
+pub returns-in-Ok-More-clause-read : goal.returns-in-Ok-More-clause-read
+returns-in-Ok-More-clause-read c =
     let given = sym (rw c.in-Ok-More.field-0-is at c.in-Ok-More.ensures.given) in
     let i = c.lines.invariant in
     let same = c.next.follows.holds-at-none ∙ on.nothing_left c.lines.lines given in
@@ -13,8 +13,8 @@ returns-in-Ok-More c =
       short = on.short c.lines.lines c.lines.reading (rw c.place-place.ensures.place at c.place-place.ensures.within) given;
     })
 
-pub returns-in-Err : goal.returns-in-Err
-returns-in-Err c =
+pub returns-in-Err-clause-read : goal.returns-in-Err-clause-read
+returns-in-Err-clause-read c =
     let i = c.lines.invariant in
     let behind = c.next.follows.holds-at-none in
     rw (behind, c.fault.ensures) (record {
@@ -39,24 +39,24 @@ lines-preserved c =
       told = λ more. on.goes_on c.lines.lines c.lines.reading c.in-On.next _ given (sym step) more ∙ i.told more;
     })
 
-pub returns-in-Whole : goal.returns-in-Whole
-returns-in-Whole c =
+pub returns-in-Whole-clause-read : goal.returns-in-Whole-clause-read
+returns-in-Whole-clause-read c =
     let given = sym (rw c.in-Ok-Line.field-0-is at c.in-Ok-Line.ensures.given) in
     let i = c.lines.invariant in
     let behind = c.next.follows.holds-at-none in
     let step = rw c.in-Whole.is at c.in_ok-read-in-Ok-Line.ensures in
     rw behind (record { bound = on.same_bound c.lines.lines ∙ i.bound; told = λ more. sym (i.told more) ∙ on.whole c.lines.lines c.lines.reading c.in-Whole.told _ given (sym step) more })
 
-pub returns-in-Broken : goal.returns-in-Broken
-returns-in-Broken c =
+pub returns-in-Broken-clause-read : goal.returns-in-Broken-clause-read
+returns-in-Broken-clause-read c =
     let given = sym (rw c.in-Ok-Line.field-0-is at c.in-Ok-Line.ensures.given) in
     let i = c.lines.invariant in
     let behind = c.next.follows.holds-at-none in
     let step = rw c.in-Broken.is at c.in_ok-read-in-Ok-Line.ensures in
     rw (behind, c.place-place.ensures.place) (record { bound = on.same_bound c.lines.lines ∙ i.bound; told = λ more. sym (i.told more) ∙ on.broken c.lines.lines c.lines.reading _ given (sym step) more; lasting = refl })
 
-pub returns-in-Said : goal.returns-in-Said
-returns-in-Said c =
+pub returns-in-Said-clause-read : goal.returns-in-Said-clause-read
+returns-in-Said-clause-read c =
     let given = sym (rw c.in-Ok-Line.field-0-is at c.in-Ok-Line.ensures.given) in
     let i = c.lines.invariant in
     let behind = c.next.follows.holds-at-none in
