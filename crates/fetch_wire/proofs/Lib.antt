@@ -7,3 +7,4 @@ pub mod Listed
 pub mod Cut
 pub mod Agents
 pub mod Peeling
+pub mod Driving

@@ -32,3 +32,6 @@ pub mod WrittenLaws
 pub mod LinesTold
 pub mod FeedingLaws
 pub mod Bands
+pub mod Progressing
+pub mod Parameters
+pub mod Intakes

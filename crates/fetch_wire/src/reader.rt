@@ -57,6 +57,26 @@ impl LineReader {
         }
     }
 
+    /// The allocator that the reader was made with.
+    pub fn allocator(&self) -> Global {
+        *self.bytes.allocator()
+    }
+
+    /// How many bytes the lines that were read have.
+    pub fn place(&self) -> usize
+        ensures place { result ≡ self.now.place }
+        ensures within { result ≤ self.now.bound }
+    {
+        self.place
+    }
+
+    /// The bytes that were fed and not yet read.
+    pub fn pending(&self) -> &[u8]
+        ensures { result.now ≡ self.now.pending }
+    {
+        &self.bytes[self.start..]
+    }
+
     /// Takes the next bytes. Want of memory alone is an error, and leaves the reader as it was.
     pub fn feed(&mut self, piece: &[u8]) -> Result<(), WireError>
         ensures ok { OnOk result (self.new ≡ fed self.old piece.now) }
@@ -81,6 +101,15 @@ impl LineReader {
         self.start = start + count;
         self.place = place + count;
         Ok(need_next(self.bound, place, start, &self.bytes))
+    }
+
+    /// Forgets what was fed and not yet read, and begins anew.
+    pub(crate) fn clear(&mut self)
+        ensures { self.new ≡ record self.old { place = 0; pending = [] } }
+    {
+        self.bytes.clear();
+        self.start = 0;
+        self.place = 0;
     }
 
     /// Begins the next reply: its place is 0, and it may have as many bytes as the one before.

@@ -1,0 +1,58 @@
+-- What a peer sent and wasn't read yet, and the reply that is awaited of it.
+use Rattle.std.specs.Prelude.{◌≡◌, ℕ, Bool, true, List, [], ◌++◌, Option, Some, None, Result, Ok, Err}
+use Rattle.std.specs.Option.{option_map}
+use Rattle.fetch_wire.specs.declared.awaited.Await.{Await}
+use Rattle.fetch_wire.specs.declared.awaited.Fault.{Fault}
+use Rattle.fetch_wire.specs.declared.awaited.Fault.TheVariants.{Short, Broken, TooLong, Said}
+use Rattle.fetch_wire.specs.declared.awaited.Told.{Told}
+use Rattle.fetch_wire.specs.declared.intake.Found.{Found}
+use Rattle.fetch_wire.specs.declared.intake.Found.TheVariants as found
+use Rattle.fetch_wire.specs.declared.reading.Reading.{Reading}
+use Rattle.fetch_wire.specs.Awaited.{start_of, told_from}
+use Rattle.fetch_wire.specs.Progressing.{is_short_at}
+
+-- How many bytes a reply may have, what was fed and not yet read, and, where a reply is awaited, what it told so far and
+-- how many bytes its lines that were read have.
+pub record Intake : Type 0 where
+  pub bound : ℕ
+  pub place : ℕ
+  pub pending : List ℕ
+  pub reading : Option Reading
+
+-- what the awaited reply tells where these bytes come next
+abbrev pub told_with : Intake → List ℕ → Option (Result (Told × List ℕ) Fault)
+told_with i more = option_map (λ reading. told_from i.bound reading i.place (i.pending ++ more)) i.reading
+
+-- the lines that are there were read
+abbrev pub is_read : ℕ → ℕ → List ℕ → Option Reading → Bool
+is_read bound place bytes None = true
+is_read bound place bytes (Some reading) = is_short_at place (told_from bound reading place bytes)
+
+-- nothing is awaited, and these bytes weren't read yet
+abbrev pub resting : List ℕ → Intake → Intake
+resting bytes i = record { bound = i.bound; place = 0; pending = bytes; reading = None }
+
+abbrev pub awaiting : Await → Intake → Intake
+awaiting await i = record i { place = 0; reading = Some (start_of await) }
+
+abbrev pub taking : List ℕ → Intake → Intake
+taking piece i = record i { pending = i.pending ++ piece }
+
+-- The same but for how much of the awaited reply was read: whatever comes next, both are told the same.
+pub record IsAlike (a b : Intake) : Type 0 where
+  pub bound : a.bound ≡ b.bound
+  pub told : (more : List ℕ) → told_with a more ≡ told_with b more
+  pub resting : a.reading ≡ None → a ≡ b
+
+-- What is found of the awaited reply, by what is told of it: nothing, while it is short.
+abbrev pub Finds : Intake → Option (Result (Told × List ℕ) Fault) → Intake → Found → Type 0
+Finds before None now what = (now ≡ before) × (what ≡ found.Nothing)
+Finds before (Some (Ok x)) now what = (now ≡ resting x.1 before) × (what ≡ found.Told x.0)
+Finds before (Some (Err (Short place))) now what = IsAlike now before × (what ≡ found.Nothing)
+Finds before (Some (Err (Broken place))) now what = (now ≡ resting [] before) × (what ≡ found.Fault (Broken place))
+Finds before (Some (Err TooLong)) now what = (now ≡ resting [] before) × (what ≡ found.Fault TooLong)
+Finds before (Some (Err (Said text))) now what = (now ≡ resting [] before) × (what ≡ found.Fault (Said text))
+
+-- the awaited reply is read on
+abbrev pub ReadsOn : Intake → Intake → Found → Type 0
+ReadsOn before now what = Finds before (told_with before []) now what
