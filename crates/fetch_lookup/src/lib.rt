@@ -1,0 +1,11 @@
+//! What a configuration says of remotes and branches.
+#![tactic(auto)]
+
+mod direction;
+pub mod name;
+mod names;
+mod utf8;
+
+pub use direction::Direction;
+pub use name::Name;
+pub use names::{Names, branch_names, branch_remote_name, remote_default_name, remote_names};
