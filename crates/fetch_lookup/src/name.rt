@@ -80,7 +80,17 @@ impl Name {
     }
 }
 
-fn is_place(text: &[u8]) -> bool
+/// The name that a text is, copied.
+pub(crate) fn named(alloc: Global, text: &[u8]) -> Result<Option<Name>, NoMemory>
+    ensures { IfOk result (λ name. name ≡ spec.name_of text.now) }
+{
+    match Name::try_from_text(Text::new(alloc, text)?) {
+        Ok(name) => Ok(Some(name)),
+        Err(_) => Ok(None),
+    }
+}
+
+pub(crate) fn is_place(text: &[u8]) -> bool
     ensures { result ≡ spec.is_place text.now }
 {
     text.contains(&b'/') || text == b".".as_slice()

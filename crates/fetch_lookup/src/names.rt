@@ -8,7 +8,7 @@ ghost use Rattle.fetch_lookup.specs.Names as spec;
 ghost use Rattle.fetch_lookup.specs.Ordered.{ascending, placed};
 
 use crate::direction::Direction;
-use crate::name::Name;
+use crate::name::{Name, named};
 use crate::utf8::is_utf8;
 use fetch_config::{File, Section};
 use fetch_store::{NoMemory, Text};
@@ -70,13 +70,10 @@ pub fn branch_remote_name(
     let Some(text) = branch_text(file, short, direction) else {
         return Ok(None);
     };
-    match Name::try_from_text(Text::new(alloc, text)?) {
-        Ok(name) => Ok(Some(name)),
-        Err(_) => Ok(None),
-    }
+    named(alloc, text)
 }
 
-fn is_same_name(a: &[u8], b: &[u8]) -> bool
+pub(crate) fn is_same_name(a: &[u8], b: &[u8]) -> bool
     ensures { result ≡ pieces.is_same_name a.now b.now }
 {
     a.eq_ignore_ascii_case(b)
