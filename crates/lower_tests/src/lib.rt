@@ -12,6 +12,8 @@ mod files;
 #[cfg(test)]
 mod lines;
 #[cfg(test)]
+mod lookup;
+#[cfg(test)]
 mod missing;
 #[cfg(test)]
 mod negotiating;
