@@ -199,6 +199,13 @@ impl File {
         self.sections.get(index)
     }
 
+    /// The sections, in order, lent.
+    pub fn sections(&self) -> &[Section]
+        ensures { result.now ≡ self.now.sections }
+    {
+        self.sections.as_slice()
+    }
+
     /// Adds a section without entries at the end, and answers its index. After an error the file is as before.
     pub fn push_section(
         &mut self,

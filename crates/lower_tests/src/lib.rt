@@ -16,6 +16,8 @@ mod following;
 #[cfg(test)]
 mod lines;
 #[cfg(test)]
+mod lookup;
+#[cfg(test)]
 mod missing;
 #[cfg(test)]
 mod negotiating;

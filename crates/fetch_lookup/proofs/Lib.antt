@@ -1,0 +1,6 @@
+pub mod WellFormed
+pub mod Placing
+pub mod Meant
+pub mod Orders
+pub mod Gathered
+pub mod Founds

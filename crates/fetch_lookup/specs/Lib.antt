@@ -1,0 +1,6 @@
+pub mod Directions
+pub mod Ordered
+pub mod Names
+pub mod SpecOrder
+pub mod Results
+pub mod Remotes

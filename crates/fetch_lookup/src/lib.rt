@@ -1,0 +1,15 @@
+//! What a configuration says of remotes and branches.
+#![tactic(auto)]
+
+mod direction;
+pub mod find;
+pub mod name;
+mod names;
+mod refspecs;
+mod remote;
+mod utf8;
+
+pub use direction::Direction;
+pub use name::Name;
+pub use names::{Names, branch_names, branch_remote_name, remote_default_name, remote_names};
+pub use remote::{RemoteParts, find_remote};
