@@ -19,8 +19,7 @@ use fetch_pack::{Pack, PackError, read_pack};
 use fetch_specs::Tags;
 use fetch_store::{Border, Kind, List, NoMemory, Object, ObjectId};
 use fetch_wire::{
-    Handshake, Interrupt, Line, Peer, Request, Session, WireError, changes_border,
-    read_reply,
+    Handshake, Interrupt, Line, Peer, Request, Session, WireError, changes_border, read_reply,
 };
 use std::alloc::Global;
 use std::thread::Threads;

@@ -41,3 +41,5 @@ mod refspecs;
 mod replies;
 #[cfg(test)]
 mod requests;
+#[cfg(test)]
+mod store;

@@ -14,11 +14,13 @@ use std::collections::BTreeSet;
 use std::test::Fail;
 
 /// A repository with one remote.
-const ONE: &[u8] = b"[remote \"origin\"]\n\turl = /srv/a.git\n\tfetch = +refs/heads/*:refs/remotes/origin/*\n\
+const ONE: &[u8] =
+    b"[remote \"origin\"]\n\turl = /srv/a.git\n\tfetch = +refs/heads/*:refs/remotes/origin/*\n\
 [branch \"main\"]\n\tremote = origin\n\tmerge = refs/heads/main\n[pack]\n\tthreads = 3\n";
 
 /// A repository with two remotes, one of which is a place that is pushed to.
-const TWO: &[u8] = b"[remote \"origin\"]\n\turl = /srv/a.git\n\tfetch = +refs/heads/*:refs/remotes/origin/*\n\
+const TWO: &[u8] =
+    b"[remote \"origin\"]\n\turl = /srv/a.git\n\tfetch = +refs/heads/*:refs/remotes/origin/*\n\
 [remote \"myself\"]\n\turl = /srv/b.git\n\turl = /srv/c.git\n\tpush = refs/heads/main\n\tpush = refs/heads/main\n\
 \tpush = +refs/heads/a\n\ttagOpt = --no-tags\n[branch \"b\"]\n\tremote = .\n\tpushRemote = myself\n\
 [branch \"main\"]\n\tremote = origin\n";
@@ -109,13 +111,40 @@ fn names_of_one_remote(rt: HostRuntime) -> Result<(), Fail> {
 fn names_of_two_remotes(rt: HostRuntime) -> Result<(), Fail> {
     let alloc = rt.alloc();
     let mut file = read(alloc, TWO, true)?;
-    assert!(rt; lines(alloc, &remote_names(alloc, &file)?)?.as_slice() == b"myself\norigin\n".as_slice());
-    assert!(rt; is_text(&remote_default_name(alloc, &file, Direction::Push)?, b"origin"));
+    assert!(rt;
+        lines(alloc, &remote_names(alloc, &file)?)?.as_slice() == b"myself\norigin\n".as_slice()
+    );
+    assert!(rt;
+        is_text(
+            &remote_default_name(alloc, &file, Direction::Push)?,
+            b"origin"
+        )
+    );
     file.apply_override(alloc, b"remote.pushDefault=myself")?;
-    assert!(rt; is_text(&remote_default_name(alloc, &file, Direction::Push)?, b"myself"));
-    assert!(rt; is_text(&remote_default_name(alloc, &file, Direction::Fetch)?, b"origin"));
-    assert!(rt; is_symbol(&branch_remote_name(alloc, &file, b"main", Direction::Push)?, "myself"));
-    assert!(rt; is_symbol(&branch_remote_name(alloc, &file, b"main", Direction::Fetch)?, "origin"));
+    assert!(rt;
+        is_text(
+            &remote_default_name(alloc, &file, Direction::Push)?,
+            b"myself"
+        )
+    );
+    assert!(rt;
+        is_text(
+            &remote_default_name(alloc, &file, Direction::Fetch)?,
+            b"origin"
+        )
+    );
+    assert!(rt;
+        is_symbol(
+            &branch_remote_name(alloc, &file, b"main", Direction::Push)?,
+            "myself"
+        )
+    );
+    assert!(rt;
+        is_symbol(
+            &branch_remote_name(alloc, &file, b"main", Direction::Fetch)?,
+            "origin"
+        )
+    );
     Ok(())
 }
 
@@ -127,7 +156,12 @@ fn a_dot_is_a_place(rt: HostRuntime) -> Result<(), Fail> {
         Some(name) => assert!(rt; name.as_url() == Some(b".".as_slice())),
         None => assert!(rt; false),
     }
-    assert!(rt; is_symbol(&branch_remote_name(alloc, &file, b"b", Direction::Push)?, "myself"));
+    assert!(rt;
+        is_symbol(
+            &branch_remote_name(alloc, &file, b"b", Direction::Push)?,
+            "myself"
+        )
+    );
     Ok(())
 }
 
@@ -151,7 +185,10 @@ fn remotes_are_found(rt: HostRuntime) -> Result<(), Fail> {
     };
     assert!(rt; is_symbol(&origin.name, "origin"));
     assert!(rt; texts(alloc, &origin.urls)?.as_slice() == b"/srv/a.git\n".as_slice());
-    assert!(rt; specs(alloc, &origin.fetch_specs)?.as_slice() == b"+refs/heads/*:refs/remotes/origin/*\n".as_slice());
+    assert!(rt;
+        specs(alloc, &origin.fetch_specs)?.as_slice()
+            == b"+refs/heads/*:refs/remotes/origin/*\n".as_slice()
+    );
     assert!(rt; origin.push_urls.is_empty() && origin.push_specs.is_empty());
     assert!(rt; origin.fetch_tags == Tags::Included);
     let Some(myself) = found(alloc, TWO, b"myself")? else {
@@ -159,7 +196,10 @@ fn remotes_are_found(rt: HostRuntime) -> Result<(), Fail> {
         return Ok(());
     };
     assert!(rt; texts(alloc, &myself.urls)?.as_slice() == b"/srv/b.git\n/srv/c.git\n".as_slice());
-    assert!(rt; specs(alloc, &myself.push_specs)?.as_slice() == b"refs/heads/main\n+refs/heads/a\n".as_slice());
+    assert!(rt;
+        specs(alloc, &myself.push_specs)?.as_slice()
+            == b"refs/heads/main\n+refs/heads/a\n".as_slice()
+    );
     assert!(rt; myself.fetch_specs.is_empty());
     assert!(rt; myself.fetch_tags == Tags::None);
     Ok(())
@@ -183,11 +223,17 @@ fn the_first_part_that_is_refused_is_told(rt: HostRuntime) -> Result<(), Fail> {
         Error::TagOpt { value } => assert!(rt; value.as_bytes() == b"--some".as_slice()),
         _ => assert!(rt; false),
     }
-    match refusal(alloc, b"fetch = a:b:c\npush = ^\nurl = a\\nb\npushurl = c\\nd\n")? {
+    match refusal(
+        alloc,
+        b"fetch = a:b:c\npush = ^\nurl = a\\nb\npushurl = c\\nd\n",
+    )? {
         Error::Url { kind, .. } => assert!(rt; kind == Direction::Fetch),
         _ => assert!(rt; false),
     }
-    match refusal(alloc, b"fetch = a:b:c\npush = ^\nurl = a\\nb\nurl =\npushurl = c\\nd\n")? {
+    match refusal(
+        alloc,
+        b"fetch = a:b:c\npush = ^\nurl = a\\nb\nurl =\npushurl = c\\nd\n",
+    )? {
         Error::Url { kind, .. } => assert!(rt; kind == Direction::Push),
         _ => assert!(rt; false),
     }
@@ -229,10 +275,12 @@ fn a_name_may_be_the_address(rt: HostRuntime) -> Result<(), Fail> {
 
 fn invalid_place(alloc: Global, text: &[u8]) -> Option<usize> {
     match name::validated(alloc, text) {
-        Err(name::Error::Invalid {
-            source: SpecError::InvalidName { place },
-            ..
-        }) => Some(place),
+        Err(
+            name::Error::Invalid {
+                source: SpecError::InvalidName { place },
+                ..
+            },
+        ) => Some(place),
         _ => None,
     }
 }
