@@ -4,3 +4,4 @@ pub mod Meant
 pub mod Orders
 pub mod Gathered
 pub mod Founds
+pub mod Ascending

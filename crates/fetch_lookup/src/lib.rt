@@ -3,6 +3,7 @@
 
 mod direction;
 pub mod find;
+pub mod laws;
 pub mod name;
 mod names;
 mod refspecs;
