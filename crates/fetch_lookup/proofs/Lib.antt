@@ -5,3 +5,4 @@ pub mod Orders
 pub mod Gathered
 pub mod Founds
 pub mod Ascending
+pub mod Destinations

@@ -4,3 +4,4 @@ pub mod Names
 pub mod SpecOrder
 pub mod Results
 pub mod Remotes
+pub mod Branches

@@ -147,7 +147,7 @@ fn keep_utf8(names: &mut BTreeSet<Text>)
 }
 
 #[tactic(auto, unfolding(crate::specs::Names::branch))]
-fn branch_string<'a>(file: &'a File, short: &[u8], key: &[u8]) -> Option<&'a [u8]>
+pub(crate) fn branch_string<'a>(file: &'a File, short: &[u8], key: &[u8]) -> Option<&'a [u8]>
     ensures { option_map (λ s. s.now) result ≡ spec.branch_string_of file.now.sections short.now key.now }
 {
     file.string(b"branch", Some(short), key, false)

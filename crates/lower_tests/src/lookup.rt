@@ -4,10 +4,10 @@
 use fetch_config::{ConfigError, File, Meta, Origin};
 use fetch_lookup::find::Error;
 use fetch_lookup::{
-    Direction, Name, RemoteParts, branch_names, branch_remote_name, find_remote, name,
-    remote_default_name, remote_names,
+    Direction, Name, RemoteParts, branch_merge_name, branch_names, branch_remote_name,
+    destination_name, find_remote, name, push, remote_default_name, remote_names,
 };
-use fetch_specs::{RefSpec, SpecError, Tags};
+use fetch_specs::{FullName, NameError, RefSpec, SpecError, Tags};
 use fetch_store::{List, NoMemory, Text};
 use std::alloc::Global;
 use std::collections::BTreeSet;
@@ -294,5 +294,67 @@ fn names_that_may_be_given(rt: HostRuntime) -> Result<(), Fail> {
     assert!(rt; invalid_place(alloc, b"a b") == Some(30));
     assert!(rt; invalid_place(alloc, b"a\xffb") == Some(30));
     assert!(rt; Direction::Push.as_str() == "push");
+    Ok(())
+}
+
+fn is_name(found: Option<Result<FullName, NameError>>, wanted: &[u8]) -> bool {
+    match found {
+        Some(Ok(name)) => name.as_bytes() == wanted,
+        _ => false,
+    }
+}
+
+#[test]
+fn a_branch_is_followed_to_its_tracking_branch(rt: HostRuntime) -> Result<(), Fail> {
+    let alloc = rt.alloc();
+    let file = read(alloc, ONE, true)?;
+    let main = FullName::new(alloc, b"refs/heads/main")?;
+    assert!(rt; is_name(branch_merge_name(alloc, &file, &main), b"refs/heads/main"));
+    let next = FullName::new(alloc, b"refs/heads/next")?;
+    assert!(rt; branch_merge_name(alloc, &file, &next).is_none());
+    let Some(origin) = found(alloc, ONE, b"origin")? else {
+        assert!(rt; false);
+        return Ok(());
+    };
+    let specs = origin.fetch_specs.as_slice();
+    assert!(rt;
+        is_name(
+            destination_name(alloc, specs, &main),
+            b"refs/remotes/origin/main"
+        )
+    );
+    let tag = FullName::new(alloc, b"refs/tags/v1")?;
+    assert!(rt; destination_name(alloc, specs, &tag).is_none());
+    Ok(())
+}
+
+#[test]
+fn a_merge_is_a_full_name(rt: HostRuntime) -> Result<(), Fail> {
+    let alloc = rt.alloc();
+    let file = read(
+        alloc,
+        b"[branch \"a\"]\nmerge = b\n[branch \"c\"]\nmerge = d..e\n",
+        true,
+    )?;
+    let a = FullName::new(alloc, b"refs/heads/a")?;
+    assert!(rt; is_name(branch_merge_name(alloc, &file, &a), b"refs/heads/b"));
+    let c = FullName::new(alloc, b"refs/heads/c")?;
+    match branch_merge_name(alloc, &file, &c) {
+        Some(Err(NameError::Invalid { place })) => assert!(rt; place == 13),
+        _ => assert!(rt; false),
+    }
+    Ok(())
+}
+
+#[test]
+fn what_is_pushed_by_default(rt: HostRuntime) -> Result<(), Fail> {
+    let alloc = rt.alloc();
+    let absent = read(alloc, b"", true)?;
+    assert!(rt; push::default_choice(alloc, &absent, false)? == push::Default::Simple);
+    let matching = read(alloc, b"[push]\ndefault = matching\n", true)?;
+    assert!(rt; push::default_choice(alloc, &matching, false)? == push::Default::Matching);
+    let unknown = read(alloc, b"[push]\ndefault = most\n", true)?;
+    assert!(rt; push::default_choice(alloc, &unknown, true)? == push::Default::Simple);
+    assert!(rt; push::default_choice(alloc, &unknown, false).is_err());
     Ok(())
 }
