@@ -8,3 +8,4 @@ pub mod Cut
 pub mod Agents
 pub mod Peeling
 pub mod Driving
+pub mod Conversing
