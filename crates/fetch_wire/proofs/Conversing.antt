@@ -55,7 +55,7 @@ taken_by s before i what now (Some (Err (faults.Broken place))) is h takes = rw 
 taken_by s before i what now (Some (Err faults.TooLong)) is h takes = rw (rw (h.0, h.1) at takes) (same _)
 taken_by s before i what now (Some (Err (faults.Said text))) is h takes = rw (rw (h.0, h.1) at takes) (same _)
 
-fed_is : (s : SessionState) (piece : List ℕ) (trouble : Option WireError) → trouble ≡ None → fed_by trouble s piece ≡ read_on (record s { intake = taking piece s.intake })
+pub fed_is : (s : SessionState) (piece : List ℕ) (trouble : Option WireError) → trouble ≡ None → fed_by trouble s piece ≡ read_on (record s { intake = taking piece s.intake })
 fed_is s piece None h = refl
 fed_is s piece (Some e) h = absurd (cc)
 

@@ -9,3 +9,5 @@ pub mod Agents
 pub mod Peeling
 pub mod Driving
 pub mod Conversing
+pub mod SessionPieces
+pub mod SessionAlike
