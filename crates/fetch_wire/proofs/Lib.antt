@@ -8,3 +8,6 @@ pub mod Cut
 pub mod Agents
 pub mod Peeling
 pub mod Driving
+pub mod Conversing
+pub mod SessionPieces
+pub mod SessionAlike

@@ -35,3 +35,4 @@ pub mod Bands
 pub mod Progressing
 pub mod Parameters
 pub mod Intakes
+pub mod SessionStates

@@ -43,3 +43,14 @@ pub(crate) fn copy_option(text: &Option<Text>) -> Result<Option<Text>, NoMemory>
         None => Ok(None),
     }
 }
+
+/// A list of copies of these items.
+pub(crate) fn copy_slice<T: Copies>(alloc: Global, items: &[T]) -> Result<List<T>, NoMemory>
+    ensures { IfOk result (λ copy. copy ≡ items.now) }
+{
+    let mut copies = Vec::with_capacity(alloc, items.len())?;
+    for item in items {
+        copies.push(item.copy()?)?;
+    }
+    Ok(List::from(copies))
+}

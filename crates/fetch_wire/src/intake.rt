@@ -64,6 +64,41 @@ impl Intake {
         self.reading.is_some()
     }
 
+    /// How many bytes a reply may have.
+    pub(crate) fn bound(&self) -> ReplyBound
+        ensures { result ≡ self.now.bound }
+    {
+        self.lines.bound()
+    }
+
+    /// How many bytes the lines that were read of the awaited reply have.
+    pub(crate) fn place(&self) -> usize
+        ensures { result ≡ self.now.place }
+    {
+        self.lines.place()
+    }
+
+    /// Forgets what wasn't read, and awaits nothing.
+    pub(crate) fn clear(&mut self)
+        ensures { self.new ≡ spec.resting [] self.old }
+    {
+        self.reading = None;
+        self.lines.clear();
+    }
+
+    /// What wasn't read, and nothing awaited.
+    pub(crate) fn copy_resting(&self) -> Result<Intake, WireError>
+        ensures copied { IfOk result (λ copy. copy ≡ spec.resting self.now.pending self.now) }
+        ensures memory { IfErr result (λ e. e ≡ errors.NoMemory) }
+    {
+        let mut lines = LineReader::new(self.lines.allocator(), self.lines.bound());
+        lines.feed(self.lines.pending())?;
+        Ok(Intake {
+            lines,
+            reading: None,
+        })
+    }
+
     /// Reads on from what was told so far.
     fn read(&mut self, reading: Reading) -> Result<Found, NoMemory>
         requires { self.old.reading ≡ None }

@@ -20,6 +20,8 @@ ghost use Rattle.fetch_wire.specs.declared.awaited.Told.{Told};
 ghost use Rattle.fetch_wire.specs.declared.line.Line.TheVariants.{End};
 ghost use Rattle.fetch_wire.specs.Awaited.{start_of};
 ghost use Rattle.fetch_wire.specs.Feeding.{Feeding, fed, found_in, next_in, behind_next};
+ghost use Rattle.fetch_wire.specs.SessionStates.{SessionState};
+ghost use Rattle.fetch_wire.specs.SessionStates as session;
 ghost use Rattle.fetch_wire.specs.LinesTold.{Writes, Tells};
 ghost use Rattle.std.specs.Prelude.{true};
 ghost use Rattle.fetch_wire.specs.declared.awaited.AskedReply.{AskedReply};
@@ -104,4 +106,14 @@ pub fn lines_stay()
 pub fn packs_are_read_from_any_bands()
     ensures { (asked : AskedReply) (bands : List Band) → asked.done ≡ true → asked.read_pack ≡ true
         → Tells step_of (start_of (Reply asked)) (pack_lines bands) (told.Reply (packed bands)) }
+{}
+
+/// A session that is fed in pieces, however they are cut, is the one that is fed all of them at once.
+pub fn sessions_are_fed_in_pieces()
+    ensures { (s : SessionState) (piece others : List ℕ) → session.fed (session.fed s piece) others ≡ session.fed s (piece ++ others) }
+{}
+
+/// Sessions that differ only in how much of the awaited reply was read stay so, whatever they are fed.
+pub fn sessions_stay_alike()
+    ensures { (a b : SessionState) (piece : List ℕ) → session.IsAlike a b → session.IsAlike (session.fed a piece) (session.fed b piece) }
 {}

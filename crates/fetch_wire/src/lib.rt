@@ -5,6 +5,7 @@ mod advertisement;
 mod awaited;
 mod bound;
 mod cloning;
+pub mod conversation;
 mod cutting;
 mod error;
 mod fetch_reply;

@@ -62,6 +62,13 @@ impl LineReader {
         *self.bytes.allocator()
     }
 
+    /// How many bytes the reply may have.
+    pub fn bound(&self) -> ReplyBound
+        ensures { result ≡ self.now.bound }
+    {
+        self.bound
+    }
+
     /// How many bytes the lines that were read have.
     pub fn place(&self) -> usize
         ensures place { result ≡ self.now.place }
