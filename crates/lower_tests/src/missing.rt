@@ -1,3 +1,7 @@
+ghost use Rattle.std.specs.Prelude.{◌≡◌, IfOk};
+ghost use Rattle.fetch_store.specs.Id.{kind_of};
+ghost use Rattle.fetch_store.specs.declared.id.Kind.TheVariants as kinds;
+
 use fetch_store::{
     Border, Kind, Missing, NoMemory, Object, ObjectId, ObjectKind, Store, StoreError, Take,
     ascending, first_missing, first_missing_of_take, id_of, laws,
@@ -13,7 +17,9 @@ const FIRST: &[u8] =
 const SECOND: &[u8] =
     b"tree 4b825dc642cb6eb9a060e54bf8d69288fbee4904\nparent e69de29bb2d1d6434b8b29ae775ad8c2e48c5391\nauthor A <a@x> 1 +0000\ncommitter A <a@x> 1 +0000\n\ntwo\n";
 
-fn object(alloc: Global, kind: ObjectKind, text: &[u8]) -> Result<(ObjectId, Object), StoreError> {
+fn object(alloc: Global, kind: ObjectKind, text: &[u8]) -> Result<(ObjectId, Object), StoreError>
+    ensures { IfOk result (λ o. (kind_of o.0 ≡ kinds.Sha1) × (o.1.hash ≡ kinds.Sha1)) }
+{
     let object = Object::parse(Kind::Sha1, kind, Vec::from_slice(alloc, text)?)?;
     Ok((id_of(Kind::Sha1, kind, text), object))
 }

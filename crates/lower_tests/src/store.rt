@@ -66,7 +66,9 @@ fn add(store: &mut Store, objects: Vec<(ObjectId, Object)>) -> Result<(), StoreE
 
 /// Three commits of the empty tree, the last a merge of the others, and a tag of it. They come in two lists that
 /// share an object.
-fn history(alloc: Global) -> Result<Store, Fail> {
+fn history(alloc: Global) -> Result<Store, Fail>
+    ensures { IfOk result (λ store. store.hash ≡ kinds.Sha1) }
+{
     let mut store = Store::new(alloc, Kind::Sha1);
     add(
         &mut store,
