@@ -8,3 +8,8 @@ pub mod Undoing
 pub mod Standing
 pub mod Packs
 pub mod GainedLines
+pub mod LowerHex
+pub mod FullTexts
+pub mod PackedReads
+pub mod PackedLines
+pub mod FirstLines

@@ -34,6 +34,26 @@ module _ {K X : Type 0} (R : K → K → Ordering) where
 T-true : {b : Bool} → IsTrue b → T b
 T-true {b} h = subst T (sym h) tt
 
+is_less : (r : Ordering) → T (is_lt r) → r ≡ Less
+is_less Less h = refl
+is_less Equal h = absurd h
+is_less Greater h = absurd h
+
+two_parts : (a b : Bool) → T (a && b) → T a × T b
+two_parts true b h = (tt, h)
+two_parts false b h = absurd h
+
+module _ {K X : Type 0} (R : K → K → Ordering) where
+  all_below : (k : K) (es : List (K × X)) → T (below_all R k es) → AllByRecursion (λ y. R k y ≡ Less) (keys_of es)
+  all_below k [] h = tt
+  all_below k (e ∷ es) h = let t = two_parts (is_lt (R k e.0)) (below_all R k es) h in (is_less (R k e.0) t.0, all_below k es t.1)
+
+  -- what a map keeps, in the words of lists
+  pub sorted_entries : (es : List (K × X)) → T (is_sorted R es) → IsStrictlySortedBy R (keys_of es)
+  unfolding IsStrictlySortedBy
+  sorted_entries [] h = tt
+  sorted_entries (e ∷ es) h = let t = two_parts (below_all R e.0 es) (is_sorted R es) h in (all_below e.0 es t.0, sorted_entries es t.1)
+
 module _ {K X : Type 0} {R : K → K → Ordering} (o : IsTotalOrder R) where
   -- a key behind all others goes to the end
   pub insert-last : (es : List (K × X)) (k : K) (v : X) (rest : List (K × X)) → IsStrictlySortedBy R (keys_of (es ++ (k, v) ∷ rest)) → insert_entry R es k v ≡ es ++ (k, v) ∷ []

@@ -21,3 +21,5 @@ pub use Rattle.fetch_store.specs.Stores
 pub use Rattle.fetch_store.specs.Graph
 pub mod Iter
 pub mod Prepared
+pub mod Reading
+pub mod ReadSteps

@@ -113,7 +113,12 @@ fn copy_lines(lines: &List<LogLine>) -> Result<List<LogLine>, NoMemory>
     lines.try_clone_with(LogLine::try_clone)
 }
 
-fn add<V: Drop>(map: &mut BTreeMap<FullName, V>, name: FullName, value: V) -> Result<(), NoMemory>
+/// Puts a value at a name.
+pub(crate) fn add<V: Drop>(
+    map: &mut BTreeMap<FullName, V>,
+    name: FullName,
+    value: V,
+) -> Result<(), NoMemory>
     ensures { OnOk result (map.new.entries ≡ insert_entry name_cmp map.old.entries name value) }
 {
     map.insert(name, value)?;

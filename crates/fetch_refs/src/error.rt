@@ -113,3 +113,34 @@ impl<T: Drop> From<AllocFailed<T>> for RefError {
         RefError::NoMemory
     }
 }
+
+/// Why a packed text isn't read.
+#[derive(Clone, Copy, Debug, PartialEq, Eq, Error)]
+pub enum PackedError {
+    /// A line isn't an id in lower-case hex, a space, a full name and a line feed.
+    #[error("no entry of a packed list at byte {place}")]
+    Line {
+        /// The start of the first such line, from 0.
+        place: usize,
+    },
+    /// A line's name isn't above the name before it.
+    #[error("a name that doesn't ascend at byte {place}")]
+    Order {
+        /// The start of the first such line, from 0.
+        place: usize,
+    },
+    /// Memory ran out.
+    #[error("out of memory")]
+    NoMemory,
+}
+
+impl From<NoMemory> for PackedError {
+    ghost use Rattle.std.specs.Prelude.{◌≡◌};
+    ghost use Rattle.fetch_refs.specs.declared.error.PackedError.TheVariants as errors;
+
+    ghost from_gives = { λ _ e. e ≡ errors.NoMemory };
+
+    fn from(_e: NoMemory) -> PackedError {
+        PackedError::NoMemory
+    }
+}

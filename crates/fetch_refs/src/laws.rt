@@ -1,15 +1,19 @@
-//! Laws of edits, each the contract of a function that does nothing.
+//! Laws of edits and of packed texts, each the contract of a function that does nothing.
 
-ghost use Rattle.std.specs.Prelude.{◌≡◌, ℕ, Bool, true, false, List, [], ◌∷◌, ◌++◌};
+ghost use Rattle.std.specs.Prelude.{◌≡◌, ◌↔◌, ℕ, Bool, true, false, List, [], ◌∷◌, ◌++◌, Result, Ok};
 ghost use Rattle.std.specs.FinMap as map;
 ghost use Rattle.std.specs.List.{list_any};
+ghost use Rattle.fetch_store.specs.declared.id.Kind.{Kind};
 ghost use Rattle.fetch_refs.specs.Edits.{refs_after};
 ghost use Rattle.fetch_refs.specs.Gained.{deletes, gained};
 ghost use Rattle.fetch_refs.specs.Laws.{last_that, writes, left_by, IsAlike};
 ghost use Rattle.fetch_refs.specs.Logs.{Logging, after, lines_of, logs_after};
-ghost use Rattle.fetch_refs.specs.Names.{Logs, Names, RefsValue};
+ghost use Rattle.fetch_refs.specs.Names.{Logs, Names, PackedList, RefsValue};
+ghost use Rattle.fetch_refs.specs.Packed.{packed_text};
+ghost use Rattle.fetch_refs.specs.Reading.{references_of, AreEntries, IsAnswer};
 ghost use Rattle.fetch_refs.specs.declared.edit.PackedRefs.TheVariants.{Never, Only};
 ghost use Rattle.fetch_refs.specs.declared.edit.RefEdit.{RefEdit};
+ghost use Rattle.fetch_refs.specs.declared.error.PackedError.{PackedError};
 ghost use Rattle.fetch_refs.specs.declared.log.Signature.{Signature};
 
 /// At each name stands what the last edit that writes it leaves, and else what stood there.
@@ -29,4 +33,14 @@ pub fn a_reflog_gains_a_line_for_each_edit_since_the_last_deletion()
         → lines_of (logs_after how names logs edits) name ≡ lines_of logs name ++ gained how names name edits }
     ensures deleted { (how : Logging) (names : Names) (logs : Logs) (front : List RefEdit) (deletion : RefEdit) (since : List RefEdit) (name : List ℕ) → deletes name deletion ≡ true → list_any (deletes name) since ≡ false
         → lines_of (logs_after how names logs (front ++ deletion ∷ since)) name ≡ gained how (refs_after names (front ++ deletion ∷ [])) name since }
+{}
+
+/// No text has two answers: it is read as one list, or it has one first line that is refused, for one cause.
+pub fn a_packed_text_has_one_answer()
+    ensures { (kind : Kind) (text : List ℕ) (answer : Result RefsValue PackedError) (other : Result RefsValue PackedError) → IsAnswer kind text answer → IsAnswer kind text other → answer ≡ other }
+{}
+
+/// What a packed list is written as is read back as that list, where its names are full and its ids of the hash.
+pub fn a_packed_list_is_read_back()
+    ensures { (kind : Kind) (list : PackedList) (answer : Result RefsValue PackedError) → AreEntries kind list → IsAnswer kind (packed_text list) answer ↔ (answer ≡ Ok (references_of kind list)) }
 {}

@@ -15,13 +15,14 @@ mod peel;
 mod pending;
 mod prepare;
 mod prepared;
+mod reading;
 mod refs;
 mod slot;
 mod target;
 mod undo;
 
 pub use edit::{Change, LogChange, PackedRefs, PreviousValue, RefEdit, RefLog};
-pub use error::RefError;
+pub use error::{PackedError, RefError};
 pub use iter::RefIter;
 pub use log::{LogLine, Signature};
 pub use peel::peel_tags;
