@@ -13,3 +13,6 @@ pub mod FullTexts
 pub mod PackedReads
 pub mod PackedLines
 pub mod FirstLines
+pub mod Walks
+pub mod TagWays
+pub mod NameWays

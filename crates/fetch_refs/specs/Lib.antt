@@ -23,3 +23,4 @@ pub mod Iter
 pub mod Prepared
 pub mod Reading
 pub mod ReadSteps
+pub mod Leading

@@ -1,20 +1,26 @@
-//! Laws of edits and of packed texts, each the contract of a function that does nothing.
+//! Laws of edits, of packed texts and of ways to an id, each the contract of a function that does nothing.
 
-ghost use Rattle.std.specs.Prelude.{◌≡◌, ◌↔◌, ℕ, Bool, true, false, List, [], ◌∷◌, ◌++◌, Result, Ok};
+ghost use Rattle.std.specs.Prelude.{◌≡◌, ◌↔◌, ℕ, Bool, true, false, List, [], ◌∷◌, ◌++◌, Some, Result, Ok};
 ghost use Rattle.std.specs.FinMap as map;
 ghost use Rattle.std.specs.List.{list_any};
+ghost use Rattle.fetch_store.specs.Graph.{Graph};
 ghost use Rattle.fetch_store.specs.declared.id.Kind.{Kind};
+ghost use Rattle.fetch_store.specs.declared.id.ObjectId.{ObjectId};
 ghost use Rattle.fetch_refs.specs.Edits.{refs_after};
 ghost use Rattle.fetch_refs.specs.Gained.{deletes, gained};
 ghost use Rattle.fetch_refs.specs.Laws.{last_that, writes, left_by, IsAlike};
+ghost use Rattle.fetch_refs.specs.Leading.{EndsNames, EndsTags, IsPeeledTo};
 ghost use Rattle.fetch_refs.specs.Logs.{Logging, after, lines_of, logs_after};
 ghost use Rattle.fetch_refs.specs.Names.{Logs, Names, PackedList, RefsValue};
 ghost use Rattle.fetch_refs.specs.Packed.{packed_text};
+ghost use Rattle.fetch_refs.specs.Peeled.{peeled, resolved, through};
 ghost use Rattle.fetch_refs.specs.Reading.{references_of, AreEntries, IsAnswer};
 ghost use Rattle.fetch_refs.specs.declared.edit.PackedRefs.TheVariants.{Never, Only};
 ghost use Rattle.fetch_refs.specs.declared.edit.RefEdit.{RefEdit};
 ghost use Rattle.fetch_refs.specs.declared.error.PackedError.{PackedError};
+ghost use Rattle.fetch_refs.specs.declared.error.RefError.{RefError};
 ghost use Rattle.fetch_refs.specs.declared.log.Signature.{Signature};
+ghost use Rattle.fetch_refs.specs.declared.target.Target.{Target};
 
 /// At each name stands what the last edit that writes it leaves, and else what stood there.
 pub fn the_last_edit_stands()
@@ -43,4 +49,22 @@ pub fn a_packed_text_has_one_answer()
 /// What a packed list is written as is read back as that list, where its names are full and its ids of the hash.
 pub fn a_packed_list_is_read_back()
     ensures { (kind : Kind) (list : PackedList) (answer : Result RefsValue PackedError) → AreEntries kind list → IsAnswer kind (packed_text list) answer ↔ (answer ≡ Ok (references_of kind list)) }
+{}
+
+/// A reference that stands leads by names to an id, `Unborn`, `Cycle` or `Depth` exactly where a list of distinct
+/// symbolic ones leads there. Five names at most are visited; the target of the fifth is too deep unless it is one of
+/// the five.
+pub fn names_end_where_a_list_of_them_leads()
+    ensures { (names : Names) (name : List ℕ) (target : Target) (answer : Result ObjectId RefError) → map.get names name ≡ Some target → (resolved names name target ≡ answer) ↔ EndsNames names name answer }
+{}
+
+/// A way of tags ends at an id, `MissingObject` or `TagCycle` exactly where a list of distinct stored tags leads there.
+pub fn tags_end_where_a_list_of_them_leads()
+    ensures { (graph : Graph) (first : ObjectId) (answer : Result ObjectId RefError) → (through graph (map.len graph) [] first ≡ answer) ↔ EndsTags graph first answer }
+{}
+
+/// A direct reference is peeled to its id, a symbolic one to where the tags behind its names end, and any other name,
+/// or one whose names lead to no id, is refused as its names are.
+pub fn a_reference_is_peeled_along_names_and_tags()
+    ensures { (names : Names) (graph : Graph) (name : List ℕ) (answer : Result ObjectId RefError) → (peeled names graph name ≡ answer) ↔ IsPeeledTo names graph name answer }
 {}
