@@ -23,7 +23,7 @@ use Rattle.fetch_refs.specs.Names.{PackedList, RefsValue, name_cmp}
 use Rattle.fetch_refs.specs.Packed.{packed_line, packed_text, direct_id, all_direct}
 use Rattle.fetch_refs.specs.Packing.{line_if, same_option, keeps_packed}
 use Rattle.fetch_refs.specs.Slots.{with_slot, over, each}
-use Rattle.fetch_refs.proofs.Ids.{id_cmp_exact}
+use Rattle.fetch_store.proofs.Ids.{id_cmp_exact}
 use Rattle.fetch_refs.proofs.Overlays.{same_slot, get-each}
 use Rattle.fetch_refs.proofs.Standing.{entries-each, entries-none}
 

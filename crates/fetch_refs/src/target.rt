@@ -1,6 +1,6 @@
 //! What a reference points to.
 
-ghost use Rattle.std.specs.Prelude.{◌≡◌, ◌↔◌, IsTrue, IfOk};
+ghost use Rattle.std.specs.Prelude.{◌≡◌, IfOk};
 ghost use Rattle.std.specs.Ordering.{eq_by_cmp};
 ghost use Rattle.fetch_store.specs.Stores.{id_cmp};
 ghost use Rattle.fetch_refs.specs.Packed.{direct_id};
@@ -8,7 +8,7 @@ ghost use Rattle.fetch_refs.specs.Targets as spec;
 ghost use Rattle.fetch_refs.specs.Targets.{seen};
 
 use fetch_specs::FullName;
-use fetch_store::{NoMemory, ObjectId};
+use fetch_store::{NoMemory, ObjectId, same_id};
 
 /// An object, or the name of another reference.
 #[derive(Debug, PartialEq, Eq, Drop)]
@@ -87,11 +87,5 @@ impl TargetRef<'_> {
 pub(crate) fn is_same_id(id: &ObjectId, other: &ObjectId) -> bool
     ensures { result ≡ eq_by_cmp id_cmp id.now other.now }
 {
-    are_equal(id, other)
-}
-
-fn are_equal(id: &ObjectId, other: &ObjectId) -> bool
-    ensures { IsTrue result ↔ (id.now ≡ other.now) }
-{
-    *id == *other
+    same_id(id, other)
 }
