@@ -1,6 +1,7 @@
 //! Reading a packed text.
 
-ghost use Rattle.std.specs.Prelude.{◌≡◌, ◌++◌, ◌∷◌, [], List, ℕ, Bool, false, Ok, Err, Some, None, IfOk, IfErr, IfSome, IsTrue, ◌⊎◌, ◌↔◌};
+ghost use Rattle.std.specs.Prelude.{◌≡◌, ◌++◌, ◌∷◌, [], List, ℕ, Ok, Err, Some, None, IfOk, IfErr, IfSome, IsTrue, false};
+ghost use Rattle.std.specs.Char.{is_ascii_uppercase};
 ghost use Rattle.std.specs.List.{list_any};
 ghost use Rattle.std.specs.Ordering.{is_lt};
 ghost use Rattle.hex.specs.Hex.{encode_lower};
@@ -11,6 +12,7 @@ ghost use Rattle.fetch_store.specs.declared.id.ObjectId.{ObjectId};
 ghost use Rattle.fetch_refs.specs.Names.{RefsValue, name_cmp};
 ghost use Rattle.fetch_refs.specs.Packed.{packed_line};
 ghost use Rattle.fetch_refs.specs.Reading.{AnswersWhere, IsEntry, IsNoLineAt, IsOutOfOrderAt, IsReadAs};
+ghost use Rattle.fetch_refs.specs.ReadSteps as steps;
 ghost use Rattle.fetch_refs.specs.ReadSteps.{AreRead};
 ghost use Rattle.fetch_refs.specs.declared.error.PackedError.TheVariants as errors;
 ghost use Rattle.fetch_refs.specs.declared.slot.Slot.{Slot};
@@ -112,7 +114,7 @@ fn id_in_lower(kind: Kind, digits: &[u8]) -> Option<ObjectId>
 }
 
 fn has_capital(digits: &[u8]) -> bool
-    ensures { result ≡ list_any Rattle.std.specs.Char.is_ascii_uppercase digits.now }
+    ensures { result ≡ list_any is_ascii_uppercase digits.now }
 {
     digits.iter().any(|c| c.is_ascii_uppercase())
 }
@@ -143,7 +145,7 @@ fn is_above(names: &BTreeMap<FullName, Slot>, name: &FullName) -> bool
 
 /// The place of a direct reference that the packed list has.
 fn direct_slot(id: ObjectId) -> Slot
-    ensures { result ≡ Rattle.fetch_refs.specs.ReadSteps.direct_slot id }
+    ensures { result ≡ steps.direct_slot id }
 {
     Slot {
         value: Some(Target::Object(id)),
