@@ -1,8 +1,8 @@
 //! References: the packed list.
 
 use fetch_refs::{
-    Change, LogChange, PackedRefs, PreviousValue, RefEdit, RefLog, Refs, Signature, Target,
-    TargetRef,
+    Change, LogChange, PackedError, PackedRefs, PreviousValue, RefEdit, RefLog, Refs, Signature,
+    Target, TargetRef,
 };
 use fetch_specs::FullName;
 use fetch_store::{Kind, NoMemory, ObjectId, Text};
@@ -108,5 +108,46 @@ fn loose_references_are_packed_at_once(rt: HostRuntime) -> Result<(), Fail> {
         PackedRefs::Only,
     )?;
     assert_eq!(rt; refs.packed_text().len(), 0);
+    Ok(())
+}
+
+/// The refusal of a packed text for SHA-1.
+fn refusal(alloc: Global, text: &[u8]) -> Option<PackedError> {
+    match Refs::read_packed(alloc, Kind::Sha1, text) {
+        Ok(_) => None,
+        Err(e) => Some(e),
+    }
+}
+
+#[test]
+fn a_packed_text_is_read(rt: HostRuntime) -> Result<(), Fail> {
+    let alloc = rt.alloc();
+    let refs = Refs::read_packed(alloc, Kind::Sha1, LINE)?;
+    let name = FullName::new(alloc, NAME)?;
+    assert!(rt; refs.find(&name) == Some(TargetRef::Object(ObjectId::from_hex(HEX)?)));
+    assert!(rt; refs.packed_text() == LINE);
+    assert_eq!(rt; refs.reflog(&name).len(), 0);
+    assert_eq!(rt; refs.iter().len(), 1);
+    let none = Refs::read_packed(alloc, Kind::Sha256, b"")?;
+    assert_eq!(rt; none.iter().len(), 0);
+    Ok(())
+}
+
+#[test]
+fn the_first_bad_line_of_a_packed_text_is_told(rt: HostRuntime) -> Result<(), Fail> {
+    let alloc = rt.alloc();
+    let mut twice = Vec::from_slice(alloc, LINE)?;
+    twice.extend_from_slice(LINE)?;
+    assert!(rt; refusal(alloc, twice.as_slice()) == Some(PackedError::Order { place: 66 }));
+    assert!(rt; refusal(alloc, b"x\n") == Some(PackedError::Line { place: 0 }));
+    assert!(rt; refusal(alloc, &LINE[..65]) == Some(PackedError::Line { place: 0 }));
+    let mut behind = Vec::from_slice(alloc, LINE)?;
+    behind.push(b'\n')?;
+    assert!(rt; refusal(alloc, behind.as_slice()) == Some(PackedError::Line { place: 66 }));
+    let place = 66;
+    let told = format!(in alloc; "{}", PackedError::Line { place })?;
+    assert_eq!(rt; told.as_str(), "no entry of a packed list at byte 66");
+    let told = format!(in alloc; "{}", PackedError::Order { place })?;
+    assert_eq!(rt; told.as_str(), "a name that doesn't ascend at byte 66");
     Ok(())
 }
