@@ -16,3 +16,4 @@ pub mod FirstLines
 pub mod Walks
 pub mod TagWays
 pub mod NameWays
+pub mod PackedAnswers

@@ -1,5 +1,5 @@
 -- Where symbolic references end, by lists of names.
-use Rattle.std.proofs.Common.{◌≡◌, ℕ, suc, ◌+◌, ◌-◌, ◌<◌, ◌≤◌, Bool, true, false, ◌⊎◌, inl, inr, List, [], ◌∷◌, ◌++◌, length, Option, Some, None, Result, Ok, Err, refl, sym, ap, subst, ◌∙◌, arith}
+use Rattle.std.proofs.Common.{◌≡◌, ℕ, suc, ◌-◌, ◌<◌, ◌≤◌, Bool, true, false, inl, inr, List, [], ◌∷◌, ◌++◌, length, Option, Some, None, Result, Ok, Err, refl, sym, ap, subst, ◌∙◌, arith}
 use Rattle.std.specs.Prelude.{◌↔◌}
 use Rattle.std.specs.FinMap as finmap
 use Rattle.std.specs.List.{Contains, IsDistinct}
@@ -12,7 +12,7 @@ use Rattle.fetch_refs.specs.declared.error.RefError.{RefError}
 use Rattle.fetch_refs.specs.declared.error.RefError.TheVariants as errors
 use Rattle.fetch_refs.specs.declared.target.Target.{Target}
 use Rattle.fetch_refs.specs.declared.target.Target.TheVariants.{Object, Symbolic}
-use Rattle.fetch_refs.specs.Leading.{Leads, name_in, next_name, IsNameWay, EndsNames, EndsTags, IsPeeledTo}
+use Rattle.fetch_refs.specs.Leading.{name_in, next_name, IsNameWay, EndsNames, IsPeeledTo}
 use Rattle.fetch_refs.specs.Names.{Names}
 use Rattle.fetch_refs.specs.Peeled.{read, follow, resolved, through, and_then, peeled}
 use Rattle.fetch_refs.proofs.TagWays.{tags_end}

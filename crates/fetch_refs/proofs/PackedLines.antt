@@ -1,6 +1,6 @@
 -- The lines of a packed text, one after the other.
-use Rattle.std.proofs.Common.{◌≡◌, ℕ, ◌+◌, ◌-◌, ◌<◌, ◌≤◌, Bool, true, false, ◌⊎◌, inl, inr, List, [], ◌∷◌, ◌++◌, length, map, Option, Some, None, Result, Ok, Err, refl, sym, ap, subst, ◌∙◌, arith, append_assoc, append-nil, length-append}
-use Rattle.std.specs.List.{AllByRecursion, flat_map}
+use Rattle.std.proofs.Common.{◌≡◌, ℕ, ◌+◌, ◌-◌, ◌<◌, true, false, ◌⊎◌, inl, inr, List, [], ◌∷◌, ◌++◌, length, Option, Some, Result, Ok, Err, refl, sym, ap, subst, ◌∙◌, arith, append_assoc, append-nil, length-append}
+use Rattle.std.specs.List.{AllByRecursion}
 use Rattle.std.specs.List.Sorted.{IsStrictlySortedBy}
 use Rattle.std.specs.Map.{keys_of}
 use Rattle.std.specs.FinMap as finmap
@@ -23,8 +23,8 @@ use Rattle.fetch_refs.specs.Contents.{value_of, packed_of, list_of, names_of}
 use Rattle.fetch_refs.specs.Iter.{standing}
 use Rattle.fetch_refs.specs.Names.{Logs, Names, PackedList, RefsValue, name_cmp}
 use Rattle.fetch_refs.specs.Packed.{packed_line, packed_text}
-use Rattle.fetch_refs.specs.ReadSteps.{direct_slot, slots_of, AreAscending, AreReadTo, AreRead}
-use Rattle.fetch_refs.specs.Reading.{IsEntry, AreEntries, GoesOnAt, IsReadAs, IsNoLineAt, IsOutOfOrderAt, references_of}
+use Rattle.fetch_refs.specs.ReadSteps.{direct_slot, slots_of, AreReadTo, AreRead}
+use Rattle.fetch_refs.specs.Reading.{IsEntry, GoesOnAt, IsReadAs, IsNoLineAt, IsOutOfOrderAt}
 use Rattle.fetch_refs.specs.Slots.{over, each}
 use Rattle.fetch_refs.proofs.FullTexts.{feedless_name}
 use Rattle.fetch_refs.proofs.Maps.{insert-last}
@@ -52,7 +52,7 @@ entries-list : (es : Entries) → IsStrictlySortedBy name_cmp (keys_of es) → f
 entries-list es s = entries-each packed_of (slots_of es) (subst (IsStrictlySortedBy name_cmp) (sym (keys-slots es)) s) ∙ standing-slots es
 
 -- a list is empty, or it has a last element
-from_end : {X : Type 0} (xs : List X) → (xs ≡ []) ⊎ ((front : List X) × (last : X) × (xs ≡ front ++ last ∷ []))
+pub from_end : {X : Type 0} (xs : List X) → (xs ≡ []) ⊎ ((front : List X) × (last : X) × (xs ≡ front ++ last ∷ []))
 from_end [] = inl refl
 from_end {X} (x ∷ xs) =
     elim (from_end xs) [

@@ -1,16 +1,14 @@
 -- A packed text is read in one way.
-use Rattle.std.proofs.Common.{◌≡◌, ℕ, zero, suc, ◌+◌, ◌<◌, Bool, true, false, cond, ◌&&◌, ◌⊎◌, inl, inr, List, [], ◌∷◌, ◌++◌, length, Option, Some, None, Result, Ok, Err, refl, sym, ap, subst, ◌∙◌, arith, append_assoc, append-nil, length-append}
+use Rattle.std.proofs.Common.{◌≡◌, ℕ, ◌⊎◌, inl, inr, List, [], ◌∷◌, ◌++◌, length, Option, Some, Result, Ok, Err, refl, sym, ap, subst, ◌∙◌, arith, append_assoc, append-nil, length-append}
 use Rattle.std.specs.Prelude.{◌↔◌}
 use Rattle.std.specs.List.{AllByRecursion, flat_map}
 use Rattle.std.specs.List.Sorted.{IsStrictlySortedBy}
 use Rattle.std.specs.Map.{keys_of}
 use Rattle.std.specs.FinMap as finmap
-use Rattle.std.specs.declared.cmp.Ordering.{Ordering}
 use Rattle.std.specs.declared.cmp.Ordering.TheVariants.{Less}
 use Rattle.hex.specs.Hex.{encode_lower}
 use Rattle.fetch_store.specs.Id.{bytes_of, id_in_hex}
 use Rattle.fetch_store.specs.Lines.{IsWithout}
-use Rattle.fetch_store.specs.Scan.{split_first}
 use Rattle.fetch_store.specs.declared.id.Kind.{Kind}
 use Rattle.fetch_store.specs.declared.id.ObjectId.{ObjectId}
 use Rattle.fetch_store.proofs.LineLaws.{splits}
@@ -19,7 +17,7 @@ use Rattle.fetch_refs.specs.declared.error.PackedError.TheVariants as errors
 use Rattle.fetch_refs.specs.Names.{PackedList, RefsValue, name_cmp}
 use Rattle.fetch_refs.specs.Packed.{packed_line, packed_text}
 use Rattle.fetch_refs.specs.ReadSteps.{AreAscending}
-use Rattle.fetch_refs.specs.Reading.{IsEntry, AreEntries, GoesOnAt, IsReadAs, IsNoLineAt, IsOutOfOrderAt, IsAnswer, AnswersWhere, references_of}
+use Rattle.fetch_refs.specs.Reading.{IsEntry, AreEntries, IsReadAs, IsNoLineAt, IsOutOfOrderAt, IsAnswer, AnswersWhere, references_of}
 use Rattle.fetch_refs.proofs.FullTexts.{feedless_name}
 use Rattle.fetch_refs.proofs.LowerHex.{spaceless}
 use Rattle.fetch_refs.proofs.Maps.{sorted_entries}

@@ -1,5 +1,5 @@
 -- Reading a packed text: the entries that it has, and where it goes on otherwise.
-use Rattle.std.specs.Prelude.{◌≡◌, ℕ, ◌<◌, List, [], ◌∷◌, ◌++◌, length, Option, Some, Result, Ok, Err, IsTrue, ◌⊎◌}
+use Rattle.std.specs.Prelude.{◌≡◌, ℕ, ◌<◌, List, [], ◌∷◌, ◌++◌, length, Some, Result, Ok, Err, IsTrue, ◌⊎◌}
 use Rattle.std.specs.FinMap as map
 use Rattle.std.specs.List.{AllByRecursion}
 use Rattle.std.specs.declared.cmp.Ordering.TheVariants.{Less}
@@ -10,7 +10,6 @@ use Rattle.fetch_store.specs.declared.id.Kind.{Kind}
 use Rattle.fetch_store.specs.declared.id.ObjectId.{ObjectId}
 use Rattle.fetch_refs.specs.declared.error.PackedError.{PackedError}
 use Rattle.fetch_refs.specs.declared.error.PackedError.TheVariants as errors
-use Rattle.fetch_refs.specs.declared.target.Target.{Target}
 use Rattle.fetch_refs.specs.declared.target.Target.TheVariants.{Object}
 use Rattle.fetch_refs.specs.Names.{PackedList, RefsValue, name_cmp}
 use Rattle.fetch_refs.specs.Packed.{packed_line, packed_text}

@@ -41,9 +41,10 @@ pub fn a_reflog_gains_a_line_for_each_edit_since_the_last_deletion()
         → lines_of (logs_after how names logs (front ++ deletion ∷ since)) name ≡ gained how (refs_after names (front ++ deletion ∷ [])) name since }
 {}
 
-/// No text has two answers: it is read as one list, or it has one first line that is refused, for one cause.
+/// Each text has exactly one answer: it is read as one list, or it has one first line that is refused, for one cause.
 pub fn a_packed_text_has_one_answer()
-    ensures { (kind : Kind) (text : List ℕ) (answer : Result RefsValue PackedError) (other : Result RefsValue PackedError) → IsAnswer kind text answer → IsAnswer kind text other → answer ≡ other }
+    ensures some { (kind : Kind) (text : List ℕ) → (answer : Result RefsValue PackedError) × IsAnswer kind text answer }
+    ensures one { (kind : Kind) (text : List ℕ) (answer : Result RefsValue PackedError) (other : Result RefsValue PackedError) → IsAnswer kind text answer → IsAnswer kind text other → answer ≡ other }
 {}
 
 /// What a packed list is written as is read back as that list, where its names are full and its ids of the hash.

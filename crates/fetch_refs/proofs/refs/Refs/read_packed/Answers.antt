@@ -3,7 +3,6 @@ use Rattle.std.specs.FinMap as finmap
 use Rattle.fetch_refs.specs.declared.log.LogLine.{LogLine}
 use Rattle.fetch_refs.specs.Overlay.{logs_of}
 use Rattle.fetch_refs.specs.declared.error.PackedError.{PackedError}
-use Rattle.fetch_refs.specs.declared.error.PackedError.TheVariants as errors
 use Rattle.fetch_refs.proofs.PackedLines.{whole, right_error}
 use Rattle.fetch_refs.proofs.PackedReads.{where_ok, where_line, where_order}
 use Rattle.fetch_refs.proofs.refs.Refs.read_packed.Goals as goal
