@@ -14,7 +14,10 @@ pub use closed::{
 };
 pub use counts::distinct_stored_ids_are_no_more_than_objects;
 pub use pieces::{splits_exactly, splits_last_exactly};
-pub use reach::{reached_is_closed, reached_is_reached_on};
+pub use reach::{
+    reached_grows_with_the_store, reached_is_closed, reached_is_level_by_level,
+    reached_is_reached_on,
+};
 pub use stores::{
     a_collision_is_the_first_entry_that_differs, what_stands_comes_from_the_store_or_the_list,
 };
