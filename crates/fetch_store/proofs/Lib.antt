@@ -43,3 +43,4 @@ pub mod Slashes
 pub mod FiniteMaps
 pub mod TreeChanges
 pub mod Silent
+pub mod Rooted

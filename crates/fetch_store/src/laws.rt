@@ -6,6 +6,7 @@ mod pieces;
 mod reach;
 mod stores;
 mod texts;
+mod trees;
 
 pub use closed::{
     a_connected_pack_keeps_a_repository_closed, adding_keeps_what_is_stored,
@@ -25,3 +26,4 @@ pub use texts::{
     a_place_is_where_the_grammar_breaks, commits_are_texts, links_are_no_more_than_bytes,
     tags_are_texts, trees_are_texts,
 };
+pub use trees::nothing_stands_below_a_file;
