@@ -1,4 +1,3 @@
-pub mod Digits
 pub mod Decoding
 pub mod FirstLine
 pub mod Edits

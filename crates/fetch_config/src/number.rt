@@ -1,47 +1,10 @@
 //! Numbers and truth values.
 
-ghost use Rattle.std.specs.Prelude.{◌≡◌, ◌+◌, ◌<◌, ◌^◌, IsTrue, IfSome, option_map, length};
-ghost use Rattle.std.specs.Option.{SomeIff};
-ghost use Rattle.std.specs.Str.{all_ascii_digits, bytes_eq};
-ghost use Rattle.std.specs.Str.Parse.{digits_value};
-ghost use Rattle.fetch_store.specs.Scan.{is_decimal};
+ghost use Rattle.std.specs.Prelude.{◌≡◌, ◌+◌, ◌<◌, ◌^◌, IfSome, option_map};
+ghost use Rattle.std.specs.Str.{bytes_eq};
 ghost use Rattle.fetch_config.specs.Numbers as spec;
 
-fn all_digits(text: &[u8]) -> bool
-    ensures { result ≡ all_ascii_digits text.now }
-{
-    for c in text {
-        if !c.is_ascii_digit() {
-            return false;
-        }
-    }
-    true
-}
-
-fn is_decimal(text: &[u8]) -> bool
-    ensures { result ≡ is_decimal text.now }
-{
-    !text.is_empty() && all_digits(text)
-}
-
-/// The number that digits write, where it has 64 bits at most.
-fn number(digits: &[u8]) -> Option<u64>
-    requires { IsTrue (all_ascii_digits digits.now) }
-    ensures { SomeIff result (digits_value 10 digits.now < 2 ^ 64) (digits_value 10 digits.now) }
-{
-    let mut value: u64 = 0;
-    for c in digits {
-        let digit = u64::from(*c - b'0');
-        let Some(tens) = value.checked_mul(10) else {
-            return None;
-        };
-        let Some(more) = tens.checked_add(digit) else {
-            return None;
-        };
-        value = more;
-    }
-    Some(value)
-}
+use fetch_store::decimal;
 
 fn unit_of(c: u8) -> Option<u64>
     ensures { result ≡ spec.unit_of c }
@@ -75,10 +38,7 @@ fn magnitude(text: &[u8]) -> Option<u64>
     ensures within { IfSome result (λ n. n < 2 ^ 63 + 1) }
 {
     let (digits, unit) = split_unit(text);
-    if !is_decimal(digits) {
-        return None;
-    }
-    let number = number(digits)?.checked_mul(unit)?;
+    let number = decimal(digits)?.checked_mul(unit)?;
     if number <= 1 << 63 {
         Some(number)
     } else {

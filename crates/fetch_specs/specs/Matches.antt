@@ -127,12 +127,15 @@ id_mapping kind i spec (Some id) =
 abbrev pub id_match : Kind → ℕ → Spec → Option Match
 id_match kind i spec = id_mapping kind i spec (source_id spec.source)
 
--- what a positive spec whose source is no id maps of a name that isn't excluded
-abbrev pub name_mapping : List Spec → ℕ → Spec → ℕ → List ℕ → Option (List ℕ) → Option Match
-name_mapping specs i spec j name None = None
-name_mapping specs i spec j name (Some middle) =
-    if is_exclusion spec.mode || is_some (source_id spec.source) || is_excluded specs name then None
+-- what a positive spec whose source is no id maps of a name, unless that is excluded
+abbrev pub mapping_unless : Bool → ℕ → Spec → ℕ → List ℕ → Option (List ℕ) → Option Match
+mapping_unless excluded i spec j name None = None
+mapping_unless excluded i spec j name (Some middle) =
+    if is_exclusion spec.mode || is_some (source_id spec.source) || excluded then None
     else Some (record { lhs = sources.FullName name; rhs = option_map (expanded middle) spec.destination; item_index = Some j; spec_index = i })
+
+abbrev pub name_mapping : List Spec → ℕ → Spec → ℕ → List ℕ → Option (List ℕ) → Option Match
+name_mapping specs i spec j name middle = mapping_unless (is_excluded specs name) i spec j name middle
 
 abbrev pub name_match : List Spec → ℕ → Spec → ℕ → List ℕ → Option Match
 name_match specs i spec j name = name_mapping specs i spec j name (source_taken spec.source name)

@@ -185,21 +185,49 @@ fn id_match(
     }))
 }
 
-/// What a refspec maps of a name.
+/// Names, and which of them an exclusion takes out.
+#[derive(Drop)]
+struct Names<'a> {
+    specs: &'a [RefSpec],
+    items: &'a [Item],
+    /// Of each item, whether an exclusion matches its name.
+    excluded: Vec<bool>,
+    ghost tested: { excluded.items ≡ map (λ item. words.is_excluded specs.now item.full_ref_name) items.now },
+}
+
+impl<'a> Names<'a> {
+    /// Tests each name once against the exclusions.
+    fn new(alloc: Global, specs: &'a [RefSpec], items: &'a [Item]) -> Result<Names<'a>, NoMemory>
+        ensures specs { IfOk result (λ names. names.specs.now ≡ specs.entry.now) }
+        ensures items { IfOk result (λ names. names.items.now ≡ items.entry.now) }
+    {
+        let mut excluded = Vec::with_capacity(alloc, items.len())?;
+        for item in items {
+            excluded.push(is_excluded(specs, item.full_ref_name.as_bytes()))?;
+        }
+        Ok(Names {
+            specs,
+            items,
+            excluded,
+        })
+    }
+}
+
+/// What a refspec maps of a name, unless that is excluded.
 fn name_match(
     alloc: Global,
-    specs: &[RefSpec],
+    excluded: bool,
     index: usize,
     spec: &RefSpec,
     item: usize,
     name: &[u8],
 ) -> Result<Option<Match>, NoMemory>
-    ensures { IfOk result (λ found. found ≡ words.name_match specs.now index spec.now item name.now) }
+    ensures { IfOk result (λ found. found ≡ words.mapping_unless excluded index spec.now item name.now (words.source_taken spec.now.source name.now)) }
 {
     let Some(middle) = source_taken(spec.source(), name) else {
         return Ok(None);
     };
-    if is_exclusion(spec) || source_id(spec.source()).is_some() || is_excluded(specs, name) {
+    if is_exclusion(spec) || source_id(spec.source()).is_some() || excluded {
         return Ok(None);
     }
     let rhs = expanded_side(alloc, middle, spec.destination())?;
@@ -235,17 +263,17 @@ fn add_ids(alloc: Global, found: &mut Found, specs: &[RefSpec], kind: Kind) -> R
 fn add_names_of(
     alloc: Global,
     found: &mut Found,
-    specs: &[RefSpec],
+    names: &Names<'_>,
     index: usize,
     spec: &RefSpec,
-    items: &[Item],
 ) -> Result<(), NoMemory>
-    ensures added { OnOk result (found.new.matches ≡ added_all found.old.pairs found.old.matches (words.names_from (words.name_matches specs.now index spec.now) 0 (map (λ item. item.full_ref_name) items.now))) }
+    ensures added { OnOk result (found.new.matches ≡ added_all found.old.pairs found.old.matches (words.names_from (words.name_matches names.now.specs.now index spec.now) 0 (map (λ item. item.full_ref_name) names.now.items.now))) }
     ensures pairs { found.new.pairs ≡ found.old.pairs }
 {
+    let items = names.items;
     for j in 0..items.len() {
         let name = items[j].full_ref_name.as_bytes();
-        let one = name_match(alloc, specs, index, spec, j, name)?;
+        let one = name_match(alloc, names.excluded[j], index, spec, j, name)?;
         add_some(found, one)?;
     }
     Ok(())
@@ -260,8 +288,9 @@ fn add_names(
     ensures added { OnOk result (found.new.matches ≡ added_all found.old.pairs found.old.matches (words.specs_from (words.name_matches specs.now) 0 specs.now (map (λ item. item.full_ref_name) items.now))) }
     ensures pairs { found.new.pairs ≡ found.old.pairs }
 {
+    let names = Names::new(alloc, specs, items)?;
     for i in 0..specs.len() {
-        add_names_of(alloc, found, specs, i, &specs[i], items)?;
+        add_names_of(alloc, found, &names, i, &specs[i])?;
     }
     Ok(())
 }

@@ -21,6 +21,8 @@ pub mod Whole
 pub mod Honesty
 pub mod Reaching
 pub mod Unclosed
+pub mod Members
+pub mod Spreading
 pub mod Arranged
 pub mod Consistent
 pub mod Firsts
@@ -41,3 +43,4 @@ pub mod Slashes
 pub mod FiniteMaps
 pub mod TreeChanges
 pub mod Silent
+pub mod Rooted

@@ -23,7 +23,8 @@ few_by h hash e bytes (Some s) is more =
     let first = one_more (h s.part) (filter_map h (reading hash s.expected s.rest).parts) in
     subst (λ xs. length xs ≤ length bytes) (sym (parts_step h hash e bytes s is)) (omega arith)
 
-few : {X : Type 0} (n : ℕ) (h : Part → Option X) (hash : Kind) (e : Expected) (bytes : List ℕ) → length bytes ≤ n → length (filter_map h (reading hash e bytes).parts) ≤ length bytes
+-- of any reading
+pub few : {X : Type 0} (n : ℕ) (h : Part → Option X) (hash : Kind) (e : Expected) (bytes : List ℕ) → length bytes ≤ n → length (filter_map h (reading hash e bytes).parts) ≤ length bytes
 few zero h hash e bytes short = few_by h hash e bytes (part_at hash e bytes) refl (λ s lt. absurd (omega arith))
 few (suc n) h hash e bytes short = few_by h hash e bytes (part_at hash e bytes) refl (λ s lt. few n h hash s.expected s.rest (omega arith))
 

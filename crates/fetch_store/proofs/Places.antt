@@ -1,6 +1,6 @@
 -- Where reading ends, a line or an entry that may stand there doesn't begin.
-use Rattle.std.proofs.Common.{◌≡◌, ℕ, zero, suc, ◌-◌, ◌<◌, ◌≤◌, ◌^◌, Bool, true, false, cond, not, ◌&&◌, List, [], ◌∷◌, ◌++◌, length, flat_map, Option, None, Some, inl, inr, refl, sym, ap, ap₂, subst, ◌∙◌, arith, append_assoc, length-append}
-use Rattle.std.specs.Prelude.{codes, nat_eq, nat_le, nat_lt, IsTrue}
+use Rattle.std.proofs.Common.{◌≡◌, ℕ, zero, suc, ◌≤◌, ◌^◌, true, false, cond, ◌&&◌, List, [], ◌∷◌, ◌++◌, length, flat_map, Option, None, Some, inl, inr, refl, sym, ap, ap₂, subst, ◌∙◌, arith, append_assoc, length-append}
+use Rattle.std.specs.Prelude.{codes, nat_eq, nat_le, nat_lt}
 use Rattle.std.specs.List.{starts_with}
 use Rattle.std.specs.Str.Parse.{digits_value}
 use Rattle.std.proofs.lemmas.Bool.{and_from, le-leb, lt-ltb}
@@ -12,16 +12,16 @@ use Rattle.fetch_store.specs.Hashing.{name_of}
 use Rattle.fetch_store.specs.Scan.{◌>>=◌, split_first, is_decimal}
 use Rattle.fetch_store.specs.Lines.{IsWithout}
 use Rattle.fetch_store.specs.Grammar.{Step, id_after, committed, parent_or_author, kind_after, part_at}
-use Rattle.fetch_store.specs.Objects.{Reading, reading, reading_of, first_of, may_end, IsObject, is_object, place_of}
-use Rattle.fetch_store.specs.Texts.{IsHexId, line as text_line}
-use Rattle.fetch_store.specs.TreeTexts.{TreeEntry, IsEntry, entry_text}
+use Rattle.fetch_store.specs.Objects.{Reading, reading, reading_of, first_of, may_end, is_object, place_of}
+use Rattle.fetch_store.specs.Texts.{line as text_line}
+use Rattle.fetch_store.specs.TreeTexts.{entry_text}
 use Rattle.fetch_store.specs.Places.{Signature, IsSignature, signature_text, MayStand, AreWhole, BreaksAt}
 use Rattle.fetch_store.proofs.LineLaws.{splits}
 use Rattle.fetch_store.proofs.LastLaws.{splits_last}
 use Rattle.fetch_store.proofs.Readings.{bind_some, part_shorter, reading_step, reading_end}
 use Rattle.fetch_store.proofs.TagTexts.{after_of, id_after_is, id_after_of, feedless, headline, head_of, tagged, typed, kind_after_is, kind_after_of, kind_feedless}
-use Rattle.fetch_store.proofs.CommitTexts.{treed, parented, authored, at_seconds, both_without, parts_without, decimal_without, offset_without, Headed, author, parent, headed, Signed, signed_of, committed_of, author_part, parent_part}
-use Rattle.fetch_store.proofs.TreeTexts.{made, Front, front_of, part_of}
+use Rattle.fetch_store.proofs.CommitTexts.{treed, parented, authored, at_seconds, both_without, parts_without, decimal_without, offset_without, Headed, author, parent, headed, signed_of, committed_of, author_part, parent_part}
+use Rattle.fetch_store.proofs.TreeTexts.{made, front_of, part_of}
 
 -- ---- what is read is a line or an entry that may stand there
 record Stands (hash : Kind) (e : Expected) (bytes : List ℕ) (s : Step) : Type 0 where

@@ -1,9 +1,13 @@
 -- Walks one after the other.
-use Rattle.std.proofs.Common.{◌≡◌, List, [], ◌∷◌, ◌++◌, Some, All, Contains, refl, sym, subst}
+use Rattle.std.proofs.Common.{◌≡◌, Bool, true, false, ap, Option, None, List, [], ◌∷◌, ◌++◌, Some, All, Contains, refl, sym, subst}
 use Rattle.std.specs.FinMap.{get}
+use Rattle.std.specs.FinSet as set
+use Rattle.std.specs.Prelude.{IsSome, IsTrue, is_some, if◌then◌else◌}
+use Rattle.std.proofs.lemmas.List.Elements.{All-contains, All-contains_itself}
 use Rattle.fetch_store.specs.declared.id.ObjectId.{ObjectId}
 use Rattle.fetch_store.specs.Objects.{Stored}
-use Rattle.fetch_store.specs.Closed.{Holding, IsClosed, IsStored, IsWalk, Reached, links_within}
+use Rattle.fetch_store.specs.Closed.{Holding, Grows, IsClosed, IsStored, IsWalk, Reached, links, links_within, others}
+use Rattle.fetch_store.proofs.Lists.{others_from_links}
 
 -- what holds of each id of a list holds of one that it contains
 pub All-Contains : (P : ObjectId → Type 0) (xs : List ObjectId) (x : ObjectId) → All P xs → Contains xs x → P x
@@ -34,3 +38,29 @@ pub reached_closed : (h : Holding) (starts : List ObjectId) (id next : ObjectId)
     → Reached h starts id → Reached h starts next
 reached_closed h starts id next o closed is linked r =
     reached_next h starts id next o is linked (All-Contains (IsStored h.objects) (links_within h.border id o) next (closed.linked id o is) linked) r
+
+-- ---- in a store that has grown
+more_links : (o : Stored) (id : ObjectId) → Contains (others o) id → Contains (links o) id
+more_links o id h = All-contains (Contains (links o)) (others o) id (others_from_links (Contains (links o)) o (All-contains_itself (links o))) h
+
+links_left : (before now : Bool) (o : Stored) (id : ObjectId) → (now ≡ true → before ≡ true) → Contains (if before then others o else links o) id → Contains (if now then others o else links o) id
+links_left true true o id less h = h
+links_left true false o id less h = more_links o id h
+links_left false false o id less h = h
+links_left false true o id less h = let no : false ≡ true = less refl in absurd (cc)
+
+module _ (before now : Holding) (grows : Grows before.objects now.objects) (less : (id : ObjectId) → IsTrue (set.contains now.border id) → IsTrue (set.contains before.border id)) where
+  stored_on : (id : ObjectId) → IsStored before.objects id → IsStored now.objects id
+  stored_on id there = by_value (get before.objects id) refl there
+    where
+      by_value : (o : Option Stored) → get before.objects id ≡ o → IsSome o → IsStored now.objects id
+      by_value None is there = absurd (cc)
+      by_value (Some o) is there = ap is_some (grows.keeps id o is)
+
+  walk_grown : (a : ObjectId) (xs : List ObjectId) (b : ObjectId) → IsWalk before a xs b → IsWalk now a xs b
+  walk_grown a [] b w = (stored_on a w.0, w.1)
+  walk_grown a (next ∷ rest) b w =
+      (w.0, grows.keeps a w.0 w.1, links_left (set.contains before.border a) (set.contains now.border a) w.0 next (less a) w.2, walk_grown next rest b w.3)
+
+  pub reached_grown : (starts : List ObjectId) (id : ObjectId) → Reached before starts id → Reached now starts id
+  reached_grown starts id r = record { start = r.start; among = r.among; rest = r.rest; walk = walk_grown r.start r.rest id r.walk }

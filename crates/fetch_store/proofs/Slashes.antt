@@ -1,10 +1,10 @@
 -- The parts of a path, found one after another.
 use Rattle.std.proofs.Common.{◌≡◌, ℕ, Bool, true, false, cond, not, ◌&&◌, List, [], ◌∷◌, ◌++◌, Option, Some, None, refl, sym, ap, ◌∙◌, ◌⊎◌, inl, inr, length, take, map, ◌<◌, ◌+◌, zero, suc, arith}
 use Rattle.std.specs.Prelude.{◌==◌, filter}
-use Rattle.std.specs.List.{list_all, slice_split, onto_first}
+use Rattle.std.specs.List.{list_all, slice_split}
 use Rattle.std.specs.Option.{option_and_then}
 use Rattle.std.specs.Cmp.Lexicographic.{slice_cmp, texts_ties}
-use Rattle.std.specs.Ordering.{nat_cmp, is_eq, ordering_then, eq_by_cmp}
+use Rattle.std.specs.Ordering.{nat_cmp, is_eq, ordering_then}
 use Rattle.std.specs.Str.{bytes_eq}
 use Rattle.std.specs.declared.cmp.Ordering.{Ordering}
 use Rattle.std.specs.declared.cmp.Ordering.TheVariants.{Less, Equal, Greater}
@@ -12,7 +12,7 @@ use Rattle.std.proofs.lemmas.Bool.{eqb-true}
 use Rattle.std.proofs.lemmas.Grind.{common_steps}
 use Rattle.fetch_store.specs.Scan.{split_first}
 use Rattle.fetch_store.specs.Lines.{IsWithout}
-use Rattle.fetch_store.specs.Paths.{Path, path_cmp, is_part, is_same_path, parts_of, parts_in, parents_of, after_path}
+use Rattle.fetch_store.specs.Paths.{Path, path_cmp, is_part, is_same_path, parts_of, parents_of, after_path}
 use Rattle.fetch_store.proofs.LineLaws.{splits}
 
 abbrev pieces : List ℕ → List (List ℕ)

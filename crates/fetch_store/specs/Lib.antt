@@ -14,6 +14,8 @@ pub mod Borders
 pub mod Closed
 pub mod Honest
 pub mod Missing
+pub mod Spread
+pub mod Found
 pub mod Indexes
 pub mod Entries
 pub mod Buffers

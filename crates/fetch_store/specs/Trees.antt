@@ -1,5 +1,5 @@
 -- Trees of files, and what each call does to one. A call that answers None here is refused: something of the wrong kind is in its way, or nothing stands where it asks for something.
-use Rattle.std.specs.Prelude.{ℕ, Bool, true, false, ◌||◌, not, List, [], ◌∷◌, ◌++◌, Option, Some, None, if◌then◌else◌, is_none, is_some}
+use Rattle.std.specs.Prelude.{ℕ, Bool, true, false, ◌||◌, not, List, [], ◌∷◌, ◌++◌, Option, Some, None, if◌then◌else◌, is_none, is_some, IsSome, IsTrue}
 use Rattle.std.specs.List.{list_any, filter_map}
 use Rattle.std.specs.Option.{option_map}
 use Rattle.std.specs.FinMap as map
@@ -54,6 +54,10 @@ if_name (Some name) = name ∷ []
 
 abbrev pub names_behind : Path → List Path → List (List ℕ)
 names_behind path keys = filter_map (λ key. name_behind (after_path path key)) keys
+
+-- Where something stands, the path right above is a directory: nothing stands below a file.
+pub record IsRooted (t : Tree) : Type 0 where
+  pub each : (path : Path) → IsSome (map.get t path) → IsTrue (is_directory (node_at t (parent_of path)))
 
 -- ---- calls that ask
 

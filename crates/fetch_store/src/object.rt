@@ -315,6 +315,25 @@ impl Iterator for Links<'_> {
     }
 }
 
+impl ExactSizeIterator for Links<'_> {
+    /// How many ids are left. It reads what is left of the object.
+    fn len(&self) -> usize {
+        // There are no more ids than bytes.
+        let _bytes = self.rest.len();
+        let mut left = Links {
+            hash: self.hash,
+            wanted: self.wanted,
+            expected: self.expected,
+            rest: self.rest,
+        };
+        let mut count = 0;
+        'ids: while let Some(_id) = left.next() {
+            count += 1;
+        }
+        count
+    }
+}
+
 fn wanted_in(wanted: Wanted, part: Part) -> Option<ObjectId>
     ensures { result ≡ wanted_id wanted part }
 {

@@ -1,4 +1,4 @@
-use Rattle.std.proofs.Common.{◌∙◌, ap, sym, arith, List, ◌++◌, ◌∷◌, [], take, length, ℕ, ◌≡◌, ◌<◌, ◌+◌}
+use Rattle.std.proofs.Common.{◌∙◌, ap, sym, arith, List, ◌++◌, ◌∷◌, [], take, length, ℕ, ◌≡◌}
 use Rattle.fetch_store.specs.Paths.{Path, parents_of}
 use Rattle.fetch_store.proofs.Slashes.{parents-step, parents-all}
 use Rattle.fetch_store.proofs.file_path.FilePath.parents.Goals as goal
