@@ -11,3 +11,4 @@ pub mod Driving
 pub mod Conversing
 pub mod SessionPieces
 pub mod SessionAlike
+pub mod SessionSending

@@ -22,6 +22,10 @@ ghost use Rattle.fetch_wire.specs.Awaited.{start_of};
 ghost use Rattle.fetch_wire.specs.Feeding.{Feeding, fed, found_in, next_in, behind_next};
 ghost use Rattle.fetch_wire.specs.SessionStates.{SessionState};
 ghost use Rattle.fetch_wire.specs.SessionStates as session;
+ghost use Rattle.fetch_wire.specs.Talks.{IsFront};
+ghost use Rattle.fetch_wire.specs.declared.records.Request.{Request};
+ghost use Rattle.fetch_wire.specs.declared.turn.Turn.TheVariants as turns;
+ghost use Rattle.std.specs.Prelude.{Bool, length, drop};
 ghost use Rattle.fetch_wire.specs.LinesTold.{Writes, Tells};
 ghost use Rattle.std.specs.Prelude.{true};
 ghost use Rattle.fetch_wire.specs.declared.awaited.AskedReply.{AskedReply};
@@ -116,4 +120,32 @@ pub fn sessions_are_fed_in_pieces()
 /// Sessions that differ only in how much of the awaited reply was read stay so, whatever they are fed.
 pub fn sessions_stay_alike()
     ensures { (a b : SessionState) (piece : List ℕ) → session.IsAlike a b → session.IsAlike (session.fed a piece) (session.fed b piece) }
+{}
+
+/// Sessions that differ only in how much of the awaited reply was read stay so where the peer's bytes end.
+pub fn sessions_end_alike()
+    ensures { (a b : SessionState) → session.IsAlike a b → session.IsAlike (session.ended a) (session.ended b) }
+{}
+
+/// It is the same turn in both of such sessions. Where nothing is awaited they are one, and so they are after a request.
+pub fn sessions_take_turns_alike()
+    ensures { (a b : SessionState) → session.IsAlike a b → (session.turn_of a ≡ session.turn_of b) × (session.turn_of a ≡ turns.Idle → a ≡ b) }
+{}
+
+/// A request to either of such sessions makes them alike again.
+pub fn sessions_request_alike()
+    ensures { (a b : SessionState) (r : Request) (read_pack : Bool) → session.IsAlike a b → session.turn_of a ≡ turns.Idle
+        → session.IsAlike (session.requested a r read_pack) (session.requested b r read_pack) }
+{}
+
+/// Bytes that are fed add to what is to be sent, and take nothing from it.
+pub fn feeding_adds_to_what_is_sent()
+    ensures { (s : SessionState) (piece : List ℕ) → IsFront s.outgoing (session.fed s piece).outgoing }
+{}
+
+/// What is to be sent may be sent before bytes are fed or after: the session is the same.
+pub fn sending_and_feeding_commute()
+    ensures { (s : SessionState) (piece : List ℕ) (n : ℕ) → n ≤ length s.outgoing
+        → session.fed (record s { outgoing = drop n s.outgoing }) piece
+        ≡ record (session.fed s piece) { outgoing = drop n (session.fed s piece).outgoing } }
 {}
