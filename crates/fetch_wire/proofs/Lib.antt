@@ -12,3 +12,5 @@ pub mod Conversing
 pub mod SessionPieces
 pub mod SessionAlike
 pub mod SessionSending
+pub mod StepKeeps
+pub mod NamedOnce

@@ -36,3 +36,4 @@ pub mod Progressing
 pub mod Parameters
 pub mod Intakes
 pub mod SessionStates
+pub mod NamesTold

@@ -27,6 +27,7 @@ ghost use Rattle.fetch_wire.specs.declared.records.Request.{Request};
 ghost use Rattle.fetch_wire.specs.declared.turn.Turn.TheVariants as turns;
 ghost use Rattle.std.specs.Prelude.{Bool, length, drop};
 ghost use Rattle.fetch_wire.specs.LinesTold.{Writes, Tells};
+ghost use Rattle.fetch_wire.specs.NamesTold.{NamesOnce};
 ghost use Rattle.std.specs.Prelude.{true};
 ghost use Rattle.fetch_wire.specs.declared.awaited.AskedReply.{AskedReply};
 ghost use Rattle.fetch_wire.specs.declared.awaited.Await.TheVariants.{Reply};
@@ -97,6 +98,12 @@ pub fn written_lines_are_read()
 pub fn replies_are_read_in_either_case()
     ensures { (bound : ℕ) (awaited : Await) (lines : List Line) (told : Told) (rest bytes : List ℕ)
         → Writes bound 0 lines rest bytes → Tells step_of (start_of awaited) lines told → told_at bound awaited bytes ≡ Ok (told, rest) }
+{}
+
+/// A listing that was read, of either version, names each reference once.
+pub fn references_are_named_once()
+    ensures { (bound : ℕ) (awaited : Await) (bytes rest : List ℕ) (told : Told) → told_at bound awaited bytes ≡ Ok (told, rest)
+        → NamesOnce told }
 {}
 
 /// A line that a reader gave, or refused, before more bytes were fed is the one that it gives or refuses behind them,
