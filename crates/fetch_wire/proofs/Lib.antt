@@ -14,3 +14,8 @@ pub mod SessionAlike
 pub mod SessionSending
 pub mod StepKeeps
 pub mod NamedOnce
+pub mod Moving
+pub mod IdTexts
+pub mod GreetingLines
+pub mod ListingLines
+pub mod ReplyLines

@@ -37,3 +37,4 @@ pub mod Parameters
 pub mod Intakes
 pub mod SessionStates
 pub mod NamesTold
+pub mod ServerLines
