@@ -19,3 +19,4 @@ pub mod IdTexts
 pub mod GreetingLines
 pub mod ListingLines
 pub mod ReplyLines
+pub mod AdvertisementLines

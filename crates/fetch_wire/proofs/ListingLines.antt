@@ -36,7 +36,7 @@ use Rattle.fetch_wire.proofs.WordLaws.{words-front, words-one}
 
 -- ---- the words of a line
 
-words_spaced : (word : List ℕ) (others : List (List ℕ)) → IsWithout 32 word → All (IsWithout 32) others → words (word ++ spaced others) ≡ word ∷ others
+pub words_spaced : (word : List ℕ) (others : List (List ℕ)) → IsWithout 32 word → All (IsWithout 32) others → words (word ++ spaced others) ≡ word ∷ others
 words_spaced word [] none all = ap words (append-nil word) ∙ words-one word none
 words_spaced word (next ∷ others) none all =
     words-front word (next ++ spaced others) none
@@ -45,7 +45,7 @@ words_spaced word (next ∷ others) none all =
 hex_whole : (kind : Kind) (id : ObjectId) → IsIdOf kind id → IsWithout 32 (encode_lower (bytes_of id))
 hex_whole kind id is = hex_all (λ b. not (b == 32)) (bytes_of id) refl is.bytes
 
-id_whole : (kind : Kind) (id : Option ObjectId) → IfSome id (IsIdOf kind) → IsWithout 32 (id_text id)
+pub id_whole : (kind : Kind) (id : Option ObjectId) → IfSome id (IsIdOf kind) → IsWithout 32 (id_text id)
 id_whole kind None is = refl
 id_whole kind (Some id) is = hex_whole kind id is
 
@@ -125,7 +125,7 @@ ref_read kind r is =
 
 -- ---- its lines
 
-no_error_by : (kind : Kind) (id : Option ObjectId) (more : List ℕ) → IfSome id (IsIdOf kind) → is_error ((id_text id ++ more) ++ 10 ∷ []) ≡ false
+pub no_error_by : (kind : Kind) (id : Option ObjectId) (more : List ℕ) → IfSome id (IsIdOf kind) → is_error ((id_text id ++ more) ++ 10 ∷ []) ≡ false
 unfolding is_error
 no_error_by kind None more is = refl
 no_error_by kind (Some id) more is =
@@ -140,7 +140,7 @@ none_of : (a b : Bool) → a ≡ false → b ≡ false → (a || b) ≡ false
 none_of a b e f = rw (e, f) refl
 
 -- a name that stands once wasn't listed before
-apart : (before : List Ref) (r : Ref) (refs : List Ref) → AreNamedOnce (before ++ r ∷ refs) → is_listed before r ≡ false
+pub apart : (before : List Ref) (r : Ref) (refs : List Ref) → AreNamedOnce (before ++ r ∷ refs) → is_listed before r ≡ false
 unfolding IsDistinct
 apart [] r refs once = refl
 apart (q ∷ before) r refs once = none_of (bytes_eq (name_in q) (name_in r)) (is_listed before r) (apart_at (name_in q) before r refs once.0) (apart before r refs once.1)

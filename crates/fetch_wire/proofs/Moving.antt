@@ -14,7 +14,7 @@ use Rattle.fetch_wire.specs.Awaited.{step_of, start_of, told_at}
 use Rattle.fetch_wire.specs.LineLaws.{IsLine}
 use Rattle.fetch_wire.specs.Lines.{line_len}
 use Rattle.fetch_wire.specs.LinesTold.{Writes, Tells, lines_tell}
-use Rattle.fetch_wire.specs.Requests.{text_line}
+use Rattle.fetch_wire.specs.Requests.{sent, text_line}
 use Rattle.fetch_wire.specs.Stepping.{Step, goes, ends, breaks}
 use Rattle.fetch_wire.specs.Steps.{by_line}
 use Rattle.fetch_wire.specs.Texts.{without_lf, is_error}
@@ -50,6 +50,11 @@ lf_last text =
 -- a text line of a server that doesn't fail
 pub by_text_line : {S T : Type 0} (flush delim : Step S T) (f : List ℕ → Step S T) (text : List ℕ) → is_error (text ++ 10 ∷ []) ≡ false → by_line flush delim f (text_line text) ≡ f text
 by_text_line flush delim f text none = rw none (ap f (lf_last text))
+
+-- texts one after another
+pub sent_on : (s t u : Reading) (texts others : List (List ℕ)) → Moves step_of s (sent texts) t → Moves step_of t (sent others) u → Moves step_of s (sent (texts ++ others)) u
+sent_on s t u [] others is more = subst (λ x. Moves step_of x (sent others) u) (sym is) more
+sent_on s t u (text ∷ texts) others (v, goes_on, rest) more = (v, goes_on, sent_on v t u texts others rest more)
 
 -- ---- no line is a response end
 

@@ -32,12 +32,7 @@ use Rattle.fetch_wire.specs.Stepping.{Step, goes, ends, breaks, or_breaks}
 use Rattle.fetch_wire.specs.Texts.{is_error, without_lf}
 use Rattle.fetch_wire.proofs.Cut.{are_the_bytes}
 use Rattle.fetch_wire.proofs.IdTexts.{id_read}
-use Rattle.fetch_wire.proofs.Moving.{Moves, moves_tell, moves_on, by_text_line, first_tells}
-
--- texts one after another
-sent_on : (s t u : Reading) (texts others : List (List ℕ)) → Moves step_of s (sent texts) t → Moves step_of t (sent others) u → Moves step_of s (sent (texts ++ others)) u
-sent_on s t u [] others is more = subst (λ x. Moves step_of x (sent others) u) (sym is) more
-sent_on s t u (text ∷ texts) others (v, goes_on, rest) more = (v, goes_on, sent_on v t u texts others rest more)
+use Rattle.fetch_wire.proofs.Moving.{Moves, moves_tell, moves_on, by_text_line, first_tells, sent_on}
 
 -- a reply that told this much
 abbrev so_far : List ObjectId → List ObjectId → List ObjectId → FetchReply
@@ -104,7 +99,7 @@ round_tells asked ids more are had =
 
 -- ---- the change of the border
 
-shallow_read : (kind : Kind) (id : ObjectId) → IsIdOf kind id → shallow_in kind (codes "shallow " ++ encode_lower (bytes_of id)) ≡ Some id
+pub shallow_read : (kind : Kind) (id : ObjectId) → IsIdOf kind id → shallow_in kind (codes "shallow " ++ encode_lower (bytes_of id)) ≡ Some id
 unfolding shallow_in
 shallow_read kind id is = ap (option_and_then (id_in_hex kind)) (after_of (codes "shallow ") (encode_lower (bytes_of id))) ∙ id_read kind id is
 
@@ -116,7 +111,7 @@ not_shallow : (kind : Kind) (hex : List ℕ) → shallow_in kind (codes "unshall
 unfolding shallow_in
 not_shallow kind hex = refl
 
-shallow_fails_not : (hex : List ℕ) → is_error ((codes "shallow " ++ hex) ++ 10 ∷ []) ≡ false
+pub shallow_fails_not : (hex : List ℕ) → is_error ((codes "shallow " ++ hex) ++ 10 ∷ []) ≡ false
 unfolding is_error
 shallow_fails_not hex = refl
 

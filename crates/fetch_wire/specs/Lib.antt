@@ -38,3 +38,4 @@ pub mod Intakes
 pub mod SessionStates
 pub mod NamesTold
 pub mod ServerLines
+pub mod AdvertisementLines

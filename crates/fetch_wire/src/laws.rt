@@ -29,6 +29,8 @@ ghost use Rattle.std.specs.Prelude.{Bool, length, drop};
 ghost use Rattle.fetch_wire.specs.LinesTold.{Writes, Tells};
 ghost use Rattle.fetch_wire.specs.NamesTold.{NamesOnce, AreNamedOnce};
 ghost use Rattle.fetch_wire.specs.ServerLines.{greeting_lines, IsTellable, listing_lines_of, IsListable, IsIdOf, round_lines, in_round, BorderChange, IsChangeOf, change_lines, last_lines, at_last, with_change, ready_lines, bands_of};
+ghost use Rattle.fetch_wire.specs.AdvertisementLines.{advertisement_lines, IsOneWord, IsAdvertisable};
+ghost use Rattle.fetch_wire.specs.Advertisements.{handshake_1, is_null};
 ghost use Rattle.fetch_wire.specs.Greetings.{handshake_of};
 ghost use Rattle.fetch_wire.specs.FetchReplies.{has_id, no_reply};
 ghost use Rattle.fetch_wire.specs.Requests.{text_line};
@@ -185,6 +187,15 @@ pub fn greetings_are_read_back()
 pub fn listings_are_read_back()
     ensures { (kind : Kind) (refs : List Ref) → All (IsListable kind) refs → AreNamedOnce refs
         → Tells step_of (start_of (await.Listing kind)) (listing_lines_of refs) (told.Listing refs) }
+{}
+
+/// An advertisement of version 1 is read back, of references with names of their own or of none, and with the border.
+pub fn advertisements_are_read_back()
+    ensures { (null : ObjectId) (capabilities : List Capability) (refs : List Ref) (border : List ObjectId) → All IsTellable capabilities
+        → All IsOneWord capabilities → IsIdOf (handshake_1 capabilities).object_hash null → is_null null ≡ true
+        → All (IsAdvertisable (handshake_1 capabilities).object_hash capabilities) refs → AreNamedOnce refs
+        → All (IsIdOf (handshake_1 capabilities).object_hash) border
+        → Tells step_of (start_of await.Greeting) (advertisement_lines null capabilities refs border) (told.Advertisement (handshake_1 capabilities) refs) }
 {}
 
 /// Acknowledgments of haves are read back, where the request doesn't end the rounds.
