@@ -11,3 +11,12 @@ pub mod Driving
 pub mod Conversing
 pub mod SessionPieces
 pub mod SessionAlike
+pub mod SessionSending
+pub mod StepKeeps
+pub mod NamedOnce
+pub mod Moving
+pub mod IdTexts
+pub mod GreetingLines
+pub mod ListingLines
+pub mod ReplyLines
+pub mod AdvertisementLines

@@ -1,5 +1,5 @@
 -- The last reference listed, whose tag peels to an id.
-use Rattle.std.proofs.Common.{◌≡◌, ℕ, Bool, true, false, Option, Some, None, List, [], ◌∷◌, ◌++◌, refl, sym, ap, ◌∙◌}
+use Rattle.std.proofs.Common.{◌≡◌, ℕ, Bool, true, false, Some, None, List, [], ◌∷◌, ◌++◌, refl, ap, ◌∙◌}
 use Rattle.std.specs.Prelude.{if◌then◌else◌}
 use Rattle.std.specs.Option.{option_map}
 use Rattle.std.specs.Str.{bytes_eq}
@@ -12,7 +12,7 @@ if_before : (b : Bool) (a : Ref) (refs : List Ref) → option_map (λ more. a �
 if_before true a refs = refl
 if_before false a refs = refl
 
-peel_front : (id : ObjectId) (name : List ℕ) (front : List Ref) (r : Ref) → with_peel id name (front ++ r ∷ []) ≡ (if bytes_eq (name_in r) name then Some (front ++ peeled_to id r ∷ []) else None)
+pub peel_front : (id : ObjectId) (name : List ℕ) (front : List Ref) (r : Ref) → with_peel id name (front ++ r ∷ []) ≡ (if bytes_eq (name_in r) name then Some (front ++ peeled_to id r ∷ []) else None)
 peel_front id name [] r = refl
 peel_front id name (a ∷ []) r = if_before (bytes_eq (name_in r) name) a (peeled_to id r ∷ [])
 peel_front id name (a ∷ b ∷ front) r =

@@ -1,15 +1,18 @@
 -- Sessions that are alike stay alike.
-use Rattle.std.proofs.Common.{◌≡◌, ℕ, List, [], ◌++◌, Option, Some, None, Result, Ok, Err, refl, sym, ap, ◌∙◌, subst, append_assoc}
+use Rattle.std.proofs.Common.{◌≡◌, ℕ, Bool, true, false, List, [], ◌++◌, Option, Some, None, Result, Ok, Err, refl, sym, ap, ◌∙◌, subst, append_assoc}
+use Rattle.std.specs.Prelude.{is_some}
 use Rattle.fetch_wire.specs.declared.awaited.Fault.{Fault}
 use Rattle.fetch_wire.specs.declared.awaited.Fault.TheVariants as faults
 use Rattle.fetch_wire.specs.declared.awaited.Told.{Told}
 use Rattle.fetch_wire.specs.declared.error.WireError.{WireError}
 use Rattle.fetch_wire.specs.declared.error.WireError.TheVariants as errors
 use Rattle.fetch_wire.specs.declared.reading.Reading.{Reading}
+use Rattle.fetch_wire.specs.declared.records.Request.{Request}
+use Rattle.fetch_wire.specs.declared.turn.Turn.TheVariants as turns
 use Rattle.fetch_wire.specs.Awaited.{told_from}
 use Rattle.fetch_wire.specs.Intakes.{Intake, told_with, taking}
 use Rattle.fetch_wire.specs.Intakes as intakes
-use Rattle.fetch_wire.specs.SessionStates.{SessionState, IsAlike, after_told, read_one, rests, asks, keeps, fed}
+use Rattle.fetch_wire.specs.SessionStates.{SessionState, IsAlike, after_told, after_end, error_of, read_one, rests, asks, keeps, fed, ended, requested, is_all_sent, refusal_of, turn_by, turn_of}
 use Rattle.fetch_wire.proofs.Conversing.{same, fed_is}
 use Rattle.fetch_wire.proofs.SessionPieces.{stuck}
 
@@ -61,3 +64,80 @@ fed_alike s j piece None well h =
 
 pub stays_alike : (a b : SessionState) (piece : List ℕ) → IsAlike a b → IsAlike (fed a piece) (fed b piece)
 stays_alike a b piece h = subst (λ (x : SessionState). IsAlike (fed a piece) (fed x piece)) h.others (fed_alike a b.intake piece a.trouble refl h.intake)
+
+-- ---- the end of a peer's bytes
+
+end_alike : (s : SessionState) (j : Intake) (trouble : Option WireError) (found : Option (Result (Told × List ℕ) Fault)) → intakes.IsAlike s.intake j
+    → IsAlike (after_end s trouble found) (after_end (record s { intake = j }) trouble found)
+end_alike s j (Some e) found h = record { intake = h; others = refl }
+end_alike s j None None h = record { intake = h; others = refl }
+end_alike s j None (Some (Ok x)) h = record { intake = h; others = refl }
+end_alike s j None (Some (Err fault)) h = alike_by _ _ (ap (λ (n : ℕ). record (left_at s n []) { trouble = Some (error_of n fault); refused = true }) h.bound)
+
+pub ends_alike : (a b : SessionState) → IsAlike a b → IsAlike (ended a) (ended b)
+ends_alike a b h =
+    subst (λ (x : SessionState). IsAlike (ended a) (ended x)) h.others
+    (subst (λ (f : Option (Result (Told × List ℕ) Fault)). IsAlike (after_end a a.trouble f) (after_end (record a { intake = b.intake }) a.trouble (told_with b.intake []))) (sym (h.intake.told []))
+    (end_alike a b.intake a.trouble (told_with b.intake []) h.intake))
+
+-- ---- whose turn it is
+
+-- sessions that are alike and await nothing are one
+pub rests_same : (a b : SessionState) → IsAlike a b → a.intake.reading ≡ None → a ≡ b
+rests_same a b h none = ap (λ (i : Intake). record a { intake = i }) (h.intake.resting none) ∙ h.others
+
+awaits_by : (i j : Intake) (r t : Option Reading) → i.reading ≡ r → j.reading ≡ t → told_with i [] ≡ told_with j [] → is_some r ≡ is_some t
+awaits_by i j None None is also told = refl
+awaits_by i j (Some r) (Some t) is also told = refl
+awaits_by i j None (Some t) is also told = absurd (let e = rw (is, also) at told in cc)
+awaits_by i j (Some r) None is also told = absurd (let e = rw (is, also) at told in cc)
+
+-- both await a reply, or none
+pub awaits_alike : (i j : Intake) → intakes.IsAlike i j → is_some i.reading ≡ is_some j.reading
+awaits_alike i j h = awaits_by i j i.reading j.reading refl refl (h.told [])
+
+pub same_turn : (a b : SessionState) → IsAlike a b → turn_of a ≡ turn_of b
+same_turn a b h = ap (turn_by (refusal_of a) (is_all_sent a)) (awaits_alike a.intake b.intake h.intake) ∙ ap turn_of h.others
+
+none_awaited : (refusal : Option WireError) (sent : Bool) (r : Option Reading) → turn_by refusal sent (is_some r) ≡ turns.Idle → r ≡ None
+none_awaited (Some e) sent r is = cc
+none_awaited None false r is = cc
+none_awaited None true None is = refl
+none_awaited None true (Some r) is = cc
+
+-- whose turn is nobody's awaits nothing
+pub idle_rests : (s : SessionState) → turn_of s ≡ turns.Idle → s.intake.reading ≡ None
+idle_rests s idle = none_awaited (refusal_of s) (is_all_sent s) s.intake.reading idle
+
+pub requests_alike : (a b : SessionState) (r : Request) (read_pack : Bool) → IsAlike a b → turn_of a ≡ turns.Idle → IsAlike (requested a r read_pack) (requested b r read_pack)
+requests_alike a b r read_pack h idle = alike_by _ _ (ap (λ (s : SessionState). requested s r read_pack) (rests_same a b h (idle_rests a idle)))
+
+-- ---- alike in turn
+
+-- none is awaited where nothing is told
+none_told : (i : Intake) (r : Option Reading) → i.reading ≡ r → told_with i [] ≡ None → r ≡ None
+none_told i None is told = refl
+none_told i (Some r) is told = absurd (let e = rw is at told in cc)
+
+intake_back : (i j : Intake) → intakes.IsAlike i j → intakes.IsAlike j i
+intake_back i j h = record {
+  bound = sym h.bound;
+  told = λ more. sym (h.told more);
+  resting = λ none. sym (h.resting (none_told i i.reading refl (h.told [] ∙ (rw none refl))));
+}
+
+intake_then : (i j k : Intake) → intakes.IsAlike i j → intakes.IsAlike j k → intakes.IsAlike i k
+intake_then i j k h g = record {
+  bound = h.bound ∙ g.bound;
+  told = λ more. h.told more ∙ g.told more;
+  resting = λ none. h.resting none ∙ g.resting (subst (λ (x : Intake). x.reading ≡ None) (h.resting none) none);
+}
+
+pub alike_back : (a b : SessionState) → IsAlike a b → IsAlike b a
+alike_back a b h = record { intake = intake_back a.intake b.intake h.intake; others = sym (ap (λ (x : SessionState). record x { intake = a.intake }) h.others) }
+
+pub alike_then : (a b c : SessionState) → IsAlike a b → IsAlike b c → IsAlike a c
+alike_then a b c h g = record {
+  intake = intake_then a.intake b.intake c.intake h.intake g.intake;
+  others = ap (λ (x : SessionState). record x { intake = c.intake }) h.others ∙ g.others;
+}

@@ -20,13 +20,13 @@ words-step : (b : ℕ) (bytes : List ℕ) (word : List ℕ) (others : List (List
 words-step b bytes word others true is other h = cc
 words-step b bytes word others false is other h = rw (is, h) refl
 
-words-front : (word rest : List ℕ) → IsWithout 32 word → words (word ++ 32 ∷ rest) ≡ word ∷ words rest
+pub words-front : (word rest : List ℕ) → IsWithout 32 word → words (word ++ 32 ∷ rest) ≡ word ∷ words rest
 words-front [] rest none = refl
 words-front (b ∷ word) rest none =
     let t = both (not (b == 32)) (list_all (λ c. not (c == 32)) word) none in
     words-step b (word ++ 32 ∷ rest) word (words rest) (b == 32) refl (not_space (b == 32) t.0) (words-front word rest t.1)
 
-words-one : (text : List ℕ) → IsWithout 32 text → words text ≡ text ∷ []
+pub words-one : (text : List ℕ) → IsWithout 32 text → words text ≡ text ∷ []
 words-one [] none = refl
 words-one (b ∷ text) none =
     let t = both (not (b == 32)) (list_all (λ c. not (c == 32)) text) none in

@@ -51,10 +51,11 @@ first_tells : {S T : Type 0} (step : S → Line → Step S T) (s t : S) (line : 
 first_tells step s t line [] x goes_on tells = absurd tells
 first_tells step s t line (next ∷ lines) x goes_on tells = (t, goes_on, tells)
 
-abbrev behind : FetchReply → List ℕ → List (List ℕ) → FetchReply
+-- a reply with this much of the pack
+abbrev pub behind : FetchReply → List ℕ → List (List ℕ) → FetchReply
 behind reply pack progress = record reply { pack = Some pack; progress = progress }
 
-bands_tell : (asked : AskedReply) (reply : FetchReply) (pack : List ℕ) (progress : List (List ℕ)) (bands : List Band)
+pub bands_tell : (asked : AskedReply) (reply : FetchReply) (pack : List ℕ) (progress : List (List ℕ)) (bands : List Band)
     → Tells step_of (reading.Reply asked Bands (behind reply pack progress)) (map band_line bands ++ Flush ∷ []) (told.Reply (behind reply (pack ++ concat (pieces_of bands)) (progress ++ texts_of bands)))
 unfolding step_of
 bands_tell asked reply pack progress [] = rw (append-nil pack, append-nil progress) refl

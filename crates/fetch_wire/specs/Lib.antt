@@ -36,3 +36,6 @@ pub mod Progressing
 pub mod Parameters
 pub mod Intakes
 pub mod SessionStates
+pub mod NamesTold
+pub mod ServerLines
+pub mod AdvertisementLines

@@ -22,7 +22,25 @@ ghost use Rattle.fetch_wire.specs.Awaited.{start_of};
 ghost use Rattle.fetch_wire.specs.Feeding.{Feeding, fed, found_in, next_in, behind_next};
 ghost use Rattle.fetch_wire.specs.SessionStates.{SessionState};
 ghost use Rattle.fetch_wire.specs.SessionStates as session;
+ghost use Rattle.fetch_wire.specs.Talks.{IsFront};
+ghost use Rattle.fetch_wire.specs.declared.records.Request.{Request};
+ghost use Rattle.fetch_wire.specs.declared.turn.Turn.TheVariants as turns;
+ghost use Rattle.std.specs.Prelude.{Bool, length, drop};
 ghost use Rattle.fetch_wire.specs.LinesTold.{Writes, Tells};
+ghost use Rattle.fetch_wire.specs.NamesTold.{NamesOnce, AreNamedOnce};
+ghost use Rattle.fetch_wire.specs.ServerLines.{greeting_lines, IsTellable, listing_lines_of, IsListable, IsIdOf, round_lines, in_round, BorderChange, IsChangeOf, change_lines, last_lines, at_last, with_change, ready_lines, bands_of};
+ghost use Rattle.fetch_wire.specs.AdvertisementLines.{advertisement_lines, IsOneWord, IsAdvertisable};
+ghost use Rattle.fetch_wire.specs.Advertisements.{handshake_1, is_null};
+ghost use Rattle.fetch_wire.specs.Greetings.{handshake_of};
+ghost use Rattle.fetch_wire.specs.FetchReplies.{has_id, no_reply};
+ghost use Rattle.fetch_wire.specs.Requests.{text_line};
+ghost use Rattle.fetch_wire.specs.Written.{lines_text, first_too_long};
+ghost use Rattle.fetch_wire.specs.declared.handshake.Capability.{Capability};
+ghost use Rattle.fetch_wire.specs.declared.reference.Ref.{Ref};
+ghost use Rattle.fetch_store.specs.declared.id.Kind.{Kind};
+ghost use Rattle.fetch_store.specs.declared.id.ObjectId.{ObjectId};
+ghost use Rattle.fetch_wire.specs.declared.awaited.Await.TheVariants as await;
+ghost use Rattle.std.specs.Prelude.{All, Option, Some, IfSome, false, sum_by, codes, ◌∷◌};
 ghost use Rattle.std.specs.Prelude.{true};
 ghost use Rattle.fetch_wire.specs.declared.awaited.AskedReply.{AskedReply};
 ghost use Rattle.fetch_wire.specs.declared.awaited.Await.TheVariants.{Reply};
@@ -95,6 +113,12 @@ pub fn replies_are_read_in_either_case()
         → Writes bound 0 lines rest bytes → Tells step_of (start_of awaited) lines told → told_at bound awaited bytes ≡ Ok (told, rest) }
 {}
 
+/// A listing that was read, of either version, names each reference once.
+pub fn references_are_named_once()
+    ensures { (bound : ℕ) (awaited : Await) (bytes rest : List ℕ) (told : Told) → told_at bound awaited bytes ≡ Ok (told, rest)
+        → NamesOnce told }
+{}
+
 /// A line that a reader gave, or refused, before more bytes were fed is the one that it gives or refuses behind them,
 /// and it leaves the same.
 pub fn lines_stay()
@@ -116,4 +140,90 @@ pub fn sessions_are_fed_in_pieces()
 /// Sessions that differ only in how much of the awaited reply was read stay so, whatever they are fed.
 pub fn sessions_stay_alike()
     ensures { (a b : SessionState) (piece : List ℕ) → session.IsAlike a b → session.IsAlike (session.fed a piece) (session.fed b piece) }
+{}
+
+/// Sessions that differ only in how much of the awaited reply was read stay so where the peer's bytes end.
+pub fn sessions_end_alike()
+    ensures { (a b : SessionState) → session.IsAlike a b → session.IsAlike (session.ended a) (session.ended b) }
+{}
+
+/// It is the same turn in both of such sessions. Where nothing is awaited they are one, and so they are after a request.
+pub fn sessions_take_turns_alike()
+    ensures { (a b : SessionState) → session.IsAlike a b → (session.turn_of a ≡ session.turn_of b) × (session.turn_of a ≡ turns.Idle → a ≡ b) }
+{}
+
+/// A request to either of such sessions makes them alike again.
+pub fn sessions_request_alike()
+    ensures { (a b : SessionState) (r : Request) (read_pack : Bool) → session.IsAlike a b → session.turn_of a ≡ turns.Idle
+        → session.IsAlike (session.requested a r read_pack) (session.requested b r read_pack) }
+{}
+
+/// Bytes that are fed add to what is to be sent, and take nothing from it.
+pub fn feeding_adds_to_what_is_sent()
+    ensures { (s : SessionState) (piece : List ℕ) → IsFront s.outgoing (session.fed s piece).outgoing }
+{}
+
+/// What is to be sent may be sent before bytes are fed or after: the session is the same.
+pub fn sending_and_feeding_commute()
+    ensures { (s : SessionState) (piece : List ℕ) (n : ℕ) → n ≤ length s.outgoing
+        → session.fed (record s { outgoing = drop n s.outgoing }) piece
+        ≡ record (session.fed s piece) { outgoing = drop n (session.fed s piece).outgoing } }
+{}
+
+/// Lines that tell a reply, and fit, tell it as they are written, whatever comes behind.
+pub fn replies_are_read_as_written()
+    ensures { (bound : ℕ) (awaited : Await) (lines : List Line) (told : Told) (rest : List ℕ)
+        → Tells step_of (start_of awaited) lines told → first_too_long lines ≡ None → sum_by line_len lines ≤ bound
+        → told_at bound awaited (lines_text lines ++ rest) ≡ Ok (told, rest) }
+{}
+
+/// A greeting is read back.
+pub fn greetings_are_read_back()
+    ensures { (capabilities : List Capability) → All IsTellable capabilities
+        → Tells step_of (start_of await.Greeting) (greeting_lines capabilities) (told.Greeting (handshake_of capabilities)) }
+{}
+
+/// A listing of references with names of their own is read back.
+pub fn listings_are_read_back()
+    ensures { (kind : Kind) (refs : List Ref) → All (IsListable kind) refs → AreNamedOnce refs
+        → Tells step_of (start_of (await.Listing kind)) (listing_lines_of refs) (told.Listing refs) }
+{}
+
+/// An advertisement of version 1 is read back, of references with names of their own or of none, and with the border.
+pub fn advertisements_are_read_back()
+    ensures { (null : ObjectId) (capabilities : List Capability) (refs : List Ref) (border : List ObjectId) → All IsTellable capabilities
+        → All IsOneWord capabilities → IsIdOf (handshake_1 capabilities).object_hash null → is_null null ≡ true
+        → All (IsAdvertisable (handshake_1 capabilities).object_hash capabilities) refs → AreNamedOnce refs
+        → All (IsIdOf (handshake_1 capabilities).object_hash) border
+        → Tells step_of (start_of await.Greeting) (advertisement_lines null capabilities refs border) (told.Advertisement (handshake_1 capabilities) refs) }
+{}
+
+/// Acknowledgments of haves are read back, where the request doesn't end the rounds.
+pub fn rounds_are_read_back()
+    ensures { (asked : AskedReply) (ids : List ObjectId) → asked.done ≡ false → All (IsIdOf asked.kind) ids
+        → All (λ id. has_id id asked.haves ≡ true) ids → Tells step_of (start_of (Reply asked)) (round_lines ids) (told.Reply (in_round ids)) }
+{}
+
+/// The reply to `done` is read back: the border's change, where it is told, and the pack, however it is cut into bands.
+pub fn last_replies_are_read_back()
+    ensures { (asked : AskedReply) (change : Option BorderChange) (bands : List Band) → asked.done ≡ true → asked.read_pack ≡ true
+        → IfSome change (IsChangeOf asked.kind) → Tells step_of (start_of (Reply asked)) (last_lines change bands) (told.Reply (at_last change bands)) }
+{}
+
+/// Bands of a pack hold it, and no progress.
+pub fn bands_hold_the_pack()
+    ensures { (pack : List ℕ) → packed (bands_of pack) ≡ record no_reply { pack = Some pack } }
+{}
+
+/// Where the pack isn't read, the reply is whole with the line `packfile`.
+pub fn unread_replies_end_at_the_pack()
+    ensures { (asked : AskedReply) (change : Option BorderChange) → asked.done ≡ true → asked.read_pack ≡ false → IfSome change (IsChangeOf asked.kind)
+        → Tells step_of (start_of (Reply asked)) (change_lines change ++ text_line (codes "packfile") ∷ []) (told.Reply (with_change change no_reply)) }
+{}
+
+/// A reply that ends the rounds by `ready` is read back: its acknowledgments, and all that a reply to `done` tells.
+pub fn ready_replies_are_read_back()
+    ensures { (asked : AskedReply) (ids : List ObjectId) (change : Option BorderChange) (bands : List Band) → asked.done ≡ false → asked.read_pack ≡ true
+        → All (IsIdOf asked.kind) ids → All (λ id. has_id id asked.haves ≡ true) ids → IfSome change (IsChangeOf asked.kind)
+        → Tells step_of (start_of (Reply asked)) (ready_lines ids change bands) (told.Reply (record (at_last change bands) { acknowledged = ids })) }
 {}

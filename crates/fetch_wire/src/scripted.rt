@@ -7,8 +7,9 @@ ghost use Rattle.fetch_wire.specs.Talks.{Talk, Sends, Receives};
 ghost use Rattle.fetch_store.specs.Calls.{one_more, faults_of};
 ghost use Rattle.fetch_wire.specs.Scripts.{given_of, pieces_from, from_first, first_of, without, talk_of};
 
+use crate::cloning::copy_slice;
 use crate::peer::{Interrupt, Peer, SendFault};
-use fetch_store::{Calls, Failed, Text};
+use fetch_store::{Calls, Failed, NoMemory, Text};
 use std::alloc::Global;
 use std::marker::Model;
 
@@ -59,6 +60,20 @@ impl ScriptedPeer {
             calls: Calls::new(failing),
             failed: 0,
         }
+    }
+
+    /// A peer that heard and gave the same, and has the same still to give and to fail at.
+    pub fn try_clone(&self) -> Result<ScriptedPeer, NoMemory>
+        ensures { IfOk result (λ copy. copy ≡ self.now) }
+    {
+        Ok(ScriptedPeer {
+            pieces: copy_slice(*self.pieces.allocator(), &self.pieces)?.into_vec(),
+            piece: self.piece,
+            offset: self.offset,
+            heard: self.heard.clone()?,
+            calls: self.calls.try_clone()?,
+            failed: self.failed,
+        })
     }
 
     /// What it heard so far.
@@ -182,6 +197,16 @@ impl ScriptedInterrupt {
             calls: Calls::new(yes),
             said_yes: 0,
         }
+    }
+
+    /// An interrupt that was asked as often, and says yes at the same calls.
+    pub fn try_clone(&self) -> Result<ScriptedInterrupt, NoMemory>
+        ensures { IfOk result (λ copy. copy ≡ self.now) }
+    {
+        Ok(ScriptedInterrupt {
+            calls: self.calls.try_clone()?,
+            said_yes: self.said_yes,
+        })
     }
 }
 

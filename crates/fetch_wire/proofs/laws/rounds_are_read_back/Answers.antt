@@ -1,0 +1,5 @@
+use Rattle.fetch_wire.proofs.ReplyLines.{round_tells}
+use Rattle.fetch_wire.proofs.laws.rounds_are_read_back.Goals as goal
+
+pub returns : goal.returns
+returns c = round_tells
