@@ -6,3 +6,12 @@ pub mod Gathered
 pub mod Founds
 pub mod Ascending
 pub mod Destinations
+pub mod Edits
+pub mod SavedParts
+pub mod ReadBack
+pub mod SavedLoops
+pub mod Removal
+pub mod Telling
+pub mod Leadings
+pub mod Followed
+pub mod AddedSpecs

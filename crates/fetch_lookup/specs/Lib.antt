@@ -5,3 +5,10 @@ pub mod SpecOrder
 pub mod Results
 pub mod Remotes
 pub mod Branches
+pub mod Edited
+pub mod Saved
+pub mod ReadBack
+pub mod Removed
+pub mod Pushed
+pub mod Upstreams
+pub mod Extended

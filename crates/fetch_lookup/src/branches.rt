@@ -39,6 +39,33 @@ fn in_full(alloc: Global, text: &[u8]) -> Result<FullName, NameError>
     }
 }
 
+/// What a branch is fetched from, as a text.
+#[tactic(auto, unfolding(crate::specs::Branches::merge_of))]
+pub(crate) fn merge_text(
+    alloc: Global,
+    file: &File,
+    name: &FullName,
+) -> Result<Option<Text>, NoMemory>
+    ensures { IfOk result (λ text. text ≡ spec.merge_of file.now.sections name.now) }
+{
+    match branch_string(file, name.shorten(), b"merge") {
+        Some(text) => Ok(Some(text_in_full(alloc, text)?)),
+        None => Ok(None),
+    }
+}
+
+#[tactic(auto, unfolding(fetch_specs::specs::Categories::refs, fetch_specs::specs::Categories::heads))]
+fn text_in_full(alloc: Global, text: &[u8]) -> Result<Text, NoMemory>
+    ensures { IfOk result (λ full. full ≡ spec.in_full text.now) }
+{
+    if text.starts_with(b"refs/") {
+        return Text::new(alloc, text);
+    }
+    let mut full = Vec::from_slice(alloc, b"refs/heads/")?;
+    full.extend_from_slice(text)?;
+    Ok(Text::from(full))
+}
+
 /// Where refspecs lead a name: the first destination that they give to it. None where they give none.
 pub fn destination_name(
     alloc: Global,
@@ -61,7 +88,11 @@ fn full_name(alloc: Global, text: &Text) -> Result<FullName, NameError>
 }
 
 #[tactic(auto, unfolding(crate::specs::Branches::destination_in))]
-fn destination(alloc: Global, specs: &[RefSpec], name: &FullName) -> Result<Option<Text>, NoMemory>
+pub(crate) fn destination(
+    alloc: Global,
+    specs: &[RefSpec],
+    name: &FullName,
+) -> Result<Option<Text>, NoMemory>
     ensures { IfOk result (λ text. text ≡ spec.destination_in specs.now name.now) }
 {
     let mut items = Vec::new(alloc);

@@ -46,7 +46,7 @@ pub(crate) fn in_order(alloc: Global, specs: Vec<RefSpec>) -> Result<List<RefSpe
     list(alloc, set)
 }
 
-fn place(set: &mut BTreeSet<RefSpec>, spec: RefSpec) -> Result<(), NoMemory>
+pub(crate) fn place(set: &mut BTreeSet<RefSpec>, spec: RefSpec) -> Result<(), NoMemory>
     ensures { OnOk result (set.new.keys ≡ insert_key spec_cmp set.old.keys spec) }
 {
     set.insert(spec)?;

@@ -65,7 +65,7 @@ fn is_section_of(section: &Section, name: &[u8]) -> bool
         && section.meta.trusted
 }
 
-fn is_subsection(own: &Option<Text>, name: &[u8]) -> bool
+pub(crate) fn is_subsection(own: &Option<Text>, name: &[u8]) -> bool
     ensures { result ≡ lookups.is_same_sub own.now (Some name.now) }
 {
     match own {
@@ -75,7 +75,7 @@ fn is_subsection(own: &Option<Text>, name: &[u8]) -> bool
 }
 
 /// The parts of a remote, each refused in its turn.
-fn found(alloc: Global, file: &File, name: &[u8]) -> Result<RemoteParts, Error>
+pub(crate) fn found(alloc: Global, file: &File, name: &[u8]) -> Result<RemoteParts, Error>
     ensures { AnswersUnless is_memory (spec.found_in file.now.sections name.now) result }
 {
     let fetch_tags = tags(alloc, file, name)?;
@@ -253,7 +253,7 @@ fn specs(
     }
 }
 
-fn operation_of(direction: Direction) -> Operation
+pub(crate) fn operation_of(direction: Direction) -> Operation
     ensures { result ≡ spec.operation_of direction }
 {
     match direction {
@@ -263,7 +263,7 @@ fn operation_of(direction: Direction) -> Operation
 }
 
 #[tactic(auto, unfolding(crate::specs::Remotes::spec_key))]
-fn spec_key(direction: Direction) -> &'static [u8]
+pub(crate) fn spec_key(direction: Direction) -> &'static [u8]
     ensures { result.now ≡ spec.spec_key direction }
 {
     match direction {

@@ -30,6 +30,8 @@ mod packs;
 #[cfg(test)]
 mod policy;
 #[cfg(test)]
+mod pushed_branches;
+#[cfg(test)]
 mod references;
 #[cfg(test)]
 mod reflogs;
@@ -41,6 +43,8 @@ mod refspecs;
 mod replies;
 #[cfg(test)]
 mod requests;
+#[cfg(test)]
+mod saved_remotes;
 #[cfg(test)]
 mod sessions;
 #[cfg(test)]

@@ -1,0 +1,58 @@
+//! Why the branch isn't told that a tracking branch follows.
+
+use crate::find;
+use fetch_specs::FullName;
+use fetch_store::{List, NoMemory, Text};
+use std::alloc::AllocFailed;
+use thiserror::Error as ThisError;
+
+/// Why the branch isn't told.
+#[derive(Debug, Drop, PartialEq, Eq, ThisError)]
+pub enum Error {
+    /// The name isn't below `refs/remotes/`.
+    #[error("no tracking branch")]
+    BranchCategory {
+        /// The name.
+        full_name: FullName,
+    },
+    /// A remote is refused.
+    #[error("a remote that can't be read")]
+    FindRemote(find::Error),
+    /// Refspecs lead to the tracking branch from two branches or more.
+    #[error("more than one branch")]
+    AmbiguousRemotes {
+        /// The remotes that two branches or more lead from, and then those that one leads from, both ascending.
+        remotes: List<Text>,
+    },
+    /// The branch that leads there is no full name.
+    #[error("no full name of a branch at {place}")]
+    ValidateUpstreamBranch {
+        /// The place of the refusal.
+        place: usize,
+    },
+    /// Memory ran out.
+    #[error("out of memory")]
+    NoMemory,
+}
+
+impl From<NoMemory> for Error {
+    ghost use Rattle.std.specs.Prelude.{◌≡◌};
+    ghost use Rattle.fetch_lookup.specs.declared.upstream.Error.TheVariants as errors;
+
+    ghost from_gives = { λ _ e. e ≡ errors.NoMemory };
+
+    fn from(_e: NoMemory) -> Error {
+        Error::NoMemory
+    }
+}
+
+impl<T: Drop> From<AllocFailed<T>> for Error {
+    ghost use Rattle.std.specs.Prelude.{◌≡◌};
+    ghost use Rattle.fetch_lookup.specs.declared.upstream.Error.TheVariants as errors;
+
+    ghost from_gives = { λ _ e. e ≡ errors.NoMemory };
+
+    fn from(_e: AllocFailed<T>) -> Error {
+        Error::NoMemory
+    }
+}
