@@ -1,11 +1,12 @@
-ghost use Rattle.std.specs.Prelude.{◌≡◌, ◌<◌, IfOk, OnOk};
+ghost use Rattle.std.specs.Prelude.{◌≡◌, ◌<◌, ◌∷◌, [], Some, IfOk, OnOk};
 ghost use Rattle.fetch_store.specs.Stores.{AreOf};
 ghost use Rattle.fetch_store.specs.Id.{kind_of};
 ghost use Rattle.fetch_store.specs.declared.id.Kind.TheVariants as kinds;
 
 use fetch_refs::Refs;
 use fetch_store::{
-    Border, Graph, Kind, Object, ObjectId, ObjectKind, Objects, Steps, Store, StoreError, id_of,
+    Border, Graph, Kind, List, Next, NoMemory, Object, ObjectId, ObjectKind, Objects, Steps, Store,
+    StoreError, id_of, reached, spread,
 };
 use std::alloc::Global;
 use std::marker::Brand;
@@ -197,6 +198,101 @@ fn a_store_and_its_graph_tell_the_history(rt: HostRuntime) -> Result<(), Fail> {
     assert!(rt; tells_the_history(&store)?);
     let graph = Graph::of(alloc, &store)?;
     assert!(rt; tells_the_history(&graph)?);
+    Ok(())
+}
+
+fn count_reached<Brand: Ledger>(
+    alloc: Global,
+    store: &Store,
+    border: &Border,
+    start: ObjectId,
+    blank: Blank,
+) -> Result<List<ObjectId>, NoMemory>
+    requires name { blank.name ≡ Brand.name }
+    requires parts { blank.parts ≡ Brand.parts }
+    requires some { 0 < blank.parts }
+{
+    let mut steps: Steps<Brand> = Steps::new(blank);
+    reached(alloc, store, border, [start].as_slice(), &mut steps)
+}
+
+fn reached_from(
+    alloc: Global,
+    store: &Store,
+    border: &Border,
+    start: ObjectId,
+) -> Result<List<ObjectId>, NoMemory> {
+    count_reached::<Brand>(alloc, store, border, start, Blank::new(1))
+}
+
+/// From a commit of the border no parent is reached.
+#[test]
+fn what_is_reached_is_told_by_ascending_id(rt: HostRuntime) -> Result<(), Fail> {
+    let alloc = rt.alloc();
+    let names = named_by_git()?;
+    let store = history(alloc)?;
+    let whole = Border::new(alloc);
+    let all = reached_from(alloc, &store, &whole, names.tag)?;
+    let expected = [names.tree, names.merge, names.two, names.tag, names.one];
+    assert!(rt; all.as_slice() == expected.as_slice());
+    let cut = Border::from_ids(alloc, [names.two].as_slice())?;
+    let some = reached_from(alloc, &store, &cut, names.two)?;
+    assert!(rt; some.as_slice() == [names.tree, names.two].as_slice());
+    let none = reached_from(alloc, &store, &whole, ObjectId::null(Kind::Sha1))?;
+    assert!(rt; none.is_empty());
+    Ok(())
+}
+
+/// Each id leads to one and the same.
+#[derive(Drop)]
+struct ToOne(ObjectId);
+
+impl Next for ToOne {
+    ghost nexts = { λ one id. Some (one.0 ∷ []) };
+
+    fn is_there(&self, _id: &ObjectId) -> bool {
+        true
+    }
+
+    fn append_next(&self, _id: &ObjectId, into: &mut Vec<ObjectId>) -> Result<(), NoMemory> {
+        into.push(self.0)?;
+        Ok(())
+    }
+}
+
+fn count_spread<Brand: Ledger>(
+    alloc: Global,
+    next: &ToOne,
+    start: ObjectId,
+    limit: u64,
+    blank: Blank,
+) -> Result<List<ObjectId>, NoMemory>
+    requires name { blank.name ≡ Brand.name }
+    requires parts { blank.parts ≡ Brand.parts }
+    requires some { 0 < blank.parts }
+{
+    let mut steps: Steps<Brand> = Steps::new(blank);
+    spread(alloc, next, [start].as_slice(), Some(limit), &mut steps)
+}
+
+fn spread_from(
+    alloc: Global,
+    next: &ToOne,
+    start: ObjectId,
+    limit: u64,
+) -> Result<List<ObjectId>, NoMemory> {
+    count_spread::<Brand>(alloc, next, start, limit, Blank::new(1))
+}
+
+#[test]
+fn a_walk_goes_no_further_than_its_limit(rt: HostRuntime) -> Result<(), Fail> {
+    let alloc = rt.alloc();
+    let names = named_by_git()?;
+    let next = ToOne(names.tree);
+    let near = spread_from(alloc, &next, names.one, 0)?;
+    assert!(rt; near.as_slice() == [names.one].as_slice());
+    let far = spread_from(alloc, &next, names.one, 1)?;
+    assert!(rt; far.as_slice() == [names.tree, names.one].as_slice());
     Ok(())
 }
 
