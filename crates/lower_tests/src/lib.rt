@@ -42,6 +42,4 @@ mod replies;
 #[cfg(test)]
 mod requests;
 #[cfg(test)]
-mod sessions;
-#[cfg(test)]
 mod store;
