@@ -42,4 +42,6 @@ mod replies;
 #[cfg(test)]
 mod requests;
 #[cfg(test)]
+mod sessions;
+#[cfg(test)]
 mod store;
