@@ -69,6 +69,7 @@ fn is_pushed(
 }
 
 const MAIN: &[u8] = b"[branch \"main\"]\nremote = origin\nmerge = refs/heads/main\n";
+
 const NEXT: &[u8] = b"[branch \"main\"]\nremote = origin\nmerge = refs/heads/next\n";
 
 #[test]
@@ -92,7 +93,8 @@ fn branches_are_pushed_by_default(rt: HostRuntime) -> Result<(), Fail> {
 #[test]
 fn refspecs_come_before_the_default(rt: HostRuntime) -> Result<(), Fail> {
     let alloc = rt.alloc();
-    let specs = b"[remote \"origin\"]\npush = refs/heads/main:refs/heads/next\n[push]\ndefault = most\n";
+    let specs =
+        b"[remote \"origin\"]\npush = refs/heads/main:refs/heads/next\n[push]\ndefault = most\n";
     assert!(rt; is_pushed(alloc, specs, MAIN, Some(b"refs/remotes/origin/next"))?);
     Ok(())
 }
@@ -152,7 +154,8 @@ fn a_branch_follows_nothing(rt: HostRuntime) -> Result<(), Fail> {
 #[test]
 fn remotes_that_lead_to_one_tracking_branch_are_told(rt: HostRuntime) -> Result<(), Fail> {
     let alloc = rt.alloc();
-    let more = b"[remote \"a\"]\nurl = x\nfetch = refs/heads/x:refs/remotes/origin/main\n[remote \"z\"]\nurl = x\n\
+    let more =
+        b"[remote \"a\"]\nurl = x\nfetch = refs/heads/x:refs/remotes/origin/main\n[remote \"z\"]\nurl = x\n\
 fetch = refs/heads/b:refs/remotes/origin/main\nfetch = refs/heads/c:refs/remotes/origin/main\n";
     let file = read(alloc, &[ORIGIN, more])?;
     let tracking = FullName::new(alloc, b"refs/remotes/origin/main")?;

@@ -4,8 +4,8 @@
 use fetch_config::{ConfigError, File, Meta, Origin};
 use fetch_lookup::save::{AsError, Error};
 use fetch_lookup::{
-    Direction, RemoteParts, find_remote, has_branch_sections, replace_refspecs, save_as_to, save_to,
-    with_refspecs, without_branch_sections,
+    Direction, RemoteParts, find_remote, has_branch_sections, replace_refspecs, save_as_to,
+    save_to, with_refspecs, without_branch_sections,
 };
 use fetch_specs::{Operation, RefSpec, SpecError, Tags, parse};
 use fetch_store::{List, NoMemory, Text};
@@ -35,11 +35,7 @@ fn urls(alloc: Global, urls: &[&[u8]]) -> Result<List<Text>, NoMemory> {
 }
 
 /// The refspecs of a text each.
-fn specs(
-    alloc: Global,
-    texts: &[&[u8]],
-    operation: Operation,
-) -> Result<List<RefSpec>, SpecError> {
+fn specs(alloc: Global, texts: &[&[u8]], operation: Operation) -> Result<List<RefSpec>, SpecError> {
     let mut list = List::new(alloc);
     for text in texts {
         list.push(parse(alloc, text, operation)?)?;
@@ -196,8 +192,7 @@ fn local_sections_of_branches_go(rt: HostRuntime) -> Result<(), Fail> {
     assert!(rt; !has_branch_sections(&file, &names));
     assert!(rt;
         file.write(alloc, None)?.as_bytes()
-            == b"[branch \"Main\"]\n\tremote = a\n[branch]\n\tx = y\n[branch \"main\"]\n\trebase = true\n"
-                .as_slice()
+            == b"[branch \"Main\"]\n\tremote = a\n[branch]\n\tx = y\n[branch \"main\"]\n\trebase = true\n".as_slice()
     );
     Ok(())
 }
