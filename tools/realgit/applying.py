@@ -18,13 +18,19 @@ def write_objects(repository, scene, report):
     strangers = [digits for digits in lacking if digits not in known]
     if strangers:
         raise Trouble(BAD_INPUT, f"the scene has no object {strangers[0]}, which the report tells")
-    for kind in ORDER:
-        _write_kind(repository, kind, [known[digits] for digits in lacking if known[digits].kind == kind])
+    store(repository, [known[digits] for digits in lacking])
     return len(lacking)
 
 
-def _write_kind(repository, kind, objects):
-    """Stores objects of one kind, by one call of Git."""
+def store(repository, objects):
+    """Stores objects, by one call of Git for each kind."""
+    for kind in ORDER:
+        wanted = [each for each in objects if each.kind == kind]
+        if wanted:
+            _store_kind(repository, kind, wanted)
+
+
+def _store_kind(repository, kind, objects):
     with tempfile.TemporaryDirectory() as folder:
         paths = [os.path.join(folder, each.id) for each in objects]
         for path, each in zip(paths, objects):

@@ -27,7 +27,10 @@ class Engine:
             raise Trouble(UNBUILT, "the engine answers `unbuilt`: this fetch isn't built yet")
         if ended.returncode not in (0, 1):
             raise Trouble(ENGINE_FAILED, f"the engine ended with status {ended.returncode}: {self._why(ended)}")
-        return read_report(ended.stdout)
+        try:
+            return read_report(ended.stdout)
+        except Trouble as trouble:
+            raise Trouble(ENGINE_FAILED, f"the engine wrote {trouble}") from None
 
     def _why(self, ended):
         told = decoded_text(ended.stdout if ended.returncode == 4 else ended.stderr).strip()

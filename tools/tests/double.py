@@ -1,0 +1,77 @@
+#!/usr/bin/env python3
+"""Stands in for the engine in the checks of the tools.
+
+It fetches by one refspec without a star into a name that is absent or up to date. BEHAVIOUR in the environment makes it
+answer `unbuilt`, report a refusal, write no report, or leave the reference out of its report.
+"""
+
+import os
+import sys
+
+sys.path.insert(0, os.path.join(os.path.dirname(__file__), ".."))
+
+from realgit.lines import Mark, placed_lines, text_of
+from realgit.scene import read_scene
+
+BEHAVIOUR = os.environ.get("BEHAVIOUR", "")
+ALONE = {"unbuilt": ("unbuilt", 6), "malformed": ("malformed 12", 4)}
+
+
+def say(*lines):
+    """Writes lines of a report."""
+    print("".join(f"{line}\n" for line in lines), end="")
+
+
+def say_request(command, *lines):
+    """Writes the lines of a request that was sent."""
+    say(f'> "command={command}\\n"', '> "object-format=sha1\\n"', "> 0001", *(f'> "{line}\\n"' for line in lines), "> 0000")
+
+
+def listed(said):
+    """The references that a listing tells."""
+    lines = [text_of(line) for _, line in placed_lines(said) if line is not Mark.FLUSH]
+    return {name: digits for digits, name in (line.split(" ")[:2] for line in lines)}
+
+
+def state(references, objects, logs=()):
+    """What stands afterwards."""
+    yield from (f"ref {references[name]} {name}" for name in sorted(references))
+    yield from logs
+    yield from (f"id {digits}" for digits in sorted({each.id for each in objects}))
+
+
+def fetch(scene):
+    """Writes the report of a scene, and answers the status."""
+    source, destination = scene.specs[0].removeprefix("+").split(":")
+    say(f'> "git-upload-pack {scene.address}\\x00\\x00version=2\\x00"')
+    say_request("ls-refs", "symrefs", "peel")
+    if len(scene.server) < 2:
+        say("refused Malformed 0", *state(scene.references, scene.objects))
+        return 1
+    want, held = listed(scene.server[1]).get(source), {each.id for each in scene.objects}
+    if want is None:
+        say(*state(scene.references, scene.objects), "ok")
+        return 0
+    if want not in held:
+        say_request("fetch", "plain-pack-2", f"want {want}", "done")
+    if BEHAVIOUR == "refused" or want not in held and len(scene.server) < 3:
+        say("refused Malformed 0", *state(scene.references, scene.objects))
+        return 1
+    mode = "up-to-date" if scene.references.get(destination) == want else "new"
+    say(f"map 0 {source} -> {destination}: {mode}")
+    kept = {} if BEHAVIOUR == "forgets" else {destination: want}
+    logs = [f"log {destination} {'0' * 40} {want} fetch: storing ref"] if mode == "new" else []
+    say(*state(scene.references | kept, [*scene.objects, *scene.received()], logs), "ok")
+    return 0
+
+
+def main():
+    text, status = ALONE.get(BEHAVIOUR, (None, None))
+    if text is not None:
+        say(text)
+        return status
+    return fetch(read_scene(sys.stdin.buffer.read()))
+
+
+if __name__ == "__main__":
+    sys.exit(main())
