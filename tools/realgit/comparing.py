@@ -33,7 +33,7 @@ class Difference:
 
     def __str__(self):
         key = self.key if isinstance(self.key, str) else " -> ".join(self.key)
-        return f"{self.kind} {key}: Git has {self.real}, the engine {self.engine}"
+        return f"{f'{self.kind} {key}'.strip()}: Git has {self.real}, the engine {self.engine}"
 
 
 @dataclass
@@ -41,6 +41,7 @@ class Fetched:
     """A pair, and both fetches of it."""
 
     pair: Pair
+    scene: bytes
     before: dict[str, str]
     border_before: list[str]
     real: RealFetch
@@ -110,4 +111,4 @@ def compare(pair, engine):
     report = engine.fetch(scene.to_bytes())
     client = Repository(pair.client)
     before, border = client.references(), client.border()
-    return Fetched(pair, before, border, fetch(client, pair), report)
+    return Fetched(pair, scene.to_bytes(), before, border, fetch(client, pair), report)

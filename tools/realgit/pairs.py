@@ -42,6 +42,9 @@ class Pair:
     options: list[str] = field(default_factory=list)
     has_head: bool = False
 
+    def __str__(self):
+        return " ".join([*self.specs, "--tags", self.tags, *self.options])
+
 
 class Maker:
     """Makes one pair below a folder. The seed decides all of it."""

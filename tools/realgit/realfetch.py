@@ -3,7 +3,7 @@
 import re
 from dataclasses import dataclass
 
-from realgit.repository import last_message, run_git
+from realgit.repository import run_git, why
 
 TAG_WORDS = {"all": ["--tags"], "none": ["--no-tags"], "included": []}
 OPTION_WORDS = {"depth": "--depth={}", "deepen": "--deepen={}", "since": "--shallow-since=@{}",
@@ -11,7 +11,8 @@ OPTION_WORDS = {"depth": "--depth={}", "deepen": "--deepen={}", "since": "--shal
 MODES = {"=": "up-to-date", " ": "fast-forward", "+": "forced-update", "t": "forced-update", "*": "new"}
 REJECTED = {"would clobber existing tag": "rejected (would overwrite existing tag)",
             "non-fast-forward": "rejected (non-fast-forward)"}
-TOLD = re.compile(r" (.) (?:\[[^]]*\]|\S+) +(\S+) +-> (\S+)(?:  \((.*)\))?")
+# Git leaves the source out where it is `HEAD`.
+TOLD = re.compile(r" (.) (?:\[[^]]*\]|[0-9a-f]+\.+[0-9a-f]+) +(\S*) +-> (\S+)(?:  \((.*)\))?")
 SHORTENED = ("refs/heads/", "refs/tags/", "refs/remotes/")
 FATAL = 128
 
@@ -36,7 +37,7 @@ def fetch(repository, pair):
         verdicts=verdicts(messages),
         references=repository.references(),
         border=repository.border(),
-        refused=last_message(messages) if status == FATAL else None,
+        refused=why(messages) if status == FATAL else None,
         messages=messages,
     )
 
@@ -50,7 +51,7 @@ def option_word(option):
 def verdicts(messages):
     """What Git tells of each source and destination, by their short names, in the words of a report."""
     told = filter(None, map(TOLD.fullmatch, messages.splitlines()))
-    return {(source, to): MODES.get(flag) or REJECTED.get(why, f"rejected ({why})")
+    return {(source or "HEAD", to): MODES.get(flag) or REJECTED.get(why, f"rejected ({why})")
             for flag, source, to, why in (match.groups() for match in told)}
 
 

@@ -6,6 +6,7 @@ UP_TO_DATE, FAST_FORWARD, FORCED, NEW = "up-to-date", "fast-forward", "forced-up
 NOT_FORWARD = "rejected (non-fast-forward)"
 OTHER_TAG = "rejected (would overwrite existing tag)"
 NOT_SENT = "unrelated tag on remote"
+DEPTHS = ("depth", "deepen", "since", "not")
 
 
 def reason_for(difference, fetched):
@@ -76,6 +77,20 @@ def _is_guessed(difference, fetched):
     return mapping.mode == FAST_FORWARD or _is_implicit(mapping, fetched) and mapping.mode == NEW
 
 
+def _is_counted_otherwise(difference, fetched):
+    """A border commit where Git counts the depth from other references, or finds no commit for them."""
+    if not any(option.startswith(DEPTHS) for option in fetched.pair.options):
+        return False
+    if _git_says(fetched, "no commits selected for shallow requests"):
+        return True
+    if not difference.is_of_border():
+        return False
+    mapped = [each for each in fetched.report.mappings if each.destination is not None]
+    stay = [each.mode == UP_TO_DATE for each in mapped]
+    tags = [each for each in mapped if _is_implicit(each, fetched) and fetched.real_mode(each) == NEW]
+    return any(stay) and not all(stay) or bool(tags)
+
+
 def _is_dated(difference, fetched):
     return fetched.pair.history.has_skew and _goes_forward_once(difference, fetched)
 
@@ -101,6 +116,7 @@ REASONS = {
     "Tags that come in one request": _comes_by_itself,
     "An annotated tag outside `refs/tags/`": _is_tag_elsewhere,
     "A symbolic destination": _is_symbolic,
+    "Where a depth is counted from": _is_counted_otherwise,
     "A dated path": _is_dated,
     "A path through the border": _is_through_border,
 }

@@ -29,18 +29,18 @@ def run_git(words, given=b"", more=None):
 
 
 def git(words, given=b"", more=None):
-    """What Git writes. Its last message is the trouble where it refuses."""
+    """What Git writes. Its message is the trouble where it refuses."""
     status, out, messages = run_git(words, given, more)
     if status != 0:
-        raise Trouble(GIT_REFUSED, last_message(messages) or f"git {' '.join(words)} ended with status {status}")
+        raise Trouble(GIT_REFUSED, f"git refused: {why(messages)}")
     return out
 
 
-def last_message(messages):
-    """The last line of Git's messages that says what was wrong."""
+def why(messages):
+    """The first line of Git's messages that says what was wrong."""
     lines = [line for line in messages.splitlines() if line.strip()]
     told = [line for line in lines if line.startswith(("fatal:", "error:"))]
-    return (told or lines or [""])[-1]
+    return (told or lines or ["nothing is told"])[0]
 
 
 class Repository:
@@ -49,7 +49,7 @@ class Repository:
     def __init__(self, path):
         status, out, messages = run_git(["-C", path, "rev-parse", "--absolute-git-dir", "--git-common-dir"])
         if status != 0:
-            raise Trouble(BAD_INPUT, f"{path} is no repository: {last_message(messages)}")
+            raise Trouble(BAD_INPUT, f"{path} is no repository: {why(messages)}")
         self.path = path
         self.git_dir, common = decoded_text(out).splitlines()
         self.common_dir = os.path.normpath(os.path.join(path, common))

@@ -5,17 +5,22 @@ import tempfile
 
 from realgit.lines import MAX_PAYLOAD, Mark, encoded, pieces, placed_lines, text_of
 from realgit.plainpack import write_pack
-from realgit.repository import git, last_message, objects_in, run_git
-from realgit.trouble import GIT_REFUSED, Trouble
+from realgit.repository import git, objects_in, run_git, why
+from realgit.trouble import BAD_INPUT, Trouble, read_file
 
 PACK_WORDS = {"plain-pack": 1, "plain-pack-2": 2}
+BUNDLES = (b"# v2 git bundle\n", b"# v3 git bundle\n")
 PROTOCOL = {"GIT_PROTOCOL": "version=2"}
 
 
 class Server:
-    """A repository that is fetched from over version 2 of the protocol."""
+    """A repository that is fetched from over version 2 of the protocol.
+
+    `hung_up` tells why it ended without a word, once it did.
+    """
 
     def __init__(self, repository):
+        self.hung_up = None
         self.git_dir = repository.git_dir
         self.hash_name = repository.hash_name()
 
@@ -38,7 +43,7 @@ class Server:
         given = b"".join(map(encoded, [*request, Mark.FLUSH]))
         status, said, messages = run_git(["upload-pack", "--stateless-rpc", self.git_dir], given, PROTOCOL)
         if status != 0 and not said:
-            raise Trouble(GIT_REFUSED, f"git upload-pack: {last_message(messages)}")
+            self.hung_up = why(messages)
         return said
 
     def _with_plain_pack(self, said, version):
@@ -87,6 +92,8 @@ def _in_bands(pack, others):
 
 def unbundled(path, folder):
     """A repository with what a bundle has, below a folder."""
+    if not read_file(path).startswith(BUNDLES):
+        raise Trouble(BAD_INPUT, f"{path} is no bundle")
     target = os.path.join(folder, "bundle.git")
     git(["clone", "-q", "--mirror", path, target])
     return target

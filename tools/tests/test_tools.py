@@ -80,8 +80,8 @@ class Scenes(WithRepositories):
 
     def test_what_goes_wrong_is_told_in_a_line(self):
         cases = [([self.folder, SPEC], "", 3, "is no repository"), ([self.path("no"), SPEC], "", 3, "there is nothing"),
-                 ([self.path("scene"), SPEC], "", 4, "fatal:"), ([self.server, "--depth"], "", 2, "unrecognized"),
-                 ([self.server, SPEC], "unbuilt", 6, "unbuilt"), ([self.server, SPEC], "malformed", 5, "malformed 12")]
+                 ([self.path("scene"), SPEC], "", 3, "is no bundle"), ([self.server, "--depth"], "", 2, "unrecognized"),
+                 ([self.server, SPEC], "unbuilt", 6, "unbuilt"), ([self.server, SPEC], "malformed", 3, "can't read the line 'hash sha1'")]
         open(self.path("scene"), "w").close()
         for words, behaviour, status, text in cases:
             self.assert_line(self.scene(*words, behaviour=behaviour), status, text)
