@@ -62,13 +62,14 @@ class Maker:
         """The pair."""
         pair = Pair(self.client, self.server, self.history, *self._fetch())
         pair.has_head = self.level == "whole"
-        self._init(self.server, "--bare")
+        self.init(self.server, "--bare")
         self._begin_server()
         self._begin_client()
         self._move_server()
         return pair
 
-    def _init(self, path, *words):
+    def init(self, path, *words):
+        """Makes an empty repository."""
         git(["init", "-q", "--template=", "-b", "main", f"--object-format={self.hash_name}", *words, path])
 
     def _chance(self, probability):
@@ -97,7 +98,7 @@ class Maker:
             self.references[f"refs/heads/{name}"] = self.history.grow(self._any_commit(0.7))
         for name in self.random.sample(TAGS, self.random.randint(0, 2)):
             self._tag(name)
-        self._write_server()
+        self.write_server()
 
     def _any_commit(self, probability):
         """Some commit of the history, or None."""
@@ -117,7 +118,7 @@ class Maker:
         for name in TAGS:
             if self._chance(0.2):
                 self._tag(name)
-        self._write_server()
+        self.write_server()
         self._write_server_head()
 
     def _move(self, name):
@@ -133,7 +134,8 @@ class Maker:
         if self.references[name] is None:
             del self.references[name]
 
-    def _write_server(self):
+    def write_server(self):
+        """Stores all objects in the server, and gives it these references alone."""
         server = Repository(self.server)
         store(server, self.history.objects)
         gone = server.direct_references().keys() - self.references.keys()
@@ -151,7 +153,7 @@ class Maker:
     # The client.
 
     def _begin_client(self):
-        self._init(self.client, *(["--bare"] if self._chance(0.3) else []))
+        self.init(self.client, *(["--bare"] if self._chance(0.3) else []))
         client = Repository(self.client)
         algorithm = self.random.choice(ALGORITHMS) if self.level == "whole" else "noop"
         if algorithm is not None:

@@ -13,8 +13,7 @@ UNBUILT = 6
 
 STATUSES = """\
 statuses:
-  0  it was done
-  1  {one}
+  0  it was done{one}
   2  the words are wrong
   3  what they name is no repository, scene or report, or can't be read or written
   4  Git refused
@@ -33,12 +32,12 @@ class Trouble(Exception):
 
 
 class Words(argparse.ArgumentParser):
-    """The words of a tool. A wrong one gets one line and status 2."""
+    """The words of a tool. A wrong one gets one line and status 2. `one` says when its status is 1, if ever."""
 
-    def __init__(self, description, one):
+    def __init__(self, description, one=None):
         super().__init__(
             description=description,
-            epilog=STATUSES.format(one=one),
+            epilog=STATUSES.format(one="" if one is None else f"\n  1  {one}"),
             formatter_class=argparse.RawDescriptionHelpFormatter,
             allow_abbrev=False,
         )

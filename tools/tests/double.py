@@ -2,7 +2,7 @@
 """Stands in for the engine in the checks of the tools.
 
 It fetches by one refspec without a star into a name that is absent or up to date. BEHAVIOUR in the environment makes it
-answer `unbuilt`, report a refusal, write no report, or leave the reference out of its report.
+answer `unbuilt` or `malformed`, report a refusal, leave the reference out of its report, or tell what it has first.
 """
 
 import os
@@ -11,7 +11,7 @@ import sys
 sys.path.insert(0, os.path.join(os.path.dirname(__file__), ".."))
 
 from realgit.lines import Mark, placed_lines, text_of
-from realgit.scene import read_scene
+from realgit.scene import packs_in, read_scene
 
 BEHAVIOUR = os.environ.get("BEHAVIOUR", "")
 ALONE = {"unbuilt": ("unbuilt", 6), "malformed": ("malformed 12", 4)}
@@ -24,7 +24,8 @@ def say(*lines):
 
 def say_request(command, *lines):
     """Writes the lines of a request that was sent."""
-    say(f'> "command={command}\\n"', '> "object-format=sha1\\n"', "> 0001", *(f'> "{line}\\n"' for line in lines), "> 0000")
+    say(f'> "command={command}\\n"', '> "object-format=sha1\\n"', "> 0001")
+    say(*(f'> "{line}\\n"' for line in lines), "> 0000")
 
 
 def listed(said):
@@ -40,6 +41,17 @@ def state(references, objects, logs=()):
     yield from (f"id {digits}" for digits in sorted({each.id for each in objects}))
 
 
+def asks_for_more(scene, want):
+    """Writes the requests for an id, as far as it has answers, and tells whether an answer is missing."""
+    asked = ["plain-pack-2", f"want {want}"]
+    if BEHAVIOUR == "tells first":
+        say_request("fetch", *asked, *(f"have {each.id}" for each in scene.objects if each.kind == "commit"))
+        if len(scene.server) < 3 or list(packs_in(scene.server[2])):
+            return len(scene.server) < 3
+    say_request("fetch", *asked, "done")
+    return not list(packs_in(scene.server[-1]))
+
+
 def fetch(scene):
     """Writes the report of a scene, and answers the status."""
     source, destination = scene.specs[0].removeprefix("+").split(":")
@@ -52,9 +64,7 @@ def fetch(scene):
     if want is None:
         say(*state(scene.references, scene.objects), "ok")
         return 0
-    if want not in held:
-        say_request("fetch", "plain-pack-2", f"want {want}", "done")
-    if BEHAVIOUR == "refused" or want not in held and len(scene.server) < 3:
+    if want not in held and asks_for_more(scene, want) or BEHAVIOUR == "refused":
         say("refused Malformed 0", *state(scene.references, scene.objects))
         return 1
     mode = "up-to-date" if scene.references.get(destination) == want else "new"

@@ -6,6 +6,7 @@ import subprocess
 import tempfile
 import unittest
 
+from realgit.applying import store
 from realgit.pairs import LEVELS, Maker
 from realgit.plainpack import object_id
 from realgit.realfetch import verdicts
@@ -36,9 +37,9 @@ class WithRepositories(unittest.TestCase):
         self.folder = folder.name
         maker = Maker(self.folder, "checks", "plain")
         maker.references["refs/heads/main"] = self.tip = maker.history.grow(maker.history.grow())
-        maker._init(maker.server, "--bare")
-        maker._write_server()
-        maker._init(maker.client)
+        maker.init(maker.server, "--bare")
+        maker.write_server()
+        maker.init(maker.client)
         self.server, self.client = maker.server, maker.client
 
     def path(self, name):
@@ -71,6 +72,27 @@ class Scenes(WithRepositories):
         self.assertEqual(self.scene(self.path("bundle"), SPEC), (0, b"", ""))
         self.assertEqual(len(read_scene(read_file(self.path("scene"))).received()), len(self.ids(self.server)))
 
+    def test_requests_are_learned_round_by_round(self):
+        other = Maker(self.folder, "other", "plain").history
+        tip = other.grow()
+        store(Repository(self.client), other.objects)
+        git(["-C", self.client, "update-ref", "refs/heads/own", tip])
+        self.assertEqual(self.scene(self.server, SPEC, behaviour="tells first"), (0, b"", ""))
+        scene = read_scene(read_file(self.path("scene")))
+        _, _, first, last = scene.server
+        self.assertEqual(first, b"0014acknowledgments\n0008NAK\n0000")
+        self.assertTrue(last.startswith(b"000dpackfile\n"))
+        self.assertEqual(sorted(each.id for each in scene.received()), self.ids(self.server))
+
+    def test_a_server_that_is_ready_ends_the_rounds(self):
+        parent = Repository(self.server).text("rev-parse", f"{self.tip}~1")
+        git(["-C", self.client, "fetch", "-q", self.server, f"{parent}:refs/heads/own"])
+        self.assertEqual(self.scene(self.server, SPEC, behaviour="tells first"), (0, b"", ""))
+        scene = read_scene(read_file(self.path("scene")))
+        _, _, reply = scene.server
+        self.assertRegex(reply, rb"\A0014acknowledgments\n(0031ACK [0-9a-f]{40}\n)+000aready\n0001000dpackfile\n")
+        self.assertEqual(len(scene.received()), 3)
+
     def test_the_remote_of_the_configuration(self):
         git(["-C", self.client, "config", "remote.up.fetch", SPEC])
         git(["-C", self.client, "config", "remote.up.tagOpt", "--no-tags"])
@@ -81,7 +103,8 @@ class Scenes(WithRepositories):
     def test_what_goes_wrong_is_told_in_a_line(self):
         cases = [([self.folder, SPEC], "", 3, "is no repository"), ([self.path("no"), SPEC], "", 3, "there is nothing"),
                  ([self.path("scene"), SPEC], "", 3, "is no bundle"), ([self.server, "--depth"], "", 2, "unrecognized"),
-                 ([self.server, SPEC], "unbuilt", 6, "unbuilt"), ([self.server, SPEC], "malformed", 3, "can't read the line 'hash sha1'")]
+                 ([self.server, SPEC], "unbuilt", 6, "unbuilt"),
+                 ([self.server, SPEC], "malformed", 3, "can't read the line 'hash sha1'")]
         open(self.path("scene"), "w").close()
         for words, behaviour, status, text in cases:
             self.assert_line(self.scene(*words, behaviour=behaviour), status, text)
@@ -150,7 +173,7 @@ class Compared(unittest.TestCase):
             for _ in range(2):
                 with tempfile.TemporaryDirectory() as folder:
                     pair = Maker(folder, "checks", level).pair()
-                    made.append((Repository(pair.server).references(), Repository(pair.client).references(), pair.specs))
+                    made.append([str(pair), *(Repository(each).references() for each in (pair.server, pair.client))])
             self.assertEqual(*made)
 
     def test_what_git_tells(self):
@@ -158,15 +181,20 @@ class Compared(unittest.TestCase):
  * [new branch]      main       -> origin/main
    1b2c3d4..5e6f7a8  dev        -> origin/dev
  + 1b2c3d4...5e6f7a8 side       -> origin/side  (forced update)
- = [up to date]      HEAD       -> origin/first
+ = [up to date]                 -> origin/first
  ! [rejected]        v1         -> v1  (would clobber existing tag)
  ! [rejected]        topic/one  -> origin/topic/one  (non-fast-forward)
  t [tag update]      v2         -> v2
 """
         self.assertEqual(verdicts(text), {
-            ("main", "origin/main"): "new", ("dev", "origin/dev"): "fast-forward", ("side", "origin/side"): "forced-update",
-            ("HEAD", "origin/first"): "up-to-date", ("v1", "v1"): "rejected (would overwrite existing tag)",
-            ("topic/one", "origin/topic/one"): "rejected (non-fast-forward)", ("v2", "v2"): "forced-update"})
+            ("main", "origin/main"): "new",
+            ("dev", "origin/dev"): "fast-forward",
+            ("side", "origin/side"): "forced-update",
+            ("HEAD", "origin/first"): "up-to-date",
+            ("v1", "v1"): "rejected (would overwrite existing tag)",
+            ("topic/one", "origin/topic/one"): "rejected (non-fast-forward)",
+            ("v2", "v2"): "forced-update",
+        })
 
 
 class Histories(unittest.TestCase):
