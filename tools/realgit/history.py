@@ -15,7 +15,6 @@ class History:
         self.objects = []
         self.commits = []
         self.seconds = {}
-        self.parents = {}
         self.clock = BEGIN
         self.has_skew = False
 
@@ -35,7 +34,6 @@ class History:
         digits = self.add("commit", "\n".join([*lines, f"commit {len(self.commits)}\n"]).encode())
         self.has_skew |= any(seconds < self.seconds[parent] for parent in parents)
         self.seconds[digits] = seconds
-        self.parents[digits] = parents
         self.commits.append(digits)
         return digits
 

@@ -9,7 +9,7 @@ from realgit.history import History
 from realgit.repository import Repository, git
 
 LEVELS = ("plain", "direct", "whole")
-BRANCHES = ["main", "dev", "side", "topic/one", "topic/two"]
+BRANCHES = ["main", "dev", "side", "topic", "topic/one", "topic/two"]
 TAGS = ["v1", "v2", "v3"]
 ALGORITHMS = ["noop", "consecutive", "skipping", None]
 TRACKING = "refs/heads/*:refs/remotes/origin/*"
@@ -95,7 +95,7 @@ class Maker:
 
     def _begin_server(self):
         for name in self.random.sample(BRANCHES, self.random.randint(1, 4)):
-            self.references[f"refs/heads/{name}"] = self.history.grow(self._any_commit(0.7))
+            self._branch(name)
         for name in self.random.sample(TAGS, self.random.randint(0, 2)):
             self._tag(name)
         self.write_server()
@@ -103,6 +103,12 @@ class Maker:
     def _any_commit(self, probability):
         """Some commit of the history, or None."""
         return self.random.choice(self.history.commits) if self.history.commits and self._chance(probability) else None
+
+    def _branch(self, name):
+        """Makes a branch, unless a name above or below it or itself stands."""
+        full = f"refs/heads/{name}"
+        if not any(f"{other}/".startswith(f"{full}/") or full.startswith(f"{other}/") for other in self.references):
+            self.references[full] = self.history.grow(self._any_commit(0.7))
 
     def _tag(self, name):
         commit = self.random.choice(self.history.commits)
@@ -114,7 +120,7 @@ class Maker:
             if self.level != "plain" and self._chance(0.5):
                 self._move(name)
         for name in self.random.sample(BRANCHES, 2):
-            self.references.setdefault(f"refs/heads/{name}", self.history.grow(self._any_commit(0.8)))
+            self._branch(name)
         for name in TAGS:
             if self._chance(0.2):
                 self._tag(name)
@@ -139,8 +145,11 @@ class Maker:
         server = Repository(self.server)
         store(server, self.history.objects)
         gone = server.direct_references().keys() - self.references.keys()
-        lines = [f"delete {name}" for name in gone] + [f"update {name} {to}" for name, to in self.references.items()]
-        server.git("update-ref", "--stdin", given="".join(f"{line}\n" for line in lines).encode())
+        self._write(server, [f"delete {name}" for name in gone])
+        self._write(server, [f"update {name} {digits}" for name, digits in self.references.items()])
+
+    def _write(self, repository, lines):
+        repository.git("update-ref", "--stdin", given="".join(f"{line}\n" for line in lines).encode())
 
     def _write_server_head(self):
         server = Repository(self.server)

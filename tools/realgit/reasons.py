@@ -58,6 +58,15 @@ def _is_tag_elsewhere(difference, fetched):
     return any(place.get(mapping.destination) in fetched.tags() for place in places)
 
 
+def _is_nested(difference, fetched):
+    """A reference above or below another."""
+    mapping = fetched.mapping_of(difference)
+    if mapping is None or mapping.destination is None:
+        return False
+    name = mapping.destination
+    return any(other.startswith(f"{name}/") or name.startswith(f"{other}/") for other in fetched.report.references)
+
+
 def _is_symbolic(difference, fetched):
     """A destination that stands for a name, or the name that it stands for."""
     symbolic = {each.destination: fetched.before[each.destination][1:] for each in fetched.report.mappings
@@ -115,6 +124,7 @@ REASONS = {
     "Tags that are there, and refspecs without destination": _is_followed,
     "Tags that come in one request": _comes_by_itself,
     "An annotated tag outside `refs/tags/`": _is_tag_elsewhere,
+    "A name and another below it": _is_nested,
     "A symbolic destination": _is_symbolic,
     "Where a depth is counted from": _is_counted_otherwise,
     "A dated path": _is_dated,

@@ -3,7 +3,7 @@
 import os
 import subprocess
 
-from realgit.lines import decoded_text, encoded_text
+from realgit.lines import decoded_text
 from realgit.plainpack import Object
 from realgit.trouble import BAD_INPUT, GIT_REFUSED, Trouble
 
@@ -162,8 +162,3 @@ def objects_in(batch):
         place = end + 1 + int(length) + 1
         found.append(Object(digits, kind, batch[end + 1 : place - 1]))
     return found
-
-
-def name_bytes(name):
-    """By what references are sorted: the bytes of their names."""
-    return encoded_text(name)

@@ -65,7 +65,10 @@ class Scene:
 
     def received(self):
         """The objects in the packs that the server sent."""
-        return [each for pack in packs_in(b"".join(self.server)) for each in read_pack(pack, self.hash_name)]
+        try:
+            return [each for pack in packs_in(b"".join(self.server)) for each in read_pack(pack, self.hash_name)]
+        except (MalformedLine, MalformedPack) as error:
+            raise Trouble(BAD_INPUT, f"what the scene's server says is malformed at {error}") from None
 
 
 def read_scene(data):
@@ -76,6 +79,8 @@ def read_scene(data):
         raise Trouble(BAD_INPUT, f"no scene: malformed at {error}") from None
     except MalformedPack as error:
         raise Trouble(BAD_INPUT, f"no scene: its pack is malformed at {error}") from None
+    except ValueError:
+        raise Trouble(BAD_INPUT, "no scene: a line has too few words") from None
 
 
 def _parts(data):

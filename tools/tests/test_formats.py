@@ -66,7 +66,8 @@ class Scenes(unittest.TestCase):
 
     def test_bytes_that_are_no_scene(self):
         text = read_file(os.path.join(TOP, "examples", "one-commit.scene"))
-        for broken in (b"", text[:-4], text + b"0000", b"0005x" + text, text.replace(b"hash sha1", b"hash sha2")):
+        for broken in (b"", text[:-4], text + b"0000", b"0005x" + text,
+                       text.replace(b"hash sha1", b"hash sha2"), text.replace(b"000fworkdir /w", b"000fref refs/x")):
             with self.assertRaises(Trouble) as caught:
                 read_scene(broken)
             self.assertEqual(caught.exception.status, BAD_INPUT)
