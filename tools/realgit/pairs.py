@@ -8,7 +8,7 @@ from realgit.applying import store
 from realgit.history import History
 from realgit.repository import Repository, git
 
-LEVELS = ("plain", "direct", "whole")
+LEVELS = ("plain", "still", "direct", "whole")
 BRANCHES = ["main", "dev", "side", "topic", "topic/one", "topic/two"]
 TAGS = ["v1", "v2", "v3"]
 ALGORITHMS = ["noop", "consecutive", "skipping", None]
@@ -51,17 +51,17 @@ class Maker:
 
     def __init__(self, folder, seed, level):
         self.random = Random(seed)
-        self.level = level
+        self.is_plain, self.moves, self.is_whole = level == "plain", level in ("direct", "whole"), level == "whole"
         self.server = os.path.join(folder, "server.git")
         self.client = os.path.join(folder, "client")
-        self.hash_name = "sha256" if level != "plain" and self.random.random() < 0.1 else "sha1"
+        self.hash_name = "sha256" if not self.is_plain and self._chance(0.1) else "sha1"
         self.history = History(self.random, self.hash_name)
         self.references = {}
 
     def pair(self):
         """The pair."""
         pair = Pair(self.client, self.server, self.history, *self._fetch())
-        pair.has_head = self.level == "whole"
+        pair.has_head = self.is_whole
         self.init(self.server, "--bare")
         self._begin_server()
         self._begin_client()
@@ -77,7 +77,7 @@ class Maker:
 
     def _fetch(self):
         """What is fetched: refspecs, tags and options."""
-        if self.level == "plain":
+        if self.is_plain:
             name = self.random.choice(BRANCHES[:2])
             mark = self.random.choice(["", "+"])
             return [f"{mark}refs/heads/{name}:refs/remotes/origin/{name}"], "none", []
@@ -117,12 +117,12 @@ class Maker:
     def _move_server(self):
         """Moves, makes and deletes branches and tags of the server."""
         for name in [each for each in self.references if each.startswith("refs/heads/")]:
-            if self.level != "plain" and self._chance(0.5):
+            if self.moves and self._chance(0.5):
                 self._move(name)
         for name in self.random.sample(BRANCHES, 2):
             self._branch(name)
         for name in TAGS:
-            if self._chance(0.2):
+            if self._chance(0.2) and (self.moves or f"refs/tags/{name}" not in self.references):
                 self._tag(name)
         self.write_server()
         self._write_server_head()
@@ -156,38 +156,38 @@ class Maker:
         branches = [name for name in self.references if name.startswith("refs/heads/")]
         if branches and self._chance(0.7):
             server.git("symbolic-ref", "HEAD", self.random.choice(branches))
-        if self.level == "whole" and branches and self._chance(0.2):
+        if self.is_whole and branches and self._chance(0.2):
             server.git("symbolic-ref", "refs/heads/alias", self.random.choice(branches))
 
     # The client.
 
     def _begin_client(self):
-        self.init(self.client, *(["--bare"] if self._chance(0.3) else []))
+        self.init(self.client, *(["--bare"] if not self.is_whole or self._chance(0.3) else []))
         client = Repository(self.client)
-        algorithm = self.random.choice(ALGORITHMS) if self.level == "whole" else "noop"
+        algorithm = self.random.choice(ALGORITHMS) if self.is_whole else "noop"
         if algorithm is not None:
             client.git("config", "fetch.negotiationAlgorithm", algorithm)
         if self._chance(0.8):
             self._fetch_before(client)
             self._make_branches(client)
-        if self.level == "whole":
+        if self.is_whole:
             self._make_symbolic(client)
             self._make_worktrees(client)
 
     def _fetch_before(self, client):
         """Fetches from the server as it is now, sometimes a part of the history alone."""
         specs = [f"+{TRACKING}"]
-        if self.level == "plain":
+        if self.is_plain:
             name = self.random.choice(list(self.references))
             specs = [f"{name}:refs/remotes/origin/{name.rpartition('/')[2]}"]
-        depth = [f"--depth={self.random.randint(1, 3)}"] if self.level != "plain" and self._chance(0.3) else []
-        tags = ["--no-tags"] if self.level == "plain" or self._chance(0.4) else []
+        depth = [f"--depth={self.random.randint(1, 3)}"] if not self.is_plain and self._chance(0.3) else []
+        tags = ["--no-tags"] if self.is_plain or self._chance(0.4) else []
         client.git("fetch", "-q", "--no-auto-maintenance", *depth, *tags, self.server, *specs)
 
     def _make_branches(self, client):
         """Makes branches of the client's own, at the remote's commits or behind a commit of its own."""
         known = [each for each in client.direct_references().values() if each in self.history.seconds]
-        if self.level == "plain" or not known:
+        if not self.moves or not known:
             return
         for name in self.random.sample([*BRANCHES[:3], "copy"], self.random.randint(0, 2)):
             tip = self.random.choice(known)

@@ -100,6 +100,12 @@ def _is_counted_otherwise(difference, fetched):
     return any(stay) and not all(stay) or bool(tags)
 
 
+def _has_border_commit_unsent(_, fetched):
+    """A commit that the server names as one of the border, and doesn't send."""
+    token, *links = (fetched.report.refused or "").split(" ")
+    return token == "Disconnected" and links[0] == links[1] and links[0] in fetched.real.border
+
+
 def _is_dated(difference, fetched):
     return fetched.pair.history.has_skew and _goes_forward_once(difference, fetched)
 
@@ -120,6 +126,7 @@ def _goes_forward_once(difference, fetched):
 REASONS = {
     "A checked-out branch": _is_checked_out,
     "A source that matches nothing": _has_no_source,
+    "A border commit that isn't sent": _has_border_commit_unsent,
     "Dry runs": _is_guessed,
     "Tags that are there, and refspecs without destination": _is_followed,
     "Tags that come in one request": _comes_by_itself,
