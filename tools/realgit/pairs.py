@@ -13,19 +13,20 @@ BRANCHES = ["main", "dev", "side", "topic", "topic/one", "topic/two"]
 TAGS = ["v1", "v2", "v3"]
 ALGORITHMS = ["noop", "consecutive", "skipping", None]
 TRACKING = "refs/heads/*:refs/remotes/origin/*"
+# `{one}` and `{two}` stand for branches, mostly of the server.
 SPECS = [
     [f"+{TRACKING}"],
     [TRACKING],
-    [f"+{TRACKING}", "^refs/heads/dev"],
+    [f"+{TRACKING}", "^refs/heads/{one}"],
     [f"+{TRACKING}", "refs/tags/*:refs/tags/*"],
     [f"+{TRACKING}", "HEAD:refs/remotes/origin/first"],
     ["refs/heads/*:refs/heads/*"],
     ["+refs/heads/*:refs/heads/*"],
     ["+refs/*:refs/mirror/*"],
-    ["refs/heads/main:refs/heads/main", "refs/heads/dev:refs/heads/copy"],
-    ["refs/heads/main:refs/remotes/origin/main", "refs/heads/dev:refs/remotes/origin/main"],
-    ["main:copy"],
-    ["refs/heads/main"],
+    ["refs/heads/{one}:refs/heads/{one}", "+refs/heads/{two}:refs/heads/copy"],
+    ["refs/heads/{one}:refs/remotes/origin/main", "refs/heads/{two}:refs/remotes/origin/main"],
+    ["{one}:copy"],
+    ["refs/heads/{one}"],
     ["+refs/tags/*:refs/tags/*"],
 ]
 
@@ -60,13 +61,11 @@ class Maker:
 
     def pair(self):
         """The pair."""
-        pair = Pair(self.client, self.server, self.history, *self._fetch())
-        pair.has_head = self.is_whole
         self.init(self.server, "--bare")
         self._begin_server()
         self._begin_client()
         self._move_server()
-        return pair
+        return Pair(self.client, self.server, self.history, *self._fetch(), self.is_whole)
 
     def init(self, path, *words):
         """Makes an empty repository."""
@@ -77,18 +76,27 @@ class Maker:
 
     def _fetch(self):
         """What is fetched: refspecs, tags and options."""
+        names = {"one": self._branch_name(), "two": self._branch_name()}
         if self.is_plain:
-            name = self.random.choice(BRANCHES[:2])
             mark = self.random.choice(["", "+"])
-            return [f"{mark}refs/heads/{name}:refs/remotes/origin/{name}"], "none", []
-        return self.random.choice(SPECS), self.random.choice(["all", "included", "included", "none"]), self._options()
+            return [f"{mark}refs/heads/{{one}}:refs/remotes/origin/{{one}}".format(**names)], "none", []
+        specs = [spec.format(**names) for spec in self.random.choice(SPECS)]
+        return specs, self.random.choice(["all", "included", "included", "none"]), self._options()
+
+    def _branch_name(self):
+        """The name of a branch of the server, or rarely of none."""
+        names = [name.removeprefix("refs/heads/") for name in self.references if name.startswith("refs/heads/")]
+        return self.random.choice(names if names and self._chance(0.95) else BRANCHES)
 
     def _options(self):
-        kind = self.random.choice(["", "", "", "", "depth", "deepen", "since", "dry-run"])
+        """A depth or a dry run, or mostly nothing."""
+        kind = self.random.choice(["", "", "", "", "", "depth", "deepen", "since", "not", "dry-run"])
         if kind in ("depth", "deepen"):
             return [f"{kind} {self.random.randint(1, 4)}"]
         if kind == "since":
-            return [f"since {self.history.clock + 60 * self.random.randint(0, 10)}"]
+            return [f"since {self.history.seconds[self.random.choice(self.history.commits)]}"]
+        if kind == "not":
+            return [f"not refs/heads/{self._branch_name()}"]
         return [kind] if kind else []
 
     # The server.
@@ -154,7 +162,7 @@ class Maker:
     def _write_server_head(self):
         server = Repository(self.server)
         branches = [name for name in self.references if name.startswith("refs/heads/")]
-        if branches and self._chance(0.7):
+        if branches and self._chance(0.9):
             server.git("symbolic-ref", "HEAD", self.random.choice(branches))
         if self.is_whole and branches and self._chance(0.2):
             server.git("symbolic-ref", "refs/heads/alias", self.random.choice(branches))
