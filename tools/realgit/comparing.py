@@ -38,10 +38,11 @@ class Difference:
 
 @dataclass
 class Fetched:
-    """A pair, and both fetches of it."""
+    """A pair, and both fetches of it. `refusal` tells why the server refused the engine, if it did."""
 
     pair: Pair
     scene: bytes
+    refusal: str | None
     before: dict[str, str]
     border_before: list[str]
     real: RealFetch
@@ -107,8 +108,9 @@ def scene_for(pair):
 def compare(pair, engine):
     """Fetches a pair by the engine, which changes nothing in it, and then by real Git."""
     scene = scene_for(pair)
-    converse(scene, Server(Repository(pair.server)), engine)
+    server = Server(Repository(pair.server))
+    converse(scene, server, engine)
     report = engine.fetch(scene.to_bytes())
     client = Repository(pair.client)
     before, border = client.references(), client.border()
-    return Fetched(pair, scene.to_bytes(), before, border, fetch(client, pair), report)
+    return Fetched(pair, scene.to_bytes(), server.refusal, before, border, fetch(client, pair), report)

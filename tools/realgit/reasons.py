@@ -6,6 +6,7 @@ UP_TO_DATE, FAST_FORWARD, FORCED, NEW = "up-to-date", "fast-forward", "forced-up
 NOT_FORWARD = "rejected (non-fast-forward)"
 OTHER_TAG = "rejected (would overwrite existing tag)"
 NOT_SENT = "unrelated tag on remote"
+NO_COMMITS = "no commits selected for shallow requests"
 DEPTHS = ("depth", "deepen", "since", "not")
 
 
@@ -90,14 +91,12 @@ def _is_counted_otherwise(difference, fetched):
     """A border commit where Git counts the depth from other references, or finds no commit for them."""
     if not any(option.startswith(DEPTHS) for option in fetched.pair.options):
         return False
-    if _git_says(fetched, "no commits selected for shallow requests"):
+    if any(NO_COMMITS in (refused or "") for refused in (fetched.real.refused, fetched.refusal)):
         return True
-    if not difference.is_of_border():
-        return False
-    mapped = [each for each in fetched.report.mappings if each.destination is not None]
-    stay = [each.mode == UP_TO_DATE for each in mapped]
+    mapped = fetched.report.mappings
+    stay = [each.mode == UP_TO_DATE and each.destination is not None for each in mapped]
     tags = [each for each in mapped if _is_implicit(each, fetched) and fetched.real_mode(each) == NEW]
-    return any(stay) and not all(stay) or bool(tags)
+    return difference.is_of_border() and (any(stay) and not all(stay) or bool(tags))
 
 
 def _has_border_commit_unsent(_, fetched):

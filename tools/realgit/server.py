@@ -16,11 +16,11 @@ PROTOCOL = {"GIT_PROTOCOL": "version=2"}
 class Server:
     """A repository that is fetched from over version 2 of the protocol.
 
-    `hung_up` tells why it ended without a word, once it did.
+    `refusal` tells why it refused a request, once it did.
     """
 
     def __init__(self, repository):
-        self.hung_up = None
+        self.refusal = None
         self.git_dir = repository.git_dir
         self.hash_name = repository.hash_name()
 
@@ -42,8 +42,8 @@ class Server:
         """What real Git answers."""
         given = b"".join(map(encoded, [*request, Mark.FLUSH]))
         status, said, messages = run_git(["upload-pack", "--stateless-rpc", self.git_dir], given, PROTOCOL)
-        if status != 0 and not said:
-            self.hung_up = why(messages)
+        if status != 0:
+            self.refusal = why(messages)
         return said
 
     def _with_plain_pack(self, said, version):

@@ -2,7 +2,8 @@
 """Stands in for the engine in the checks of the tools.
 
 It fetches by one refspec without a star into a name that is absent or up to date. BEHAVIOUR in the environment makes it
-answer `unbuilt` or `malformed`, report a refusal, leave the reference out of its report, or tell what it has first.
+answer `unbuilt` or `malformed`, report a refusal, leave the reference out of its report, tell what it has first, or
+want what nobody has.
 """
 
 import os
@@ -43,7 +44,7 @@ def state(references, objects, logs=()):
 
 def asks_for_more(scene, want):
     """Writes the requests for an id, as far as it has answers, and tells whether an answer is missing."""
-    asked = ["plain-pack-2", f"want {want}"]
+    asked = ["plain-pack-2", f"want {'1' * 40 if BEHAVIOUR == 'wants nothing' else want}"]
     if BEHAVIOUR == "tells first":
         say_request("fetch", *asked, *(f"have {each.id}" for each in scene.objects if each.kind == "commit"))
         if len(scene.server) < 3 or list(packs_in(scene.server[2])):

@@ -109,6 +109,10 @@ class Scenes(WithRepositories):
         for words, behaviour, status, text in cases:
             self.assert_line(self.scene(*words, behaviour=behaviour), status, text)
 
+    def test_a_request_that_git_refuses(self):
+        ended = self.scene(self.server, SPEC, behaviour="wants nothing")
+        self.assert_line(ended, 4, "git upload-pack refused")
+
     def assert_line(self, ended, status, text):
         self.assertEqual((ended[0], ended[1]), (status, b""))
         self.assertRegex(ended[2], rf"\A[^\n]*{re.escape(text)}[^\n]*\n\Z")
