@@ -10,6 +10,8 @@ BAD_INPUT = 3
 GIT_REFUSED = 4
 ENGINE_FAILED = 5
 UNBUILT = 6
+# What a shell tells of a program that an interrupt ended.
+INTERRUPTED = 130
 
 STATUSES = """\
 statuses:
@@ -54,6 +56,8 @@ def end(main):
     except Trouble as trouble:
         print(f"{sys.argv[0].rpartition('/')[2]}: {trouble}", file=sys.stderr)
         status = trouble.status
+    except KeyboardInterrupt:
+        status = INTERRUPTED
     except BrokenPipeError:
         sys.stdout = None
         status = BAD_INPUT

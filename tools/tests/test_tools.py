@@ -164,7 +164,9 @@ class Compared(unittest.TestCase):
         self.assertEqual((status, out), (0, b"3 pairs of seed 1, level whole:\n     3 unbuilt\n"))
 
     def test_wrong_words(self):
-        self.assertEqual(run("compare-with-git", "many")[0], 2)
+        for words in (["many"], ["-1"], ["1", "2", "3"], ["--level", "none"], ["--first", "x"]):
+            status, out, messages = run("compare-with-git", *words)
+            self.assertEqual((status, out, messages.count("\n")), (2, b"", 1))
 
     def test_reasons_are_titles_of_the_documents(self):
         text = read_file(os.path.join(TOOLS, "..", "docs", "DIFFERENCES.md")).decode()
