@@ -14,7 +14,8 @@ ORDER = ("blob", "tree", "commit", "tag")
 def write_objects(repository, scene, report):
     """Stores the objects of a report that the repository lacks, and answers how many there are."""
     known = {each.id: each for each in [*scene.received(), *scene.objects]}
-    lacking = repository.lacking(report.ids)
+    stored = repository.stored_ids()
+    lacking = [digits for digits in report.ids if digits not in stored]
     strangers = [digits for digits in lacking if digits not in known]
     if strangers:
         raise Trouble(BAD_INPUT, f"the scene has no object {strangers[0]}, which the report tells")

@@ -136,11 +136,10 @@ class Repository:
         """All objects, each once."""
         return objects_in(self.git("cat-file", "--batch-all-objects", "--unordered", "--batch"))
 
-    def lacking(self, ids):
-        """Those of these ids that aren't stored."""
-        given = "".join(f"{each}\n" for each in ids).encode()
-        out = decoded_text(self.git("cat-file", "--batch-check=%(objectname)", given=given))
-        return [line.removesuffix(" missing") for line in out.splitlines() if line.endswith(" missing")]
+    def stored_ids(self):
+        """The ids of all objects. The empty tree, which Git knows by itself, is there only where it is stored."""
+        out = self.git("cat-file", "--batch-all-objects", "--unordered", "--batch-check=%(objectname)")
+        return set(out.decode("ascii").split())
 
 
 def symbolic_target(path):

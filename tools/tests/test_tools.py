@@ -18,6 +18,7 @@ from realgit.trouble import read_file
 HERE = os.path.dirname(os.path.abspath(__file__))
 TOOLS = os.path.dirname(HERE)
 DOUBLE = ["--engine", os.path.join(HERE, "double.py")]
+EMPTY_TREE_ID = "4b825dc642cb6eb9a060e54bf8d69288fbee4904"
 SPEC = "+refs/heads/main:refs/remotes/origin/main"
 
 
@@ -131,6 +132,17 @@ class Applied(WithRepositories):
         self.assertEqual(log, f"{'0' * 40} {self.tip} fetch <fetch@localhost> 0 +0000\tfetch: storing ref\n")
         again = run("apply-report", self.path("scene"), self.path("report"), self.client)
         self.assertEqual(again, (0, b"0 objects stored, 0 references moved\n", ""))
+
+    def test_the_empty_tree_is_stored_too(self):
+        author = {f"GIT_{who}_{what}": "a@x" for who in ("AUTHOR", "COMMITTER") for what in ("NAME", "EMAIL")}
+        git(["-C", self.server, "hash-object", "-w", "-t", "tree", "--stdin"])
+        tip = git(["-C", self.server, "commit-tree", "-m", "empty", EMPTY_TREE_ID], more=author).decode().strip()
+        git(["-C", self.server, "update-ref", "refs/heads/main", tip])
+        self.scene(self.server, SPEC)
+        self.report()
+        self.assertEqual(run("apply-report", self.path("scene"), self.path("report"), self.client)[0], 0)
+        git(["-C", self.client, "fsck", "--strict"])
+        self.assertIn(EMPTY_TREE_ID, self.ids(self.client))
 
     def test_the_border_is_written(self):
         self.scene(self.server, SPEC)
