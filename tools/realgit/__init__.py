@@ -1,0 +1,1 @@
+"""What the tools share: lines, packs, scenes and reports, and what is asked of real Git."""

@@ -1,0 +1,50 @@
+"""The engine, run on scenes."""
+
+import os
+import subprocess
+
+from realgit.lines import decoded_text, line_at, text_of
+from realgit.report import read_report
+from realgit.trouble import BAD_INPUT, BAD_WORDS, ENGINE_FAILED, UNBUILT, Trouble
+
+PROGRAM = os.path.normpath(os.path.join(os.path.dirname(__file__), "..", "..", "bagjulen"))
+MALFORMED = 4
+# Lines of a scene that the caller's words give.
+GIVEN = ("remote ", "fetch ", "extra ", "option ")
+
+
+class Engine:
+    """The program that fetches what a scene says."""
+
+    def __init__(self, program):
+        self.program = program
+
+    def fetch(self, scene):
+        """The report of a scene."""
+        try:
+            ended = subprocess.run([self.program, "fetch"], input=scene, capture_output=True)
+        except OSError as error:
+            raise Trouble(ENGINE_FAILED, f"can't run {self.program}: {error.strerror}") from None
+        if ended.returncode == UNBUILT:
+            raise Trouble(UNBUILT, "the engine answers `unbuilt`: this fetch isn't built yet")
+        if ended.returncode == MALFORMED:
+            raise malformed(scene, decoded_text(ended.stdout).strip())
+        if ended.returncode not in (0, 1):
+            raise Trouble(ENGINE_FAILED, f"{self.program} ended with status {ended.returncode}")
+        try:
+            return read_report(ended.stdout)
+        except Trouble as trouble:
+            raise Trouble(ENGINE_FAILED, f"the engine wrote {trouble}") from None
+
+
+def malformed(scene, told):
+    """The trouble with a scene that the engine can't read, with the line where it stops."""
+    place = told.removeprefix("malformed ")
+    if not place.isdigit() or int(place) >= len(scene):
+        return Trouble(ENGINE_FAILED, f"the engine wrote {told!r}")
+    line, _ = line_at(scene, int(place))
+    if not isinstance(line, bytes):
+        return Trouble(BAD_INPUT, f"the engine can't read the scene at {place}")
+    text = text_of(line)
+    status = BAD_WORDS if text.startswith(GIVEN) else BAD_INPUT
+    return Trouble(status, f"the engine can't read the line {text[:100]!r}")
