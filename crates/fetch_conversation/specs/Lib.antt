@@ -1,2 +1,6 @@
 pub mod Conversation
+pub mod ConverseStage
+pub mod Errors
+pub mod ListStage
+pub mod Mapped
 pub mod Served
