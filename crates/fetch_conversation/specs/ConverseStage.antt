@@ -21,7 +21,10 @@ use Rattle.fetch_wire.specs.declared.awaited.Fault.{Fault}
 use Rattle.fetch_wire.specs.declared.awaited.Told.{Told}
 use Rattle.fetch_wire.specs.declared.awaited.Told.TheVariants as told
 use Rattle.fetch_wire.specs.declared.error.WireError.TheVariants as wire
+use Rattle.fetch_wire.specs.declared.handshake.Capability.{Capability}
 use Rattle.fetch_wire.specs.declared.handshake.Handshake.{Handshake}
+use Rattle.fetch_wire.specs.declared.handshake.Version.{Version}
+use Rattle.fetch_wire.specs.declared.handshake.Version.TheVariants as versions
 use Rattle.fetch_wire.specs.declared.mapping.RefMap.{RefMap}
 use Rattle.fetch_wire.specs.declared.records.FetchReply.{FetchReply}
 use Rattle.fetch_negotiate.specs.Requests.{Asked, fetch_request}
@@ -87,9 +90,17 @@ fetch_feature = codes "fetch"
 unfoldable pub shallow_feature : List ℕ
 shallow_feature = codes "shallow"
 
+-- what a server offers for a fetch; one of version 1 offers nothing
+abbrev pub offered_in : Version → List Capability → List Capability
+offered_in versions.V1 capabilities = []
+offered_in versions.V2 capabilities = capabilities
+
+abbrev pub offered : Handshake → List Capability
+offered h = offered_in h.version h.capabilities
+
 -- whether a word stands among those of `fetch=`
 abbrev pub fetches : List ℕ → Handshake → Bool
-fetches word h = has_word word (value_of fetch_feature h.capabilities)
+fetches word h = has_word word (value_of fetch_feature (offered h))
 
 abbrev pub is_no_change : Shallow → Bool
 is_no_change depth.NoChange = true
@@ -109,7 +120,7 @@ lacks offered name = if offered then None else Some (errors.Fetch (wire.MissingF
 abbrev pub lacking : TermsValue → Option Error
 lacking t =
     let h = t.listed.handshake in
-    option_or (lacks (offers fetch_feature h.capabilities) fetch_feature) (
+    option_or (lacks (offers fetch_feature (offered h)) fetch_feature) (
     option_or (lacks (fetches plain_pack h || fetches plain_pack_2 h) plain_pack)
     (lacks (not (needs_shallow t) || fetches shallow_feature h) shallow_feature))
 
