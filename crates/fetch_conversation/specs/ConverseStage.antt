@@ -36,6 +36,7 @@ use Rattle.fetch_conversation.specs.Errors.{fetch_of_pack}
 use Rattle.fetch_conversation.specs.ListStage.{ListedValue, is_nil, unless}
 use Rattle.fetch_conversation.specs.declared.conversing.Received.{Received}
 use Rattle.fetch_conversation.specs.declared.conversing.View.{View}
+use Rattle.fetch_conversation.specs.declared.negotiate.Negotiate.{Negotiate}
 use Rattle.fetch_conversation.specs.declared.fetch.Error.{Error}
 use Rattle.fetch_conversation.specs.declared.fetch.Error.TheVariants as errors
 
@@ -72,8 +73,11 @@ specs_of m = m.refspecs ++ m.extra_refspecs
 abbrev pub is_unmapped : RefMap → Bool
 is_unmapped m = is_nil m.mappings && not (is_nil m.remote_refs) && list_any names_one (specs_of m)
 
+abbrev pub unmapped : RefMap → Option Error
+unmapped m = if is_unmapped m then Some (errors.NoMapping (specs_of m) (length m.remote_refs)) else None
+
 abbrev pub no_mapping : TermsValue → Option Error
-no_mapping t = let m = t.listed.ref_map in if is_unmapped m then Some (errors.NoMapping (specs_of m) (length m.remote_refs)) else None
+no_mapping t = unmapped t.listed.ref_map
 
 abbrev pub is_same_kind : Kind → Kind → Bool
 is_same_kind Sha1 Sha1 = true
@@ -81,8 +85,11 @@ is_same_kind Sha1 Sha256 = false
 is_same_kind Sha256 Sha1 = false
 is_same_kind Sha256 Sha256 = true
 
+abbrev pub unlike : Kind → Kind → Option Error
+unlike local remote = if is_same_kind local remote then None else Some (errors.IncompatibleObjectHash local remote)
+
 abbrev pub other_hash : TermsValue → Option Error
-other_hash t = let remote = t.listed.handshake.object_hash in if is_same_kind t.hash remote then None else Some (errors.IncompatibleObjectHash t.hash remote)
+other_hash t = unlike t.hash t.listed.handshake.object_hash
 
 unfoldable pub fetch_feature : List ℕ
 fetch_feature = codes "fetch"
@@ -110,19 +117,24 @@ is_no_change (depth.Since cutoff) = false
 is_no_change (depth.Exclude names cutoff) = false
 
 -- whether the server has to know of a border: one is told, or the depth is to change
+abbrev pub is_border_needed : IdSet → Shallow → Bool
+is_border_needed border shallow = not (is_nil (ids_of border)) || not (is_no_change shallow)
+
 abbrev pub needs_shallow : TermsValue → Bool
-needs_shallow t = not (is_nil (ids_of t.view.border)) || not (is_no_change t.shallow)
+needs_shallow t = is_border_needed t.view.border t.shallow
 
 abbrev pub lacks : Bool → List ℕ → Option Error
 lacks offered name = if offered then None else Some (errors.Fetch (wire.MissingFeature name))
 
 -- the first of fetching, plain packs of either version and, where it is needed, the border that isn't offered
-abbrev pub lacking : TermsValue → Option Error
-lacking t =
-    let h = t.listed.handshake in
+abbrev pub lacked : Handshake → Bool → Option Error
+lacked h border_needed =
     option_or (lacks (offers fetch_feature (offered h)) fetch_feature) (
     option_or (lacks (fetches plain_pack h || fetches plain_pack_2 h) plain_pack)
-    (lacks (not (needs_shallow t) || fetches shallow_feature h) shallow_feature))
+    (lacks (not border_needed || fetches shallow_feature h) shallow_feature))
+
+abbrev pub lacking : TermsValue → Option Error
+lacking t = lacked t.listed.handshake (needs_shallow t)
 
 -- ---- the conversation
 
@@ -141,13 +153,16 @@ asked_by t = record { handshake = t.listed.handshake; agent = t.agent; tags = t.
 abbrev pub only_round : Round
 only_round = record { haves = []; acknowledged = []; done = true }
 
+abbrev pub only_rounds : Negotiate
+only_rounds = record { rounds = only_round ∷ [] }
+
 -- what a reply changes of the border, beside a pack that holds this
 abbrev pub with_pack : FetchReply → Contents → Received
-with_pack reply c = record { negotiate = record { rounds = only_round ∷ [] }; objects = c.objects; shallow = reply.shallow; unshallow = reply.unshallow; pack = Some (c.count, c.digest) }
+with_pack reply c = record { negotiate = only_rounds; objects = c.objects; shallow = reply.shallow; unshallow = reply.unshallow; pack = Some (c.count, c.digest) }
 
 -- the same where no pack is read
 abbrev pub without_pack : FetchReply → Received
-without_pack reply = record { negotiate = record { rounds = only_round ∷ [] }; objects = []; shallow = reply.shallow; unshallow = reply.unshallow; pack = None }
+without_pack reply = record { negotiate = only_rounds; objects = []; shallow = reply.shallow; unshallow = reply.unshallow; pack = None }
 
 abbrev pub unpacked : FetchReply → Result Contents PackError → Result (Option Received) Error
 unpacked reply (Ok c) = Ok (Some (with_pack reply c))

@@ -6,6 +6,8 @@ use Rattle.fetch_update.specs.declared.update.Error.{Error as UpdateError}
 use Rattle.fetch_update.specs.declared.update.Error.TheVariants as update
 use Rattle.fetch_wire.specs.declared.error.WireError.{WireError}
 use Rattle.fetch_wire.specs.declared.error.WireError.TheVariants as wire
+use Rattle.fetch_conversation.specs.declared.drive.Stop.{Stop}
+use Rattle.fetch_conversation.specs.declared.drive.Stop.TheVariants as stops
 use Rattle.fetch_conversation.specs.declared.fetch.Error.{Error as ReceiveError}
 use Rattle.fetch_conversation.specs.declared.fetch.Error.TheVariants as fetch
 use Rattle.fetch_conversation.specs.declared.prepare.Error.{Error as PrepareError}
@@ -32,6 +34,22 @@ fetch_of_pack e = fetch.Pack e
 abbrev pub fetch_of_update : UpdateError → ReceiveError
 fetch_of_update update.NoMemory = fetch.NoMemory
 fetch_of_update e = fetch.UpdateRefs e
+
+abbrev pub prepare_of_wire : WireError → PrepareError
+prepare_of_wire wire.NoMemory = prepare.NoMemory
+prepare_of_wire e = prepare.RefMap (ref_map.Handshake e)
+
+-- ---- why a session was driven no further
+
+abbrev pub prepare_of_stop : Stop → PrepareError
+prepare_of_stop (stops.Refused e) = prepare_of_wire e
+prepare_of_stop stops.Failed = prepare.RefMap ref_map.Transport
+prepare_of_stop stops.Interrupted = prepare.RefMap ref_map.Interrupted
+
+abbrev pub fetch_of_stop : Stop → ReceiveError
+fetch_of_stop (stops.Refused e) = fetch_of_wire e
+fetch_of_stop stops.Failed = fetch.Client
+fetch_of_stop stops.Interrupted = fetch.Interrupted
 
 -- ---- while the references are listed
 

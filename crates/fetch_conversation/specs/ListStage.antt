@@ -169,7 +169,8 @@ abbrev pub left_by : Result Listed Error → List ℕ
 left_by (Ok l) = pending_of l
 left_by (Err e) = []
 
--- The listing was read, and no request was made yet.
+-- The listing was read, no request was made yet, and no refusal was answered.
 pub record IsReady (l : Listed) : Type 0 where
   pub turn : turn_of l.session ≡ turns.Idle
+  pub unrefused : l.session.refused ≡ false
   pub kind : kind_of l.session.handshake ≡ l.handshake.object_hash

@@ -2,7 +2,7 @@
 
 ghost use Rattle.std.specs.Prelude.{◌≡◌, IfOk};
 
-use fetch_store::{NoMemory, Text};
+use fetch_store::{List, NoMemory, ObjectId, Text};
 
 /// A copy of a text that may be absent.
 pub(crate) fn copy_option(text: &Option<Text>) -> Result<Option<Text>, NoMemory>
@@ -12,4 +12,11 @@ pub(crate) fn copy_option(text: &Option<Text>) -> Result<Option<Text>, NoMemory>
         Some(text) => Ok(Some(text.try_clone()?)),
         None => Ok(None),
     }
+}
+
+/// An equal list of ids.
+pub(crate) fn copied_ids(ids: &List<ObjectId>) -> Result<List<ObjectId>, NoMemory>
+    ensures { IfOk result (λ copy. copy ≡ ids.now) }
+{
+    Ok(List::from(Vec::from_slice(ids.allocator(), ids.as_slice())?))
 }

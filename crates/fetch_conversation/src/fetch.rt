@@ -1,5 +1,6 @@
 //! Why a fetch request, or what was received, had no effect.
 
+use crate::drive::Stop;
 use fetch_pack::PackError;
 use fetch_specs::RefSpec;
 use fetch_store::{Kind, List, Missing, NoMemory, ObjectId, Text};
@@ -69,6 +70,62 @@ pub enum Error {
     NoMemory,
 }
 
+impl Error {
+    ghost use Rattle.std.specs.Prelude.{◌≡◌, IfOk};
+    ghost use Rattle.fetch_conversation.specs.Errors.{is_client};
+
+    /// Whether it is the peer's fault.
+    pub fn is_spurious(&self) -> bool
+        ensures { result ≡ is_client self.now }
+    {
+        matches!(self, Error::Client)
+    }
+
+    /// An equal error.
+    pub fn try_clone(&self) -> Result<Error, NoMemory>
+        ensures { IfOk result (λ copy. copy ≡ self.now) }
+    {
+        match self {
+            Error::NoMapping {
+                refspecs,
+                num_remote_refs,
+            } => Ok(Error::NoMapping {
+                refspecs: refspecs.try_clone_with(RefSpec::try_clone)?,
+                num_remote_refs: *num_remote_refs,
+            }),
+            Error::IncompatibleObjectHash { local, remote } => Ok(Error::IncompatibleObjectHash {
+                local: *local,
+                remote: *remote,
+            }),
+            Error::Disconnected { link } => Ok(Error::Disconnected { link: *link }),
+            Error::Fetch(e) => Ok(Error::Fetch(e.try_clone()?)),
+            Error::Client => Ok(Error::Client),
+            Error::Interrupted => Ok(Error::Interrupted),
+            Error::RejectShallowRemote { id } => Ok(Error::RejectShallowRemote { id: *id }),
+            Error::Pack(e) => Ok(Error::Pack(*e)),
+            Error::Collision { id } => Ok(Error::Collision { id: *id }),
+            Error::UpdateRefs(e) => Ok(Error::UpdateRefs(e.try_clone()?)),
+            Error::Unbuilt => Ok(Error::Unbuilt),
+            Error::NoMemory => Ok(Error::NoMemory),
+            Error::RejectShallowRemoteConfig { value } => Ok(Error::RejectShallowRemoteConfig {
+                value: value.try_clone()?,
+            }),
+            Error::NegotiationAlgorithmConfig { value } => Ok(Error::NegotiationAlgorithmConfig {
+                value: value.try_clone()?,
+            }),
+            Error::PackThreads { value } => Ok(Error::PackThreads {
+                value: value.try_clone()?,
+            }),
+            Error::KeepFile { path } => Ok(Error::KeepFile {
+                path: path.try_clone()?,
+            }),
+            Error::RemovePackKeepFile { path } => Ok(Error::RemovePackKeepFile {
+                path: path.try_clone()?,
+            }),
+        }
+    }
+}
+
 /// Want of memory stays want of memory, and a collision is told by itself.
 impl From<PackError> for Error {
     ghost use Rattle.std.specs.Prelude.{◌≡◌};
@@ -123,5 +180,20 @@ impl From<NoMemory> for Error {
 
     fn from(_e: NoMemory) -> Error {
         Error::NoMemory
+    }
+}
+
+impl From<Stop> for Error {
+    ghost use Rattle.std.specs.Prelude.{◌≡◌};
+    ghost use Rattle.fetch_conversation.specs.Errors.{fetch_of_stop};
+
+    ghost from_gives = { λ e f. f ≡ fetch_of_stop e };
+
+    fn from(e: Stop) -> Error {
+        match e {
+            Stop::Refused(e) => Error::from(e),
+            Stop::Failed => Error::Client,
+            Stop::Interrupted => Error::Interrupted,
+        }
     }
 }

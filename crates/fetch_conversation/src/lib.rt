@@ -2,8 +2,10 @@
 //! list the references and ask for a pack.
 #![tactic(auto)]
 
+mod asking;
 mod conversing;
 mod copies;
+mod drive;
 pub mod fetch;
 pub mod laws;
 mod listing;
@@ -11,7 +13,9 @@ mod mapped;
 mod negotiate;
 pub mod prepare;
 mod progress;
+mod receiving;
 pub mod ref_map;
+mod refusals;
 mod settings;
 
 pub use conversing::{Received, Terms, View, converse};

@@ -1,17 +1,21 @@
 //! Which references of a remote go where.
 
-ghost use Rattle.std.specs.Prelude.{◌≡◌, ◌++◌, ◌∷◌, [], map, IfOk, OnOk};
+ghost use Rattle.std.specs.Prelude.{◌≡◌, ◌++◌, ◌∷◌, [], map, IfOk, IfErr, OnOk};
 ghost use Rattle.std.specs.List.{filter_map};
+ghost use Rattle.fetch_specs.specs.Conflicts.{conflicts_of};
 ghost use Rattle.fetch_specs.specs.Matches.{mappings_of};
+ghost use Rattle.fetch_conversation.specs.Listing.{TellsConflicts};
 ghost use Rattle.fetch_wire.specs.References.{name_in};
 ghost use Rattle.fetch_conversation.specs.Mapped.{taken_by, index_among, mapping_by, ref_mappings};
 
-use fetch_specs::{Item, Match, MatchGroup, RefSpec, SourceRef};
-use fetch_store::{Kind, NoMemory, Text};
+use crate::ref_map;
+use fetch_specs::{Item, Match, MatchGroup, RefSpec, SourceRef, validate};
+use fetch_store::{Kind, List, NoMemory, Text};
 use fetch_wire::{Mapping, Ref, Source, SpecIndex};
 use std::alloc::Global;
 
 /// The mappings of what is listed, by refspecs of which so many are the remote's, and the others extra ones.
+/// Two different sources may not lead to one destination.
 #[tactic(auto, unfolding(crate::specs::Mapped::ref_mappings))]
 pub(crate) fn map_refs(
     alloc: Global,
@@ -19,12 +23,27 @@ pub(crate) fn map_refs(
     specs: &[RefSpec],
     kind: Kind,
     refs: &[Ref],
-) -> Result<Vec<Mapping>, NoMemory>
-    ensures { IfOk result (λ mappings. mappings.items ≡ ref_mappings remote specs.now kind refs.now) }
+) -> Result<Vec<Mapping>, ref_map::Error>
+    ensures mapped { IfOk result (λ mappings. mappings.items ≡ ref_mappings remote specs.now kind refs.now) }
+    ensures clear { OnOk result (conflicts_of (mappings_of specs.now (map name_in refs.now) kind) ≡ []) }
+    ensures refused { IfErr result (λ e. TellsConflicts (conflicts_of (mappings_of specs.now (map name_in refs.now) kind)) e) }
 {
     let items = items_of(alloc, refs)?;
     let matches = match_items(alloc, specs, &items, kind)?;
-    mappings_of_matches(alloc, remote, refs, &matches)
+    refuse_conflicts(alloc, &matches)?;
+    Ok(mappings_of_matches(alloc, remote, refs, &matches)?)
+}
+
+/// No destination has two different sources.
+fn refuse_conflicts(alloc: Global, matches: &[Match]) -> Result<(), ref_map::Error>
+    ensures clear { OnOk result (conflicts_of matches.now ≡ []) }
+    ensures refused { IfErr result (λ e. TellsConflicts (conflicts_of matches.now) e) }
+{
+    match validate(alloc, matches) {
+        Ok(conflicts) if conflicts.is_empty() => Ok(()),
+        Ok(conflicts) => Err(ref_map::Error::InitRefMap(List::from(conflicts))),
+        Err(_) => Err(ref_map::Error::NoMemory),
+    }
 }
 
 fn match_items(

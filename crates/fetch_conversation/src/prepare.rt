@@ -1,7 +1,9 @@
 //! Why a fetch wasn't prepared.
 
+use crate::drive::Stop;
 use crate::ref_map;
 use fetch_store::NoMemory;
+use fetch_wire::WireError;
 use thiserror::Error;
 
 /// Why a fetch wasn't prepared. Nothing was changed.
@@ -16,6 +18,32 @@ pub enum Error {
     /// Memory ran out.
     #[error("out of memory")]
     NoMemory,
+}
+
+impl Error {
+    ghost use Rattle.std.specs.Prelude.{◌≡◌, IfOk};
+    ghost use Rattle.fetch_conversation.specs.Errors.{is_transport};
+
+    /// Whether it is the peer's fault.
+    pub fn is_spurious(&self) -> bool
+        ensures { result ≡ is_transport self.now }
+    {
+        match self {
+            Error::RefMap(e) => e.is_spurious(),
+            Error::MissingRefSpecs | Error::NoMemory => false,
+        }
+    }
+
+    /// An equal error.
+    pub fn try_clone(&self) -> Result<Error, NoMemory>
+        ensures { IfOk result (λ copy. copy ≡ self.now) }
+    {
+        match self {
+            Error::MissingRefSpecs => Ok(Error::MissingRefSpecs),
+            Error::RefMap(e) => Ok(Error::RefMap(e.try_clone()?)),
+            Error::NoMemory => Ok(Error::NoMemory),
+        }
+    }
 }
 
 /// Want of memory stays want of memory.
@@ -41,5 +69,35 @@ impl From<NoMemory> for Error {
 
     fn from(_e: NoMemory) -> Error {
         Error::NoMemory
+    }
+}
+
+/// Want of memory stays want of memory.
+impl From<WireError> for Error {
+    ghost use Rattle.std.specs.Prelude.{◌≡◌};
+    ghost use Rattle.fetch_conversation.specs.Errors.{prepare_of_wire};
+
+    ghost from_gives = { λ e p. p ≡ prepare_of_wire e };
+
+    fn from(e: WireError) -> Error {
+        match e {
+            WireError::NoMemory => Error::NoMemory,
+            e => Error::RefMap(ref_map::Error::Handshake(e)),
+        }
+    }
+}
+
+impl From<Stop> for Error {
+    ghost use Rattle.std.specs.Prelude.{◌≡◌};
+    ghost use Rattle.fetch_conversation.specs.Errors.{prepare_of_stop};
+
+    ghost from_gives = { λ e p. p ≡ prepare_of_stop e };
+
+    fn from(e: Stop) -> Error {
+        match e {
+            Stop::Refused(e) => Error::from(e),
+            Stop::Failed => Error::RefMap(ref_map::Error::Transport),
+            Stop::Interrupted => Error::RefMap(ref_map::Error::Interrupted),
+        }
     }
 }

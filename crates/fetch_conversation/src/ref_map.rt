@@ -71,3 +71,41 @@ pub enum Error {
     #[error("out of memory")]
     NoMemory,
 }
+
+impl Error {
+    ghost use Rattle.std.specs.Prelude.{◌≡◌, IfOk};
+    ghost use Rattle.fetch_conversation.specs.Errors.{is_transport_map};
+
+    /// Whether it is the peer's fault.
+    pub fn is_spurious(&self) -> bool
+        ensures { result ≡ is_transport_map self.now }
+    {
+        matches!(self, Error::Transport)
+    }
+
+    /// An equal error.
+    pub fn try_clone(&self) -> Result<Error, NoMemory>
+        ensures { IfOk result (λ copy. copy ≡ self.now) }
+    {
+        match self {
+            Error::Handshake(e) => Ok(Error::Handshake(e.try_clone()?)),
+            Error::Transport => Ok(Error::Transport),
+            Error::Interrupted => Ok(Error::Interrupted),
+            Error::InitRefMap(conflicts) => Ok(Error::InitRefMap(
+                conflicts.try_clone_with(Conflict::try_clone)?,
+            )),
+            Error::NoMemory => Ok(Error::NoMemory),
+        }
+    }
+}
+
+impl From<NoMemory> for Error {
+    ghost use Rattle.std.specs.Prelude.{◌≡◌};
+    ghost use Rattle.fetch_conversation.specs.declared.ref_map.Error.TheVariants as errors;
+
+    ghost from_gives = { λ _ e. e ≡ errors.NoMemory };
+
+    fn from(_e: NoMemory) -> Error {
+        Error::NoMemory
+    }
+}
