@@ -136,9 +136,9 @@ stage_tied bound t before now idle same clear some a =
     let lines : List Line = fetch_request (asked_by t) [] true in
     let asked : AskedReply = session.asked_by before a.request (not t.dry_run) in
     let first : IsTied errors.Fetch (finding (λ reply. received t reply)) before.intake.bound (requested before a.request (not t.dry_run)) (question (λ x. replied t x) before.intake.bound lines asked) before.intake.pending
-        = tied (λ reply. received t reply) (λ x. replied t x) before a.request (not t.dry_run) lines (λ reply. refl) (well before idle) (ap lines_text (sym a.lines)) in
+    = tied (λ reply. received t reply) (λ x. replied t x) before a.request (not t.dry_run) lines (λ reply. refl) (well before idle) (ap lines_text (sym a.lines)) in
     let second : IsTied errors.Fetch (finding (λ reply. received t reply)) bound (requested before a.request (not t.dry_run)) (question (λ x. replied t x) bound lines asked) before.intake.pending
-        = subst (λ (n : ℕ). IsTied errors.Fetch (finding (λ reply. received t reply)) n (requested before a.request (not t.dry_run)) (question (λ x. replied t x) n lines asked) before.intake.pending) same first in
+    = subst (λ (n : ℕ). IsTied errors.Fetch (finding (λ reply. received t reply)) n (requested before a.request (not t.dry_run)) (question (λ x. replied t x) n lines asked) before.intake.pending) same first in
     let stage : converse_stage bound t ≡ question (λ x. replied t x) bound lines asked = fetching_stage bound t clear some ∙ question_is bound t asked a.reply a.fits in
     tied_alike errors.Fetch (finding (λ reply. received t reply)) bound now (requested before a.request (not t.dry_run)) (converse_stage bound t) before.intake.pending a.is
     (subst (λ (c : Conversation (Option Received) Error). IsTied errors.Fetch (finding (λ reply. received t reply)) bound (requested before a.request (not t.dry_run)) c before.intake.pending) (sym stage) second)

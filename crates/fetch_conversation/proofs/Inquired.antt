@@ -93,7 +93,7 @@ asked_listing bound q h lines long offered =
 
 by_offer : (q : InquiryValue) (bound : ℕ) (first : Line) (stream : List ℕ) (h : Handshake) (lines : List Line) (rest : List ℕ) (long : Option ℕ) (offered : Bool)
     → Shows q bound (read_one rests (listing_by long offered h lines (record (greeting_state q bound first stream) { intake = resting rest (greeting_state q bound first stream).intake; handshake = Some h })))
-        (first ∷ [] ++ sent_in bound (asked_listing bound q h lines long offered) rest) (answer_in bound (asked_listing bound q h lines long offered) rest)
+    (first ∷ [] ++ sent_in bound (asked_listing bound q h lines long offered) rest) (answer_in bound (asked_listing bound q h lines long offered) rest)
 unfolding sent_in answer_in
 by_offer q bound first stream h lines rest (Some n) offered = record { sent = refl; answered = refl; bounded = refl }
 by_offer q bound first stream h lines rest None false = record { sent = refl; answered = refl; bounded = refl }
@@ -103,7 +103,7 @@ by_offer q bound first stream h lines rest None true =
 -- by what the greeting tells
 by_greeting : (q : InquiryValue) (bound : ℕ) (first : Line) (stream : List ℕ) (found : Result (Told × List ℕ) Fault) → told_with (greeting_state q bound first stream).intake [] ≡ Some found
     → Shows q bound (read_one rests (after_told asks (greeting_state q bound first stream) (Some found)))
-        (first ∷ [] ++ after_reply (λ _. []) (λ t left. sent_in bound (greeted bound q t) left) found) (after_reply (λ fault. Err (failed bound fault)) (λ t left. answer_in bound (greeted bound q t) left) found)
+    (first ∷ [] ++ after_reply (λ _. []) (λ t left. sent_in bound (greeted bound q t) left) found) (after_reply (λ fault. Err (failed bound fault)) (λ t left. answer_in bound (greeted bound q t) left) found)
 unfolding sent_in answer_in listing
 by_greeting q bound first stream (Ok (told.Greeting h, left)) is =
     let lines : List Line = listing_lines h q.agent (prefixes_asked q) in

@@ -114,7 +114,7 @@ sent_lines lines out is = ap lines_text (append-nil lines) ∙ is
 by_reply : {X : Type 0} (f : FetchReply → Result X Error) (next : Told → Conversation X Error) (s : SessionState) (bound : ℕ) (asked : AskedReply) (lines : List Line) (bytes : List ℕ) (found : Result (Told × List ℕ) Fault) → ((reply : FetchReply) → next (told.Reply reply) ≡ ends (f reply)) → s.trouble ≡ None
     → lines_text lines ≡ s.outgoing → TellsReply found → told_with (reply_state s bound asked bytes).intake [] ≡ Some found
     → Shows f next bound (after_told rests (reply_state s bound asked bytes) (Some found)) (lines ++ after_reply (λ _. []) (λ t left. sent_in bound (next t) left) found)
-        (after_reply (λ fault. Err (errors.Fetch (error_of bound fault))) (λ t left. answer_in bound (next t) left) found)
+    (after_reply (λ fault. Err (errors.Fetch (error_of bound fault))) (λ t left. answer_in bound (next t) left) found)
 unfolding sent_in answer_in
 by_reply f next s bound asked lines bytes (Ok (told.Greeting h, left)) nexts well out tells is = absurd tells
 by_reply f next s bound asked lines bytes (Ok (told.Advertisement h refs, left)) nexts well out tells is = absurd tells
@@ -140,7 +140,7 @@ question next bound lines asked = tree.asks lines (awaits.Reply asked) (λ fault
 
 shows : {X : Type 0} (f : FetchReply → Result X Error) (next : Told → Conversation X Error) (s : SessionState) (r : Request) (read_pack : Bool) (lines : List Line) (stream : List ℕ) → ((reply : FetchReply) → next (told.Reply reply) ≡ ends (f reply)) → s.trouble ≡ None → lines_text lines ≡ lines_text (request_lines r)
     → Shows f next s.intake.bound (fed (requested s r read_pack) stream) (sent_in s.intake.bound (question next s.intake.bound lines (asked_by s r read_pack)) (s.intake.pending ++ stream))
-        (answer_in s.intake.bound (question next s.intake.bound lines (asked_by s r read_pack)) (s.intake.pending ++ stream))
+    (answer_in s.intake.bound (question next s.intake.bound lines (asked_by s r read_pack)) (s.intake.pending ++ stream))
 unfolding sent_in answer_in
 shows f next s r read_pack lines stream nexts well out =
     let bound : ℕ = s.intake.bound in

@@ -187,10 +187,13 @@ refuses_by refused finding bound new s c pending said heard w tied all (inl trou
     }))
 refuses_by refused finding bound new s c pending said heard w tied all (inr x) =
     let f : SessionState = fed s said in
-    inr (x.0, record {
-      answer = tied.answered said ∙ short_by refused f.intake.bound f.intake.pending (finding f.handshake f.refs f.reply) w f.trouble (told_with f.intake []) x.1 (sym (end_is f) ∙ x.2);
-      asked = tied.sent said ∙ sym all;
-    })
+    inr (
+      x.0,
+      record {
+        answer = tied.answered said ∙ short_by refused f.intake.bound f.intake.pending (finding f.handshake f.refs f.reply) w f.trouble (told_with f.intake []) x.1 (sym (end_is f) ∙ x.2);
+        asked = tied.sent said ∙ sym all;
+      },
+    )
 
 stop_why : {X E : Type 0} (refused : WireError → E) (finding : Finding X E) (free : E → Bool) (answers : Bool) (bound : ℕ) (old new : Option Talk) (s : SessionState) (c : Conversation X E) (pending : List ℕ) (stop : Stop) (e : E) → IsTied refused finding bound s c pending
     → (h : Stops answers old new s stop) → IsWord free refused stop e → free e ≡ false → IsRefusedBy bound new c (pending ++ h.said) h.heard e

@@ -100,23 +100,23 @@ pub struct Terms<'a> {
 fn ask(alloc: Global, listed: &mut Listed, terms: &Terms<'_>) -> Result<(), WireError>
     requires { IsReady listed.old }
     ensures asked { OnOk result (IsAsked (record {
-          listed = shown listed.old;
-          hash = terms.now.settings.now.kind;
-          view = terms.now.view.now;
-          agent = terms.now.agent.now;
-          tags = terms.now.tags;
-          shallow = terms.now.shallow.now;
-          dry_run = terms.now.dry_run;
-        }) listed.old.session listed.new.session) }
+      listed = shown listed.old;
+      hash = terms.now.settings.now.kind;
+      view = terms.now.view.now;
+      agent = terms.now.agent.now;
+      tags = terms.now.tags;
+      shallow = terms.now.shallow.now;
+      dry_run = terms.now.dry_run;
+    }) listed.old.session listed.new.session) }
     ensures too_long { IfErr result (λ e. TellsTooLong (first_too_long (fetch_request (asked_by (record {
-          listed = shown listed.old;
-          hash = terms.now.settings.now.kind;
-          view = terms.now.view.now;
-          agent = terms.now.agent.now;
-          tags = terms.now.tags;
-          shallow = terms.now.shallow.now;
-          dry_run = terms.now.dry_run;
-        })) [] true)) e) }
+      listed = shown listed.old;
+      hash = terms.now.settings.now.kind;
+      view = terms.now.view.now;
+      agent = terms.now.agent.now;
+      tags = terms.now.tags;
+      shallow = terms.now.shallow.now;
+      dry_run = terms.now.dry_run;
+    })) [] true)) e) }
     ensures kept { shown listed.new ≡ shown listed.old }
 {
     let request = request_of(

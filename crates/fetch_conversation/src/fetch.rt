@@ -22,19 +22,30 @@ pub enum Error {
     },
     /// Repository and server name objects by different hashes.
     #[error("the server's hash is another than the repository's")]
-    IncompatibleObjectHash { local: Kind, remote: Kind },
+    IncompatibleObjectHash {
+        local: Kind,
+        remote: Kind,
+    },
     /// With the pack, this link would lead to what isn't stored.
     #[error("what was received isn't connected")]
-    Disconnected { link: Missing },
+    Disconnected {
+        link: Missing,
+    },
     /// `clone.rejectShallow` is no truth value.
     #[error("clone.rejectShallow is no truth value: {value:?}")]
-    RejectShallowRemoteConfig { value: Text },
+    RejectShallowRemoteConfig {
+        value: Text,
+    },
     /// `fetch.negotiationAlgorithm` is none that is known.
     #[error("fetch.negotiationAlgorithm is unknown: {value:?}")]
-    NegotiationAlgorithmConfig { value: Text },
+    NegotiationAlgorithmConfig {
+        value: Text,
+    },
     /// `pack.threads` is no number of threads.
     #[error("pack.threads is no number of threads: {value:?}")]
-    PackThreads { value: Text },
+    PackThreads {
+        value: Text,
+    },
     /// What was to be sent doesn't fit, or the server breaks the protocol, refuses, or lacks a feature.
     #[error("{0}")]
     Fetch(WireError),
@@ -46,22 +57,30 @@ pub enum Error {
     Interrupted,
     /// The server's history is cut off at this commit, and the settings refuse that.
     #[error("the server's history is shallow")]
-    RejectShallowRemote { id: ObjectId },
+    RejectShallowRemote {
+        id: ObjectId,
+    },
     /// The pack isn't one.
     #[error("{0}")]
     Pack(PackError),
     /// An object of the pack has the id of another object, of the pack or of the repository.
     #[error("an id has two objects")]
-    Collision { id: ObjectId },
+    Collision {
+        id: ObjectId,
+    },
     /// The file that keeps the pack couldn't be made.
     #[error("the keep file {path:?} couldn't be made")]
-    KeepFile { path: Text },
+    KeepFile {
+        path: Text,
+    },
     /// The mapped references couldn't be judged.
     #[error("{0}")]
     UpdateRefs(update::Error),
     /// The references have moved, and the file that keeps the pack couldn't be removed.
     #[error("the keep file {path:?} couldn't be removed")]
-    RemovePackKeepFile { path: Text },
+    RemovePackKeepFile {
+        path: Text,
+    },
     /// Well formed, and not built yet.
     #[error("what is asked for isn't built yet")]
     Unbuilt,

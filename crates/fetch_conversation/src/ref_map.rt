@@ -91,9 +91,9 @@ impl Error {
             Error::Handshake(e) => Ok(Error::Handshake(e.try_clone()?)),
             Error::Transport => Ok(Error::Transport),
             Error::Interrupted => Ok(Error::Interrupted),
-            Error::InitRefMap(conflicts) => Ok(Error::InitRefMap(
-                conflicts.try_clone_with(Conflict::try_clone)?,
-            )),
+            Error::InitRefMap(conflicts) => Ok(Error::InitRefMap(conflicts.try_clone_with(
+                Conflict::try_clone,
+            )?)),
             Error::NoMemory => Ok(Error::NoMemory),
         }
     }
