@@ -1,6 +1,6 @@
 //! Why nothing is sent for a pack.
 
-ghost use Rattle.std.specs.Prelude.{◌≡◌, ◌||◌, None, Some, IfErr, OnOk, length};
+ghost use Rattle.std.specs.Prelude.{◌≡◌, ◌||◌, ◌++◌, None, Some, IfErr, OnOk, length};
 ghost use Rattle.std.specs.List.{list_any};
 ghost use Rattle.std.specs.Option.{option_copied, option_or};
 ghost use Rattle.fetch_conversation.specs.ConverseStage as spec;
@@ -38,13 +38,21 @@ fn any_names_one(refspecs: &[RefSpec]) -> bool
     refspecs.iter().any(names_one)
 }
 
+/// Whether some refspec of these lists names one.
+#[tactic(auto, using(crate::proofs::Unmapped::any_either))]
+fn either_names_one(own: &[RefSpec], extra: &[RefSpec]) -> bool
+    ensures { result ≡ list_any spec.names_one (own.now ++ extra.now) }
+{
+    any_names_one(own) || any_names_one(extra)
+}
+
 /// Whether references are advertised, none of them is mapped, and some refspec names one.
 fn is_unmapped(map: &RefMap) -> bool
     ensures { result ≡ spec.is_unmapped map.now }
 {
     map.mappings.is_empty()
         && !map.remote_refs.is_empty()
-        && (any_names_one(map.refspecs.as_slice()) || any_names_one(map.extra_refspecs.as_slice()))
+        && either_names_one(map.refspecs.as_slice(), map.extra_refspecs.as_slice())
 }
 
 /// Refuses where nothing is mapped that a refspec names.
