@@ -12,3 +12,4 @@ pub mod Requests
 pub mod Fetches
 pub mod Turns
 pub mod Unmapped
+pub mod Lacking

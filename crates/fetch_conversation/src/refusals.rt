@@ -1,8 +1,10 @@
 //! Why nothing is sent for a pack.
 
-ghost use Rattle.std.specs.Prelude.{◌≡◌, ◌||◌, ◌++◌, None, Some, IfErr, OnOk, length};
+ghost use Rattle.std.specs.Prelude.{◌≡◌, ◌||◌, ◌++◌, not, None, Some, IfErr, OnOk, length};
 ghost use Rattle.std.specs.List.{list_any};
 ghost use Rattle.std.specs.Option.{option_copied, option_or};
+ghost use Rattle.fetch_wire.specs.Greetings.{has_word, value_of};
+ghost use Rattle.fetch_wire.specs.RequestWords.{plain_pack, plain_pack_2};
 ghost use Rattle.fetch_conversation.specs.ConverseStage as spec;
 ghost use Rattle.fetch_conversation.specs.ConverseStage.{TermsValue};
 ghost use Rattle.fetch_conversation.specs.Conversing.{Tells};
@@ -100,9 +102,39 @@ fn needs_border(border: &Border, shallow: &Shallow) -> bool
     !border.commits().is_empty() || !matches!(shallow, Shallow::NoChange)
 }
 
+/// Refuses where fetching, plain packs or the border isn't offered: the first of them.
+fn refuse_first_lacking(
+    alloc: Global,
+    fetching: bool,
+    packs: bool,
+    borders: bool,
+) -> Result<(), fetch::Error>
+    ensures { Tells (option_or (spec.lacks fetching spec.fetch_feature) (option_or (spec.lacks packs plain_pack) (spec.lacks borders spec.shallow_feature))) result }
+{
+    refuse_unless(alloc, fetching, b"fetch")?;
+    refuse_unless(alloc, packs, b"plain-pack")?;
+    refuse_unless(alloc, borders, b"shallow")
+}
+
+/// Whether plain packs of either version are offered.
+#[tactic(auto, unfolding(crate::specs::ConverseStage::fetch_feature, fetch_wire::specs::RequestWords::plain_pack, fetch_wire::specs::RequestWords::plain_pack_2))]
+fn offers_packs(handshake: &Handshake) -> bool
+    ensures { result ≡ has_word plain_pack (value_of spec.fetch_feature handshake.now.capabilities) || has_word plain_pack_2 (value_of spec.fetch_feature handshake.now.capabilities) }
+{
+    handshake.supports(b"fetch", b"plain-pack") || handshake.supports(b"fetch", b"plain-pack-2")
+}
+
+/// Whether the border is offered, or the server needn't know of one.
+#[tactic(auto, unfolding(crate::specs::ConverseStage::fetch_feature, crate::specs::ConverseStage::shallow_feature))]
+fn handles_border(handshake: &Handshake, border: &Border, shallow: &Shallow) -> bool
+    ensures { result ≡ not (spec.is_border_needed border.now shallow.now) || has_word spec.shallow_feature (value_of spec.fetch_feature handshake.now.capabilities) }
+{
+    !needs_border(border, shallow) || handshake.supports(b"fetch", b"shallow")
+}
+
 /// Refuses a server that lacks fetching, plain packs, or the border where it has to know of one. One of version 1 lacks
 /// fetching.
-#[tactic(auto, unfolding(crate::specs::ConverseStage::fetch_feature, crate::specs::ConverseStage::shallow_feature, fetch_wire::specs::RequestWords::plain_pack, fetch_wire::specs::RequestWords::plain_pack_2))]
+#[tactic(auto, unfolding(crate::specs::ConverseStage::fetch_feature))]
 pub(crate) fn refuse_lacking(
     alloc: Global,
     handshake: &Handshake,
@@ -111,13 +143,13 @@ pub(crate) fn refuse_lacking(
 ) -> Result<(), fetch::Error>
     ensures { Tells (spec.lacked handshake.now (spec.is_border_needed border.now shallow.now)) result }
 {
-    if handshake.version == Version::V1 {
-        return refuse_unless(alloc, false, b"fetch");
+    match handshake.version {
+        Version::V1 => refuse_unless(alloc, false, b"fetch"),
+        Version::V2 => refuse_first_lacking(
+            alloc,
+            handshake.offers(b"fetch"),
+            offers_packs(handshake),
+            handles_border(handshake, border, shallow),
+        ),
     }
-    let packs = handshake.supports(b"fetch", b"plain-pack")
-        || handshake.supports(b"fetch", b"plain-pack-2");
-    let borders = !needs_border(border, shallow) || handshake.supports(b"fetch", b"shallow");
-    refuse_unless(alloc, handshake.offers(b"fetch"), b"fetch")?;
-    refuse_unless(alloc, packs, b"plain-pack")?;
-    refuse_unless(alloc, borders, b"shallow")
 }
