@@ -18,7 +18,7 @@ use Rattle.fetch_wire.specs.RequestLines.{id_lines}
 use Rattle.fetch_wire.specs.RequestWords.{have_word, done_word}
 use Rattle.fetch_wire.specs.Requests.{first_line, listing_lines, listing_word, head_texts, detail_texts, prefix_text, sent, when, text_line}
 use Rattle.fetch_wire.specs.Written.{too_long_in, first_too_long}
-use Rattle.fetch_negotiate.specs.Requests.{Asked, fetch_request, head_of, asked_of}
+use Rattle.fetch_negotiate.specs.Requests.{Asked, fetch_request, head_of, pack_word, asked_of}
 use Rattle.fetch_remote.specs.Conversation.{Conversation, ends, asks, asking, asks_unless, sent_in, after_reply, told_as, and_then}
 use Rattle.fetch_remote.specs.ConverseStage.{converse_stage, wanting, fetching, replied, packed}
 use Rattle.fetch_remote.specs.Fetching.{requests_in, conversation, receiving_stage, bound_of, asked_in}
@@ -84,7 +84,7 @@ listing_sent h agent prefixes = framed_sent (listing_word ∷ head_texts h agent
 fetch_sent : (a : Asked) (haves : List ObjectId) (done : Bool) → AllSent (fetch_request a haves done)
 unfolding fetch_request
 fetch_sent a haves done =
-    framed_sent (head_of a.handshake a.agent) (asked_of a.tags a.shallow a.border a.wants ++ id_lines have_word haves ++ when done done_word)
+    framed_sent (head_of a.handshake a.agent) (asked_of (pack_word a.handshake) a.tags a.shallow a.border a.wants ++ id_lines have_word haves ++ when done done_word)
 
 -- ---- conversations
 

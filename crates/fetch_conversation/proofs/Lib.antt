@@ -1,2 +1,15 @@
 pub mod Chained
+pub mod Mappings
 pub mod Served
+pub mod Sending
+pub mod Driven
+pub mod Tied
+pub mod AwaitedTold
+pub mod Inquired
+pub mod Replied
+pub mod Listings
+pub mod Requests
+pub mod Fetches
+pub mod Turns
+pub mod Unmapped
+pub mod Lacking

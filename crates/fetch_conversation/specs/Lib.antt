@@ -1,2 +1,9 @@
 pub mod Conversation
+pub mod ConverseStage
+pub mod Conversing
+pub mod Drives
+pub mod Errors
+pub mod ListStage
+pub mod Listing
+pub mod Mapped
 pub mod Served

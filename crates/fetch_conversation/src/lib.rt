@@ -1,4 +1,25 @@
-//! The conversation of a fetch with its peer: what is asked, and how it goes on by what the replies tell.
+//! The conversation of a fetch with its peer: what is asked, and how it goes on by what the replies tell. Its two stages
+//! list the references and ask for a pack.
 #![tactic(auto)]
 
+mod asking;
+mod conversing;
+mod copies;
+mod drive;
+pub mod fetch;
 pub mod laws;
+mod listing;
+mod mapped;
+mod negotiate;
+pub mod prepare;
+mod progress;
+mod receiving;
+pub mod ref_map;
+mod refusals;
+mod settings;
+
+pub use conversing::{Received, Terms, View, converse};
+pub use listing::{Inquiry, Listed, list};
+pub use negotiate::Negotiate;
+pub use progress::{NoProgress, Progress};
+pub use settings::Settings;

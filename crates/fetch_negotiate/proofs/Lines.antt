@@ -9,8 +9,8 @@ module _ {X : Type 0} where
   pub three : (l a b c l1 l2 l3 : List X) → l1 ≡ l ++ a → l2 ≡ l1 ++ b → l3 ≡ l2 ++ c → l3 ≡ l ++ (a ++ b ++ c)
   three l a b c l1 l2 l3 p q r = r ∙ ap (λ (m : List X). m ++ c) (q ∙ ap (λ (m : List X). m ++ b) p) ∙ simp append_assoc
 
-  pub five : (l a b c d e l1 l2 l3 l4 l5 : List X) → l1 ≡ l ++ a → l2 ≡ l1 ++ b → l3 ≡ l2 ++ c → l4 ≡ l3 ++ d → l5 ≡ l4 ++ e → l5 ≡ l ++ (a ++ b ++ c ++ d ++ e)
-  five l a b c d e l1 l2 l3 l4 l5 p q r s t = three l (a ++ b ++ c) d e l3 l4 l5 (three l a b c l1 l2 l3 p q r) s t
+  pub four : (l a b c d l1 l2 l3 l4 : List X) → l1 ≡ l ++ a → l2 ≡ l1 ++ b → l3 ≡ l2 ++ c → l4 ≡ l3 ++ d → l4 ≡ l ++ (a ++ b ++ c ++ d)
+  four l a b c d l1 l2 l3 l4 p q r s = three l (a ++ b) c d l2 l3 l4 (q ∙ ap (λ (m : List X). m ++ b) p ∙ append_assoc l a b) r s
 
 map_push : {X Y : Type 0} (f : X → Y) (xs : List X) (x : X) → map f (xs ++ x ∷ []) ≡ map f xs ++ f x ∷ []
 map_push f [] x = refl

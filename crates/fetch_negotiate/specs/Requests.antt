@@ -1,5 +1,5 @@
 -- The request table: what a fetch request says, line by line.
-use Rattle.std.specs.Prelude.{ℕ, Bool, true, false, List, [], ◌∷◌, ◌++◌, map, decimal, Option}
+use Rattle.std.specs.Prelude.{ℕ, Bool, true, false, List, [], ◌∷◌, ◌++◌, map, decimal, Option, codes, if◌then◌else◌}
 use Rattle.std.specs.FinSet as set
 use Rattle.std.specs.Option.{option_map_or}
 use Rattle.fetch_store.specs.declared.id.ObjectId.{ObjectId}
@@ -12,7 +12,8 @@ use Rattle.fetch_wire.specs.declared.line.Line.{Line}
 use Rattle.fetch_wire.specs.declared.line.Line.TheVariants.{Flush, Delim}
 use Rattle.fetch_negotiate.specs.declared.algorithm.Shallow.{Shallow}
 use Rattle.fetch_negotiate.specs.declared.algorithm.Shallow.TheVariants.{NoChange, DepthAtRemote, Deepen, Since, Exclude}
-use Rattle.fetch_wire.specs.RequestWords.{command_word, plain_pack, include_tag, shallow_word, deepen_word, relative_word, since_word, not_word, want_word, have_word, done_word}
+use Rattle.fetch_wire.specs.Greetings.{has_word, value_of}
+use Rattle.fetch_wire.specs.RequestWords.{command_word, plain_pack, plain_pack_2, include_tag, shallow_word, deepen_word, relative_word, since_word, not_word, want_word, have_word, done_word}
 use Rattle.fetch_wire.specs.Requests.{head_texts, sent, when}
 use Rattle.fetch_wire.specs.RequestLines.{id_lines}
 
@@ -45,17 +46,25 @@ is_included tags.All = false
 is_included tags.Included = true
 is_included tags.None = false
 
+-- the word that asks for a plain pack, of version 2 where the server offers that
+unfoldable pub pack_word : Handshake → List ℕ
+pack_word handshake = if has_word plain_pack_2 (value_of (codes "fetch") handshake.capabilities) then plain_pack_2 else plain_pack
+
+-- the lines behind that word, but for the haves
+abbrev pub details_of : Tags → Shallow → set.FinSet id_cmp → List ObjectId → List (List ℕ)
+details_of tags shallow border wants =
+    when (is_included tags) include_tag ++ id_lines shallow_word (ids_of border) ++ depth_lines shallow ++ id_lines want_word wants
+
 -- the lines behind the delimiter, but for the haves
-abbrev pub asked_of : Tags → Shallow → set.FinSet id_cmp → List ObjectId → List (List ℕ)
-asked_of tags shallow border wants =
-    plain_pack ∷ [] ++ when (is_included tags) include_tag ++ id_lines shallow_word (ids_of border) ++ depth_lines shallow ++ id_lines want_word wants
+abbrev pub asked_of : List ℕ → Tags → Shallow → set.FinSet id_cmp → List ObjectId → List (List ℕ)
+asked_of word tags shallow border wants = word ∷ details_of tags shallow border wants
 
 -- the text lines of a fetch request
 abbrev pub text_lines : Asked → List (List ℕ)
-text_lines a = head_of a.handshake a.agent ++ asked_of a.tags a.shallow a.border a.wants
+text_lines a = head_of a.handshake a.agent ++ asked_of (pack_word a.handshake) a.tags a.shallow a.border a.wants
 
 -- a whole fetch request
 unfoldable pub fetch_request : Asked → List ObjectId → Bool → List Line
 fetch_request a haves done =
     sent (head_of a.handshake a.agent) ++ Delim ∷ []
-    ++ sent (asked_of a.tags a.shallow a.border a.wants ++ id_lines have_word haves ++ when done done_word) ++ Flush ∷ []
+    ++ sent (asked_of (pack_word a.handshake) a.tags a.shallow a.border a.wants ++ id_lines have_word haves ++ when done done_word) ++ Flush ∷ []

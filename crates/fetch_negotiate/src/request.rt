@@ -56,11 +56,12 @@ fn text_lines(
     border: &Border,
     wants: &[ObjectId],
 ) -> Result<Vec<Text>, NoMemory>
-    ensures { IfOk result (λ lines. lines.items ≡ spec.head_of handshake.now agent.now ++ spec.asked_of tags shallow.now border.now wants.now) }
+    ensures { IfOk result (λ lines. lines.items ≡ spec.head_of handshake.now agent.now ++ spec.asked_of (spec.pack_word handshake.now) tags shallow.now border.now wants.now) }
 {
     let mut lines = Vec::new(alloc);
     push_head(&mut lines, alloc, handshake, agent)?;
-    push_asked(&mut lines, alloc, tags, shallow, border, wants)?;
+    push_word(&mut lines, alloc, pack_word(handshake))?;
+    push_details(&mut lines, alloc, tags, shallow, border, wants)?;
     Ok(lines)
 }
 
@@ -78,8 +79,20 @@ fn push_head(
     Ok(())
 }
 
-#[tactic(auto, unfolding(fetch_wire::specs::RequestWords::plain_pack, fetch_wire::specs::RequestWords::include_tag, fetch_wire::specs::RequestWords::shallow_word, fetch_wire::specs::RequestWords::want_word))]
-fn push_asked(
+/// The word that asks for a plain pack, of version 2 where the server offers that.
+#[tactic(auto, unfolding(crate::specs::Requests::pack_word, fetch_wire::specs::RequestWords::plain_pack, fetch_wire::specs::RequestWords::plain_pack_2))]
+fn pack_word(handshake: &Handshake) -> &'static [u8]
+    ensures { result.now ≡ spec.pack_word handshake.now }
+{
+    if handshake.supports(b"fetch", b"plain-pack-2") {
+        b"plain-pack-2"
+    } else {
+        b"plain-pack"
+    }
+}
+
+#[tactic(auto, unfolding(fetch_wire::specs::RequestWords::include_tag, fetch_wire::specs::RequestWords::shallow_word, fetch_wire::specs::RequestWords::want_word))]
+fn push_details(
     lines: &mut Vec<Text>,
     alloc: Global,
     tags: Tags,
@@ -87,9 +100,8 @@ fn push_asked(
     border: &Border,
     wants: &[ObjectId],
 ) -> Result<(), NoMemory>
-    ensures { OnOk result (lines.new.items ≡ lines.old.items ++ spec.asked_of tags shallow.now border.now wants.now) }
+    ensures { OnOk result (lines.new.items ≡ lines.old.items ++ spec.details_of tags shallow.now border.now wants.now) }
 {
-    push_word(lines, alloc, b"plain-pack")?;
     append_when(alloc, lines, is_included(tags), b"include-tag", b"")?;
     push_ids(lines, alloc, b"shallow ", border.commits())?;
     push_depth(lines, alloc, shallow)?;

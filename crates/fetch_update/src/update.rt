@@ -60,6 +60,31 @@ pub enum Error {
     NoMemory,
 }
 
+impl Error {
+    /// An equal error.
+    pub fn try_clone(&self) -> Result<Error, NoMemory>
+        ensures { IfOk result (λ copy. copy ≡ self.now) }
+    {
+        match self {
+            Error::FindReference { name } => Ok(Error::FindReference {
+                name: name.try_clone()?,
+            }),
+            Error::InvalidRefName { name } => Ok(Error::InvalidRefName {
+                name: name.try_clone()?,
+            }),
+            Error::FindCommit { id } => Ok(Error::FindCommit { id: *id }),
+            Error::PeelToId { name, cause } => Ok(Error::PeelToId {
+                name: name.try_clone()?,
+                cause: cause.try_clone()?,
+            }),
+            Error::WorktreeListing => Ok(Error::WorktreeListing),
+            Error::OpenWorktreeRepo => Ok(Error::OpenWorktreeRepo),
+            Error::FollowSymref => Ok(Error::FollowSymref),
+            Error::NoMemory => Ok(Error::NoMemory),
+        }
+    }
+}
+
 impl From<NoMemory> for Error {
     ghost use Rattle.std.specs.Prelude.{◌≡◌};
     ghost use Rattle.fetch_update.specs.declared.update.Error.TheVariants as errors;

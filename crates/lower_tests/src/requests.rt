@@ -81,6 +81,49 @@ fn a_request_has_its_lines_in_order(rt: HostRuntime) -> Result<(), Fail> {
     Ok(())
 }
 
+/// The line that asks for a pack, of a server whose `fetch=` has these words.
+fn pack_line_is(
+    rt: &impl Abort,
+    alloc: Global,
+    words: &[u8],
+    line: &[u8],
+) -> Result<(), Fail> {
+    let capabilities = vec![in alloc;
+        Capability {
+            name: Text::new(alloc, b"fetch")?,
+            value: Some(Text::new(alloc, words)?)
+        },
+    ]?;
+    let handshake = Handshake {
+        version: Version::V2,
+        capabilities: List::from(capabilities),
+        object_hash: Kind::Sha1,
+    };
+    let request = request_of(
+        alloc,
+        &handshake,
+        b"oxide-0.87.1",
+        Tags::None,
+        &Shallow::NoChange,
+        &Border::new(alloc),
+        &[id_of_byte(0x22)],
+        &[],
+        &[],
+        true,
+    )?;
+    line_is(rt, &request, 1, line);
+    Ok(())
+}
+
+/// Version 2 of a plain pack is asked for where the server offers it.
+#[test]
+fn the_newest_pack_is_asked_for(rt: HostRuntime) -> Result<(), Fail> {
+    let alloc = rt.alloc();
+    pack_line_is(&rt, alloc, b"shallow plain-pack plain-pack-2", b"plain-pack-2")?;
+    pack_line_is(&rt, alloc, b"shallow plain-pack-2", b"plain-pack-2")?;
+    pack_line_is(&rt, alloc, b"shallow plain-pack", b"plain-pack")
+}
+
 /// Each id is wanted once.
 #[test]
 fn ids_are_wanted_once(rt: HostRuntime) -> Result<(), Fail> {

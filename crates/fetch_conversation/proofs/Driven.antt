@@ -1,0 +1,348 @@
+-- A session goes on, step by step.
+use Rattle.std.proofs.Common.{◌≡◌, ◌≢◌, ℕ, Bool, true, false, List, [], ◌∷◌, ◌++◌, length, Option, Some, None, Result, Ok, Err, refl, sym, ap, ◌∙◌, subst, append_assoc, inl, inr}
+use Rattle.std.specs.Prelude.{is_some, ◌⊎◌, ◌||◌, ◌==◌}
+use Rattle.std.proofs.lemmas.Bool.{eqb-true}
+use Rattle.std.proofs.lemmas.List.{append-nil, nil_from_length}
+use Rattle.fetch_wire.specs.declared.awaited.Fault.{Fault}
+use Rattle.fetch_wire.specs.declared.awaited.Fault.TheVariants as faults
+use Rattle.fetch_wire.specs.declared.awaited.Told.{Told}
+use Rattle.fetch_wire.specs.declared.awaited.Told.TheVariants as told
+use Rattle.fetch_wire.specs.declared.error.WireError.{WireError}
+use Rattle.fetch_wire.specs.declared.error.WireError.TheVariants as wire
+use Rattle.fetch_wire.specs.declared.handshake.Handshake.{Handshake}
+use Rattle.fetch_wire.specs.declared.line.Line.{Line}
+use Rattle.fetch_wire.specs.declared.reading.Reading.{Reading}
+use Rattle.fetch_wire.specs.declared.turn.Turn.TheVariants as turns
+use Rattle.fetch_wire.specs.Greetings.{offers}
+use Rattle.fetch_wire.specs.Intakes.{Intake, told_with, taking}
+use Rattle.fetch_wire.specs.Intakes as intakes
+use Rattle.fetch_wire.specs.Requests.{listing_lines}
+use Rattle.fetch_wire.specs.SessionStates.{SessionState, IsAlike, fed, ended, after_end, error_of, refusal_of, if_told, is_all_sent, turn_of, turn_by, IsAwaiting, Answers, AnswersOrLacks, after_told, read_one, rests, asks, listing_by, listing_feature}
+use Rattle.fetch_wire.specs.Talks.{Talk, Talks, IsDrained, IsFront, Talks-then, Talks-none, Talks-stay}
+use Rattle.fetch_wire.specs.Written.{first_too_long}
+use Rattle.fetch_wire.proofs.Conversing.{same, fed_is}
+use Rattle.fetch_wire.proofs.SessionAlike.{stays_alike}
+use Rattle.fetch_wire.proofs.SessionPieces.{pieces, stuck}
+use Rattle.fetch_conversation.specs.Drives.{IsDrivable, with_heard, GoesOn, Finishes, Refuses, Explains, Stops, IsUnsent, Takes}
+use Rattle.fetch_conversation.specs.declared.drive.Stop.{Stop}
+use Rattle.fetch_conversation.specs.declared.drive.Stop.TheVariants as stops
+use Rattle.fetch_conversation.proofs.Sending.{heard_stays}
+
+-- ---- sessions that are alike
+
+intakes_then : (a b c : Intake) → intakes.IsAlike a b → intakes.IsAlike b c → intakes.IsAlike a c
+intakes_then a b c h k = record {
+  bound = h.bound ∙ k.bound;
+  told = λ more. h.told more ∙ k.told more;
+  resting = λ none. h.resting none ∙ k.resting (ap (λ (i : Intake). i.reading) (sym (h.resting none)) ∙ none);
+}
+
+pub alike_then : (a b c : SessionState) → IsAlike a b → IsAlike b c → IsAlike a c
+alike_then a b c h k = record {
+  intake = intakes_then a.intake b.intake c.intake h.intake k.intake;
+  others = ap (λ (s : SessionState). record s { intake = c.intake }) h.others ∙ k.others;
+}
+
+not_both : (a b : Intake) (r : Reading) → a.reading ≡ Some r → b.reading ≡ None → told_with a [] ≡ told_with b [] → ⊥
+not_both a b r some none same = absurd (cc)
+
+intakes_back : (a b : Intake) (reading : Option Reading) → a.reading ≡ reading → intakes.IsAlike a b → b.reading ≡ None → b ≡ a
+intakes_back a b None is h none = sym (h.resting is)
+intakes_back a b (Some r) is h none = absurd (not_both a b r is none (h.told []))
+
+-- sessions that are alike are so either way
+pub alike_back : (a b : SessionState) → IsAlike a b → IsAlike b a
+alike_back a b h = record {
+  intake = record {
+    bound = sym h.intake.bound;
+    told = λ more. sym (h.intake.told more);
+    resting = λ none. intakes_back a.intake b.intake a.intake.reading refl h.intake none;
+  };
+  others = ap (λ (s : SessionState). record s { intake = a.intake }) (sym h.others);
+}
+
+alike_heard : (heard : List ℕ) (a b : SessionState) → IsAlike a b → IsAlike (with_heard heard a) (with_heard heard b)
+alike_heard heard a b h = record {
+  intake = h.intake;
+  others = ap (with_heard heard) h.others;
+}
+
+pub same_outgoing : (a b : SessionState) → IsAlike a b → a.outgoing ≡ b.outgoing
+same_outgoing a b h = ap (λ (s : SessionState). s.outgoing) h.others
+
+pub same_trouble : (a b : SessionState) → IsAlike a b → a.trouble ≡ b.trouble
+same_trouble a b h = ap (λ (s : SessionState). s.trouble) h.others
+
+same_refused : (a b : SessionState) → IsAlike a b → a.refused ≡ b.refused
+same_refused a b h = ap (λ (s : SessionState). s.refused) h.others
+
+-- the trouble at the end
+abbrev pub trouble_at_end : ℕ → Option WireError → Option (Result (Told × List ℕ) Fault) → Option WireError
+trouble_at_end bound (Some e) found = Some e
+trouble_at_end bound None None = None
+trouble_at_end bound None (Some (Ok x)) = None
+trouble_at_end bound None (Some (Err fault)) = Some (error_of bound fault)
+
+end_by : (s : SessionState) (trouble : Option WireError) (found : Option (Result (Told × List ℕ) Fault)) → s.trouble ≡ trouble → (after_end s trouble found).trouble ≡ trouble_at_end s.intake.bound trouble found
+end_by s (Some e) found is = is
+end_by s None None is = is
+end_by s None (Some (Ok x)) is = is
+end_by s None (Some (Err fault)) is = refl
+
+pub end_is : (s : SessionState) → (ended s).trouble ≡ trouble_at_end s.intake.bound s.trouble (told_with s.intake [])
+end_is s = end_by s s.trouble (told_with s.intake []) refl
+
+same_end : (a b : SessionState) → IsAlike a b → (ended a).trouble ≡ (ended b).trouble
+same_end a b h =
+    end_is a ∙ ap (λ (n : ℕ). trouble_at_end n a.trouble (told_with a.intake [])) h.intake.bound
+    ∙ ap (λ (t : Option WireError). trouble_at_end b.intake.bound t (told_with a.intake [])) (same_trouble a b h)
+    ∙ ap (trouble_at_end b.intake.bound b.trouble) (h.intake.told []) ∙ sym (end_is b)
+
+same_refusal : (now : Option Talk) (a b : SessionState) (e : WireError) → IsAlike a b → Refuses now a e → Refuses now b e
+same_refusal now a b e h (inl is) = inl (sym (same_trouble a b h) ∙ is)
+same_refusal now a b e h (inr x) = inr (x.0, sym (same_trouble a b h) ∙ x.1, sym (same_end a b h) ∙ x.2)
+
+-- ---- what stays
+
+pub told_refused : (s : SessionState) (found : Option (Result (Told × List ℕ) Fault)) → (after_told rests s found).refused ≡ s.refused
+told_refused s None = refl
+told_refused s (Some (Ok (told.Greeting h, rest))) = refl
+told_refused s (Some (Ok (told.Advertisement h refs, rest))) = refl
+told_refused s (Some (Ok (told.Listing refs, rest))) = refl
+told_refused s (Some (Ok (told.Reply reply, rest))) = refl
+told_refused s (Some (Err (faults.Short place))) = refl
+told_refused s (Some (Err (faults.Broken place))) = refl
+told_refused s (Some (Err faults.TooLong)) = refl
+told_refused s (Some (Err (faults.Said text))) = refl
+
+listing_refused : (s : SessionState) (h : Handshake) (lines : List Line) (long : Option ℕ) (offered : Bool) → (listing_by long offered h lines s).refused ≡ s.refused
+listing_refused s h lines (Some n) offered = refl
+listing_refused s h lines None false = refl
+listing_refused s h lines None true = refl
+
+asked_refused : (s : SessionState) (found : Option (Result (Told × List ℕ) Fault)) → (after_told asks s found).refused ≡ s.refused
+asked_refused s None = refl
+asked_refused s (Some (Ok (told.Greeting h, rest))) =
+    let lines = listing_lines h s.agent s.prefixes in
+    listing_refused (record s { intake = intakes.resting rest s.intake; handshake = Some h }) h lines (first_too_long lines) (offers listing_feature h.capabilities)
+asked_refused s (Some (Ok (told.Advertisement h refs, rest))) = refl
+asked_refused s (Some (Ok (told.Listing refs, rest))) = refl
+asked_refused s (Some (Ok (told.Reply reply, rest))) = refl
+asked_refused s (Some (Err (faults.Short place))) = refl
+asked_refused s (Some (Err (faults.Broken place))) = refl
+asked_refused s (Some (Err faults.TooLong)) = refl
+asked_refused s (Some (Err (faults.Said text))) = refl
+
+refused_by : (s : SessionState) (piece : List ℕ) (trouble : Option WireError) → s.trouble ≡ trouble → (fed s piece).refused ≡ s.refused
+refused_by s piece (Some e) is = ap (λ (t : SessionState). t.refused) (stuck s piece e s.trouble is)
+refused_by s piece None well =
+    let taken = record s { intake = taking piece s.intake } in
+    let found = told_with taken.intake [] in
+    let asked = after_told asks taken found in
+    ap (λ (t : SessionState). t.refused) (fed_is s piece s.trouble well) ∙ told_refused asked (told_with asked.intake []) ∙ asked_refused taken found
+
+-- whether a refusal was answered
+pub fed_refused : (s : SessionState) (piece : List ℕ) → (fed s piece).refused ≡ s.refused
+fed_refused s piece = refused_by s piece s.trouble refl
+
+pub taken_refused : (s now : SessionState) (piece : List ℕ) → IsAlike now (fed s piece) → now.refused ≡ s.refused
+taken_refused s now piece h = same_refused now (fed s piece) h ∙ fed_refused s piece
+
+-- ---- steps
+
+pub goes_none : (answers : Bool) (old : Option Talk) (s : SessionState) → IsDrivable s → GoesOn answers old old s s
+goes_none answers old s h = record {
+  heard = [];
+  said = [];
+  passed = Talks-none answers old;
+  is = h.read;
+}
+
+-- what was to be sent was sent
+pub goes_sent : (answers : Bool) (old mid new : Option Talk) (s now : SessionState) → GoesOn answers old mid s now → Talks answers mid new now.outgoing [] → GoesOn answers old new s (record now { outgoing = [] })
+goes_sent answers old mid new s now h talk = record {
+  heard = h.heard ++ now.outgoing;
+  said = h.said;
+  passed = subst (Talks answers old new (h.heard ++ now.outgoing)) (append-nil h.said) (Talks-then answers old mid new h.heard h.said now.outgoing [] h.passed talk);
+  is = subst (λ (l : List ℕ). IsAlike (record now { outgoing = l }) (fed s h.said)) (sym (append-nil (h.heard ++ now.outgoing))) h.is;
+}
+
+heard_fed : (s now next : SessionState) (heard said piece : List ℕ) → IsAlike (with_heard heard now) (fed s said) → IsAlike next (fed now piece) → IsAlike (with_heard heard next) (fed s (said ++ piece))
+heard_fed s now next heard said piece h is =
+    let first : IsAlike (with_heard heard next) (fed (with_heard heard now) piece) = subst (λ (x : SessionState). IsAlike (with_heard heard next) x) (sym (heard_stays now heard piece)) (alike_heard heard next (fed now piece) is) in
+    let second : IsAlike (fed (with_heard heard now) piece) (fed (fed s said) piece) = stays_alike (with_heard heard now) (fed s said) piece h in
+    subst (λ (x : SessionState). IsAlike (with_heard heard next) x) (pieces s said piece s.trouble refl) (alike_then (with_heard heard next) (fed (with_heard heard now) piece) (fed (fed s said) piece) first second)
+
+-- a piece was fed
+pub goes_fed : (answers : Bool) (old mid new : Option Talk) (s now next : SessionState) (piece : List ℕ) → GoesOn answers old mid s now → Talks false mid new [] piece → IsAlike next (fed now piece) → GoesOn answers old new s next
+goes_fed answers old mid new s now next piece h talk is = record {
+  heard = h.heard;
+  said = h.said ++ piece;
+  passed = subst (λ (l : List ℕ). Talks answers old new l (h.said ++ piece)) (append-nil h.heard) (Talks-then answers old mid new h.heard h.said [] piece h.passed (Talks-stay answers mid new [] piece talk));
+  is = heard_fed s now next h.heard h.said piece h.is is;
+}
+
+-- ---- stops
+
+unsent_explains : (now : Option Talk) (heard : List ℕ) (s : SessionState) (e : Stop) → IsUnsent e → Explains now heard s e
+unsent_explains now heard s (stops.Refused w) is = λ isnt. absurd (isnt is)
+unsent_explains now heard s stops.Failed is = tt
+unsent_explains now heard s stops.Interrupted is = absurd is
+
+-- a front of what was to be sent was heard
+pub stops_sending : (answers : Bool) (old mid new : Option Talk) (s now : SessionState) (front : List ℕ) (e : Stop) → GoesOn answers old mid s now → IsFront front now.outgoing → Talks answers mid new front [] → IsUnsent e → Stops answers old new s e
+stops_sending answers old mid new s now front e h is talk free = record {
+  heard = h.heard ++ front;
+  said = h.said;
+  passed = subst (Talks answers old new (h.heard ++ front)) (append-nil h.said) (Talks-then answers old mid new h.heard h.said front [] h.passed talk);
+  front = (is.0, sym (same_outgoing (with_heard h.heard now) (fed s h.said) h.is) ∙ ap (λ (l : List ℕ). h.heard ++ l) is.1 ∙ sym (append_assoc h.heard front is.0));
+  why = unsent_explains new (h.heard ++ front) (fed s h.said) e free;
+}
+
+-- no call
+pub stops_free : (answers : Bool) (old new : Option Talk) (s now : SessionState) (e : Stop) → GoesOn answers old new s now → IsUnsent e → Stops answers old new s e
+stops_free answers old new s now e h free = stops_sending answers old new new s now [] e h (now.outgoing, refl) (Talks-none answers new) free
+
+behind_refuses : (now : Option Talk) (heard : List ℕ) (a : SessionState) (e : WireError) → Refuses now a e → Refuses now (with_heard heard a) e
+behind_refuses now heard a e (inl is) = inl is
+behind_refuses now heard a e (inr x) = inr (x.0, x.1, end_is (with_heard heard a) ∙ sym (end_is a) ∙ x.2)
+
+explains_behind : (now : Option Talk) (heard : List ℕ) (a b : SessionState) (e : Stop) → IsAlike (with_heard heard a) b → Explains now [] a e → Explains now heard b e
+explains_behind now heard a b (stops.Refused w) h why = λ isnt.
+    let x = why isnt in
+    (sym (append-nil heard) ∙ ap (λ (l : List ℕ). heard ++ l) x.0 ∙ same_outgoing (with_heard heard a) b h, same_refusal now (with_heard heard a) b w h (behind_refuses now heard a w x.1))
+explains_behind now heard a b stops.Failed h why = tt
+explains_behind now heard a b stops.Interrupted h why = tt
+
+stops_at : (answers : Bool) (old new : Option Talk) (s a : SessionState) (heard said : List ℕ) (e : Stop) → Talks answers old new heard said → IsAlike (with_heard heard a) (fed s said) → Explains new [] a e → Stops answers old new s e
+stops_at answers old new s a heard said e talk h why = record {
+  heard = heard;
+  said = said;
+  passed = talk;
+  front = (a.outgoing, sym (same_outgoing (with_heard heard a) (fed s said) h));
+  why = explains_behind new heard a (fed s said) e h why;
+}
+
+stops_said : (answers : Bool) (old mid new : Option Talk) (s now : SessionState) (piece : List ℕ) (e : Stop) → GoesOn answers old mid s now → Talks false mid new [] piece → (Explains new [] (fed now piece) e ⊎ ((piece ≡ []) × Explains new [] now e)) → Stops answers old new s e
+stops_said answers old mid new s now piece e h talk (inl why) =
+    let next : GoesOn answers old new s (fed now piece) = goes_fed answers old mid new s now (fed now piece) piece h talk (same (fed now piece)) in
+    stops_at answers old new s (fed now piece) next.heard next.said e next.passed next.is why
+stops_said answers old mid new s now piece e h talk (inr x) =
+    let passed : Talks answers old new (h.heard ++ []) (h.said ++ piece) = Talks-then answers old mid new h.heard h.said [] piece h.passed (Talks-stay answers mid new [] piece talk) in
+    let same_said : h.said ++ piece ≡ h.said = ap (λ (l : List ℕ). h.said ++ l) x.0 ∙ append-nil h.said in
+    stops_at answers old new s now h.heard h.said e (subst (λ (l : List ℕ). Talks answers old new l h.said) (append-nil h.heard) (subst (Talks answers old new (h.heard ++ [])) same_said passed)) h.is x.1
+
+-- what came is refused, or a receive is
+pub stops_receiving : (T : Type 0) (answers : Bool) (old mid new : Option Talk) (s now next : SessionState) (e : Stop) → GoesOn answers old mid s now → Takes {T = T} mid new now next (Err e) → Stops answers old new s e
+stops_receiving T answers old mid new s now next e h x = stops_said answers old mid new s now x.0 e h x.1 x.2
+
+-- ---- turns
+
+no_bytes : (bytes : List ℕ) → length bytes == 0 ≡ true → bytes ≡ []
+no_bytes bytes is = nil_from_length bytes (eqb-true (length bytes) 0 is)
+
+-- a refusal that is answered, where none was answered before
+record Stands (s : SessionState) (e : WireError) : Type 0 where
+  sent : s.outgoing ≡ []
+  trouble : s.trouble ≡ Some e
+
+stands_by : (s : SessionState) (e : WireError) (refused all_sent : Bool) → s.refused ≡ refused → is_all_sent s ≡ all_sent → refused ≡ false → if_told (refused || all_sent) s.trouble ≡ Some e → Stands s e
+stands_by s e true all_sent is sent isnt told = absurd (cc)
+stands_by s e false false is sent isnt told = absurd (cc)
+stands_by s e false true is sent isnt told = record { sent = no_bytes s.outgoing sent; trouble = told }
+
+stands : (s : SessionState) (e : WireError) → s.refused ≡ false → refusal_of s ≡ Some e → Stands s e
+stands s e isnt told = stands_by s e s.refused (is_all_sent s) refl refl isnt told
+
+failed_by : (refusal : Option WireError) (all_sent awaits : Bool) → turn_by refusal all_sent awaits ≡ turns.Failed → (e : WireError) × (refusal ≡ Some e)
+failed_by (Some e) all_sent awaits is = (e, refl)
+failed_by None false awaits is = absurd (cc)
+failed_by None true true is = absurd (cc)
+failed_by None true false is = absurd (cc)
+
+-- what holds where bytes are awaited, or nothing is
+pub record IsWell (s : SessionState) (awaits : Bool) : Type 0 where
+  pub sent : s.outgoing ≡ []
+  pub trouble : s.trouble ≡ None
+  pub awaited : is_some s.intake.reading ≡ awaits
+
+told_true : (refused : Bool) (trouble : Option WireError) → if_told (refused || true) trouble ≡ trouble
+told_true true trouble = refl
+told_true false trouble = refl
+
+well_by : (s : SessionState) (refusal : Option WireError) (all_sent awaits : Bool) → refusal_of s ≡ refusal → is_all_sent s ≡ all_sent → is_some s.intake.reading ≡ awaits
+    → ((turn_by refusal all_sent awaits ≡ turns.Receive) → IsWell s true) × ((turn_by refusal all_sent awaits ≡ turns.Idle) → IsWell s false)
+well_by s (Some e) all_sent awaits is sent reads = (λ t. absurd (cc), λ t. absurd (cc))
+well_by s None false awaits is sent reads = (λ t. absurd (cc), λ t. absurd (cc))
+well_by s None true true is sent reads = (λ t. record { sent = no_bytes s.outgoing sent; trouble = sym (told_true s.refused s.trouble) ∙ ap (λ (b : Bool). if_told (s.refused || b) s.trouble) (sym sent) ∙ is; awaited = reads }, λ t. absurd (cc))
+well_by s None true false is sent reads = (λ t. absurd (cc), λ t. record { sent = no_bytes s.outgoing sent; trouble = sym (told_true s.refused s.trouble) ∙ ap (λ (b : Bool). if_told (s.refused || b) s.trouble) (sym sent) ∙ is; awaited = reads })
+
+receiving : (s : SessionState) → turn_of s ≡ turns.Receive → IsWell s true
+receiving s is = (well_by s (refusal_of s) (is_all_sent s) (is_some s.intake.reading) refl refl refl).0 is
+
+pub resting : (s : SessionState) → turn_of s ≡ turns.Idle → IsWell s false
+resting s is = (well_by s (refusal_of s) (is_all_sent s) (is_some s.intake.reading) refl refl refl).1 is
+
+-- ---- what a call answers
+
+answers_stands : (s : SessionState) (f : WireError) (refusal : Option WireError) → s.refused ≡ false → refusal_of s ≡ refusal → AnswersOrLacks refusal (Err f) → f ≢ wire.NoMemory → Stands s f
+answers_stands s f None isnt is h other = absurd (other h)
+answers_stands s f (Some e) isnt is h other = stands s f isnt (is ∙ ap (λ (x : WireError). Some x) (sym (h other)))
+
+-- what came was refused
+pub takes_refusal : (now : Option Talk) (s : SessionState) (piece : List ℕ) (f : WireError) → s.refused ≡ false → AnswersOrLacks (refusal_of (fed s piece)) (Err f) → Explains now [] (fed s piece) (stops.Refused f)
+takes_refusal now s piece f isnt h = λ other.
+    let x = answers_stands (fed s piece) f (refusal_of (fed s piece)) (fed_refused s piece ∙ isnt) refl h other in
+    (sym x.sent, inl x.trouble)
+
+end_at : (s : SessionState) (place : ℕ) (trouble : Option WireError) (found : Option (Result (Told × List ℕ) Fault)) → trouble ≡ None → found ≡ Some (Err (faults.Short place))
+    → (refusal_of (after_end s trouble found) ≡ Some (wire.Malformed place)) × ((after_end s trouble found).trouble ≡ Some (wire.Malformed place))
+end_at s place trouble found none is = rw (none, is) (refl, refl)
+
+refuses_f : (e f : WireError) (refusal : Option WireError) → refusal ≡ Some e → Answers refusal (Err f) → f ≢ wire.NoMemory → f ≡ e
+refuses_f e f (Some g) is h isnt = h isnt ∙ cc
+refuses_f e f None is h isnt = absurd (cc)
+
+-- the peer's bytes end in a reply
+pub takes_end : (now : Option Talk) (s : SessionState) (f : WireError) → turn_of s ≡ turns.Receive → IsAwaiting s → IsDrained now → Answers (refusal_of (ended s)) (Err f) → Explains now [] s (stops.Refused f)
+takes_end now s f turn short drained h = λ other.
+    let well = receiving s turn in
+    let end = end_at s short.0 s.trouble (told_with s.intake []) well.trouble short.1 in
+    let is = refuses_f (wire.Malformed short.0) f (refusal_of (ended s)) end.0 h other in
+    (sym well.sent, inr (drained, well.trouble, end.1 ∙ ap (λ (e : WireError). Some e) (sym is)))
+
+no_answer : (e : WireError) (refusal : Option WireError) → refusal ≡ Some e → Answers refusal (Ok tt) → ⊥
+no_answer e (Some g) is h = h
+no_answer e None is h = absurd (cc)
+
+-- which is a refusal
+pub end_refuses : (s : SessionState) → turn_of s ≡ turns.Receive → IsAwaiting s → Answers (refusal_of (ended s)) (Ok tt) → ⊥
+end_refuses s turn short h =
+    let well = receiving s turn in
+    let end = end_at s short.0 s.trouble (told_with s.intake []) well.trouble short.1 in
+    no_answer (wire.Malformed short.0) (refusal_of (ended s)) end.0 h
+
+stuck_end : (s : SessionState) (e : WireError) (trouble : Option WireError) (found : Option (Result (Told × List ℕ) Fault)) → trouble ≡ Some e → s.trouble ≡ Some e → refusal_of (after_end s trouble found) ≡ Some e
+stuck_end s e trouble found is also = rw is also
+
+-- a refusal stands, and the peer heard all
+pub refused_stands : (now : Option Talk) (s : SessionState) (f : WireError) → s.refused ≡ false → turn_of s ≡ turns.Failed → Answers (refusal_of (ended s)) (Err f) → Explains now [] s (stops.Refused f)
+refused_stands now s f isnt turn h = λ other.
+    let failed = failed_by (refusal_of s) (is_all_sent s) (is_some s.intake.reading) turn in
+    let x = stands s failed.0 isnt failed.1 in
+    let is = refuses_f failed.0 f (refusal_of (ended s)) (stuck_end s failed.0 s.trouble (told_with s.intake []) x.trouble x.trouble) h other in
+    (sym x.sent, inl (x.trouble ∙ ap (λ (e : WireError). Some e) (sym is)))
+
+pub refused_answers : (s : SessionState) → s.refused ≡ false → turn_of s ≡ turns.Failed → Answers (refusal_of (ended s)) (Ok tt) → ⊥
+refused_answers s isnt turn h =
+    let failed = failed_by (refusal_of s) (is_all_sent s) (is_some s.intake.reading) turn in
+    let x = stands s failed.0 isnt failed.1 in
+    no_answer failed.0 (refusal_of (ended s)) (stuck_end s failed.0 s.trouble (told_with s.intake []) x.trouble x.trouble) h
+
+-- a refusal that stood
+pub stops_refused : (answers : Bool) (old new : Option Talk) (s now : SessionState) (f : WireError) → GoesOn answers old new s now → now.refused ≡ false → turn_of now ≡ turns.Failed → Answers (refusal_of (ended now)) (Err f) → Stops answers old new s (stops.Refused f)
+stops_refused answers old new s now f h isnt turn answer = stops_at answers old new s now h.heard h.said (stops.Refused f) h.passed h.is (refused_stands new now f isnt turn answer)
+
+-- no refusal was answered
+pub finished_unrefused : (answers : Bool) (old new : Option Talk) (s now : SessionState) → s.refused ≡ false → Finishes answers old new s now → now.refused ≡ false
+finished_unrefused answers old new s now isnt h = same_refused (with_heard h.went.heard now) (fed s h.went.said) h.went.is ∙ fed_refused s h.went.said ∙ isnt

@@ -1,0 +1,167 @@
+-- The first stage is held.
+use Rattle.std.proofs.Common.{◌≡◌, ◌≢◌, ℕ, Bool, true, false, List, [], ◌∷◌, ◌++◌, map, Option, Some, None, Result, Ok, Err, refl, sym, ap, ◌∙◌, subst}
+use Rattle.std.specs.Option.{option_map}
+use Rattle.fetch_specs.specs.Conflicts.{conflicts_of}
+use Rattle.fetch_specs.specs.Matches.{mappings_of}
+use Rattle.fetch_specs.specs.declared.conflict.Conflict.{Conflict}
+use Rattle.fetch_wire.specs.Parameters.{first_bad, texts_told}
+use Rattle.fetch_wire.specs.SessionStates.{SessionState, IsAlike, fed, opened}
+use Rattle.fetch_wire.specs.Stepping.{read_within}
+use Rattle.fetch_wire.specs.Lines.{line_at}
+use Rattle.fetch_wire.specs.Talks.{Talk}
+use Rattle.fetch_wire.specs.Written.{lines_text, first_too_long}
+use Rattle.fetch_wire.specs.declared.error.WireError.{WireError}
+use Rattle.fetch_wire.specs.declared.error.WireError.TheVariants as wire
+use Rattle.fetch_wire.specs.declared.handshake.Handshake.{Handshake}
+use Rattle.fetch_wire.specs.declared.line.Line.{Line}
+use Rattle.fetch_wire.specs.declared.mapping.RefMap.{RefMap}
+use Rattle.fetch_wire.specs.declared.reference.Ref.{Ref}
+use Rattle.fetch_wire.specs.References.{name_in}
+use Rattle.fetch_wire.proofs.Conversing.{same}
+use Rattle.fetch_conversation.specs.Conversation.{Conversation, ends, sent_in, answer_in, Concludes, RefusesWith, Converses}
+use Rattle.fetch_conversation.specs.Drives.{IsDrivable, Finishes, Stops, with_heard}
+use Rattle.fetch_conversation.specs.Errors.{is_free_listing, prepare_of, prepare_of_wire, prepare_of_stop}
+use Rattle.fetch_conversation.specs.Listing.{IsOpened, TellsUnopened, Answers, TellsConflicts, TellsUntold, found_in, first_of}
+use Rattle.fetch_conversation.specs.ListStage.{InquiryValue, ListedValue, prefixes_asked, all_specs, handshaking, too_long, no_specs, unsendable, mapped, mapped_unless, map_of, inquiry_stage, list_stage, answer_shown, left_by, shown, is_nil}
+use Rattle.fetch_conversation.specs.declared.drive.Stop.{Stop}
+use Rattle.fetch_conversation.specs.declared.drive.Stop.TheVariants as stops
+use Rattle.fetch_conversation.specs.declared.listing.Listed.{Listed}
+use Rattle.fetch_conversation.specs.declared.prepare.Error.{Error}
+use Rattle.fetch_conversation.specs.declared.prepare.Error.TheVariants as errors
+use Rattle.fetch_conversation.specs.declared.ref_map.Error.{Error as MapError}
+use Rattle.fetch_conversation.specs.declared.ref_map.Error.TheVariants as ref_map
+use Rattle.fetch_conversation.proofs.Inquired.{finding, inquiring, tied}
+use Rattle.fetch_conversation.proofs.Tied.{IsTied, IsWord, concluded, refused_at_end, broken, broken_free, broken_first}
+
+-- ---- nothing is sent
+
+abbrev bound_of : InquiryValue → ℕ
+bound_of q = q.options.max_reply_bytes
+
+abbrev Lists : Bool → Option Talk → Option Talk → InquiryValue → Result Listed Error → Type 0
+Lists answers old new q result = Converses is_free_listing answers (bound_of q) old new [] (left_by result) (list_stage (bound_of q) q) (answer_shown result)
+
+refusing : {X E : Type 0} (bound : ℕ) (c : Conversation X E) (e : E) (stream : List ℕ) → c ≡ ends (Err e) → RefusesWith bound c stream [] e
+unfolding sent_in answer_in
+refusing bound c e stream is = rw is (record { answer = refl; asked = refl })
+
+pub lists_free : (answers : Bool) (old : Option Talk) (q : InquiryValue) (e : Error) → is_free_listing e ≡ true → Lists answers old old q (Err e)
+lists_free answers old q e free = record { held = broken_free is_free_listing answers (bound_of q) old [] (list_stage (bound_of q) q) e free }
+
+lists_refusal : (answers : Bool) (old : Option Talk) (q : InquiryValue) (e : Error) → list_stage (bound_of q) q ≡ ends (Err e) → Lists answers old old q (Err e)
+lists_refusal answers old q e is = record { held = broken_first is_free_listing answers (bound_of q) old [] (list_stage (bound_of q) q) e (λ isnt stream. refusing (bound_of q) (list_stage (bound_of q) q) e stream is) }
+
+missing_stage : (bound : ℕ) (q : InquiryValue) → no_specs q ≡ Some errors.MissingRefSpecs → list_stage bound q ≡ ends (Err errors.MissingRefSpecs)
+unfolding list_stage
+missing_stage bound q is = rw is refl
+
+-- no refspec
+pub lists_missing : (answers : Bool) (old : Option Talk) (q : InquiryValue) → no_specs q ≡ Some errors.MissingRefSpecs → Lists answers old old q (Err errors.MissingRefSpecs)
+lists_missing answers old q is = lists_refusal answers old q errors.MissingRefSpecs (missing_stage (bound_of q) q is)
+
+bad_stage : (bound : ℕ) (q : InquiryValue) (text : List ℕ) (place : ℕ) → no_specs q ≡ None → first_bad (texts_told q.address q.options.handshake_parameters q.agent) ≡ Some (text, place) → list_stage bound q ≡ ends (Err (handshaking (wire.BadParameter text place)))
+unfolding list_stage inquiry_stage
+bad_stage bound q text place some is = rw (some, is) refl
+
+long_stage : (bound : ℕ) (q : InquiryValue) (n : ℕ) → no_specs q ≡ None → first_bad (texts_told q.address q.options.handshake_parameters q.agent) ≡ None → first_too_long (first_of q ∷ []) ≡ Some n → list_stage bound q ≡ ends (Err (too_long n))
+unfolding list_stage inquiry_stage
+long_stage bound q n some good is = rw (some, good, is) refl
+
+-- what can't be sent
+pub lists_unopened : (answers : Bool) (old : Option Talk) (q : InquiryValue) (e : WireError) → no_specs q ≡ None → TellsUnopened q e → Lists answers old old q (Err (prepare_of_wire e))
+lists_unopened answers old q wire.NoMemory some h = lists_free answers old q errors.NoMemory refl
+lists_unopened answers old q (wire.BadParameter text place) some h = lists_refusal answers old q (handshaking (wire.BadParameter text place)) (bad_stage (bound_of q) q text place some h)
+lists_unopened answers old q (wire.LineTooLong n) some h = lists_refusal answers old q (too_long n) (long_stage (bound_of q) q n some h.0 h.1)
+lists_unopened answers old q (wire.Malformed place) some h = absurd h
+lists_unopened answers old q (wire.ServerError text) some h = absurd h
+lists_unopened answers old q (wire.ReplyTooLong bound) some h = absurd h
+lists_unopened answers old q (wire.MissingFeature name) some h = absurd h
+
+-- ---- a session that is opened
+
+opened_read : (bound : ℕ) (agent : List ℕ) (prefixes : List (List ℕ)) (first : Line) → fed (opened bound agent prefixes first) [] ≡ opened bound agent prefixes first
+unfolding read_within line_at
+opened_read bound agent prefixes first = refl
+
+pub opened_drivable : (q : InquiryValue) (s : SessionState) → IsOpened q s → IsDrivable s
+opened_drivable q s h =
+    let o : SessionState = opened (bound_of q) q.agent (prefixes_asked q) (first_of q) in
+    subst IsDrivable (sym h.is) (record {
+      read = subst (IsAlike o) (sym (opened_read (bound_of q) q.agent (prefixes_asked q) (first_of q))) (same o);
+      unrefused = refl;
+    })
+
+stage_is : (q : InquiryValue) (s : SessionState) → no_specs q ≡ None → IsOpened q s → list_stage (bound_of q) q ≡ inquiring (bound_of q) q (first_of q)
+unfolding list_stage inquiry_stage
+stage_is q s some h = rw (some, h.sendable, h.fits) refl
+
+stage_tied : (q : InquiryValue) (s : SessionState) → no_specs q ≡ None → IsOpened q s → IsTied handshaking (finding q) (bound_of q) s (list_stage (bound_of q) q) []
+stage_tied q s some h =
+    subst (λ (t : SessionState). IsTied handshaking (finding q) (bound_of q) t (list_stage (bound_of q) q) []) (sym h.is)
+    (subst (λ (c : Conversation ListedValue Error). IsTied handshaking (finding q) (bound_of q) (opened (bound_of q) q.agent (prefixes_asked q) (first_of q)) c []) (sym (stage_is q s some h)) (tied q (bound_of q) (first_of q)))
+
+-- ---- a session that was stopped
+
+word_by : (e : WireError) → is_free_listing (prepare_of_wire e) ≡ false → (e ≢ wire.NoMemory) × (prepare_of_wire e ≡ handshaking e)
+word_by wire.NoMemory isnt = absurd (cc)
+word_by (wire.Malformed place) isnt = (λ e. cc, refl)
+word_by (wire.ServerError text) isnt = (λ e. cc, refl)
+word_by (wire.ReplyTooLong bound) isnt = (λ e. cc, refl)
+word_by (wire.MissingFeature name) isnt = (λ e. cc, refl)
+word_by (wire.LineTooLong n) isnt = (λ e. cc, refl)
+word_by (wire.BadParameter text place) isnt = (λ e. cc, refl)
+
+word_is : (stop : Stop) → IsWord is_free_listing handshaking stop (prepare_of_stop stop)
+word_is (stops.Refused e) = word_by e
+word_is stops.Failed = refl
+word_is stops.Interrupted = refl
+
+pub lists_stopped : (answers : Bool) (old new : Option Talk) (q : InquiryValue) (s : SessionState) (stop : Stop) → no_specs q ≡ None → IsOpened q s → Stops answers old new s stop → Lists answers old new q (Err (prepare_of_stop stop))
+lists_stopped answers old new q s stop some h stopped = record {
+  held = broken handshaking (finding q) is_free_listing answers (bound_of q) old new s (list_stage (bound_of q) q) [] stop (prepare_of_stop stop) (stage_tied q s some h) stopped (word_is stop);
+}
+
+-- ---- a session that was driven to its end
+
+pub lists_found : (answers : Bool) (old new : Option Talk) (q : InquiryValue) (s now : SessionState) (result : Result Listed Error) → no_specs q ≡ None → IsOpened q s → Finishes answers old new s now → Answers q now result → Lists answers old new q result
+lists_found answers old new q s now (Ok l) some h finished a = record {
+  held = subst (λ (t : SessionState). Concludes answers (bound_of q) old new [] (list_stage (bound_of q) q) (shown l) t.intake.pending) (sym a.1)
+      (concluded handshaking (finding q) answers (bound_of q) old new s now (list_stage (bound_of q) q) [] (shown l) (stage_tied q s some h) finished a.0);
+}
+lists_found answers old new q s now (Err e) some h finished a = record {
+  held = refused_at_end handshaking (finding q) is_free_listing answers (bound_of q) old new s now (list_stage (bound_of q) q) [] e (stage_tied q s some h) finished a;
+}
+
+-- the bound stays
+pub listed_bound : (answers : Bool) (old new : Option Talk) (q : InquiryValue) (s now : SessionState) → no_specs q ≡ None → IsOpened q s → Finishes answers old new s now → now.intake.bound ≡ bound_of q
+listed_bound answers old new q s now some h finished = finished.went.is.intake.bound ∙ (stage_tied q s some h).bounded finished.went.said
+
+-- ---- what was listed
+
+unless_none : (q : InquiryValue) (h : Handshake) (refs : List Ref) (conflicts : List Conflict) → conflicts ≡ [] → mapped_unless conflicts q h refs ≡ Ok (record { ref_map = map_of q h refs; handshake = h })
+unless_none q h refs conflicts is = rw is refl
+
+pub mapped_clear : (q : InquiryValue) (h : Handshake) (refs : List Ref) → conflicts_of (mappings_of (all_specs q) (map name_in refs) h.object_hash) ≡ [] → mapped q h refs ≡ Ok (record { ref_map = map_of q h refs; handshake = h })
+unfolding mapped
+mapped_clear q h refs is = unless_none q h refs (conflicts_of (mappings_of (all_specs q) (map name_in refs) h.object_hash)) is
+
+unless_some : (q : InquiryValue) (h : Handshake) (refs : List Ref) (found conflicts : List Conflict) → found ≡ conflicts → is_nil conflicts ≡ false → mapped_unless found q h refs ≡ Err (errors.RefMap (ref_map.InitRefMap conflicts))
+unless_some q h refs found [] is isnt = absurd (cc)
+unless_some q h refs found (c ∷ cs) is isnt = rw is refl
+
+pub mapped_refused : (q : InquiryValue) (h : Handshake) (refs : List Ref) (e : MapError) → TellsConflicts (conflicts_of (mappings_of (all_specs q) (map name_in refs) h.object_hash)) e → is_free_listing (prepare_of e) ≡ false → mapped q h refs ≡ Err (prepare_of e)
+unfolding mapped
+mapped_refused q h refs (ref_map.Handshake e) is isnt = absurd is
+mapped_refused q h refs ref_map.Transport is isnt = absurd is
+mapped_refused q h refs ref_map.Interrupted is isnt = absurd is
+mapped_refused q h refs ref_map.NoMemory is isnt = absurd (cc)
+mapped_refused q h refs (ref_map.InitRefMap conflicts) is isnt = unless_some q h refs (conflicts_of (mappings_of (all_specs q) (map name_in refs) h.object_hash)) conflicts is.0 is.1
+
+-- why greeting or references aren't there
+untold_by : (q : InquiryValue) (h : Option Handshake) (refs : Option (List Ref)) (e : WireError) → found_in q h refs ≡ Err (handshaking (wire.Malformed 0)) → (e ≢ wire.NoMemory → e ≡ wire.Malformed 0) → is_free_listing (prepare_of_wire e) ≡ false → found_in q h refs ≡ Err (prepare_of_wire e)
+untold_by q h refs e is why isnt = let w = word_by e isnt in is ∙ ap (λ (x : WireError). Err (handshaking x)) (sym (why w.0)) ∙ ap (λ (x : Error). Err x) (sym w.1)
+
+pub untold : (q : InquiryValue) (h : Option Handshake) (refs : Option (List Ref)) (e : WireError) → TellsUntold h refs e → is_free_listing (prepare_of_wire e) ≡ false → found_in q h refs ≡ Err (prepare_of_wire e)
+untold q None refs e why isnt = untold_by q None refs e refl why isnt
+untold q (Some h) None e why isnt = untold_by q (Some h) None e refl why isnt
+untold q (Some h) (Some refs) e why isnt = absurd ((word_by e isnt).0 why)

@@ -1,0 +1,76 @@
+-- A session that is driven: what is to be sent is sent, and bytes are received while a reply is awaited.
+use Rattle.std.specs.Prelude.{◌≡◌, ◌≢◌, ◌⊎◌, ℕ, Bool, false, List, [], ◌++◌, Option, Some, None, Result, Ok, Err, OnOk, IsErrOf, ⊤}
+use Rattle.fetch_store.specs.Faults.{Faults, Rose, Counts}
+use Rattle.fetch_wire.specs.SessionStates.{SessionState, IsAlike, fed, ended, turn_of}
+use Rattle.fetch_wire.specs.Talks.{Talk, Talks, IsDrained, IsFront}
+use Rattle.fetch_wire.specs.declared.error.WireError.{WireError}
+use Rattle.fetch_wire.specs.declared.error.WireError.TheVariants as wire
+use Rattle.fetch_wire.specs.declared.turn.Turn.TheVariants as turns
+use Rattle.fetch_conversation.specs.declared.drive.Stop.{Stop}
+use Rattle.fetch_conversation.specs.declared.drive.Stop.TheVariants as stops
+
+-- All that it was fed was read as far as it goes, and no refusal was answered yet.
+pub record IsDrivable (s : SessionState) : Type 0 where
+  pub read : IsAlike s (fed s [])
+  pub unrefused : s.refused ≡ false
+
+-- with these bytes before what is to be sent
+abbrev pub with_heard : List ℕ → SessionState → SessionState
+with_heard heard s = record s { outgoing = heard ++ s.outgoing }
+
+-- From one session to another the peer heard and said these bytes, and the other is the first one that was fed them.
+pub record GoesOn (answers : Bool) (old new : Option Talk) (s now : SessionState) : Type 0 where
+  pub heard : List ℕ
+  pub said : List ℕ
+  pub passed : Talks answers old new heard said
+  pub is : IsAlike (with_heard heard now) (fed s said)
+
+-- It went on until nothing is to be sent and no reply is awaited.
+pub record Finishes (answers : Bool) (old new : Option Talk) (s now : SessionState) : Type 0 where
+  pub went : GoesOn answers old new s now
+  pub idle : turn_of now ≡ turns.Idle
+
+-- The refusal stands whatever is fed; or the peer has nothing more to say, and it is that of a reply that isn't whole.
+abbrev pub Refuses : Option Talk → SessionState → WireError → Type 0
+Refuses now s e = (s.trouble ≡ Some e) ⊎ (IsDrained now × (s.trouble ≡ None) × ((ended s).trouble ≡ Some e))
+
+-- A refusal that isn't want of memory is that of the session, and all that is to be sent was heard.
+abbrev pub Explains : Option Talk → List ℕ → SessionState → Stop → Type 0
+Explains now heard s (stops.Refused e) = e ≢ wire.NoMemory → (heard ≡ s.outgoing) × Refuses now s e
+Explains now heard s stops.Failed = ⊤
+Explains now heard s stops.Interrupted = ⊤
+
+-- It broke off, and the peer heard a front of what is to be sent to one who says this.
+pub record Stops (answers : Bool) (old new : Option Talk) (s : SessionState) (e : Stop) : Type 0 where
+  pub heard : List ℕ
+  pub said : List ℕ
+  pub passed : Talks answers old new heard said
+  pub front : IsFront heard (fed s said).outgoing
+  pub why : Explains new heard (fed s said) e
+
+abbrev pub Drives : {T : Type 0} → Bool → Option Talk → Option Talk → SessionState → SessionState → Result T Stop → Type 0
+Drives answers old new s now (Ok x) = Finishes answers old new s now
+Drives answers old new s now (Err e) = Stops answers old new s e
+
+-- The same, with the peer's count of faults and the interrupt's of yes answers: neither falls, each rose where its stop
+-- is told, and no Ok follows a yes.
+pub record IsDriven {T : Type 0} (answers : Bool) (old new : Option Talk) (s now : SessionState) (faults faults' yes yes' : Faults) (result : Result T Stop) : Type 0 where
+  pub driven : Drives answers old new s now result
+  pub counts : Counts faults faults'
+  pub failed : IsErrOf result stops.Failed → Rose faults faults'
+  pub asked : Counts yes yes'
+  pub interrupted : IsErrOf result stops.Interrupted → Rose yes yes'
+  pub uninterrupted : OnOk result (yes'.count ≡ yes.count)
+
+-- ---- one step
+
+-- a fault of the peer, or want of memory
+abbrev pub IsUnsent : Stop → Type 0
+IsUnsent (stops.Refused e) = e ≡ wire.NoMemory
+IsUnsent stops.Failed = ⊤
+IsUnsent stops.Interrupted = ⊥
+
+-- A piece came, and was fed; or it is refused, or the end of the peer's bytes is.
+abbrev pub Takes : {T : Type 0} → Option Talk → Option Talk → SessionState → SessionState → Result T Stop → Type 0
+Takes old new s now (Ok x) = (piece : List ℕ) × Talks false old new [] piece × IsAlike now (fed s piece)
+Takes old new s now (Err e) = (piece : List ℕ) × Talks false old new [] piece × (Explains new [] (fed s piece) e ⊎ ((piece ≡ []) × Explains new [] s e))

@@ -1,0 +1,176 @@
+-- The first stage of a fetch: the greeting, the listing, and the mappings.
+use Rattle.std.specs.Prelude.{◌≡◌, ℕ, Bool, true, false, ◌&&◌, List, [], ◌∷◌, ◌++◌, length, map, Option, Some, None, Result, Ok, Err, if◌then◌else◌}
+use Rattle.std.specs.List.{list_any}
+use Rattle.std.specs.Option.{option_map, option_or}
+use Rattle.fetch_specs.specs.Conflicts.{conflicts_of}
+use Rattle.fetch_specs.specs.Matches.{mappings_of}
+use Rattle.fetch_specs.specs.Prefixes.{prefixes_of}
+use Rattle.fetch_specs.specs.Specs.{Spec}
+use Rattle.fetch_specs.specs.Tagged.{tag_spec_of, is_tag_spec}
+use Rattle.fetch_specs.specs.declared.conflict.Conflict.{Conflict}
+use Rattle.fetch_specs.specs.declared.tags.Tags.{Tags}
+use Rattle.fetch_wire.specs.Greetings.{offers}
+use Rattle.fetch_wire.specs.Parameters.{first_bad, texts_told}
+use Rattle.fetch_wire.specs.References.{name_in}
+use Rattle.fetch_wire.specs.Requests.{first_line, listing_lines}
+use Rattle.fetch_wire.specs.SessionStates.{error_of, listing_feature, turn_of, kind_of}
+use Rattle.fetch_wire.specs.Written.{first_too_long}
+use Rattle.fetch_wire.specs.declared.awaited.Await.TheVariants as awaits
+use Rattle.fetch_wire.specs.declared.awaited.Fault.{Fault}
+use Rattle.fetch_wire.specs.declared.awaited.Told.{Told}
+use Rattle.fetch_wire.specs.declared.awaited.Told.TheVariants as told
+use Rattle.fetch_wire.specs.declared.error.WireError.{WireError}
+use Rattle.fetch_wire.specs.declared.error.WireError.TheVariants as wire
+use Rattle.fetch_wire.specs.declared.handshake.Handshake.{Handshake}
+use Rattle.fetch_wire.specs.declared.mapping.RefMap.{RefMap}
+use Rattle.fetch_wire.specs.declared.reference.Ref.{Ref}
+use Rattle.fetch_wire.specs.declared.turn.Turn.TheVariants as turns
+use Rattle.fetch_conversation.specs.Conversation.{Conversation, ends, asks, asks_unless, asking}
+use Rattle.fetch_conversation.specs.Mapped.{ref_mappings}
+use Rattle.fetch_conversation.specs.declared.listing.Listed.{Listed}
+use Rattle.fetch_conversation.specs.declared.prepare.Error.{Error}
+use Rattle.fetch_conversation.specs.declared.prepare.Error.TheVariants as errors
+use Rattle.fetch_conversation.specs.declared.ref_map.Error.TheVariants as ref_map
+use Rattle.fetch_conversation.specs.declared.ref_map.Options.{Options}
+
+-- what is asked: the server's address and who asks, the remote's refspecs, what is done with tags, and the options
+pub record InquiryValue : Type 0 where
+  pub address : List ℕ
+  pub agent : List ℕ
+  pub specs : List Spec
+  pub tags : Tags
+  pub options : Options
+
+-- what the stage finds
+pub record ListedValue : Type 0 where
+  pub ref_map : RefMap
+  pub handshake : Handshake
+
+-- ---- refspecs
+
+abbrev pub with_spec : Option Spec → List Spec → List Spec
+with_spec None extra = extra
+with_spec (Some spec) extra = if list_any is_tag_spec extra then extra else extra ++ spec ∷ []
+
+-- the extra refspecs, and the one of the tags behind them where tags are taken and it isn't among them
+abbrev pub with_tags : Tags → List Spec → List Spec
+with_tags tags extra = with_spec (tag_spec_of tags) extra
+
+abbrev pub extra_specs : InquiryValue → List Spec
+extra_specs q = with_tags q.tags q.options.extra_refspecs
+
+-- the refspecs of the remote, then the extra ones
+abbrev pub all_specs : InquiryValue → List Spec
+all_specs q = q.specs ++ extra_specs q
+
+-- the prefixes that the listing is asked for: none where it isn't filtered
+abbrev pub prefixes_asked : InquiryValue → List (List ℕ)
+prefixes_asked q = if q.options.prefix_from_spec_as_filter_on_remote then prefixes_of (all_specs q) else []
+
+-- ---- refusals before anything is sent
+
+abbrev pub is_nil : {X : Type 0} → List X → Bool
+is_nil [] = true
+is_nil (x ∷ xs) = false
+
+-- what was sent or received is refused
+abbrev pub handshaking : WireError → Error
+handshaking e = errors.RefMap (ref_map.Handshake e)
+
+abbrev pub too_long : ℕ → Error
+too_long length = handshaking (wire.LineTooLong length)
+
+-- what is wrong with a reply
+abbrev pub failed : ℕ → Fault → Error
+failed bound fault = handshaking (error_of bound fault)
+
+-- neither the remote nor the options name a refspec; the one of the tags doesn't count
+abbrev pub no_specs : InquiryValue → Option Error
+no_specs q = if is_nil q.specs && is_nil q.options.extra_refspecs then Some errors.MissingRefSpecs else None
+
+-- address, parameters and agent hold neither a NUL nor a line feed
+abbrev pub unsendable : InquiryValue → Option Error
+unsendable q = option_map (λ (bad : List ℕ × ℕ). handshaking (wire.BadParameter bad.0 bad.1)) (first_bad (texts_told q.address q.options.handshake_parameters q.agent))
+
+-- ---- the conversation
+
+-- It ends with this refusal, where there is one.
+abbrev pub unless : {X E : Type 0} → Option E → Conversation X E → Conversation X E
+unless None c = c
+unless (Some e) c = ends (Err e)
+
+abbrev pub map_of : InquiryValue → Handshake → List Ref → RefMap
+map_of q h refs = record {
+  mappings = ref_mappings (length q.specs) (all_specs q) h.object_hash refs;
+  refspecs = q.specs;
+  extra_refspecs = extra_specs q;
+  remote_refs = refs;
+  object_hash = h.object_hash;
+}
+
+abbrev pub mapped_unless : List Conflict → InquiryValue → Handshake → List Ref → Result ListedValue Error
+mapped_unless [] q h refs = Ok (record { ref_map = map_of q h refs; handshake = h })
+mapped_unless (c ∷ cs) q h refs = Err (errors.RefMap (ref_map.InitRefMap (c ∷ cs)))
+
+-- The references that were listed, mapped. Two different sources may not lead to one destination.
+unfoldable pub mapped : InquiryValue → Handshake → List Ref → Result ListedValue Error
+mapped q h refs = mapped_unless (conflicts_of (mappings_of (all_specs q) (map name_in refs) h.object_hash)) q h refs
+
+-- a reply of another kind than the one that is awaited; none tells it
+abbrev pub other_reply : Error
+other_reply = handshaking (wire.Malformed 0)
+
+abbrev pub listed : InquiryValue → Handshake → Told → Conversation ListedValue Error
+listed q h (told.Listing refs) = ends (mapped q h refs)
+listed q h (told.Greeting other) = ends (Err other_reply)
+listed q h (told.Advertisement other refs) = ends (Err other_reply)
+listed q h (told.Reply reply) = ends (Err other_reply)
+
+-- a server that doesn't list can't be asked
+abbrev pub unlisted : Handshake → Option Error
+unlisted h = if offers listing_feature h.capabilities then None else Some (handshaking (wire.MissingFeature listing_feature))
+
+-- the listing request, and the listing; a line of the request that is too long comes before a server that doesn't list
+unfoldable pub listing : ℕ → InquiryValue → Handshake → Conversation ListedValue Error
+listing bound q h =
+    let lines = listing_lines h q.agent (prefixes_asked q) in
+    asks_unless (first_too_long lines) too_long (unless (unlisted h) (asks lines (awaits.Listing h.object_hash) (failed bound) (λ t. listed q h t)))
+
+-- a server of version 1 lists in its greeting
+abbrev pub greeted : ℕ → InquiryValue → Told → Conversation ListedValue Error
+greeted bound q (told.Greeting h) = listing bound q h
+greeted bound q (told.Advertisement h refs) = ends (mapped q h refs)
+greeted bound q (told.Listing refs) = ends (Err other_reply)
+greeted bound q (told.Reply reply) = ends (Err other_reply)
+
+-- the first line, the greeting, the listing request, and the listing
+unfoldable pub inquiry_stage : ℕ → InquiryValue → Conversation ListedValue Error
+inquiry_stage bound q =
+    unless (unsendable q) (asking too_long (first_line q.address q.options.handshake_parameters ∷ []) awaits.Greeting (failed bound) (λ t. greeted bound q t))
+
+-- the whole stage: without a refspec nothing is asked
+unfoldable pub list_stage : ℕ → InquiryValue → Conversation ListedValue Error
+list_stage bound q = unless (no_specs q) (inquiry_stage bound q)
+
+-- ---- what the call answers
+
+abbrev pub shown : Listed → ListedValue
+shown l = record { ref_map = l.ref_map; handshake = l.handshake }
+
+abbrev pub answer_shown : Result Listed Error → Result ListedValue Error
+answer_shown (Ok l) = Ok (shown l)
+answer_shown (Err e) = Err e
+
+-- what was received and not read afterwards
+abbrev pub pending_of : Listed → List ℕ
+pending_of l = l.session.intake.pending
+
+abbrev pub left_by : Result Listed Error → List ℕ
+left_by (Ok l) = pending_of l
+left_by (Err e) = []
+
+-- The listing was read, no request was made yet, and no refusal was answered.
+pub record IsReady (l : Listed) : Type 0 where
+  pub turn : turn_of l.session ≡ turns.Idle
+  pub unrefused : l.session.refused ≡ false
+  pub kind : kind_of l.session.handshake ≡ l.handshake.object_hash

@@ -1,0 +1,184 @@
+//! Asking for the pack, and reading it.
+
+ghost use Rattle.std.specs.Prelude.{◌≡◌, [], true, IfErr, IfOk, IfSome, OnOk, IsErrOf};
+ghost use Rattle.fetch_store.specs.Faults.{Rose, Counts};
+ghost use Rattle.fetch_store.specs.Stores.{AreOf};
+ghost use Rattle.fetch_conversation.specs.Conversation.{Converses};
+ghost use Rattle.fetch_conversation.specs.ConverseStage.{TermsValue, asked_by, converse_stage};
+ghost use Rattle.fetch_conversation.specs.Conversing.{IsAsked};
+ghost use Rattle.fetch_negotiate.specs.Requests.{fetch_request};
+ghost use Rattle.fetch_wire.specs.Written.{first_too_long, TellsTooLong};
+ghost use Rattle.fetch_conversation.specs.Errors.{is_free_receiving};
+ghost use Rattle.fetch_conversation.specs.ListStage.{IsReady, shown, pending_of};
+ghost use Rattle.fetch_conversation.specs.declared.fetch.Error.TheVariants as errors;
+
+use crate::copies::copied_ids;
+use crate::drive::drive;
+use crate::fetch;
+use crate::listing::Listed;
+use crate::negotiate::Negotiate;
+use crate::progress::Progress;
+use crate::receiving::{received, tell};
+use crate::refusals::{refuse_lacking, refuse_other_hash, refuse_unmapped};
+use crate::settings::Settings;
+use fetch_negotiate::{Shallow, request_of};
+use fetch_specs::Tags;
+use fetch_store::{Border, List, NoMemory, Object, ObjectId, Objects};
+use fetch_wire::{Interrupt, Peer, WireError};
+use std::alloc::Global;
+use std::thread::Threads;
+
+/// What a repository shows to a fetch.
+#[derive(Debug, Drop)]
+pub struct View {
+    /// What is asked for.
+    pub wants: List<ObjectId>,
+    /// The commits whose parents are left aside.
+    pub border: Border,
+    /// The commits that its references lead to.
+    pub tips: List<ObjectId>,
+}
+
+impl View {
+    /// An equal view.
+    pub fn try_clone(&self) -> Result<View, NoMemory>
+        ensures { IfOk result (λ copy. copy ≡ self.now) }
+    {
+        Ok(View {
+            wants: copied_ids(&self.wants)?,
+            border: self.border.try_clone()?,
+            tips: copied_ids(&self.tips)?,
+        })
+    }
+}
+
+/// What was received: the rounds, the objects of the pack, the changes of the border, and the pack's count and digest.
+#[derive(Debug, Drop)]
+pub struct Received {
+    pub negotiate: Negotiate,
+    /// Each once, under the hash of its text. None in a dry run.
+    pub objects: List<(ObjectId, Object)>,
+    pub shallow: List<ObjectId>,
+    pub unshallow: List<ObjectId>,
+    /// How many objects the pack has, each as often as it comes, and its digest. None in a dry run.
+    pub pack: Option<(u32, ObjectId)>,
+}
+
+impl Received {
+    /// An equal value.
+    pub fn try_clone(&self) -> Result<Received, NoMemory>
+        ensures { IfOk result (λ copy. copy ≡ self.now) }
+    {
+        let objects = self
+            .objects
+            .try_clone_with(|(id, object)| Ok((*id, object.try_clone()?)))?;
+        Ok(Received {
+            negotiate: self.negotiate.try_clone()?,
+            objects,
+            shallow: copied_ids(&self.shallow)?,
+            unshallow: copied_ids(&self.unshallow)?,
+            pack: self.pack,
+        })
+    }
+}
+
+/// What a pack is asked for by, lent.
+#[derive(Clone, Copy)]
+pub struct Terms<'a> {
+    pub settings: &'a Settings,
+    pub view: &'a View,
+    /// Who asks. `git/` is put before it where it lacks that.
+    pub agent: &'a [u8],
+    pub tags: Tags,
+    /// How the depth of the history is to change.
+    pub shallow: &'a Shallow,
+    /// Whether the reply is read up to the pack alone.
+    pub dry_run: bool,
+}
+
+/// The request for the pack, which is to be sent.
+fn ask(alloc: Global, listed: &mut Listed, terms: &Terms<'_>) -> Result<(), WireError>
+    requires { IsReady listed.old }
+    ensures asked { OnOk result (IsAsked (record {
+      listed = shown listed.old;
+      hash = terms.now.settings.now.kind;
+      view = terms.now.view.now;
+      agent = terms.now.agent.now;
+      tags = terms.now.tags;
+      shallow = terms.now.shallow.now;
+      dry_run = terms.now.dry_run;
+    }) listed.old.session listed.new.session) }
+    ensures too_long { IfErr result (λ e. TellsTooLong (first_too_long (fetch_request (asked_by (record {
+      listed = shown listed.old;
+      hash = terms.now.settings.now.kind;
+      view = terms.now.view.now;
+      agent = terms.now.agent.now;
+      tags = terms.now.tags;
+      shallow = terms.now.shallow.now;
+      dry_run = terms.now.dry_run;
+    })) [] true)) e) }
+    ensures kept { shown listed.new ≡ shown listed.old }
+{
+    let request = request_of(
+        alloc,
+        &listed.handshake,
+        terms.agent,
+        terms.tags,
+        terms.shallow,
+        &terms.view.border,
+        terms.view.wants.as_slice(),
+        &[],
+        &[],
+        true,
+    )?;
+    listed.session.request(&request, !terms.dry_run)
+}
+
+/// Asks for the pack of what is wanted, and reads it. Where nothing is wanted, nothing is sent. The interrupt is asked
+/// before each receive.
+pub fn converse<R: Threads + Sync, P: Peer, I: Interrupt, Q: Progress, O: Objects>(
+    rt: &R,
+    alloc: Global,
+    listed: &mut Listed,
+    terms: &Terms<'_>,
+    objects: &O,
+    peer: &mut P,
+    progress: &mut Q,
+    interrupt: &mut I,
+) -> Result<Option<Received>, fetch::Error>
+    requires { IsReady listed.old }
+    ensures held { Converses is_free_receiving P.answers listed.old.session.intake.bound (P.told peer.old) (P.told peer.new) (pending_of listed.old) (pending_of listed.new)
+        (converse_stage listed.old.session.intake.bound (record {
+          listed = shown listed.old;
+          hash = terms.now.settings.now.kind;
+          view = terms.now.view.now;
+          agent = terms.now.agent.now;
+          tags = terms.now.tags;
+          shallow = terms.now.shallow.now;
+          dry_run = terms.now.dry_run;
+        })) result }
+    ensures of_kind { IfOk result (λ found. IfSome found (λ r. AreOf listed.old.handshake.object_hash r.objects)) }
+    ensures kept { shown listed.new ≡ shown listed.old }
+    ensures counts { Counts (P.faults peer.old) (P.faults peer.new) }
+    ensures client { IsErrOf result errors.Client → Rose (P.faults peer.old) (P.faults peer.new) }
+    ensures asked { Counts (I.yes interrupt.old) (I.yes interrupt.new) }
+    ensures interrupted { IsErrOf result errors.Interrupted → Rose (I.yes interrupt.old) (I.yes interrupt.new) }
+    ensures uninterrupted { OnOk result ((I.yes interrupt.new).count ≡ (I.yes interrupt.old).count) }
+{
+    let _ = objects;
+    let kind = listed.handshake.object_hash;
+    let (border, wants) = (&terms.view.border, terms.view.wants.as_slice());
+    refuse_unmapped(alloc, &listed.ref_map)?;
+    refuse_other_hash(terms.settings.kind, kind)?;
+    refuse_lacking(alloc, &listed.handshake, border, terms.shallow)?;
+    if wants.is_empty() {
+        return Ok(None);
+    }
+    ask(alloc, listed, terms)?;
+    drive(alloc, &mut listed.session, peer, interrupt)?;
+    let Some(reply) = listed.session.reply() else {
+        return Err(fetch::Error::Fetch(WireError::Malformed { place: 0 }));
+    };
+    tell(progress, reply.progress.as_slice());
+    Ok(Some(received(rt, alloc, kind, terms.dry_run, reply)?))
+}

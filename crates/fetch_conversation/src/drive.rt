@@ -1,0 +1,141 @@
+//! A session is driven: what it has to send is sent, and what its peer says is fed to it.
+
+ghost use Rattle.std.specs.Prelude.{◌≡◌, ◌<◌, [], false, length, IfErr, OnOk, IsErrOf};
+ghost use Rattle.fetch_store.specs.Faults.{Rose, Counts};
+ghost use Rattle.fetch_conversation.specs.Drives.{IsDrivable, Drives, IsDriven, IsUnsent, Takes};
+ghost use Rattle.fetch_wire.specs.SessionStates.{turn_of, IsAwaiting};
+ghost use Rattle.fetch_wire.specs.Talks.{Sends};
+ghost use Rattle.fetch_wire.specs.declared.turn.Turn.TheVariants as turns;
+
+use fetch_wire::conversation::Session;
+use fetch_wire::{Interrupt, Peer, SendFault, Turn, WireError};
+use std::alloc::{AllocError, Global};
+
+/// How many bytes are received at once.
+const PIECE: usize = 65_536;
+
+/// Why a session was driven no further.
+#[derive(Debug, Drop)]
+pub(crate) enum Stop {
+    /// What the peer says is refused, or memory ran out.
+    Refused(WireError),
+    /// The peer failed.
+    Failed,
+    /// The interrupt said yes.
+    Interrupted,
+}
+
+impl From<WireError> for Stop {
+    ghost use Rattle.std.specs.Prelude.{◌≡◌};
+    ghost use Rattle.fetch_conversation.specs.declared.drive.Stop.TheVariants as stops;
+
+    ghost from_gives = { λ e s. s ≡ stops.Refused e };
+
+    fn from(e: WireError) -> Stop {
+        Stop::Refused(e)
+    }
+}
+
+impl From<AllocError> for Stop {
+    ghost use Rattle.std.specs.Prelude.{◌≡◌};
+    ghost use Rattle.fetch_wire.specs.declared.error.WireError.TheVariants as wire;
+    ghost use Rattle.fetch_conversation.specs.declared.drive.Stop.TheVariants as stops;
+
+    ghost from_gives = { λ _ s. s ≡ stops.Refused wire.NoMemory };
+
+    fn from(_e: AllocError) -> Stop {
+        Stop::Refused(WireError::NoMemory)
+    }
+}
+
+/// Sends what is to be sent.
+fn send<P: Peer>(session: &mut Session, peer: &mut P) -> Result<(), Stop>
+    ensures session { OnOk result (session.new ≡ record session.old { outgoing = [] }) }
+    ensures talk { Sends P.answers (P.told peer.old) (P.told peer.new) result session.old.outgoing }
+    ensures cause { IfErr result (λ e. IsUnsent e) }
+    ensures counts { Counts (P.faults peer.old) (P.faults peer.new) }
+    ensures failed { IsErrOf result Stop.Failed → Rose (P.faults peer.old) (P.faults peer.new) }
+{
+    match peer.send(session.outgoing()) {
+        Ok(()) => {
+            session.sent(session.outgoing().len());
+            Ok(())
+        }
+        Err(SendFault::Failed) => Err(Stop::Failed),
+        Err(SendFault::NoMemory) => Err(Stop::Refused(WireError::NoMemory)),
+    }
+}
+
+/// Receives what comes next, and feeds it. The interrupt is asked before.
+fn receive<P: Peer, I: Interrupt>(
+    session: &mut Session,
+    peer: &mut P,
+    interrupt: &mut I,
+    buffer: &mut [u8],
+) -> Result<(), Stop>
+    requires turn { turn_of session.old ≡ turns.Receive }
+    requires awaits { IsAwaiting session.old }
+    requires unrefused { session.old.refused ≡ false }
+    requires room { 0 < length buffer.old }
+    ensures taken { Takes (P.told peer.old) (P.told peer.new) session.old session.new result }
+    ensures counts { Counts (P.faults peer.old) (P.faults peer.new) }
+    ensures failed { IsErrOf result Stop.Failed → Rose (P.faults peer.old) (P.faults peer.new) }
+    ensures asked { Counts (I.yes interrupt.old) (I.yes interrupt.new) }
+    ensures interrupted { IsErrOf result Stop.Interrupted → Rose (I.yes interrupt.old) (I.yes interrupt.new) }
+    ensures uninterrupted { OnOk result ((I.yes interrupt.new).count ≡ (I.yes interrupt.old).count) }
+{
+    if interrupt.asked() {
+        return Err(Stop::Interrupted);
+    }
+    let Ok(count) = peer.receive(buffer) else {
+        return Err(Stop::Failed);
+    };
+    if count == 0 {
+        session.end()?;
+        return Ok(());
+    }
+    session.feed(&buffer[..count])?;
+    Ok(())
+}
+
+/// Sends and receives by this buffer until nothing is to be sent and no reply is awaited. The interrupt is asked before
+/// each receive.
+fn take_turns<P: Peer, I: Interrupt>(
+    session: &mut Session,
+    peer: &mut P,
+    interrupt: &mut I,
+    buffer: &mut [u8],
+) -> Result<(), Stop>
+    requires drivable { IsDrivable session.old }
+    requires room { 0 < length buffer.old }
+    ensures { IsDriven P.answers (P.told peer.old) (P.told peer.new) session.old session.new (P.faults peer.old) (P.faults peer.new) (I.yes interrupt.old) (I.yes interrupt.new) result }
+{
+    'turns: for _ in 0..u64::MAX {
+        match session.poll() {
+            Turn::Send => send(session, peer)?,
+            Turn::Receive => receive(session, peer, interrupt, buffer)?,
+            Turn::Idle => return Ok(()),
+            Turn::Failed => session.end()?,
+        }
+    }
+    Err(Stop::Refused(WireError::NoMemory))
+}
+
+/// Sends and receives until nothing is to be sent and no reply is awaited. The interrupt is asked before each receive.
+pub(crate) fn drive<P: Peer, I: Interrupt>(
+    alloc: Global,
+    session: &mut Session,
+    peer: &mut P,
+    interrupt: &mut I,
+) -> Result<(), Stop>
+    requires { IsDrivable session.old }
+    ensures driven { Drives P.answers (P.told peer.old) (P.told peer.new) session.old session.new result }
+    ensures counts { Counts (P.faults peer.old) (P.faults peer.new) }
+    ensures failed { IsErrOf result Stop.Failed → Rose (P.faults peer.old) (P.faults peer.new) }
+    ensures asked { Counts (I.yes interrupt.old) (I.yes interrupt.new) }
+    ensures interrupted { IsErrOf result Stop.Interrupted → Rose (I.yes interrupt.old) (I.yes interrupt.new) }
+    ensures uninterrupted { OnOk result ((I.yes interrupt.new).count ≡ (I.yes interrupt.old).count) }
+{
+    let mut buffer = vec![in alloc; 0u8; PIECE]?;
+    take_turns(session, peer, interrupt, &mut buffer)
+}

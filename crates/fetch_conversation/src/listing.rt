@@ -1,0 +1,151 @@
+//! Listing the references of a remote, and mapping them.
+
+ghost use Rattle.std.specs.Prelude.{◌≡◌, [], true, false, ◌++◌, IfOk, IfErr, OnOk, IsErrOf};
+ghost use Rattle.fetch_store.specs.Faults.{Rose, Counts};
+ghost use Rattle.fetch_conversation.specs.Conversation.{Converses};
+ghost use Rattle.fetch_conversation.specs.Errors.{is_free_listing};
+ghost use Rattle.fetch_conversation.specs.ListStage.{InquiryValue, list_stage, answer_shown, left_by, IsReady, all_specs, with_tags};
+ghost use Rattle.fetch_conversation.specs.Listing.{IsOpened, TellsUnopened, TellsUntold, Answers};
+ghost use Rattle.fetch_wire.specs.SessionStates.{turn_of};
+ghost use Rattle.fetch_wire.specs.declared.turn.Turn.TheVariants as turns;
+ghost use Rattle.fetch_conversation.specs.declared.prepare.Error.TheVariants as errors;
+ghost use Rattle.fetch_conversation.specs.declared.ref_map.Error.TheVariants as ref_map_errors;
+
+use crate::asking::{copied_specs, joined_specs, prefixes_for, specs_with_tags};
+use crate::drive::drive;
+use crate::mapped::map_refs;
+use crate::prepare;
+use crate::ref_map::Options;
+use fetch_specs::{RefSpec, Tags};
+use fetch_store::{List, NoMemory};
+use fetch_wire::conversation::Session;
+use fetch_wire::{Handshake, Interrupt, Peer, Ref, RefMap, WireError};
+use std::alloc::Global;
+
+/// What a server is asked for its references, lent.
+#[derive(Clone, Copy, Debug)]
+pub struct Inquiry<'a> {
+    /// Where the repository is on the server.
+    pub address: &'a [u8],
+    /// Who asks. `git/` is put before it where it lacks that.
+    pub agent: &'a [u8],
+    /// The remote's refspecs to fetch by.
+    pub specs: &'a [RefSpec],
+    /// What is done with tags.
+    pub tags: Tags,
+}
+
+/// A remote whose references are listed and mapped, with the conversation that goes on.
+#[derive(Drop)]
+pub struct Listed {
+    pub session: Session,
+    pub ref_map: RefMap,
+    pub handshake: Handshake,
+}
+
+/// A session that is opened for the inquiry.
+fn open(
+    alloc: Global,
+    inquiry: &Inquiry<'_>,
+    options: &Options,
+    specs: &[RefSpec],
+) -> Result<Session, WireError>
+    requires { specs.now ≡ all_specs (record { address = inquiry.now.address.now; agent = inquiry.now.agent.now; specs = inquiry.now.specs.now; tags = inquiry.now.tags; options = options.now }) }
+    ensures opened { IfOk result (λ s. IsOpened (record { address = inquiry.now.address.now; agent = inquiry.now.agent.now; specs = inquiry.now.specs.now; tags = inquiry.now.tags; options = options.now }) s) }
+    ensures refused { IfErr result (λ e. TellsUnopened (record { address = inquiry.now.address.now; agent = inquiry.now.agent.now; specs = inquiry.now.specs.now; tags = inquiry.now.tags; options = options.now }) e) }
+{
+    let filtered = options.prefix_from_spec_as_filter_on_remote;
+    let prefixes = prefixes_for(alloc, filtered, specs)?;
+    Session::new(
+        alloc,
+        inquiry.address,
+        options.handshake_parameters.as_slice(),
+        inquiry.agent,
+        &prefixes,
+        options.max_reply_bytes,
+    )
+}
+
+/// Copies of these references.
+fn copied_refs(alloc: Global, refs: &[Ref]) -> Result<List<Ref>, NoMemory>
+    ensures { IfOk result (λ copies. copies ≡ refs.now) }
+{
+    let mut copies = Vec::with_capacity(alloc, refs.len())?;
+    for reference in refs {
+        copies.push(reference.try_clone()?)?;
+    }
+    Ok(List::from(copies))
+}
+
+/// What the greeting and the listing told.
+fn told(alloc: Global, session: &Session) -> Result<(Handshake, List<Ref>), WireError>
+    ensures told { IfOk result (λ x. (session.now.handshake ≡ Some x.0) × (session.now.refs ≡ Some x.1)) }
+    ensures refused { IfErr result (λ e. TellsUntold session.now.handshake session.now.refs e) }
+{
+    match (session.handshake(), session.refs()) {
+        (Some(handshake), Some(refs)) => Ok((handshake.try_clone()?, copied_refs(alloc, refs)?)),
+        _ => Err(WireError::Malformed { place: 0 }),
+    }
+}
+
+/// Maps what was listed.
+fn map_listed(
+    alloc: Global,
+    inquiry: &Inquiry<'_>,
+    options: &Options,
+    session: Session,
+    extra: Vec<RefSpec>,
+    specs: &[RefSpec],
+) -> Result<Listed, prepare::Error>
+    requires extra { extra.items ≡ with_tags inquiry.now.tags options.now.extra_refspecs }
+    requires specs { specs.now ≡ inquiry.now.specs.now ++ extra.items }
+    requires idle { turn_of session ≡ turns.Idle }
+    requires unrefused { session.refused ≡ false }
+    ensures answer { Answers (record { address = inquiry.now.address.now; agent = inquiry.now.agent.now; specs = inquiry.now.specs.now; tags = inquiry.now.tags; options = options.now }) session result }
+    ensures ready { IfOk result (λ l. IsReady l) }
+{
+    let (handshake, refs) = told(alloc, &session)?;
+    let own = inquiry.specs;
+    let object_hash = handshake.object_hash;
+    let mappings = map_refs(alloc, own.len(), specs, object_hash, refs.as_slice())?;
+    let ref_map = RefMap {
+        mappings: List::from(mappings),
+        refspecs: List::from(copied_specs(alloc, own)?),
+        extra_refspecs: List::from(extra),
+        remote_refs: refs,
+        object_hash,
+    };
+    Ok(Listed {
+        session,
+        ref_map,
+        handshake,
+    })
+}
+
+/// Asks for the greeting, then for the listing, and maps what is listed. The interrupt is asked before each receive.
+pub fn list<P: Peer, I: Interrupt>(
+    alloc: Global,
+    inquiry: &Inquiry<'_>,
+    peer: &mut P,
+    interrupt: &mut I,
+    options: Options,
+) -> Result<Listed, prepare::Error>
+    ensures held { Converses is_free_listing P.answers options.max_reply_bytes (P.told peer.old) (P.told peer.new) [] (left_by result)
+        (list_stage options.max_reply_bytes (record { address = inquiry.now.address.now; agent = inquiry.now.agent.now; specs = inquiry.now.specs.now; tags = inquiry.now.tags; options = options })) (answer_shown result) }
+    ensures ready { IfOk result (λ l. IsReady l) }
+    ensures bound { IfOk result (λ l. l.session.intake.bound ≡ options.max_reply_bytes) }
+    ensures counts { Counts (P.faults peer.old) (P.faults peer.new) }
+    ensures transport { IsErrOf result (errors.RefMap ref_map_errors.Transport) → Rose (P.faults peer.old) (P.faults peer.new) }
+    ensures asked { Counts (I.yes interrupt.old) (I.yes interrupt.new) }
+    ensures interrupted { IsErrOf result (errors.RefMap ref_map_errors.Interrupted) → Rose (I.yes interrupt.old) (I.yes interrupt.new) }
+    ensures uninterrupted { OnOk result ((I.yes interrupt.new).count ≡ (I.yes interrupt.old).count) }
+{
+    if inquiry.specs.is_empty() && options.extra_refspecs.is_empty() {
+        return Err(prepare::Error::MissingRefSpecs);
+    }
+    let extra = specs_with_tags(alloc, inquiry.tags, options.extra_refspecs.as_slice())?;
+    let specs = joined_specs(alloc, inquiry.specs, &extra)?;
+    let mut session = open(alloc, inquiry, &options, &specs)?;
+    drive(alloc, &mut session, peer, interrupt)?;
+    map_listed(alloc, inquiry, &options, session, extra, &specs)
+}

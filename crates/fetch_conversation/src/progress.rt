@@ -1,0 +1,15 @@
+//! What is told of a server's progress.
+
+/// One who is told how a server gets on. What it does decides nothing.
+pub trait Progress {
+    /// The server says this text, as it stands in band 2.
+    fn text(&mut self, band: &[u8]);
+}
+
+/// One who passes over all of it.
+#[derive(Clone, Copy, Debug)]
+pub struct NoProgress;
+
+impl Progress for NoProgress {
+    fn text(&mut self, _band: &[u8]) {}
+}

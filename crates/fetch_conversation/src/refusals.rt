@@ -1,0 +1,155 @@
+//! Why nothing is sent for a pack.
+
+ghost use Rattle.std.specs.Prelude.{◌≡◌, ◌||◌, ◌++◌, not, None, Some, IfErr, OnOk, length};
+ghost use Rattle.std.specs.List.{list_any};
+ghost use Rattle.std.specs.Option.{option_copied, option_or};
+ghost use Rattle.fetch_wire.specs.Greetings.{has_word, value_of};
+ghost use Rattle.fetch_wire.specs.RequestWords.{plain_pack, plain_pack_2};
+ghost use Rattle.fetch_conversation.specs.ConverseStage as spec;
+ghost use Rattle.fetch_conversation.specs.ConverseStage.{TermsValue};
+ghost use Rattle.fetch_conversation.specs.Conversing.{Tells};
+ghost use Rattle.fetch_conversation.specs.declared.fetch.Error.TheVariants as errors;
+
+use crate::asking::joined_specs;
+use crate::fetch;
+use fetch_negotiate::Shallow;
+use fetch_specs::RefSpec;
+use fetch_store::{Border, Kind, List, NoMemory, Text};
+use fetch_wire::{Handshake, RefMap, Version, WireError};
+use std::alloc::Global;
+
+/// Whether a refspec takes what it names, and names it without a star.
+fn names_one(refspec: &RefSpec) -> bool
+    ensures { result ≡ spec.names_one refspec.now }
+{
+    !refspec.is_exclusion() && !has_star(refspec.source())
+}
+
+fn has_star(source: Option<&[u8]>) -> bool
+    ensures { result ≡ spec.has_star (option_copied source.entry) }
+{
+    match source {
+        Some(text) => text.contains(&b'*'),
+        None => false,
+    }
+}
+
+fn any_names_one(refspecs: &[RefSpec]) -> bool
+    ensures { result ≡ list_any spec.names_one refspecs.now }
+{
+    refspecs.iter().any(names_one)
+}
+
+/// Whether some refspec of these lists names one.
+#[tactic(auto, using(crate::proofs::Unmapped::any_either))]
+fn either_names_one(own: &[RefSpec], extra: &[RefSpec]) -> bool
+    ensures { result ≡ list_any spec.names_one (own.now ++ extra.now) }
+{
+    any_names_one(own) || any_names_one(extra)
+}
+
+/// Whether references are advertised, none of them is mapped, and some refspec names one.
+fn is_unmapped(map: &RefMap) -> bool
+    ensures { result ≡ spec.is_unmapped map.now }
+{
+    map.mappings.is_empty()
+        && !map.remote_refs.is_empty()
+        && either_names_one(map.refspecs.as_slice(), map.extra_refspecs.as_slice())
+}
+
+/// Refuses where nothing is mapped that a refspec names.
+pub(crate) fn refuse_unmapped(alloc: Global, map: &RefMap) -> Result<(), fetch::Error>
+    ensures { Tells (spec.unmapped map.now) result }
+{
+    if !is_unmapped(map) {
+        return Ok(());
+    }
+    let refspecs = joined_specs(
+        alloc,
+        map.refspecs.as_slice(),
+        map.extra_refspecs.as_slice(),
+    )?;
+    Err(fetch::Error::NoMapping {
+        refspecs: List::from(refspecs),
+        num_remote_refs: map.remote_refs.len(),
+    })
+}
+
+/// Refuses a server that names objects by another hash.
+pub(crate) fn refuse_other_hash(local: Kind, remote: Kind) -> Result<(), fetch::Error>
+    ensures { Tells (spec.unlike local remote) result }
+{
+    match (local, remote) {
+        (Kind::Sha1, Kind::Sha1) | (Kind::Sha256, Kind::Sha256) => Ok(()),
+        _ => Err(fetch::Error::IncompatibleObjectHash { local, remote }),
+    }
+}
+
+/// Refuses where this isn't offered.
+fn refuse_unless(alloc: Global, offered: bool, name: &[u8]) -> Result<(), fetch::Error>
+    ensures { Tells (spec.lacks offered name.now) result }
+{
+    if offered {
+        return Ok(());
+    }
+    let name = Text::new(alloc, name)?;
+    Err(fetch::Error::Fetch(WireError::MissingFeature { name }))
+}
+
+fn needs_border(border: &Border, shallow: &Shallow) -> bool
+    ensures { result ≡ spec.is_border_needed border.now shallow.now }
+{
+    !border.commits().is_empty() || !matches!(shallow, Shallow::NoChange)
+}
+
+/// Refuses where fetching, plain packs or the border isn't offered: the first of them.
+fn refuse_first_lacking(
+    alloc: Global,
+    fetching: bool,
+    packs: bool,
+    borders: bool,
+) -> Result<(), fetch::Error>
+    ensures { Tells (option_or (spec.lacks fetching spec.fetch_feature) (option_or (spec.lacks packs plain_pack) (spec.lacks borders spec.shallow_feature))) result }
+{
+    refuse_unless(alloc, fetching, b"fetch")?;
+    refuse_unless(alloc, packs, b"plain-pack")?;
+    refuse_unless(alloc, borders, b"shallow")
+}
+
+/// Whether plain packs of either version are offered.
+#[tactic(auto, unfolding(crate::specs::ConverseStage::fetch_feature, fetch_wire::specs::RequestWords::plain_pack, fetch_wire::specs::RequestWords::plain_pack_2))]
+fn offers_packs(handshake: &Handshake) -> bool
+    ensures { result ≡ has_word plain_pack (value_of spec.fetch_feature handshake.now.capabilities) || has_word plain_pack_2 (value_of spec.fetch_feature handshake.now.capabilities) }
+{
+    handshake.supports(b"fetch", b"plain-pack") || handshake.supports(b"fetch", b"plain-pack-2")
+}
+
+/// Whether the border is offered, or the server needn't know of one.
+#[tactic(auto, unfolding(crate::specs::ConverseStage::fetch_feature, crate::specs::ConverseStage::shallow_feature))]
+fn handles_border(handshake: &Handshake, border: &Border, shallow: &Shallow) -> bool
+    ensures { result ≡ not (spec.is_border_needed border.now shallow.now) || has_word spec.shallow_feature (value_of spec.fetch_feature handshake.now.capabilities) }
+{
+    !needs_border(border, shallow) || handshake.supports(b"fetch", b"shallow")
+}
+
+/// Refuses a server that lacks fetching, plain packs, or the border where it has to know of one. One of version 1 lacks
+/// fetching.
+#[tactic(auto, unfolding(crate::specs::ConverseStage::fetch_feature))]
+pub(crate) fn refuse_lacking(
+    alloc: Global,
+    handshake: &Handshake,
+    border: &Border,
+    shallow: &Shallow,
+) -> Result<(), fetch::Error>
+    ensures { Tells (spec.lacked handshake.now (spec.is_border_needed border.now shallow.now)) result }
+{
+    match handshake.version {
+        Version::V1 => refuse_unless(alloc, false, b"fetch"),
+        Version::V2 => refuse_first_lacking(
+            alloc,
+            handshake.offers(b"fetch"),
+            offers_packs(handshake),
+            handles_border(handshake, border, shallow),
+        ),
+    }
+}
