@@ -46,6 +46,4 @@ mod requests;
 #[cfg(test)]
 mod saved_remotes;
 #[cfg(test)]
-mod sessions;
-#[cfg(test)]
 mod store;
