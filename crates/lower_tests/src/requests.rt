@@ -82,12 +82,7 @@ fn a_request_has_its_lines_in_order(rt: HostRuntime) -> Result<(), Fail> {
 }
 
 /// The line that asks for a pack, of a server whose `fetch=` has these words.
-fn pack_line_is(
-    rt: &impl Abort,
-    alloc: Global,
-    words: &[u8],
-    line: &[u8],
-) -> Result<(), Fail> {
+fn pack_line_is(rt: &impl Abort, alloc: Global, words: &[u8], line: &[u8]) -> Result<(), Fail> {
     let capabilities = vec![in alloc;
         Capability {
             name: Text::new(alloc, b"fetch")?,
@@ -119,7 +114,12 @@ fn pack_line_is(
 #[test]
 fn the_newest_pack_is_asked_for(rt: HostRuntime) -> Result<(), Fail> {
     let alloc = rt.alloc();
-    pack_line_is(&rt, alloc, b"shallow plain-pack plain-pack-2", b"plain-pack-2")?;
+    pack_line_is(
+        &rt,
+        alloc,
+        b"shallow plain-pack plain-pack-2",
+        b"plain-pack-2",
+    )?;
     pack_line_is(&rt, alloc, b"shallow plain-pack-2", b"plain-pack-2")?;
     pack_line_is(&rt, alloc, b"shallow plain-pack", b"plain-pack")
 }
