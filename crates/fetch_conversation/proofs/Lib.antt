@@ -1,3 +1,4 @@
+pub mod Nil
 pub mod Chained
 pub mod Mappings
 pub mod Served
