@@ -11,3 +11,4 @@ pub mod Replied
 pub mod Listings
 pub mod Requests
 pub mod Fetches
+pub mod Turns

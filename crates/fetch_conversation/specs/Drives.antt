@@ -1,5 +1,6 @@
 -- A session that is driven: what is to be sent is sent, and bytes are received while a reply is awaited.
-use Rattle.std.specs.Prelude.{◌≡◌, ◌≢◌, ◌⊎◌, ℕ, Bool, false, List, [], ◌++◌, Option, Some, None, Result, Ok, Err, ⊤}
+use Rattle.std.specs.Prelude.{◌≡◌, ◌≢◌, ◌⊎◌, ℕ, Bool, false, List, [], ◌++◌, Option, Some, None, Result, Ok, Err, OnOk, IsErrOf, ⊤}
+use Rattle.fetch_store.specs.Faults.{Faults, Rose, Counts}
 use Rattle.fetch_wire.specs.SessionStates.{SessionState, IsAlike, fed, ended, turn_of}
 use Rattle.fetch_wire.specs.Talks.{Talk, Talks, IsDrained, IsFront}
 use Rattle.fetch_wire.specs.declared.error.WireError.{WireError}
@@ -50,6 +51,16 @@ pub record Stops (answers : Bool) (old new : Option Talk) (s : SessionState) (e 
 abbrev pub Drives : {T : Type 0} → Bool → Option Talk → Option Talk → SessionState → SessionState → Result T Stop → Type 0
 Drives answers old new s now (Ok x) = Finishes answers old new s now
 Drives answers old new s now (Err e) = Stops answers old new s e
+
+-- The same, with the peer's count of faults and the interrupt's of yes answers: neither falls, each rose where its stop
+-- is told, and no Ok follows a yes.
+pub record IsDriven {T : Type 0} (answers : Bool) (old new : Option Talk) (s now : SessionState) (faults faults' yes yes' : Faults) (result : Result T Stop) : Type 0 where
+  pub driven : Drives answers old new s now result
+  pub counts : Counts faults faults'
+  pub failed : IsErrOf result stops.Failed → Rose faults faults'
+  pub asked : Counts yes yes'
+  pub interrupted : IsErrOf result stops.Interrupted → Rose yes yes'
+  pub uninterrupted : OnOk result (yes'.count ≡ yes.count)
 
 -- ---- one step
 

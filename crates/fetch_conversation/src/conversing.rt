@@ -120,12 +120,7 @@ fn refuse(alloc: Global, listed: &Listed, terms: &Terms<'_>) -> Result<(), fetch
 {
     refuse_unmapped(alloc, &listed.ref_map)?;
     refuse_other_hash(terms.settings.kind, listed.handshake.object_hash)?;
-    refuse_lacking(
-        alloc,
-        &listed.handshake,
-        &terms.view.border,
-        terms.shallow,
-    )
+    refuse_lacking(alloc, &listed.handshake, &terms.view.border, terms.shallow)
 }
 
 /// The request for the pack, which is to be sent.

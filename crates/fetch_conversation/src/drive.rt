@@ -2,7 +2,7 @@
 
 ghost use Rattle.std.specs.Prelude.{◌≡◌, ◌<◌, [], false, length, IfErr, OnOk, IsErrOf};
 ghost use Rattle.fetch_store.specs.Faults.{Rose, Counts};
-ghost use Rattle.fetch_conversation.specs.Drives.{IsDrivable, Drives, IsUnsent, Takes};
+ghost use Rattle.fetch_conversation.specs.Drives.{IsDrivable, Drives, IsDriven, IsUnsent, Takes};
 ghost use Rattle.fetch_wire.specs.SessionStates.{turn_of, IsAwaiting};
 ghost use Rattle.fetch_wire.specs.Talks.{Sends};
 ghost use Rattle.fetch_wire.specs.declared.turn.Turn.TheVariants as turns;
@@ -92,10 +92,33 @@ fn receive<P: Peer, I: Interrupt>(
     };
     if count == 0 {
         session.end()?;
-    } else {
-        session.feed(&buffer[..count])?;
+        return Ok(());
     }
+    session.feed(&buffer[..count])?;
     Ok(())
+}
+
+/// Sends and receives by this buffer until nothing is to be sent and no reply is awaited. The interrupt is asked before
+/// each receive.
+fn take_turns<P: Peer, I: Interrupt>(
+    session: &mut Session,
+    peer: &mut P,
+    interrupt: &mut I,
+    buffer: &mut [u8],
+) -> Result<(), Stop>
+    requires drivable { IsDrivable session.old }
+    requires room { 0 < length buffer.old }
+    ensures { IsDriven P.answers (P.told peer.old) (P.told peer.new) session.old session.new (P.faults peer.old) (P.faults peer.new) (I.yes interrupt.old) (I.yes interrupt.new) result }
+{
+    'turns: for _ in 0..u64::MAX {
+        match session.poll() {
+            Turn::Send => send(session, peer)?,
+            Turn::Receive => receive(session, peer, interrupt, buffer)?,
+            Turn::Idle => return Ok(()),
+            Turn::Failed => session.end()?,
+        }
+    }
+    Err(Stop::Refused(WireError::NoMemory))
 }
 
 /// Sends and receives until nothing is to be sent and no reply is awaited. The interrupt is asked before each receive.
@@ -114,13 +137,5 @@ pub(crate) fn drive<P: Peer, I: Interrupt>(
     ensures uninterrupted { OnOk result ((I.yes interrupt.new).count ≡ (I.yes interrupt.old).count) }
 {
     let mut buffer = vec![in alloc; 0u8; PIECE]?;
-    for _ in 0..u64::MAX {
-        match session.poll() {
-            Turn::Send => send(session, peer)?,
-            Turn::Receive => receive(session, peer, interrupt, &mut buffer)?,
-            Turn::Idle => return Ok(()),
-            Turn::Failed => session.end()?,
-        }
-    }
-    Err(Stop::Refused(WireError::NoMemory))
+    take_turns(session, peer, interrupt, &mut buffer)
 }

@@ -105,9 +105,8 @@ returns-clause-answer c =
     let q : InquiryValue = record { address = c.args.inquiry.now.address.now; agent = c.args.inquiry.now.agent.now; specs = c.args.inquiry.now.specs.now; tags = c.args.inquiry.now.tags; options = c.args.options.now } in
     let all : c.args.specs.now ≡ all_specs q = c.requires.specs ∙ ap (λ (l : List Spec). q.specs ++ l) c.requires.extra in
     let m = rw c.as_slice.ensures at c.in_ok-mappings.ensures.mapped in
-    let n = rw c.as_slice.ensures at c.in_ok-mappings.ensures.clear in
-    (
+    let n = rw c.as_slice.ensures at c.in_ok-mappings.ensures.clear in (
       found_by q c.args.session c.in_ok-handshake.handshake c.in_ok-handshake.refs c.args.specs.now c.from-2.result c.from-3.result c.from.result c.in_ok-handshake.ensures.told all n
-      (c.from.ensures ∙ m) (c.from-2.ensures ∙ c.in_ok-copied_specs.ensures) (c.from-3.ensures ∙ c.requires.extra),
+          (c.from.ensures ∙ m) (c.from-2.ensures ∙ c.in_ok-copied_specs.ensures) (c.from-3.ensures ∙ c.requires.extra),
       refl,
     )
