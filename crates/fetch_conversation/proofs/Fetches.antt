@@ -20,7 +20,7 @@ use Rattle.fetch_wire.specs.Written.{lines_text, first_too_long, TellsTooLong}
 use Rattle.fetch_wire.proofs.SessionAlike.{stays_alike}
 use Rattle.fetch_negotiate.specs.Requests.{fetch_request}
 use Rattle.fetch_conversation.specs.Conversation.{Conversation, ends, asks, sent_in, answer_in, Concludes, RefusesWith, Converses}
-use Rattle.fetch_conversation.specs.Conversing.{Tells, received_of, found_in, IsAsked}
+use Rattle.fetch_conversation.specs.Conversing.{Tells, IsClear, received_of, found_in, IsAsked}
 use Rattle.fetch_conversation.specs.ConverseStage.{TermsValue, asked_by, unmapped, unlike, lacked, is_border_needed, too_long, failed, replied, reply_to, received, fetching, wanting, converse_stage, other_reply}
 use Rattle.fetch_conversation.specs.Drives.{IsDrivable, Finishes, Stops}
 use Rattle.fetch_conversation.specs.Errors.{is_free_receiving, fetch_of_wire, fetch_of_stop}
@@ -69,12 +69,6 @@ pub lacking_stage : (T : Type 0) (bound : ℕ) (t : TermsValue) (e : Error) → 
     → is_free_receiving e ≡ false → converse_stage bound t ≡ ends (Err e)
 unfolding converse_stage
 lacking_stage T bound t e none same h isnt = rw (none, same, some_told T (lacked t.listed.handshake (is_border_needed t.view.border t.shallow)) e h isnt) refl
-
--- nothing is refused before anything is sent
-pub record IsClear (t : TermsValue) : Type 0 where
-  pub mapped : unmapped t.listed.ref_map ≡ None
-  pub alike : unlike t.hash t.listed.handshake.object_hash ≡ None
-  pub offered : lacked t.listed.handshake (is_border_needed t.view.border t.shallow) ≡ None
 
 clear_stage : (bound : ℕ) (t : TermsValue) → IsClear t → converse_stage bound t ≡ wanting bound t t.view.wants
 unfolding converse_stage

@@ -1,3 +1,4 @@
+pub mod Nil
 pub mod Chained
 pub mod Mappings
 pub mod Served
@@ -11,5 +12,3 @@ pub mod Listings
 pub mod Requests
 pub mod Fetches
 pub mod Turns
-pub mod Unmapped
-pub mod Lacking

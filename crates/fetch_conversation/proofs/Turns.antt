@@ -1,6 +1,6 @@
 -- Turn by turn, a session goes on until it rests or stops.
-use Rattle.std.proofs.Common.{◌≡◌, ◌≢◌, ℕ, Bool, false, List, [], ◌++◌, Option, Some, None, Result, Ok, Err, refl, sym, ◌∙◌}
-use Rattle.std.specs.Prelude.{◌⊎◌, IsErrOf, OnOk}
+use Rattle.std.proofs.Common.{◌≡◌, ℕ, Bool, false, List, [], Option, Ok, Err, refl, ◌∙◌}
+use Rattle.std.specs.Prelude.{IsErrOf}
 use Rattle.fetch_store.specs.Faults.{Faults, Rose, Counts, Counts-none, Counts-then, Rose-earlier}
 use Rattle.fetch_wire.specs.SessionStates.{SessionState, IsAlike, fed, ended, refusal_of, turn_of, Answers}
 use Rattle.fetch_wire.specs.Talks.{Talk, Talks, IsFront}
@@ -10,7 +10,7 @@ use Rattle.fetch_wire.specs.declared.turn.Turn.TheVariants as turns
 use Rattle.fetch_conversation.specs.Drives.{IsDrivable, GoesOn, IsDriven, IsUnsent, Takes}
 use Rattle.fetch_conversation.specs.declared.drive.Stop.{Stop}
 use Rattle.fetch_conversation.specs.declared.drive.Stop.TheVariants as stops
-use Rattle.fetch_conversation.proofs.Driven.{goes_none, goes_sent, goes_fed, stops_sending, stops_receiving, stops_free, stops_refused, taken_refused, refused_answers}
+use Rattle.fetch_conversation.proofs.Driven.{goes_none, goes_sent, goes_fed, stops_sending, stops_receiving, stops_free, stops_refused, taken_refused}
 
 -- what holds before each turn
 pub record Holds (answers : Bool) (old now : Option Talk) (s t : SessionState) (faults faults' yes yes' : Faults) : Type 0 where

@@ -9,8 +9,9 @@ use Rattle.fetch_wire.specs.SessionStates.{SessionState, IsAlike, requested}
 use Rattle.fetch_wire.specs.SessionStates as session
 use Rattle.fetch_wire.specs.Written.{first_too_long}
 use Rattle.fetch_wire.specs.declared.records.Request.{Request}
-use Rattle.fetch_conversation.specs.ConverseStage.{TermsValue, asked_by, reply_to, without_pack, unpacked, other_reply}
-use Rattle.fetch_conversation.specs.Errors.{is_free_receiving}
+use Rattle.fetch_conversation.specs.Conversation.{ends}
+use Rattle.fetch_conversation.specs.ConverseStage.{TermsValue, asked_by, reply_to, without_pack, unpacked, other_reply, unmapped, unlike, lacked, is_border_needed, converse_stage}
+use Rattle.fetch_conversation.specs.Errors.{is_free_receiving, is_client, is_stopped}
 use Rattle.fetch_conversation.specs.declared.conversing.Received.{Received}
 use Rattle.fetch_conversation.specs.declared.fetch.Error.{Error}
 use Rattle.fetch_conversation.specs.declared.fetch.Error.TheVariants as errors
@@ -21,6 +22,20 @@ Tells None (Ok x) = ⊤
 Tells None (Err e) = e ≡ errors.NoMemory
 Tells (Some e) (Ok x) = ⊥
 Tells (Some e) (Err f) = f ≢ errors.NoMemory → f ≡ e
+
+-- nothing is refused before anything is sent
+pub record IsClear (t : TermsValue) : Type 0 where
+  pub mapped : unmapped t.listed.ref_map ≡ None
+  pub alike : unlike t.hash t.listed.handshake.object_hash ≡ None
+  pub offered : lacked t.listed.handshake (is_border_needed t.view.border t.shallow) ≡ None
+
+-- The stage is this refusal, unless it is a free one.
+abbrev pub IsRefusal : TermsValue → Error → Type 0
+IsRefusal t e = is_free_receiving e ≡ false → (bound : ℕ) → converse_stage bound t ≡ ends (Err e)
+
+-- neither a fault of the peer nor a yes of the interrupt
+abbrev pub IsOwn : Error → Type 0
+IsOwn e = (is_client e ≡ false) × (is_stopped e ≡ false)
 
 -- what a reply brings; in a dry run no pack is read
 abbrev pub received_of : Kind → Bool → FetchReply → Result (Option Received) Error

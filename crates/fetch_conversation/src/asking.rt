@@ -1,7 +1,9 @@
 //! The refspecs that a listing is asked for and mapped by.
 
 ghost use Rattle.std.specs.Prelude.{◌≡◌, [], ◌++◌, if◌then◌else◌, IfOk, OnOk};
+ghost use Rattle.std.specs.List.{list_any};
 ghost use Rattle.fetch_specs.specs.Prefixes.{prefixes_of};
+ghost use Rattle.fetch_specs.specs.Tagged.{is_tag_spec};
 ghost use Rattle.fetch_conversation.specs.ListStage.{with_tags};
 
 use fetch_specs::{RefSpec, Tags, prefixes};
@@ -39,6 +41,12 @@ pub(crate) fn joined_specs(
     Ok(specs)
 }
 
+fn any_takes_all_tags(specs: &[RefSpec]) -> bool
+    ensures { result ≡ list_any is_tag_spec specs.now }
+{
+    specs.iter().any(|spec| spec.is_all_tags())
+}
+
 /// The extra refspecs, with that of the tags where tags are taken.
 pub(crate) fn specs_with_tags(
     alloc: Global,
@@ -50,9 +58,10 @@ pub(crate) fn specs_with_tags(
     let mut specs = copied_specs(alloc, extra)?;
     match tags.to_refspec(alloc) {
         Ok(Some(spec)) => {
-            if !extra.iter().any(|other| other.is_all_tags()) {
-                specs.push(spec)?;
+            if any_takes_all_tags(extra) {
+                return Ok(specs);
             }
+            specs.push(spec)?;
             Ok(specs)
         }
         Ok(None) => Ok(specs),

@@ -5,7 +5,7 @@ ghost use Rattle.fetch_store.specs.Faults.{Rose, Counts};
 ghost use Rattle.fetch_store.specs.Stores.{AreOf};
 ghost use Rattle.fetch_conversation.specs.Conversation.{Converses};
 ghost use Rattle.fetch_conversation.specs.ConverseStage.{TermsValue, asked_by, converse_stage};
-ghost use Rattle.fetch_conversation.specs.Conversing.{IsAsked};
+ghost use Rattle.fetch_conversation.specs.Conversing.{IsAsked, IsClear, IsRefusal, IsOwn};
 ghost use Rattle.fetch_negotiate.specs.Requests.{fetch_request};
 ghost use Rattle.fetch_wire.specs.Written.{first_too_long, TellsTooLong};
 ghost use Rattle.fetch_conversation.specs.Errors.{is_free_receiving};
@@ -96,6 +96,33 @@ pub struct Terms<'a> {
     pub dry_run: bool,
 }
 
+/// Refuses before anything is sent.
+fn refuse(alloc: Global, listed: &Listed, terms: &Terms<'_>) -> Result<(), fetch::Error>
+    ensures clear { OnOk result (IsClear (record {
+      listed = shown listed.now;
+      hash = terms.now.settings.now.kind;
+      view = terms.now.view.now;
+      agent = terms.now.agent.now;
+      tags = terms.now.tags;
+      shallow = terms.now.shallow.now;
+      dry_run = terms.now.dry_run;
+    })) }
+    ensures refused { IfErr result (λ e. IsRefusal (record {
+      listed = shown listed.now;
+      hash = terms.now.settings.now.kind;
+      view = terms.now.view.now;
+      agent = terms.now.agent.now;
+      tags = terms.now.tags;
+      shallow = terms.now.shallow.now;
+      dry_run = terms.now.dry_run;
+    }) e) }
+    ensures own { IfErr result (λ e. IsOwn e) }
+{
+    refuse_unmapped(alloc, &listed.ref_map)?;
+    refuse_other_hash(terms.settings.kind, listed.handshake.object_hash)?;
+    refuse_lacking(alloc, &listed.handshake, &terms.view.border, terms.shallow)
+}
+
 /// The request for the pack, which is to be sent.
 fn ask(alloc: Global, listed: &mut Listed, terms: &Terms<'_>) -> Result<(), WireError>
     requires { IsReady listed.old }
@@ -167,11 +194,8 @@ pub fn converse<R: Threads + Sync, P: Peer, I: Interrupt, Q: Progress, O: Object
 {
     let _ = objects;
     let kind = listed.handshake.object_hash;
-    let (border, wants) = (&terms.view.border, terms.view.wants.as_slice());
-    refuse_unmapped(alloc, &listed.ref_map)?;
-    refuse_other_hash(terms.settings.kind, kind)?;
-    refuse_lacking(alloc, &listed.handshake, border, terms.shallow)?;
-    if wants.is_empty() {
+    refuse(alloc, listed, terms)?;
+    if terms.view.wants.is_empty() {
         return Ok(None);
     }
     ask(alloc, listed, terms)?;

@@ -1,10 +1,10 @@
 //! Listing the references of a remote, and mapping them.
 
-ghost use Rattle.std.specs.Prelude.{◌≡◌, [], true, false, ◌++◌, IfOk, IfErr, OnOk, IsErrOf};
+ghost use Rattle.std.specs.Prelude.{◌≡◌, [], true, false, ◌&&◌, ◌++◌, IfOk, IfErr, OnOk, IsErrOf};
 ghost use Rattle.fetch_store.specs.Faults.{Rose, Counts};
 ghost use Rattle.fetch_conversation.specs.Conversation.{Converses};
-ghost use Rattle.fetch_conversation.specs.Errors.{is_free_listing};
-ghost use Rattle.fetch_conversation.specs.ListStage.{InquiryValue, list_stage, answer_shown, left_by, IsReady, all_specs, with_tags};
+ghost use Rattle.fetch_conversation.specs.Errors.{is_free_listing, is_transport, is_interrupted};
+ghost use Rattle.fetch_conversation.specs.ListStage.{InquiryValue, list_stage, answer_shown, left_by, IsReady, all_specs, with_tags, is_nil};
 ghost use Rattle.fetch_conversation.specs.Listing.{IsOpened, TellsUnopened, TellsUntold, Answers};
 ghost use Rattle.fetch_wire.specs.SessionStates.{turn_of};
 ghost use Rattle.fetch_wire.specs.declared.turn.Turn.TheVariants as turns;
@@ -103,6 +103,8 @@ fn map_listed(
     requires unrefused { session.refused ≡ false }
     ensures answer { Answers (record { address = inquiry.now.address.now; agent = inquiry.now.agent.now; specs = inquiry.now.specs.now; tags = inquiry.now.tags; options = options.now }) session result }
     ensures ready { IfOk result (λ l. IsReady l) }
+    ensures heard { IfErr result (λ e. is_transport e ≡ false) }
+    ensures uninterrupted { IfErr result (λ e. is_interrupted e ≡ false) }
 {
     let (handshake, refs) = told(alloc, &session)?;
     let own = inquiry.specs;
@@ -120,6 +122,19 @@ fn map_listed(
         ref_map,
         handshake,
     })
+}
+
+fn are_none(specs: &[RefSpec]) -> bool
+    ensures { result ≡ is_nil specs.now }
+{
+    specs.is_empty()
+}
+
+/// Whether neither the remote nor the options name a refspec.
+fn names_none(inquiry: &Inquiry<'_>, options: &Options) -> bool
+    ensures { result ≡ (is_nil inquiry.now.specs.now && is_nil options.now.extra_refspecs) }
+{
+    are_none(inquiry.specs) && are_none(options.extra_refspecs.as_slice())
 }
 
 /// Asks for the greeting, then for the listing, and maps what is listed. The interrupt is asked before each receive.
@@ -140,7 +155,7 @@ pub fn list<P: Peer, I: Interrupt>(
     ensures interrupted { IsErrOf result (errors.RefMap ref_map_errors.Interrupted) → Rose (I.yes interrupt.old) (I.yes interrupt.new) }
     ensures uninterrupted { OnOk result ((I.yes interrupt.new).count ≡ (I.yes interrupt.old).count) }
 {
-    if inquiry.specs.is_empty() && options.extra_refspecs.is_empty() {
+    if names_none(inquiry, &options) {
         return Err(prepare::Error::MissingRefSpecs);
     }
     let extra = specs_with_tags(alloc, inquiry.tags, options.extra_refspecs.as_slice())?;

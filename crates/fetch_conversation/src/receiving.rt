@@ -3,7 +3,7 @@
 ghost use Rattle.std.specs.Prelude.{◌≡◌, false, Some, Ok, Err, IfOk, IfErr};
 ghost use Rattle.fetch_store.specs.Stores.{AreOf};
 ghost use Rattle.fetch_conversation.specs.ConverseStage.{only_rounds, without_pack};
-ghost use Rattle.fetch_conversation.specs.Conversing.{received_of};
+ghost use Rattle.fetch_conversation.specs.Conversing.{received_of, IsOwn};
 ghost use Rattle.fetch_conversation.specs.Errors.{is_free_receiving};
 
 use crate::conversing::Received;
@@ -65,6 +65,7 @@ pub(crate) fn received<R: Threads + Sync>(
     ensures received { IfOk result (λ r. received_of kind dry_run reply.now ≡ Ok (Some r)) }
     ensures refused { IfErr result (λ e. is_free_receiving e ≡ false → received_of kind dry_run reply.now ≡ Err e) }
     ensures of_kind { IfOk result (λ r. AreOf kind r.objects) }
+    ensures own { IfErr result (λ e. IsOwn e) }
 {
     let mut received = unpacked(alloc, reply)?;
     if dry_run {

@@ -1,13 +1,13 @@
 //! Why nothing is sent for a pack.
 
-ghost use Rattle.std.specs.Prelude.{◌≡◌, ◌||◌, ◌++◌, not, None, Some, IfErr, OnOk, length};
-ghost use Rattle.std.specs.List.{list_any};
-ghost use Rattle.std.specs.Option.{option_copied, option_or};
+ghost use Rattle.std.specs.Prelude.{◌≡◌, ◌||◌, not, None, Some, IfErr, OnOk, length};
 ghost use Rattle.fetch_wire.specs.Greetings.{has_word, value_of};
 ghost use Rattle.fetch_wire.specs.RequestWords.{plain_pack, plain_pack_2};
+ghost use Rattle.std.specs.List.{list_any};
+ghost use Rattle.std.specs.Option.{option_copied, option_or};
 ghost use Rattle.fetch_conversation.specs.ConverseStage as spec;
 ghost use Rattle.fetch_conversation.specs.ConverseStage.{TermsValue};
-ghost use Rattle.fetch_conversation.specs.Conversing.{Tells};
+ghost use Rattle.fetch_conversation.specs.Conversing.{Tells, IsOwn};
 ghost use Rattle.fetch_conversation.specs.declared.fetch.Error.TheVariants as errors;
 
 use crate::asking::joined_specs;
@@ -34,32 +34,37 @@ fn has_star(source: Option<&[u8]>) -> bool
     }
 }
 
+/// Whether some refspec names one.
 fn any_names_one(refspecs: &[RefSpec]) -> bool
     ensures { result ≡ list_any spec.names_one refspecs.now }
 {
     refspecs.iter().any(names_one)
 }
 
-/// Whether some refspec of these lists names one.
-#[tactic(auto, using(crate::proofs::Unmapped::any_either))]
-fn either_names_one(own: &[RefSpec], extra: &[RefSpec]) -> bool
-    ensures { result ≡ list_any spec.names_one (own.now ++ extra.now) }
+/// Whether some refspec of the mapping names one.
+fn maps_by_name(map: &RefMap) -> bool
+    ensures { result ≡ list_any spec.names_one (spec.specs_of map.now) }
 {
-    any_names_one(own) || any_names_one(extra)
+    any_names_one(map.refspecs.as_slice()) || any_names_one(map.extra_refspecs.as_slice())
 }
 
 /// Whether references are advertised, none of them is mapped, and some refspec names one.
 fn is_unmapped(map: &RefMap) -> bool
     ensures { result ≡ spec.is_unmapped map.now }
 {
-    map.mappings.is_empty()
-        && !map.remote_refs.is_empty()
-        && either_names_one(map.refspecs.as_slice(), map.extra_refspecs.as_slice())
+    if map.remote_refs.is_empty() {
+        return false;
+    }
+    if map.mappings.is_empty() {
+        return maps_by_name(map);
+    }
+    false
 }
 
 /// Refuses where nothing is mapped that a refspec names.
 pub(crate) fn refuse_unmapped(alloc: Global, map: &RefMap) -> Result<(), fetch::Error>
-    ensures { Tells (spec.unmapped map.now) result }
+    ensures told { Tells (spec.unmapped map.now) result }
+    ensures own { IfErr result (λ e. IsOwn e) }
 {
     if !is_unmapped(map) {
         return Ok(());
@@ -77,7 +82,8 @@ pub(crate) fn refuse_unmapped(alloc: Global, map: &RefMap) -> Result<(), fetch::
 
 /// Refuses a server that names objects by another hash.
 pub(crate) fn refuse_other_hash(local: Kind, remote: Kind) -> Result<(), fetch::Error>
-    ensures { Tells (spec.unlike local remote) result }
+    ensures told { Tells (spec.unlike local remote) result }
+    ensures own { IfErr result (λ e. IsOwn e) }
 {
     match (local, remote) {
         (Kind::Sha1, Kind::Sha1) | (Kind::Sha256, Kind::Sha256) => Ok(()),
@@ -87,7 +93,8 @@ pub(crate) fn refuse_other_hash(local: Kind, remote: Kind) -> Result<(), fetch::
 
 /// Refuses where this isn't offered.
 fn refuse_unless(alloc: Global, offered: bool, name: &[u8]) -> Result<(), fetch::Error>
-    ensures { Tells (spec.lacks offered name.now) result }
+    ensures told { Tells (spec.lacks offered name.now) result }
+    ensures own { IfErr result (λ e. IsOwn e) }
 {
     if offered {
         return Ok(());
@@ -102,34 +109,35 @@ fn needs_border(border: &Border, shallow: &Shallow) -> bool
     !border.commits().is_empty() || !matches!(shallow, Shallow::NoChange)
 }
 
-/// Refuses where fetching, plain packs or the border isn't offered: the first of them.
-fn refuse_first_lacking(
-    alloc: Global,
-    fetching: bool,
-    packs: bool,
-    borders: bool,
-) -> Result<(), fetch::Error>
-    ensures { Tells (option_or (spec.lacks fetching spec.fetch_feature) (option_or (spec.lacks packs plain_pack) (spec.lacks borders spec.shallow_feature))) result }
-{
-    refuse_unless(alloc, fetching, b"fetch")?;
-    refuse_unless(alloc, packs, b"plain-pack")?;
-    refuse_unless(alloc, borders, b"shallow")
-}
-
 /// Whether plain packs of either version are offered.
 #[tactic(auto, unfolding(crate::specs::ConverseStage::fetch_feature, fetch_wire::specs::RequestWords::plain_pack, fetch_wire::specs::RequestWords::plain_pack_2))]
 fn offers_packs(handshake: &Handshake) -> bool
-    ensures { result ≡ has_word plain_pack (value_of spec.fetch_feature handshake.now.capabilities) || has_word plain_pack_2 (value_of spec.fetch_feature handshake.now.capabilities) }
+    ensures { result ≡ (has_word plain_pack (value_of spec.fetch_feature handshake.now.capabilities) || has_word plain_pack_2 (value_of spec.fetch_feature handshake.now.capabilities)) }
 {
     handshake.supports(b"fetch", b"plain-pack") || handshake.supports(b"fetch", b"plain-pack-2")
 }
 
-/// Whether the border is offered, or the server needn't know of one.
+/// Whether the border is offered where the server has to know of one.
 #[tactic(auto, unfolding(crate::specs::ConverseStage::fetch_feature, crate::specs::ConverseStage::shallow_feature))]
-fn handles_border(handshake: &Handshake, border: &Border, shallow: &Shallow) -> bool
-    ensures { result ≡ not (spec.is_border_needed border.now shallow.now) || has_word spec.shallow_feature (value_of spec.fetch_feature handshake.now.capabilities) }
+fn offers_border(handshake: &Handshake, border: &Border, shallow: &Shallow) -> bool
+    ensures { result ≡ (not (spec.is_border_needed border.now shallow.now) || has_word spec.shallow_feature (value_of spec.fetch_feature handshake.now.capabilities)) }
 {
     !needs_border(border, shallow) || handshake.supports(b"fetch", b"shallow")
+}
+
+/// Refuses the first of these that isn't offered.
+fn refuse_unoffered(
+    alloc: Global,
+    fetch: bool,
+    packs: bool,
+    border: bool,
+) -> Result<(), fetch::Error>
+    ensures told { Tells (option_or (spec.lacks fetch spec.fetch_feature) (option_or (spec.lacks packs plain_pack) (spec.lacks border spec.shallow_feature))) result }
+    ensures own { IfErr result (λ e. IsOwn e) }
+{
+    refuse_unless(alloc, fetch, b"fetch")?;
+    refuse_unless(alloc, packs, b"plain-pack")?;
+    refuse_unless(alloc, border, b"shallow")
 }
 
 /// Refuses a server that lacks fetching, plain packs, or the border where it has to know of one. One of version 1 lacks
@@ -141,15 +149,16 @@ pub(crate) fn refuse_lacking(
     border: &Border,
     shallow: &Shallow,
 ) -> Result<(), fetch::Error>
-    ensures { Tells (spec.lacked handshake.now (spec.is_border_needed border.now shallow.now)) result }
+    ensures told { Tells (spec.lacked handshake.now (spec.is_border_needed border.now shallow.now)) result }
+    ensures own { IfErr result (λ e. IsOwn e) }
 {
     match handshake.version {
         Version::V1 => refuse_unless(alloc, false, b"fetch"),
-        Version::V2 => refuse_first_lacking(
+        Version::V2 => refuse_unoffered(
             alloc,
             handshake.offers(b"fetch"),
             offers_packs(handshake),
-            handles_border(handshake, border, shallow),
+            offers_border(handshake, border, shallow),
         ),
     }
 }
