@@ -107,10 +107,11 @@ fn an_unknown_default_is_told(rt: HostRuntime) -> Result<(), Fail> {
     let remote = origin(alloc, &file);
     let push = Direction::Push;
     match branch_remote_ref_name(alloc, &file, remote.as_ref(), &main, push, false) {
-        Some(Err(Error::PushDefault { value })) => {
-            assert!(rt; value.as_bytes() == b"most".as_slice())
-        }
-        _ => assert!(rt; false),
+        Some(Err(e)) => match e {
+            Error::PushDefault { value } => { assert!(rt; value.as_bytes() == b"most".as_slice()) }
+            _other => assert!(rt; false),
+        },
+        _other => assert!(rt; false),
     }
     let lenient = branch_remote_ref_name(alloc, &file, remote.as_ref(), &main, push, true);
     assert!(rt; is_name(lenient, b"refs/heads/main"));
@@ -143,10 +144,13 @@ fn a_branch_follows_nothing(rt: HostRuntime) -> Result<(), Fail> {
     let file = read(alloc, &[ORIGIN])?;
     let branch = FullName::new(alloc, b"refs/heads/x")?;
     match upstream_branch_and_remote_for_tracking_branch(alloc, &file, &branch) {
-        Err(UpstreamError::BranchCategory { full_name }) => {
-            assert!(rt; full_name.as_bytes() == b"refs/heads/x".as_slice())
-        }
-        _ => assert!(rt; false),
+        Err(e) => match e {
+            UpstreamError::BranchCategory { full_name } => {
+                assert!(rt; full_name.as_bytes() == b"refs/heads/x".as_slice())
+            }
+            _other => assert!(rt; false),
+        },
+        Ok(_found) => assert!(rt; false),
     }
     Ok(())
 }
@@ -160,15 +164,18 @@ fetch = refs/heads/b:refs/remotes/origin/main\nfetch = refs/heads/c:refs/remotes
     let file = read(alloc, &[ORIGIN, more])?;
     let tracking = FullName::new(alloc, b"refs/remotes/origin/main")?;
     match upstream_branch_and_remote_for_tracking_branch(alloc, &file, &tracking) {
-        Err(UpstreamError::AmbiguousRemotes { remotes }) => match remotes.as_slice() {
-            [z, a, origin] => {
-                assert!(rt; z.as_bytes() == b"z".as_slice());
-                assert!(rt; a.as_bytes() == b"a".as_slice());
-                assert!(rt; origin.as_bytes() == b"origin".as_slice());
-            }
-            _ => assert!(rt; false),
+        Err(e) => match e {
+            UpstreamError::AmbiguousRemotes { remotes } => match remotes.as_slice() {
+                [z, a, origin] => {
+                    assert!(rt; z.as_bytes() == b"z".as_slice());
+                    assert!(rt; a.as_bytes() == b"a".as_slice());
+                    assert!(rt; origin.as_bytes() == b"origin".as_slice());
+                }
+                _ => assert!(rt; false),
+            },
+            _other => assert!(rt; false),
         },
-        _ => assert!(rt; false),
+        Ok(_found) => assert!(rt; false),
     }
     Ok(())
 }
