@@ -1,6 +1,5 @@
 -- A fetch from a peer that says these bytes and never fails.
 use Rattle.std.specs.Prelude.{◌≡◌, ℕ, List, Result, Ok, Err, ⊤}
-use Rattle.fetch_wire.specs.Talks.{IsFront}
 use Rattle.fetch_wire.specs.Written.{lines_text}
 use Rattle.fetch_remote.specs.Fetching.{fetched_in, requests_in, left_in}
 use Rattle.fetch_remote.specs.Form.{Given}
@@ -14,13 +13,13 @@ pub record HasDone (g : Given) (found : State) (stream : List ℕ) (outcome : Ou
   pub fetched : fetched_in g found stream ≡ Ok (outcome, left)
   pub requests : heard ≡ lines_text (requests_in g found stream)
 
--- It was refused, and the peer heard a front of the requests.
+-- It was refused, and the peer heard all requests up to that.
 pub record HasRefused (g : Given) (found : State) (stream : List ℕ) (e : FetchError) (now : State) (heard : List ℕ) : Type 0 where
   pub fetched : fetched_in g found stream ≡ Err e
   pub left : now ≡ left_in g found stream
-  pub front : IsFront heard (lines_text (requests_in g found stream))
+  pub requests : heard ≡ lines_text (requests_in g found stream)
 
--- The peer doesn't fail; memory may.
+-- The peer doesn't fail, and nobody interrupts; memory may run out.
 abbrev pub HasRefusedBy : Given → State → List ℕ → FetchError → State → List ℕ → Type 0
 HasRefusedBy g found stream errors.NoMemory left heard = ⊤
 HasRefusedBy g found stream errors.Unbuilt left heard = HasRefused g found stream errors.Unbuilt left heard

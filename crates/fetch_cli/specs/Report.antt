@@ -1,5 +1,5 @@
 -- The report of a scene.
-use Rattle.std.specs.Prelude.{◌≡◌, ◌≢◌, ℕ, pos, List, [], ◌∷◌, ◌++◌, codes, Option, Some, None, Result, Ok, Err, if◌then◌else◌}
+use Rattle.std.specs.Prelude.{◌≡◌, ◌≢◌, ℕ, Bool, true, false, pos, List, [], ◌∷◌, ◌++◌, codes, Option, Some, None, Result, Ok, Err, if◌then◌else◌}
 use Rattle.std.specs.FinMap as map
 use Rattle.std.specs.List.{concat, flat_map, slice_get}
 use Rattle.fetch_store.specs.Borders.{ids_of}
@@ -9,7 +9,6 @@ use Rattle.fetch_specs.specs.Specs.{Spec}
 use Rattle.fetch_refs.specs.Logs.{lines_of}
 use Rattle.fetch_refs.specs.Names.{Names, Logs, RefsValue}
 use Rattle.fetch_refs.specs.declared.log.Signature.{Signature}
-use Rattle.fetch_wire.specs.Talks.{IsFront}
 use Rattle.fetch_wire.specs.Written.{lines_text}
 use Rattle.fetch_wire.specs.declared.line.Line.{Line}
 use Rattle.fetch_wire.specs.declared.mapping.Mapping.{Mapping}
@@ -162,25 +161,18 @@ pub record Tells (old new : List ℕ) (status : ℕ) (result : Result Outcome Fe
   pub known : result ≢ Err errors.NoMemory
   pub added : new ≡ old ++ text
 
--- the report of a scene whose peer heard these bytes
-unfoldable pub report_by : Scene → List ℕ → ℕ × List ℕ
-report_by s heard = report_with (lines_heard heard) (fetched_by s) (left_by s)
+-- whether there are any
+abbrev pub are_some : {X : Type 0} → List X → Bool
+are_some [] = false
+are_some (x ∷ xs) = true
 
--- the report of a scene: all requests were sent
+-- the report of a scene: the requests for all that its peer says were sent; work trees aren't built yet
 unfoldable pub report_of : Scene → ℕ × List ℕ
-report_of s = report_with (requests_in (given_of s) (found_of s) (stream_of s)) (fetched_by s) (left_by s)
+report_of s = if are_some s.worktrees then (6, unbuilt_line) else report_with (requests_in (given_of s) (found_of s) (stream_of s)) (fetched_by s) (left_by s)
 
--- A refused fetch may have sent a front of its requests.
-pub record IsRefusedReport (s : Scene) (text : List ℕ) : Type 0 where
-  pub heard : List ℕ
-  pub front : IsFront heard (requests_of s)
-  pub is : report_by s heard ≡ (1, text)
-
--- The status and the text are the report of the scene. At status 1, which is a refusal, a front of the requests may have
--- been sent.
+-- The status and the text are the report of the scene.
 pub record IsReport (s : Scene) (status : ℕ) (text : List ℕ) : Type 0 where
-  pub whole : status ≢ 1 → report_of s ≡ (status, text)
-  pub refused : status ≡ 1 → IsRefusedReport s text
+  pub whole : report_of s ≡ (status, text)
 
 -- The report of the scene stands behind what was there.
 pub record Reports (s : Scene) (old new : List ℕ) (status : ℕ) : Type 0 where

@@ -28,7 +28,7 @@ use crate::reporting::tokens::append_token;
 use crate::scene::Scene;
 use fetch_remote::{FetchError, Outcome, Repository, Status};
 use fetch_store::{List, MemoryFiles, NoMemory, Text};
-use fetch_update::{ScriptedWorktrees, Update, update};
+use fetch_update::{ScriptedWorktrees, Update, Worktree, update};
 use fetch_wire::{Mapping, ScriptedInterrupt, ScriptedPeer};
 use std::alloc::Global;
 use std::thread::Threads;
@@ -202,7 +202,7 @@ fn append_report(out: &mut Vec<u8>, fetched: &Fetched) -> Result<u8, NoMemory>
 }
 
 /// Fetches as a scene says, and puts the report behind what is there: its status, which is 0 where the fetch was done, 1
-/// where it was refused, and 6 where it isn't built yet. After an error a part of the report may stand there.
+/// where it was refused, and 6 where it isn't built yet, as work trees aren't. After an error a part of the report may stand there.
 ///
 /// The objects of the scene are of its hash, as those that are read are.
 pub fn report<R: Threads + Sync>(
@@ -214,7 +214,20 @@ pub fn report<R: Threads + Sync>(
     requires { AreOf scene.hash scene.objects }
     ensures { IfOk result (λ status. Reports scene out.old.items out.new.items status) }
 {
+    if has_worktrees(scene.worktrees.as_slice()) {
+        append_unbuilt(out)?;
+        return Ok(6);
+    }
     let setting = set_up(alloc, scene)?;
     let fetched = fetch(rt, alloc, setting);
     append_report(out, &fetched)
+}
+
+fn has_worktrees(worktrees: &[Worktree]) -> bool
+    ensures { result ≡ spec.are_some worktrees.now }
+{
+    match worktrees {
+        [] => false,
+        _ => true,
+    }
 }

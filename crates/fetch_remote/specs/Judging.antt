@@ -16,9 +16,9 @@ use Rattle.fetch_update.specs.declared.update.Outcome.{Outcome}
 use Rattle.fetch_wire.specs.declared.mapping.Mapping.{Mapping}
 use Rattle.fetch_wire.specs.declared.mapping.RefMap.{RefMap}
 use Rattle.fetch_wire.specs.declared.reference.Source.{Source}
-use Rattle.fetch_remote.specs.Errors.{fetch_of_update}
-use Rattle.fetch_remote.specs.declared.fetch.Error.{Error}
-use Rattle.fetch_remote.specs.declared.fetch.Error.TheVariants as errors
+use Rattle.fetch_conversation.specs.Errors.{fetch_of_update}
+use Rattle.fetch_conversation.specs.declared.fetch.Error.{Error}
+use Rattle.fetch_conversation.specs.declared.fetch.Error.TheVariants as errors
 
 abbrev pub full_name_in : List ℕ → Option (List ℕ)
 full_name_in text = if is_full_name text then Some text else None

@@ -1,12 +1,12 @@
-pub mod Conversation
-pub mod Ask
 pub mod Remotes
-pub mod Mapped
 pub mod Errors
-pub mod ListStage
 pub mod Repositories
-pub mod ConverseStage
 pub mod Judging
 pub mod Settling
 pub mod Form
+pub mod Stages
+pub mod Talking
 pub mod Fetching
+pub mod Fetched
+pub mod Refused
+pub mod Requested

@@ -14,7 +14,7 @@ use Rattle.fetch_remote.specs.declared.open_error.OpenError.{OpenError}
 use Rattle.fetch_remote.specs.declared.open_error.OpenError.TheVariants as errors
 use Rattle.fetch_remote.specs.declared.repository.Parts.{Parts}
 use Rattle.fetch_remote.specs.declared.repository.Repository.{Repository}
-use Rattle.fetch_remote.specs.declared.settings.Settings.{Settings}
+use Rattle.fetch_conversation.specs.declared.settings.Settings.{Settings}
 
 -- what a fetch may change: objects of this hash, the commits whose parents are left aside, and the references
 pub record State : Type 0 where

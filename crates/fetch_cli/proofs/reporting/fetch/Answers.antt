@@ -6,5 +6,11 @@ pub returns : goal.returns
 returns g c =
     let told = rw c.into_vec.ensures at c.new-peer.ensures.told in
     let sure = rw c.new.ensures.items at c.new-peer.ensures.faults in
-    fetched _ _ _ _ _ (concat c.args.setting.pieces) c.fetch-result.result told c.fetch-result.ensures.fetched c.fetch-result.ensures.refused
-    (λ e. no_fault _ _ sure c.fetch-result.ensures.counts (c.fetch-result.ensures.transport e)) (λ e. no_fault _ _ sure c.fetch-result.ensures.counts (c.fetch-result.ensures.client e))
+    let calm = rw c.new-2.ensures.items at c.new-interrupt.ensures.count in
+    let f = c.fetch-result.ensures in
+    fetched _ _ _ _ _ (concat c.args.setting.pieces) c.fetch-result.result told f.fetched f.refused (record {
+      transport = λ e. no_fault _ _ sure f.counts (f.transport e);
+      interrupted = λ e. no_fault _ _ calm f.asked (f.interrupted e);
+      client = λ e. no_fault _ _ sure f.counts (f.client e);
+      stopped = λ e. no_fault _ _ calm f.asked (f.stopped e);
+    })

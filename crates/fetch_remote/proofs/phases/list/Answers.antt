@@ -1,0 +1,6 @@
+use Rattle.fetch_remote.specs.Stages.{default_agent}
+use Rattle.fetch_remote.proofs.phases.list.Goals as goal
+
+pub returns-clause-held : goal.returns-clause-held
+unfolding default_agent
+returns-clause-held g c = rw (c.address.ensures, c.refspecs.ensures, c.fetch_tags.ensures) at c.list.ensures.held
