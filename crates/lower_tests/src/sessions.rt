@@ -1,35 +1,50 @@
 //! Conversations driven from outside, over what real Git gave.
 
 use fetch_store::{Kind, List, Text};
-use fetch_wire::conversation::Session;
-use fetch_wire::{ReplyBound, Request, Turn, Version, WireError};
+use fetch_wire::{ReplyBound, Request, Session, Turn, Version, WireError};
 use std::alloc::Global;
 use std::test::Fail;
 
-const FIRST: &[u8] = b"0026git-upload-pack /r.git\0\0version=2\0";
+fn first() -> &'static [u8] {
+    b"0026git-upload-pack /r.git\0\0version=2\0"
+}
 
-const GREETING: &[u8] = b"000eversion 2\n0015agent=git/2.39.5\n0013ls-refs=unborn\n\
+fn greeting() -> &'static [u8] {
+    b"000eversion 2\n0015agent=git/2.39.5\n0013ls-refs=unborn\n\
     0020fetch=shallow wait-for-done\n0012server-option\n0017object-format=sha1\n0010object-info\n\
-    0000";
+    0000"
+}
 
-const ASKED: &[u8] = b"0014command=ls-refs\n0013agent=git/test\n0017object-format=sha1\n\
-    0001000csymrefs\n0009peel\n000bunborn\n0000";
+fn asked() -> &'static [u8] {
+    b"0014command=ls-refs\n0013agent=git/test\n0017object-format=sha1\n\
+    0001000csymrefs\n0009peel\n000bunborn\n0000"
+}
 
-const LISTING: &[u8] = b"0050cd7e7787b0496c5d6773e15131fcf7a3396a5685 HEAD \
+fn listing() -> &'static [u8] {
+    b"0050cd7e7787b0496c5d6773e15131fcf7a3396a5685 HEAD \
     symref-target:refs/heads/main\n\
     003dcd7e7787b0496c5d6773e15131fcf7a3396a5685 refs/heads/main\n\
     006a18efc26427118872e9c1085eca73702fd2621248 refs/tags/v1 \
-    peeled:cd7e7787b0496c5d6773e15131fcf7a3396a5685\n0000";
+    peeled:cd7e7787b0496c5d6773e15131fcf7a3396a5685\n0000"
+}
 
-const REPLY: &[u8] = b"000dpackfile\n0008\x01abc0006\x02!0005\x010000";
+fn requested() -> &'static [u8] {
+    b"0012command=fetch\n00010009done\n0000"
+}
+
+fn reply() -> &'static [u8] {
+    b"000dpackfile\n0008\x01abc0006\x02!0005\x010000"
+}
 
 /// What the peer of the scene of one commit says: a greeting of 89 bytes, a listing of 65 and a reply of 164.
-const SAID: &[u8] = b"000eversion 2\n0013ls-refs=unborn\n001dfetch=shallow plain-pack\n\
+fn said() -> &'static [u8] {
+    b"000eversion 2\n0013ls-refs=unborn\n001dfetch=shallow plain-pack\n\
     0017object-format=sha1\n0000\
     003dbc6e39d85183dbf480419262896d4ffa452774ab refs/heads/main\n0000\
     000dpackfile\n0093\x01PLNP\x00\x00\x00\x01\x00\x00\x00\x02\x02\x00\x00\x00\x00\x01\x00\x00\x00\
     dtree 4b825dc642cb6eb9a060e54bf8d69288fbee4904\nauthor A <a@x> 1 +0000\n\
-    committer A <a@x> 1 +0000\n\none\n\xf2\x8ed\xe5K\xf0J\x95\x82E\xd4_u\xf4\x9bW\xf9W\xd9\x970000";
+    committer A <a@x> 1 +0000\n\none\n\xf2\x8ed\xe5K\xf0J\x95\x82E\xd4_u\xf4\x9bW\xf9W\xd9\x970000"
+}
 
 /// Where each line of it begins: in the whole, and in its reply.
 const LINES: [(usize, usize); 10] = [
@@ -46,18 +61,21 @@ const LINES: [(usize, usize); 10] = [
 ];
 
 /// What Git 2.39.5 says by version 1 of a commit and a tag.
-const ADVERTISED: &[u8] = b"000eversion 1\n\
+fn advertised() -> &'static [u8] {
+    b"000eversion 1\n\
     010bbc6e39d85183dbf480419262896d4ffa452774ab HEAD\0multi_ack thin-pack side-band \
     side-band-64k ofs-delta shallow deepen-since deepen-not deepen-relative no-progress \
     include-tag multi_ack_detailed no-done symref=HEAD:refs/heads/main object-format=sha1 \
     agent=git/2.39.5\n\
     003dbc6e39d85183dbf480419262896d4ffa452774ab refs/heads/main\n\
     003ae4b1957200d6af9735e74358ccde67fb1a0d6bc5 refs/tags/v1\n\
-    003dbc6e39d85183dbf480419262896d4ffa452774ab refs/tags/v1^{}\n0000";
+    003dbc6e39d85183dbf480419262896d4ffa452774ab refs/tags/v1^{}\n0000"
+}
 
 /// What a server without references says by version 1.
-const UNNAMED: &[u8] =
-    b"00500000000000000000000000000000000000000000 capabilities^{}\0object-format=sha1\n0000";
+fn unnamed() -> &'static [u8] {
+    b"00500000000000000000000000000000000000000000 capabilities^{}\0object-format=sha1\n0000"
+}
 
 fn opened(alloc: Global) -> Result<Session, WireError> {
     Session::new(alloc, b"/r.git", &[], b"test", &[], ReplyBound::default())
@@ -79,15 +97,32 @@ fn send_all(session: &mut Session) {
     session.sent(count);
 }
 
-/// The same session, behind these bytes, with all sent and, where nothing is awaited, a request made.
+/// Requests a pack, where nothing is awaited.
+fn ask(alloc: Global, session: &mut Session) -> Result<(), Fail> {
+    match session.poll() {
+        Turn::Idle => {
+            session.request(&request(alloc)?, true)?;
+            Ok(())
+        }
+        Turn::Send | Turn::Receive | Turn::Failed => Err(Fail::new("something is awaited")),
+    }
+}
+
+/// Sends all, and where nothing is awaited and no reply was told, requests a pack.
+fn go_on(alloc: Global, session: &mut Session) -> Result<(), Fail> {
+    send_all(session);
+    if turn(session) == Turn::Idle && session.reply().is_none() {
+        ask(alloc, session)?;
+        send_all(session);
+    }
+    Ok(())
+}
+
+/// The same session, behind these bytes.
 fn behind(alloc: Global, said: &[u8]) -> Result<Session, Fail> {
     let mut session = opened(alloc)?;
-    session.feed(said)?;
-    send_all(&mut session);
-    if session.poll() == Turn::Idle {
-        session.request(&request(alloc)?, true)?;
-        send_all(&mut session);
-    }
+    feed(&mut session, said)?;
+    go_on(alloc, &mut session)?;
     Ok(session)
 }
 
@@ -108,18 +143,41 @@ fn place_at(len: usize) -> usize {
     found
 }
 
+/// Whose turn it is. A call of a function without clauses keeps the tests' goals small.
+fn turn(session: &Session) -> Turn {
+    session.poll()
+}
+
+/// Feeds these bytes.
+fn feed(session: &mut Session, bytes: &[u8]) -> Result<(), WireError> {
+    session.feed(bytes)
+}
+
+/// The peer's bytes end.
+fn end(session: &mut Session) -> Result<(), WireError> {
+    session.end()
+}
+
+/// Feeds these bytes one by one, where each is awaited.
+fn feed_each(session: &mut Session, bytes: &[u8]) -> Result<(), Fail> {
+    for byte in bytes {
+        if turn(session) != Turn::Receive {
+            return Err(Fail::new("no byte is awaited"));
+        }
+        feed(session, &[*byte])?;
+    }
+    Ok(())
+}
+
 #[test]
 fn every_cut_tells_the_same(rt: HostRuntime) -> Result<(), Fail> {
-    assert_eq!(rt; SAID.len(), 318);
-    for cut in 0..=SAID.len() {
-        let mut session = behind(rt.alloc(), &SAID[..cut])?;
-        session.feed(&SAID[cut..])?;
-        send_all(&mut session);
-        if session.poll() == Turn::Idle && session.reply().is_none() {
-            session.request(&request(rt.alloc())?, true)?;
-            send_all(&mut session);
-        }
-        assert_eq!(rt; session.poll(), Turn::Idle);
+    let said = said();
+    assert_eq!(rt; said.len(), 318);
+    for cut in 0..=said.len() {
+        let mut session = behind(rt.alloc(), &said[..cut])?;
+        feed(&mut session, &said[cut..])?;
+        go_on(rt.alloc(), &mut session)?;
+        assert_eq!(rt; turn(&session), Turn::Idle);
         assert_eq!(rt; pack_len(&session), Some(142));
     }
     Ok(())
@@ -127,13 +185,17 @@ fn every_cut_tells_the_same(rt: HostRuntime) -> Result<(), Fail> {
 
 #[test]
 fn a_peer_that_ends_early_is_malformed_at_that_line(rt: HostRuntime) -> Result<(), Fail> {
-    for cut in 0..SAID.len() {
-        let mut session = behind(rt.alloc(), &SAID[..cut])?;
-        assert_eq!(rt; session.poll(), Turn::Receive);
+    let said = said();
+    for cut in 0..said.len() {
+        let mut session = behind(rt.alloc(), &said[..cut])?;
+        assert_eq!(rt; turn(&session), Turn::Receive);
         let place = place_at(cut);
-        assert_eq!(rt; session.end(), Err(WireError::Malformed { place }));
-        assert_eq!(rt; session.poll(), Turn::Failed);
-        assert_eq!(rt; session.feed(&SAID[cut..]), Err(WireError::Malformed { place }));
+        assert_eq!(rt; end(&mut session), Err(WireError::Malformed { place }));
+        assert_eq!(rt; turn(&session), Turn::Failed);
+        assert_eq!(rt;
+            feed(&mut session, &said[cut..]),
+            Err(WireError::Malformed { place })
+        );
     }
     Ok(())
 }
@@ -142,11 +204,8 @@ fn a_peer_that_ends_early_is_malformed_at_that_line(rt: HostRuntime) -> Result<(
 fn version_1_lists_in_its_greeting(rt: HostRuntime) -> Result<(), Fail> {
     let mut session = opened(rt.alloc())?;
     send_all(&mut session);
-    for byte in ADVERTISED {
-        assert_eq!(rt; session.poll(), Turn::Receive);
-        session.feed(&[*byte])?;
-    }
-    assert_eq!(rt; session.poll(), Turn::Idle);
+    feed_each(&mut session, advertised())?;
+    assert_eq!(rt; turn(&session), Turn::Idle);
     let handshake = session.handshake().ok_or("no greeting")?;
     assert_eq!(rt; handshake.version, Version::V1);
     let refs = session.refs().ok_or("no listing")?;
@@ -161,8 +220,8 @@ fn version_1_lists_in_its_greeting(rt: HostRuntime) -> Result<(), Fail> {
 fn version_1_may_list_nothing(rt: HostRuntime) -> Result<(), Fail> {
     let mut session = opened(rt.alloc())?;
     send_all(&mut session);
-    session.feed(UNNAMED)?;
-    assert_eq!(rt; session.poll(), Turn::Idle);
+    feed(&mut session, unnamed())?;
+    assert_eq!(rt; turn(&session), Turn::Idle);
     let refs = session.refs().ok_or("no listing")?;
     assert!(rt; refs.is_empty());
     Ok(())
@@ -172,38 +231,27 @@ fn version_1_may_list_nothing(rt: HostRuntime) -> Result<(), Fail> {
 fn a_session_is_fed_byte_by_byte(rt: HostRuntime) -> Result<(), Fail> {
     let alloc = rt.alloc();
     let mut session = opened(alloc)?;
-    assert_eq!(rt; session.poll(), Turn::Send);
-    assert_eq!(rt; session.outgoing(), FIRST);
-    session.sent(FIRST.len());
-    for byte in GREETING {
-        assert_eq!(rt; session.poll(), Turn::Receive);
-        session.feed(&[*byte])?;
-    }
+    assert_eq!(rt; session.outgoing(), first());
+    send_all(&mut session);
+    feed_each(&mut session, greeting())?;
     let handshake = session.handshake().ok_or("no greeting")?;
     assert_eq!(rt; handshake.object_hash, Kind::Sha1);
-    assert_eq!(rt; session.poll(), Turn::Send);
-    assert_eq!(rt; session.outgoing(), ASKED);
-    session.sent(ASKED.len());
-    for byte in LISTING {
-        assert_eq!(rt; session.poll(), Turn::Receive);
-        session.feed(&[*byte])?;
-    }
-    assert_eq!(rt; session.poll(), Turn::Idle);
+    assert_eq!(rt; turn(&session), Turn::Send);
+    assert_eq!(rt; session.outgoing(), asked());
+    send_all(&mut session);
+    feed_each(&mut session, listing())?;
+    assert_eq!(rt; turn(&session), Turn::Idle);
     let refs = session.refs().ok_or("no listing")?;
     assert_eq!(rt; refs.len(), 3);
-    session.request(&request(alloc)?, true)?;
-    let asked = b"0012command=fetch\n00010009done\n0000".as_slice();
-    assert_eq!(rt; session.outgoing(), asked);
-    session.sent(asked.len());
-    for byte in REPLY {
-        assert_eq!(rt; session.poll(), Turn::Receive);
-        session.feed(&[*byte])?;
-    }
-    assert_eq!(rt; session.poll(), Turn::Idle);
+    ask(alloc, &mut session)?;
+    assert_eq!(rt; session.outgoing(), requested());
+    send_all(&mut session);
+    feed_each(&mut session, reply())?;
+    assert_eq!(rt; turn(&session), Turn::Idle);
     let reply = session.reply().ok_or("no reply")?;
     let pack = reply.pack.as_ref().ok_or("no pack")?;
     assert_eq!(rt; pack.as_bytes(), b"abc".as_slice());
-    session.end()?;
+    end(&mut session)?;
     Ok(())
 }
 
@@ -211,16 +259,15 @@ fn a_session_is_fed_byte_by_byte(rt: HostRuntime) -> Result<(), Fail> {
 fn a_session_is_fed_ahead(rt: HostRuntime) -> Result<(), Fail> {
     let alloc = rt.alloc();
     let mut session = opened(alloc)?;
-    session.feed(GREETING)?;
-    session.feed(LISTING)?;
-    session.feed(REPLY)?;
-    assert_eq!(rt; session.poll(), Turn::Send);
+    feed(&mut session, greeting())?;
+    feed(&mut session, listing())?;
+    feed(&mut session, reply())?;
+    assert_eq!(rt; turn(&session), Turn::Send);
     send_all(&mut session);
-    assert_eq!(rt; session.poll(), Turn::Idle);
-    session.request(&request(alloc)?, true)?;
-    assert_eq!(rt; session.poll(), Turn::Send);
+    ask(alloc, &mut session)?;
+    assert_eq!(rt; turn(&session), Turn::Send);
     send_all(&mut session);
-    assert_eq!(rt; session.poll(), Turn::Idle);
+    assert_eq!(rt; turn(&session), Turn::Idle);
     assert!(rt; session.reply().is_some());
     Ok(())
 }
@@ -229,12 +276,12 @@ fn a_session_is_fed_ahead(rt: HostRuntime) -> Result<(), Fail> {
 fn a_greeting_that_ends_is_malformed_where_it_ends(rt: HostRuntime) -> Result<(), Fail> {
     let alloc = rt.alloc();
     let mut session = opened(alloc)?;
-    session.feed(&GREETING[..20])?;
+    feed(&mut session, b"000eversion 2\n0015ag")?;
     let refused = Err(WireError::Malformed { place: 14 });
-    assert_eq!(rt; session.end(), refused);
-    assert_eq!(rt; session.poll(), Turn::Failed);
+    assert_eq!(rt; end(&mut session), refused);
+    assert_eq!(rt; turn(&session), Turn::Failed);
     let again = Err(WireError::Malformed { place: 14 });
-    assert_eq!(rt; session.feed(GREETING), again);
+    assert_eq!(rt; feed(&mut session, greeting()), again);
     Ok(())
 }
 
@@ -242,11 +289,11 @@ fn a_greeting_that_ends_is_malformed_where_it_ends(rt: HostRuntime) -> Result<()
 fn a_break_fed_ahead_waits(rt: HostRuntime) -> Result<(), Fail> {
     let alloc = rt.alloc();
     let mut session = opened(alloc)?;
-    session.feed(b"000eversion 2\n0002")?;
-    assert_eq!(rt; session.poll(), Turn::Send);
+    feed(&mut session, b"000eversion 2\n0002")?;
+    assert_eq!(rt; turn(&session), Turn::Send);
     send_all(&mut session);
-    assert_eq!(rt; session.poll(), Turn::Failed);
+    assert_eq!(rt; turn(&session), Turn::Failed);
     let refused = Err(WireError::Malformed { place: 14 });
-    assert_eq!(rt; session.feed(b""), refused);
+    assert_eq!(rt; feed(&mut session, b""), refused);
     Ok(())
 }
