@@ -120,6 +120,7 @@ not_transport prepare.NoMemory h = refl
 not_client : (e : ReceiveError) → e ≢ receive.Client → is_client e ≡ false
 not_client receive.Client h = absurd (h refl)
 not_client receive.NoMemory h = refl
+not_client (receive.PackThreads value) h = refl
 not_client (receive.Fetch e) h = refl
 not_client (receive.Pack e) h = refl
 not_client (receive.Collision id) h = refl

@@ -53,6 +53,10 @@ given_of s = record {
   remote = record { urls = s.address ∷ []; fetch_specs = s.specs; tags = s.tags };
   options = fetch_options s.options s.extra;
   setup = record {
+    base = record { meta = s.config.meta; sections = [] };
+    local = s.config;
+    overrides = [];
+    workdir = s.workdir;
     settings = record { kind = s.hash; config = s.config; lenient = s.lenient; git_dir = s.git_dir; committer = committer };
     logging = logging_of s.config s.workdir;
   };

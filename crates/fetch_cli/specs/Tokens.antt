@@ -77,6 +77,7 @@ prepare_token prepare.Unbuilt = codes "Unbuilt"
 prepare_token prepare.NoMemory = codes "NoMemory"
 
 unfoldable pub receive_token : ReceiveError → List ℕ
+receive_token (receive.PackThreads value) = keeping (codes "PackThreads") value
 receive_token (receive.Fetch e) = wire_token e
 receive_token receive.Client = codes "Client"
 receive_token (receive.Pack e) = pack_token e

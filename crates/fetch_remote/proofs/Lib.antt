@@ -13,3 +13,4 @@ pub mod Refused
 pub mod Opening
 pub mod Receives
 pub mod Talks
+pub mod Overrides

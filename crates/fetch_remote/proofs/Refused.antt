@@ -142,6 +142,7 @@ not_settled answers old new g before after l r rest receive_errors.NoMemory form
     }
 not_settled answers old new g before after l r rest receive_errors.Client form told h = absurd h
 not_settled answers old new g before after l r rest receive_errors.Unbuilt form told h = late answers old new g before after l r rest receive_errors.Unbuilt form told h.0 h.1 refl
+not_settled answers old new g before after l r rest (receive_errors.PackThreads x) form told h = late answers old new g before after l r rest (receive_errors.PackThreads x) form told h.0 h.1 refl
 not_settled answers old new g before after l r rest (receive_errors.Fetch x) form told h = late answers old new g before after l r rest (receive_errors.Fetch x) form told h.0 h.1 refl
 not_settled answers old new g before after l r rest (receive_errors.Pack x) form told h = late answers old new g before after l r rest (receive_errors.Pack x) form told h.0 h.1 refl
 not_settled answers old new g before after l r rest (receive_errors.Collision id) form told h = late answers old new g before after l r rest (receive_errors.Collision id) form told h.0 h.1 refl
@@ -152,6 +153,7 @@ pub no_client : (g : Given) (before after : State) (l : ListedValue) (r : Option
 no_client g before after l r receive_errors.NoMemory h is = absurd (cc)
 no_client g before after l r receive_errors.Client h is = absurd h
 no_client g before after l r receive_errors.Unbuilt h is = absurd (cc)
+no_client g before after l r (receive_errors.PackThreads x) h is = absurd (cc)
 no_client g before after l r (receive_errors.Fetch x) h is = absurd (cc)
 no_client g before after l r (receive_errors.Pack x) h is = absurd (cc)
 no_client g before after l r (receive_errors.Collision id) h is = absurd (cc)

@@ -89,6 +89,7 @@ pub unjudged : (setup : Setup) (tags : Tags) (before : State) (l : ListedValue) 
 unjudged setup tags before l r mid errors.NoMemory took h = inr took
 unjudged setup tags before l r mid errors.Client took h = judged_no_client (policy_in mid tags) l.ref_map h
 unjudged setup tags before l r mid errors.Unbuilt took h = unjudged_with setup tags before l r mid errors.Unbuilt took h
+unjudged setup tags before l r mid (errors.PackThreads e) took h = unjudged_with setup tags before l r mid (errors.PackThreads e) took h
 unjudged setup tags before l r mid (errors.Fetch e) took h = unjudged_with setup tags before l r mid (errors.Fetch e) took h
 unjudged setup tags before l r mid (errors.Pack e) took h = unjudged_with setup tags before l r mid (errors.Pack e) took h
 unjudged setup tags before l r mid (errors.Collision id) took h = unjudged_with setup tags before l r mid (errors.Collision id) took h

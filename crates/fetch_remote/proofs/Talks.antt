@@ -34,6 +34,7 @@ free_listing prepare_errors.Unbuilt h = refl
 free_listing prepare_errors.NoMemory h = absurd (cc)
 
 free_receiving : (e : ReceiveError) → is_free (receiving e) ≡ false → is_free_receiving e ≡ false
+free_receiving (receive_errors.PackThreads value) h = refl
 free_receiving (receive_errors.Fetch e) h = refl
 free_receiving receive_errors.Client h = absurd (cc)
 free_receiving (receive_errors.Pack e) h = refl

@@ -49,6 +49,7 @@ word_of asked.NoMemory = errors.NoMemory
 abbrev pub is_free : Error → Bool
 is_free errors.Client = true
 is_free errors.NoMemory = true
+is_free (errors.PackThreads value) = false
 is_free (errors.Fetch e) = false
 is_free (errors.Pack e) = false
 is_free (errors.Collision id) = false
@@ -59,6 +60,7 @@ is_free errors.Unbuilt = false
 abbrev pub is_client : Error → Bool
 is_client errors.Client = true
 is_client errors.NoMemory = false
+is_client (errors.PackThreads value) = false
 is_client (errors.Fetch e) = false
 is_client (errors.Pack e) = false
 is_client (errors.Collision id) = false

@@ -4,9 +4,14 @@ pub mod Remotes
 pub mod Mapped
 pub mod Errors
 pub mod ListStage
+pub mod RepositoryValues
+pub mod Codes
 pub mod Repositories
+pub mod Reloads
 pub mod ConverseStage
 pub mod Judging
 pub mod Settling
 pub mod Form
 pub mod Fetching
+pub mod ReadSettings
+pub mod Threads

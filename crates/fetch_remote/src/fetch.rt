@@ -1,13 +1,16 @@
 //! Why nothing was received, or what was received had no effect.
 
 use fetch_pack::PackError;
-use fetch_store::{NoMemory, ObjectId};
+use fetch_store::{NoMemory, ObjectId, Text};
 use fetch_update::update;
 use fetch_wire::WireError;
 use thiserror::Error;
 
 #[derive(Debug, Drop, Error)]
 pub enum Error {
+    /// `pack.threads` can't be read, or is below 0. The value is that of its last entry, empty for an implicit one.
+    #[error("the number of threads can't be read")]
+    PackThreads { value: Text },
     #[error("{0}")]
     Fetch(WireError),
     #[error("the server failed")]

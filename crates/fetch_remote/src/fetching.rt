@@ -122,9 +122,9 @@ fn view(
 ) -> Result<View, NoMemory>
     ensures { IfOk result (λ view. view ≡ spec.view_with (state_of repo.now) ref_map.now tags shallow.now) }
 {
-    let wants = wants(alloc, ref_map, tags, shallow, &repo.store)?;
+    let wants = wants(alloc, ref_map, tags, shallow, repo.store())?;
     Ok(View {
         wants: List::from(wants),
-        border: repo.border.try_clone()?,
+        border: repo.border().try_clone()?,
     })
 }

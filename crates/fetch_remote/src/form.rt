@@ -202,7 +202,7 @@ fn is_no_change(shallow: &Shallow) -> bool
 fn is_plain_setup(repo: &Repository) -> bool
     ensures { result ≡ spec.is_plain_setup (setup_of repo.now) }
 {
-    !repo.settings.lenient && are_noop_sections(&repo.settings.config)
+    !repo.settings().lenient && are_noop_sections(repo.config())
 }
 
 fn are_noop_sections(config: &File) -> bool
@@ -252,7 +252,7 @@ fn is_noop_entry(entry: &(Text, Option<Text>)) -> bool
 fn is_plain_state(repo: &Repository) -> bool
     ensures { result ≡ spec.is_plain_state (state_of repo.now) }
 {
-    is_sha1(repo.store.kind()) && is_nil(repo.border.commits()) && are_direct(&repo.refs)
+    is_sha1(repo.object_hash()) && is_nil(repo.border().commits()) && are_direct(repo.refs())
 }
 
 fn is_sha1(kind: Kind) -> bool

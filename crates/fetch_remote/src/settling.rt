@@ -102,7 +102,7 @@ fn take<F: Files>(
 fn check(repo: &Repository, objects: &[(ObjectId, Object)]) -> Result<(), fetch::Error>
     ensures { result ≡ spec.checked (state_of repo.now) objects.now }
 {
-    match repo.store.check(objects) {
+    match repo.store().check(objects) {
         Ok(()) => Ok(()),
         Err(StoreError::Collision { id }) => Err(fetch::Error::Collision { id }),
         Err(_) => Err(fetch::Error::NoMemory),
@@ -120,7 +120,7 @@ fn pack_outcome<F: Files>(
     let Some((num_objects, digest)) = pack else {
         return Ok(None);
     };
-    let keep_path = make_keep(files, &repo.settings, &digest)?;
+    let keep_path = make_keep(files, repo.settings(), &digest)?;
     Ok(Some(PackOutcome {
         num_objects,
         digest,
@@ -141,7 +141,7 @@ fn take_objects(
     ensures err { OnErr result (state_of repo.new ≡ state_of repo.old) }
     ensures setup { setup_of repo.new ≡ setup_of repo.old }
 {
-    let Ok(border) = repo.border.merged(alloc, shallow, unshallow) else {
+    let Ok(border) = repo.border().merged(alloc, shallow, unshallow) else {
         return Err(fetch::Error::NoMemory);
     };
     match repo.take_pack(objects.into_vec(), border) {
@@ -168,8 +168,8 @@ fn judged<W: Worktrees>(
     };
     judge(
         alloc,
-        &repo.refs,
-        &repo.store,
+        repo.refs(),
+        repo.store(),
         &listed.ref_map,
         tags,
         &message,

@@ -4,6 +4,8 @@
 #[cfg(test)]
 mod listing;
 #[cfg(test)]
+mod opened;
+#[cfg(test)]
 mod running;
 #[cfg(test)]
 mod scenes;

@@ -183,6 +183,10 @@ fn open(
     requires { store.hash ≡ refs.hash }
     ensures state { IfOk result (λ repo. state_of repo ≡ record { hash = store.hash; objects = store.objects; border = border; refs = refs }) }
     ensures setup { IfOk result (λ repo. setup_of repo ≡ record {
+      base = record { meta = config.meta; sections = [] };
+      local = config;
+      overrides = [];
+      workdir = workdir;
       settings = record { kind = store.hash; config = config; lenient = lenient; git_dir = git_dir; committer = committer };
       logging = logging_of config workdir;
     }) }

@@ -212,6 +212,7 @@ fn append_receive(out: &mut Vec<u8>, refusal: &fetch::Error) -> Result<(), NoMem
     ensures { OnOk result (out.new.items ≡ out.old.items ++ spec.receive_token refusal.now) }
 {
     match refusal {
+        fetch::Error::PackThreads { value } => append_text(out, b"PackThreads", value.as_bytes()),
         fetch::Error::Fetch(e) => append_wire(out, e),
         fetch::Error::Client => append_word(out, b"Client"),
         fetch::Error::Pack(e) => append_pack(out, e),

@@ -1,5 +1,5 @@
 use Rattle.std.proofs.Common.{length}
-use Rattle.fetch_remote.proofs.repository.+add_overrides.Given as goal
+use Rattle.fetch_remote.proofs.resolving.+add_overrides.Given as goal
 
 -- proposed from what the function passes where it calls itself
 abbrev pub decreases-add_overrides : goal.decreases-add_overrides
