@@ -1,6 +1,6 @@
 -- What a settled fetch took, judged and moved.
-use Rattle.std.proofs.Common.{◌≡◌, ℕ, Bool, true, false, List, [], ◌∷◌, Option, Some, None, Result, Ok, Err, refl, sym, ap, Contains, arith, inl, inr}
-use Rattle.std.specs.Prelude.{◌⊎◌, is_some, if◌then◌else◌}
+use Rattle.std.proofs.Common.{◌≡◌, ℕ, Bool, true, false, List, [], ◌∷◌, Option, Some, None, Result, Ok, Err, refl, sym, ap, subst, Contains, arith, inl, inr}
+use Rattle.std.specs.Prelude.{◌⊎◌, ⊤, is_some, if◌then◌else◌}
 use Rattle.std.specs.FinMap as map
 use Rattle.fetch_store.specs.Objects.{Stored}
 use Rattle.std.specs.List.{list_any, slice_get}
@@ -153,7 +153,7 @@ of_judging : (p : Policy) (m : RefMap) (e : Error) → judged_of p m ≡ Err e �
 unfolding judged_of
 of_judging p m e is = judged_by_judging p m e (list_any (is_elsewhere p.names) m.mappings) is
 
-pub unjudged : (setup : Setup) (how : Manner) (before : State) (wants : List ObjectId) (l : ListedValue) (r : Option Received) (mid : State) (e : Error) → taken before wants (brought how.dry_run r) ≡ Ok mid
+unjudged : (setup : Setup) (how : Manner) (before : State) (wants : List ObjectId) (l : ListedValue) (r : Option Received) (mid : State) (e : Error) → taken before wants (brought how.dry_run r) ≡ Ok mid
     → AnswersBy {X = Updates} (judged_of (policy_in mid how) l.ref_map) (Err e) → IsUnsettledBy setup how before wants l r mid e
 unjudged setup how before wants l r mid errors.NoMemory took h = inr took
 unjudged setup how before wants l r mid errors.Unbuilt took h = unjudged_with setup how before wants l r mid errors.Unbuilt took h
@@ -172,6 +172,12 @@ unjudged setup how before wants l r mid (errors.Fetch e) took h = absurd (of_jud
 unjudged setup how before wants l r mid (errors.RejectShallowRemote id) took h = absurd (of_judging (policy_in mid how) l.ref_map (errors.RejectShallowRemote id) h)
 unjudged setup how before wants l r mid (errors.Pack e) took h = absurd (of_judging (policy_in mid how) l.ref_map (errors.Pack e) h)
 unjudged setup how before wants l r mid (errors.Collision id) took h = absurd (of_judging (policy_in mid how) l.ref_map (errors.Collision id) h)
+
+-- the same over a map that is the one that was listed
+pub unjudged_found : (setup : Setup) (how : Manner) (before : State) (wants : List ObjectId) (l : ListedValue) (r : Option Received) (mid : State) (e : Error) (m : RefMap) → m ≡ l.ref_map → taken before wants (brought how.dry_run r) ≡ Ok mid
+    → AnswersBy {X = Updates} (judged_of (policy_in mid how) m) (Err e) → IsUnsettledBy setup how before wants l r mid e
+unjudged_found setup how before wants l r mid e m same took h =
+    unjudged setup how before wants l r mid e took (subst (λ (x : RefMap). AnswersBy {X = Updates} (judged_of (policy_in mid how) x) (Err e)) same h)
 
 -- ---- what the taking leaves
 

@@ -23,6 +23,7 @@ use fetch_refs::{PackedRefs, RefEdit, Refs, Signature};
 use fetch_specs::Tags;
 use fetch_store::{Files, NoMemory, ObjectId, StoreError, Take, Text, first_missing_of_take};
 use fetch_update::{RefLogMessage, Worktrees, update};
+use fetch_wire::{Handshake, RefMap};
 use std::alloc::Global;
 
 /// How a fetch is to be settled: what is done with tags, and whether nothing is changed.
@@ -41,7 +42,6 @@ struct Taken {
 
 /// Takes what was received, judges the mapped references, and moves them. All memory is taken before they move. In a
 /// dry run nothing is taken and nothing moves.
-#[tactic(none)]
 pub(crate) fn settle<F: Files, W: Worktrees>(
     alloc: Global,
     repo: &mut Repository,
@@ -62,15 +62,23 @@ pub(crate) fn settle<F: Files, W: Worktrees>(
         wants,
         received,
     } = talked;
+    let (ref_map, handshake) = found(listed);
     let taken = bring(alloc, repo, how.dry_run, wants.as_slice(), received, files)?;
-    let updates = judged(alloc, repo, &listed, how, worktrees)?;
+    let updates = judged(alloc, repo, &ref_map, how, worktrees)?;
     move_refs(repo, how.dry_run, updates.edits.as_slice())?;
     remove_keep(files, kept(&taken))?;
     Ok(Outcome {
-        ref_map: listed.ref_map,
-        handshake: listed.handshake,
+        ref_map,
+        handshake,
         status: status(how.dry_run, taken, updates),
     })
+}
+
+/// What was listed, without the conversation.
+fn found(listed: Listed) -> (RefMap, Handshake)
+    ensures { result ≡ (listed.ref_map, listed.handshake) }
+{
+    (listed.ref_map, listed.handshake)
 }
 
 /// Takes what was received, but in a dry run.
@@ -214,11 +222,11 @@ fn add(alloc: Global, repo: &mut Repository, received: Received) -> Result<Negot
 fn judged<W: Worktrees>(
     alloc: Global,
     repo: &Repository,
-    listed: &Listed,
+    ref_map: &RefMap,
     how: Manner,
     worktrees: &mut W,
 ) -> Result<update::Outcome, fetch::Error>
-    ensures judged { Answers (judged_of (policy_in (state_of repo.now) how) listed.now.ref_map) result }
+    ensures judged { Answers (judged_of (policy_in (state_of repo.now) how) ref_map.now) result }
     ensures worktrees { worktrees.new ≡ worktrees.old }
 {
     let message = RefLogMessage::Prefixed {
@@ -228,7 +236,7 @@ fn judged<W: Worktrees>(
         alloc,
         repo.refs(),
         repo.store(),
-        &listed.ref_map,
+        ref_map,
         how.tags,
         &message,
         how.dry_run,
