@@ -150,6 +150,7 @@ is_safe g before m r s u took none = record {
 fetched_with : (answers : Bool) (old new : Option Talk) (g : Given) (before : State) (l : ListedValue) (r : Option Received) (rest : List ℕ) (s : State) (u : Updates) → is_built g before ≡ true
     → HasTold answers old new g before l r rest → taken_in g before (record { listed = l; received = r }) ≡ Ok s → judged_of (policy_in s (manner_in g)) l.ref_map ≡ Ok u
     → IsFetched answers old new g before (moved g.options.dry_run g.setup s u.edits) (at_outcome g l r u)
+unfolding has_read is_judged
 fetched_with answers old new g before l r rest s u form told took judged =
     let k = told_spoken answers old new g before l r rest told in
     let said = said_in answers old new g before l r rest told in

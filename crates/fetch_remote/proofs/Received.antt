@@ -1,9 +1,7 @@
 -- What the answers of the two stages tell.
 use Rattle.std.proofs.Common.{◌≡◌, ℕ, Bool, true, false, List, [], ◌∷◌, length, map, Option, Some, None, Result, Ok, Err, refl, sym, ap, ◌∙◌}
-use Rattle.std.specs.Prelude.{if◌then◌else◌, unwrap_or}
+use Rattle.std.specs.Prelude.{⊤, if◌then◌else◌}
 use Rattle.std.specs.Option.{option_or}
-use Rattle.fetch_pack.specs.Reading.{Contents, read}
-use Rattle.fetch_pack.specs.declared.error.PackError.{PackError}
 use Rattle.fetch_store.specs.declared.id.Kind.{Kind}
 use Rattle.fetch_store.specs.declared.id.Kind.TheVariants.{Sha1, Sha256}
 use Rattle.fetch_store.specs.declared.id.ObjectId.{ObjectId}
@@ -26,6 +24,8 @@ use Rattle.fetch_wire.specs.declared.reference.Ref.{Ref}
 use Rattle.fetch_wire.specs.References.{name_in}
 use Rattle.fetch_conversation.specs.Conversation.{Conversation, ends, asks, asks_unless, asking, after_reply, answer_in}
 use Rattle.fetch_conversation.specs.ConverseStage.{TermsValue, converse_stage, wanting, fetching, replied, received, unpacked, with_pack, without_pack, no_mapping, other_hash, lacking, is_same_kind}
+use Rattle.fetch_conversation.specs.ConverseStage as converse
+use Rattle.fetch_conversation.specs.ListStage as list
 use Rattle.fetch_conversation.specs.ListStage.{InquiryValue, ListedValue, list_stage, inquiry_stage, greeted, listing, listed, mapped, mapped_unless, map_of, all_specs, unless, unlisted, unsendable, no_specs}
 use Rattle.fetch_conversation.specs.Mapped.{ref_mappings}
 use Rattle.fetch_conversation.specs.declared.conversing.Received.{Received}
@@ -57,9 +57,9 @@ gives_answer p bound (ends (Err e)) stream x rest h is = absurd (cc)
 gives_answer p bound (asks lines awaited failed next) stream x rest h is =
     gives_after p bound failed next (told_at bound awaited stream) x rest (λ t s. gives_answer p bound (next t) s x rest (h t)) is
 
-gives_ok : {X E : Type 0} (p : X → Type 0) (x : X) → p x → Gives {E = E} p (ends (Ok x))
+gives_ok : {X : Type 0} (E : Type 0) (p : X → Type 0) (x : X) → p x → Gives {E = E} p (ends (Ok x))
 unfolding Gives
-gives_ok p x h = h
+gives_ok E p x h = h
 
 gives_err : {X E : Type 0} (p : X → Type 0) (e : E) → Gives p (ends (Err e))
 unfolding Gives
@@ -91,7 +91,7 @@ unfolding mapped
 mapped_gives q h refs = by (conflicts_of (mappings_of (all_specs q) (map name_in refs) h.object_hash))
   where
     by : (conflicts : List Conflict) → Gives {E = PrepareError} (IsMapped q) (ends (mapped_unless conflicts q h refs))
-    by [] = gives_ok (IsMapped q) _ (record { map = refl })
+    by [] = gives_ok _ (IsMapped q) _ (record { map = refl })
     by (c ∷ cs) = gives_err (IsMapped q) _
 
 listed_gives : (q : InquiryValue) (h : Handshake) (t : Told) → Gives (IsMapped q) (listed q h t)
@@ -114,7 +114,7 @@ list_gives : (bound : ℕ) (q : InquiryValue) → Gives (IsMapped q) (list_stage
 unfolding list_stage inquiry_stage
 list_gives bound q =
     gives_unless (IsMapped q) (no_specs q) _ (gives_unless (IsMapped q) (unsendable q) _
-    (gives_asking (IsMapped q) _ _ awaits.Greeting _ _ (λ t. greeted_gives bound q t)))
+    (gives_asking (IsMapped q) list.too_long (first_line q.address q.options.handshake_parameters ∷ []) awaits.Greeting (list.failed bound) (greeted bound q) (λ t. greeted_gives bound q t)))
 
 pub is_mapped : (bound : ℕ) (q : InquiryValue) (stream : List ℕ) (l : ListedValue) (rest : List ℕ) → answer_in bound (list_stage bound q) stream ≡ Ok (l, rest) → IsMapped q l
 is_mapped bound q stream l rest is = gives_answer (IsMapped q) bound (list_stage bound q) stream l rest (list_gives bound q) is
@@ -129,14 +129,19 @@ pub record IsReceived (t : TermsValue) (r : Option Received) : Type 0 where
 some_received : (t : TermsValue) (r : Received) → t.hash ≡ t.listed.handshake.object_hash → IsReceived t (Some r)
 some_received t r same = record { none = λ e. absurd (cc); kind = same }
 
+either_gives : {X E A B : Type 0} (p : X → Type 0) (f : Result A B → Result X E) → ((a : A) → Gives p (ends (f (Ok a)))) → ((b : B) → Gives p (ends (f (Err b)))) → (c : Result A B) → Gives p (ends (f c))
+either_gives p f ok err (Ok a) = ok a
+either_gives p f ok err (Err b) = err b
+
+dry_or_gives : {X E : Type 0} (p : X → Type 0) (dry : Bool) (x : X) (r : Result X E) → p x → Gives p (ends r) → Gives p (ends (if dry then Ok x else r))
+dry_or_gives p true x r h k = gives_ok _ p x h
+dry_or_gives p false x r h k = k
+
 received_gives : (t : TermsValue) (reply : FetchReply) → t.hash ≡ t.listed.handshake.object_hash → Gives {E = ReceiveError} (IsReceived t) (ends (received t reply))
 unfolding received
-received_gives t reply same = by t.dry_run (read t.listed.handshake.object_hash (unwrap_or reply.pack []))
-  where
-    by : (b : Bool) (c : Result Contents PackError) → Gives {E = ReceiveError} (IsReceived t) (ends (if b then Ok (Some (without_pack reply)) else unpacked reply c))
-    by true c = gives_ok (IsReceived t) _ (some_received t _ same)
-    by false (Ok c) = gives_ok (IsReceived t) _ (some_received t _ same)
-    by false (Err e) = gives_err (IsReceived t) _
+received_gives t reply same =
+    dry_or_gives (IsReceived t) t.dry_run (Some (without_pack reply)) _ (some_received t (without_pack reply) same)
+    (either_gives (IsReceived t) (unpacked reply) (λ c. gives_ok _ (IsReceived t) (Some (with_pack reply c)) (some_received t (with_pack reply c) same)) (λ e. gives_err (IsReceived t) _) _)
 
 replied_gives : (t : TermsValue) (x : Told) → t.hash ≡ t.listed.handshake.object_hash → Gives (IsReceived t) (replied t x)
 replied_gives t (told.Reply reply) same = received_gives t reply same
@@ -146,8 +151,8 @@ replied_gives t (told.Listing refs) same = gives_err (IsReceived t) _
 
 wanting_gives : (bound : ℕ) (t : TermsValue) (wants : List ObjectId) → t.view.wants ≡ wants → t.hash ≡ t.listed.handshake.object_hash → Gives (IsReceived t) (wanting bound t wants)
 unfolding fetching
-wanting_gives bound t [] is same = gives_ok (IsReceived t) None (record { none = λ _. is; kind = same })
-wanting_gives bound t (id ∷ ids) is same = gives_asking (IsReceived t) _ _ _ _ _ (λ x. replied_gives t x same)
+wanting_gives bound t [] is same = gives_ok _ (IsReceived t) None (record { none = λ _. is; kind = same })
+wanting_gives bound t (id ∷ ids) is same = gives_asking (IsReceived t) converse.too_long (fetch_request (converse.asked_by t) [] true) (awaits.Reply (converse.reply_to t)) (converse.failed bound) (replied t) (λ x. replied_gives t x same)
 
 kinds_same : (a b : Kind) → is_same_kind a b ≡ true → a ≡ b
 kinds_same Sha1 Sha1 is = refl
