@@ -1,15 +1,12 @@
 -- A conversation that broke off, stage by stage.
-use Rattle.std.proofs.Common.{◌≡◌, ℕ, Bool, true, false, List, [], ◌++◌, Option, Some, None, Result, Ok, Err, refl, sym, ap, ◌∙◌, append_assoc, inl, inr}
-use Rattle.std.specs.Prelude.{◌⊎◌}
-use Rattle.std.proofs.lemmas.List.{append-nil}
+use Rattle.std.proofs.Common.{◌≡◌, ℕ, Bool, List, [], ◌++◌, Option, Result, Ok, refl, sym, ap, ◌∙◌, append_assoc}
 use Rattle.std.proofs.lemmas.List.Concat.{flat_map-append}
-use Rattle.fetch_wire.specs.Talks.{Talk, Talks, IsFront, Talks-then, Talks-none}
+use Rattle.fetch_wire.specs.Talks.{Talk, IsFront}
 use Rattle.fetch_wire.specs.Written.{line_text, lines_text}
 use Rattle.fetch_wire.specs.declared.line.Line.{Line}
 use Rattle.fetch_conversation.specs.Conversation.{Conversation, ends, sent_in, answer_in, and_then, map_refusal, told_as, Concludes, Breaks}
 use Rattle.fetch_conversation.specs.Errors.{is_free_listing, is_free_map, is_free_receiving}
 use Rattle.fetch_conversation.specs.ListStage.{ListedValue}
-use Rattle.fetch_conversation.specs.declared.conversing.Received.{Received}
 use Rattle.fetch_conversation.specs.declared.fetch.Error.{Error as ReceiveError}
 use Rattle.fetch_conversation.specs.declared.fetch.Error.TheVariants as receive
 use Rattle.fetch_conversation.specs.declared.prepare.Error.{Error as PrepareError}
@@ -20,9 +17,7 @@ use Rattle.fetch_conversation.proofs.Chained.{breaks_early, breaks_late, breaks_
 use Rattle.fetch_remote.specs.Errors.{preparing, receiving, is_free}
 use Rattle.fetch_remote.specs.Form.{Given}
 use Rattle.fetch_remote.specs.Repositories.{State}
-use Rattle.fetch_remote.specs.Stages.{Told, bound_of, listing_stage, pack_stage, receiving_stage, conversation}
-use Rattle.fetch_remote.specs.Talking.{BreaksListing, BreaksReceiving}
-use Rattle.fetch_remote.specs.declared.fetch_error.FetchError.{FetchError}
+use Rattle.fetch_remote.specs.Stages.{bound_of, listing_stage, pack_stage, receiving_stage, conversation}
 use Rattle.fetch_remote.specs.declared.fetch_error.FetchError.TheVariants as errors
 
 -- ---- free refusals are free in the whole, and no others

@@ -1,6 +1,6 @@
 -- From the conversation to the fetch.
-use Rattle.std.proofs.Common.{◌≡◌, ℕ, Bool, true, false, List, [], ◌++◌, Option, Some, None, Result, Ok, Err, refl, sym, ap, subst, ◌∙◌, append_assoc}
-use Rattle.std.specs.Prelude.{◌&&◌, if◌then◌else◌}
+use Rattle.std.proofs.Common.{◌≡◌, ℕ, Bool, true, false, List, [], ◌++◌, Option, None, Result, Ok, refl, sym, ap, subst, ◌∙◌, append_assoc}
+use Rattle.std.specs.Prelude.{◌&&◌}
 use Rattle.std.proofs.lemmas.List.{append-nil}
 use Rattle.std.specs.FinMap as map
 use Rattle.std.specs.List.{list_all}
@@ -19,13 +19,13 @@ use Rattle.fetch_conversation.specs.ListStage.{ListedValue}
 use Rattle.fetch_conversation.specs.declared.conversing.Received.{Received}
 use Rattle.fetch_remote.specs.declared.fetch_error.FetchError.{FetchError}
 use Rattle.fetch_remote.specs.declared.outcome.Outcome.{Outcome}
-use Rattle.fetch_remote.specs.Fetched.{HasHeard, HasRead, IsJudged, IsLeft, IsSafe, HoldsMapped, IsFetched, policy_at, carried_out}
+use Rattle.fetch_remote.specs.Fetched.{HasHeard, HasRead, IsJudged, IsLeft, IsSafe, IsFetched, policy_at}
 use Rattle.fetch_remote.specs.Fetching.{manner_in, is_built, taken_in, settled_in, settled_by, fetched_in, requests_in}
 use Rattle.fetch_remote.specs.Form.{Given, is_in_form, are_plain_options, is_plain_setup, is_plain_state, is_same_kind, is_direct}
 use Rattle.fetch_remote.specs.Judging.{judged_of}
 use Rattle.fetch_remote.specs.Repositories.{State, Setup, held}
-use Rattle.fetch_remote.specs.Settling.{brought, taken, settled, policy_in, with_edits, moved, outcome_in, done, status_of}
-use Rattle.fetch_remote.specs.Stages.{Told, bound_of, wants_in, inquiry_in, terms_in, listing_stage, pack_stage, conversation}
+use Rattle.fetch_remote.specs.Settling.{brought, taken, settled, policy_in, moved, outcome_in, done}
+use Rattle.fetch_remote.specs.Stages.{Told, bound_of, wants_in, inquiry_in, terms_in, listing_stage, conversation}
 use Rattle.fetch_remote.specs.Talking.{HasTold}
 use Rattle.fetch_remote.proofs.Received.{is_mapped, is_received}
 use Rattle.fetch_remote.proofs.Spoken.{said_in, heard_in, told_spoken}

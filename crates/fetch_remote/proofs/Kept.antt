@@ -1,5 +1,5 @@
 -- What a fetch keeps.
-use Rattle.std.proofs.Common.{◌≡◌, Bool, List, [], Option, Some, None, Ok, refl, sym, ap}
+use Rattle.std.proofs.Common.{◌≡◌, [], Option, Some, None, Ok, refl}
 use Rattle.fetch_store.specs.Closed.{IsClosed, Grows}
 use Rattle.fetch_store.specs.Honest.{IsHonest}
 use Rattle.fetch_store.specs.Missing.{missing}

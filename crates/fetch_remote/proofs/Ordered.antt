@@ -1,11 +1,11 @@
 -- The requests of a fetch come in order.
-use Rattle.std.proofs.Common.{◌≡◌, ◌≢◌, ℕ, Bool, true, false, List, [], ◌∷◌, ◌++◌, Option, Some, None, Result, Ok, Err, refl, sym, ap, ◌∙◌, append_assoc, inl, inr}
+use Rattle.std.proofs.Common.{◌≡◌, ℕ, Bool, true, false, List, [], ◌∷◌, ◌++◌, Option, Some, None, Result, Ok, Err, refl, ap, ◌∙◌, append_assoc, inl, inr}
 use Rattle.std.specs.Prelude.{◌⊎◌, if◌then◌else◌}
 use Rattle.std.proofs.lemmas.List.{append-nil}
 use Rattle.fetch_store.specs.declared.id.ObjectId.{ObjectId}
 use Rattle.fetch_negotiate.specs.Requests.{fetch_request}
 use Rattle.fetch_wire.specs.Awaited.{told_at}
-use Rattle.fetch_wire.specs.Requests.{first_line, listing_lines}
+use Rattle.fetch_wire.specs.Requests.{listing_lines}
 use Rattle.fetch_wire.specs.Written.{first_too_long}
 use Rattle.fetch_wire.specs.declared.awaited.Await.{Await}
 use Rattle.fetch_wire.specs.declared.awaited.Await.TheVariants as awaits
@@ -14,7 +14,7 @@ use Rattle.fetch_wire.specs.declared.awaited.Told.{Told as Reply}
 use Rattle.fetch_wire.specs.declared.awaited.Told.TheVariants as told
 use Rattle.fetch_wire.specs.declared.handshake.Handshake.{Handshake}
 use Rattle.fetch_wire.specs.declared.line.Line.{Line}
-use Rattle.fetch_conversation.specs.Conversation.{Conversation, ends, asks, asks_unless, asking, after_reply, sent_in, answer_in, and_then, told_as}
+use Rattle.fetch_conversation.specs.Conversation.{Conversation, ends, asks, asks_unless, after_reply, sent_in, answer_in, and_then, told_as}
 use Rattle.fetch_conversation.specs.ConverseStage.{TermsValue, converse_stage, wanting, fetching, replied, asked_by}
 use Rattle.fetch_conversation.specs.ListStage.{InquiryValue, ListedValue, list_stage, inquiry_stage, greeted, listing, listed, unless, unlisted, unsendable, no_specs, prefixes_asked}
 use Rattle.fetch_conversation.specs.ConverseStage as converse

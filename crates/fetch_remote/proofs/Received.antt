@@ -1,5 +1,5 @@
 -- What the answers of the two stages tell.
-use Rattle.std.proofs.Common.{◌≡◌, ℕ, Bool, true, false, List, [], ◌∷◌, length, map, Option, Some, None, Result, Ok, Err, refl, sym, ap, ◌∙◌}
+use Rattle.std.proofs.Common.{◌≡◌, ℕ, Bool, true, false, List, [], ◌∷◌, map, Option, Some, None, Result, Ok, Err, refl, ap}
 use Rattle.std.specs.Prelude.{⊤, if◌then◌else◌}
 use Rattle.std.specs.Option.{option_or}
 use Rattle.fetch_store.specs.declared.id.Kind.{Kind}
@@ -10,7 +10,7 @@ use Rattle.fetch_specs.specs.Matches.{mappings_of}
 use Rattle.fetch_specs.specs.declared.conflict.Conflict.{Conflict}
 use Rattle.fetch_negotiate.specs.Requests.{fetch_request}
 use Rattle.fetch_wire.specs.Awaited.{told_at}
-use Rattle.fetch_wire.specs.Requests.{first_line, listing_lines}
+use Rattle.fetch_wire.specs.Requests.{first_line}
 use Rattle.fetch_wire.specs.Written.{first_too_long}
 use Rattle.fetch_wire.specs.declared.awaited.Await.{Await}
 use Rattle.fetch_wire.specs.declared.awaited.Await.TheVariants as awaits
@@ -27,7 +27,6 @@ use Rattle.fetch_conversation.specs.ConverseStage.{TermsValue, converse_stage, w
 use Rattle.fetch_conversation.specs.ConverseStage as converse
 use Rattle.fetch_conversation.specs.ListStage as list
 use Rattle.fetch_conversation.specs.ListStage.{InquiryValue, ListedValue, list_stage, inquiry_stage, greeted, listing, listed, mapped, mapped_unless, map_of, all_specs, unless, unlisted, unsendable, no_specs}
-use Rattle.fetch_conversation.specs.Mapped.{ref_mappings}
 use Rattle.fetch_conversation.specs.declared.conversing.Received.{Received}
 use Rattle.fetch_conversation.specs.declared.fetch.Error.{Error as ReceiveError}
 use Rattle.fetch_conversation.specs.declared.fetch.Error.TheVariants as errors

@@ -1,8 +1,8 @@
 -- Fetches that were refused.
-use Rattle.std.proofs.Common.{◌≡◌, ℕ, Bool, true, false, List, [], ◌++◌, Option, Some, None, Result, Ok, Err, refl, sym, ap, ◌∙◌, append_assoc, inl, inr}
+use Rattle.std.proofs.Common.{◌≡◌, ℕ, Bool, true, false, List, [], ◌++◌, Option, Result, Ok, Err, refl, sym, ap, ◌∙◌, inl, inr}
 use Rattle.std.specs.Prelude.{◌⊎◌}
 use Rattle.std.proofs.lemmas.List.{append-nil}
-use Rattle.fetch_wire.specs.Talks.{Talk, Talks, IsFront, IsDrained, Talks-none, Talks-then}
+use Rattle.fetch_wire.specs.Talks.{Talk, Talks, IsFront, Talks-none, Talks-then}
 use Rattle.fetch_wire.specs.Written.{lines_text}
 use Rattle.fetch_conversation.specs.Conversation.{answer_in, Breaks}
 use Rattle.fetch_conversation.specs.Conversation as held
@@ -13,21 +13,20 @@ use Rattle.fetch_conversation.specs.declared.fetch.Error.{Error as ReceiveError}
 use Rattle.fetch_conversation.specs.declared.fetch.Error.TheVariants as receive
 use Rattle.fetch_conversation.specs.declared.prepare.Error.{Error as PrepareError}
 use Rattle.fetch_conversation.specs.declared.prepare.Error.TheVariants as prepare
-use Rattle.fetch_conversation.specs.declared.ref_map.Error.{Error as RefMapError}
 use Rattle.fetch_conversation.specs.declared.ref_map.Error.TheVariants as ref_map
 use Rattle.fetch_remote.specs.declared.fetch_error.FetchError.{FetchError}
 use Rattle.fetch_remote.specs.declared.fetch_error.FetchError.TheVariants as errors
 use Rattle.fetch_remote.specs.Errors.{preparing, receiving, is_free}
 use Rattle.fetch_remote.specs.Fetching.{manner_in, is_built, taken_in, settled_in, fetched_in, requests_in, left_by, left_in}
 use Rattle.fetch_remote.specs.Form.{Given}
-use Rattle.fetch_remote.specs.Refused.{RefusesWith, IsRefusedBy, IsTaken, IsStanding, IsCutListing, IsCutReceiving, IsCounted, IsRefused, interrupted_listing, interrupted_receiving}
+use Rattle.fetch_remote.specs.Refused.{RefusesWith, IsRefusedBy, IsStanding, IsCutListing, IsCutReceiving, IsCounted, IsRefused, interrupted_listing, interrupted_receiving}
 use Rattle.fetch_remote.specs.Repositories.{State, Setup}
 use Rattle.fetch_remote.specs.declared.settling.Manner.{Manner}
 use Rattle.fetch_store.specs.declared.id.ObjectId.{ObjectId}
-use Rattle.fetch_remote.specs.Settling.{brought, taken, kept_or, IsUnsettledBy, IsLeft}
+use Rattle.fetch_remote.specs.Settling.{kept_or, IsUnsettledBy}
 use Rattle.fetch_remote.specs.Stages.{Told, bound_of, wants_in, listing_stage, conversation}
 use Rattle.fetch_remote.specs.Talking.{HasTold, BreaksListing, BreaksReceiving}
-use Rattle.fetch_remote.proofs.Broken.{free_listing, free_receiving, whole_listing, whole_receiving, front_listing, front_receiving, Later}
+use Rattle.fetch_remote.proofs.Broken.{whole_listing, whole_receiving, front_listing, front_receiving, Later}
 use Rattle.fetch_remote.proofs.Fetched.{in_form, fetched_is}
 use Rattle.fetch_remote.proofs.Settled.{takes}
 use Rattle.fetch_remote.proofs.Spoken.{said_in, heard_in, told_spoken}
@@ -278,45 +277,3 @@ not_settled answers old new g before after l r rest (receive.Fetch e) form told 
 not_settled answers old new g before after l r rest (receive.RejectShallowRemote id) form told h = late_by answers old new g before after l r rest (receive.RejectShallowRemote id) form told h refl
 not_settled answers old new g before after l r rest (receive.Pack e) form told h = late_by answers old new g before after l r rest (receive.Pack e) form told h refl
 not_settled answers old new g before after l r rest (receive.Collision id) form told h = late_by answers old new g before after l r rest (receive.Collision id) form told h refl
-
--- what isn't settled is no fault of the peer, and no yes
-pub unsettled_no_client : (setup : Setup) (how : Manner) (before : State) (wants : List ObjectId) (l : ListedValue) (r : Option Received) (after : State) (e : ReceiveError) → IsUnsettledBy setup how before wants l r after e → receiving e ≡ errors.Receive receive.Client → ⊥
-unsettled_no_client setup how before wants l r after receive.Client h is = h
-unsettled_no_client setup how before wants l r after receive.NoMemory h is = absurd (cc)
-unsettled_no_client setup how before wants l r after receive.Interrupted h is = h
-unsettled_no_client setup how before wants l r after (receive.KeepFile path) h is = h
-unsettled_no_client setup how before wants l r after (receive.RemovePackKeepFile path) h is = h
-unsettled_no_client setup how before wants l r after (receive.UpdateRefs e) h is = absurd (cc)
-unsettled_no_client setup how before wants l r after receive.Unbuilt h is = absurd (cc)
-unsettled_no_client setup how before wants l r after (receive.NoMapping specs count) h is = absurd (cc)
-unsettled_no_client setup how before wants l r after (receive.IncompatibleObjectHash local remote) h is = absurd (cc)
-unsettled_no_client setup how before wants l r after (receive.Disconnected link) h is = absurd (cc)
-unsettled_no_client setup how before wants l r after (receive.RejectShallowRemoteConfig value) h is = absurd (cc)
-unsettled_no_client setup how before wants l r after (receive.NegotiationAlgorithmConfig value) h is = absurd (cc)
-unsettled_no_client setup how before wants l r after (receive.PackThreads value) h is = absurd (cc)
-unsettled_no_client setup how before wants l r after (receive.Fetch e) h is = absurd (cc)
-unsettled_no_client setup how before wants l r after (receive.RejectShallowRemote id) h is = absurd (cc)
-unsettled_no_client setup how before wants l r after (receive.Pack e) h is = absurd (cc)
-unsettled_no_client setup how before wants l r after (receive.Collision id) h is = absurd (cc)
-
-pub unsettled_no_stop : (setup : Setup) (how : Manner) (before : State) (wants : List ObjectId) (l : ListedValue) (r : Option Received) (after : State) (e : ReceiveError) → IsUnsettledBy setup how before wants l r after e → receiving e ≡ interrupted_receiving → ⊥
-unsettled_no_stop setup how before wants l r after receive.Client h is = h
-unsettled_no_stop setup how before wants l r after receive.NoMemory h is = absurd (cc)
-unsettled_no_stop setup how before wants l r after receive.Interrupted h is = h
-unsettled_no_stop setup how before wants l r after (receive.KeepFile path) h is = h
-unsettled_no_stop setup how before wants l r after (receive.RemovePackKeepFile path) h is = h
-unsettled_no_stop setup how before wants l r after (receive.UpdateRefs e) h is = absurd (cc)
-unsettled_no_stop setup how before wants l r after receive.Unbuilt h is = absurd (cc)
-unsettled_no_stop setup how before wants l r after (receive.NoMapping specs count) h is = absurd (cc)
-unsettled_no_stop setup how before wants l r after (receive.IncompatibleObjectHash local remote) h is = absurd (cc)
-unsettled_no_stop setup how before wants l r after (receive.Disconnected link) h is = absurd (cc)
-unsettled_no_stop setup how before wants l r after (receive.RejectShallowRemoteConfig value) h is = absurd (cc)
-unsettled_no_stop setup how before wants l r after (receive.NegotiationAlgorithmConfig value) h is = absurd (cc)
-unsettled_no_stop setup how before wants l r after (receive.PackThreads value) h is = absurd (cc)
-unsettled_no_stop setup how before wants l r after (receive.Fetch e) h is = absurd (cc)
-unsettled_no_stop setup how before wants l r after (receive.RejectShallowRemote id) h is = absurd (cc)
-unsettled_no_stop setup how before wants l r after (receive.Pack e) h is = absurd (cc)
-unsettled_no_stop setup how before wants l r after (receive.Collision id) h is = absurd (cc)
-
-pub unsettled_no_listing : (e : ReceiveError) (x : PrepareError) → receiving e ≡ errors.Prepare x → ⊥
-unsettled_no_listing e x is = no_listing_pack e x is

@@ -8,9 +8,8 @@ use Rattle.std.proofs.lemmas.List.Elements.{All-contains}
 use Rattle.fetch_store.specs.declared.id.ObjectId.{ObjectId}
 use Rattle.fetch_store.specs.declared.missing.Missing.{Missing}
 use Rattle.fetch_store.specs.Closed.{IsClosed, IsStored, Grows}
-use Rattle.fetch_store.specs.Honest.{Pack}
 use Rattle.fetch_store.specs.Missing.{missing}
-use Rattle.fetch_store.specs.Stores.{ObjectMap, Entries, add_all, collision}
+use Rattle.fetch_store.specs.Stores.{ObjectMap, add_all, collision}
 use Rattle.fetch_store.proofs.Growth.{grows-add_all}
 use Rattle.fetch_store.proofs.Whole.{whole_closed, none_connects, none_held}
 use Rattle.fetch_update.specs.Outcomes.{outcome_of}
@@ -18,7 +17,6 @@ use Rattle.fetch_update.specs.Policy.{Policy}
 use Rattle.fetch_update.specs.declared.update.Error.{Error as UpdateError}
 use Rattle.fetch_update.specs.declared.update.Error.TheVariants as update_errors
 use Rattle.fetch_update.specs.declared.update.Outcome.{Outcome as Updates}
-use Rattle.fetch_wire.specs.declared.mapping.Mapping.{Mapping}
 use Rattle.fetch_wire.specs.declared.mapping.RefMap.{RefMap}
 use Rattle.fetch_conversation.specs.ListStage.{ListedValue}
 use Rattle.fetch_conversation.specs.declared.conversing.Received.{Received}

@@ -7,7 +7,6 @@ use Rattle.fetch_store.specs.Honest.{Request}
 use Rattle.fetch_store.specs.Stores.{ObjectMap, add_all}
 use Rattle.fetch_refs.specs.Edits.{refs_after}
 use Rattle.fetch_refs.specs.Logs.{logs_after}
-use Rattle.fetch_refs.specs.Names.{Names, Logs, RefsValue}
 use Rattle.fetch_refs.specs.declared.edit.RefEdit.{RefEdit}
 use Rattle.fetch_update.specs.Accepted.{HasOneEach, AcceptsExactly, EditsCarryOut}
 use Rattle.fetch_update.specs.Outcomes.{outcome_of}

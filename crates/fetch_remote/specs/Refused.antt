@@ -1,5 +1,5 @@
 -- A fetch that was refused.
-use Rattle.std.specs.Prelude.{◌≡◌, ◌⊎◌, ℕ, Bool, true, false, List, [], ◌++◌, Option, Ok, Err}
+use Rattle.std.specs.Prelude.{◌≡◌, ◌⊎◌, ℕ, Bool, false, List, ◌++◌, Option, Ok, Err}
 use Rattle.fetch_wire.specs.Talks.{Talk, Talks, IsFront, IsDrained}
 use Rattle.fetch_wire.specs.Written.{lines_text}
 use Rattle.fetch_conversation.specs.Conversation.{sent_in, answer_in}

@@ -1,6 +1,5 @@
 -- What is sent in a fetch, in the words of the protocol.
 use Rattle.std.specs.Prelude.{◌≡◌, ◌≢◌, ◌⊎◌, true, List, [], ◌∷◌, ◌++◌}
-use Rattle.fetch_store.specs.declared.id.ObjectId.{ObjectId}
 use Rattle.fetch_negotiate.specs.Requests.{fetch_request}
 use Rattle.fetch_wire.specs.Requests.{first_line, listing_lines}
 use Rattle.fetch_wire.specs.declared.handshake.Handshake.{Handshake}

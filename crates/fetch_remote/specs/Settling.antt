@@ -1,5 +1,5 @@
 -- What a fetch does with what it received.
-use Rattle.std.specs.Prelude.{◌≡◌, ◌⊎◌, ℕ, Bool, true, false, List, [], ◌∷◌, Option, Some, None, Result, Ok, Err, codes, ⊤, slice_get, if◌then◌else◌}
+use Rattle.std.specs.Prelude.{◌≡◌, ◌⊎◌, ℕ, Bool, true, false, List, [], Option, Some, None, Result, Ok, Err, codes, ⊤, slice_get}
 use Rattle.std.specs.Option.{option_map, option_and_then}
 use Rattle.fetch_store.specs.declared.id.ObjectId.{ObjectId}
 use Rattle.fetch_store.specs.declared.missing.Missing.{Missing}
@@ -7,8 +7,7 @@ use Rattle.fetch_store.specs.Borders.{merged}
 use Rattle.fetch_store.specs.Graph.{graph_of}
 use Rattle.fetch_store.specs.Honest.{Pack}
 use Rattle.fetch_store.specs.Missing.{missing}
-use Rattle.fetch_store.specs.Stores.{Entries, collision}
-use Rattle.fetch_specs.specs.declared.tags.Tags.{Tags}
+use Rattle.fetch_store.specs.Stores.{collision}
 use Rattle.fetch_refs.specs.Logs.{after}
 use Rattle.fetch_refs.specs.declared.edit.PackedRefs.TheVariants.{Never}
 use Rattle.fetch_refs.specs.declared.edit.RefEdit.{RefEdit}

@@ -1,5 +1,5 @@
 -- The two stages of a fetch and its conversation.
-use Rattle.std.specs.Prelude.{ℕ, List, Option, Result, Ok, codes}
+use Rattle.std.specs.Prelude.{ℕ, List, Option, Ok, codes}
 use Rattle.fetch_store.specs.Graph.{graph_of}
 use Rattle.fetch_store.specs.declared.id.ObjectId.{ObjectId}
 use Rattle.fetch_specs.specs.declared.tags.Tags.{Tags}

@@ -1,6 +1,5 @@
 -- What the call leaves that holds the conversation of a fetch.
 use Rattle.std.specs.Prelude.{◌≡◌, ◌⊎◌, ℕ, Bool, List, [], Option, Result, Ok, Err}
-use Rattle.fetch_store.specs.declared.id.ObjectId.{ObjectId}
 use Rattle.fetch_wire.specs.Talks.{Talk}
 use Rattle.fetch_conversation.specs.Conversation.{Concludes, Breaks}
 use Rattle.fetch_conversation.specs.Errors.{is_free_listing, is_free_receiving}

@@ -3,7 +3,7 @@ use Rattle.std.proofs.lemmas.Result.{err_from_is_err_and}
 use Rattle.fetch_conversation.specs.ListStage.{shown}
 use Rattle.fetch_remote.specs.Repositories.{state_of}
 use Rattle.fetch_remote.proofs.Fetched.{is_fetched, received_kind}
-use Rattle.fetch_remote.proofs.Refused.{isnt_built, broken_off, not_settled, unsettled_no_client, unsettled_no_stop, unsettled_no_listing}
+use Rattle.fetch_remote.proofs.Refused.{isnt_built, broken_off, not_settled}
 use Rattle.fetch_remote.proofs.remote.Remote.fetch.Goals as goal
 
 pub returns-then-not-is_in_form-clause-refused : goal.returns-then-not-is_in_form-clause-refused
