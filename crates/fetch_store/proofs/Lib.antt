@@ -44,3 +44,4 @@ pub mod FiniteMaps
 pub mod TreeChanges
 pub mod Silent
 pub mod Rooted
+pub mod Apart

@@ -20,6 +20,7 @@ pub mod Indexes
 pub mod Entries
 pub mod Buffers
 pub mod Collisions
+pub mod Fronts
 pub mod Iter
 pub mod Texts
 pub mod TreeTexts

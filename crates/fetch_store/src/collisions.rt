@@ -4,11 +4,13 @@ ghost use Rattle.std.specs.Prelude.{◌≡◌, ◌↔◌, IsTrue, IfOk, option_m
 ghost use Rattle.std.specs.BTreeMap as tree;
 ghost use Rattle.std.specs.FinMap as map;
 ghost use Rattle.std.specs.Option.{option_copied};
+ghost use Rattle.fetch_store.specs.Fronts.{HaveDistinctIds};
 ghost use Rattle.fetch_store.specs.References.{seen};
 ghost use Rattle.fetch_store.specs.Stores as spec;
 ghost use Rattle.fetch_store.specs.Stores.{id_cmp, first_some, collision};
 
 use crate::error::NoMemory;
+use crate::fronts::are_apart;
 use crate::id::ObjectId;
 use crate::object::{Object, ObjectRef};
 use crate::store::Store;
@@ -17,6 +19,33 @@ use std::collections::BTreeMap;
 
 /// The first id of the list that has another object in the store or earlier in the list.
 pub(crate) fn first_collision(
+    alloc: Global,
+    store: &Store,
+    objects: &[(ObjectId, Object)],
+) -> Option<ObjectId>
+    ensures { result ≡ collision store.now.objects objects.now }
+{
+    match are_apart(alloc, objects) {
+        Ok(true) => first_collision_of_distinct(store, objects),
+        _ => first_collision_of_doubles(alloc, store, objects),
+    }
+}
+
+/// Where no id comes twice in the list, only the store can have another object.
+fn first_collision_of_distinct(store: &Store, objects: &[(ObjectId, Object)]) -> Option<ObjectId>
+    requires { HaveDistinctIds objects.now }
+    ensures { result ≡ collision store.now.objects objects.now }
+{
+    for (id, object) in objects {
+        if clashes(store.get(id), object) {
+            return Some(*id);
+        }
+    }
+    None
+}
+
+/// Where ids may come twice in the list, or there was no memory to look for them.
+fn first_collision_of_doubles(
     alloc: Global,
     store: &Store,
     objects: &[(ObjectId, Object)],

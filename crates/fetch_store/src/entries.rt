@@ -59,8 +59,8 @@ pub fn arrange<X: Drop>(entries: &mut Vec<(ObjectId, X)>)
     ensures capacity { vec_capacity entries.new ≡ vec_capacity entries.old }
     ensures len { vec_len entries.new ≤ vec_len entries.old }
 {
-    entries.sort_unstable_by_key(|entry| entry.0);
-    entries.dedup_by_key(|entry| entry.0);
+    entries.sort_unstable_by(|entry, other| entry.0.cmp(&other.0));
+    entries.dedup_by(|entry, other| entry.0 == other.0);
 }
 
 /// Merges entries of new ids into those that stand in order, from the back: what stands before the new ids stays where
@@ -79,6 +79,10 @@ pub fn merge<X: Copy>(entries: &mut Vec<(ObjectId, X)>, fresh: &mut Vec<(ObjectI
 {
     let mut kept = entries.len();
     let _fits = entries.extend_from_slice(fresh.as_slice());
+    if kept == 0 {
+        fresh.clear();
+        return;
+    }
     let mut end = entries.len();
     while let Some(next) = fresh.pop() {
         while end_is_above(&entries[..kept], &next.0) {

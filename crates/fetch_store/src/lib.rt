@@ -15,6 +15,7 @@ mod file_error;
 mod file_path;
 mod file_tree;
 mod files;
+mod fronts;
 mod grammar;
 mod graph;
 mod hashing;
