@@ -141,6 +141,19 @@ impl File {
         lookup::last_text(self.sections.as_slice(), section, sub, key, trusted_only)
     }
 
+    /// The value of the last entry. Within, None is an implicit one.
+    pub fn last_value(
+        &self,
+        section: &[u8],
+        sub: Option<&[u8]>,
+        key: &[u8],
+        trusted_only: bool,
+    ) -> Option<&Option<Text>>
+        ensures { option_copied result ≡ lookups.last_of (lookups.values_of section.now (option_map (λ s. s.now) sub.entry) key.now trusted_only self.now.sections) }
+    {
+        lookup::last_value(self.sections.as_slice(), section, sub, key, trusted_only)
+    }
+
     /// The values that aren't implicit, in order.
     pub fn strings(
         &self,

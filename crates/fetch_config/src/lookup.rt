@@ -82,7 +82,7 @@ fn last_in<'a>(
 }
 
 /// The value of the last entry.
-fn last_value<'a>(
+pub fn last_value<'a>(
     sections: &'a [Section],
     name: &[u8],
     sub: Option<&[u8]>,
