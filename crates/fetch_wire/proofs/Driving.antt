@@ -12,8 +12,7 @@ use Rattle.fetch_wire.specs.Feeding.{Feeding, found_in, need_in, next_in, left_b
 use Rattle.fetch_wire.specs.Lines.{line_at}
 use Rattle.fetch_wire.specs.SectionLaws.{line_at-more}
 use Rattle.fetch_wire.specs.StepLaws.{read_by-step, line_then}
-use Rattle.fetch_wire.specs.LineLaws.{line_at-len, line_at-short}
-use Rattle.fetch_wire.specs.SectionSteps.{least}
+use Rattle.fetch_wire.specs.LineLaws.{line_at-len, line_at-short, least}
 use Rattle.fetch_wire.specs.Stepping.{goes, ends, breaks, says, after_line, after_step, fault_of, read_within}
 use Rattle.fetch_wire.specs.declared.awaited.Told.{Told}
 

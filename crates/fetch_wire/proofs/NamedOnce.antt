@@ -26,12 +26,11 @@ use Rattle.fetch_wire.specs.declared.reference.Ref.{Ref}
 use Rattle.fetch_wire.specs.declared.reference.Ref.TheVariants.{Direct, Symbolic, Peeled, Unborn}
 use Rattle.fetch_wire.specs.Advertisements.{is_version_1, at_first, at_advertised, at_reference, at_name, first_named, handshake_1, with_words, advertised, peeled_to, with_peel, before_peel, id_and_name, is_no_name, is_null}
 use Rattle.fetch_wire.specs.Awaited.{step_of, start_of, told_at, at_greeting, at_capability, at_listed}
-use Rattle.fetch_wire.specs.FetchReplies.{reply_step, at_beginning, at_rest, at_packfile, at_acknowledgment, at_change, at_band, behind_ready, with_bytes, acknowledged_in, shallow_in, unshallow_in, is_acknowledgments, is_nak, is_ready}
+use Rattle.fetch_wire.specs.FetchReplies.{reply_step, at_beginning, at_rest, at_packfile, at_acknowledgment, at_change, at_band, behind_ready, with_bytes, acknowledged_in, shallow_in, unshallow_in, is_acknowledgments, is_nak, is_ready, is_packfile, is_shallow_info}
 use Rattle.fetch_wire.specs.Greetings.{is_version_2, if_known, capability_in, handshake_of}
 use Rattle.fetch_wire.specs.Listings.{is_listed, if_new, ref_in}
 use Rattle.fetch_wire.specs.NamesTold.{AreNamedOnce, NamesOnce}
 use Rattle.fetch_wire.specs.References.{name_in}
-use Rattle.fetch_wire.specs.Replies.{is_packfile, is_shallow_info}
 use Rattle.fetch_wire.specs.Stepping.{Step, goes, ends, breaks, says, or_breaks}
 use Rattle.fetch_wire.specs.Steps.{by_line, error_text}
 use Rattle.fetch_wire.specs.Texts.{without_lf, is_error}

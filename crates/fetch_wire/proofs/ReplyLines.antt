@@ -22,9 +22,8 @@ use Rattle.fetch_wire.specs.declared.records.FetchReply.{FetchReply}
 use Rattle.fetch_wire.specs.Awaited.{step_of, start_of}
 use Rattle.fetch_wire.specs.Cutting.{in_pieces}
 use Rattle.fetch_wire.specs.Bands.{Band, Piece, packed, band_line, pieces_of, texts_of, pack_lines, behind, bands_tell}
-use Rattle.fetch_wire.specs.FetchReplies.{no_reply, is_acknowledgments, is_nak, is_ready, has_id, if_have, acknowledged_in, shallow_in, unshallow_in, at_rest, at_acknowledgment, at_change, at_beginning}
+use Rattle.fetch_wire.specs.FetchReplies.{no_reply, is_acknowledgments, is_nak, is_ready, has_id, if_have, acknowledged_in, shallow_in, unshallow_in, at_rest, at_acknowledgment, at_change, at_beginning, is_packfile, is_shallow_info}
 use Rattle.fetch_wire.specs.LinesTold.{Tells}
-use Rattle.fetch_wire.specs.Replies.{is_packfile, is_shallow_info}
 use Rattle.fetch_wire.specs.RequestLines.{id_lines}
 use Rattle.fetch_wire.specs.Requests.{sent, text_line}
 use Rattle.fetch_wire.specs.ServerLines.{IsIdOf, IsChangeOf, acknowledged_texts, round_lines, in_round, BorderChange, change_lines, last_lines, with_change, at_last, ready_lines, bands_of}

@@ -12,9 +12,8 @@ use Rattle.fetch_wire.specs.declared.reading.Part.TheVariants.{Bands}
 use Rattle.fetch_wire.specs.declared.reading.Reading.TheVariants as reading
 use Rattle.fetch_wire.specs.declared.records.FetchReply.{FetchReply}
 use Rattle.fetch_wire.specs.Awaited.{step_of, start_of}
-use Rattle.fetch_wire.specs.FetchReplies.{no_reply}
+use Rattle.fetch_wire.specs.FetchReplies.{no_reply, is_packfile, is_shallow_info}
 use Rattle.fetch_wire.specs.LinesTold.{Tells}
-use Rattle.fetch_wire.specs.Replies.{is_packfile, is_shallow_info}
 use Rattle.fetch_wire.specs.Stepping.{Step, goes}
 use Rattle.fetch_wire.specs.Texts.{is_error, without_lf}
 

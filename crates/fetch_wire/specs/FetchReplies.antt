@@ -17,7 +17,6 @@ use Rattle.fetch_wire.specs.declared.reading.Part.TheVariants.{Beginning, Acknow
 use Rattle.fetch_wire.specs.declared.reading.Reading.{Reading}
 use Rattle.fetch_wire.specs.declared.reading.Reading.TheVariants as reading
 use Rattle.fetch_wire.specs.declared.records.FetchReply.{FetchReply}
-use Rattle.fetch_wire.specs.Replies.{is_packfile, is_shallow_info}
 use Rattle.fetch_wire.specs.Stepping.{Step, goes, ends, breaks, says, or_breaks}
 use Rattle.fetch_wire.specs.Steps.{by_line, by_text}
 
@@ -33,6 +32,12 @@ is_nak text = bytes_eq text (codes "NAK")
 
 unfoldable pub is_ready : List ℕ → Bool
 is_ready text = bytes_eq text (codes "ready")
+
+unfoldable pub is_packfile : List ℕ → Bool
+is_packfile text = bytes_eq text (codes "packfile")
+
+unfoldable pub is_shallow_info : List ℕ → Bool
+is_shallow_info text = bytes_eq text (codes "shallow-info")
 
 -- whether an id is one of these
 abbrev pub has_id : ObjectId → List ObjectId → Bool

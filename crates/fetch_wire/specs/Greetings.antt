@@ -1,18 +1,15 @@
 -- What a server says first.
-use Rattle.std.specs.Prelude.{ℕ, List, [], ◌∷◌, Bool, false, Option, Some, None, Result, Ok, Err, is_some, ◌||◌, not, if◌then◌else◌, codes, fold}
+use Rattle.std.specs.Prelude.{ℕ, List, [], ◌∷◌, Bool, false, Option, Some, None, is_some, ◌||◌, not, if◌then◌else◌, codes, fold}
 use Rattle.std.specs.List.{list_any}
-use Rattle.std.specs.Option.{ok_or, option_or, option_map_or, option_and_then}
+use Rattle.std.specs.Option.{option_or, option_map_or, option_and_then}
 use Rattle.std.specs.Str.{bytes_eq}
 use Rattle.fetch_store.specs.Scan.{split_first}
 use Rattle.fetch_store.specs.declared.id.Kind.{Kind}
 use Rattle.fetch_store.specs.declared.id.Kind.TheVariants.{Sha1, Sha256}
-use Rattle.fetch_wire.specs.declared.line.Line.{Line}
 use Rattle.fetch_wire.specs.declared.handshake.Capability.{Capability}
 use Rattle.fetch_wire.specs.declared.handshake.Handshake.{Handshake}
 use Rattle.fetch_wire.specs.declared.handshake.Version.TheVariants.{V2}
-use Rattle.fetch_wire.specs.Lines.{◌>>=◌, line_len}
 use Rattle.fetch_wire.specs.Words.{words}
-use Rattle.fetch_wire.specs.Texts.{text_of, each_from}
 
 -- a capability, whose key isn't empty
 abbrev pub if_key : List ℕ → Option (List ℕ) → Option Capability
@@ -45,9 +42,6 @@ is_known capability = not (is_format capability) || is_some (format_of capabilit
 abbrev pub if_known : Capability → Option Capability
 if_known capability = if is_known capability then Some capability else None
 
-abbrev pub capability_of : Line → Option Capability
-capability_of line = option_and_then if_known (option_and_then capability_in (text_of line))
-
 -- the last capability of this name
 abbrev pub last_named : List ℕ → List Capability → Option Capability
 last_named name [] = None
@@ -61,18 +55,8 @@ hash_after kind capability = if is_format capability then option_map_or (λ k. k
 abbrev pub handshake_of : List Capability → Handshake
 handshake_of capabilities = record { version = V2; capabilities = capabilities; object_hash = fold hash_after Sha1 capabilities }
 
--- the lines of capabilities, of which the first stands at this place
-abbrev pub capabilities_from : ℕ → List Line → Result Handshake ℕ
-capabilities_from place lines = each_from capability_of place lines >>= λ capabilities. Ok (handshake_of capabilities)
-
 unfoldable pub is_version_2 : List ℕ → Bool
 is_version_2 text = bytes_eq text (codes "version 2")
-
--- A greeting is `version 2` and a line for each capability. None is a server that speaks another version.
-abbrev pub greeting_of : List Line → Result (Option Handshake) ℕ
-greeting_of [] = Err 0
-greeting_of (first ∷ others) = ok_or (text_of first) 0 >>= λ text.
-    if is_version_2 text then (capabilities_from (line_len first) others >>= λ handshake. Ok (Some handshake)) else Ok None
 
 -- the value of the last capability of this name, where it has one
 abbrev pub value_of : List ℕ → List Capability → Option (List ℕ)

@@ -6,15 +6,11 @@ pub mod Lines
 pub mod Written
 pub mod SectionLaws
 pub mod LineLaws
-pub mod SectionSteps
-pub mod Sessions
-pub mod Reading
 pub mod Mappings
 pub mod Texts
 pub mod Words
 pub mod Greetings
 pub mod Listings
-pub mod Replies
 pub mod Cutting
 pub mod RequestWords
 pub mod Requests

@@ -118,6 +118,13 @@ line_len-is Flush = refl
 line_len-is Delim = refl
 line_len-is End = refl
 
+-- a line has four bytes at least
+pub least : (line : Line) → 4 ≤ line_len line
+least (Payload payload) = omega arith
+least Flush = omega arith
+least Delim = omega arith
+least End = omega arith
+
 -- a line's bytes
 pub line_at-len : (bound place : ℕ) (bytes rest : List ℕ) (line : Line) → line_at bound place bytes ≡ Ok (line, rest) → length bytes ≡ line_len line + length rest
 line_at-len bound place bytes rest line is =

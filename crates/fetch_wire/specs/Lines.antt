@@ -54,24 +54,3 @@ line_len (Payload payload) = length payload + 4
 line_len Flush = 4
 line_len Delim = 4
 line_len End = 4
-
--- the line before the others, which end where it is a flush
-abbrev pub up_to_flush : Line × List ℕ → Result (List Line × List ℕ) Trouble → Result (List Line × List ℕ) Trouble
-up_to_flush (Flush, rest) others = Ok ([], rest)
-up_to_flush (Payload payload, rest) others = others >>= λ x. Ok (Payload payload ∷ x.0, x.1)
-up_to_flush (Delim, rest) others = others >>= λ x. Ok (Delim ∷ x.0, x.1)
-up_to_flush (End, rest) others = others >>= λ x. Ok (End ∷ x.0, x.1)
-
--- the lines before the first flush, of at most so many, and what is behind the flush
-unfoldable pub section_within : ℕ → ℕ → ℕ → List ℕ → Result (List Line × List ℕ) Trouble
-section_within zero bound place bytes = Err (Short place)
-section_within (suc n) bound place bytes =
-    line_at bound place bytes >>= λ first. up_to_flush first (section_within n bound (place + line_len first.0) first.1)
-
--- The same from this place on. Each line has a byte, so there are no more lines than bytes.
-abbrev pub section_from : ℕ → ℕ → List ℕ → Result (List Line × List ℕ) Trouble
-section_from bound place bytes = section_within (suc (length bytes)) bound place bytes
-
--- The section that a reply's text begins with: the lines before the first flush, and what is behind the flush.
-abbrev pub section_at : ℕ → List ℕ → Result (List Line × List ℕ) Trouble
-section_at bound bytes = section_from bound 0 bytes

@@ -1,5 +1,5 @@
 -- The references that a server lists.
-use Rattle.std.specs.Prelude.{◌≡◌, ℕ, List, [], ◌∷◌, Bool, Option, Some, None, Result, if◌then◌else◌, codes}
+use Rattle.std.specs.Prelude.{◌≡◌, ℕ, List, [], ◌∷◌, Bool, Option, Some, None, if◌then◌else◌, codes}
 use Rattle.std.specs.List.{list_any}
 use Rattle.std.specs.Option.{option_map, option_and_then}
 use Rattle.std.specs.Ordering.{nat_cmp, is_eq}
@@ -9,11 +9,9 @@ use Rattle.fetch_store.specs.Scan.{split_first, after}
 use Rattle.fetch_store.specs.Id.{id_in_hex}
 use Rattle.fetch_store.specs.declared.id.Kind.{Kind}
 use Rattle.fetch_store.specs.declared.id.ObjectId.{ObjectId}
-use Rattle.fetch_wire.specs.declared.line.Line.{Line}
 use Rattle.fetch_wire.specs.declared.reference.Ref.{Ref}
 use Rattle.fetch_wire.specs.declared.reference.Ref.TheVariants.{Direct, Symbolic, Peeled, Unborn}
 use Rattle.fetch_wire.specs.References.{name_in}
-use Rattle.fetch_wire.specs.Texts.{text_of, each_after}
 use Rattle.fetch_wire.specs.Words.{words}
 
 -- the target and the peeled id that attributes tell
@@ -75,13 +73,6 @@ is_listed before reference = list_any (λ r. bytes_eq (name_in r) (name_in refer
 abbrev pub if_new : List Ref → Ref → Option Ref
 if_new before reference = if is_listed before reference then None else Some reference
 
-abbrev pub ref_of : Kind → List Ref → Line → Option Ref
-ref_of kind before line = option_and_then (if_new before) (option_and_then (ref_in kind) (text_of line))
-
 -- a set has the names of these references
 abbrev pub HasNames : List Ref → List (List ℕ) → Type 0
 HasNames refs names = (name : List ℕ) → list_any (λ n. is_eq (slice_cmp nat_cmp name n)) names ≡ list_any (λ r. bytes_eq (name_in r) name) refs
-
--- A listing has a line for each reference.
-abbrev pub listing_of : Kind → List Line → Result (List Ref) ℕ
-listing_of kind lines = each_after (ref_of kind) [] 0 lines

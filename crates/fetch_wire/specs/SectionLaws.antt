@@ -1,4 +1,4 @@
--- What was read stays when more bytes come, and a section is read line by line.
+-- A line that was read stays when more bytes come.
 use Rattle.std.specs.Prelude.{◌≡◌, ◌≢◌, ℕ, zero, suc, ◌+◌, ◌-◌, ◌*◌, ◌≤◌, ◌<◌, max, Bool, true, false, if◌then◌else◌, List, [], ◌∷◌, ◌++◌, length, take, slice_index, Option, Some, None, Result, Ok, Err, nat_lt, refl, IsOk}
 use Rattle.std.proofs.Common.{ap, ◌∙◌, arith, length-append}
 use Rattle.std.specs.List.{list_all}
@@ -15,8 +15,7 @@ use Rattle.hex.proofs.HexLemmas.{IsOk-decode_sized}
 use Rattle.fetch_wire.specs.declared.section.Trouble.{Trouble}
 use Rattle.fetch_wire.specs.declared.section.Trouble.TheVariants.{Short, Broken, TooLong}
 use Rattle.fetch_wire.specs.declared.line.Line.{Line}
-use Rattle.fetch_wire.specs.declared.line.Line.TheVariants.{Payload, Flush, Delim, End}
-use Rattle.fetch_wire.specs.Lines.{◌>>=◌, is_no_line, line_counted, announced, number_in, line_at, line_len, section_within, section_from, section_at, up_to_flush}
+use Rattle.fetch_wire.specs.Lines.{◌>>=◌, is_no_line, line_counted, announced, number_in, line_at}
 
 -- more bytes behind what a reading found
 abbrev pub with_more : {A : Type 0} → Result (A × List ℕ) Trouble → List ℕ → Result (A × List ℕ) Trouble
@@ -109,45 +108,3 @@ line_at-more bound place [] more settled = absurd (settled place refl)
 line_at-more bound place (a ∷ []) more settled = short_line bound place (a ∷ []) more (omega arith) _ refl refl settled
 line_at-more bound place (a ∷ b ∷ []) more settled = short_line bound place (a ∷ b ∷ []) more (omega arith) _ refl refl settled
 line_at-more bound place (a ∷ b ∷ c ∷ []) more settled = short_line bound place (a ∷ b ∷ c ∷ []) more (omega arith) _ refl refl settled
-
--- the others of a section, with more bytes behind them
-up_to_flush-more : (first : Line × List ℕ) (others longer : Result (List Line × List ℕ) Trouble) (more : List ℕ) → (IsSettled others → longer ≡ with_more others more) → IsSettled (up_to_flush first others)
-    → up_to_flush (first.0, first.1 ++ more) longer ≡ with_more (up_to_flush first others) more
-up_to_flush-more (Flush, rest) others longer more h settled = refl
-up_to_flush-more (Payload payload, rest) (Ok x) longer more h settled = rw (h (λ place e. cc)) refl
-up_to_flush-more (Payload payload, rest) (Err (Short place)) longer more h settled = absurd (settled place refl)
-up_to_flush-more (Payload payload, rest) (Err (Broken place)) longer more h settled = rw (h (λ place e. cc)) refl
-up_to_flush-more (Payload payload, rest) (Err TooLong) longer more h settled = rw (h (λ place e. cc)) refl
-up_to_flush-more (Delim, rest) (Ok x) longer more h settled = rw (h (λ place e. cc)) refl
-up_to_flush-more (Delim, rest) (Err (Short place)) longer more h settled = absurd (settled place refl)
-up_to_flush-more (Delim, rest) (Err (Broken place)) longer more h settled = rw (h (λ place e. cc)) refl
-up_to_flush-more (Delim, rest) (Err TooLong) longer more h settled = rw (h (λ place e. cc)) refl
-up_to_flush-more (End, rest) (Ok x) longer more h settled = rw (h (λ place e. cc)) refl
-up_to_flush-more (End, rest) (Err (Short place)) longer more h settled = absurd (settled place refl)
-up_to_flush-more (End, rest) (Err (Broken place)) longer more h settled = rw (h (λ place e. cc)) refl
-up_to_flush-more (End, rest) (Err TooLong) longer more h settled = rw (h (λ place e. cc)) refl
-
-within-step : (n m bound place : ℕ) (more : List ℕ) (first longer : Result (Line × List ℕ) Trouble) → (IsSettled first → longer ≡ with_more first more)
-    → ((p : ℕ) (bytes : List ℕ) → IsSettled (section_within n bound p bytes) → section_within m bound p (bytes ++ more) ≡ with_more (section_within n bound p bytes) more)
-    → IsSettled (first >>= λ x. up_to_flush x (section_within n bound (place + line_len x.0) x.1))
-    → (longer >>= λ x. up_to_flush x (section_within m bound (place + line_len x.0) x.1)) ≡ with_more (first >>= λ x. up_to_flush x (section_within n bound (place + line_len x.0) x.1)) more
-within-step n m bound place more (Ok x) longer h again settled =
-    rw (h (λ p e. cc)) (up_to_flush-more x (section_within n bound (place + line_len x.0) x.1) (section_within m bound (place + line_len x.0) (x.1 ++ more)) more (again (place + line_len x.0) x.1) settled)
-within-step n m bound place more (Err (Short p)) longer h again settled = absurd (settled p refl)
-within-step n m bound place more (Err (Broken p)) longer h again settled = rw (h (λ p e. cc)) refl
-within-step n m bound place more (Err TooLong) longer h again settled = rw (h (λ p e. cc)) refl
-
-section_within-more : (n m bound place : ℕ) (bytes more : List ℕ) → n ≤ m → IsSettled (section_within n bound place bytes) → section_within m bound place (bytes ++ more) ≡ with_more (section_within n bound place bytes) more
-unfolding section_within
-section_within-more zero m bound place bytes more le settled = absurd (settled place refl)
-section_within-more (suc n) zero bound place bytes more le settled = absurd (omega arith)
-section_within-more (suc n) (suc m) bound place bytes more le settled =
-    within-step n m bound place more (line_at bound place bytes) (line_at bound place (bytes ++ more)) (line_at-more bound place bytes more) (λ p rest. section_within-more n m bound p rest more (omega arith)) settled
-
--- A section that was found, and a text that can't become one, stay so when more bytes come.
-pub section_from-more : (bound place : ℕ) (bytes more : List ℕ) → IsSettled (section_from bound place bytes) → section_from bound place (bytes ++ more) ≡ with_more (section_from bound place bytes) more
-section_from-more bound place bytes more settled =
-    section_within-more (suc (length bytes)) (suc (length (bytes ++ more))) bound place bytes more (omega (arith, length-append bytes more)) settled
-
-pub section_at-more : (bound : ℕ) (bytes more : List ℕ) → IsSettled (section_at bound bytes) → section_at bound (bytes ++ more) ≡ with_more (section_at bound bytes) more
-section_at-more bound bytes more settled = section_from-more bound 0 bytes more settled

@@ -9,9 +9,8 @@ use Rattle.fetch_wire.specs.declared.awaited.Fault.{Fault}
 use Rattle.fetch_wire.specs.declared.awaited.Fault.TheVariants.{Short, Broken, TooLong, Said}
 use Rattle.fetch_wire.specs.declared.line.Line.{Line}
 use Rattle.fetch_wire.specs.Lines.{◌>>=◌, line_at, line_len}
-use Rattle.fetch_wire.specs.LineLaws.{line_at-len}
+use Rattle.fetch_wire.specs.LineLaws.{line_at-len, least}
 use Rattle.fetch_wire.specs.SectionLaws as section
-use Rattle.fetch_wire.specs.SectionSteps.{least}
 use Rattle.fetch_wire.specs.Stepping.{Step, goes, ends, breaks, says, after_step, after_line, read_within, read_by}
 
 -- more bytes behind what a reading found

@@ -2,10 +2,9 @@
 
 ghost use Rattle.std.specs.Prelude.{◌≡◌, Some, IfOk, false};
 ghost use Rattle.std.specs.Option.{option_copied};
-ghost use Rattle.fetch_wire.specs.FetchReplies.{is_acknowledgments, is_nak, is_ready, has_id, acknowledged_in, shallow_in, unshallow_in, at_beginning, at_rest, at_packfile, at_acknowledgment, behind_ready, at_change, with_bytes, by_band, at_band, reply_step};
+ghost use Rattle.fetch_wire.specs.FetchReplies.{is_acknowledgments, is_nak, is_ready, has_id, acknowledged_in, shallow_in, unshallow_in, at_beginning, at_rest, at_packfile, at_acknowledgment, behind_ready, at_change, with_bytes, by_band, at_band, reply_step, is_packfile, is_shallow_info};
 ghost use Rattle.fetch_wire.specs.LineViews.{line_of};
 ghost use Rattle.fetch_wire.specs.ReadSteps.{step_in, by_saying, at_text};
-ghost use Rattle.fetch_wire.specs.Replies.{is_packfile, is_shallow_info};
 ghost use Rattle.fetch_wire.specs.Stepping.{ends, breaks, goes};
 ghost use Rattle.fetch_wire.specs.declared.awaited.Told.TheVariants as told;
 ghost use Rattle.fetch_wire.specs.declared.reading.Part.TheVariants as parts;
@@ -40,14 +39,14 @@ fn says_ready(text: &[u8]) -> bool
     text == b"ready".as_slice()
 }
 
-#[tactic(auto, unfolding(crate::specs::Replies::is_packfile))]
+#[tactic(auto, unfolding(crate::specs::FetchReplies::is_packfile))]
 fn says_packfile(text: &[u8]) -> bool
     ensures { result ≡ is_packfile text.now }
 {
     text == b"packfile".as_slice()
 }
 
-#[tactic(auto, unfolding(crate::specs::Replies::is_shallow_info))]
+#[tactic(auto, unfolding(crate::specs::FetchReplies::is_shallow_info))]
 fn says_shallow_info(text: &[u8]) -> bool
     ensures { result ≡ is_shallow_info text.now }
 {

@@ -1,17 +1,12 @@
 //! What a server says first.
 
-ghost use Rattle.std.specs.Prelude.{◌≡◌, ◌<◌, ◌+◌, ◌^◌, IfOk, fold, sum_by, option_and_then};
+ghost use Rattle.std.specs.Prelude.{◌≡◌, IfOk, fold, option_and_then};
 ghost use Rattle.std.specs.Option.{option_copied};
-ghost use Rattle.fetch_wire.specs.Lines.{line_len as len_of};
-ghost use Rattle.fetch_wire.specs.Texts.{Reads, each_from};
-ghost use Rattle.fetch_wire.specs.Greetings.{if_key, capability_in, format_in, is_format, format_of, is_known, if_known, capability_of, hash_after, last_named, is_version_2, capabilities_from, greeting_of};
+ghost use Rattle.fetch_wire.specs.Greetings.{if_key, capability_in, format_in, is_format, format_of, is_known, if_known, hash_after, last_named, is_version_2};
 ghost use Rattle.fetch_store.specs.declared.id.Kind.TheVariants.{Sha1};
 
-use crate::error::WireError;
-use crate::handshake::{Capability, Handshake, Version};
-use crate::line::Line;
-use crate::readers::{line_len, text};
-use fetch_store::{Kind, List, NoMemory, Text, split_first};
+use crate::handshake::Capability;
+use fetch_store::{Kind, NoMemory, Text, split_first};
 use std::alloc::Global;
 
 /// A capability with this key, which isn't empty.
@@ -92,16 +87,6 @@ impl Capability {
     }
 }
 
-/// The capability that a line tells.
-fn read_capability(alloc: Global, line: &Line) -> Result<Option<Capability>, NoMemory>
-    ensures { IfOk result (λ found. found ≡ capability_of line.now) }
-{
-    match text(line) {
-        Some(text) => known_capability(alloc, text),
-        None => Ok(None),
-    }
-}
-
 /// The capability that a text tells. An `object-format` names a hash that is known.
 pub(crate) fn known_capability(alloc: Global, text: &[u8]) -> Result<Option<Capability>, NoMemory>
     ensures { IfOk result (λ found. found ≡ option_and_then if_known (capability_in text.now)) }
@@ -116,27 +101,6 @@ pub(crate) fn known_capability(alloc: Global, text: &[u8]) -> Result<Option<Capa
         }
         None => Ok(None),
     }
-}
-
-/// The capabilities that lines tell. The first of them stands at this place.
-fn capabilities_of(
-    alloc: Global,
-    lines: &[Line],
-    place: usize,
-) -> Result<Vec<Capability>, WireError>
-    requires { place + sum_by len_of lines.now < 2 ^ 63 }
-    ensures { Reads (λ found. found.items) result (each_from capability_of place lines.now) }
-{
-    let mut capabilities = Vec::new(alloc);
-    let mut place = place;
-    for line in lines {
-        match read_capability(alloc, line)? {
-            Some(capability) => capabilities.push(capability)?,
-            None => return Err(WireError::Malformed { place }),
-        }
-        place += line_len(line);
-    }
-    Ok(capabilities)
 }
 
 /// The hash that capabilities name.
@@ -168,42 +132,4 @@ pub(crate) fn last_named<'a>(capabilities: &'a [Capability], name: &[u8]) -> Opt
         }
     }
     found
-}
-
-/// The handshake that capability lines make.
-fn read_capabilities(alloc: Global, lines: &[Line], place: usize) -> Result<Handshake, WireError>
-    requires { place + sum_by len_of lines.now < 2 ^ 63 }
-    ensures { Reads (λ found. found) result (capabilities_from place lines.now) }
-{
-    match capabilities_of(alloc, lines, place) {
-        Ok(capabilities) => {
-            let object_hash = hash_of(&capabilities);
-            Ok(Handshake {
-                version: Version::V2,
-                capabilities: List::from(capabilities),
-                object_hash,
-            })
-        }
-        Err(e) => Err(e),
-    }
-}
-
-/// The greeting that these lines are. None is a server that speaks another version.
-pub fn read_greeting(alloc: Global, lines: &[Line]) -> Result<Option<Handshake>, WireError>
-    requires { sum_by len_of lines.now < 2 ^ 63 }
-    ensures { Reads (λ found. found) result (greeting_of lines.now) }
-{
-    let [first, others @ ..] = lines else {
-        return Err(WireError::Malformed { place: 0 });
-    };
-    let Some(text) = text(first) else {
-        return Err(WireError::Malformed { place: 0 });
-    };
-    if !says_version_2(text) {
-        return Ok(None);
-    }
-    match read_capabilities(alloc, others, line_len(first)) {
-        Ok(handshake) => Ok(Some(handshake)),
-        Err(e) => Err(e),
-    }
 }

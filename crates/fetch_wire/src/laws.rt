@@ -3,12 +3,11 @@
 ghost use Rattle.std.specs.Prelude.{◌≡◌, ◌<◌, List, [], ℕ, ◌++◌};
 ghost use Rattle.fetch_wire.specs.Cutting.{in_pieces};
 ghost use Rattle.fetch_wire.specs.Requests.{agent_text};
-ghost use Rattle.fetch_wire.specs.Lines.{line_at, section_at, section_from};
+ghost use Rattle.fetch_wire.specs.Lines.{line_at};
 ghost use Rattle.std.specs.Prelude.{Ok};
 ghost use Rattle.fetch_wire.specs.declared.line.Line.{Line};
 ghost use Rattle.fetch_wire.specs.LineLaws.{IsLine};
-ghost use Rattle.fetch_wire.specs.SectionSteps.{then_lines};
-ghost use Rattle.fetch_wire.specs.SectionLaws.{IsSettled, with_more};
+ghost use Rattle.fetch_wire.specs.SectionLaws.{IsSettled};
 ghost use Rattle.std.specs.List.{concat};
 ghost use Rattle.fetch_wire.specs.declared.awaited.Await.{Await};
 ghost use Rattle.fetch_wire.specs.declared.reading.Reading.{Reading};
@@ -49,22 +48,10 @@ ghost use Rattle.fetch_wire.specs.Bands.{Band, pack_lines, packed};
 ghost use Rattle.fetch_wire.specs.Lines.{line_len};
 ghost use Rattle.fetch_wire.specs.Written.{line_text, too_long_in};
 
-/// What was read of a reply stays when more bytes come: a section that was found, and a text that can't become one.
-pub fn sections_stay()
-    ensures { (bound : ℕ) (bytes more : List ℕ) → IsSettled (section_at bound bytes)
-        → section_at bound (bytes ++ more) ≡ with_more (section_at bound bytes) more }
-{}
-
 /// A line that was read is four digits of either case that write its number, and its payload, within the bound.
 pub fn lines_are_read_as_written()
     ensures { (bound place : ℕ) (bytes rest : List ℕ) (line : Line) → line_at bound place bytes ≡ Ok (line, rest)
         → IsLine bound place line rest bytes }
-{}
-
-/// A section is its first line and the section behind that line, up to the flush.
-pub fn sections_are_read_line_by_line()
-    ensures { (bound place : ℕ) (bytes : List ℕ)
-        → section_from bound place bytes ≡ then_lines bound place (line_at bound place bytes) }
 {}
 
 /// What bytes tell of a reply stays when more bytes come: a reply that is whole, and bytes that can't become one.

@@ -1,20 +1,15 @@
 //! The references that a server lists.
 
-ghost use Rattle.std.specs.Prelude.{◌≡◌, ◌<◌, ◌^◌, ◌++◌, ◌∷◌, [], if◌then◌else◌, not, Some, None, IfOk, OnOk, sum_by, option_and_then, vec_len, vec_capacity};
+ghost use Rattle.std.specs.Prelude.{◌≡◌, ◌<◌, ◌++◌, ◌∷◌, [], if◌then◌else◌, not, Some, None, IfOk, OnOk, option_and_then, vec_len, vec_capacity};
 ghost use Rattle.std.specs.Option.{option_copied, option_map};
-ghost use Rattle.fetch_wire.specs.Lines.{line_len as len_of};
-ghost use Rattle.fetch_wire.specs.Texts.{Reads};
 ghost use Rattle.fetch_wire.specs.Words.{words, words_in};
 ghost use Rattle.fetch_wire.specs.Advertisements.{with_peel, peeled_to};
-ghost use Rattle.fetch_wire.specs.Listings.{no_attributes, with_attribute, with_attributes, ref_with, id_or_unborn, named_by, ref_in, ref_of, if_new, is_listed, listing_of};
+ghost use Rattle.fetch_wire.specs.Listings.{no_attributes, with_attribute, with_attributes, ref_with, id_or_unborn, named_by, ref_in, if_new, is_listed};
 
 use crate::advertisement::peeled_to;
-use crate::error::WireError;
-use crate::line::Line;
-use crate::readers::{line_len, text};
 use crate::reference::Ref;
 use crate::words::next_word;
-use fetch_store::{Kind, List, NoMemory, ObjectId, Text, after, split_first};
+use fetch_store::{Kind, NoMemory, ObjectId, Text, after, split_first};
 use std::alloc::Global;
 use std::collections::BTreeSet;
 use std::marker::Model;
@@ -231,16 +226,6 @@ fn push_if(is_new: bool, refs: &mut Vec<Ref>, reference: Ref)
     }
 }
 
-/// Adds the reference that a line lists, and says whether it lists one whose name is new.
-fn add_line(alloc: Global, kind: Kind, listed: &mut Listed, line: &Line) -> Result<bool, NoMemory>
-    ensures { IfOk result (λ is_new. (if is_new then Some listed.new else None) ≡ option_map (λ reference. listed.old ++ reference ∷ []) (ref_of kind listed.old line.now)) }
-{
-    match text(line) {
-        Some(text) => add_text(alloc, kind, listed, text),
-        None => Ok(false),
-    }
-}
-
 /// Adds the reference that a text lists, and says whether it lists one whose name is new.
 pub(crate) fn add_text(
     alloc: Global,
@@ -254,20 +239,4 @@ pub(crate) fn add_text(
         Some(reference) => listed.add(alloc, reference),
         None => Ok(false),
     }
-}
-
-/// The references that these lines list, with ids of this kind.
-pub fn read_listing(alloc: Global, kind: Kind, lines: &[Line]) -> Result<List<Ref>, WireError>
-    requires { sum_by len_of lines.now < 2 ^ 63 }
-    ensures { Reads (λ refs. refs) result (listing_of kind lines.now) }
-{
-    let mut listed = Listed::new(alloc);
-    let mut place = 0;
-    for line in lines {
-        if !add_line(alloc, kind, &mut listed, line)? {
-            return Err(WireError::Malformed { place });
-        }
-        place += line_len(line);
-    }
-    Ok(List::from(listed.into_refs()))
 }

@@ -7,9 +7,9 @@ ghost use Rattle.fetch_wire.specs.LineViews.{line_of};
 ghost use Rattle.fetch_wire.specs.ReadSteps.{by_saying};
 ghost use Rattle.fetch_wire.specs.Stepping.{Step};
 ghost use Rattle.fetch_wire.specs.Steps.{by_line, error_text};
+ghost use Rattle.fetch_wire.specs.Texts.{without_lf, is_error};
 
 use crate::line::LineRef;
-use crate::readers::{begins_with_error, without_line_feed};
 
 /// What a line says where a text line may stand.
 #[derive(Clone, Copy)]
@@ -21,6 +21,24 @@ pub(crate) enum Saying<'a> {
     Flush,
     Delim,
     End,
+}
+
+#[tactic(auto, unfolding(crate::specs::Texts::without_lf))]
+fn without_line_feed(text: &[u8]) -> &[u8]
+    ensures { result.now ≡ without_lf text.now }
+{
+    if !text.is_empty() && text[text.len() - 1] == b'\n' {
+        &text[..text.len() - 1]
+    } else {
+        text
+    }
+}
+
+#[tactic(auto, unfolding(crate::specs::Texts::is_error))]
+fn begins_with_error(payload: &[u8]) -> bool
+    ensures { result ≡ is_error payload.now }
+{
+    payload.starts_with(b"ERR ")
 }
 
 /// What the server says behind `ERR `.
