@@ -181,8 +181,8 @@ within_links k border acknowledged x ids reached links =
       };
     }
 
-pub within_one : (k : Read) (border : set.FinSet id_cmp) (acknowledged : List ObjectId) (id : ObjectId) → IsWithin k border acknowledged id → AreWithin k border acknowledged (id ∷ [])
-within_one k border acknowledged id w = record { each = λ q h. split (λ x. IsWithin k border acknowledged x) id q false w (λ e. absurd (true≢false (sym e))) h }
+pub one_done : (k : Read) (commits : List ObjectId) (id : ObjectId) → IsDone k commits id → AreDone k commits (id ∷ [])
+one_done k commits id d = record { each = λ q h. split (λ x. IsDone k commits x) id q false d (λ e. absurd (true≢false (sym e))) h }
 
 pub found_at : (o : Option (Option Commit)) (c : Option Commit) → o ≡ Some c → option_and_then (λ (c : Option Commit). c) o ≡ c
 found_at o c is = ap (λ (o : Option (Option Commit)). option_and_then (λ (c : Option Commit). c) o) is
@@ -351,9 +351,8 @@ pub within_next : (k : Read) (border : set.FinSet id_cmp) (c : Common) (x : Obje
 within_next k border c x ids lt at links is =
     within_links k border c.acknowledged.items x ids (is.1.reached x (ap (has c.commits.items) at ∙ has_at c.commits.items c.closed x lt)) links
 
-pub within_this : (k : Read) (border : set.FinSet id_cmp) (c : Common) (x : ObjectId) → c.settled < length c.acknowledged.items → x ≡ get_or c.acknowledged.items c.settled x → AreWithin k border c.acknowledged.items (x ∷ [])
-within_this k border c x lt at =
-    within_one k border c.acknowledged.items x (within_acknowledged k border c.acknowledged.items x (ap (has c.acknowledged.items) at ∙ has_at c.acknowledged.items c.settled x lt))
+pub within_this : (k : Read) (border : set.FinSet id_cmp) (c : Common) (x : ObjectId) → c.settled < length c.acknowledged.items → x ≡ get_or c.acknowledged.items c.settled x → IsWithin k border c.acknowledged.items x
+within_this k border c x lt at = within_acknowledged k border c.acknowledged.items x (ap (has c.acknowledged.items) at ∙ has_at c.acknowledged.items c.settled x lt)
 
 -- one more id is acknowledged
 pub common_acknowledged : (k : Read) (border : set.FinSet id_cmp) (acknowledged : List ObjectId) (settled : ℕ) (commits : List ObjectId) (closed : ℕ) (id : ObjectId)

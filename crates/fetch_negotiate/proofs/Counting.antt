@@ -127,13 +127,13 @@ module _ (g : Graph) where
     pub taken : IfSome o.have (λ id. has o.later.taken id ≡ true)
     pub more : Covers n.taken o.later.taken
 
-  new_none : (n : Negotiation) → IsNew n (none n)
+  pub new_none : (n : Negotiation) → IsNew n (none n)
   new_none n = record { stored = tt; fresh = tt; taken = tt; more = record { stays = λ q h. h } }
 
   grown : (n : Negotiation) (id : ObjectId) → Covers n.taken (n.taken ++ id ∷ [])
   grown n id = record { stays = λ q h. has_append n.taken (id ∷ []) q h }
 
-  new_some : (n : Negotiation) (id : ObjectId) → next_taken g n ≡ Some id → IsNew n (some n id)
+  pub new_some : (n : Negotiation) (id : ObjectId) → next_taken g n ≡ Some id → IsNew n (some n id)
   new_some n id e =
       record {
         stored = next_stored g n (Some id) (sym e);

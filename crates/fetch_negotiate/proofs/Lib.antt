@@ -14,3 +14,6 @@ pub mod Counting
 pub mod Handing
 pub mod Descent
 pub mod Copying
+pub mod Windowing
+pub mod Rounding
+pub mod Passed

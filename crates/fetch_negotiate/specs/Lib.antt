@@ -17,3 +17,6 @@ pub mod Any
 pub mod Tips
 pub mod Copies
 pub mod Unread
+pub mod Windows
+pub mod Rounds
+pub mod Passing

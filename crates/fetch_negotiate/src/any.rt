@@ -5,6 +5,7 @@ ghost use Rattle.std.specs.Option.{option_to_list};
 ghost use Rattle.fetch_negotiate.specs.Any.{algorithm_of, known_by, given_by, so_far_of, begun, offer_of, sharing};
 ghost use Rattle.fetch_negotiate.specs.Commits.{IsStoredCommit, has};
 ghost use Rattle.fetch_negotiate.specs.Reading.{IsTold};
+ghost use Rattle.fetch_negotiate.specs.Windows.{window_of, IsBroken};
 
 use crate::algorithm::Algorithm;
 use crate::consecutive::Consecutive;
@@ -60,6 +61,33 @@ impl AnyNegotiator {
                 Ok(AnyNegotiator::Skipping(skipping.try_clone(alloc)?))
             }
         }
+    }
+
+    /// The next window: so many commits at most, and fewer only where no more are left. Where memory runs out, some of
+    /// them may have been told, and the others come next.
+    pub fn window<O: Objects>(
+        &mut self,
+        alloc: Global,
+        objects: &O,
+        size: usize,
+    ) -> Result<Vec<ObjectId>, NoMemory>
+        requires { IsTold (known_by self.old) (O.graph objects.now) }
+        ensures algorithm { algorithm_of self.new ≡ algorithm_of self.old }
+        ensures haves { IfOk result (λ window. window.items ≡ (window_of (O.graph objects.now) (algorithm_of self.old) size (so_far_of self.old)).haves) }
+        ensures later { OnOk result (so_far_of self.new ≡ (window_of (O.graph objects.now) (algorithm_of self.old) size (so_far_of self.old)).later) }
+        ensures given { IfOk result (λ window. given_by self.new ≡ given_by self.old ++ window.items) }
+        ensures broken { OnErr result (IsBroken (O.graph objects.now) (algorithm_of self.old) size (so_far_of self.old) (so_far_of self.new) (given_by self.old) (given_by self.new)) }
+        ensures told { IsTold (known_by self.new) (O.graph objects.now) }
+    {
+        let mut window = Vec::new(alloc);
+        for _ in 0..size {
+            window.reserve(1)?;
+            match self.next(alloc, objects)? {
+                Some(id) => window.push_reserved(id),
+                None => return Ok(window),
+            }
+        }
+        Ok(window)
     }
 }
 

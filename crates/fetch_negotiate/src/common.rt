@@ -1,10 +1,10 @@
 //! The acknowledged commits and their ancestors.
 
-ghost use Rattle.std.specs.Prelude.{◌≡◌, ◌+◌, ◌<◌, [], ◌∷◌, ◌++◌, IfOk, OnOk, OnErr, length, if◌then◌else◌};
+ghost use Rattle.std.specs.Prelude.{◌≡◌, ◌+◌, ◌<◌, [], ◌∷◌, ◌++◌, true, IfOk, OnOk, OnErr, length, is_some, if◌then◌else◌};
 ghost use Rattle.fetch_negotiate.specs.Commits.{has};
 ghost use Rattle.fetch_negotiate.specs.Copies.{IsSameCommon};
 ghost use Rattle.fetch_negotiate.specs.Exact.{IsExact};
-ghost use Rattle.fetch_negotiate.specs.Reading.{Grows, IsTold, read_in};
+ghost use Rattle.fetch_negotiate.specs.Reading.{Grows, IsTold, commit_at, links_at, read_in};
 ghost use Rattle.fetch_negotiate.specs.Sharing.{IsMarked, IsSettled, IsCommonIn, IsWithin, AreWithin, IsDone, AreDone, Extends, Covers};
 
 use crate::commits::{Table, read};
@@ -111,29 +111,32 @@ fn mark_one<O: Objects>(
     Ok(())
 }
 
-/// Reads ids, and marks those that are stored commits.
-fn mark_all<O: Objects>(
+/// Reads the parents of a commit, and marks those that are stored commits.
+fn mark_parents<O: Objects>(
     common: &mut Common,
     table: &mut Table,
     border: &Border,
     alloc: Global,
     objects: &O,
-    ids: &[ObjectId],
+    id: &ObjectId,
 ) -> Result<(), NoMemory>
     requires common { IsCommonIn (read_in table.old) border.now common.old }
     requires told { IsTold (read_in table.old) (O.graph objects.now) }
-    requires within { AreWithin (read_in table.old) border.now common.old.acknowledged.items ids.now }
+    requires read { is_some (commit_at (read_in table.old) id.now) ≡ true }
+    requires within { AreWithin (read_in table.old) border.now common.old.acknowledged.items (links_at (read_in table.old) border.now id.now) }
     ensures common { IsCommonIn (read_in table.new) border.now common.new }
     ensures told { IsTold (read_in table.new) (O.graph objects.now) }
     ensures grows { Grows (read_in table.old) (read_in table.new) }
     ensures more { Extends common.old.commits.items common.new.commits.items }
-    ensures done { OnOk result (AreDone (read_in table.new) common.new.commits.items ids.now) }
+    ensures done { OnOk result (AreDone (read_in table.new) common.new.commits.items (links_at (read_in table.old) border.now id.now)) }
     ensures acknowledged { common.new.acknowledged ≡ common.old.acknowledged }
     ensures settled { common.new.settled ≡ common.old.settled }
     ensures closed { common.new.closed ≡ common.old.closed }
 {
-    for id in ids {
-        mark_one(common, table, border, alloc, objects, id)?;
+    let count = links(table, border, id).len();
+    for index in 0..count {
+        let parent = links(table, border, id)[index];
+        mark_one(common, table, border, alloc, objects, &parent)?;
     }
     Ok(())
 }
@@ -159,8 +162,7 @@ fn close_next<O: Objects>(
     ensures closed { OnOk result (common.new.closed ≡ common.old.closed + 1) }
 {
     let id = common.commits[common.closed];
-    let parents = links(alloc, table, border, &id)?;
-    mark_all(common, table, border, alloc, objects, parents.as_slice())?;
+    mark_parents(common, table, border, alloc, objects, &id)?;
     common.closed += 1;
     Ok(())
 }
@@ -185,7 +187,7 @@ fn settle_next<O: Objects>(
     ensures settled { OnOk result (common.new.settled ≡ common.old.settled + 1) }
 {
     let id = common.acknowledged[common.settled];
-    mark_all(common, table, border, alloc, objects, &[id])?;
+    mark_one(common, table, border, alloc, objects, &id)?;
     common.settled += 1;
     Ok(())
 }

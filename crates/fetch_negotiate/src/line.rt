@@ -145,7 +145,6 @@ pub(crate) fn take_one(
     table: &Table,
     border: &Border,
     common: &Common,
-    alloc: Global,
     id: &ObjectId,
 ) -> Result<(), NoMemory>
     requires line { IsLineIn (read_in table.now) border.now common.now.commits.items line.old }
@@ -155,11 +154,11 @@ pub(crate) fn take_one(
     ensures ok { OnOk result (line.new.taken.items ≡ line.old.taken.items ++ id.now ∷ []) }
     ensures err { OnErr result (line.new.taken.items ≡ line.old.taken.items) }
 {
-    let links = links(alloc, table, border, id)?;
+    let links = links(table, border, id);
     line.taken.reserve(1)?;
     line.candidates.reserve(links.len())?;
     line.told.insert(*id)?;
     line.taken.push_reserved(*id);
-    line.candidates.extend_from_slice(links.as_slice())?;
+    line.candidates.extend_from_slice(links)?;
     Ok(())
 }

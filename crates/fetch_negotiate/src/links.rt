@@ -1,27 +1,21 @@
 //! The parents of commits that were read.
 
-ghost use Rattle.std.specs.Prelude.{◌≡◌, IfOk};
+ghost use Rattle.std.specs.Prelude.{◌≡◌};
 ghost use Rattle.fetch_negotiate.specs.Reading.{links_at, read_in};
 
 use crate::commits::Table;
-use fetch_store::{Border, NoMemory, ObjectId};
-use std::alloc::Global;
+use fetch_store::{Border, ObjectId};
 
-/// The parents that were read of a commit, and none of a border commit.
-pub(crate) fn links(
-    alloc: Global,
-    table: &Table,
-    border: &Border,
-    id: &ObjectId,
-) -> Result<Vec<ObjectId>, NoMemory>
-    ensures { IfOk result (λ links. links.items ≡ links_at (read_in table.now) border.now id.now) }
+/// The parents that were read of a commit, lent, and none of a border commit.
+pub(crate) fn links<'a>(table: &'a Table, border: &Border, id: &ObjectId) -> &'a [ObjectId]
+    ensures { result.now ≡ links_at (read_in table.now) border.now id.now }
 {
     if border.contains(id) {
-        return Ok(Vec::new(alloc));
+        return &[];
     }
     match table.get(id) {
-        Some(Some(commit)) => Ok(Vec::from_slice(alloc, commit.parents.as_slice())?),
-        Some(None) => Ok(Vec::new(alloc)),
-        None => Ok(Vec::new(alloc)),
+        Some(Some(commit)) => commit.parents.as_slice(),
+        Some(None) => &[],
+        None => &[],
     }
 }

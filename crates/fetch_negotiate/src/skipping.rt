@@ -1,6 +1,6 @@
 //! Fewer and fewer commits, the further back they stand.
 
-ghost use Rattle.std.specs.Prelude.{◌≡◌, ◌++◌, [], Some, false, map as listed, IfOk, IfSome, OnOk, OnErr};
+ghost use Rattle.std.specs.Prelude.{◌≡◌, ◌++◌, [], Some, true, false, is_some, map as listed, IfOk, IfSome, OnOk, OnErr};
 ghost use Rattle.std.specs.FinMap as map;
 ghost use Rattle.std.specs.List.{list_any};
 ghost use Rattle.std.specs.Option.{option_to_list};
@@ -8,7 +8,7 @@ ghost use Rattle.fetch_negotiate.specs.Commits.{IsStoredCommit, has};
 ghost use Rattle.fetch_negotiate.specs.Haves.{started, taking, acknowledging, next_taken};
 ghost use Rattle.fetch_negotiate.specs.Kept.{read_by};
 ghost use Rattle.fetch_negotiate.specs.Paired.{IsPaired};
-ghost use Rattle.fetch_negotiate.specs.Reading.{Grows, IsTold, links_at, read_in};
+ghost use Rattle.fetch_negotiate.specs.Reading.{Grows, IsTold, commit_at, links_at, read_in};
 ghost use Rattle.fetch_negotiate.specs.Sharing.{Covers};
 ghost use Rattle.fetch_negotiate.specs.Skipped.{IsSkipping, AnyStored, HasParents, IsOffered};
 ghost use Rattle.fetch_negotiate.specs.Skips.{offers, next_offered};
@@ -160,18 +160,12 @@ fn pass<O: Objects>(
 {
     let skip = pair(skips, id)?;
     let offered = is_offered(walk, alloc, objects, skip, id)?;
-    hand_on(walk, skips, alloc, id, skip.handed(offered))?;
+    hand_on(walk, skips, id, skip.handed(offered))?;
     Ok(offered)
 }
 
 /// Takes a commit, and hands a pair to its parents.
-fn hand_on(
-    walk: &mut Walk,
-    skips: &mut Skips,
-    alloc: Global,
-    id: &ObjectId,
-    skip: Skip,
-) -> Result<(), NoMemory>
+fn hand_on(walk: &mut Walk, skips: &mut Skips, id: &ObjectId, skip: Skip) -> Result<(), NoMemory>
     requires walk { IsWalk walk.old }
     requires paired { IsPaired skips.old }
     requires read { IsRead walk.old id.now }
@@ -183,10 +177,9 @@ fn hand_on(
     ensures handed { OnOk result (skips.new.handed.items ≡ skips.old.handed.items ++ listed (λ p. (p, skip)) (links_at (read_in walk.old.table) walk.old.border id.now)) }
     ensures kept { OnErr result (skips.new.handed.items ≡ skips.old.handed.items) }
 {
-    let links = links(alloc, &walk.table, &walk.border, id)?;
-    make_room(skips, links.len())?;
-    take(walk, alloc, id)?;
-    hand(skips, links.as_slice(), skip);
+    make_room(skips, links(&walk.table, &walk.border, id).len())?;
+    take(walk, id)?;
+    hand(skips, links(&walk.table, &walk.border, id), skip);
     Ok(())
 }
 
@@ -230,24 +223,27 @@ fn has_parents<O: Objects>(
     ensures so_far { so_far_in walk.new ≡ so_far_in walk.old }
     ensures has { IfOk result (λ has. HasParents (read_in walk.new.table) walk.old.border id.now has) }
 {
-    let links = links(alloc, &walk.table, &walk.border, id)?;
-    any_stored(&mut walk.table, alloc, objects, links.as_slice())
+    any_stored(&mut walk.table, &walk.border, alloc, objects, id)
 }
 
-/// Whether one of the ids is a stored commit.
+/// Whether one of a commit's parents is a stored commit.
 fn any_stored<O: Objects>(
     table: &mut Table,
+    border: &Border,
     alloc: Global,
     objects: &O,
-    ids: &[ObjectId],
+    id: &ObjectId,
 ) -> Result<bool, NoMemory>
-    requires { IsTold (read_in table.old) (O.graph objects.now) }
+    requires told { IsTold (read_in table.old) (O.graph objects.now) }
+    requires read { is_some (commit_at (read_in table.old) id.now) ≡ true }
     ensures told { IsTold (read_in table.new) (O.graph objects.now) }
     ensures grows { Grows (read_in table.old) (read_in table.new) }
-    ensures any { IfOk result (λ any. AnyStored (read_in table.new) ids.now any) }
+    ensures any { IfOk result (λ any. AnyStored (read_in table.new) (links_at (read_in table.old) border.now id.now) any) }
 {
-    for id in ids {
-        if read(table, alloc, objects, id)? {
+    let count = links(table, border, id).len();
+    for index in 0..count {
+        let parent = links(table, border, id)[index];
+        if read(table, alloc, objects, &parent)? {
             return Ok(true);
         }
     }

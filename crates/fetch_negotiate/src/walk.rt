@@ -73,7 +73,7 @@ pub(crate) fn come_next<O: Objects>(
 }
 
 /// Takes a commit.
-pub(crate) fn take(walk: &mut Walk, alloc: Global, id: &ObjectId) -> Result<(), NoMemory>
+pub(crate) fn take(walk: &mut Walk, id: &ObjectId) -> Result<(), NoMemory>
     requires walk { IsWalk walk.old }
     requires read { IsRead walk.old id.now }
     ensures walk { IsWalk walk.new }
@@ -81,14 +81,7 @@ pub(crate) fn take(walk: &mut Walk, alloc: Global, id: &ObjectId) -> Result<(), 
     ensures ok { OnOk result (so_far_in walk.new ≡ taking (so_far_in walk.old) (Some id.now)) }
     ensures err { OnErr result (so_far_in walk.new ≡ so_far_in walk.old) }
 {
-    take_one(
-        &mut walk.line,
-        &walk.table,
-        &walk.border,
-        &walk.common,
-        alloc,
-        id,
-    )
+    take_one(&mut walk.line, &walk.table, &walk.border, &walk.common, id)
 }
 
 /// Takes the commit that comes next, if there is one.
@@ -107,7 +100,7 @@ pub(crate) fn advance<O: Objects>(
 {
     match come_next(walk, alloc, objects)? {
         Some(id) => {
-            take(walk, alloc, &id)?;
+            take(walk, &id)?;
             Ok(Some(id))
         }
         None => Ok(None),

@@ -9,8 +9,8 @@ pub returns-clause-line : goal.returns-clause-line
 returns-clause-line c =
     let x = c.args.line.now in
     let id = c.args.id.now in
-    let links = c.as_slice.result.now in
+    let links = c.links-links.result.now in
     line_in_taken (read_in c.args.table.now) c.args.border.now c.args.common.now.commits.items x c.insert.new.self links c.extend_from_slice.new.self.items c.push_reserved.new.self.items id
-    (adds x.told c.insert.new.self id c.in_ok-insert.ensures.updates) (c.as_slice.ensures.value ∙ c.in_ok-links.ensures) c.requires.read
+    (adds x.told c.insert.new.self id c.in_ok-insert.ensures.updates) c.links-links.ensures c.requires.read
     (c.in_ok-extend_from_slice.ensures.items ∙ ap (λ (l : List ObjectId). l ++ links) c.in_ok-reserve-2.ensures.items)
     (c.push_reserved.ensures.items ∙ ap (λ (l : List ObjectId). l ++ id ∷ []) c.in_ok-reserve.ensures.items) c.requires.line

@@ -1,5 +1,5 @@
-use Rattle.std.proofs.Common.{◌∙◌}
-use Rattle.fetch_negotiate.specs.Reading.{read_in}
+use Rattle.std.proofs.Common.{refl}
+use Rattle.fetch_negotiate.specs.Reading.{links_at, read_in}
 use Rattle.fetch_negotiate.proofs.Handing.{ok_parents, walk_grown}
 use Rattle.fetch_negotiate.proofs.skipping.has_parents.Goals as goal
 
@@ -8,5 +8,5 @@ returns-clause-walk g c = walk_grown c.args.walk.now c.any_stored.new.table c.an
 
 pub returns-clause-has : goal.returns-clause-has
 returns-clause-has g c =
-    ok_parents (read_in c.args.walk.now.table) (read_in c.any_stored.new.table) c.args.walk.now.border c.args.id.now c.as_slice.result.now c.any_stored.result
-    c.any_stored.ensures.grows c.requires.read (c.as_slice.ensures.value ∙ c.in_ok-links.ensures) c.any_stored.ensures.any
+    let k = read_in c.args.walk.now.table in
+    ok_parents k (read_in c.any_stored.new.table) c.args.walk.now.border c.args.id.now (links_at k c.args.walk.now.border c.args.id.now) c.any_stored.result c.any_stored.ensures.grows c.requires.read refl c.any_stored.ensures.any
