@@ -6,11 +6,14 @@ pub mod Aheads
 pub mod Sames
 pub mod Joined
 pub mod Lists
-pub mod Firsts
 pub mod Written
 pub mod Whole
 pub mod Fitting
 pub mod Rows
+pub mod Judged
 pub mod Updates
+pub mod Adjusting
+pub mod Directories
 pub mod Wholes
+pub mod Refused
 pub mod Shown

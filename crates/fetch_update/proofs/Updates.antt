@@ -114,6 +114,7 @@ module _ (p : Policy) (specs extra : List Spec) where
 -- An update tells what a verdict tells, and is carried out by its edit.
 pub record IsUpdate (edits : List RefEdit) (v : ℕ × Verdict) (u : Update) : Type 0 where
   pub mode : u.mode ≡ v.1.mode
+  pub change : u.type_change ≡ v.1.type_change
   pub index : u.mapping_index ≡ v.0
   pub edit : edit_for edits u ≡ v.1.edit
 
@@ -148,7 +149,7 @@ length_edits es (Some e) = length_one es e
 pub all_updates : (P : ℕ × Verdict → Type 0) (es : List RefEdit) (vs : Verdicts) → AllByRecursion P vs → AllByRecursion (IsOfOne P (es ++ edits_of vs)) (updates_from (length es) vs)
 all_updates P es [] all = tt
 all_updates P es (v ∷ vs) (is, all) = (
-  (v, is, record { mode = refl; index = refl; edit = edit_at es (edits_of vs) v.1.edit }),
+  (v, is, record { mode = refl; change = refl; index = refl; edit = edit_at es (edits_of vs) v.1.edit }),
   subst (λ (n : ℕ). AllByRecursion (IsOfOne P (es ++ edits_of (v ∷ vs))) (updates_from n vs)) (length_edits es v.1.edit)
       (subst (λ (edits : List RefEdit). AllByRecursion (IsOfOne P edits) (updates_from (length (es ++ option_to_list v.1.edit)) vs)) (more_edits es (edits_of vs) v.1.edit)
       (all_updates P (es ++ option_to_list v.1.edit) vs all)),
@@ -236,3 +237,10 @@ outcome_ok names (Ok vs) o is = record { verdicts = vs; judged = refl; whole = o
   where
     one : ◌≡◌ {A = Result Outcome Error} (Ok (outcome_in (settled names vs))) (Ok o) → o ≡ outcome_in (settled names vs)
     one e = cc
+
+pub outcome_err : (names : Names) (r : Result Verdicts Error) (e : Error) → outcome_from names r ≡ Err e → r ≡ Err e
+outcome_err names (Err x) e is = one is
+  where
+    one : ◌≡◌ {A = Result Outcome Error} (Err x) (Err e) → ◌≡◌ {A = Result Verdicts Error} (Err x) (Err e)
+    one i = cc
+outcome_err names (Ok vs) e is = absurd cc

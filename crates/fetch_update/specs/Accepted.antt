@@ -10,7 +10,8 @@ use Rattle.fetch_wire.specs.declared.mapping.Mapping.{Mapping}
 use Rattle.fetch_update.specs.declared.mode.Mode.{Mode}
 use Rattle.fetch_update.specs.declared.update.Outcome.{Outcome}
 use Rattle.fetch_update.specs.declared.update.Update.{Update}
-use Rattle.fetch_update.specs.Accepting.{is_accepting, IsAccepted}
+use Rattle.fetch_update.specs.Accepting.{is_accepting, IsAccepted, IsAcceptedDry}
+use Rattle.fetch_update.specs.Rejecting.{IsRejected}
 use Rattle.fetch_update.specs.Policy.{Policy, value_of}
 use Rattle.fetch_update.specs.Writes.{gives, expectation}
 use Rattle.fetch_refs.specs.Expectations.{expected_of}
@@ -24,6 +25,16 @@ pub record IsAbout (specs extra : List Spec) (mappings : List Mapping) (u : Upda
 pub record AcceptsExactly (p : Policy) (specs extra : List Spec) (mappings : List Mapping) (o : Outcome) : Type 0 where
   pub told : (u : Update) (m : Mapping) (s : Spec) → Contains o.updates u → IsAbout specs extra mappings u m s → IsTrue (is_accepting u.mode) → IsAccepted p o.edits s m u.mode
   pub holds : (u : Update) (m : Mapping) (s : Spec) (mode : Mode) → Contains o.updates u → IsAbout specs extra mappings u m s → IsAccepted p o.edits s m mode → u.mode ≡ mode
+
+-- The same in a dry run, where nothing is asked of the objects.
+pub record GuessesExactly (p : Policy) (specs extra : List Spec) (mappings : List Mapping) (o : Outcome) : Type 0 where
+  pub told : (u : Update) (m : Mapping) (s : Spec) → Contains o.updates u → IsAbout specs extra mappings u m s → IsTrue (is_accepting u.mode) → IsAcceptedDry p o.edits s m u.mode
+  pub holds : (u : Update) (m : Mapping) (s : Spec) (mode : Mode) → Contains o.updates u → IsAbout specs extra mappings u m s → IsAcceptedDry p o.edits s m mode → u.mode ≡ mode
+
+-- Each update tells a rejecting mode exactly where the mapping that it is about is rejected with that mode.
+pub record RejectsExactly (p : Policy) (specs extra : List Spec) (mappings : List Mapping) (o : Outcome) : Type 0 where
+  pub told : (u : Update) (m : Mapping) (s : Spec) → Contains o.updates u → IsAbout specs extra mappings u m s → is_accepting u.mode ≡ false → IsRejected p o.edits s m u.mode
+  pub holds : (u : Update) (m : Mapping) (s : Spec) (mode : Mode) → Contains o.updates u → IsAbout specs extra mappings u m s → IsRejected p o.edits s m mode → u.mode ≡ mode
 
 -- whether there is a mapping at this index, and its refspec is found
 abbrev pub is_found : List Spec → List Spec → List Mapping → ℕ → Bool

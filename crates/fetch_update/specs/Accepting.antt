@@ -20,7 +20,8 @@ use Rattle.fetch_update.specs.declared.mode.Mode.{Mode}
 use Rattle.fetch_update.specs.declared.mode.Mode.TheVariants as modes
 use Rattle.fetch_update.specs.declared.verdict.Verdict.{Verdict}
 use Rattle.fetch_update.specs.Dated.{IsCommit, HasDatedPath}
-use Rattle.fetch_update.specs.Policy.{Policy, is_checked_out, is_forced, is_stored, is_tag, value_of}
+use Rattle.fetch_update.specs.Policy.{Policy, is_forced, is_stored, is_tag, value_of}
+use Rattle.fetch_update.specs.Trees.{is_checked_out}
 use Rattle.fetch_update.specs.Writes.{gives}
 
 -- whether a mode is one of those that accept what the remote has
@@ -37,6 +38,10 @@ is_accepting other = false
 abbrev pub IsSent : Graph → Target → Type 0
 IsSent graph (Object id) = IsTrue (is_stored graph id)
 IsSent graph (Symbolic name) = ⊤
+
+-- its object is stored, or it isn't asked for: in a dry run
+abbrev pub IsTaken : Policy → Target → Type 0
+IsTaken p value = IsTrue p.dry_run ⊎ IsSent p.graph value
 
 -- an id, or a valid name
 abbrev pub IsWritable : Target → Type 0
@@ -123,6 +128,15 @@ pub record MovesForward (p : Policy) (m : Mapping) : Type 0 where
   pub remote_commit : IsCommit p.graph remote
   pub path : HasDatedPath p.graph remote local
 
+-- The ids differ, and the destination is no tag: all that is asked in a dry run.
+pub record IsGuessed (p : Policy) (m : Mapping) : Type 0 where
+  pub name : List ℕ
+  pub local : ObjectId
+  pub remote : ObjectId
+  pub ids : HasIds p m name local remote
+  pub differ : local ≢ remote
+  pub no_tag : is_tag name ≡ false
+
 -- One of the two is no commit; or no dated path leads from the remote's to the local one, and the refspec has a plus.
 abbrev pub MayBeReplaced : Policy → Spec → ObjectId → ObjectId → Type 0
 MayBeReplaced p s local remote = ((IsCommit p.graph local → ⊥) ⊎ (IsCommit p.graph remote → ⊥)) ⊎ ((HasDatedPath p.graph remote local → ⊥) × IsTrue (is_forced s.mode))
@@ -145,6 +159,14 @@ HasRow p s m modes.New = IsAbsent p m
 HasRow p s m modes.FastForward = MovesForward p m
 HasRow p s m modes.Forced = NamesAnother p m ⊎ (ReplacesTag p s m ⊎ Replaces p s m)
 HasRow p s m other = ⊥
+
+-- the rows of each mode in a dry run
+abbrev pub HasDryRow : Policy → Spec → Mapping → Mode → Type 0
+HasDryRow p s m modes.NoChangeNeeded = HasNoDestination m ⊎ (NamesTheSame p m ⊎ HasOneId p m)
+HasDryRow p s m modes.New = IsAbsent p m
+HasDryRow p s m modes.FastForward = IsGuessed p m
+HasDryRow p s m modes.Forced = NamesAnother p m ⊎ ReplacesTag p s m
+HasDryRow p s m other = ⊥
 
 -- ---- one mapping
 
@@ -181,4 +203,9 @@ pub record KeepsTarget (p : Policy) (edits : List RefEdit) (m : Mapping) : Type 
 -- A mapping is accepted with this mode, beside these edits of all mappings.
 pub record IsAccepted (p : Policy) (edits : List RefEdit) (s : Spec) (m : Mapping) (mode : Mode) : Type 0 where
   pub accepts : Accepts p s m mode
+  pub changes : KeepsTarget p edits m → ⊥
+
+-- In a dry run it is accepted so.
+pub record IsAcceptedDry (p : Policy) (edits : List RefEdit) (s : Spec) (m : Mapping) (mode : Mode) : Type 0 where
+  pub row : HasDryRow p s m mode
   pub changes : KeepsTarget p edits m → ⊥

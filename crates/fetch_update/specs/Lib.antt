@@ -1,10 +1,15 @@
 pub mod Dated
 pub mod Walks
 pub mod Ahead
+pub mod Trees
 pub mod Policy
 pub mod Outcomes
 pub mod Pairs
 pub mod Writes
 pub mod Accepting
+pub mod Rejecting
+pub mod Refusing
 pub mod Accepted
+pub mod Telling
 pub mod Modes
+pub mod Scripts

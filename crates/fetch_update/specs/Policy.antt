@@ -1,8 +1,8 @@
 -- The update policy: what becomes of the destination of one mapping. The first row that holds decides.
 use Rattle.std.specs.Prelude.{◌≡◌, ⊤, ℕ, Bool, true, false, ◌&&◌, ◌||◌, List, [], ◌∷◌, ◌++◌, codes, Option, Some, None, is_some, Result, Ok, Err, if◌then◌else◌}
 use Rattle.std.specs.FinMap as finmap
-use Rattle.std.specs.List.{list_any}
 use Rattle.std.specs.Ordering.{eq_by_cmp}
+use Rattle.std.specs.Option.{option_copied}
 use Rattle.std.specs.Str.{bytes_eq}
 use Rattle.fetch_store.specs.declared.id.ObjectId.{ObjectId}
 use Rattle.fetch_store.specs.Graph.{Graph}
@@ -26,7 +26,8 @@ use Rattle.fetch_refs.specs.declared.error.RefError.{RefError}
 use Rattle.fetch_refs.specs.declared.error.RefError.TheVariants as ref_errors
 use Rattle.fetch_refs.specs.declared.target.Target.{Target}
 use Rattle.fetch_refs.specs.declared.target.Target.TheVariants as targets
-use Rattle.fetch_refs.specs.Names.{Names, name_cmp}
+use Rattle.fetch_refs.specs.Names.{Names}
+use Rattle.fetch_refs.specs.Targets.{seen}
 use Rattle.fetch_refs.specs.Peeled.{peeled}
 use Rattle.fetch_wire.specs.References.{source_target}
 use Rattle.fetch_wire.specs.declared.mapping.Mapping.{Mapping}
@@ -44,11 +45,13 @@ use Rattle.fetch_update.specs.declared.update.Error.{Error}
 use Rattle.fetch_update.specs.declared.update.Error.TheVariants as errors
 use Rattle.fetch_update.specs.declared.worktrees.Worktree.{Worktree}
 use Rattle.fetch_update.specs.declared.verdict.Verdict.{Verdict}
-use Rattle.fetch_update.specs.declared.judging.Judge.{Judge}
-use Rattle.fetch_update.specs.declared.judging.Wanted.{Wanted}
-use Rattle.fetch_update.specs.declared.judging.Wanted.TheVariants as wanted
+use Rattle.fetch_update.specs.declared.judge.Judge.{Judge}
+use Rattle.fetch_update.specs.declared.judge.Place.{Place as PlaceInCode}
+use Rattle.fetch_update.specs.declared.judge.Wanted.{Wanted}
+use Rattle.fetch_update.specs.declared.judge.Wanted.TheVariants as wanted
 use Rattle.fetch_update.specs.Ahead.{is_ahead}
 use Rattle.fetch_update.specs.Dated.{commit_at}
+use Rattle.fetch_update.specs.Trees.{is_checked_out, directories_of}
 
 -- what mappings are judged by
 pub record Policy : Type 0 where
@@ -145,19 +148,6 @@ is_stored g id = is_some (finmap.get g id)
 abbrev pub is_commit : Graph → ObjectId → Bool
 is_commit g id = is_some (commit_at g id)
 
--- whether a branch is checked out somewhere
-abbrev pub is_checked_out : List Worktree → List ℕ → Bool
-is_checked_out worktrees name = list_any (λ w. bytes_eq w.branch name) worktrees
-
--- where a branch is checked out: a map with nothing at each directory
-abbrev pub directory_map : List Worktree → List ℕ → finmap.FinMap name_cmp (Unit {0})
-directory_map [] name = finmap.empty
-directory_map (w ∷ ws) name = if bytes_eq w.branch name then finmap.insert (directory_map ws name) w.directory tt else directory_map ws name
-
--- those directories, sorted, each once
-abbrev pub directories_of : List Worktree → List ℕ → List (List ℕ)
-directories_of worktrees name = finmap.keys (directory_map worktrees name)
-
 -- ---- verdicts
 
 -- a mapping that changes nothing
@@ -174,10 +164,26 @@ type_change_of (targets.Symbolic found) (targets.Object id) = Some SymbolicToDir
 type_change_of (targets.Symbolic found) (targets.Symbolic name) = None
 type_change_of (targets.Object found) value = None
 
+-- what stands at a destination, and what is to be done there: the name, the value found, the value that is to be written, the name
+-- that the remote's reference names, and whether the refspec has a plus
+pub record Place : Type 0 where
+  pub name : List ℕ
+  pub found : Target
+  pub value : Target
+  pub target : Option (List ℕ)
+  pub plus : Bool
+
+-- the destination of a mapping, where this was found
+abbrev pub place_of : Spec → Mapping → List ℕ → Target → Place
+place_of s m name found = record { name = name; found = found; value = value_of m.remote; target = source_target m.remote; plus = is_forced s.mode }
+
 -- a reference that has the value found gets another, or the same again
-abbrev pub written : RefLogMessage → Mode → List ℕ → Target → Target → List ℕ → Verdict
-written message mode name found value happened =
-    record { mode = mode; type_change = type_change_of found value; edit = Some (edit_of message name (expected.MustExistAndMatch found) value happened) }
+abbrev pub written : RefLogMessage → Place → Mode → List ℕ → Verdict
+written message place mode happened = record {
+  mode = mode;
+  type_change = type_change_of place.found place.value;
+  edit = Some (edit_of message place.name (expected.MustExistAndMatch place.found) place.value happened);
+}
 
 abbrev pub created : RefLogMessage → List ℕ → Target → Verdict
 created message name value = record { mode = modes.New; type_change = None; edit = Some (edit_of message name (expected.ExistingMustMatch value) value (storing name)) }
@@ -195,35 +201,24 @@ after_check (Err e) v = Err e
 abbrev pub if_valid : Target → Verdict → Result Verdict Error
 if_valid value v = after_check (checked value) v
 
--- both are commits, and the remote's isn't ahead
-abbrev pub behind : RefLogMessage → SpecMode → List ℕ → Target → ObjectId → Verdict
-behind message mode name found new =
-    if is_forced mode then written message modes.Forced name found (targets.Object new) forced_update else nothing modes.RejectedNonFastForward
-
 -- an object that is stored becomes another one
-unfoldable pub at_stored : Policy → SpecMode → List ℕ → Target → ObjectId → ObjectId → Verdict
-at_stored p mode name found id new =
-    if is_commit p.graph id && is_commit p.graph new then
-    (if is_ahead p.graph new id then written p.message modes.FastForward name found (targets.Object new) fast_forward else behind p.message mode name found new)
-    else written p.message modes.Forced name found (targets.Object new) forced_update
+unfoldable pub at_stored : Policy → Place → ObjectId → ObjectId → Verdict
+at_stored p place local remote =
+    if is_commit p.graph local && is_commit p.graph remote then
+    (if is_ahead p.graph remote local then written p.message place modes.FastForward fast_forward
+    else if place.plus then written p.message place modes.Forced forced_update
+    else nothing modes.RejectedNonFastForward)
+    else written p.message place modes.Forced forced_update
 
-abbrev pub at_tag : RefLogMessage → SpecMode → List ℕ → Target → ObjectId → Verdict
-at_tag message mode name found new =
-    if is_forced mode then written message modes.Forced name found (targets.Object new) updating_tag else nothing modes.RejectedTagUpdate
-
--- an id becomes another one
-unfoldable pub at_other : Policy → SpecMode → List ℕ → Target → ObjectId → ObjectId → Result Verdict Error
-at_other p mode name found id new =
-    if is_tag name then Ok (at_tag p.message mode name found new)
-    else if p.dry_run then Ok (written p.message modes.FastForward name found (targets.Object new) guessed)
-    else if is_stored p.graph id then Ok (at_stored p mode name found id new)
-    else Err (errors.FindCommit id)
-
--- a reference that stands for an id
-unfoldable pub at_id : Policy → SpecMode → List ℕ → Target → ObjectId → Target → Result Verdict Error
-at_id p mode name found id (targets.Symbolic target) = Ok (nothing modes.RejectedToReplaceWithUnborn)
-at_id p mode name found id (targets.Object new) =
-    if eq_by_cmp id_cmp id new then Ok (written p.message modes.NoChangeNeeded name found (targets.Object new) no_update) else at_other p mode name found id new
+-- a reference that stands for an id, by what is to be written
+unfoldable pub at_id : Policy → Place → ObjectId → Target → Result Verdict Error
+at_id p place local (targets.Symbolic wanted) = Ok (nothing modes.RejectedToReplaceWithUnborn)
+at_id p place local (targets.Object remote) =
+    if eq_by_cmp id_cmp local remote then Ok (written p.message place modes.NoChangeNeeded no_update)
+    else if is_tag place.name then Ok (if place.plus then written p.message place modes.Forced updating_tag else nothing modes.RejectedTagUpdate)
+    else if p.dry_run then Ok (written p.message place modes.FastForward guessed)
+    else if is_stored p.graph local then Ok (at_stored p place local remote)
+    else Err (errors.FindCommit local)
 
 -- what an unborn reference is told: nothing changes where it names what the remote's names
 abbrev pub unborn_mode : Target → Option (List ℕ) → Mode
@@ -232,26 +227,25 @@ unborn_mode (targets.Symbolic found) None = modes.Forced
 unborn_mode (targets.Object found) target = modes.Forced
 
 -- a reference that stands, by the id that it stands for
-unfoldable pub at_local : Policy → SpecMode → Option (List ℕ) → Target → List ℕ → Target → Result ObjectId RefError → Result Verdict Error
-at_local p mode target value name found (Ok id) = at_id p mode name found id value
-at_local p mode target value name found (Err (ref_errors.Unborn at)) = if_valid value (written p.message (unborn_mode found target) name found value change_unborn)
-at_local p mode target value name found (Err cause) = Err (errors.PeelToId name cause)
+unfoldable pub at_local : Policy → Place → Result ObjectId RefError → Result Verdict Error
+at_local p place (Ok id) = at_id p place id place.value
+at_local p place (Err (ref_errors.Unborn at)) = if_valid place.value (written p.message place (unborn_mode place.found place.target) change_unborn)
+at_local p place (Err cause) = Err (errors.PeelToId place.name cause)
 
 -- a reference that stands
-unfoldable pub at_found : Policy → SpecMode → Option (List ℕ) → Target → List ℕ → Target → Result Verdict Error
-at_found p mode target value name found =
-    if is_checked_out p.worktrees name then Ok (nothing (modes.RejectedCurrentlyCheckedOut (directories_of p.worktrees name)))
-    else at_local p mode target value name found (peeled p.names p.graph name)
+unfoldable pub at_place : Policy → Place → Result Verdict Error
+at_place p place =
+    if is_checked_out p.worktrees place.name then Ok (nothing (modes.RejectedCurrentlyCheckedOut (directories_of p.worktrees place.name)))
+    else at_local p place (peeled p.names p.graph place.name)
 
 -- a valid destination, by what stands there
-unfoldable pub at_name : Policy → SpecMode → Option (List ℕ) → Target → List ℕ → Option Target → Result Verdict Error
-at_name p mode target value name None = if_valid value (created p.message name value)
-at_name p mode target value name (Some found) = at_found p mode target value name found
+unfoldable pub at_name : Policy → Spec → Mapping → List ℕ → Option Target → Result Verdict Error
+at_name p s m name None = if_valid (value_of m.remote) (created p.message name (value_of m.remote))
+at_name p s m name (Some found) = at_place p (place_of s m name found)
 
-unfoldable pub at_destination : Policy → SpecMode → Option (List ℕ) → Target → Option (List ℕ) → Result Verdict Error
-at_destination p mode target value None = Ok (nothing modes.NoChangeNeeded)
-at_destination p mode target value (Some name) =
-    if is_full_name name then at_name p mode target value name (finmap.get p.names name) else Err (errors.FindReference name)
+unfoldable pub at_destination : Policy → Spec → Mapping → Option (List ℕ) → Result Verdict Error
+at_destination p s m None = Ok (nothing modes.NoChangeNeeded)
+at_destination p s m (Some name) = if is_full_name name then at_name p s m name (finmap.get p.names name) else Err (errors.FindReference name)
 
 -- the id that isn't stored, where objects are tested: outside a dry run
 unfoldable pub unsent : Policy → Target → Option ObjectId
@@ -266,7 +260,7 @@ unless_unsent p s None otherwise = otherwise
 unless_unsent p s (Some id) otherwise = Ok (nothing (unsent_mode p.tags s id))
 
 unfoldable pub verdict_of : Policy → Spec → Mapping → Result Verdict Error
-verdict_of p s m = unless_unsent p s (unsent p (value_of m.remote)) (at_destination p s.mode (source_target m.remote) (value_of m.remote) m.local)
+verdict_of p s m = unless_unsent p s (unsent p (value_of m.remote)) (at_destination p s m m.local)
 
 -- what was answered is this, unless memory ran out
 abbrev pub Answers : {X : Type 0} → Result X Error → Result X Error → Type 0
@@ -282,6 +276,10 @@ policy_of graph j = record { names = j.refs.now.names; graph = graph; message = 
 abbrev pub value_in_code : Wanted → Target
 value_in_code (wanted.Id id) = targets.Object id
 value_in_code (wanted.Name name) = targets.Symbolic name.now
+
+-- a place of the code
+abbrev pub place_in_code : PlaceInCode → Place
+place_in_code c = record { name = c.name; found = seen c.found; value = value_in_code c.wanted; target = option_copied c.target; plus = c.is_forced }
 
 -- the same, of what a view shows
 abbrev pub IsGivenAs : {X Y : Type 0} → (X → Y) → Result Y Error → Result X Error → Type 0

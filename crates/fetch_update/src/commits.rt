@@ -1,6 +1,6 @@
 //! Commits as they are read, and how many reads there were.
 
-ghost use Rattle.std.specs.Prelude.{◌≡◌, ◌↔◌, ◌+◌, IsTrue, MatchOption};
+ghost use Rattle.std.specs.Prelude.{◌≡◌, ◌+◌, MatchOption};
 ghost use Rattle.std.specs.List.{slice_get};
 ghost use Rattle.std.specs.Option.{option_map};
 ghost use Rattle.fetch_store.specs.declared.object_kind.ObjectKind.TheVariants as kinds;
@@ -10,17 +10,8 @@ ghost use Rattle.fetch_update.specs.Dated.{IsCommit, commit_at, parents_at, seco
 use fetch_store::{ObjectId, ObjectKind, Objects, Steps};
 use std::sync::ledger::Ledger;
 
-/// Whether a commit is stored under this id.
-pub fn is_commit<O: Objects>(objects: &O, id: &ObjectId) -> bool
-    ensures { IsTrue result ↔ IsCommit (O.graph objects.now) id.now }
-{
-    match objects.kind_of(id) {
-        Some(kind) => names_commits(kind),
-        None => false,
-    }
-}
-
-fn names_commits(kind: ObjectKind) -> bool
+/// Whether objects of this kind are commits.
+pub(crate) fn names_commits(kind: ObjectKind) -> bool
     ensures { result ≡ is_kind kind kinds.Commit }
 {
     match kind {
@@ -65,10 +56,4 @@ pub fn read_parent<O: Objects, L: Ledger>(
         }
         None => None,
     }
-}
-
-pub fn is_same(id: &ObjectId, other: &ObjectId) -> bool
-    ensures { IsTrue result ↔ (id.now ≡ other.now) }
-{
-    *id == *other
 }

@@ -3,9 +3,9 @@
 ghost use Rattle.std.specs.Prelude.{◌≡◌, ◌↔◌, ◌+◌, ◌<◌, ◌≤◌, IsTrue, IfOk};
 ghost use Rattle.fetch_update.specs.Dated.{IsCommit, HasDatedPath, commit_count, link_count};
 
-use crate::commits::{is_same, read_commit};
+use crate::commits::read_commit;
 use crate::walk::Walk;
-use fetch_store::{NoMemory, ObjectId, Objects, Steps};
+use fetch_store::{NoMemory, ObjectId, Objects, Steps, same_id};
 use std::alloc::Global;
 use std::marker::Brand;
 use std::sync::ledger::{Blank, Ledger};
@@ -25,7 +25,7 @@ pub fn is_dated_ancestor<O: Objects, L: Ledger>(
     ensures cost { steps.new ≤ steps.old + (commit_count (O.graph objects.now) + link_count (O.graph objects.now)) }
     ensures rises { steps.old ≤ steps.new }
 {
-    if is_same(from, to) {
+    if same_id(from, to) {
         return Ok(true);
     }
     let limit = read_commit(objects, to, steps).unwrap_or(0);

@@ -1,95 +1,44 @@
 //! What becomes of one mapping.
 
-ghost use Rattle.std.specs.Prelude.{◌≡◌, IfOk, MatchOption, true, false, Err, Ok};
+ghost use Rattle.std.specs.Prelude.{◌≡◌, IfOk, MatchOption, true, false, Err};
 ghost use Rattle.std.specs.Option.{option_copied};
 ghost use Rattle.std.specs.FinMap as map;
 ghost use Rattle.fetch_refs.specs.Peeled.{peeled};
 ghost use Rattle.fetch_refs.specs.Targets.{seen};
 ghost use Rattle.fetch_specs.specs.Names.{is_full_name};
 ghost use Rattle.fetch_update.specs.Policy as spec;
-ghost use Rattle.fetch_update.specs.Policy.{Answers, policy_of, value_in_code, value_of};
-ghost use Rattle.fetch_update.specs.declared.mode.Mode.TheVariants as modes;
+ghost use Rattle.fetch_update.specs.Policy.{Answers, policy_of, place_in_code, value_in_code, value_of};
 ghost use Rattle.fetch_update.specs.declared.update.Error.TheVariants as errors;
 
-use crate::message::RefLogMessage;
+use crate::judge::{Judge, Place, Wanted};
 use crate::mode::Mode;
 use crate::stored::{are_commits, is_ahead, is_same_id, is_stored};
-use crate::trees::{directories, is_checked_out};
+use crate::trees::directories_at;
 use crate::update::Error;
 use crate::verdict::Verdict;
-use crate::worktrees::Worktree;
 use crate::writing::{create, write};
-use fetch_refs::{RefError, Refs, TargetRef};
+use fetch_refs::{RefError, TargetRef};
 use fetch_specs::{Category, FullName, NameError, RefSpec, Tags};
 use fetch_store::{NoMemory, ObjectId, Objects, Text};
 use fetch_wire::{Mapping, Ref, Source};
 use std::alloc::Global;
-
-/// What mappings are judged by.
-#[derive(Clone, Copy)]
-pub(crate) struct Judge<'a> {
-    pub(crate) alloc: Global,
-    pub(crate) refs: &'a Refs,
-    pub(crate) message: &'a RefLogMessage,
-    pub(crate) tags: Tags,
-    pub(crate) dry_run: bool,
-    pub(crate) worktrees: &'a [Worktree],
-}
-
-/// What a mapping is to write: an id, or the name that an unborn reference of the remote names.
-#[derive(Clone, Copy)]
-pub(crate) enum Wanted<'a> {
-    Id(ObjectId),
-    Name(&'a [u8]),
-}
-
-/// What a mapping is to write, and the name that the remote's reference names.
-#[derive(Clone, Copy)]
-pub(crate) struct Remote<'a> {
-    pub(crate) wanted: Wanted<'a>,
-    pub(crate) target: Option<&'a [u8]>,
-}
 
 fn wanted_of(source: &Source) -> Wanted<'_>
     ensures { value_in_code result ≡ value_of source.now }
 {
     match source {
         Source::ObjectId(id) => Wanted::Id(*id),
-        Source::Ref(
-            Ref::Direct {
-                full_ref_name: _,
-                object,
-            },
-        ) => Wanted::Id(*object),
+        Source::Ref(Ref::Direct { object, .. }) => Wanted::Id(*object),
+        Source::Ref(Ref::Symbolic { tag: Some(tag), .. }) => Wanted::Id(*tag),
         Source::Ref(
             Ref::Symbolic {
-                full_ref_name: _,
-                target: _,
-                tag: Some(tag),
-                object: _,
-            },
-        ) => Wanted::Id(*tag),
-        Source::Ref(
-            Ref::Symbolic {
-                full_ref_name: _,
-                target: _,
                 tag: None,
                 object,
+                ..
             },
         ) => Wanted::Id(*object),
-        Source::Ref(
-            Ref::Peeled {
-                full_ref_name: _,
-                tag,
-                object: _,
-            },
-        ) => Wanted::Id(*tag),
-        Source::Ref(
-            Ref::Unborn {
-                full_ref_name: _,
-                target,
-            },
-        ) => Wanted::Name(target.as_bytes()),
+        Source::Ref(Ref::Peeled { tag, .. }) => Wanted::Id(*tag),
+        Source::Ref(Ref::Unborn { target, .. }) => Wanted::Name(target.as_bytes()),
     }
 }
 
@@ -103,16 +52,9 @@ pub(crate) fn judge_mapping<O: Objects>(
 ) -> Result<Verdict, Error>
     ensures { Answers (spec.verdict_of (policy_of (O.graph objects.now) judge.now) refspec.now mapping.now) result }
 {
-    let wanted = wanted_of(&mapping.remote);
-    match unsent(judge, objects, wanted) {
+    match unsent(judge, objects, wanted_of(&mapping.remote)) {
         Some(id) => Ok(Verdict::nothing(unsent_mode(judge, refspec, id))),
-        None => {
-            let remote = Remote {
-                wanted,
-                target: mapping.remote.as_target(),
-            };
-            at_destination(judge, objects, refspec, remote, &mapping.local)
-        }
+        None => at_destination(judge, objects, refspec, mapping),
     }
 }
 
@@ -167,16 +109,15 @@ fn at_destination<O: Objects>(
     judge: &Judge<'_>,
     objects: &O,
     refspec: &RefSpec,
-    remote: Remote<'_>,
-    local: &Option<Text>,
+    mapping: &Mapping,
 ) -> Result<Verdict, Error>
-    ensures { Answers (spec.at_destination (policy_of (O.graph objects.now) judge.now) refspec.now.mode (option_copied remote.entry.target) (value_in_code remote.entry.wanted) local.now) result }
+    ensures { Answers (spec.at_destination (policy_of (O.graph objects.now) judge.now) refspec.now mapping.now mapping.now.local) result }
 {
-    let Some(text) = local else {
+    let Some(text) = &mapping.local else {
         return Ok(Verdict::nothing(Mode::NoChangeNeeded));
     };
     match full_name(judge.alloc, text.as_bytes())? {
-        Some(name) => at_name(judge, objects, refspec, remote, name),
+        Some(name) => at_name(judge, objects, refspec, mapping, name),
         None => no_name(text),
     }
 }
@@ -205,79 +146,59 @@ fn at_name<O: Objects>(
     judge: &Judge<'_>,
     objects: &O,
     refspec: &RefSpec,
-    remote: Remote<'_>,
+    mapping: &Mapping,
     name: FullName,
 ) -> Result<Verdict, Error>
-    ensures { Answers (spec.at_name (policy_of (O.graph objects.now) judge.now) refspec.now.mode (option_copied remote.entry.target) (value_in_code remote.entry.wanted) name (map.get judge.now.refs.now.names name)) result }
+    ensures { Answers (spec.at_name (policy_of (O.graph objects.now) judge.now) refspec.now mapping.now name (map.get judge.now.refs.now.names name)) result }
 {
-    match judge.refs.find(&name) {
-        None => create(judge, remote.wanted, name),
-        Some(found) => at_found(judge, objects, refspec, remote, name, found),
-    }
+    let wanted = wanted_of(&mapping.remote);
+    let Some(found) = judge.refs.find(&name) else {
+        return create(judge, wanted, name);
+    };
+    let place = Place {
+        name,
+        found,
+        wanted,
+        target: mapping.remote.as_target(),
+        is_forced: is_forced(refspec),
+    };
+    at_place(judge, objects, place)
 }
 
-#[tactic(auto, unfolding(crate::specs::Policy::at_found))]
-fn at_found<O: Objects>(
-    judge: &Judge<'_>,
-    objects: &O,
-    refspec: &RefSpec,
-    remote: Remote<'_>,
-    name: FullName,
-    found: TargetRef<'_>,
-) -> Result<Verdict, Error>
-    ensures { Answers (spec.at_found (policy_of (O.graph objects.now) judge.now) refspec.now.mode (option_copied remote.entry.target) (value_in_code remote.entry.wanted) name (seen found.entry)) result }
+#[tactic(auto, unfolding(crate::specs::Policy::at_place))]
+fn at_place<O: Objects>(judge: &Judge<'_>, objects: &O, place: Place<'_>) -> Result<Verdict, Error>
+    ensures { Answers (spec.at_place (policy_of (O.graph objects.now) judge.now) (place_in_code place.entry)) result }
 {
-    if is_checked_out(judge.worktrees, &name) {
-        return checked_out(judge, &name);
+    match directories_at(judge.alloc, judge.worktrees, judge.directories, &place.name)? {
+        Some(worktree_dirs) => Ok(Verdict::nothing(Mode::RejectedCurrentlyCheckedOut {
+            worktree_dirs,
+        })),
+        None => at_local(judge, objects, place),
     }
-    at_local(judge, objects, refspec, remote, name, found)
-}
-
-fn checked_out(judge: &Judge<'_>, name: &FullName) -> Result<Verdict, Error>
-    ensures { Answers (Ok (spec.nothing (modes.RejectedCurrentlyCheckedOut (spec.directories_of judge.now.worktrees.now name.now)))) result }
-{
-    let worktree_dirs = directories(judge.alloc, judge.worktrees, name)?;
-    Ok(Verdict::nothing(Mode::RejectedCurrentlyCheckedOut { worktree_dirs }))
 }
 
 #[tactic(auto, unfolding(crate::specs::Policy::at_local))]
-fn at_local<O: Objects>(
-    judge: &Judge<'_>,
-    objects: &O,
-    refspec: &RefSpec,
-    remote: Remote<'_>,
-    name: FullName,
-    found: TargetRef<'_>,
-) -> Result<Verdict, Error>
-    ensures { Answers (spec.at_local (policy_of (O.graph objects.now) judge.now) refspec.now.mode (option_copied remote.entry.target) (value_in_code remote.entry.wanted) name (seen found.entry) (peeled judge.now.refs.now.names (O.graph objects.now) name)) result }
+fn at_local<O: Objects>(judge: &Judge<'_>, objects: &O, place: Place<'_>) -> Result<Verdict, Error>
+    ensures { Answers (spec.at_local (policy_of (O.graph objects.now) judge.now) (place_in_code place.entry) (peeled judge.now.refs.now.names (O.graph objects.now) place.entry.name)) result }
 {
-    match judge.refs.peel(objects, &name) {
-        Ok(id) => at_id(judge, objects, refspec, remote.wanted, name, found, id),
-        Err(RefError::Unborn { name: _ }) => at_unborn(judge, remote, name, found),
+    match judge.refs.peel(objects, &place.name) {
+        Ok(id) => at_id(judge, objects, place, id),
+        Err(RefError::Unborn { name: _ }) => at_unborn(judge, place),
         Err(RefError::NoMemory) => Err(Error::NoMemory),
-        Err(cause) => Err(Error::PeelToId { name, cause }),
+        Err(cause) => Err(Error::PeelToId {
+            name: place.name,
+            cause,
+        }),
     }
 }
 
 /// A symbolic reference whose way ends at an absent name.
 #[tactic(auto, unfolding(crate::specs::Policy::change_unborn))]
-fn at_unborn(
-    judge: &Judge<'_>,
-    remote: Remote<'_>,
-    name: FullName,
-    found: TargetRef<'_>,
-) -> Result<Verdict, Error>
-    ensures { Answers (spec.if_valid (value_in_code remote.entry.wanted) (spec.written judge.now.message.now (spec.unborn_mode (seen found.entry) (option_copied remote.entry.target)) name (seen found.entry) (value_in_code remote.entry.wanted) spec.change_unborn)) result }
+fn at_unborn(judge: &Judge<'_>, place: Place<'_>) -> Result<Verdict, Error>
+    ensures { Answers (spec.if_valid (value_in_code place.entry.wanted) (spec.written judge.now.message.now (place_in_code place.entry) (spec.unborn_mode (seen place.entry.found) (option_copied place.entry.target)) spec.change_unborn)) result }
 {
-    let mode = unborn_mode(found, remote.target);
-    write(
-        judge,
-        mode,
-        name,
-        found,
-        remote.wanted,
-        b"change unborn ref",
-    )
+    let mode = unborn_mode(place.found, place.target);
+    write(judge, place, mode, b"change unborn ref")
 }
 
 fn unborn_mode(found: TargetRef<'_>, target: Option<&[u8]>) -> Mode
@@ -296,64 +217,46 @@ fn unborn_mode(found: TargetRef<'_>, target: Option<&[u8]>) -> Mode
     }
 }
 
-#[tactic(auto, unfolding(crate::specs::Policy::at_id, crate::specs::Policy::no_update))]
+/// A reference that stands for an id.
+#[tactic(auto, unfolding(crate::specs::Policy::at_id, crate::specs::Policy::at_stored, crate::specs::Policy::no_update, crate::specs::Policy::updating_tag, crate::specs::Policy::guessed, crate::specs::Policy::fast_forward, crate::specs::Policy::forced_update))]
 fn at_id<O: Objects>(
     judge: &Judge<'_>,
     objects: &O,
-    refspec: &RefSpec,
-    wanted: Wanted<'_>,
-    name: FullName,
-    found: TargetRef<'_>,
-    id: ObjectId,
+    place: Place<'_>,
+    local: ObjectId,
 ) -> Result<Verdict, Error>
-    ensures { Answers (spec.at_id (policy_of (O.graph objects.now) judge.now) refspec.now.mode name (seen found.entry) id (value_in_code wanted.entry)) result }
+    ensures { Answers (spec.at_id (policy_of (O.graph objects.now) judge.now) (place_in_code place.entry) local (value_in_code place.entry.wanted)) result }
 {
-    let Wanted::Id(new) = wanted else {
+    let Wanted::Id(remote) = place.wanted else {
         return Ok(Verdict::nothing(Mode::RejectedToReplaceWithUnborn));
     };
-    if is_same_id(&id, &new) {
-        return write(
-            judge,
-            Mode::NoChangeNeeded,
-            name,
-            found,
-            wanted,
-            b"no update will be performed",
-        );
+    if is_same_id(&local, &remote) {
+        let happened = b"no update will be performed";
+        return write(judge, place, Mode::NoChangeNeeded, happened);
     }
-    at_other(judge, objects, refspec, name, found, id, new)
-}
-
-#[tactic(auto, unfolding(crate::specs::Policy::at_other, crate::specs::Policy::guessed))]
-fn at_other<O: Objects>(
-    judge: &Judge<'_>,
-    objects: &O,
-    refspec: &RefSpec,
-    name: FullName,
-    found: TargetRef<'_>,
-    id: ObjectId,
-    new: ObjectId,
-) -> Result<Verdict, Error>
-    ensures { Answers (spec.at_other (policy_of (O.graph objects.now) judge.now) refspec.now.mode name (seen found.entry) id new) result }
-{
-    if is_tag(&name) {
-        return at_tag(judge, refspec, name, found, new);
+    if is_tag(&place.name) {
+        if place.is_forced {
+            return write(judge, place, Mode::Forced, b"updating tag");
+        }
+        return Ok(Verdict::nothing(Mode::RejectedTagUpdate));
     }
     if judge.dry_run {
         let happened = b"fast-forward (guessed in dry-run)";
-        return write(
-            judge,
-            Mode::FastForward,
-            name,
-            found,
-            Wanted::Id(new),
-            happened,
-        );
+        return write(judge, place, Mode::FastForward, happened);
     }
-    if !is_stored(objects, &id) {
-        return Err(Error::FindCommit { id });
+    if !is_stored(objects, &local) {
+        return Err(Error::FindCommit { id: local });
     }
-    at_stored(judge, objects, refspec, name, found, id, new)
+    if !are_commits(objects, &local, &remote) {
+        return write(judge, place, Mode::Forced, b"forced-update");
+    }
+    if is_ahead(judge.alloc, objects, &remote, &local)? {
+        return write(judge, place, Mode::FastForward, b"fast-forward");
+    }
+    if place.is_forced {
+        return write(judge, place, Mode::Forced, b"forced-update");
+    }
+    Ok(Verdict::nothing(Mode::RejectedNonFastForward))
 }
 
 fn is_tag(name: &FullName) -> bool
@@ -363,72 +266,4 @@ fn is_tag(name: &FullName) -> bool
         Some(Category::Tag) => true,
         _ => false,
     }
-}
-
-#[tactic(auto, unfolding(crate::specs::Policy::updating_tag))]
-fn at_tag(
-    judge: &Judge<'_>,
-    refspec: &RefSpec,
-    name: FullName,
-    found: TargetRef<'_>,
-    new: ObjectId,
-) -> Result<Verdict, Error>
-    ensures { Answers (Ok (spec.at_tag judge.now.message.now refspec.now.mode name (seen found.entry) new)) result }
-{
-    if !is_forced(refspec) {
-        return Ok(Verdict::nothing(Mode::RejectedTagUpdate));
-    }
-    write(
-        judge,
-        Mode::Forced,
-        name,
-        found,
-        Wanted::Id(new),
-        b"updating tag",
-    )
-}
-
-#[tactic(auto, unfolding(crate::specs::Policy::at_stored, crate::specs::Policy::fast_forward, crate::specs::Policy::forced_update))]
-fn at_stored<O: Objects>(
-    judge: &Judge<'_>,
-    objects: &O,
-    refspec: &RefSpec,
-    name: FullName,
-    found: TargetRef<'_>,
-    id: ObjectId,
-    new: ObjectId,
-) -> Result<Verdict, Error>
-    ensures { Answers (Ok (spec.at_stored (policy_of (O.graph objects.now) judge.now) refspec.now.mode name (seen found.entry) id new)) result }
-{
-    if !are_commits(objects, &id, &new) {
-        return write(
-            judge,
-            Mode::Forced,
-            name,
-            found,
-            Wanted::Id(new),
-            b"forced-update",
-        );
-    }
-    if is_ahead(judge.alloc, objects, &new, &id)? {
-        return write(
-            judge,
-            Mode::FastForward,
-            name,
-            found,
-            Wanted::Id(new),
-            b"fast-forward",
-        );
-    }
-    if !is_forced(refspec) {
-        return Ok(Verdict::nothing(Mode::RejectedNonFastForward));
-    }
-    write(
-        judge,
-        Mode::Forced,
-        name,
-        found,
-        Wanted::Id(new),
-        b"forced-update",
-    )
 }

@@ -3,6 +3,7 @@
 
 mod commits;
 mod dated;
+mod judge;
 mod judging;
 pub mod laws;
 mod message;

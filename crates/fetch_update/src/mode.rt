@@ -9,7 +9,7 @@ use fetch_store::{List, NoMemory, ObjectId, Text};
 use std::{fmt, str};
 
 /// What an update does to its reference, or why it does nothing.
-#[derive(Debug, Drop)]
+#[derive(Debug, Drop, PartialEq, Eq)]
 pub enum Mode {
     NoChangeNeeded,
     FastForward,
@@ -49,22 +49,11 @@ impl Mode {
             Mode::RejectedToReplaceWithUnborn => Ok(Mode::RejectedToReplaceWithUnborn),
             Mode::RejectedCurrentlyCheckedOut { worktree_dirs } => {
                 Ok(Mode::RejectedCurrentlyCheckedOut {
-                    worktree_dirs: copy_texts(worktree_dirs)?,
+                    worktree_dirs: worktree_dirs.try_clone_with(Text::try_clone)?,
                 })
             }
         }
     }
-}
-
-fn copy_texts(texts: &List<Text>) -> Result<List<Text>, NoMemory>
-    ensures { IfOk result (λ copy. copy ≡ texts.now) }
-{
-    let mut copy = Vec::with_capacity(texts.allocator(), texts.len())?;
-    let from = texts.as_slice();
-    'texts: for text in from {
-        copy.push(text.try_clone()?)?;
-    }
-    Ok(List::from(copy))
 }
 
 impl fmt::Display for Mode {

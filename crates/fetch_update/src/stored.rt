@@ -1,16 +1,15 @@
 //! What objects say of an update.
 
-ghost use Rattle.std.specs.Prelude.{◌≡◌, ◌↔◌, ◌&&◌, IsTrue, IfOk};
+ghost use Rattle.std.specs.Prelude.{◌≡◌, ◌&&◌, IfOk};
 ghost use Rattle.std.specs.Ordering.{eq_by_cmp};
 ghost use Rattle.fetch_store.specs.Stores.{id_cmp};
-ghost use Rattle.fetch_store.specs.Objects.{is_kind};
-ghost use Rattle.fetch_store.specs.declared.object_kind.ObjectKind.TheVariants as kinds;
 ghost use Rattle.fetch_update.specs.Ahead as ahead;
 ghost use Rattle.fetch_update.specs.Dated.{IsCommit};
 ghost use Rattle.fetch_update.specs.Policy as spec;
 
+use crate::commits::names_commits;
 use crate::dated::has_dated_path;
-use fetch_store::{NoMemory, ObjectId, ObjectKind, Objects};
+use fetch_store::{NoMemory, ObjectId, Objects, same_id};
 use std::alloc::Global;
 
 pub(crate) fn is_stored<O: Objects>(objects: &O, id: &ObjectId) -> bool
@@ -28,15 +27,6 @@ fn is_commit<O: Objects>(objects: &O, id: &ObjectId) -> bool
     }
 }
 
-fn names_commits(kind: ObjectKind) -> bool
-    ensures { result ≡ is_kind kind kinds.Commit }
-{
-    match kind {
-        ObjectKind::Commit => true,
-        ObjectKind::Tree | ObjectKind::Blob | ObjectKind::Tag => false,
-    }
-}
-
 pub(crate) fn are_commits<O: Objects>(objects: &O, id: &ObjectId, other: &ObjectId) -> bool
     ensures { result ≡ (spec.is_commit (O.graph objects.now) id.now && spec.is_commit (O.graph objects.now) other.now) }
 {
@@ -49,13 +39,7 @@ pub(crate) fn are_commits<O: Objects>(objects: &O, id: &ObjectId, other: &Object
 pub(crate) fn is_same_id(id: &ObjectId, other: &ObjectId) -> bool
     ensures { result ≡ eq_by_cmp id_cmp id.now other.now }
 {
-    are_equal(id, other)
-}
-
-fn are_equal(id: &ObjectId, other: &ObjectId) -> bool
-    ensures { IsTrue result ↔ (id.now ≡ other.now) }
-{
-    *id == *other
+    same_id(id, other)
 }
 
 /// Whether a dated path leads from one commit to another.

@@ -1,82 +1,88 @@
 //! Where branches are checked out.
 
-ghost use Rattle.std.specs.Prelude.{◌≡◌, IfOk, OnOk};
-ghost use Rattle.std.specs.BTreeMap.{keys};
-ghost use Rattle.std.specs.FinMap as finmap;
-ghost use Rattle.std.specs.Str.{bytes_eq};
+ghost use Rattle.std.specs.Prelude.{◌≡◌, ◌++◌, ◌∷◌, [], ℕ, IfOk, OnOk, MatchOption, List as Items, true, false, cond};
+ghost use Rattle.std.specs.BTreeMap.{is_at};
+ghost use Rattle.std.specs.BTreeSet.{contains, keys};
+ghost use Rattle.std.specs.List.Sorted.{IsStrictlySortedBy};
+ghost use Rattle.std.specs.Option.{option_map_or};
 ghost use Rattle.fetch_refs.specs.Names.{name_cmp};
-ghost use Rattle.fetch_update.specs.Policy as spec;
+ghost use Rattle.fetch_update.specs.Trees as spec;
+ghost use Rattle.fetch_update.specs.Trees.{IsIndex};
+ghost use Rattle.fetch_update.specs.declared.worktrees.Worktree.{Worktree};
 
 use crate::worktrees::Worktree;
 use fetch_specs::FullName;
 use fetch_store::{List, NoMemory, Text};
 use std::alloc::Global;
-use std::collections::BTreeMap;
+use std::collections::{BTreeMap, BTreeSet};
 
-pub(crate) fn is_checked_out(worktrees: &[Worktree], name: &FullName) -> bool
-    ensures { result ≡ spec.is_checked_out worktrees.now name.now }
-{
-    worktrees.iter().any(|tree| is_branch(tree, name))
-}
-
-fn is_branch(tree: &Worktree, name: &FullName) -> bool
-    ensures { result ≡ bytes_eq tree.now.branch name.now }
-{
-    tree.branch == *name
-}
-
-/// The directories where a branch is checked out, sorted, each once.
-pub(crate) fn directories(
+/// The directories where branches are checked out, by branch.
+pub(crate) fn index_of(
     alloc: Global,
     worktrees: &[Worktree],
+) -> Result<BTreeMap<FullName, BTreeSet<Text>>, NoMemory>
+    ensures { IfOk result (λ index. IsIndex worktrees.now index) }
+{
+    let mut index = BTreeMap::new(alloc);
+    'trees: for tree in worktrees {
+        add(alloc, &mut index, tree)?;
+    }
+    Ok(index)
+}
+
+/// Adds a worktree's directory to those of its branch.
+fn add(
+    alloc: Global,
+    index: &mut BTreeMap<FullName, BTreeSet<Text>>,
+    tree: &Worktree,
+) -> Result<(), NoMemory>
+    ensures { (done : Items Worktree) → IsIndex done index.old → OnOk result (IsIndex (done ++ tree.now ∷ []) index.new) }
+{
+    let others = index.remove(&tree.branch);
+    let directories = with_directory(alloc, others, tree.directory.try_clone()?)?;
+    index.insert(tree.branch.try_clone()?, directories)?;
+    Ok(())
+}
+
+/// The directories with one more, unless it is there.
+fn with_directory(
+    alloc: Global,
+    others: Option<BTreeSet<Text>>,
+    directory: Text,
+) -> Result<BTreeSet<Text>, NoMemory>
+    ensures { (q : Items ℕ) → IfOk result (λ set. contains name_cmp set q ≡ cond (is_at (name_cmp directory) q) true (option_map_or (λ other. contains name_cmp other q) others false)) }
+{
+    let mut directories = match others {
+        Some(others) => others,
+        None => BTreeSet::new(alloc),
+    };
+    directories.insert(directory)?;
+    Ok(directories)
+}
+
+/// The directories where a branch is checked out, sorted, if it is somewhere.
+pub(crate) fn directories_at(
+    alloc: Global,
+    worktrees: &[Worktree],
+    index: &BTreeMap<FullName, BTreeSet<Text>>,
     name: &FullName,
-) -> Result<List<Text>, NoMemory>
-    ensures { IfOk result (λ list. list ≡ spec.directories_of worktrees.now name.now) }
+) -> Result<Option<List<Text>>, NoMemory>
+    requires { IsIndex worktrees.now index.now }
+    ensures { IfOk result (λ found. MatchOption found (spec.is_checked_out worktrees.now name.now ≡ false) (λ list. (spec.is_checked_out worktrees.now name.now ≡ true) × (list ≡ spec.directories_of worktrees.now name.now))) }
 {
-    let map = directory_map(alloc, worktrees, name)?;
-    keys_of(alloc, &map)
+    match index.get(name) {
+        Some(directories) => Ok(Some(copies(alloc, directories)?)),
+        None => Ok(None),
+    }
 }
 
-fn keys_of(alloc: Global, map: &BTreeMap<Text, ()>) -> Result<List<Text>, NoMemory>
-    ensures { IfOk result (λ list. list ≡ finmap.keys (finmap.from_entries {R = name_cmp} map.now.entries)) }
+fn copies(alloc: Global, directories: &BTreeSet<Text>) -> Result<List<Text>, NoMemory>
+    ensures keys { IfOk result (λ list. list ≡ keys directories.now) }
+    ensures ordered { IfOk result (λ list. IsStrictlySortedBy name_cmp list) }
 {
-    let list = copies(alloc, map)?;
-    let _count = map.len();
-    Ok(list)
-}
-
-fn copies(alloc: Global, map: &BTreeMap<Text, ()>) -> Result<List<Text>, NoMemory>
-    ensures { IfOk result (λ list. list ≡ keys map.now) }
-{
-    let mut texts = Vec::new(alloc);
-    'keys: for text in map.keys() {
+    let mut texts = Vec::with_capacity(alloc, directories.len())?;
+    'keys: for text in directories {
         texts.push(text.try_clone()?)?;
     }
     Ok(List::from(texts))
-}
-
-fn directory_map(
-    alloc: Global,
-    worktrees: &[Worktree],
-    name: &FullName,
-) -> Result<BTreeMap<Text, ()>, NoMemory>
-    ensures { IfOk result (λ map. finmap.from_entries {R = name_cmp} map.entries ≡ spec.directory_map worktrees.now name.now) }
-{
-    let mut map = BTreeMap::new(alloc);
-    let mut left = worktrees.len();
-    'trees: while left > 0 {
-        left -= 1;
-        let tree = &worktrees[left];
-        if is_branch(tree, name) {
-            add(&mut map, tree.directory.try_clone()?)?;
-        }
-    }
-    Ok(map)
-}
-
-fn add(map: &mut BTreeMap<Text, ()>, text: Text) -> Result<(), NoMemory>
-    ensures { OnOk result (finmap.from_entries {R = name_cmp} map.new.entries ≡ finmap.insert (finmap.from_entries map.old.entries) text tt) }
-{
-    map.insert(text, ())?;
-    Ok(())
 }

@@ -10,7 +10,7 @@ use std::alloc::{AllocError, AllocFailed};
 use thiserror::Error as ErrorMacro;
 
 /// What becomes of one mapping.
-#[derive(Debug, Drop)]
+#[derive(Debug, Drop, PartialEq, Eq)]
 pub struct Update {
     pub mode: Mode,
     pub type_change: Option<TypeChange>,
@@ -136,30 +136,8 @@ impl Outcome {
         ensures { IfOk result (λ copy. copy ≡ self.now) }
     {
         Ok(Outcome {
-            edits: copy_edits(&self.edits)?,
-            updates: copy_updates(&self.updates)?,
+            edits: self.edits.try_clone_with(RefEdit::try_clone)?,
+            updates: self.updates.try_clone_with(Update::try_clone)?,
         })
     }
-}
-
-fn copy_edits(edits: &List<RefEdit>) -> Result<List<RefEdit>, NoMemory>
-    ensures { IfOk result (λ copy. copy ≡ edits.now) }
-{
-    let mut copy = Vec::with_capacity(edits.allocator(), edits.len())?;
-    let from = edits.as_slice();
-    'edits: for edit in from {
-        copy.push(edit.try_clone()?)?;
-    }
-    Ok(List::from(copy))
-}
-
-fn copy_updates(updates: &List<Update>) -> Result<List<Update>, NoMemory>
-    ensures { IfOk result (λ copy. copy ≡ updates.now) }
-{
-    let mut copy = Vec::with_capacity(updates.allocator(), updates.len())?;
-    let from = updates.as_slice();
-    'updates: for update in from {
-        copy.push(update.try_clone()?)?;
-    }
-    Ok(List::from(copy))
 }

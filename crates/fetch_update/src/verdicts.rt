@@ -4,7 +4,8 @@ ghost use Rattle.std.specs.Prelude.{◌≡◌};
 ghost use Rattle.fetch_update.specs.Outcomes.{verdicts_from};
 ghost use Rattle.fetch_update.specs.Policy.{IsGivenAs, policy_of};
 
-use crate::judging::{Judge, judge_mapping};
+use crate::judge::Judge;
+use crate::judging::judge_mapping;
 use crate::update::Error;
 use crate::verdict::Verdict;
 use fetch_specs::RefSpec;

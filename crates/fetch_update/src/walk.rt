@@ -4,8 +4,8 @@ ghost use Rattle.std.specs.Prelude.{◌≡◌, ◌+◌, ◌≤◌, true, false, 
 ghost use Rattle.fetch_update.specs.Dated.{IsCommit, parents_at};
 ghost use Rattle.fetch_update.specs.Walks.{state, has, Grows, Keeps, Pops, IsDone, room, work};
 
-use crate::commits::{is_same, read_commit, read_parent};
-use fetch_store::{NoMemory, ObjectId, Objects, Steps};
+use crate::commits::{read_commit, read_parent};
+use fetch_store::{NoMemory, ObjectId, Objects, Steps, same_id};
 use std::alloc::Global;
 use std::collections::{BTreeSet, BinaryHeap};
 use std::sync::ledger::Ledger;
@@ -103,7 +103,7 @@ impl Walk {
         for index in 0..usize::MAX {
             match read_parent(objects, id, index, steps) {
                 Some(parent) => {
-                    if is_same(&parent, to) {
+                    if same_id(&parent, to) {
                         return Ok(true);
                     }
                     self.discover(objects, parent, steps)?;

@@ -3,11 +3,11 @@
 ghost use Rattle.std.specs.Prelude.{◌≡◌, IfOk, Ok, Err};
 ghost use Rattle.fetch_refs.specs.Targets.{seen};
 ghost use Rattle.fetch_update.specs.Policy as spec;
-ghost use Rattle.fetch_update.specs.Policy.{Answers, value_in_code};
+ghost use Rattle.fetch_update.specs.Policy.{Answers, place_in_code, value_in_code};
 ghost use Rattle.fetch_update.specs.declared.update.Error.TheVariants as errors;
 
-use crate::judging::{Judge, Wanted, full_name};
-use crate::message::RefLogMessage;
+use crate::judge::{Judge, Place, Wanted};
+use crate::judging::full_name;
 use crate::mode::{Mode, TypeChange};
 use crate::update::Error;
 use crate::verdict::Verdict;
@@ -27,7 +27,7 @@ pub(crate) fn create(
     let value = target_of(judge.alloc, wanted)?;
     let happened = storing(&name);
     let expected = PreviousValue::ExistingMustMatch(value.try_clone()?);
-    let edit = edit(judge.alloc, judge.message, name, expected, value, happened)?;
+    let edit = edit(judge, name, expected, value, happened)?;
     Ok(Verdict {
         mode: Mode::New,
         type_change: None,
@@ -38,18 +38,16 @@ pub(crate) fn create(
 /// A reference that has this value gets another, or the same again.
 pub(crate) fn write(
     judge: &Judge<'_>,
+    place: Place<'_>,
     mode: Mode,
-    name: FullName,
-    found: TargetRef<'_>,
-    wanted: Wanted<'_>,
     happened: &[u8],
 ) -> Result<Verdict, Error>
-    ensures { Answers (spec.if_valid (value_in_code wanted.entry) (spec.written judge.now.message.now mode name (seen found.entry) (value_in_code wanted.entry) happened.now)) result }
+    ensures { Answers (spec.if_valid (value_in_code place.entry.wanted) (spec.written judge.now.message.now (place_in_code place.entry) mode happened.now)) result }
 {
-    let value = target_of(judge.alloc, wanted)?;
-    let type_change = type_change_of(found, &value);
-    let expected = PreviousValue::MustExistAndMatch(found.try_to_owned()?);
-    let edit = edit(judge.alloc, judge.message, name, expected, value, happened)?;
+    let value = target_of(judge.alloc, place.wanted)?;
+    let type_change = type_change_of(place.found, &value);
+    let expected = PreviousValue::MustExistAndMatch(place.found.try_to_owned()?);
+    let edit = edit(judge, place.name, expected, value, happened)?;
     Ok(Verdict {
         mode,
         type_change,
@@ -68,16 +66,15 @@ fn type_change_of(found: TargetRef<'_>, value: &Target) -> Option<TypeChange>
 }
 
 fn edit(
-    alloc: Global,
-    message: &RefLogMessage,
+    judge: &Judge<'_>,
     name: FullName,
     expected: PreviousValue,
     new: Target,
     happened: &[u8],
 ) -> Result<RefEdit, NoMemory>
-    ensures { IfOk result (λ edit. edit ≡ spec.edit_of message.now name expected new happened.now) }
+    ensures { IfOk result (λ edit. edit ≡ spec.edit_of judge.now.message.now name expected new happened.now) }
 {
-    let message = message.compose(alloc, happened)?;
+    let message = judge.message.compose(judge.alloc, happened)?;
     Ok(RefEdit {
         change: Change::Update {
             log: LogChange {

@@ -9,12 +9,12 @@ use Rattle.fetch_update.proofs.dated.is_dated_ancestor.Goals as goal
 itself : (n : ℕ) → n ≤ n
 itself n = omega arith
 
-pub returns-then-is_same-clause-path : goal.returns-then-is_same-clause-path
-returns-then-is_same-clause-path g c =
+pub returns-then-same_id-clause-path : goal.returns-then-same_id-clause-path
+returns-then-same_id-clause-path g c =
     let graph = g.O.Objects.graph c.args.objects.now in
     let to = c.args.to.now in
     let limit = seconds_at graph to in
-    let same : c.args.from.now ≡ to = c.is_same.ensures.0 c.if-is_same.true in
+    let same : c.args.from.now ≡ to = c.same_id.ensures.0 c.if-same_id.true in
     let path : HasDatedPath graph to to = alone graph limit to (c.requires.to, itself limit) in
     (λ _. subst (λ (q : ObjectId). HasDatedPath graph q to) (sym same) path, λ _. refl)
 
@@ -117,5 +117,5 @@ returns-clause-path g c =
     let limit = seconds_at graph to in
     let a : State = state c.commits.walk in
     let none : a.waiting ≡ [] = c.in_default.ensures.popped in
-    let other : from ≢ to = λ same. absurd (let found = c.is_same.ensures.1 same in let no = c.if-is_same.false in cc) in
+    let other : from ≢ to = λ same. absurd (let found = c.same_id.ensures.1 same in let no = c.if-same_id.false in cc) in
     (λ found. absurd cc, λ path. absurd (no_path graph limit from to a (ended graph limit from to a c.commits.invariant.walk none) c.commits.invariant.walk.start other path))

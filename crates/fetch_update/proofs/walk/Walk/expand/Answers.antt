@@ -22,7 +22,7 @@ loop-index-preserved g c =
     let at : slice_get parents i ≡ Some p = sym c.in-Some.ensures.parent in
     let lt : i < length parents = within parents i p at in
     let grown : Grows graph c.args.self.now.limit (p ∷ []) b e = subst (λ limit. Grows graph limit (p ∷ []) b e) c.loop-index.invariant.limit c.in_ok-discover-in-Some.ensures.grows in
-    let other : p ≢ c.args.to.now = λ same. absurd (let found = c.is_same.ensures.1 same in let no = c.if-is_same.false in cc) in
+    let other : p ≢ c.args.to.now = λ same. absurd (let found = c.same_id.ensures.1 same in let no = c.if-same_id.false in cc) in
     record {
       limit = c.discover.ensures.limit ∙ c.loop-index.invariant.limit;
       within = omega arith;
