@@ -22,7 +22,7 @@ use Rattle.fetch_wire.specs.Awaited.{step_of, told_at, at_listed}
 use Rattle.fetch_wire.specs.FetchReplies.{at_packfile, at_rest, at_beginning, at_acknowledgment, behind_ready, at_change, at_band, by_band, acknowledged_in, shallow_in, unshallow_in, is_acknowledgments, is_nak, is_ready, reply_step, no_reply, with_bytes}
 use Rattle.fetch_wire.specs.Lines.{line_at, line_len}
 use Rattle.fetch_wire.specs.Listings.{if_new, ref_in}
-use Rattle.fetch_wire.specs.Replies.{is_packfile, is_shallow_info}
+use Rattle.fetch_wire.specs.FetchReplies.{is_packfile, is_shallow_info}
 use Rattle.fetch_wire.specs.Stepping.{Step, goes, ends, breaks, says, or_breaks, after_step, after_line, read_within}
 use Rattle.fetch_wire.specs.Steps.{by_line, error_text}
 use Rattle.fetch_wire.specs.Texts.{without_lf, is_error}

@@ -21,7 +21,7 @@ use Rattle.fetch_wire.proofs.SessionAlike.{stays_alike}
 use Rattle.fetch_negotiate.specs.Requests.{fetch_request}
 use Rattle.fetch_conversation.specs.Conversation.{Conversation, ends, asks, sent_in, answer_in, Concludes, RefusesWith, Converses}
 use Rattle.fetch_conversation.specs.Conversing.{Tells, IsClear, received_of, found_in, IsAsked}
-use Rattle.fetch_conversation.specs.ConverseStage.{TermsValue, asked_by, unmapped, unlike, lacked, is_border_needed, too_long, failed, replied, reply_to, received, fetching, wanting, converse_stage, other_reply}
+use Rattle.fetch_conversation.specs.ConverseStage.{TermsValue, asked_by, unmapped, unlike, unfit, lacked, is_border_needed, too_long, failed, replied, reply_to, received, fetching, wanting, converse_stage, other_reply}
 use Rattle.fetch_conversation.specs.Drives.{IsDrivable, Finishes, Stops}
 use Rattle.fetch_conversation.specs.Errors.{is_free_receiving, fetch_of_wire, fetch_of_stop}
 use Rattle.fetch_conversation.specs.ListStage.{is_nil}
@@ -61,18 +61,22 @@ pub unmapped_stage : (T : Type 0) (bound : ℕ) (t : TermsValue) (e : Error) →
 unfolding converse_stage
 unmapped_stage T bound t e h isnt = rw (some_told T (unmapped t.listed.ref_map) e h isnt) refl
 
-pub unlike_stage : (T : Type 0) (bound : ℕ) (t : TermsValue) (e : Error) → unmapped t.listed.ref_map ≡ None → Tells {T = T} (unlike t.hash t.listed.handshake.object_hash) (Err e) → is_free_receiving e ≡ false → converse_stage bound t ≡ ends (Err e)
+pub unlike_stage : (T : Type 0) (bound : ℕ) (t : TermsValue) (e : Error) → unmapped t.listed.ref_map ≡ None → Tells {T = T} (unlike t.settings.kind t.listed.handshake.object_hash) (Err e) → is_free_receiving e ≡ false → converse_stage bound t ≡ ends (Err e)
 unfolding converse_stage
-unlike_stage T bound t e none h isnt = rw (none, some_told T (unlike t.hash t.listed.handshake.object_hash) e h isnt) refl
+unlike_stage T bound t e none h isnt = rw (none, some_told T (unlike t.settings.kind t.listed.handshake.object_hash) e h isnt) refl
 
-pub lacking_stage : (T : Type 0) (bound : ℕ) (t : TermsValue) (e : Error) → unmapped t.listed.ref_map ≡ None → unlike t.hash t.listed.handshake.object_hash ≡ None → Tells {T = T} (lacked t.listed.handshake (is_border_needed t.view.border t.shallow)) (Err e)
+pub unfit_stage : (T : Type 0) (bound : ℕ) (t : TermsValue) (e : Error) → unmapped t.listed.ref_map ≡ None → unlike t.settings.kind t.listed.handshake.object_hash ≡ None → Tells {T = T} (unfit t.settings) (Err e) → is_free_receiving e ≡ false → converse_stage bound t ≡ ends (Err e)
+unfolding converse_stage
+unfit_stage T bound t e none same h isnt = rw (none, same, some_told T (unfit t.settings) e h isnt) refl
+
+pub lacking_stage : (T : Type 0) (bound : ℕ) (t : TermsValue) (e : Error) → unmapped t.listed.ref_map ≡ None → unlike t.settings.kind t.listed.handshake.object_hash ≡ None → unfit t.settings ≡ None → Tells {T = T} (lacked t.listed.handshake (is_border_needed t.view.border t.shallow)) (Err e)
     → is_free_receiving e ≡ false → converse_stage bound t ≡ ends (Err e)
 unfolding converse_stage
-lacking_stage T bound t e none same h isnt = rw (none, same, some_told T (lacked t.listed.handshake (is_border_needed t.view.border t.shallow)) e h isnt) refl
+lacking_stage T bound t e none same fit h isnt = rw (none, same, fit, some_told T (lacked t.listed.handshake (is_border_needed t.view.border t.shallow)) e h isnt) refl
 
 clear_stage : (bound : ℕ) (t : TermsValue) → IsClear t → converse_stage bound t ≡ wanting bound t t.view.wants
 unfolding converse_stage
-clear_stage bound t h = rw (h.mapped, h.alike, h.offered) refl
+clear_stage bound t h = rw (h.mapped, h.alike, h.fit, h.offered) refl
 
 nothing_answers : {X E : Type 0} (bound : ℕ) (c : Conversation X E) (x : X) (stream : List ℕ) → c ≡ ends (Ok x) → answer_in bound c stream ≡ Ok (x, stream)
 unfolding answer_in

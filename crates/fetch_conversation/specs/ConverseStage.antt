@@ -28,25 +28,28 @@ use Rattle.fetch_wire.specs.declared.handshake.Version.TheVariants as versions
 use Rattle.fetch_wire.specs.declared.mapping.RefMap.{RefMap}
 use Rattle.fetch_wire.specs.declared.records.FetchReply.{FetchReply}
 use Rattle.fetch_negotiate.specs.Requests.{Asked, fetch_request}
+use Rattle.fetch_negotiate.specs.declared.algorithm.Algorithm.{Algorithm}
+use Rattle.fetch_negotiate.specs.declared.algorithm.Algorithm.TheVariants as algorithms
 use Rattle.fetch_negotiate.specs.declared.algorithm.Round.{Round}
 use Rattle.fetch_negotiate.specs.declared.algorithm.Shallow.{Shallow}
 use Rattle.fetch_negotiate.specs.declared.algorithm.Shallow.TheVariants as depth
 use Rattle.fetch_conversation.specs.Conversation.{Conversation, ends, asking}
 use Rattle.fetch_conversation.specs.Errors.{fetch_of_pack}
 use Rattle.fetch_conversation.specs.ListStage.{ListedValue, is_nil, unless}
+use Rattle.fetch_conversation.specs.ReadSettings.{agent_of, rejects_shallow_of, algorithm_of_config, threads_of}
 use Rattle.fetch_conversation.specs.declared.conversing.Received.{Received}
 use Rattle.fetch_conversation.specs.declared.conversing.View.{View}
 use Rattle.fetch_conversation.specs.declared.negotiate.Negotiate.{Negotiate}
+use Rattle.fetch_conversation.specs.declared.settings.Settings.{Settings}
 use Rattle.fetch_conversation.specs.declared.fetch.Error.{Error}
 use Rattle.fetch_conversation.specs.declared.fetch.Error.TheVariants as errors
 
--- What the stage goes by: what was listed, the repository's hash and what it shows, who asks, what is done with tags,
--- how the depth is to change, and whether nothing is to be changed.
+-- What the stage goes by: what was listed, the repository's settings and what it shows, what is done with tags, how the
+-- depth is to change, and whether nothing is to be changed.
 pub record TermsValue : Type 0 where
   pub listed : ListedValue
-  pub hash : Kind
+  pub settings : Settings
   pub view : View
-  pub agent : List ℕ
   pub tags : Tags
   pub shallow : Shallow
   pub dry_run : Bool
@@ -89,7 +92,27 @@ abbrev pub unlike : Kind → Kind → Option Error
 unlike local remote = if is_same_kind local remote then None else Some (errors.IncompatibleObjectHash local remote)
 
 abbrev pub other_hash : TermsValue → Option Error
-other_hash t = unlike t.hash t.listed.handshake.object_hash
+other_hash t = unlike t.settings.kind t.listed.handshake.object_hash
+
+-- a setting that can't be read, told so
+abbrev pub unread_as : {X : Type 0} → (List ℕ → Error) → Result X (List ℕ) → Option Error
+unread_as refusal (Ok x) = None
+unread_as refusal (Err value) = Some (refusal value)
+
+-- Rounds aren't built yet: an algorithm that tells what is there.
+abbrev pub unbuilt_rounds : Result Algorithm (List ℕ) → Option Error
+unbuilt_rounds (Ok algorithms.Noop) = None
+unbuilt_rounds (Ok algorithms.Consecutive) = Some errors.Unbuilt
+unbuilt_rounds (Ok algorithms.Skipping) = Some errors.Unbuilt
+unbuilt_rounds (Err value) = None
+
+-- the first of the settings that can't be read, or else that isn't built
+abbrev pub unfit : Settings → Option Error
+unfit s =
+    option_or (unread_as errors.RejectShallowRemoteConfig (rejects_shallow_of s.config)) (
+    option_or (unread_as errors.NegotiationAlgorithmConfig (algorithm_of_config s.config s.lenient)) (
+    option_or (unread_as errors.PackThreads (threads_of s.config s.lenient))
+    (unbuilt_rounds (algorithm_of_config s.config s.lenient))))
 
 unfoldable pub fetch_feature : List ℕ
 fetch_feature = codes "fetch"
@@ -147,7 +170,7 @@ failed bound fault = errors.Fetch (error_of bound fault)
 
 -- what the request is made of
 abbrev pub asked_by : TermsValue → Asked
-asked_by t = record { handshake = t.listed.handshake; agent = t.agent; tags = t.tags; shallow = t.shallow; border = t.view.border; wants = t.view.wants }
+asked_by t = record { handshake = t.listed.handshake; agent = agent_of t.settings.config; tags = t.tags; shallow = t.shallow; border = t.view.border; wants = t.view.wants }
 
 -- one request, which says nothing of what is there
 abbrev pub only_round : Round
@@ -197,4 +220,4 @@ wanting bound t (id ∷ ids) = fetching bound t
 
 -- the whole stage
 unfoldable pub converse_stage : ℕ → TermsValue → Conversation (Option Received) Error
-converse_stage bound t = unless (option_or (no_mapping t) (option_or (other_hash t) (lacking t))) (wanting bound t t.view.wants)
+converse_stage bound t = unless (option_or (no_mapping t) (option_or (other_hash t) (option_or (unfit t.settings) (lacking t)))) (wanting bound t t.view.wants)

@@ -10,7 +10,7 @@ use Rattle.fetch_wire.specs.SessionStates as session
 use Rattle.fetch_wire.specs.Written.{first_too_long}
 use Rattle.fetch_wire.specs.declared.records.Request.{Request}
 use Rattle.fetch_conversation.specs.Conversation.{ends}
-use Rattle.fetch_conversation.specs.ConverseStage.{TermsValue, asked_by, reply_to, without_pack, unpacked, other_reply, unmapped, unlike, lacked, is_border_needed, converse_stage}
+use Rattle.fetch_conversation.specs.ConverseStage.{TermsValue, asked_by, reply_to, without_pack, unpacked, other_reply, unmapped, unlike, unfit, lacked, is_border_needed, converse_stage}
 use Rattle.fetch_conversation.specs.Errors.{is_free_receiving, is_client, is_stopped}
 use Rattle.fetch_conversation.specs.declared.conversing.Received.{Received}
 use Rattle.fetch_conversation.specs.declared.fetch.Error.{Error}
@@ -26,7 +26,8 @@ Tells (Some e) (Err f) = f ≢ errors.NoMemory → f ≡ e
 -- nothing is refused before anything is sent
 pub record IsClear (t : TermsValue) : Type 0 where
   pub mapped : unmapped t.listed.ref_map ≡ None
-  pub alike : unlike t.hash t.listed.handshake.object_hash ≡ None
+  pub alike : unlike t.settings.kind t.listed.handshake.object_hash ≡ None
+  pub fit : unfit t.settings ≡ None
   pub offered : lacked t.listed.handshake (is_border_needed t.view.border t.shallow) ≡ None
 
 -- The stage is this refusal, unless it is a free one.

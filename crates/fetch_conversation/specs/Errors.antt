@@ -85,7 +85,7 @@ is_free_map (ref_map.Handshake e) = false
 is_free_map ref_map.Transport = true
 is_free_map ref_map.Interrupted = true
 is_free_map (ref_map.InitRefMap conflicts) = false
-is_free_map ref_map.NoMemory = true
+is_free_map ref_map.NoMemory = false
 
 abbrev pub is_free_listing : PrepareError → Bool
 is_free_listing prepare.MissingRefSpecs = false
@@ -150,9 +150,9 @@ abbrev pub is_free_receiving : ReceiveError → Bool
 is_free_receiving fetch.Client = true
 is_free_receiving fetch.Interrupted = true
 is_free_receiving fetch.NoMemory = true
-is_free_receiving (fetch.KeepFile path) = true
-is_free_receiving (fetch.RemovePackKeepFile path) = true
-is_free_receiving (fetch.UpdateRefs e) = is_worktree_fault e
+is_free_receiving (fetch.KeepFile path) = false
+is_free_receiving (fetch.RemovePackKeepFile path) = false
+is_free_receiving (fetch.UpdateRefs e) = false
 is_free_receiving (fetch.NoMapping specs count) = false
 is_free_receiving (fetch.IncompatibleObjectHash local remote) = false
 is_free_receiving (fetch.Disconnected link) = false

@@ -6,4 +6,5 @@ pub mod Errors
 pub mod ListStage
 pub mod Listing
 pub mod Mapped
+pub mod ReadSettings
 pub mod Served

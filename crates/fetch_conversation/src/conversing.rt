@@ -18,8 +18,9 @@ use crate::fetch;
 use crate::listing::Listed;
 use crate::negotiate::Negotiate;
 use crate::progress::Progress;
-use crate::receiving::{received, tell};
-use crate::refusals::{refuse_lacking, refuse_other_hash, refuse_unmapped};
+use crate::reading_settings::agent;
+use crate::receiving::{received, tell, thread_count};
+use crate::refusals::{refuse_lacking, refuse_other_hash, refuse_settings, refuse_unmapped};
 use crate::settings::Settings;
 use fetch_negotiate::{Shallow, request_of};
 use fetch_specs::Tags;
@@ -82,13 +83,11 @@ impl Received {
     }
 }
 
-/// What a pack is asked for by, lent.
+/// What a pack is asked for by, lent. Who asks, and with how many threads the pack is read, the settings say.
 #[derive(Clone, Copy)]
 pub struct Terms<'a> {
     pub settings: &'a Settings,
     pub view: &'a View,
-    /// Who asks. `git/` is put before it where it lacks that.
-    pub agent: &'a [u8],
     pub tags: Tags,
     /// How the depth of the history is to change.
     pub shallow: &'a Shallow,
@@ -100,18 +99,16 @@ pub struct Terms<'a> {
 fn refuse(alloc: Global, listed: &Listed, terms: &Terms<'_>) -> Result<(), fetch::Error>
     ensures clear { OnOk result (IsClear (record {
       listed = shown listed.now;
-      hash = terms.now.settings.now.kind;
+      settings = terms.now.settings.now;
       view = terms.now.view.now;
-      agent = terms.now.agent.now;
       tags = terms.now.tags;
       shallow = terms.now.shallow.now;
       dry_run = terms.now.dry_run;
     })) }
     ensures refused { IfErr result (λ e. IsRefusal (record {
       listed = shown listed.now;
-      hash = terms.now.settings.now.kind;
+      settings = terms.now.settings.now;
       view = terms.now.view.now;
-      agent = terms.now.agent.now;
       tags = terms.now.tags;
       shallow = terms.now.shallow.now;
       dry_run = terms.now.dry_run;
@@ -120,6 +117,7 @@ fn refuse(alloc: Global, listed: &Listed, terms: &Terms<'_>) -> Result<(), fetch
 {
     refuse_unmapped(alloc, &listed.ref_map)?;
     refuse_other_hash(terms.settings.kind, listed.handshake.object_hash)?;
+    refuse_settings(alloc, terms.settings)?;
     refuse_lacking(alloc, &listed.handshake, &terms.view.border, terms.shallow)
 }
 
@@ -128,18 +126,16 @@ fn ask(alloc: Global, listed: &mut Listed, terms: &Terms<'_>) -> Result<(), Wire
     requires { IsReady listed.old }
     ensures asked { OnOk result (IsAsked (record {
       listed = shown listed.old;
-      hash = terms.now.settings.now.kind;
+      settings = terms.now.settings.now;
       view = terms.now.view.now;
-      agent = terms.now.agent.now;
       tags = terms.now.tags;
       shallow = terms.now.shallow.now;
       dry_run = terms.now.dry_run;
     }) listed.old.session listed.new.session) }
     ensures too_long { IfErr result (λ e. TellsTooLong (first_too_long (fetch_request (asked_by (record {
       listed = shown listed.old;
-      hash = terms.now.settings.now.kind;
+      settings = terms.now.settings.now;
       view = terms.now.view.now;
-      agent = terms.now.agent.now;
       tags = terms.now.tags;
       shallow = terms.now.shallow.now;
       dry_run = terms.now.dry_run;
@@ -149,7 +145,7 @@ fn ask(alloc: Global, listed: &mut Listed, terms: &Terms<'_>) -> Result<(), Wire
     let request = request_of(
         alloc,
         &listed.handshake,
-        terms.agent,
+        agent(terms.settings),
         terms.tags,
         terms.shallow,
         &terms.view.border,
@@ -177,9 +173,8 @@ pub fn converse<R: Threads + Sync, P: Peer, I: Interrupt, Q: Progress, O: Object
     ensures held { Converses is_free_receiving P.answers listed.old.session.intake.bound (P.told peer.old) (P.told peer.new) (pending_of listed.old) (pending_of listed.new)
         (converse_stage listed.old.session.intake.bound (record {
           listed = shown listed.old;
-          hash = terms.now.settings.now.kind;
+          settings = terms.now.settings.now;
           view = terms.now.view.now;
-          agent = terms.now.agent.now;
           tags = terms.now.tags;
           shallow = terms.now.shallow.now;
           dry_run = terms.now.dry_run;
@@ -204,5 +199,6 @@ pub fn converse<R: Threads + Sync, P: Peer, I: Interrupt, Q: Progress, O: Object
         return Err(fetch::Error::Fetch(WireError::Malformed { place: 0 }));
     };
     tell(progress, reply.progress.as_slice());
-    Ok(Some(received(rt, alloc, kind, terms.dry_run, reply)?))
+    let threads = thread_count(terms.settings);
+    Ok(Some(received(rt, alloc, kind, threads, terms.dry_run, reply)?))
 }

@@ -7,8 +7,7 @@ ghost use Rattle.fetch_wire.specs.SessionStates.{turn_of, IsAwaiting};
 ghost use Rattle.fetch_wire.specs.Talks.{Sends};
 ghost use Rattle.fetch_wire.specs.declared.turn.Turn.TheVariants as turns;
 
-use fetch_wire::conversation::Session;
-use fetch_wire::{Interrupt, Peer, SendFault, Turn, WireError};
+use fetch_wire::{Interrupt, Peer, SendFault, Session, Turn, WireError};
 use std::alloc::{AllocError, Global};
 
 /// How many bytes are received at once.

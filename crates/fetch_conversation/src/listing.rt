@@ -18,8 +18,7 @@ use crate::prepare;
 use crate::ref_map::Options;
 use fetch_specs::{RefSpec, Tags};
 use fetch_store::{List, NoMemory};
-use fetch_wire::conversation::Session;
-use fetch_wire::{Handshake, Interrupt, Peer, Ref, RefMap, WireError};
+use fetch_wire::{Handshake, Interrupt, Peer, Ref, RefMap, Session, WireError};
 use std::alloc::Global;
 
 /// What a server is asked for its references, lent.

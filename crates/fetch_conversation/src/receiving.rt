@@ -11,6 +11,8 @@ use crate::copies::copied_ids;
 use crate::fetch;
 use crate::negotiate::Negotiate;
 use crate::progress::Progress;
+use crate::reading_settings::threads;
+use crate::settings::Settings;
 use fetch_negotiate::Round;
 use fetch_pack::read_pack;
 use fetch_store::{Kind, List, NoMemory, Text};
@@ -18,8 +20,13 @@ use fetch_wire::FetchReply;
 use std::alloc::Global;
 use std::thread::Threads;
 
-/// How many threads hash the objects of a pack.
-const THREADS: usize = 1;
+/// How many threads hash the objects of a pack: one where no number is set.
+pub(crate) fn thread_count(settings: &Settings) -> usize {
+    match threads(settings) {
+        Ok(Some(count)) => count,
+        Ok(None) | Err(_) => 1,
+    }
+}
 
 /// Tells these texts, in order.
 pub(crate) fn tell<Q: Progress>(progress: &mut Q, texts: &[Text]) {
@@ -59,6 +66,7 @@ pub(crate) fn received<R: Threads + Sync>(
     rt: &R,
     alloc: Global,
     kind: Kind,
+    threads: usize,
     dry_run: bool,
     reply: &FetchReply,
 ) -> Result<Received, fetch::Error>
@@ -75,7 +83,7 @@ pub(crate) fn received<R: Threads + Sync>(
         Some(bytes) => bytes.as_bytes(),
         None => &[],
     };
-    let pack = read_pack(rt, alloc, kind, bytes, THREADS)?;
+    let pack = read_pack(rt, alloc, kind, bytes, threads)?;
     received.objects = pack.objects;
     received.pack = Some((pack.count, pack.digest));
     Ok(received)

@@ -8,11 +8,14 @@ ghost use Rattle.std.specs.Option.{option_copied, option_or};
 ghost use Rattle.fetch_conversation.specs.ConverseStage as spec;
 ghost use Rattle.fetch_conversation.specs.ConverseStage.{TermsValue};
 ghost use Rattle.fetch_conversation.specs.Conversing.{Tells, IsOwn};
+ghost use Rattle.fetch_conversation.specs.ReadSettings.{rejects_shallow_of, algorithm_of_config, threads_of};
 ghost use Rattle.fetch_conversation.specs.declared.fetch.Error.TheVariants as errors;
 
 use crate::asking::joined_specs;
 use crate::fetch;
-use fetch_negotiate::Shallow;
+use crate::reading_settings::{algorithm, rejects_shallow, threads};
+use crate::settings::Settings;
+use fetch_negotiate::{Algorithm, Shallow};
 use fetch_specs::RefSpec;
 use fetch_store::{Border, Kind, List, NoMemory, Text};
 use fetch_wire::{Handshake, RefMap, Version, WireError};
@@ -89,6 +92,68 @@ pub(crate) fn refuse_other_hash(local: Kind, remote: Kind) -> Result<(), fetch::
         (Kind::Sha1, Kind::Sha1) | (Kind::Sha256, Kind::Sha256) => Ok(()),
         _ => Err(fetch::Error::IncompatibleObjectHash { local, remote }),
     }
+}
+
+/// Refuses an unreadable `clone.rejectShallow`, lenient or not.
+fn refuse_rejection(alloc: Global, settings: &Settings) -> Result<(), fetch::Error>
+    ensures told { Tells (spec.unread_as errors.RejectShallowRemoteConfig (rejects_shallow_of settings.now.config)) result }
+    ensures own { IfErr result (λ e. IsOwn e) }
+{
+    match rejects_shallow(settings) {
+        Ok(_) => Ok(()),
+        Err(value) => Err(fetch::Error::RejectShallowRemoteConfig {
+            value: Text::new(alloc, value)?,
+        }),
+    }
+}
+
+/// Refuses an algorithm that is none, unless that is let pass.
+fn refuse_algorithm(alloc: Global, settings: &Settings) -> Result<(), fetch::Error>
+    ensures told { Tells (spec.unread_as errors.NegotiationAlgorithmConfig (algorithm_of_config settings.now.config settings.now.lenient)) result }
+    ensures own { IfErr result (λ e. IsOwn e) }
+{
+    match algorithm(settings) {
+        Ok(_) => Ok(()),
+        Err(value) => Err(fetch::Error::NegotiationAlgorithmConfig {
+            value: Text::new(alloc, value)?,
+        }),
+    }
+}
+
+/// Refuses a number of threads that is none, unless that is let pass.
+fn refuse_threads(alloc: Global, settings: &Settings) -> Result<(), fetch::Error>
+    ensures told { Tells (spec.unread_as errors.PackThreads (threads_of settings.now.config settings.now.lenient)) result }
+    ensures own { IfErr result (λ e. IsOwn e) }
+{
+    match threads(settings) {
+        Ok(_) => Ok(()),
+        Err(value) => Err(fetch::Error::PackThreads {
+            value: Text::new(alloc, value)?,
+        }),
+    }
+}
+
+/// Refuses an algorithm that tells what is there: rounds aren't built yet.
+fn refuse_rounds(settings: &Settings) -> Result<(), fetch::Error>
+    ensures told { Tells (spec.unbuilt_rounds (algorithm_of_config settings.now.config settings.now.lenient)) result }
+    ensures own { IfErr result (λ e. IsOwn e) }
+{
+    match algorithm(settings) {
+        Ok(Algorithm::Noop) => Ok(()),
+        Ok(Algorithm::Consecutive | Algorithm::Skipping) => Err(fetch::Error::Unbuilt),
+        Err(_) => Ok(()),
+    }
+}
+
+/// Refuses settings that can't be read, the first of them, and then what isn't built of them.
+pub(crate) fn refuse_settings(alloc: Global, settings: &Settings) -> Result<(), fetch::Error>
+    ensures told { Tells (spec.unfit settings.now) result }
+    ensures own { IfErr result (λ e. IsOwn e) }
+{
+    refuse_rejection(alloc, settings)?;
+    refuse_algorithm(alloc, settings)?;
+    refuse_threads(alloc, settings)?;
+    refuse_rounds(settings)
 }
 
 /// Refuses where this isn't offered.

@@ -43,12 +43,12 @@ ask_long t before r result idle lines none last long = subst (λ (l : List Line)
 
 pub returns-clause-asked : goal.returns-clause-asked
 returns-clause-asked c =
-    let t : TermsValue = record { listed = shown c.args.listed.now; hash = c.args.terms.now.settings.now.kind; view = c.args.terms.now.view.now; agent = c.args.terms.now.agent.now; tags = c.args.terms.now.tags; shallow = c.args.terms.now.shallow.now; dry_run = c.args.terms.now.dry_run } in
-    let lines = rw c.as_slice.ensures at c.in_ok-request.ensures.lines in
+    let t : TermsValue = record { listed = shown c.args.listed.now; settings = c.args.terms.now.settings.now; view = c.args.terms.now.view.now; tags = c.args.terms.now.tags; shallow = c.args.terms.now.shallow.now; dry_run = c.args.terms.now.dry_run } in
+    let lines = rw (c.agent.ensures, c.as_slice.ensures) at c.in_ok-request.ensures.lines in
     ask_is t c.args.listed.now.session c.request.new.self c.in_ok-request.request c.request.result c.requires.kind lines c.in_ok-request.ensures.haves c.in_ok-request.ensures.done c.request.ensures.requested c.request.ensures.fits
 
 pub returns-clause-too_long : goal.returns-clause-too_long
 returns-clause-too_long c =
-    let t : TermsValue = record { listed = shown c.args.listed.now; hash = c.args.terms.now.settings.now.kind; view = c.args.terms.now.view.now; agent = c.args.terms.now.agent.now; tags = c.args.terms.now.tags; shallow = c.args.terms.now.shallow.now; dry_run = c.args.terms.now.dry_run } in
-    let lines = rw c.as_slice.ensures at c.in_ok-request.ensures.lines in
+    let t : TermsValue = record { listed = shown c.args.listed.now; settings = c.args.terms.now.settings.now; view = c.args.terms.now.view.now; tags = c.args.terms.now.tags; shallow = c.args.terms.now.shallow.now; dry_run = c.args.terms.now.dry_run } in
+    let lines = rw (c.agent.ensures, c.as_slice.ensures) at c.in_ok-request.ensures.lines in
     ask_long t c.args.listed.now.session c.in_ok-request.request c.request.result c.requires.turn lines c.in_ok-request.ensures.haves c.in_ok-request.ensures.done c.request.ensures.too_long
