@@ -23,13 +23,13 @@ use Rattle.fetch_wire.specs.References.{source_id}
 use Rattle.fetch_wire.specs.declared.mapping.Mapping.{Mapping}
 use Rattle.fetch_wire.specs.declared.mapping.RefMap.{RefMap}
 
-first_in : {X : Type 0} (x : X) (xs : List X) → Contains (x ∷ xs) x
+pub first_in : {X : Type 0} (x : X) (xs : List X) → Contains (x ∷ xs) x
 first_in x xs = (zero, omega arith, refl)
 
-later_in : {X : Type 0} (x y : X) (xs : List X) → Contains xs x → Contains (y ∷ xs) x
+pub later_in : {X : Type 0} (x y : X) (xs : List X) → Contains xs x → Contains (y ∷ xs) x
 later_in x y xs h = (suc h.0, omega (arith, h.1), h.2)
 
-cases_in : {X : Type 0} (x y : X) (xs : List X) → Contains (y ∷ xs) x → (y ≡ x) ⊎ Contains xs x
+pub cases_in : {X : Type 0} (x y : X) (xs : List X) → Contains (y ∷ xs) x → (y ≡ x) ⊎ Contains xs x
 cases_in {X} x y xs h = by_index h.0 h.1 h.2
   where
     by_index : (k : ℕ) → k < suc (length xs) → get_or (y ∷ xs) k x ≡ x → (y ≡ x) ⊎ Contains xs x
@@ -42,7 +42,7 @@ kept_by p x y rest is (inl same) false test = let none : false ≡ true = sym te
 kept_by p x y rest is (inr later) true test = later_in x y rest later
 kept_by p x y rest is (inr later) false test = later
 
-either : {A B C : Type 0} → (B → C) → A ⊎ B → A ⊎ C
+pub either : {A B C : Type 0} → (B → C) → A ⊎ B → A ⊎ C
 either f (inl a) = inl a
 either f (inr b) = inr (f b)
 
@@ -76,7 +76,7 @@ node_by : (o : Option Stored) (n : Option Node) → n ≡ option_map node_of o �
 node_by (Some o) n e h = refl
 node_by None n e h = sym (ap is_some e) ∙ h
 
-stored_node : (m : ObjectMap) (id : ObjectId) → map.contains_key (graph_of m) id ≡ true → IsStored m id
+pub stored_node : (m : ObjectMap) (id : ObjectId) → map.contains_key (graph_of m) id ≡ true → IsStored m id
 stored_node m id is = node_by (map.get m id) (map.get (graph_of m) id) (get-graph_of m id) is
 
 yes_by : (b : Bool) → not b ≡ false → b ≡ true

@@ -1,47 +1,22 @@
--- A repository: what a fetch may change of it, and the rest.
-use Rattle.std.specs.Prelude.{◌≡◌, Bool, false, not, ◌&&◌, ℕ, List, [], ◌∷◌, ◌++◌, Option, Some, None, is_some, is_none, Result, Ok, Err, ⊤, find, codes}
-use Rattle.std.specs.Option.{option_map, option_and_then}
-use Rattle.fetch_store.specs.declared.id.Kind.{Kind}
+-- Repositories: how they are opened, and what changes them.
+use Rattle.std.specs.Prelude.{◌≡◌, false, not, ℕ, List, Option, Some, ⊤, find}
+use Rattle.std.specs.Option.{option_map}
 use Rattle.fetch_store.specs.Borders.{IdSet}
 use Rattle.fetch_store.specs.Closed.{Holding}
-use Rattle.fetch_store.specs.Stores.{ObjectMap, Entries, add_all}
-use Rattle.fetch_config.specs.Contents.{Contents, with_sections}
-use Rattle.fetch_config.specs.Lookups.{values_of, boolean_of}
-use Rattle.fetch_config.specs.Overrides.{override_of, unkept_place}
-use Rattle.fetch_config.specs.declared.error.Unreadable.{Unreadable}
+use Rattle.fetch_store.specs.Stores.{Entries, add_all}
+use Rattle.fetch_config.specs.Contents.{Contents}
 use Rattle.fetch_refs.specs.Names.{RefsValue}
 use Rattle.fetch_remote.specs.declared.open_error.OpenError.{OpenError}
 use Rattle.fetch_remote.specs.declared.open_error.OpenError.TheVariants as errors
 use Rattle.fetch_remote.specs.declared.repository.Parts.{Parts}
-use Rattle.fetch_remote.specs.declared.repository.Repository.{Repository}
-use Rattle.fetch_remote.specs.declared.settings.Settings.{Settings}
+use Rattle.fetch_conversation.specs.declared.settings.Settings.{Settings}
+pub use Rattle.fetch_remote.specs.RepositoryValues.{State, Setup, RepositoryValue, logging_of, is_override, with_override, with_overrides, resolved_of}
 
--- what a fetch may change: objects of this hash, the commits whose parents are left aside, and the references
-pub record State : Type 0 where
-  pub hash : Kind
-  pub objects : ObjectMap
-  pub border : IdSet
-  pub refs : RefsValue
+abbrev pub state_of : RepositoryValue → State
+state_of r = r.state
 
--- the rest: what is read of it, and whether the usual names are logged
-pub record Setup : Type 0 where
-  pub settings : Settings
-  pub logging : Bool
-
--- what a setting says, or else whether there is a work tree
-abbrev pub logs_by : Option (Result Bool Unreadable) → Option (List ℕ) → Bool
-logs_by (Some (Ok logs)) workdir = logs
-logs_by (Some (Err place)) workdir = is_some workdir
-logs_by None workdir = is_some workdir
-
-unfoldable pub logging_of : Contents → Option (List ℕ) → Bool
-logging_of config workdir = logs_by (boolean_of (values_of (codes "core") None (codes "logAllRefUpdates") false config.sections)) workdir
-
-abbrev pub state_of : Repository → State
-state_of r = record { hash = r.store.hash; objects = r.store.objects; border = r.border; refs = r.refs }
-
-abbrev pub setup_of : Repository → Setup
-setup_of r = record { settings = r.settings; logging = logging_of r.settings.config r.workdir }
+abbrev pub setup_of : RepositoryValue → Setup
+setup_of r = r.setup
 
 -- the objects with their border, without the references
 abbrev pub held : State → Holding
@@ -51,34 +26,23 @@ held s = record { objects = s.objects; border = s.border }
 abbrev pub with_pack : State → Entries → IdSet → State
 with_pack s objects border = record s { objects = add_all s.objects objects; border = border }
 
+-- with these references
+abbrev pub with_refs : State → RefsValue → State
+with_refs s refs = record s { refs = refs }
+
 -- ---- opening
-
--- an override that can be read and kept
-abbrev pub is_override : List ℕ → Bool
-is_override text = is_some (override_of text) && is_none (unkept_place text)
-
--- one section more
-abbrev pub with_override : Contents → List ℕ → Option Contents
-with_override config text = option_map (λ s. with_sections config (config.sections ++ s ∷ [])) (override_of text)
-
--- a section more for each override
-abbrev pub with_overrides : Contents → List (List ℕ) → Option Contents
-with_overrides config [] = Some config
-with_overrides config (text ∷ texts) = option_and_then (λ c. with_overrides c texts) (with_override config text)
-
--- the base, the local file, and the overrides
-abbrev pub resolved_of : Contents → Contents → List (List ℕ) → Option Contents
-resolved_of base local overrides = with_overrides (with_sections base (base.sections ++ local.sections)) overrides
 
 -- an override that is refused: it isn't one
 abbrev pub IsOverrideRefused : List ℕ → OpenError → Type 0
 IsOverrideRefused text (errors.Override told) = (is_override text ≡ false) × (told ≡ text)
 IsOverrideRefused text errors.NoMemory = ⊤
+IsOverrideRefused text e = ⊥
 
 -- the first override that isn't one is told
 abbrev pub IsOpenRefusal : List (List ℕ) → OpenError → Type 0
 IsOpenRefusal overrides (errors.Override told) = find (λ text. not (is_override text)) overrides ≡ Some told
 IsOpenRefusal overrides errors.NoMemory = ⊤
+IsOpenRefusal overrides e = ⊥
 
 abbrev pub state_in : Parts → State
 state_in p = record { hash = p.store.hash; objects = p.store.objects; border = p.border; refs = p.refs }
@@ -86,6 +50,25 @@ state_in p = record { hash = p.store.hash; objects = p.store.objects; border = p
 abbrev pub settings_with : Parts → Contents → Settings
 settings_with p config = record { kind = p.store.hash; config = config; lenient = p.options.lenient_config; git_dir = p.git_dir; committer = p.committer }
 
+abbrev pub setup_with : Parts → Contents → Setup
+setup_with p config = record {
+  base = p.options.base;
+  local = p.local;
+  overrides = p.options.api_config_overrides;
+  workdir = p.workdir;
+  settings = settings_with p config;
+  logging = logging_of config p.workdir;
+}
+
 abbrev pub setup_in : Parts → Option Setup
-setup_in p =
-    option_map (λ config. record { settings = settings_with p config; logging = logging_of config p.workdir }) (resolved_of p.options.base p.local p.options.api_config_overrides)
+setup_in p = option_map (setup_with p) (resolved_of p.options.base p.local p.options.api_config_overrides)
+
+-- ---- opening again
+
+-- the setup with this configuration in force
+abbrev pub in_force : Setup → Contents → Contents → Setup
+in_force s local config = record s { local = local; settings = record s.settings { config = config }; logging = logging_of config s.workdir }
+
+-- the setup of the same parts with another local file
+abbrev pub reopened : Setup → Contents → Option Setup
+reopened s local = option_map (in_force s local) (resolved_of s.base local s.overrides)

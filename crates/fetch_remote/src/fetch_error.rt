@@ -20,7 +20,7 @@ pub enum FetchError {
     NoMemory,
 }
 
-/// Want of memory and what isn't built stay what they are.
+/// Want of memory stays want of memory.
 impl From<prepare::Error> for FetchError {
     ghost use Rattle.std.specs.Prelude.{◌≡◌};
     ghost use Rattle.fetch_remote.specs.Errors.{preparing};
@@ -29,7 +29,6 @@ impl From<prepare::Error> for FetchError {
 
     fn from(e: prepare::Error) -> FetchError {
         match e {
-            prepare::Error::Unbuilt => FetchError::Unbuilt,
             prepare::Error::NoMemory => FetchError::NoMemory,
             e => FetchError::Prepare(e),
         }

@@ -1,27 +1,22 @@
 //! Judging the mapped references.
 
-ghost use Rattle.std.specs.Prelude.{◌≡◌, [], IfOk};
-ghost use Rattle.std.specs.List.{list_any};
-ghost use Rattle.std.specs.Option.{option_map};
-ghost use Rattle.std.specs.Ordering.{eq_by_cmp};
-ghost use Rattle.fetch_store.specs.Stores.{id_cmp};
-ghost use Rattle.fetch_refs.specs.Targets.{seen, is_same};
-ghost use Rattle.fetch_update.specs.Policy.{policy_over, value_in, value_of};
-ghost use Rattle.fetch_remote.specs.Judging as spec;
-ghost use Rattle.fetch_remote.specs.Judging.{judged_of, Answers};
+ghost use Rattle.std.specs.Prelude.{◌≡◌, true, IfOk, IfErr, IsErrOf};
+ghost use Rattle.fetch_store.specs.Faults.{Rose, Counts};
+ghost use Rattle.fetch_update.specs.Policy.{policy_over};
+ghost use Rattle.fetch_update.specs.declared.update.Error.TheVariants as update_errors;
+ghost use Rattle.fetch_conversation.specs.declared.fetch.Error.TheVariants as errors;
+ghost use Rattle.fetch_remote.specs.Judging.{Judges, IsTold, is_free_judging};
 
 use crate::fetch;
-use fetch_refs::{Refs, TargetRef};
-use fetch_specs::{FullName, NameError, Tags};
-use fetch_store::{NoMemory, ObjectId, Objects};
-use fetch_update::{RefLogMessage, Worktrees, laws, update};
-use fetch_wire::{Mapping, Ref, RefMap, Source};
+use fetch_refs::Refs;
+use fetch_specs::Tags;
+use fetch_store::Objects;
+use fetch_update::{RefLogMessage, Worktree, WorktreeFault, Worktrees, laws, update};
+use fetch_wire::RefMap;
 use std::alloc::Global;
-use std::cmp::Ordering;
 
-/// What becomes of each mapped reference, and the edits that carry it out. Nothing is changed, and the work trees aren't
-/// asked yet.
-#[tactic(auto, unfolding(crate::specs::Judging::judged_of))]
+/// What becomes of each mapped reference, and the edits that carry it out. The work trees are asked once, and nothing is
+/// changed.
 pub fn judge<O: Objects, W: Worktrees>(
     alloc: Global,
     refs: &Refs,
@@ -32,13 +27,16 @@ pub fn judge<O: Objects, W: Worktrees>(
     dry_run: bool,
     worktrees: &mut W,
 ) -> Result<update::Outcome, fetch::Error>
-    ensures judged { Answers (judged_of (policy_over refs.now.names (O.graph objects.now) message.now tags dry_run []) ref_map.now) result }
-    ensures worktrees { worktrees.new ≡ worktrees.old }
+    ensures judged { Judges (W.told worktrees.old) (λ trees. policy_over refs.now.names (O.graph objects.now) message.now tags dry_run trees) ref_map.now result }
+    ensures told { W.told worktrees.new ≡ W.told worktrees.old }
+    ensures listing_counts { Counts (W.listing worktrees.old) (W.listing worktrees.new) }
+    ensures open_repo_counts { Counts (W.open_repo worktrees.old) (W.open_repo worktrees.new) }
+    ensures follow_symref_counts { Counts (W.follow_symref worktrees.old) (W.follow_symref worktrees.new) }
+    ensures listing { IsErrOf result (errors.UpdateRefs update_errors.WorktreeListing) → Rose (W.listing worktrees.old) (W.listing worktrees.new) }
+    ensures open_repo { IsErrOf result (errors.UpdateRefs update_errors.OpenWorktreeRepo) → Rose (W.open_repo worktrees.old) (W.open_repo worktrees.new) }
+    ensures follow_symref { IsErrOf result (errors.UpdateRefs update_errors.FollowSymref) → Rose (W.follow_symref worktrees.old) (W.follow_symref worktrees.new) }
 {
-    let _ = worktrees;
-    if moves_any(alloc, refs, ref_map.mappings.as_slice())? {
-        return Err(fetch::Error::Unbuilt);
-    }
+    let trees = listed(worktrees)?;
     let outcome = laws::update(
         alloc,
         refs,
@@ -49,98 +47,34 @@ pub fn judge<O: Objects, W: Worktrees>(
         ref_map.extra_refspecs.as_slice(),
         tags,
         dry_run,
-        &[],
+        trees.as_slice(),
     )?;
     Ok(outcome)
 }
 
-fn moves_any(alloc: Global, refs: &Refs, mappings: &[Mapping]) -> Result<bool, NoMemory>
-    ensures { IfOk result (λ any. any ≡ list_any (spec.is_elsewhere refs.now.names) mappings.now) }
+/// The work trees.
+fn listed<W: Worktrees>(worktrees: &mut W) -> Result<Vec<Worktree>, fetch::Error>
+    ensures list { IfOk result (λ trees. IsTold (W.told worktrees.old) trees.items) }
+    ensures refused { IfErr result (λ e. is_free_judging e ≡ true) }
+    ensures told { W.told worktrees.new ≡ W.told worktrees.old }
+    ensures listing_counts { Counts (W.listing worktrees.old) (W.listing worktrees.new) }
+    ensures open_repo_counts { Counts (W.open_repo worktrees.old) (W.open_repo worktrees.new) }
+    ensures follow_symref_counts { Counts (W.follow_symref worktrees.old) (W.follow_symref worktrees.new) }
+    ensures listing { IsErrOf result (errors.UpdateRefs update_errors.WorktreeListing) → Rose (W.listing worktrees.old) (W.listing worktrees.new) }
+    ensures open_repo { IsErrOf result (errors.UpdateRefs update_errors.OpenWorktreeRepo) → Rose (W.open_repo worktrees.old) (W.open_repo worktrees.new) }
+    ensures follow_symref { IsErrOf result (errors.UpdateRefs update_errors.FollowSymref) → Rose (W.follow_symref worktrees.old) (W.follow_symref worktrees.new) }
 {
-    for mapping in mappings {
-        if moves(alloc, refs, mapping)? {
-            return Ok(true);
+    match worktrees.list() {
+        Ok(trees) => Ok(trees),
+        Err(WorktreeFault::Listing) => {
+            Err(fetch::Error::UpdateRefs(update::Error::WorktreeListing))
         }
-    }
-    Ok(false)
-}
-
-/// Whether the destination is found with another value than the remote's.
-#[tactic(auto, unfolding(crate::specs::Judging::is_elsewhere))]
-fn moves(alloc: Global, refs: &Refs, mapping: &Mapping) -> Result<bool, NoMemory>
-    ensures { IfOk result (λ moves. moves ≡ spec.is_elsewhere refs.now.names mapping.now) }
-{
-    let Some(local) = &mapping.local else {
-        return Ok(false);
-    };
-    moves_name(alloc, refs, &mapping.remote, local.as_bytes())
-}
-
-fn moves_name(alloc: Global, refs: &Refs, source: &Source, name: &[u8]) -> Result<bool, NoMemory>
-    ensures { IfOk result (λ moves. moves ≡ spec.is_elsewhere_at refs.now.names source.now name.now) }
-{
-    match full_name(alloc, name)? {
-        Some(name) => Ok(is_another(source, refs.find(&name))),
-        None => Ok(false),
-    }
-}
-
-fn full_name(alloc: Global, name: &[u8]) -> Result<Option<FullName>, NoMemory>
-    ensures { IfOk result (λ found. found ≡ spec.full_name_in name.now) }
-{
-    match FullName::new(alloc, name) {
-        Ok(name) => Ok(Some(name)),
-        Err(NameError::Invalid { .. }) => Ok(None),
-        Err(NameError::NoMemory) => Err(NoMemory),
-    }
-}
-
-fn is_another(source: &Source, found: Option<TargetRef<'_>>) -> bool
-    ensures { result ≡ spec.is_another source.now (option_map seen found.entry) }
-{
-    match found {
-        Some(TargetRef::Object(id)) => !has_id(source, &id),
-        Some(TargetRef::Symbolic(name)) => !names(source, name),
-        None => false,
-    }
-}
-
-fn has_id(source: &Source, id: &ObjectId) -> bool
-    ensures { result ≡ is_same (spec.object id.now) (value_of source.now) }
-{
-    match source {
-        Source::ObjectId(other) => is_id(id, other),
-        Source::Ref(reference) => reference_has_id(reference, id),
-    }
-}
-
-fn reference_has_id(reference: &Ref, id: &ObjectId) -> bool
-    ensures { result ≡ is_same (spec.object id.now) (value_in reference.now) }
-{
-    match reference {
-        Ref::Direct { object, .. } => is_id(id, object),
-        Ref::Symbolic { tag: Some(tag), .. } => is_id(id, tag),
-        Ref::Symbolic {
-            tag: None,
-            object,
-            ..
-        } => is_id(id, object),
-        Ref::Peeled { tag, .. } => is_id(id, tag),
-        Ref::Unborn { .. } => false,
-    }
-}
-
-fn is_id(id: &ObjectId, other: &ObjectId) -> bool
-    ensures { result ≡ eq_by_cmp id_cmp id.now other.now }
-{
-    id.cmp(other) == Ordering::Equal
-}
-
-fn names(source: &Source, name: &FullName) -> bool
-    ensures { result ≡ is_same (spec.symbolic name.now) (value_of source.now) }
-{
-    match source {
-        Source::Ref(Ref::Unborn { target, .. }) => name.as_bytes() == target.as_bytes(),
-        _ => false,
+        Err(WorktreeFault::OpenRepo) => {
+            Err(fetch::Error::UpdateRefs(update::Error::OpenWorktreeRepo))
+        }
+        Err(WorktreeFault::FollowSymref) => {
+            Err(fetch::Error::UpdateRefs(update::Error::FollowSymref))
+        }
+        Err(WorktreeFault::NoMemory) => Err(fetch::Error::NoMemory),
     }
 }

@@ -1,33 +1,49 @@
 //! The repository, the remote, and the fetch.
 #![tactic(auto)]
 
-mod ask;
-mod conversing;
+pub mod branch;
+mod changing;
+pub mod connect;
 mod copies;
 mod direction;
-pub mod fetch;
+mod editing;
 mod fetch_error;
 mod fetching;
-mod form;
+pub mod find;
+mod finding;
+mod following;
 mod judging;
 mod keep;
-mod listing;
-mod mapped;
+pub mod laws;
+mod naming;
 mod open_error;
 mod options;
 mod outcome;
+mod paths;
 pub mod phases;
-pub mod prepare;
-pub mod ref_map;
-mod remote;
+mod reload;
+pub mod remote;
 mod repository;
+mod resolving;
+mod scripted_connect;
 mod settings;
 mod settling;
+mod talking;
+mod thread_safe;
+mod threads;
+pub mod upstream;
 
 pub use direction::Direction;
+pub use fetch_conversation::{
+    Negotiate, agent, algorithm, fetch, prepare, ref_map, rejects_shallow,
+};
 pub use fetch_error::FetchError;
+pub use fetch_lookup::{Name, Names, name, push, save};
 pub use open_error::OpenError;
 pub use options::FetchOptions;
-pub use outcome::{Negotiate, Outcome, PackOutcome, Status};
+pub use outcome::{Outcome, PackOutcome, Status};
 pub use remote::Remote;
 pub use repository::{OpenOptions, Parts, Repository};
+pub use scripted_connect::ScriptedConnect;
+pub use thread_safe::{ThreadSafeRepository, repositories_cross_threads};
+pub use threads::index_threads;

@@ -3,8 +3,8 @@
 ghost use Rattle.std.specs.Prelude.{◌≡◌, IfOk};
 
 use crate::copies::copy_option;
-use fetch_negotiate::Round;
-use fetch_store::{List, NoMemory, ObjectId, Text};
+use fetch_conversation::Negotiate;
+use fetch_store::{NoMemory, ObjectId, Text};
 use fetch_update::update;
 use fetch_wire::{Handshake, RefMap};
 
@@ -27,23 +27,6 @@ impl PackOutcome {
             num_objects: self.num_objects,
             digest: self.digest,
             keep_path: copy_option(&self.keep_path)?,
-        })
-    }
-}
-
-/// What was said of what is there: one round a request.
-#[derive(Debug, Drop)]
-pub struct Negotiate {
-    pub rounds: List<Round>,
-}
-
-impl Negotiate {
-    /// Equal rounds.
-    pub fn try_clone(&self) -> Result<Negotiate, NoMemory>
-        ensures { IfOk result (λ copy. copy ≡ self.now) }
-    {
-        Ok(Negotiate {
-            rounds: self.rounds.try_clone_with(Round::try_clone)?,
         })
     }
 }

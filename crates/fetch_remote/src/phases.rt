@@ -1,7 +1,103 @@
 //! The stages of a fetch, one call each.
 
-pub use crate::conversing::{Received, View, converse};
+ghost use Rattle.std.specs.Prelude.{◌≡◌, [], IfOk, IfSome, OnOk, IsErrOf};
+ghost use Rattle.fetch_store.specs.Faults.{Rose, Counts};
+ghost use Rattle.fetch_store.specs.Stores.{AreOf};
+ghost use Rattle.fetch_conversation.specs.Conversation.{Converses};
+ghost use Rattle.fetch_conversation.specs.ConverseStage.{converse_stage};
+ghost use Rattle.fetch_conversation.specs.Errors.{is_free_listing, is_free_receiving};
+ghost use Rattle.fetch_conversation.specs.ListStage.{list_stage, answer_shown, left_by, IsReady, shown, pending_of};
+ghost use Rattle.fetch_conversation.specs.declared.fetch.Error.TheVariants as receive_errors;
+ghost use Rattle.fetch_conversation.specs.declared.prepare.Error.TheVariants as prepare_errors;
+ghost use Rattle.fetch_conversation.specs.declared.ref_map.Error.TheVariants as ref_map_errors;
+ghost use Rattle.fetch_remote.specs.Stages.{inquiry_of};
+
+use crate::direction::Direction;
 pub use crate::judging::judge;
 pub use crate::keep::{make_keep, remove_keep};
-pub use crate::listing::{Listed, list};
-pub use crate::settings::Settings;
+use crate::ref_map::Options;
+use crate::remote::Remote;
+use crate::{fetch, prepare};
+use fetch_conversation::{Inquiry, Terms, agent};
+pub use fetch_conversation::{Listed, NoProgress, Progress, Received, Settings, View};
+use fetch_negotiate::Shallow;
+use fetch_specs::Tags;
+use fetch_store::Objects;
+use fetch_wire::{Interrupt, Peer};
+use std::alloc::Global;
+use std::thread::Threads;
+
+/// Asks a remote for the greeting, then for the listing, and maps what is listed. The interrupt is asked before each
+/// receive.
+pub fn list<P: Peer, I: Interrupt>(
+    alloc: Global,
+    remote: &Remote,
+    settings: &Settings,
+    peer: &mut P,
+    interrupt: &mut I,
+    options: Options,
+) -> Result<Listed, prepare::Error>
+    ensures held { Converses is_free_listing P.answers options.max_reply_bytes (P.told peer.old) (P.told peer.new) [] (left_by result)
+        (list_stage options.max_reply_bytes (inquiry_of remote.now settings.now options)) (answer_shown result) }
+    ensures ready { IfOk result (λ l. IsReady l) }
+    ensures bound { IfOk result (λ l. l.session.intake.bound ≡ options.max_reply_bytes) }
+    ensures counts { Counts (P.faults peer.old) (P.faults peer.new) }
+    ensures transport { IsErrOf result (prepare_errors.RefMap ref_map_errors.Transport) → Rose (P.faults peer.old) (P.faults peer.new) }
+    ensures asked { Counts (I.yes interrupt.old) (I.yes interrupt.new) }
+    ensures interrupted { IsErrOf result (prepare_errors.RefMap ref_map_errors.Interrupted) → Rose (I.yes interrupt.old) (I.yes interrupt.new) }
+    ensures uninterrupted { OnOk result ((I.yes interrupt.new).count ≡ (I.yes interrupt.old).count) }
+{
+    let inquiry = Inquiry {
+        address: remote.address(),
+        agent: agent(settings),
+        specs: remote.refspecs(Direction::Fetch),
+        tags: remote.fetch_tags(),
+    };
+    fetch_conversation::list(alloc, &inquiry, peer, interrupt, options)
+}
+
+/// Asks for the pack of what is wanted, and reads it. Where nothing is wanted, nothing is sent. The interrupt is asked
+/// before each receive. In a dry run the reply is read up to the pack alone.
+pub fn converse<R: Threads + Sync, P: Peer, I: Interrupt, Q: Progress, O: Objects>(
+    rt: &R,
+    alloc: Global,
+    listed: &mut Listed,
+    settings: &Settings,
+    view: &View,
+    objects: &O,
+    tags: Tags,
+    shallow: &Shallow,
+    dry_run: bool,
+    peer: &mut P,
+    progress: &mut Q,
+    interrupt: &mut I,
+) -> Result<Option<Received>, fetch::Error>
+    requires { IsReady listed.old }
+    ensures held { Converses is_free_receiving P.answers listed.old.session.intake.bound (P.told peer.old) (P.told peer.new) (pending_of listed.old) (pending_of listed.new)
+        (converse_stage listed.old.session.intake.bound (record {
+          listed = shown listed.old;
+          settings = settings.now;
+          view = view.now;
+          tags = tags;
+          shallow = shallow.now;
+          dry_run = dry_run;
+        })) result }
+    ensures of_kind { IfOk result (λ found. IfSome found (λ r. AreOf listed.old.handshake.object_hash r.objects)) }
+    ensures kept { shown listed.new ≡ shown listed.old }
+    ensures counts { Counts (P.faults peer.old) (P.faults peer.new) }
+    ensures client { IsErrOf result receive_errors.Client → Rose (P.faults peer.old) (P.faults peer.new) }
+    ensures asked { Counts (I.yes interrupt.old) (I.yes interrupt.new) }
+    ensures interrupted { IsErrOf result receive_errors.Interrupted → Rose (I.yes interrupt.old) (I.yes interrupt.new) }
+    ensures uninterrupted { OnOk result ((I.yes interrupt.new).count ≡ (I.yes interrupt.old).count) }
+{
+    let terms = Terms {
+        settings,
+        view,
+        tags,
+        shallow,
+        dry_run,
+    };
+    fetch_conversation::converse(
+        rt, alloc, listed, &terms, objects, peer, progress, interrupt,
+    )
+}

@@ -1,55 +1,92 @@
 //! Where references are fetched from.
 
-ghost use Rattle.std.specs.Prelude.{◌≡◌, IfOk};
-ghost use Rattle.fetch_remote.specs.Remotes.{address_of, specs_for};
+pub mod init;
+
+ghost use Rattle.std.specs.Prelude.{◌≡◌, IfOk, option_map, slice_get};
+ghost use Rattle.std.specs.Option.{option_copied};
+ghost use Rattle.fetch_remote.specs.Remotes.{address_of, nameless, specs_for, urls_for, value_of};
 
 use crate::direction::Direction;
+use fetch_lookup::{Name, RemoteParts};
 use fetch_specs::{RefSpec, Tags};
 use fetch_store::{List, NoMemory, Text};
 use std::marker::Model;
 
-/// A remote: its addresses, the refspecs that it is fetched by, and what is done with tags.
+/// A remote: its name where it has one, its addresses, the refspecs that it is fetched and pushed by, and what is done
+/// with tags.
 #[derive(Debug, Drop)]
 pub struct Remote {
-    urls: List<Text>,
-    fetch_specs: List<RefSpec>,
-    tags: Tags,
+    pub(crate) parts: RemoteParts,
 }
 
 impl Model for Remote {
-    ghost use Rattle.fetch_remote.specs.Remotes.{RemoteValue};
+    ghost use Rattle.fetch_remote.specs.Remotes.{RemoteValue, value_of};
 
     ghost Value = { RemoteValue };
 
-    ghost view = { λ r. record { urls = r.urls; fetch_specs = r.fetch_specs; tags = r.tags } };
+    ghost view = { λ r. value_of r.parts };
 }
 
 impl Remote {
     /// A nameless remote.
     pub fn new(urls: List<Text>, fetch_specs: List<RefSpec>, tags: Tags) -> Remote
-        ensures { result ≡ record { urls = urls; fetch_specs = fetch_specs; tags = tags } }
+        ensures { result ≡ nameless urls fetch_specs tags }
     {
-        Remote {
+        let alloc = urls.allocator();
+        Remote::of(RemoteParts {
+            name: None,
             urls,
+            push_urls: List::new(alloc),
             fetch_specs,
-            tags,
+            push_specs: List::new(alloc),
+            fetch_tags: tags,
+        })
+    }
+
+    /// The remote that a configuration tells.
+    pub(crate) fn of(parts: RemoteParts) -> Remote
+        ensures { result ≡ value_of parts }
+    {
+        Remote { parts }
+    }
+
+    /// The name, where it has one.
+    pub fn name(&self) -> Option<&Name>
+        ensures { option_copied result ≡ self.now.name }
+    {
+        self.parts.name.as_ref()
+    }
+
+    /// The addresses, in order. To push, those for fetching are taken where there are no others.
+    pub fn urls(&self, direction: Direction) -> &[Text]
+        ensures { result.now ≡ urls_for self.now direction }
+    {
+        match direction {
+            Direction::Fetch => self.parts.urls.as_slice(),
+            Direction::Push => match self.parts.push_urls.as_slice() {
+                [] => self.parts.urls.as_slice(),
+                urls => urls,
+            },
         }
     }
 
-    /// The addresses, in order. To push, those for fetching are taken.
-    pub fn urls(&self, _direction: Direction) -> &[Text]
-        ensures { result.now ≡ self.now.urls }
+    /// The first address.
+    pub fn url(&self, direction: Direction) -> Option<&[u8]>
+        ensures { option_map (λ url. url.now) result ≡ slice_get (urls_for self.now direction) 0 }
     {
-        self.urls.as_slice()
+        match self.urls(direction) {
+            [url, ..] => Some(url.as_bytes()),
+            [] => None,
+        }
     }
 
-    /// The refspecs, in order. There are none to push by.
+    /// The refspecs, in order.
     pub fn refspecs(&self, direction: Direction) -> &[RefSpec]
         ensures { result.now ≡ specs_for self.now direction }
     {
         match direction {
-            Direction::Fetch => self.fetch_specs.as_slice(),
-            Direction::Push => &[],
+            Direction::Fetch => self.parts.fetch_specs.as_slice(),
+            Direction::Push => self.parts.push_specs.as_slice(),
         }
     }
 
@@ -57,18 +94,30 @@ impl Remote {
     pub fn fetch_tags(&self) -> Tags
         ensures { result ≡ self.now.tags }
     {
-        self.tags
+        self.parts.fetch_tags
+    }
+
+    /// The same remote with another choice of tags.
+    pub fn with_fetch_tags(self, tags: Tags) -> Remote
+        ensures { result ≡ record self { tags = tags } }
+    {
+        let mut remote = self;
+        remote.parts.fetch_tags = tags;
+        remote
     }
 
     /// An equal remote.
     pub fn try_clone(&self) -> Result<Remote, NoMemory>
         ensures { IfOk result (λ copy. copy ≡ self.now) }
     {
-        Ok(Remote {
-            urls: self.urls.try_clone_with(Text::try_clone)?,
-            fetch_specs: self.fetch_specs.try_clone_with(RefSpec::try_clone)?,
-            tags: self.tags,
-        })
+        Ok(Remote::of(RemoteParts {
+            name: copy_name(&self.parts.name)?,
+            urls: self.parts.urls.try_clone_with(Text::try_clone)?,
+            push_urls: self.parts.push_urls.try_clone_with(Text::try_clone)?,
+            fetch_specs: self.parts.fetch_specs.try_clone_with(RefSpec::try_clone)?,
+            push_specs: self.parts.push_specs.try_clone_with(RefSpec::try_clone)?,
+            fetch_tags: self.parts.fetch_tags,
+        }))
     }
 
     /// The first address, or an empty one where there is none.
@@ -79,5 +128,15 @@ impl Remote {
             [url, ..] => url.as_bytes(),
             [] => &[],
         }
+    }
+}
+
+/// A copy of a name that may be absent.
+fn copy_name(name: &Option<Name>) -> Result<Option<Name>, NoMemory>
+    ensures { IfOk result (λ copy. copy ≡ name.now) }
+{
+    match name {
+        Some(name) => Ok(Some(name.try_clone()?)),
+        None => Ok(None),
     }
 }

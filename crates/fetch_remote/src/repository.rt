@@ -1,18 +1,23 @@
 //! Repositories.
 
-ghost use Rattle.std.specs.Prelude.{◌≡◌, ◌≤◌, IfOk, IfErr, OnOk, OnErr, MatchOption, IsOkUnless, None, Some, true};
+ghost use Rattle.std.specs.Prelude.{◌≡◌, ◌↔◌, IfOk, IfErr, IfSome, OnOk, OnErr, MatchOption, IsOkUnless, IsTrue, IsNone, Some, not, option_map};
+ghost use Rattle.std.specs.FinSet as set;
 ghost use Rattle.fetch_store.specs.Stores.{AreOf, collision};
 ghost use Rattle.fetch_remote.specs.declared.open_error.OpenError.TheVariants as errors;
+ghost use Rattle.fetch_remote.specs.Paths.{shallow_file_of};
 ghost use Rattle.fetch_remote.specs.Repositories as spec;
 ghost use Rattle.fetch_remote.specs.Repositories.{state_of, setup_of};
 
 use crate::copies::copy_option;
 use crate::open_error::OpenError;
+use crate::paths;
+use crate::resolving::resolved;
 use crate::settings::Settings;
-use fetch_config::{ConfigError, File};
+use fetch_config::{File, Meta};
 use fetch_refs::{Refs, Signature};
 use fetch_store::{Border, Kind, List, NoMemory, Object, ObjectId, Store, StoreError, Text};
 use std::alloc::Global;
+use std::marker::Model;
 
 /// How a repository is opened.
 #[derive(Debug, Drop)]
@@ -73,15 +78,34 @@ impl Parts {
     }
 }
 
-/// A repository. Contracts see what a fetch may change of it as its state, and the rest as its setup.
+/// A repository. Contracts see what a fetch may change of it as its state, and the rest as its setup. The room in the
+/// store is left out.
 #[derive(Drop)]
 pub struct Repository {
-    pub(crate) store: Store,
+    store: Store,
     pub(crate) refs: Refs,
-    pub(crate) border: Border,
-    pub(crate) local: File,
-    pub(crate) workdir: Option<Text>,
+    border: Border,
+    base: File,
+    local: File,
+    overrides: List<Text>,
+    workdir: Option<Text>,
     pub(crate) settings: Settings,
+}
+
+impl Model for Repository {
+    ghost use Rattle.fetch_remote.specs.Codes.{coded_repository};
+    ghost use Rattle.fetch_remote.specs.RepositoryValues.{RepositoryValue, IsWhole, logging_of};
+
+    ghost Value = { RepositoryValue };
+
+    ghost coded = { coded_repository };
+
+    ghost view = { λ r. record {
+      state = record { hash = r.store.hash; objects = r.store.objects; border = r.border; refs = r.refs };
+      setup = record { base = r.base; local = r.local; overrides = r.overrides; workdir = r.workdir; settings = r.settings; logging = logging_of r.settings.config r.workdir };
+    } };
+
+    ghost invariant = { λ r. IsWhole r.store.hash r.settings r.base r.local r.overrides };
 }
 
 impl Repository {
@@ -107,13 +131,15 @@ impl Repository {
             api_config_overrides,
             base,
         } = options;
-        let config = resolved(alloc, base, &local, api_config_overrides.as_slice())?;
+        let config = resolved(alloc, &base, &local, api_config_overrides.as_slice())?;
         let kind = store.kind();
         Ok(Repository {
             store,
             refs,
             border,
+            base,
             local,
+            overrides: api_config_overrides,
             workdir,
             settings: Settings {
                 kind,
@@ -125,40 +151,46 @@ impl Repository {
         })
     }
 
-    /// An equal repository, but for the room in the store.
+    /// An equal repository.
     pub fn try_clone(&self, alloc: Global) -> Result<Repository, NoMemory>
-        ensures state { IfOk result (λ copy. state_of copy ≡ state_of self.now) }
-        ensures rest { IfOk result (λ copy. copy ≡ record self.now { store = copy.store }) }
+        ensures { IfOk result (λ copy. copy ≡ self.now) }
     {
         Ok(Repository {
             store: self.store.try_clone(alloc)?,
             refs: self.refs.try_clone()?,
             border: self.border.try_clone()?,
+            base: self.base.try_clone(alloc)?,
             local: self.local.try_clone(alloc)?,
+            overrides: self.overrides.try_clone_with(Text::try_clone)?,
             workdir: copy_option(&self.workdir)?,
             settings: self.settings.try_clone(alloc)?,
         })
     }
 
-    /// The hash of ids and objects.
+    /// The hash of ids and objects, which the settings have too.
     pub fn object_hash(&self) -> Kind
-        ensures { result ≡ (state_of self.now).hash }
+        ensures hash { result ≡ (state_of self.now).hash }
+        ensures settings { result ≡ (setup_of self.now).settings.kind }
     {
         self.store.kind()
     }
 
+    /// The objects.
     pub fn store(&self) -> &Store
-        ensures { result.now.objects ≡ (state_of self.now).objects }
+        ensures hash { result.now.hash ≡ (state_of self.now).hash }
+        ensures objects { result.now.objects ≡ (state_of self.now).objects }
     {
         &self.store
     }
 
+    /// The references, their reflogs and the packed list.
     pub fn refs(&self) -> &Refs
         ensures { result.now ≡ (state_of self.now).refs }
     {
         &self.refs
     }
 
+    /// The commits whose parents are left aside.
     pub fn border(&self) -> &Border
         ensures { result.now ≡ (state_of self.now).border }
     {
@@ -172,22 +204,54 @@ impl Repository {
         &self.settings.config
     }
 
+    /// The directory of the repository.
     pub fn git_dir(&self) -> &[u8]
         ensures { result.now ≡ (setup_of self.now).settings.git_dir }
     {
         self.settings.git_dir.as_bytes()
     }
 
-    /// What a fetch reads beside objects, border and references.
+    /// The directory of the work tree, where there is one.
+    pub fn workdir(&self) -> Option<&[u8]>
+        ensures { option_map (λ dir. dir.now) result ≡ (setup_of self.now).workdir }
+    {
+        match &self.workdir {
+            Some(dir) => Some(dir.as_bytes()),
+            None => None,
+        }
+    }
+
+    /// Whether the parents of some commit are left aside.
+    pub fn is_shallow(&self) -> bool
+        ensures { IsTrue (not result) ↔ ((state_of self.now).border ≡ set.empty) }
+    {
+        !self.border().is_empty()
+    }
+
+    /// The commits whose parents are left aside. None where the whole history is there.
+    pub fn shallow_commits(&self) -> Option<&Border>
+        ensures none { IsNone result ↔ ((state_of self.now).border ≡ set.empty) }
+        ensures border { IfSome result (λ border. border.now ≡ (state_of self.now).border) }
+    {
+        if self.is_shallow() {
+            Some(self.border())
+        } else {
+            None
+        }
+    }
+
+    /// What a fetch reads beside objects, border and references. They are those of base, local file and overrides.
     pub fn settings(&self) -> &Settings
-        ensures { result.now ≡ (setup_of self.now).settings }
+        ensures settings { result.now ≡ (setup_of self.now).settings }
+        ensures hash { result.now.kind ≡ (state_of self.now).hash }
+        ensures in_force { spec.reopened (setup_of self.now) (setup_of self.now).local ≡ Some (setup_of self.now) }
     {
         &self.settings
     }
 
     /// Whether lines are written into the reflogs of branches: as `core.logAllRefUpdates` says where it can be read, and
     /// else where there is a work tree.
-    #[tactic(auto, unfolding(crate::specs::Repositories::logging_of))]
+    #[tactic(auto, unfolding(crate::specs::RepositoryValues::logging_of))]
     pub(crate) fn logs(&self) -> bool
         ensures { result ≡ (setup_of self.now).logging }
     {
@@ -200,6 +264,40 @@ impl Repository {
             Some(Err(_)) => self.workdir.is_some(),
             None => self.workdir.is_some(),
         }
+    }
+
+    /// Where the border is written: the file that `gitoxide.core.shallowFile` of trusted sections names, or `shallow`, in
+    /// the git directory.
+    pub fn shallow_file(&self, alloc: Global) -> Result<Text, NoMemory>
+        ensures { IfOk result (λ path. path ≡ shallow_file_of (setup_of self.now).settings.config (setup_of self.now).settings.git_dir) }
+    {
+        paths::shallow_file(alloc, &self.settings)
+    }
+
+    pub(crate) fn allocator(&self) -> Global {
+        self.overrides.allocator()
+    }
+
+    /// Where sections of the local file come from.
+    pub(crate) fn local_meta(&self) -> &Meta
+        ensures { result.now ≡ (setup_of self.now).local.meta }
+    {
+        self.local.meta()
+    }
+
+    /// Puts a file in place of the local one, and resolves configuration, settings and logging anew. Memory alone may
+    /// refuse it: then the repository is as before.
+    #[tactic(auto, using(crate::proofs::Overrides::memory_alone))]
+    pub fn replace_local(&mut self, alloc: Global, local: File) -> Result<(), OpenError>
+        ensures state { state_of self.new ≡ state_of self.old }
+        ensures ok { OnOk result (spec.reopened (setup_of self.old) local ≡ Some (setup_of self.new)) }
+        ensures refused { IfErr result (λ e. e ≡ errors.NoMemory) }
+        ensures err { OnErr result (setup_of self.new ≡ setup_of self.old) }
+    {
+        let config = resolved(alloc, &self.base, &local, self.overrides.as_slice())?;
+        self.local = local;
+        self.settings.config = config;
+        Ok(())
     }
 
     /// Adds objects and puts another border in place of the old one, in one step. After an error the repository is as
@@ -218,43 +316,5 @@ impl Repository {
         self.store.add_all(objects)?;
         self.border = border;
         Ok(())
-    }
-}
-
-/// The base, the local file, and a section for each override.
-fn resolved(alloc: Global, base: File, local: &File, overrides: &[Text]) -> Result<File, OpenError>
-    ensures ok { IfOk result (λ config. spec.resolved_of base local.now overrides.now ≡ Some config) }
-    ensures refused { IfErr result (λ e. spec.IsOpenRefusal overrides.now e) }
-{
-    let mut config = base;
-    if config.append(alloc, local).is_err() {
-        return Err(OpenError::NoMemory);
-    }
-    add_overrides(alloc, &mut config, overrides)?;
-    Ok(config)
-}
-
-fn add_overrides(alloc: Global, config: &mut File, overrides: &[Text]) -> Result<(), OpenError>
-    ensures ok { OnOk result (spec.with_overrides config.old overrides.now ≡ Some config.new) }
-    ensures refused { IfErr result (λ e. spec.IsOpenRefusal overrides.now e) }
-{
-    let [first, others @ ..] = overrides else {
-        return Ok(());
-    };
-    add_override(alloc, config, first)?;
-    add_overrides(alloc, config, others)
-}
-
-fn add_override(alloc: Global, config: &mut File, text: &Text) -> Result<(), OpenError>
-    ensures ok { OnOk result (spec.with_override config.old text.now ≡ Some config.new) }
-    ensures read { OnOk result (spec.is_override text.now ≡ true) }
-    ensures refused { IfErr result (λ e. spec.IsOverrideRefused text.now e) }
-{
-    match config.apply_override(alloc, text.as_bytes()) {
-        Ok(()) => Ok(()),
-        Err(ConfigError::NoMemory) => Err(OpenError::NoMemory),
-        Err(_) => Err(OpenError::Override {
-            text: text.try_clone()?,
-        }),
     }
 }

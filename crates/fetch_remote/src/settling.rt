@@ -1,77 +1,112 @@
 //! What a fetch does with what it received.
 
-ghost use Rattle.std.specs.Prelude.{◌≡◌, IfOk, IfErr, IfSome, OnOk, OnErr, Some, None};
+ghost use Rattle.std.specs.Prelude.{◌≡◌, IfOk, IfErr, IfSome, IsErrOf, OnOk, OnErr, Some, None, Ok};
 ghost use Rattle.std.specs.Option.{option_copied};
+ghost use Rattle.fetch_store.specs.Faults.{Rose, Counts};
 ghost use Rattle.fetch_store.specs.Stores.{AreOf};
-ghost use Rattle.fetch_refs.specs.Logs.{after};
-ghost use Rattle.fetch_refs.specs.declared.edit.PackedRefs.TheVariants.{Never};
-ghost use Rattle.fetch_remote.specs.Judging.{Answers, judged_of};
-ghost use Rattle.fetch_remote.specs.ListStage.{shown};
+ghost use Rattle.fetch_refs.specs.Expectations.{refusal_of};
+ghost use Rattle.fetch_update.specs.declared.update.Error.TheVariants as update_errors;
+ghost use Rattle.fetch_conversation.specs.ListStage.{shown};
+ghost use Rattle.fetch_conversation.specs.declared.fetch.Error.TheVariants as errors;
+ghost use Rattle.fetch_remote.specs.Judging.{Judges};
 ghost use Rattle.fetch_remote.specs.Repositories.{state_of, setup_of};
 ghost use Rattle.fetch_remote.specs.Settling as spec;
-ghost use Rattle.fetch_remote.specs.Settling.{settled, taken, taken_with, policy_in, usual_message, status_of, Fails, IsUnsettled};
-ghost use Rattle.fetch_remote.specs.declared.fetch.Error.TheVariants as errors;
+ghost use Rattle.fetch_remote.specs.Settling.{taken, brought, policy_in, Fails, IsSettled, IsUnsettled};
 
-use crate::conversing::Received;
 use crate::fetch;
 use crate::judging::judge;
 use crate::keep::{make_keep, remove_keep};
-use crate::listing::Listed;
-use crate::outcome::{Negotiate, Outcome, PackOutcome, Status};
+use crate::outcome::{Outcome, PackOutcome, Status};
 use crate::repository::Repository;
-use fetch_refs::{PackedRefs, RefEdit, Refs, Signature};
+use crate::talking::Talked;
+use fetch_conversation::{Listed, Negotiate, Received};
+use fetch_refs::{PackedRefs, RefEdit};
 use fetch_specs::Tags;
-use fetch_store::{Files, List, NoMemory, Object, ObjectId, StoreError, Text};
+use fetch_store::{Files, NoMemory, ObjectId, StoreError, Take, Text, first_missing_of_take};
 use fetch_update::{RefLogMessage, Worktrees, update};
+use fetch_wire::{Handshake, RefMap};
 use std::alloc::Global;
 
-/// What was taken, as the outcome tells it.
+/// How a fetch is to be settled.
+#[derive(Debug, Drop)]
+pub(crate) struct Manner {
+    /// What is done with tags.
+    pub(crate) tags: Tags,
+    /// Whether nothing is changed.
+    pub(crate) dry_run: bool,
+    /// Where references are written.
+    pub(crate) packed: PackedRefs,
+    /// What reflogs say.
+    pub(crate) message: RefLogMessage,
+}
+
+/// What the outcome tells of what was received.
 #[derive(Drop)]
 struct Taken {
     negotiate: Negotiate,
     pack: Option<PackOutcome>,
 }
 
-/// Takes what was received, judges the mapped references, and moves them. All memory is taken before they move.
-#[tactic(auto, unfolding(crate::specs::Settling::settled))]
+/// Takes what was received, judges the mapped references, and moves them. All memory is taken before they move. In a
+/// dry run nothing is taken and nothing moves.
 pub(crate) fn settle<F: Files, W: Worktrees>(
     alloc: Global,
     repo: &mut Repository,
-    tags: Tags,
-    listed: Listed,
-    received: Option<Received>,
+    how: &Manner,
+    talked: Talked,
     files: &mut F,
     worktrees: &mut W,
 ) -> Result<Outcome, fetch::Error>
-    requires { IfSome received (λ r. AreOf (state_of repo.old).hash r.objects) }
-    ensures settled { IfOk result (λ outcome. settled (setup_of repo.old) tags (state_of repo.old) (shown listed) received ≡ Ok (outcome, state_of repo.new)) }
-    ensures refused { IfErr result (λ e. IsUnsettled (setup_of repo.old) tags (state_of repo.old) (shown listed) received (state_of repo.new) e) }
+    requires { IfSome talked.received (λ r. AreOf (state_of repo.old).hash r.objects) }
+    ensures settled { IfOk result (λ outcome. IsSettled (W.told worktrees.old) (setup_of repo.old) how.now (state_of repo.old) talked.wants (shown talked.listed) talked.received outcome (state_of repo.new)) }
+    ensures refused { IfErr result (λ e. IsUnsettled (W.told worktrees.old) (setup_of repo.old) how.now (state_of repo.old) talked.wants (shown talked.listed) talked.received (state_of repo.new) e) }
     ensures setup { setup_of repo.new ≡ setup_of repo.old }
     ensures files { files.new ≡ files.old }
-    ensures worktrees { worktrees.new ≡ worktrees.old }
+    ensures told { W.told worktrees.new ≡ W.told worktrees.old }
+    ensures listing_counts { Counts (W.listing worktrees.old) (W.listing worktrees.new) }
+    ensures open_repo_counts { Counts (W.open_repo worktrees.old) (W.open_repo worktrees.new) }
+    ensures follow_symref_counts { Counts (W.follow_symref worktrees.old) (W.follow_symref worktrees.new) }
+    ensures listing { IsErrOf result (errors.UpdateRefs update_errors.WorktreeListing) → Rose (W.listing worktrees.old) (W.listing worktrees.new) }
+    ensures open_repo { IsErrOf result (errors.UpdateRefs update_errors.OpenWorktreeRepo) → Rose (W.open_repo worktrees.old) (W.open_repo worktrees.new) }
+    ensures follow_symref { IsErrOf result (errors.UpdateRefs update_errors.FollowSymref) → Rose (W.follow_symref worktrees.old) (W.follow_symref worktrees.new) }
 {
-    let taken = take(alloc, repo, received, files)?;
-    let updates = judged(alloc, repo, &listed, tags, worktrees)?;
-    move_refs(repo, updates.edits.as_slice())?;
+    let Talked {
+        listed,
+        wants,
+        received,
+    } = talked;
+    let (ref_map, handshake) = found(listed);
+    let taken = bring(alloc, repo, how.dry_run, wants.as_slice(), received, files)?;
+    let updates = judged(alloc, repo, &ref_map, how, worktrees)?;
+    move_refs(repo, how, updates.edits.as_slice())?;
     remove_keep(files, kept(&taken))?;
     Ok(Outcome {
-        ref_map: listed.ref_map,
-        handshake: listed.handshake,
-        status: status(taken, updates),
+        ref_map,
+        handshake,
+        status: status(how.dry_run, taken, updates),
     })
 }
 
-/// Takes what was received: objects and border change in one step.
-fn take<F: Files>(
+/// What was listed, without the conversation.
+fn found(listed: Listed) -> (RefMap, Handshake)
+    ensures { result ≡ (listed.ref_map, listed.handshake) }
+{
+    (listed.ref_map, listed.handshake)
+}
+
+/// Takes what was received, but in a dry run.
+fn bring<F: Files>(
     alloc: Global,
     repo: &mut Repository,
+    dry_run: bool,
+    wants: &[ObjectId],
     received: Option<Received>,
     files: &mut F,
 ) -> Result<Option<Taken>, fetch::Error>
     requires { IfSome received (λ r. AreOf (state_of repo.old).hash r.objects) }
-    ensures state { OnOk result (taken (state_of repo.old) received ≡ Ok (state_of repo.new)) }
-    ensures told { IfOk result (λ t. t ≡ spec.told_of received) }
-    ensures refused { IfErr result (λ e. Fails (taken (state_of repo.old) received) e) }
+    ensures state { OnOk result (taken (state_of repo.old) wants.now (brought dry_run received) ≡ Ok (state_of repo.new)) }
+    ensures told { IfOk result (λ t. t ≡ spec.told_of dry_run received) }
+    ensures refused { IfErr result (λ e. Fails (taken (state_of repo.old) wants.now (brought dry_run received)) e) }
     ensures err { OnErr result (state_of repo.new ≡ state_of repo.old) }
     ensures setup { setup_of repo.new ≡ setup_of repo.old }
     ensures files { files.new ≡ files.old }
@@ -79,33 +114,70 @@ fn take<F: Files>(
     let Some(received) = received else {
         return Ok(None);
     };
-    let Received {
-        negotiate,
-        objects,
-        shallow,
-        unshallow,
-        pack,
-    } = received;
-    check(repo, objects.as_slice())?;
-    let pack = pack_outcome(repo, pack, files)?;
-    take_objects(
-        alloc,
-        repo,
-        objects,
-        shallow.as_slice(),
-        unshallow.as_slice(),
-    )?;
-    Ok(Some(Taken { negotiate, pack }))
+    if dry_run {
+        return Ok(Some(Taken {
+            negotiate: received.negotiate,
+            pack: None,
+        }));
+    }
+    let taken = take(alloc, repo, wants, received, files)?;
+    Ok(Some(taken))
 }
 
-/// Whether no id of the list has another object.
-fn check(repo: &Repository, objects: &[(ObjectId, Object)]) -> Result<(), fetch::Error>
-    ensures { result ≡ spec.checked (state_of repo.now) objects.now }
+/// Takes what was received, once it is known that no id has another object and that no link is missing: objects and
+/// border change in one step.
+fn take<F: Files>(
+    alloc: Global,
+    repo: &mut Repository,
+    wants: &[ObjectId],
+    received: Received,
+    files: &mut F,
+) -> Result<Taken, fetch::Error>
+    requires { AreOf (state_of repo.old).hash received.objects }
+    ensures state { OnOk result (taken (state_of repo.old) wants.now (Some received) ≡ Ok (state_of repo.new)) }
+    ensures told { IfOk result (λ t. t ≡ record { negotiate = received.negotiate; pack = spec.pack_told received.pack }) }
+    ensures refused { IfErr result (λ e. Fails (taken (state_of repo.old) wants.now (Some received)) e) }
+    ensures err { OnErr result (state_of repo.new ≡ state_of repo.old) }
+    ensures setup { setup_of repo.new ≡ setup_of repo.old }
+    ensures files { files.new ≡ files.old }
 {
-    match repo.store.check(objects) {
+    check(repo, &received)?;
+    check_links(alloc, repo, wants, &received)?;
+    let pack = pack_outcome(repo, received.pack, files)?;
+    let negotiate = add(alloc, repo, received)?;
+    Ok(Taken { negotiate, pack })
+}
+
+/// Whether no id has another object, of the pack or of the repository.
+fn check(repo: &Repository, received: &Received) -> Result<(), fetch::Error>
+    ensures { result ≡ spec.checked (state_of repo.now) (spec.pack_of received.now) }
+{
+    match repo.store().check(received.objects.as_slice()) {
         Ok(()) => Ok(()),
         Err(StoreError::Collision { id }) => Err(fetch::Error::Collision { id }),
         Err(_) => Err(fetch::Error::NoMemory),
+    }
+}
+
+/// Whether no link would be missing, of the pack and of what was asked for.
+fn check_links(
+    alloc: Global,
+    repo: &Repository,
+    wants: &[ObjectId],
+    received: &Received,
+) -> Result<(), fetch::Error>
+    ensures ok { OnOk result (spec.connected (state_of repo.now) wants.now (spec.pack_of received.now) ≡ Ok tt) }
+    ensures refused { IfErr result (λ e. Fails (spec.connected (state_of repo.now) wants.now (spec.pack_of received.now)) e) }
+{
+    let take = Take {
+        wants,
+        objects: received.objects.as_slice(),
+        shallow: received.shallow.as_slice(),
+        unshallow: received.unshallow.as_slice(),
+    };
+    match first_missing_of_take(alloc, repo.store(), repo.border(), &take)? {
+        Some(link) => Err(fetch::Error::Disconnected { link }),
+        None => Ok(()),
     }
 }
 
@@ -120,7 +192,7 @@ fn pack_outcome<F: Files>(
     let Some((num_objects, digest)) = pack else {
         return Ok(None);
     };
-    let keep_path = make_keep(files, &repo.settings, &digest)?;
+    let keep_path = make_keep(files, repo.settings(), &digest)?;
     Ok(Some(PackOutcome {
         num_objects,
         digest,
@@ -128,82 +200,76 @@ fn pack_outcome<F: Files>(
     }))
 }
 
-fn take_objects(
-    alloc: Global,
-    repo: &mut Repository,
-    objects: List<(ObjectId, Object)>,
-    shallow: &[ObjectId],
-    unshallow: &[ObjectId],
-) -> Result<(), fetch::Error>
-    requires { AreOf (state_of repo.old).hash objects }
-    ensures ok { OnOk result (taken_with (state_of repo.old) objects shallow.now unshallow.now ≡ Ok (state_of repo.new)) }
-    ensures refused { IfErr result (λ e. Fails (taken_with (state_of repo.old) objects shallow.now unshallow.now) e) }
+/// Adds the objects and puts the merged border in place of the old one. No id has another object, so that memory alone
+/// may refuse it.
+fn add(alloc: Global, repo: &mut Repository, received: Received) -> Result<Negotiate, fetch::Error>
+    requires of_kind { AreOf (state_of repo.old).hash received.objects }
+    requires checked { spec.checked (state_of repo.old) (spec.pack_of received) ≡ Ok tt }
+    ensures ok { OnOk result (state_of repo.new ≡ spec.after_take (state_of repo.old) (spec.pack_of received)) }
+    ensures negotiate { IfOk result (λ n. n ≡ received.negotiate) }
+    ensures refused { IfErr result (λ e. e ≡ errors.NoMemory) }
     ensures err { OnErr result (state_of repo.new ≡ state_of repo.old) }
     ensures setup { setup_of repo.new ≡ setup_of repo.old }
 {
-    let Ok(border) = repo.border.merged(alloc, shallow, unshallow) else {
+    let Received {
+        negotiate,
+        objects,
+        shallow,
+        unshallow,
+        ..
+    } = received;
+    let Ok(border) = repo
+        .border()
+        .merged(alloc, shallow.as_slice(), unshallow.as_slice())
+    else {
         return Err(fetch::Error::NoMemory);
     };
     match repo.take_pack(objects.into_vec(), border) {
-        Ok(()) => Ok(()),
-        Err(StoreError::Collision { id }) => Err(fetch::Error::Collision { id }),
+        Ok(()) => Ok(negotiate),
         Err(_) => Err(fetch::Error::NoMemory),
     }
 }
 
 /// What becomes of the mapped references, over what is there now.
-#[tactic(auto, unfolding(crate::specs::Settling::usual_action))]
 fn judged<W: Worktrees>(
     alloc: Global,
     repo: &Repository,
-    listed: &Listed,
-    tags: Tags,
+    ref_map: &RefMap,
+    how: &Manner,
     worktrees: &mut W,
 ) -> Result<update::Outcome, fetch::Error>
-    ensures judged { Answers (judged_of (policy_in (state_of repo.now) tags) listed.now.ref_map) result }
-    ensures worktrees { worktrees.new ≡ worktrees.old }
+    ensures judged { Judges (W.told worktrees.old) (λ trees. policy_in (state_of repo.now) how.now trees) ref_map.now result }
+    ensures told { W.told worktrees.new ≡ W.told worktrees.old }
+    ensures listing_counts { Counts (W.listing worktrees.old) (W.listing worktrees.new) }
+    ensures open_repo_counts { Counts (W.open_repo worktrees.old) (W.open_repo worktrees.new) }
+    ensures follow_symref_counts { Counts (W.follow_symref worktrees.old) (W.follow_symref worktrees.new) }
+    ensures listing { IsErrOf result (errors.UpdateRefs update_errors.WorktreeListing) → Rose (W.listing worktrees.old) (W.listing worktrees.new) }
+    ensures open_repo { IsErrOf result (errors.UpdateRefs update_errors.OpenWorktreeRepo) → Rose (W.open_repo worktrees.old) (W.open_repo worktrees.new) }
+    ensures follow_symref { IsErrOf result (errors.UpdateRefs update_errors.FollowSymref) → Rose (W.follow_symref worktrees.old) (W.follow_symref worktrees.new) }
 {
-    let message = RefLogMessage::Prefixed {
-        action: Text::new(alloc, b"fetch")?,
-    };
     judge(
         alloc,
-        &repo.refs,
-        &repo.store,
-        &listed.ref_map,
-        tags,
-        &message,
-        false,
+        repo.refs(),
+        repo.store(),
+        ref_map,
+        how.tags,
+        &how.message,
+        how.dry_run,
         worktrees,
     )
 }
 
-/// Moves the references. What the edits expect was read from these references, so that memory alone may refuse them.
-fn move_refs(repo: &mut Repository, edits: &[RefEdit]) -> Result<(), NoMemory>
-    ensures ok { OnOk result (state_of repo.new ≡ spec.with_edits (setup_of repo.old) (state_of repo.old) edits.now) }
+/// Moves the references, but in a dry run. The edits find what they expect, so that memory alone may refuse them.
+fn move_refs(repo: &mut Repository, how: &Manner, edits: &[RefEdit]) -> Result<(), NoMemory>
+    requires found { refusal_of (state_of repo.old).refs.names edits.now ≡ None }
+    ensures ok { OnOk result (state_of repo.new ≡ spec.moved how.now.dry_run how.now.packed (setup_of repo.old) (state_of repo.old) edits.now) }
     ensures err { OnErr result (state_of repo.new ≡ state_of repo.old) }
     ensures setup { setup_of repo.new ≡ setup_of repo.old }
 {
-    let logging = repo.logs();
-    commit(&mut repo.refs, edits, &repo.settings.committer, logging)
-}
-
-fn commit(
-    refs: &mut Refs,
-    edits: &[RefEdit],
-    committer: &Signature,
-    logging: bool,
-) -> Result<(), NoMemory>
-    ensures ok { OnOk result (refs.new ≡ after committer.now logging Never refs.old edits.now) }
-    ensures err { OnErr result (refs.new ≡ refs.old) }
-{
-    match refs.prepare(edits, committer, logging, PackedRefs::Never) {
-        Ok(prepared) => {
-            prepared.commit();
-            Ok(())
-        }
-        Err(_) => Err(NoMemory),
+    if how.dry_run {
+        return Ok(());
     }
+    repo.move_refs(edits, how.packed)
 }
 
 /// The keep file that was made.
@@ -215,21 +281,21 @@ fn kept(taken: &Option<Taken>) -> Option<&Text>
 }
 
 /// Whether a pack came, and what became of the mappings.
-fn status(taken: Option<Taken>, updates: update::Outcome) -> Status
-    ensures { result ≡ spec.status_by taken updates }
+fn status(dry_run: bool, taken: Option<Taken>, updates: update::Outcome) -> Status
+    ensures { result ≡ spec.status_by dry_run taken updates }
 {
     match taken {
-        Some(taken) => status_with(taken, updates),
+        Some(taken) => status_with(dry_run, taken, updates),
         None => Status::NoPackReceived {
-            dry_run: false,
+            dry_run,
             negotiate: None,
             update_refs: updates,
         },
     }
 }
 
-fn status_with(taken: Taken, updates: update::Outcome) -> Status
-    ensures { result ≡ spec.told_with taken.negotiate taken.pack updates }
+fn status_with(dry_run: bool, taken: Taken, updates: update::Outcome) -> Status
+    ensures { result ≡ spec.told_by dry_run taken.negotiate taken.pack updates }
 {
     let Taken { negotiate, pack } = taken;
     match pack {
@@ -239,7 +305,7 @@ fn status_with(taken: Taken, updates: update::Outcome) -> Status
             update_refs: updates,
         },
         None => Status::NoPackReceived {
-            dry_run: false,
+            dry_run,
             negotiate: Some(negotiate),
             update_refs: updates,
         },

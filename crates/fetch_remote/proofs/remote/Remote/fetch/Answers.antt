@@ -1,34 +1,68 @@
-use Rattle.std.proofs.Common.{sym, ◌∙◌}
+use Rattle.std.proofs.Common.{refl, sym, ◌∙◌}
+use Rattle.fetch_update.specs.declared.update.Error.TheVariants as update
+use Rattle.fetch_conversation.specs.declared.fetch.Error.TheVariants as receive
 use Rattle.std.proofs.lemmas.Result.{err_from_is_err_and}
-use Rattle.fetch_remote.specs.ListStage.{shown}
+use Rattle.fetch_conversation.specs.ListStage.{shown}
 use Rattle.fetch_remote.specs.Repositories.{state_of}
-use Rattle.fetch_remote.proofs.Fetched.{is_fetched, sha1_in}
-use Rattle.fetch_remote.proofs.Refused.{isnt_built, broken_off, not_settled}
+use Rattle.fetch_remote.specs.declared.fetch_error.FetchError.TheVariants as errors
+use Rattle.fetch_remote.proofs.Fetched.{is_fetched}
+use Rattle.fetch_remote.proofs.Talked.{told_same}
+use Rattle.fetch_remote.proofs.Unjudged.{refusal_is, same_refusal, talks_no_fault}
+use Rattle.fetch_remote.proofs.Refused.{forgot, broken_off, not_settled}
 use Rattle.fetch_remote.proofs.remote.Remote.fetch.Goals as goal
 
-pub returns-then-not-is_in_form-clause-refused : goal.returns-then-not-is_in_form-clause-refused
-returns-then-not-is_in_form-clause-refused g c = isnt_built _ _ _ _ (sym c.is_in_form.ensures ∙ c.if-not-is_in_form.true)
-
-pub returns-in_err-listed-clause-refused : goal.returns-in_err-listed-clause-refused
-returns-in_err-listed-clause-refused g c =
+pub returns-in_err-how-clause-refused : goal.returns-in_err-how-clause-refused
+returns-in_err-how-clause-refused g c =
     let p = err_from_is_err_and c.from_residual.result c.from_residual.ensures.1 in
-    let form = sym c.is_in_form.ensures ∙ c.if-not-is_in_form.false in
-    rw (p.1, p.2) (broken_off _ _ _ _ (state_of c.args.repo.now) c.in_err-listed.field-0.0 form c.in_err-listed.ensures.held.held)
+    rw (p.1, p.2) (forgot _ _ _ _ _)
 
-pub settle-requires : goal.settle-requires
-settle-requires g c =
-    let form = sym c.is_in_form.ensures ∙ c.if-not-is_in_form.false in
-    rw (sha1_in _ (state_of c.args.repo.now) form) c.in_ok-listed.ensures.of_kind
+pub returns-in_err-talked-clause-refused : goal.returns-in_err-talked-clause-refused
+returns-in_err-talked-clause-refused g c =
+    let p = err_from_is_err_and c.from_residual-in_err-talked.result c.from_residual-in_err-talked.ensures.1 in
+    rw (p.1, p.2) (broken_off _ _ _ _ _ (state_of c.args.repo.now) c.in_err-talked.field-0.0 c.in_err-talked.ensures.held.held)
 
 pub returns-in_err-outcome-clause-refused : goal.returns-in_err-outcome-clause-refused
 returns-in_err-outcome-clause-refused g c =
     let p = err_from_is_err_and c.from_residual-in_err-outcome.result c.from_residual-in_err-outcome.ensures.1 in
-    let form = sym c.is_in_form.ensures ∙ c.if-not-is_in_form.false in
-    let u = rw c.fetch_tags.ensures at c.in_err-outcome.ensures.refused in
-    rw (p.1, p.2) (not_settled _ _ _ _ (state_of c.args.repo.now) (state_of c.settle.new.repo) (shown c.in_ok-listed.listed) c.in_ok-listed.received _ c.in_err-outcome.field-0.0 form c.in_ok-listed.ensures.held.held u.by)
+    let t = c.in_ok-talked.ensures.held.held in
+    let u = rw (c.in_ok-how.ensures, c.fetch_tags.ensures, t.wants) at c.in_err-outcome.ensures.refused in
+    rw (p.1, p.2) (not_settled _ _ _ _ _ (state_of c.args.repo.now) (state_of c.settle.new.repo) (shown c.in_ok-talked.talked.listed) c.in_ok-talked.talked.received _ c.in_err-outcome.field-0.0 t.told u)
 
 pub returns-clause-fetched : goal.returns-clause-fetched
 returns-clause-fetched g c =
-    let form = sym c.is_in_form.ensures ∙ c.if-not-is_in_form.false in
-    let s = rw c.fetch_tags.ensures at c.in_ok-outcome.ensures.settled in
-    is_fetched _ _ _ _ (state_of c.args.repo.now) (state_of c.settle.new.repo) c.in_ok-outcome.outcome (shown c.in_ok-listed.listed) c.in_ok-listed.received _ form c.in_ok-listed.ensures.held.held s
+    let t = c.in_ok-talked.ensures.held.held in
+    let s = rw (c.in_ok-how.ensures, c.fetch_tags.ensures, t.wants) at c.in_ok-outcome.ensures.settled in
+    is_fetched _ _ _ _ _ (state_of c.args.repo.now) (state_of c.settle.new.repo) c.in_ok-outcome.outcome (shown c.in_ok-talked.talked.listed) c.in_ok-talked.talked.received _ t.told s
+
+pub returns-in_err-talked-clause-listing : goal.returns-in_err-talked-clause-listing
+returns-in_err-talked-clause-listing g c is =
+    let p = err_from_is_err_and c.from_residual-in_err-talked.result c.from_residual-in_err-talked.ensures.1 in
+    absurd (talks_no_fault _ _ _ _ (state_of c.args.repo.now) c.in_err-talked.field-0.0 update.WorktreeListing c.in_err-talked.ensures.held.held (same_refusal c.from_residual-in_err-talked.result _ _ _ p.1 p.2 is))
+
+pub returns-in_err-outcome-clause-listing : goal.returns-in_err-outcome-clause-listing
+returns-in_err-outcome-clause-listing g c is =
+    let p = err_from_is_err_and c.from_residual-in_err-outcome.result c.from_residual-in_err-outcome.ensures.1 in
+    let told = told_same c.from_residual-in_err-outcome.result c.in_err-outcome.field-0.0 p.0 (errors.Receive (receive.UpdateRefs update.WorktreeListing)) p.1 p.2 is in
+    c.in_err-outcome.ensures.listing (rw (refusal_is c.in_err-outcome.field-0.0 update.WorktreeListing told) refl)
+
+pub returns-in_err-talked-clause-open_repo : goal.returns-in_err-talked-clause-open_repo
+returns-in_err-talked-clause-open_repo g c is =
+    let p = err_from_is_err_and c.from_residual-in_err-talked.result c.from_residual-in_err-talked.ensures.1 in
+    absurd (talks_no_fault _ _ _ _ (state_of c.args.repo.now) c.in_err-talked.field-0.0 update.OpenWorktreeRepo c.in_err-talked.ensures.held.held (same_refusal c.from_residual-in_err-talked.result _ _ _ p.1 p.2 is))
+
+pub returns-in_err-outcome-clause-open_repo : goal.returns-in_err-outcome-clause-open_repo
+returns-in_err-outcome-clause-open_repo g c is =
+    let p = err_from_is_err_and c.from_residual-in_err-outcome.result c.from_residual-in_err-outcome.ensures.1 in
+    let told = told_same c.from_residual-in_err-outcome.result c.in_err-outcome.field-0.0 p.0 (errors.Receive (receive.UpdateRefs update.OpenWorktreeRepo)) p.1 p.2 is in
+    c.in_err-outcome.ensures.open_repo (rw (refusal_is c.in_err-outcome.field-0.0 update.OpenWorktreeRepo told) refl)
+
+pub returns-in_err-talked-clause-follow_symref : goal.returns-in_err-talked-clause-follow_symref
+returns-in_err-talked-clause-follow_symref g c is =
+    let p = err_from_is_err_and c.from_residual-in_err-talked.result c.from_residual-in_err-talked.ensures.1 in
+    absurd (talks_no_fault _ _ _ _ (state_of c.args.repo.now) c.in_err-talked.field-0.0 update.FollowSymref c.in_err-talked.ensures.held.held (same_refusal c.from_residual-in_err-talked.result _ _ _ p.1 p.2 is))
+
+pub returns-in_err-outcome-clause-follow_symref : goal.returns-in_err-outcome-clause-follow_symref
+returns-in_err-outcome-clause-follow_symref g c is =
+    let p = err_from_is_err_and c.from_residual-in_err-outcome.result c.from_residual-in_err-outcome.ensures.1 in
+    let told = told_same c.from_residual-in_err-outcome.result c.in_err-outcome.field-0.0 p.0 (errors.Receive (receive.UpdateRefs update.FollowSymref)) p.1 p.2 is in
+    c.in_err-outcome.ensures.follow_symref (rw (refusal_is c.in_err-outcome.field-0.0 update.FollowSymref told) refl)

@@ -1,0 +1,83 @@
+-- What judging answers, over a list of worktrees.
+use Rattle.std.proofs.Common.{◌≡◌, true, false, List, Result, Ok, Err, refl, sym, ap, subst, ◌∙◌}
+use Rattle.fetch_specs.specs.Specs.{Spec}
+use Rattle.fetch_wire.specs.declared.mapping.Mapping.{Mapping}
+use Rattle.fetch_wire.specs.declared.mapping.RefMap.{RefMap}
+use Rattle.fetch_update.specs.Outcomes.{outcome_of}
+use Rattle.fetch_update.specs.Policy.{Policy, Answers}
+use Rattle.fetch_update.specs.Refusing.{Refuses}
+use Rattle.fetch_update.specs.declared.update.Error.{Error as UpdateError}
+use Rattle.fetch_update.specs.declared.update.Error.TheVariants as update
+use Rattle.fetch_update.specs.declared.update.Outcome.{Outcome}
+use Rattle.fetch_update.specs.declared.worktrees.Worktree.{Worktree}
+use Rattle.fetch_update.proofs.Refused.{refused_with}
+use Rattle.fetch_conversation.specs.Errors.{fetch_of_update, is_worktree_fault}
+use Rattle.fetch_conversation.specs.declared.fetch.Error.{Error}
+use Rattle.fetch_conversation.specs.declared.fetch.Error.TheVariants as errors
+use Rattle.fetch_remote.specs.Judging.{judged_as, judged_of, AnswersBy}
+
+refuses_no_fault : (p : Policy) (m : Mapping) (e : UpdateError) → Refuses p m e → is_worktree_fault e ≡ false
+refuses_no_fault p m (update.FindReference name) h = refl
+refuses_no_fault p m (update.InvalidRefName name) h = refl
+refuses_no_fault p m (update.FindCommit id) h = refl
+refuses_no_fault p m (update.PeelToId name cause) h = refl
+refuses_no_fault p m update.WorktreeListing h = absurd h
+refuses_no_fault p m update.OpenWorktreeRepo h = absurd h
+refuses_no_fault p m update.FollowSymref h = absurd h
+refuses_no_fault p m update.NoMemory h = refl
+
+-- the policy answers no fault of the worktrees
+pub no_fault : (p : Policy) (specs extra : List Spec) (ms : List Mapping) (e : UpdateError) → outcome_of p specs extra ms ≡ Err e → is_worktree_fault e ≡ false
+no_fault p specs extra ms e is = let r = refused_with p specs extra ms e is in refuses_no_fault p r.mapping e r.refuses
+
+judged_err : (p : Policy) (m : RefMap) (e : UpdateError) → outcome_of p m.refspecs m.extra_refspecs m.mappings ≡ Err e → judged_of p m ≡ Err (fetch_of_update e)
+unfolding judged_of
+judged_err p m e is = rw is refl
+
+pub judged_yes : (p : Policy) (m : RefMap) (o : Outcome) → outcome_of p m.refspecs m.extra_refspecs m.mappings ≡ Ok o → judged_of p m ≡ Ok o
+unfolding judged_of
+judged_yes p m o is = rw is refl
+
+-- a refusal of the policy is told as it is
+pub told_refusal : (p : Policy) (m : RefMap) (e : UpdateError) → Answers {X = Outcome} (outcome_of p m.refspecs m.extra_refspecs m.mappings) (Err e) → AnswersBy {X = Outcome} (judged_of p m) (Err (fetch_of_update e))
+told_refusal p m update.NoMemory h = λ sure. absurd (cc)
+told_refusal p m (update.FindReference name) h = λ _. judged_err p m (update.FindReference name) h
+told_refusal p m (update.InvalidRefName name) h = λ _. judged_err p m (update.InvalidRefName name) h
+told_refusal p m (update.FindCommit id) h = λ _. judged_err p m (update.FindCommit id) h
+told_refusal p m (update.PeelToId name cause) h = λ _. judged_err p m (update.PeelToId name cause) h
+told_refusal p m update.WorktreeListing h = λ _. judged_err p m update.WorktreeListing h
+told_refusal p m update.OpenWorktreeRepo h = λ _. judged_err p m update.OpenWorktreeRepo h
+told_refusal p m update.FollowSymref h = λ _. judged_err p m update.FollowSymref h
+
+same_refusal : (a b : UpdateError) → errors.UpdateRefs a ≡ errors.UpdateRefs b → a ≡ b
+same_refusal a b is = cc
+
+isnt_fault : (p : Policy) (m : RefMap) (e fault : UpdateError) → outcome_of p m.refspecs m.extra_refspecs m.mappings ≡ Err e → is_worktree_fault fault ≡ true → errors.UpdateRefs e ≡ errors.UpdateRefs fault → ⊥
+isnt_fault p m e fault is faulty same =
+    let no = no_fault p m.refspecs m.extra_refspecs m.mappings e is in
+    let h : true ≡ false = sym faulty ∙ ap is_worktree_fault (sym (same_refusal e fault same)) ∙ no in
+    cc
+
+-- what the policy answers is told as no fault of the worktrees
+pub tells_no_fault : (p : Policy) (m : RefMap) (e fault : UpdateError) → Answers {X = Outcome} (outcome_of p m.refspecs m.extra_refspecs m.mappings) (Err e) → is_worktree_fault fault ≡ true → fetch_of_update e ≡ errors.UpdateRefs fault → ⊥
+tells_no_fault p m update.NoMemory fault h faulty is = absurd (cc)
+tells_no_fault p m (update.FindReference name) fault h faulty is = isnt_fault p m (update.FindReference name) fault h faulty is
+tells_no_fault p m (update.InvalidRefName name) fault h faulty is = isnt_fault p m (update.InvalidRefName name) fault h faulty is
+tells_no_fault p m (update.FindCommit id) fault h faulty is = isnt_fault p m (update.FindCommit id) fault h faulty is
+tells_no_fault p m (update.PeelToId name cause) fault h faulty is = isnt_fault p m (update.PeelToId name cause) fault h faulty is
+tells_no_fault p m update.WorktreeListing fault h faulty is = isnt_fault p m update.WorktreeListing fault h faulty is
+tells_no_fault p m update.OpenWorktreeRepo fault h faulty is = isnt_fault p m update.OpenWorktreeRepo fault h faulty is
+tells_no_fault p m update.FollowSymref fault h faulty is = isnt_fault p m update.FollowSymref fault h faulty is
+
+-- what `?` returned is the refusal that was told
+pub same_told : {T : Type 0} (r : Result T Error) (e y x : Error) → r ≡ Err y → y ≡ e → r ≡ Err x → e ≡ x
+same_told r e y x is told same =
+    let k : y ≡ x = cc in
+    sym told ∙ k
+
+-- the same answer, over what the slices of the code hold
+pub at_slices : (p : List Worktree → Policy) (m : RefMap) (trees held : List Worktree) (mappings : List Mapping) (specs extra : List Spec) (r : Result Outcome UpdateError) → held ≡ trees → mappings ≡ m.mappings → specs ≡ m.refspecs
+    → extra ≡ m.extra_refspecs → Answers {X = Outcome} (outcome_of (p held) specs extra mappings) r → Answers {X = Outcome} (outcome_of (p trees) m.refspecs m.extra_refspecs m.mappings) r
+at_slices p m trees held mappings specs extra r same a b c h =
+    let is : outcome_of (p held) specs extra mappings ≡ outcome_of (p trees) m.refspecs m.extra_refspecs m.mappings = rw (same, a, b, c) refl in
+    subst (λ (x : Result Outcome UpdateError). Answers {X = Outcome} x r) is h

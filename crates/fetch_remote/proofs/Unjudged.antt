@@ -1,0 +1,232 @@
+-- A conversation is never refused as judging is.
+use Rattle.std.proofs.Common.{◌≡◌, ℕ, Bool, true, false, not, List, [], ◌∷◌, ◌++◌, length, Option, Some, None, Result, Ok, Err, refl, sym, ap, ◌∙◌, subst, inl, inr}
+use Rattle.std.specs.Prelude.{◌⊎◌, ◌||◌, ⊤, IfSome, if◌then◌else◌}
+use Rattle.std.specs.Option.{option_or}
+use Rattle.fetch_pack.specs.Reading.{Contents}
+use Rattle.fetch_pack.specs.declared.error.PackError.{PackError}
+use Rattle.fetch_pack.specs.declared.error.PackError.TheVariants as pack
+use Rattle.fetch_store.specs.declared.id.Kind.{Kind}
+use Rattle.fetch_store.specs.declared.id.Kind.TheVariants.{Sha1, Sha256}
+use Rattle.fetch_negotiate.specs.Requests.{fetch_request}
+use Rattle.fetch_negotiate.specs.declared.algorithm.Algorithm.{Algorithm}
+use Rattle.fetch_negotiate.specs.declared.algorithm.Algorithm.TheVariants as algorithms
+use Rattle.fetch_conversation.specs.ReadSettings.{rejects_shallow_of, algorithm_of_config, threads_of}
+use Rattle.fetch_conversation.specs.declared.settings.Settings.{Settings}
+use Rattle.fetch_wire.specs.Greetings.{offers}
+use Rattle.fetch_wire.specs.RequestWords.{plain_pack, plain_pack_2}
+use Rattle.fetch_wire.specs.declared.awaited.Await.{Await}
+use Rattle.fetch_wire.specs.declared.awaited.Await.TheVariants as awaits
+use Rattle.fetch_wire.specs.declared.line.Line.{Line}
+use Rattle.fetch_store.specs.declared.id.ObjectId.{ObjectId}
+use Rattle.fetch_wire.specs.Awaited.{told_at}
+use Rattle.fetch_wire.specs.Talks.{Talk}
+use Rattle.fetch_wire.specs.Written.{first_too_long}
+use Rattle.fetch_wire.specs.declared.awaited.Fault.{Fault}
+use Rattle.fetch_wire.specs.declared.awaited.Told.{Told}
+use Rattle.fetch_wire.specs.declared.awaited.Told.TheVariants as told
+use Rattle.fetch_wire.specs.declared.handshake.Handshake.{Handshake}
+use Rattle.fetch_wire.specs.declared.mapping.RefMap.{RefMap}
+use Rattle.fetch_wire.specs.declared.records.FetchReply.{FetchReply}
+use Rattle.fetch_update.specs.declared.update.Error.{Error as UpdateError}
+use Rattle.fetch_conversation.specs.Conversation.{Conversation, ends, asks, asks_unless, asking, after_reply, answer_in, IsRefusedBy}
+use Rattle.fetch_conversation.specs.ConverseStage as converse
+use Rattle.fetch_conversation.specs.ConverseStage.{TermsValue, converse_stage, wanting, fetching, replied, received, unpacked, is_unmapped, unmapped, unlike, unread_as, unbuilt_rounds, unfit, lacks, lacked, lacking, no_mapping, other_hash}
+use Rattle.fetch_conversation.specs.Errors.{fetch_of_pack}
+use Rattle.fetch_conversation.specs.ListStage.{ListedValue, unless}
+use Rattle.fetch_conversation.specs.declared.conversing.Received.{Received}
+use Rattle.fetch_conversation.specs.declared.fetch.Error.{Error}
+use Rattle.fetch_conversation.specs.declared.fetch.Error.TheVariants as errors
+use Rattle.fetch_conversation.specs.declared.prepare.Error.{Error as PrepareError}
+use Rattle.fetch_conversation.specs.declared.prepare.Error.TheVariants as prepare
+use Rattle.fetch_remote.specs.Errors.{preparing, receiving}
+use Rattle.fetch_remote.specs.Form.{Given}
+use Rattle.fetch_remote.specs.Repositories.{State}
+use Rattle.fetch_remote.specs.Stages.{bound_of, terms_in, pack_stage}
+use Rattle.fetch_remote.specs.Talking.{BreaksListing, BreaksReceiving}
+use Rattle.fetch_remote.specs.declared.fetch_error.FetchError.{FetchError}
+use Rattle.fetch_remote.specs.declared.fetch_error.FetchError.TheVariants as fetch
+
+-- no refusal of judging
+abbrev IsOther : Error → Type 0
+IsOther (errors.UpdateRefs e) = ⊥
+IsOther e = ⊤
+
+-- None of its refusals is one of judging.
+unfoldable Spares : {X : Type 0} → Conversation X Error → Type 0
+Spares (ends (Ok x)) = ⊤
+Spares (ends (Err e)) = IsOther e
+Spares (asks lines awaited failed next) = ((fault : Fault) → IsOther (failed fault)) × ((t : Told) → Spares (next t))
+
+spared_after : {X : Type 0} (bound : ℕ) (failed : Fault → Error) (next : Told → Conversation X Error) (reading : Result (Told × List ℕ) Fault) (e : UpdateError) → ((fault : Fault) → IsOther (failed fault))
+    → ((t : Told) (stream : List ℕ) → answer_in bound (next t) stream ≡ Err (errors.UpdateRefs e) → ⊥)
+    → after_reply (λ fault. Err (failed fault)) (λ told rest. answer_in bound (next told) rest) reading ≡ Err (errors.UpdateRefs e) → ⊥
+spared_after bound failed next (Ok y) e other again is = again y.0 y.1 is
+spared_after {X} bound failed next (Err fault) e other again is = let h : failed fault ≡ errors.UpdateRefs e = cc in subst IsOther h (other fault)
+
+spared : {X : Type 0} (bound : ℕ) (c : Conversation X Error) (stream : List ℕ) (e : UpdateError) → Spares c → answer_in bound c stream ≡ Err (errors.UpdateRefs e) → ⊥
+unfolding answer_in Spares
+spared bound (ends (Ok y)) stream e h is = absurd (cc)
+spared bound (ends (Err x)) stream e h is = let k : x ≡ errors.UpdateRefs e = cc in subst IsOther k h
+spared bound (asks lines awaited failed next) stream e h is = spared_after bound failed next (told_at bound awaited stream) e h.0 (λ t s. spared bound (next t) s e (h.1 t)) is
+
+spares_ok : {X : Type 0} (x : X) → Spares (ends (Ok x))
+unfolding Spares
+spares_ok x = tt
+
+spares_err : (X : Type 0) (e : Error) → IsOther e → Spares {X = X} (ends (Err e))
+unfolding Spares
+spares_err X e h = h
+
+spares_long : {X : Type 0} (o : Option ℕ) (long : ℕ → Error) (c : Conversation X Error) → ((n : ℕ) → IsOther (long n)) → Spares c → Spares (asks_unless o long c)
+spares_long None long c other k = k
+spares_long {X} (Some n) long c other k = spares_err X (long n) (other n)
+
+spares_unless : {X : Type 0} (o : Option Error) (c : Conversation X Error) → IfSome o IsOther → Spares c → Spares (unless o c)
+spares_unless None c h k = k
+spares_unless {X} (Some e) c h k = spares_err X e h
+
+other_or : (a b : Option Error) → IfSome a IsOther → IfSome b IsOther → IfSome (option_or a b) IsOther
+other_or (Some e) b h k = h
+other_or None b h k = k
+
+other_unless : (b : Bool) (e : Error) → IsOther e → IfSome (if b then Some e else None) IsOther
+other_unless true e h = h
+other_unless false e h = tt
+
+other_pack : (e : PackError) → IsOther (fetch_of_pack e)
+other_pack (pack.Malformed place) = tt
+other_pack (pack.PackDigest found computed) = tt
+other_pack (pack.IdMismatch written computed) = tt
+other_pack (pack.Collision id) = tt
+other_pack pack.NoMemory = tt
+
+spares_unpacked : (reply : FetchReply) (r : Result Contents PackError) → Spares (ends (unpacked reply r))
+spares_unpacked reply (Ok c) = spares_ok _
+spares_unpacked reply (Err e) = spares_err _ _ (other_pack e)
+
+spares_dry : {X : Type 0} (dry : Bool) (x : X) (r : Result X Error) → Spares (ends r) → Spares (ends (if dry then Ok x else r))
+spares_dry true x r h = spares_ok x
+spares_dry false x r h = h
+
+spares_received : (t : TermsValue) (reply : FetchReply) → Spares (ends (received t reply))
+unfolding received
+spares_received t reply = spares_dry t.dry_run _ _ (spares_unpacked reply _)
+
+spares_replied : (t : TermsValue) (x : Told) → Spares (replied t x)
+spares_replied t (told.Reply reply) = spares_received t reply
+spares_replied t (told.Greeting h) = spares_err _ _ tt
+spares_replied t (told.Advertisement h refs) = spares_err _ _ tt
+spares_replied t (told.Listing refs) = spares_err _ _ tt
+
+spares_asks : {X : Type 0} (lines : List Line) (awaited : Await) (failed : Fault → Error) (next : Told → Conversation X Error) → ((fault : Fault) → IsOther (failed fault)) → ((t : Told) → Spares (next t)) → Spares (asks lines awaited failed next)
+unfolding Spares
+spares_asks lines awaited failed next h k = (h, k)
+
+spares_asking : {X : Type 0} (long : ℕ → Error) (lines : List Line) (awaited : Await) (failed : Fault → Error) (next : Told → Conversation X Error) → ((n : ℕ) → IsOther (long n)) → ((fault : Fault) → IsOther (failed fault)) → ((t : Told) → Spares (next t))
+    → Spares (asking long lines awaited failed next)
+spares_asking long lines awaited failed next a h k = spares_long (first_too_long lines) long (asks lines awaited failed next) a (spares_asks lines awaited failed next h k)
+
+spares_fetching : (bound : ℕ) (t : TermsValue) → Spares (fetching bound t)
+unfolding fetching
+spares_fetching bound t =
+    spares_asking converse.too_long (fetch_request (converse.asked_by t) [] true) (awaits.Reply (converse.reply_to t)) (converse.failed bound) (λ x. replied t x) (λ n. tt) (λ fault. tt) (λ x. spares_replied t x)
+
+spares_wanting : (bound : ℕ) (t : TermsValue) (wants : List ObjectId) → Spares (wanting bound t wants)
+spares_wanting bound t [] = spares_ok _
+spares_wanting bound t (id ∷ ids) = spares_fetching bound t
+
+other_unmapped : (m : RefMap) → IfSome (unmapped m) IsOther
+other_unmapped m = other_unless (is_unmapped m) (errors.NoMapping (converse.specs_of m) (length m.remote_refs)) tt
+
+other_unlike : (a b : Kind) → IfSome (unlike a b) IsOther
+other_unlike Sha1 Sha1 = tt
+other_unlike Sha1 Sha256 = tt
+other_unlike Sha256 Sha1 = tt
+other_unlike Sha256 Sha256 = tt
+
+lacks_other : (a b c : Bool) (x y z : List ℕ) → IfSome (option_or (lacks a x) (option_or (lacks b y) (lacks c z))) IsOther
+lacks_other false b c x y z = tt
+lacks_other true false c x y z = tt
+lacks_other true true false x y z = tt
+lacks_other true true true x y z = tt
+
+other_lacked : (h : Handshake) (border : Bool) → IfSome (lacked h border) IsOther
+other_lacked h border =
+    lacks_other (offers converse.fetch_feature (converse.offered h)) (converse.fetches plain_pack h || converse.fetches plain_pack_2 h) (not border || converse.fetches converse.shallow_feature h) converse.fetch_feature plain_pack converse.shallow_feature
+
+other_unread : {X : Type 0} (refusal : List ℕ → Error) (r : Result X (List ℕ)) → ((value : List ℕ) → IsOther (refusal value)) → IfSome (unread_as refusal r) IsOther
+other_unread refusal (Ok x) h = tt
+other_unread refusal (Err value) h = h value
+
+other_rounds : (r : Result Algorithm (List ℕ)) → IfSome (unbuilt_rounds r) IsOther
+other_rounds (Ok algorithms.Noop) = tt
+other_rounds (Ok algorithms.Consecutive) = tt
+other_rounds (Ok algorithms.Skipping) = tt
+other_rounds (Err value) = tt
+
+other_unfit : (s : Settings) → IfSome (unfit s) IsOther
+other_unfit s =
+    let rounds = unbuilt_rounds (algorithm_of_config s.config s.lenient) in
+    let threads = unread_as errors.PackThreads (threads_of s.config s.lenient) in
+    let algorithm = unread_as errors.NegotiationAlgorithmConfig (algorithm_of_config s.config s.lenient) in
+    let shallow = unread_as errors.RejectShallowRemoteConfig (rejects_shallow_of s.config) in
+    other_or shallow (option_or algorithm (option_or threads rounds)) (other_unread errors.RejectShallowRemoteConfig (rejects_shallow_of s.config) (λ value. tt))
+    (other_or algorithm (option_or threads rounds) (other_unread errors.NegotiationAlgorithmConfig (algorithm_of_config s.config s.lenient) (λ value. tt))
+    (other_or threads rounds (other_unread errors.PackThreads (threads_of s.config s.lenient) (λ value. tt)) (other_rounds (algorithm_of_config s.config s.lenient))))
+
+spares_converse : (bound : ℕ) (t : TermsValue) → Spares (converse_stage bound t)
+unfolding converse_stage
+spares_converse bound t =
+    spares_unless (option_or (no_mapping t) (option_or (other_hash t) (option_or (unfit t.settings) (lacking t)))) (wanting bound t t.view.wants)
+    (other_or (no_mapping t) (option_or (other_hash t) (option_or (unfit t.settings) (lacking t))) (other_unmapped t.listed.ref_map)
+    (other_or (other_hash t) (option_or (unfit t.settings) (lacking t)) (other_unlike t.settings.kind t.listed.handshake.object_hash)
+    (other_or (unfit t.settings) (lacking t) (other_unfit t.settings) (other_lacked t.listed.handshake (converse.needs_shallow t)))))
+    (spares_wanting bound t t.view.wants)
+
+-- ---- the whole
+
+pub refusal_is : (e : Error) (fault : UpdateError) → receiving e ≡ fetch.Receive (errors.UpdateRefs fault) → e ≡ errors.UpdateRefs fault
+refusal_is (errors.UpdateRefs e) fault is = cc
+refusal_is (errors.NoMapping specs count) fault is = absurd (cc)
+refusal_is (errors.IncompatibleObjectHash local remote) fault is = absurd (cc)
+refusal_is (errors.Disconnected link) fault is = absurd (cc)
+refusal_is (errors.RejectShallowRemoteConfig value) fault is = absurd (cc)
+refusal_is (errors.NegotiationAlgorithmConfig value) fault is = absurd (cc)
+refusal_is (errors.PackThreads value) fault is = absurd (cc)
+refusal_is (errors.Fetch e) fault is = absurd (cc)
+refusal_is (errors.RejectShallowRemote id) fault is = absurd (cc)
+refusal_is (errors.Pack e) fault is = absurd (cc)
+refusal_is (errors.Collision id) fault is = absurd (cc)
+refusal_is (errors.KeepFile path) fault is = absurd (cc)
+refusal_is (errors.RemovePackKeepFile path) fault is = absurd (cc)
+refusal_is errors.Client fault is = absurd (cc)
+refusal_is errors.Interrupted fault is = absurd (cc)
+refusal_is errors.Unbuilt fault is = absurd (cc)
+refusal_is errors.NoMemory fault is = absurd (cc)
+
+refused_as : (now : Option Talk) (g : Given) (s : State) (l : ListedValue) (stream heard : List ℕ) (fault : UpdateError) → IsRefusedBy (bound_of g) now (pack_stage g s l) stream heard (errors.UpdateRefs fault) → ⊥
+refused_as now g s l stream heard fault (inl all) = spared (bound_of g) (pack_stage g s l) (stream ++ []) fault (spares_converse (bound_of g) (terms_in g s l)) (all []).answer
+refused_as now g s l stream heard fault (inr last) = spared (bound_of g) (pack_stage g s l) stream fault (spares_converse (bound_of g) (terms_in g s l)) last.1.answer
+
+-- the second stage breaks off by no refusal of judging
+pub receives_no_fault : (answers : Bool) (old new : Option Talk) (g : Given) (s : State) (e : FetchError) (h : BreaksReceiving answers old new g s e) (fault : UpdateError) → receiving h.cause ≡ fetch.Receive (errors.UpdateRefs fault) → ⊥
+receives_no_fault answers old new g s e h fault is =
+    let cause = refusal_is h.cause fault is in
+    let b = rw cause at h.broke in
+    refused_as new g s h.listed _ _ fault (b.why refl)
+
+listing_no_fault : (e : PrepareError) (fault : UpdateError) → preparing e ≡ fetch.Receive (errors.UpdateRefs fault) → ⊥
+listing_no_fault prepare.MissingRefSpecs fault is = absurd (cc)
+listing_no_fault (prepare.RefMap e) fault is = absurd (cc)
+listing_no_fault prepare.NoMemory fault is = absurd (cc)
+
+-- no conversation breaks off so
+pub talks_no_fault : (answers : Bool) (old new : Option Talk) (g : Given) (s : State) (e : FetchError) (fault : UpdateError) → BreaksListing answers old new g e ⊎ BreaksReceiving answers old new g s e → e ≡ fetch.Receive (errors.UpdateRefs fault) → ⊥
+talks_no_fault answers old new g s e fault (inl h) is = listing_no_fault h.cause fault (sym h.told ∙ is)
+talks_no_fault answers old new g s e fault (inr h) is = receives_no_fault answers old new g s e h fault (sym h.told ∙ is)
+
+-- what `?` returned is the refusal that was told
+pub same_refusal : {T : Type 0} (r : Result T FetchError) (e y x : FetchError) → r ≡ Err y → y ≡ e → r ≡ Err x → e ≡ x
+same_refusal r e y x is told same =
+    let k : y ≡ x = cc in
+    sym told ∙ k

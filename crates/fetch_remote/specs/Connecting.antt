@@ -1,0 +1,60 @@
+-- Peers that are made and taken back.
+use Rattle.std.specs.Prelude.{◌≡◌, ℕ, ◌+◌, ◌==◌, Bool, not, length, filter, if◌then◌else◌, List, [], ◌∷◌, ◌++◌, ⊤, Option, Some, None, Result, Ok, Err}
+use Rattle.fetch_store.specs.Calls.{CallList}
+use Rattle.fetch_store.specs.Faults.{Faults, counted}
+use Rattle.fetch_wire.specs.Scripts.{Script}
+use Rattle.fetch_wire.specs.declared.peer.SendFault.{SendFault}
+use Rattle.fetch_wire.specs.declared.peer.SendFault.TheVariants as sending
+use Rattle.fetch_lookup.specs.declared.direction.Direction.{Direction}
+use Rattle.fetch_remote.specs.declared.connect.Error.{Error}
+use Rattle.fetch_remote.specs.declared.connect.Error.TheVariants as errors
+
+-- one more peer is out where one was made
+abbrev pub out_after : {P E : Type 0} → Result P E → ℕ → ℕ
+out_after (Ok peer) out = out + 1
+out_after (Err e) out = out
+
+-- Where the peers still to be made are told, the first of them is made; behind the last one any may be. None goes at a refusal.
+abbrev pub Makes : {P E : Type 0} → Option (List P) → Option (List P) → Result P E → Type 0
+Makes None now result = now ≡ None
+Makes (Some left) now (Err e) = now ≡ Some left
+Makes (Some []) now (Ok peer) = now ≡ Some []
+Makes (Some (first ∷ left)) now (Ok peer) = (peer ≡ first) × (now ≡ Some left)
+
+-- Where the peers taken back are told, the peer stands behind them as it is.
+abbrev pub TakesBack : {P : Type 0} → Option (List P) → Option (List P) → P → Type 0
+TakesBack None now peer = now ≡ None
+TakesBack (Some taken) now peer = now ≡ Some (taken ++ peer ∷ [])
+
+-- one more lost peer where this one had failed
+abbrev pub with_lost : Faults → Faults → Faults
+with_lost peer lost = if peer.count == 0 then lost else record lost { count = lost.count + 1 }
+
+abbrev pub connecting : SendFault → Error
+connecting sending.Failed = errors.Connect
+connecting sending.NoMemory = errors.NoMemory
+
+-- Without an address that is told, and else it isn't.
+abbrev pub IsMissing : {P : Type 0} → Option (List ℕ) → Direction → Result P Error → Type 0
+IsMissing None direction (Ok peer) = ⊥
+IsMissing None direction (Err e) = e ≡ errors.MissingUrl direction
+IsMissing (Some url) direction (Ok peer) = ⊤
+IsMissing (Some url) direction (Err (errors.MissingUrl told)) = ⊥
+IsMissing (Some url) direction (Err errors.Connect) = ⊤
+IsMissing (Some url) direction (Err errors.NoMemory) = ⊤
+
+-- a scripted maker: the peers still to be made, those taken back, how many are out, the calls that fail, and how many failed
+pub record Making : Type 0 where
+  pub left : List Script
+  pub taken : List Script
+  pub out : ℕ
+  pub calls : CallList
+  pub failed : ℕ
+
+-- a peer that never failed
+abbrev pub is_fresh : Script → Bool
+is_fresh peer = peer.failed == 0
+
+-- the peers that were lost
+unfoldable pub lost_in : List Script → Faults
+lost_in taken = counted (length (filter (λ peer. not (is_fresh peer)) taken))

@@ -1,0 +1,69 @@
+//! Laws: what holds of the definitions that the contract of a fetch speaks of. Each is the contract of a function
+//! without a body.
+
+ghost use Rattle.std.specs.Prelude.{◌≡◌, ◌≢◌, ℕ, Bool, List, Option, Some, None, Ok, true, false, Contains};
+ghost use Rattle.std.specs.FinMap as map;
+ghost use Rattle.fetch_store.specs.Closed.{IsClosed, IsStored, Grows};
+ghost use Rattle.fetch_store.specs.Honest.{IsHonest};
+ghost use Rattle.fetch_store.specs.Stores.{collision};
+ghost use Rattle.fetch_store.specs.declared.id.ObjectId.{ObjectId};
+ghost use Rattle.fetch_refs.specs.declared.edit.RefEdit.{RefEdit};
+ghost use Rattle.fetch_refs.specs.declared.target.Target.TheVariants.{Object};
+ghost use Rattle.fetch_update.specs.Writes.{gives};
+ghost use Rattle.fetch_update.specs.declared.mode.Mode.TheVariants as modes;
+ghost use Rattle.fetch_update.specs.declared.update.Update.{Update};
+ghost use Rattle.fetch_update.specs.declared.worktrees.Worktree.{Worktree};
+ghost use Rattle.fetch_wire.specs.Talks.{Talk};
+ghost use Rattle.fetch_wire.specs.declared.mapping.RefMap.{RefMap};
+ghost use Rattle.fetch_conversation.specs.declared.conversing.Received.{Received};
+ghost use Rattle.fetch_remote.specs.Fetched.{IsFetched, request_in};
+ghost use Rattle.fetch_remote.specs.Fetching.{fetched_in, requests_in};
+ghost use Rattle.fetch_remote.specs.Form.{Given};
+ghost use Rattle.fetch_remote.specs.Lasting.{updates_in, AcceptsNone, AreAlike, with_packed};
+ghost use Rattle.fetch_remote.specs.Repositories.{State, held};
+ghost use Rattle.fetch_remote.specs.Requested.{AsksInOrder};
+ghost use Rattle.fetch_remote.specs.Settling.{connected, pack_of};
+ghost use Rattle.fetch_remote.specs.Stages.{wants_in};
+ghost use Rattle.fetch_remote.specs.declared.outcome.Outcome.{Outcome};
+
+/// What a peer is sent is the first line, then the listing request, then one fetch request for what is wanted, and
+/// nothing else; each once at most.
+pub fn a_fetch_asks_in_order()
+    ensures { (g : Given) (s : State) (stream : List ℕ) → AsksInOrder g s (requests_in g s stream) }
+{}
+
+/// A pack that is honest for the request of a fetch is never told as disconnected in a closed repository.
+pub fn an_honest_pack_is_never_disconnected()
+    ensures { (g : Given) (s : State) (m : RefMap) (r : Received) → IsClosed (held s) → collision s.objects r.objects ≡ None → IsHonest (request_in g s m) (pack_of r)
+        → connected s (wants_in g s m) (pack_of r) ≡ Ok tt }
+{}
+
+/// A fetch only adds to the objects, and a dry run changes nothing.
+pub fn a_fetch_keeps_what_is_stored()
+    ensures grows { (answers : Bool) (old new : Option Talk) (known : Option (List Worktree)) (g : Given) (before after : State) (outcome : Outcome) → IsFetched answers old new known g before after outcome → Grows before.objects after.objects }
+    ensures dry { (answers : Bool) (old new : Option Talk) (known : Option (List Worktree)) (g : Given) (before after : State) (outcome : Outcome) → IsFetched answers old new known g before after outcome → g.options.dry_run ≡ true → after ≡ before }
+{}
+
+/// A reference that no accepted update has an edit of keeps its value.
+pub fn other_references_keep_their_values()
+    ensures { (answers : Bool) (old new : Option Talk) (known : Option (List Worktree)) (g : Given) (before after : State) (outcome : Outcome) → IsFetched answers old new known g before after outcome
+        → (name : List ℕ) → AcceptsNone (updates_in outcome.status) name → map.get after.refs.names name ≡ map.get before.refs.names name }
+{}
+
+/// But for a dry run, each id that an edit newly gives to a reference is stored.
+pub fn new_ids_are_stored()
+    ensures { (answers : Bool) (old new : Option Talk) (known : Option (List Worktree)) (g : Given) (before after : State) (outcome : Outcome) → IsFetched answers old new known g before after outcome
+        → g.options.dry_run ≡ false → (e : RefEdit) (id : ObjectId) → Contains (updates_in outcome.status).edits e → gives e ≡ Some (Object id) → map.get before.refs.names e.name ≢ Some (Object id) → IsStored after.objects id }
+{}
+
+/// No fetch that was done tells that a source's object isn't found: it is asked for, or stored already.
+pub fn every_source_is_found()
+    ensures { (answers : Bool) (old new : Option Talk) (known : Option (List Worktree)) (g : Given) (before after : State) (outcome : Outcome) → IsFetched answers old new known g before after outcome
+        → (u : Update) (id : ObjectId) → Contains (updates_in outcome.status).updates u → u.mode ≢ modes.RejectedSourceObjectNotFound id }
+{}
+
+/// Written packed or loose, a fetch tells the same and leaves the same, packed lists aside.
+pub fn packed_and_loose_fetches_leave_the_same()
+    ensures { (g : Given) (only other : Bool) (trees : List Worktree) (s : State) (stream : List ℕ) (outcome : Outcome) (a : State) → fetched_in (with_packed only g) trees s stream ≡ Ok (outcome, a)
+        → (b : State) × (fetched_in (with_packed other g) trees s stream ≡ Ok (outcome, b)) × AreAlike a b }
+{}
