@@ -15,8 +15,11 @@ fn words(rt: &HostRuntime) -> io::Result<Vec<Vec<u8>>> {
 }
 
 fn main(rt: HostRuntime) -> ExitCode {
-    let Ok(words) = words(&rt) else {
-        return ExitCode::from(5);
+    let words = match words(&rt) {
+        Ok(words) => words,
+        // A word that isn't UTF-8 is no word of the program, as where there is none.
+        Err(e) if e.kind() == io::ErrorKind::InvalidData => Vec::new(rt.alloc()),
+        Err(_) => return ExitCode::from(5),
     };
     let mut source = StdSource::new(rt.stdin());
     let mut sink = StdSink::new(rt.stdout());

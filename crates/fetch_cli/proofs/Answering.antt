@@ -1,5 +1,5 @@
 -- What the program answers.
-use Rattle.std.proofs.Common.{◌≡◌, ◌≢◌, ◌⊎◌, inl, inr, ℕ, zero, suc, ◌<◌, ◌≤◌, true, List, length, replicate, Option, Some, None, Result, Ok, Err, nat_lt, refl, sym, ap, arith}
+use Rattle.std.proofs.Common.{◌≡◌, ◌≢◌, ◌⊎◌, inl, inr, ℕ, zero, suc, ◌<◌, ◌≤◌, Bool, true, false, List, length, replicate, Option, Some, None, Result, Ok, Err, nat_lt, refl, sym, ap, arith}
 use Rattle.std.proofs.lemmas.List.{length-replicate}
 use Rattle.std.proofs.lemmas.Bool.Decides.{nat_tests}
 use Rattle.fetch_remote.specs.Fetching.{requests_in}
@@ -77,17 +77,11 @@ answered_report : (scene : Scene) → IsAnswered (report_of scene).0
 unfolding report_of
 answered_report scene = answered_with (requests_in (given_of scene) (found_of scene) (stream_of scene)) (fetched_by scene) (left_by scene)
 
-is_one : (status : ℕ) → (status ≡ 1) ⊎ (status ≢ 1)
-is_one zero = inr (λ e. cc)
-is_one (suc zero) = inl refl
-is_one (suc (suc n)) = inr (λ e. cc)
-
-known_report : (scene : Scene) (status : ℕ) (text : List ℕ) → (status ≡ 1) ⊎ (status ≢ 1) → IsReport scene status text → IsAnswered status
-known_report scene status text (inl one) r = answered_by 1 status one one_answers
-known_report scene status text (inr other) r = answered_by (report_of scene).0 status (sym (ap (λ (x : ℕ × List ℕ). x.0) (r.whole other))) (answered_report scene)
+known_report : (scene : Scene) (status : ℕ) (text : List ℕ) → IsReport scene status text → IsAnswered status
+known_report scene status text r = answered_by (report_of scene).0 status (sym (ap (λ (x : ℕ × List ℕ). x.0) r.whole)) (answered_report scene)
 
 known_scene : (found : Result Scene ℕ) (status : ℕ) (text : List ℕ) → IsSceneAnswer found status text → IsAnswered status
-known_scene (Ok scene) status text r = known_report scene status text (is_one status) r
+known_scene (Ok scene) status text r = known_report scene status text r
 known_scene (Err place) status text r = answered_by 4 status r.0 four_answers
 
 known_to : (command : Result Command ℕ) (input : Option (List ℕ)) (status : ℕ) (text : List ℕ) → IsAnswerTo command input status text → IsAnswered status

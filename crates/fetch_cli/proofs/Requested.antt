@@ -4,32 +4,30 @@ use Rattle.std.specs.Prelude.{⊤}
 use Rattle.std.specs.List.{list_all}
 use Rattle.std.specs.Option.{option_or}
 use Rattle.fetch_store.specs.declared.id.ObjectId.{ObjectId}
+use Rattle.fetch_wire.specs.Awaited.{told_at}
+use Rattle.fetch_wire.specs.declared.awaited.Await.{Await}
+use Rattle.fetch_wire.specs.declared.awaited.Await.TheVariants as awaits
+use Rattle.fetch_wire.specs.declared.awaited.Fault.{Fault}
+use Rattle.fetch_wire.specs.declared.awaited.Told.{Told}
+use Rattle.fetch_wire.specs.declared.awaited.Told.TheVariants as told
 use Rattle.fetch_wire.specs.declared.handshake.Handshake.{Handshake}
 use Rattle.fetch_wire.specs.declared.line.Line.{Line}
 use Rattle.fetch_wire.specs.declared.line.Line.TheVariants.{Payload, Flush, Delim, End}
-use Rattle.fetch_wire.specs.declared.records.FetchReply.{FetchReply}
-use Rattle.fetch_wire.specs.declared.reference.Ref.{Ref}
-use Rattle.fetch_wire.specs.declared.section.Trouble.{Trouble}
-use Rattle.fetch_wire.specs.Greetings.{greeting_of, offers, has_word, value_of}
-use Rattle.fetch_wire.specs.Lines.{section_at}
-use Rattle.fetch_wire.specs.Listings.{listing_of}
-use Rattle.fetch_wire.specs.Replies.{has_shallow_info, reply_of}
 use Rattle.fetch_wire.specs.RequestLines.{id_lines}
 use Rattle.fetch_wire.specs.RequestWords.{have_word, done_word}
 use Rattle.fetch_wire.specs.Requests.{first_line, listing_lines, listing_word, head_texts, detail_texts, prefix_text, sent, when, text_line}
 use Rattle.fetch_wire.specs.Written.{too_long_in, first_too_long}
-use Rattle.fetch_negotiate.specs.Requests.{Asked, fetch_request, head_of, pack_word, asked_of}
-use Rattle.fetch_remote.specs.Conversation.{Conversation, ends, asks, asking, asks_unless, sent_in, after_reply, told_as, and_then}
-use Rattle.fetch_remote.specs.ConverseStage.{converse_stage, wanting, fetching, replied, packed}
-use Rattle.fetch_remote.specs.Fetching.{requests_in, conversation, receiving_stage, bound_of, asked_in}
+use Rattle.fetch_negotiate.specs.Requests.{Asked, fetch_request, head_of, asked_of, pack_word}
+use Rattle.fetch_conversation.specs.Conversation.{Conversation, ends, asks, asking, asks_unless, sent_in, after_reply, told_as, and_then}
+use Rattle.fetch_conversation.specs.ConverseStage.{TermsValue, converse_stage, wanting, fetching, replied, asked_by, reply_to}
+use Rattle.fetch_conversation.specs.ConverseStage as converse
+use Rattle.fetch_conversation.specs.ListStage.{InquiryValue, ListedValue, list_stage, inquiry_stage, greeted, listing, listed, unless, unlisted, unsendable, no_specs, prefixes_asked}
+use Rattle.fetch_conversation.specs.ListStage as list
 use Rattle.fetch_remote.specs.Errors.{preparing, receiving}
-use Rattle.fetch_remote.specs.Form.{Given, is_in_form}
-use Rattle.fetch_remote.specs.ConverseStage as converse
-use Rattle.fetch_remote.specs.ListStage as list
-use Rattle.fetch_remote.specs.ListStage.{ListedValue, list_stage, greeted, offered, listing, listed, mapped, is_enough}
-use Rattle.fetch_remote.specs.Remotes.{RemoteValue, address_of}
+use Rattle.fetch_remote.specs.Fetching.{requests_in}
+use Rattle.fetch_remote.specs.Form.{Given}
 use Rattle.fetch_remote.specs.Repositories.{State}
-use Rattle.fetch_remote.specs.declared.ref_map.Options.{Options}
+use Rattle.fetch_remote.specs.Stages.{bound_of, inquiry_in, terms_in, listing_stage, pack_stage, receiving_stage, conversation}
 use Rattle.fetch_cli.specs.Heard.{lines_heard, is_sent, AreSent}
 use Rattle.fetch_cli.specs.Report.{given_of, found_of, stream_of, requests_of}
 use Rattle.fetch_cli.specs.declared.scene.Scene.{Scene}
@@ -91,116 +89,106 @@ fetch_sent a haves done =
 -- each question is lines that fit
 IsFit : {X E : Type 0} → Conversation X E → Type 0
 IsFit (ends answer) = ⊤
-IsFit (asks lines failed next) = AreSent lines × ((reply : List Line) → IsFit (next reply))
+IsFit (asks lines awaited failed next) = AreSent lines × ((t : Told) → IsFit (next t))
 
 fit_ends : {X E : Type 0} (answer : Result X E) → IsFit (ends answer)
 unfolding IsFit
 fit_ends answer = tt
 
-fit_behind : {X E : Type 0} (bound : ℕ) (next : List Line → Conversation X E) (found : Result (List Line × List ℕ) Trouble)
-    → ((reply : List Line) (rest : List ℕ) → AreSent (sent_in bound (next reply) rest)) → AreSent (after_reply (λ _. []) (λ reply rest. sent_in bound (next reply) rest) found)
-fit_behind bound next (Err t) h = none_are
+fit_behind : {X E : Type 0} (bound : ℕ) (next : Told → Conversation X E) (found : Result (Told × List ℕ) Fault)
+    → ((t : Told) (rest : List ℕ) → AreSent (sent_in bound (next t) rest)) → AreSent (after_reply (λ _. []) (λ t rest. sent_in bound (next t) rest) found)
+fit_behind bound next (Err fault) h = none_are
 fit_behind bound next (Ok x) h = h x.0 x.1
 
 fit_sent : {X E : Type 0} (bound : ℕ) (c : Conversation X E) (stream : List ℕ) → IsFit c → AreSent (sent_in bound c stream)
 unfolding sent_in IsFit
 fit_sent bound (ends answer) stream h = none_are
-fit_sent bound (asks lines failed next) stream h =
-    append_are lines _ h.0 (fit_behind bound next (section_at bound stream) (λ reply rest. fit_sent bound (next reply) rest (h.1 reply)))
+fit_sent bound (asks lines awaited failed next) stream h =
+    append_are lines _ h.0 (fit_behind bound next (told_at bound awaited stream) (λ t rest. fit_sent bound (next t) rest (h.1 t)))
 
 fit_told : {X E F : Type 0} (g : E → F) (c : Conversation X E) → IsFit c → IsFit (told_as g c)
 unfolding told_as IsFit
 fit_told g (ends answer) h = tt
-fit_told g (asks lines failed next) h = (h.0, λ reply. fit_told g (next reply) (h.1 reply))
+fit_told g (asks lines awaited failed next) h = (h.0, λ t. fit_told g (next t) (h.1 t))
 
 fit_then : {X Y E : Type 0} (c : Conversation X E) (f : X → Conversation Y E) → IsFit c → ((x : X) → IsFit (f x)) → IsFit (and_then c f)
 unfolding and_then IsFit
 fit_then (ends (Ok x)) f h k = k x
 fit_then (ends (Err e)) f h k = tt
-fit_then (asks lines failed next) f h k = (h.0, λ reply. fit_then (next reply) f (h.1 reply) k)
+fit_then (asks lines awaited failed next) f h k = (h.0, λ t. fit_then (next t) f (h.1 t) k)
 
-fit_unless : {X E : Type 0} (long : ℕ → E) (lines : List Line) (failed : Trouble → E) (next : List Line → Conversation X E) (found : Option ℕ) → first_too_long lines ≡ found → AllSent lines
-    → ((reply : List Line) → IsFit (next reply)) → IsFit (asks_unless found long (asks lines failed next))
+fit_unless : {X E : Type 0} (o : Option E) (c : Conversation X E) → IsFit c → IsFit (unless o c)
+fit_unless None c h = h
+fit_unless (Some e) c h = fit_ends _
+
+-- a question whose lines fit
+fit_long : {X E : Type 0} (o : Option ℕ) (long : ℕ → E) (c : Conversation X E) → (o ≡ None → IsFit c) → IsFit (asks_unless o long c)
+fit_long None long c h = h refl
+fit_long (Some n) long c h = fit_ends _
+
+fit_asks : {X E : Type 0} (lines : List Line) (awaited : Await) (failed : Fault → E) (next : Told → Conversation X E) → AllSent lines → first_too_long lines ≡ None → ((t : Told) → IsFit (next t)) → IsFit (asks lines awaited failed next)
 unfolding IsFit
-fit_unless long lines failed next None is h k = (record { sent = h; fit = is }, k)
-fit_unless long lines failed next (Some n) is h k = tt
+fit_asks lines awaited failed next sent fit k = (record { sent = sent; fit = fit }, k)
 
-fit_asking : {X E : Type 0} (long : ℕ → E) (lines : List Line) (failed : Trouble → E) (next : List Line → Conversation X E) → AllSent lines → ((reply : List Line) → IsFit (next reply)) → IsFit (asking long lines failed next)
-fit_asking long lines failed next h k = fit_unless long lines failed next (first_too_long lines) refl h k
-
-fit_if : {X E : Type 0} (b : Bool) (c d : Conversation X E) → IsFit c → IsFit d → IsFit (if b then c else d)
-fit_if true c d h k = h
-fit_if false c d h k = k
+fit_asking : {X E : Type 0} (long : ℕ → E) (lines : List Line) (awaited : Await) (failed : Fault → E) (next : Told → Conversation X E) → AllSent lines → ((t : Told) → IsFit (next t)) → IsFit (asking long lines awaited failed next)
+fit_asking long lines awaited failed next sent k = fit_long (first_too_long lines) long _ (λ fit. fit_asks lines awaited failed next sent fit k)
 
 -- ---- the two stages
 
-fit_mapped : (remote : RemoteValue) (options : Options) (h : Handshake) (refs : List Ref) → IsFit (mapped remote options h refs)
-unfolding mapped
-fit_mapped remote options h refs = fit_if _ _ _ (fit_ends _) (fit_ends _)
+fit_listed : (q : InquiryValue) (h : Handshake) (t : Told) → IsFit (listed q h t)
+fit_listed q h (told.Listing refs) = fit_ends _
+fit_listed q h (told.Greeting other) = fit_ends _
+fit_listed q h (told.Advertisement other refs) = fit_ends _
+fit_listed q h (told.Reply reply) = fit_ends _
 
-fit_listed : (remote : RemoteValue) (options : Options) (h : Handshake) (found : Result (List Ref) ℕ) → IsFit (listed remote options h found)
-fit_listed remote options h (Err place) = fit_ends _
-fit_listed remote options h (Ok refs) = fit_mapped remote options h refs
-
-fit_listing : (bound : ℕ) (remote : RemoteValue) (options : Options) (h : Handshake) → IsFit (listing bound remote options h)
+fit_listing : (bound : ℕ) (q : InquiryValue) (h : Handshake) → IsFit (listing bound q h)
 unfolding listing
-fit_listing bound remote options h =
-    fit_asking list.too_long (listing_lines h list.default_agent (list.prefixes_asked remote options)) (list.failed bound) (λ reply. listed remote options h (listing_of h.object_hash reply))
-    (listing_sent h list.default_agent (list.prefixes_asked remote options)) (λ reply. fit_listed remote options h (listing_of h.object_hash reply))
+fit_listing bound q h =
+    fit_long (first_too_long (listing_lines h q.agent (prefixes_asked q))) list.too_long _ (λ fit. fit_unless (unlisted h) _
+    (fit_asks (listing_lines h q.agent (prefixes_asked q)) (awaits.Listing h.object_hash) (list.failed bound) (λ t. listed q h t) (listing_sent h q.agent (prefixes_asked q)) fit (λ t. fit_listed q h t)))
 
-fit_offered : (bound : ℕ) (remote : RemoteValue) (options : Options) (h : Handshake) → IsFit (offered bound remote options h)
-unfolding offered
-fit_offered bound remote options h = fit_if (is_enough h) _ _ (fit_listing bound remote options h) (fit_ends _)
+fit_greeted : (bound : ℕ) (q : InquiryValue) (t : Told) → IsFit (greeted bound q t)
+fit_greeted bound q (told.Greeting h) = fit_listing bound q h
+fit_greeted bound q (told.Advertisement h refs) = fit_ends _
+fit_greeted bound q (told.Listing refs) = fit_ends _
+fit_greeted bound q (told.Reply reply) = fit_ends _
 
-fit_greeted : (bound : ℕ) (remote : RemoteValue) (options : Options) (found : Result (Option Handshake) ℕ) → IsFit (greeted bound remote options found)
-fit_greeted bound remote options (Err place) = fit_ends _
-fit_greeted bound remote options (Ok None) = fit_ends _
-fit_greeted bound remote options (Ok (Some h)) = fit_offered bound remote options h
+fit_list : (bound : ℕ) (q : InquiryValue) → IsFit (list_stage bound q)
+unfolding list_stage inquiry_stage
+fit_list bound q =
+    fit_unless (no_specs q) _ (fit_unless (unsendable q) _
+    (fit_asking list.too_long (first_line q.address q.options.handshake_parameters ∷ []) awaits.Greeting (list.failed bound) (λ t. greeted bound q t)
+    (first_sent q.address q.options.handshake_parameters) (λ t. fit_greeted bound q t)))
 
-fit_list : (bound : ℕ) (remote : RemoteValue) (options : Options) → IsFit (list_stage bound remote options)
-unfolding list_stage
-fit_list bound remote options =
-    fit_asking list.too_long (first_line (address_of remote) options.handshake_parameters ∷ []) (list.failed bound) (λ reply. greeted bound remote options (greeting_of reply))
-    (first_sent (address_of remote) options.handshake_parameters) (λ reply. fit_greeted bound remote options (greeting_of reply))
+fit_replied : (t : TermsValue) (x : Told) → IsFit (replied t x)
+fit_replied t (told.Reply reply) = fit_ends _
+fit_replied t (told.Greeting h) = fit_ends _
+fit_replied t (told.Advertisement h refs) = fit_ends _
+fit_replied t (told.Listing refs) = fit_ends _
 
-fit_packed : (kind : _) (found : Result FetchReply ℕ) → IsFit (packed kind found)
-fit_packed kind (Err place) = fit_ends _
-fit_packed kind (Ok r) = fit_ends _
-
-fit_replied : (kind : _) (lines : List Line) → IsFit (replied kind lines)
-unfolding replied
-fit_replied kind lines = fit_if (has_shallow_info lines) _ _ (fit_ends _) (fit_packed kind (reply_of lines))
-
-fit_fetching : (bound : ℕ) (a : Asked) → IsFit (fetching bound a)
+fit_wanting : (bound : ℕ) (t : TermsValue) (wants : List ObjectId) → IsFit (wanting bound t wants)
 unfolding fetching
-fit_fetching bound a =
-    fit_asking converse.too_long (fetch_request a [] true) (converse.failed bound) (λ reply. replied a.handshake.object_hash reply) (fetch_sent a [] true) (λ reply. fit_replied a.handshake.object_hash reply)
+fit_wanting bound t [] = fit_ends _
+fit_wanting bound t (id ∷ ids) =
+    fit_asking converse.too_long (fetch_request (asked_by t) [] true) (awaits.Reply (reply_to t)) (converse.failed bound) (λ x. replied t x) (fetch_sent (asked_by t) [] true) (λ x. fit_replied t x)
 
-fit_wanting : (bound : ℕ) (a : Asked) (wants : List ObjectId) → IsFit (wanting bound a wants)
-fit_wanting bound a [] = fit_ends _
-fit_wanting bound a (id ∷ ids) = fit_fetching bound a
-
-fit_converse : (bound : ℕ) (a : Asked) → IsFit (converse_stage bound a)
+fit_converse : (bound : ℕ) (t : TermsValue) → IsFit (converse_stage bound t)
 unfolding converse_stage
-fit_converse bound a = fit_wanting bound a a.wants
+fit_converse bound t = fit_unless _ _ (fit_wanting bound t t.view.wants)
 
 fit_receiving : (g : Given) (s : State) (l : ListedValue) → IsFit (receiving_stage g s l)
 unfolding receiving_stage
-fit_receiving g s l = fit_then _ _ (fit_told receiving _ (fit_converse (bound_of g) (asked_in g s l))) (λ r. fit_ends _)
+fit_receiving g s l = fit_then _ _ (fit_told receiving _ (fit_converse (bound_of g) (terms_in g s l))) (λ r. fit_ends _)
 
 fit_conversation : (g : Given) (s : State) → IsFit (conversation g s)
 unfolding conversation
-fit_conversation g s = fit_then _ _ (fit_told preparing _ (fit_list (bound_of g) g.remote g.options.map)) (fit_receiving g s)
+fit_conversation g s = fit_then _ _ (fit_told preparing _ (fit_list (bound_of g) (inquiry_in g))) (fit_receiving g s)
 
 -- ---- the requests
 
-are_if : (b : Bool) (lines : List Line) → AreSent lines → AreSent (if b then lines else [])
-are_if true lines h = h
-are_if false lines h = none_are
-
 requests_are : (g : Given) (s : State) (stream : List ℕ) → AreSent (requests_in g s stream)
 unfolding requests_in
-requests_are g s stream = are_if (is_in_form g s) _ (fit_sent (bound_of g) (conversation g s) stream (fit_conversation g s))
+requests_are g s stream = fit_sent (bound_of g) (conversation g s) stream (fit_conversation g s)
 
 pub requests_heard : (s : Scene) → lines_heard (requests_of s) ≡ requests_in (given_of s) (found_of s) (stream_of s)
 requests_heard s = heard_as_sent (requests_in (given_of s) (found_of s) (stream_of s)) (requests_are (given_of s) (found_of s) (stream_of s))

@@ -1,6 +1,6 @@
--- A fetch from a peer that says these bytes and never fails.
+-- A fetch with these worktrees, from a peer that says these bytes; neither fails.
 use Rattle.std.specs.Prelude.{◌≡◌, ℕ, List, Result, Ok, Err, ⊤}
-use Rattle.fetch_wire.specs.Talks.{IsFront}
+use Rattle.fetch_update.specs.declared.worktrees.Worktree.{Worktree}
 use Rattle.fetch_wire.specs.Written.{lines_text}
 use Rattle.fetch_remote.specs.Fetching.{fetched_in, requests_in, left_in}
 use Rattle.fetch_remote.specs.Form.{Given}
@@ -10,26 +10,26 @@ use Rattle.fetch_remote.specs.declared.fetch_error.FetchError.TheVariants as err
 use Rattle.fetch_remote.specs.declared.outcome.Outcome.{Outcome}
 
 -- It was done, and the peer heard all requests.
-pub record HasDone (g : Given) (found : State) (stream : List ℕ) (outcome : Outcome) (left : State) (heard : List ℕ) : Type 0 where
-  pub fetched : fetched_in g found stream ≡ Ok (outcome, left)
+pub record HasDone (g : Given) (trees : List Worktree) (found : State) (stream : List ℕ) (outcome : Outcome) (left : State) (heard : List ℕ) : Type 0 where
+  pub fetched : fetched_in g trees found stream ≡ Ok (outcome, left)
   pub requests : heard ≡ lines_text (requests_in g found stream)
 
--- It was refused, and the peer heard a front of the requests.
-pub record HasRefused (g : Given) (found : State) (stream : List ℕ) (e : FetchError) (now : State) (heard : List ℕ) : Type 0 where
-  pub fetched : fetched_in g found stream ≡ Err e
+-- It was refused, and the peer heard all requests up to that.
+pub record HasRefused (g : Given) (trees : List Worktree) (found : State) (stream : List ℕ) (e : FetchError) (now : State) (heard : List ℕ) : Type 0 where
+  pub fetched : fetched_in g trees found stream ≡ Err e
   pub left : now ≡ left_in g found stream
-  pub front : IsFront heard (lines_text (requests_in g found stream))
+  pub requests : heard ≡ lines_text (requests_in g found stream)
 
--- The peer doesn't fail; memory may.
-abbrev pub HasRefusedBy : Given → State → List ℕ → FetchError → State → List ℕ → Type 0
-HasRefusedBy g found stream errors.NoMemory left heard = ⊤
-HasRefusedBy g found stream errors.Unbuilt left heard = HasRefused g found stream errors.Unbuilt left heard
-HasRefusedBy g found stream (errors.Prepare e) left heard = HasRefused g found stream (errors.Prepare e) left heard
-HasRefusedBy g found stream (errors.Receive e) left heard = HasRefused g found stream (errors.Receive e) left heard
+-- Neither the peer nor the worktrees fail, and nobody interrupts; memory may run out.
+abbrev pub HasRefusedBy : Given → List Worktree → State → List ℕ → FetchError → State → List ℕ → Type 0
+HasRefusedBy g trees found stream errors.NoMemory left heard = ⊤
+HasRefusedBy g trees found stream errors.Unbuilt left heard = HasRefused g trees found stream errors.Unbuilt left heard
+HasRefusedBy g trees found stream (errors.Prepare e) left heard = HasRefused g trees found stream (errors.Prepare e) left heard
+HasRefusedBy g trees found stream (errors.Receive e) left heard = HasRefused g trees found stream (errors.Receive e) left heard
 
-abbrev pub HasFetchedBy : Given → State → List ℕ → Result Outcome FetchError → State → List ℕ → Type 0
-HasFetchedBy g found stream (Ok outcome) left heard = HasDone g found stream outcome left heard
-HasFetchedBy g found stream (Err e) left heard = HasRefusedBy g found stream e left heard
+abbrev pub HasFetchedBy : Given → List Worktree → State → List ℕ → Result Outcome FetchError → State → List ℕ → Type 0
+HasFetchedBy g trees found stream (Ok outcome) left heard = HasDone g trees found stream outcome left heard
+HasFetchedBy g trees found stream (Err e) left heard = HasRefusedBy g trees found stream e left heard
 
-pub record HasFetched (g : Given) (found : State) (stream : List ℕ) (result : Result Outcome FetchError) (left : State) (heard : List ℕ) : Type 0 where
-  pub by : HasFetchedBy g found stream result left heard
+pub record HasFetched (g : Given) (trees : List Worktree) (found : State) (stream : List ℕ) (result : Result Outcome FetchError) (left : State) (heard : List ℕ) : Type 0 where
+  pub by : HasFetchedBy g trees found stream result left heard

@@ -1,6 +1,7 @@
 pub mod Ends
 pub mod SceneLines
 pub mod Gives
+pub mod Memory
 pub mod Numbers
 pub mod SceneHead
 pub mod LineKinds

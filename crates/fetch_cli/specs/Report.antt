@@ -9,7 +9,6 @@ use Rattle.fetch_specs.specs.Specs.{Spec}
 use Rattle.fetch_refs.specs.Logs.{lines_of}
 use Rattle.fetch_refs.specs.Names.{Names, Logs, RefsValue}
 use Rattle.fetch_refs.specs.declared.log.Signature.{Signature}
-use Rattle.fetch_wire.specs.Talks.{IsFront}
 use Rattle.fetch_wire.specs.Written.{lines_text}
 use Rattle.fetch_wire.specs.declared.line.Line.{Line}
 use Rattle.fetch_wire.specs.declared.mapping.Mapping.{Mapping}
@@ -17,6 +16,7 @@ use Rattle.fetch_update.specs.declared.update.Outcome.{Outcome as Updates}
 use Rattle.fetch_update.specs.declared.update.Update.{Update}
 use Rattle.fetch_remote.specs.Fetching.{fetched_in, requests_in, left_in}
 use Rattle.fetch_remote.specs.Form.{Given}
+use Rattle.fetch_remote.specs.Remotes.{nameless}
 use Rattle.fetch_remote.specs.Repositories.{State, logging_of}
 use Rattle.fetch_remote.specs.declared.fetch_error.FetchError.{FetchError}
 use Rattle.fetch_remote.specs.declared.fetch_error.FetchError.TheVariants as errors
@@ -50,9 +50,13 @@ fetch_options o extra = record {
 -- the remote with its one address, the options, and what is read of the repository
 abbrev pub given_of : Scene → Given
 given_of s = record {
-  remote = record { urls = s.address ∷ []; fetch_specs = s.specs; tags = s.tags };
+  remote = nameless (s.address ∷ []) s.specs s.tags;
   options = fetch_options s.options s.extra;
   setup = record {
+    base = record { meta = s.config.meta; sections = [] };
+    local = s.config;
+    overrides = [];
+    workdir = s.workdir;
     settings = record { kind = s.hash; config = s.config; lenient = s.lenient; git_dir = s.git_dir; committer = committer };
     logging = logging_of s.config s.workdir;
   };
@@ -77,7 +81,7 @@ abbrev pub stream_of : Scene → List ℕ
 stream_of s = concat s.pieces
 
 abbrev pub fetched_by : Scene → Result (Outcome × State) FetchError
-fetched_by s = fetched_in (given_of s) (found_of s) (stream_of s)
+fetched_by s = fetched_in (given_of s) s.worktrees (found_of s) (stream_of s)
 
 abbrev pub requests_of : Scene → List ℕ
 requests_of s = lines_text (requests_in (given_of s) (found_of s) (stream_of s))
@@ -162,25 +166,13 @@ pub record Tells (old new : List ℕ) (status : ℕ) (result : Result Outcome Fe
   pub known : result ≢ Err errors.NoMemory
   pub added : new ≡ old ++ text
 
--- the report of a scene whose peer heard these bytes
-unfoldable pub report_by : Scene → List ℕ → ℕ × List ℕ
-report_by s heard = report_with (lines_heard heard) (fetched_by s) (left_by s)
-
--- the report of a scene: all requests were sent
+-- the report of a scene: the requests for all that its peer says were sent
 unfoldable pub report_of : Scene → ℕ × List ℕ
 report_of s = report_with (requests_in (given_of s) (found_of s) (stream_of s)) (fetched_by s) (left_by s)
 
--- A refused fetch may have sent a front of its requests.
-pub record IsRefusedReport (s : Scene) (text : List ℕ) : Type 0 where
-  pub heard : List ℕ
-  pub front : IsFront heard (requests_of s)
-  pub is : report_by s heard ≡ (1, text)
-
--- The status and the text are the report of the scene. At status 1, which is a refusal, a front of the requests may have
--- been sent.
+-- The status and the text are the report of the scene.
 pub record IsReport (s : Scene) (status : ℕ) (text : List ℕ) : Type 0 where
-  pub whole : status ≢ 1 → report_of s ≡ (status, text)
-  pub refused : status ≡ 1 → IsRefusedReport s text
+  pub whole : report_of s ≡ (status, text)
 
 -- The report of the scene stands behind what was there.
 pub record Reports (s : Scene) (old new : List ℕ) (status : ℕ) : Type 0 where

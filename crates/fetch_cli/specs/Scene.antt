@@ -36,11 +36,11 @@ bytes_in p = unwrap_or (payload_of p.line) []
 unfoldable pub objects_in : Kind → List Placed → Option Entries
 objects_in hash payloads = option_map (λ pack. pack.objects) (result_ok (read hash (flat_map bytes_in payloads)))
 
--- A pack that breaks is malformed at its first payload, or at the delimiter where it has none.
+-- A pack that breaks is malformed at its first payload, or at the line behind it where it has none; whatever follows.
 unfoldable pub objects_of : Kind → Lines → Result (Entries × Lines) ℕ
 objects_of hash ls = do
-  divided ← next delimits (behind_group payload_of ls)
   objects ← ok_or (objects_in hash (group_of payload_of ls)) (place_of ls)
+  divided ← next delimits (behind_group payload_of ls)
   Ok (objects, divided.1)
 
 -- the remote: its address, refspecs, tags and further refspecs, the options, and a delimiter

@@ -3,6 +3,8 @@
 use Rattle.std.specs.Prelude.{ℕ, List, ◌++◌, codes, decimal, Option, Some, None}
 use Rattle.fetch_pack.specs.declared.error.PackError.{PackError}
 use Rattle.fetch_pack.specs.declared.error.PackError.TheVariants as pack
+use Rattle.fetch_store.specs.declared.id.Kind.{Kind}
+use Rattle.fetch_store.specs.declared.id.Kind.TheVariants.{Sha1, Sha256}
 use Rattle.fetch_refs.specs.declared.error.RefError.{RefError}
 use Rattle.fetch_refs.specs.declared.error.RefError.TheVariants as refs
 use Rattle.fetch_refs.specs.declared.target.Target.{Target}
@@ -10,14 +12,14 @@ use Rattle.fetch_update.specs.declared.update.Error.{Error as UpdateError}
 use Rattle.fetch_update.specs.declared.update.Error.TheVariants as update
 use Rattle.fetch_wire.specs.declared.error.WireError.{WireError}
 use Rattle.fetch_wire.specs.declared.error.WireError.TheVariants as wire
-use Rattle.fetch_remote.specs.declared.fetch.Error.{Error as ReceiveError}
-use Rattle.fetch_remote.specs.declared.fetch.Error.TheVariants as receive
+use Rattle.fetch_conversation.specs.declared.fetch.Error.{Error as ReceiveError}
+use Rattle.fetch_conversation.specs.declared.fetch.Error.TheVariants as receive
 use Rattle.fetch_remote.specs.declared.fetch_error.FetchError.{FetchError}
 use Rattle.fetch_remote.specs.declared.fetch_error.FetchError.TheVariants as errors
-use Rattle.fetch_remote.specs.declared.prepare.Error.{Error as PrepareError}
-use Rattle.fetch_remote.specs.declared.prepare.Error.TheVariants as prepare
-use Rattle.fetch_remote.specs.declared.ref_map.Error.{Error as RefMapError}
-use Rattle.fetch_remote.specs.declared.ref_map.Error.TheVariants as ref_map
+use Rattle.fetch_conversation.specs.declared.prepare.Error.{Error as PrepareError}
+use Rattle.fetch_conversation.specs.declared.prepare.Error.TheVariants as prepare
+use Rattle.fetch_conversation.specs.declared.ref_map.Error.{Error as RefMapError}
+use Rattle.fetch_conversation.specs.declared.ref_map.Error.TheVariants as ref_map
 use Rattle.fetch_cli.specs.ReportLines.{hex_of, target_text}
 
 -- a name and what it keeps, with a space between
@@ -68,20 +70,35 @@ unfoldable pub ref_map_token : RefMapError → List ℕ
 ref_map_token (ref_map.Handshake e) = wire_token e
 ref_map_token ref_map.Transport = codes "Transport"
 ref_map_token ref_map.Interrupted = codes "Interrupted"
+ref_map_token (ref_map.InitRefMap conflicts) = codes "InitRefMap"
 ref_map_token ref_map.NoMemory = codes "NoMemory"
 
 unfoldable pub prepare_token : PrepareError → List ℕ
 prepare_token prepare.MissingRefSpecs = codes "MissingRefSpecs"
 prepare_token (prepare.RefMap e) = ref_map_token e
-prepare_token prepare.Unbuilt = codes "Unbuilt"
 prepare_token prepare.NoMemory = codes "NoMemory"
 
+-- the name of a hash
+abbrev pub hash_text : Kind → List ℕ
+hash_text Sha1 = codes "sha1"
+hash_text Sha256 = codes "sha256"
+
 unfoldable pub receive_token : ReceiveError → List ℕ
+receive_token (receive.NoMapping refspecs count) = keeping (codes "NoMapping") (decimal count)
+receive_token (receive.IncompatibleObjectHash local remote) = keeping (keeping (codes "IncompatibleObjectHash") (hash_text local)) (hash_text remote)
+receive_token (receive.Disconnected link) = keeping (keeping (codes "Disconnected") (hex_of link.from)) (hex_of link.to)
+receive_token (receive.RejectShallowRemoteConfig value) = keeping (codes "RejectShallowRemoteConfig") value
+receive_token (receive.NegotiationAlgorithmConfig value) = keeping (codes "NegotiationAlgorithmConfig") value
+receive_token (receive.PackThreads value) = keeping (codes "PackThreads") value
 receive_token (receive.Fetch e) = wire_token e
 receive_token receive.Client = codes "Client"
+receive_token receive.Interrupted = codes "Interrupted"
+receive_token (receive.RejectShallowRemote id) = keeping (codes "RejectShallowRemote") (hex_of id)
 receive_token (receive.Pack e) = pack_token e
 receive_token (receive.Collision id) = keeping (codes "Collision") (hex_of id)
+receive_token (receive.KeepFile path) = keeping (codes "KeepFile") path
 receive_token (receive.UpdateRefs e) = update_token e
+receive_token (receive.RemovePackKeepFile path) = keeping (codes "RemovePackKeepFile") path
 receive_token receive.Unbuilt = codes "Unbuilt"
 receive_token receive.NoMemory = codes "NoMemory"
 

@@ -41,9 +41,9 @@ pub(crate) struct Fetched {
     peer: ScriptedPeer,
 }
 
-/// Fetches as it is set up, from a peer that never fails.
+/// Fetches as it is set up, from a peer and with worktrees that never fail.
 fn fetch<R: Threads + Sync>(rt: &R, alloc: Global, setting: Setting) -> Fetched
-    ensures { HasFetched (record { remote = setting.remote; options = setting.options; setup = setup_of setting.repo }) (state_of setting.repo) (concat setting.pieces)
+    ensures { HasFetched (record { remote = setting.remote; options = setting.options; setup = setup_of setting.repo }) setting.worktrees (state_of setting.repo) (concat setting.pieces)
         result.result (state_of result.repo) result.peer.heard }
 {
     let Setting {
@@ -57,7 +57,7 @@ fn fetch<R: Threads + Sync>(rt: &R, alloc: Global, setting: Setting) -> Fetched
     let mut peer = ScriptedPeer::new(alloc, pieces.into_vec(), Vec::new(alloc));
     let mut interrupt = ScriptedInterrupt::new(Vec::new(alloc));
     let mut files = MemoryFiles::new(alloc, Vec::new(alloc));
-    let mut worktrees = ScriptedWorktrees::new(alloc, worktrees.into_vec(), Vec::new(alloc));
+    let mut worktrees = ScriptedWorktrees::new(worktrees.into_vec(), Vec::new(alloc));
     let result = remote.fetch(
         rt,
         alloc,

@@ -1,12 +1,16 @@
 //! A source and a sink in memory.
 
-ghost use Rattle.std.specs.Prelude.{◌≡◌, ◌≤◌, ◌<◌, ◌+◌, ◌++◌, [], nat_lt, length, Some, take, drop, IfSome};
-ghost use Rattle.fetch_store.specs.Faults.{Faults};
+ghost use Rattle.std.specs.Prelude.{◌≡◌, ◌≤◌, ◌<◌, ◌+◌, ◌++◌, ◌↔◌, ℕ, [], nat_lt, length, Some, take, drop, IfSome, IfOk, OnErr, IsErr, IsErrOf, Contains};
+ghost use Rattle.std.specs.Io.KnownBytes.{ReadConsumes};
+ghost use Rattle.fetch_store.specs.Calls.{one_more, faults_of};
+ghost use Rattle.fetch_store.specs.Faults.{Faults, Rose, Counts};
+ghost use Rattle.fetch_cli.specs.Ends.{Takes};
 
 use crate::program::ends::{Sink, Source};
-use fetch_store::{Failed, Text};
+use fetch_store::{Calls, Failed, Text};
 use fetch_wire::SendFault;
 use std::alloc::Global;
+use std::marker::Model;
 
 /// Copies what stands behind this place to the front of `into`, as far as it fits.
 fn copy_from(bytes: &[u8], place: usize, into: &mut [u8]) -> usize
@@ -26,38 +30,55 @@ fn copy_from(bytes: &[u8], place: usize, into: &mut [u8]) -> usize
 pub struct MemorySource {
     bytes: Text,
     position: usize,
-    failing: Vec<u64>,
-    calls: u64,
-    faults: u64,
-    ghost in_bytes: { position ≤ length bytes },
+    calls: Calls,
+    failed: u64,
+}
+
+impl Model for MemorySource {
+    ghost use Rattle.std.specs.Prelude.{◌≤◌, length, drop};
+    ghost use Rattle.fetch_cli.specs.Memory.{SourceValue};
+
+    ghost Value = { SourceValue };
+
+    ghost view = { λ s. record { left = drop s.position s.bytes; calls = s.calls; failed = s.failed } };
+
+    ghost invariant = { λ s. s.position ≤ length s.bytes };
 }
 
 impl MemorySource {
-    /// A source of these bytes.
+    /// A source of these bytes, whose calls with these numbers fail.
     pub fn new(bytes: Text, failing: Vec<u64>) -> MemorySource
         ensures left { ⟦<MemorySource as Source>⟧.left result ≡ Some bytes }
         ensures faults { ⟦<MemorySource as Source>⟧.faults result ≡ record { count = 0; possible = nat_lt 0 (length failing.items) } }
+        ensures failing { (n : ℕ) → Contains result.calls.listed n ↔ Contains failing.items n }
+        ensures first { result.calls.next ≡ 0 }
     {
         MemorySource {
             bytes,
             position: 0,
-            failing,
-            calls: 0,
-            faults: 0,
+            calls: Calls::new(failing),
+            failed: 0,
         }
     }
 }
 
 impl Source for MemorySource {
-    ghost left = { λ s. Some (drop s.position s.bytes) };
+    ghost left = { λ s. Some s.left };
 
-    ghost faults = { λ s. record { count = s.faults; possible = nat_lt 0 (length s.failing.items) } };
+    ghost faults = { λ s. faults_of s.calls s.failed };
 
-    fn read(&mut self, into: &mut [u8]) -> Result<usize, Failed> {
-        let call = self.calls;
-        self.calls = call.saturating_add(1);
-        if self.failing.contains(&call) {
-            self.faults = self.faults.saturating_add(1);
+    /// Gives what fits, or fails where this call is listed.
+    fn read(&mut self, into: &mut [u8]) -> Result<usize, Failed>
+        ensures bound { IfOk result (λ count. count ≤ length into.new) }
+        ensures bytes { ReadConsumes (Some self.old.left) (Some self.new.left) result into.new }
+        ensures counts { Counts (faults_of self.old.calls self.old.failed) (faults_of self.new.calls self.new.failed) }
+        ensures cause { OnErr result (Rose (faults_of self.old.calls self.old.failed) (faults_of self.new.calls self.new.failed)) }
+        ensures fails { IsErr result ↔ Contains self.old.calls.listed self.old.calls.next }
+        ensures next { self.new.calls.next ≡ one_more self.old.calls.next }
+        ensures listed { self.new.calls.listed ≡ self.old.calls.listed }
+    {
+        if self.calls.count() {
+            self.failed = self.failed.saturating_add(1);
             return Err(Failed);
         }
         let count = copy_from(self.bytes.as_bytes(), self.position, into);
@@ -70,43 +91,57 @@ impl Source for MemorySource {
 #[derive(Debug, Drop)]
 pub struct MemorySink {
     bytes: Vec<u8>,
-    failing: Vec<u64>,
-    calls: u64,
-    faults: u64,
+    calls: Calls,
+    failed: u64,
+}
+
+impl Model for MemorySink {
+    ghost use Rattle.fetch_cli.specs.Memory.{SinkValue};
+
+    ghost Value = { SinkValue };
+
+    ghost view = { λ s. record { taken = s.bytes.items; calls = s.calls; failed = s.failed } };
 }
 
 impl MemorySink {
-    /// A sink that has taken nothing.
+    /// A sink that has taken nothing, whose calls with these numbers fail.
     pub fn new(alloc: Global, failing: Vec<u64>) -> MemorySink
         ensures taken { ⟦<MemorySink as Sink>⟧.taken result ≡ Some [] }
         ensures faults { ⟦<MemorySink as Sink>⟧.faults result ≡ record { count = 0; possible = nat_lt 0 (length failing.items) } }
+        ensures failing { (n : ℕ) → Contains result.calls.listed n ↔ Contains failing.items n }
+        ensures first { result.calls.next ≡ 0 }
     {
         MemorySink {
             bytes: Vec::new(alloc),
-            failing,
-            calls: 0,
-            faults: 0,
+            calls: Calls::new(failing),
+            failed: 0,
         }
     }
 
     /// What was taken so far.
     pub fn bytes(&self) -> &[u8]
-        ensures { ⟦<MemorySink as Sink>⟧.taken self.now ≡ Some result.now }
+        ensures { self.now.taken ≡ result.now }
     {
         &self.bytes
     }
 }
 
 impl Sink for MemorySink {
-    ghost taken = { λ s. Some s.bytes.items };
+    ghost taken = { λ s. Some s.taken };
 
-    ghost faults = { λ s. record { count = s.faults; possible = nat_lt 0 (length s.failing.items) } };
+    ghost faults = { λ s. faults_of s.calls s.failed };
 
-    fn write_all(&mut self, bytes: &[u8]) -> Result<(), SendFault> {
-        let call = self.calls;
-        self.calls = call.saturating_add(1);
-        if self.failing.contains(&call) {
-            self.faults = self.faults.saturating_add(1);
+    /// Takes all bytes, or fails where this call is listed.
+    fn write_all(&mut self, bytes: &[u8]) -> Result<(), SendFault>
+        ensures bytes { Takes (Some self.old.taken) (Some self.new.taken) result bytes.now }
+        ensures counts { Counts (faults_of self.old.calls self.old.failed) (faults_of self.new.calls self.new.failed) }
+        ensures cause { IsErrOf result SendFault.Failed → Rose (faults_of self.old.calls self.old.failed) (faults_of self.new.calls self.new.failed) }
+        ensures fails { IsErrOf result SendFault.Failed ↔ Contains self.old.calls.listed self.old.calls.next }
+        ensures next { self.new.calls.next ≡ one_more self.old.calls.next }
+        ensures listed { self.new.calls.listed ≡ self.old.calls.listed }
+    {
+        if self.calls.count() {
+            self.failed = self.failed.saturating_add(1);
             return Err(SendFault::Failed);
         }
         match self.bytes.extend_from_slice(bytes) {

@@ -2,7 +2,7 @@
 
 ghost use Rattle.std.specs.Prelude.{◌≡◌, ◌≤◌, ◌⊎◌, map, false, IfOk, OnOk, IsErrOf};
 ghost use Rattle.std.specs.Io.KnownBytes.{Appends};
-ghost use Rattle.fetch_store.specs.Faults.{Rose};
+ghost use Rattle.fetch_store.specs.Faults.{Rose, Counts};
 ghost use Rattle.fetch_store.specs.Stores.{AreOf};
 ghost use Rattle.fetch_cli.specs.Report.{IsReport};
 ghost use Rattle.fetch_cli.specs.ReportLines.{malformed_line, malformed_word_line};
@@ -90,6 +90,7 @@ fn answer_to_input<R: Threads + Sync, S: Source>(
 ) -> Result<Answer, Silence>
     ensures answer { IfOk result (λ x. IsInputAnswer (S.left source.old) x.0 x.1.items) }
     ensures unread { IsErrOf result Silence.Unread → Rose (S.faults source.old) (S.faults source.new) }
+    ensures counts { Counts (S.faults source.old) (S.faults source.new) }
 {
     let bytes = match read_all(alloc, source) {
         Ok(bytes) => bytes,
@@ -113,6 +114,7 @@ fn answer<R: Threads + Sync, S: Source>(
 ) -> Result<Answer, Silence>
     ensures answer { IfOk result (λ x. IsAnswer (map (λ word. word.items) words.now) (S.left source.old) x.0 x.1.items) }
     ensures unread { IsErrOf result Silence.Unread → Rose (S.faults source.old) (S.faults source.new) }
+    ensures counts { Counts (S.faults source.old) (S.faults source.new) }
     ensures untouched { asks_fetch (map (λ word. word.items) words.now) ≡ false → source.new ≡ source.old }
 {
     match read_command(words) {
@@ -135,6 +137,8 @@ pub fn run<R: Threads + Sync, S: Source, K: Sink>(
 ) -> u8
     ensures done { result ≡ 0 → Writes (map (λ word. word.items) words.now) (S.left source.old) (K.taken sink.old) (K.taken sink.new) 0 }
     ensures refused { result ≡ 1 → Writes (map (λ word. word.items) words.now) (S.left source.old) (K.taken sink.old) (K.taken sink.new) 1 }
+    ensures reads { Counts (S.faults source.old) (S.faults source.new) }
+    ensures writes { Counts (K.faults sink.old) (K.faults sink.new) }
     ensures read { result ≡ 2 → Rose (S.faults source.old) (S.faults source.new) }
     ensures unread { result ≡ 2 → sink.new ≡ sink.old }
     ensures write { result ≡ 3 → Rose (K.faults sink.old) (K.faults sink.new) }

@@ -5,6 +5,7 @@ ghost use Rattle.std.specs.FinMap as finmap;
 ghost use Rattle.fetch_store.specs.Stores.{AreOf, add_all};
 ghost use Rattle.fetch_refs.specs.Logs.{after};
 ghost use Rattle.fetch_refs.specs.declared.edit.PackedRefs.TheVariants.{Never};
+ghost use Rattle.fetch_remote.specs.Remotes.{nameless};
 ghost use Rattle.fetch_remote.specs.Repositories.{state_of, setup_of, logging_of};
 ghost use Rattle.fetch_cli.specs.Opened as opened;
 ghost use Rattle.fetch_cli.specs.Report as spec;
@@ -161,7 +162,7 @@ fn remote_of(
     specs: List<RefSpec>,
     tags: fetch_specs::Tags,
 ) -> Result<Remote, NoMemory>
-    ensures { IfOk result (λ remote. remote ≡ record { urls = address ∷ []; fetch_specs = specs; tags = tags }) }
+    ensures { IfOk result (λ remote. remote ≡ nameless (address ∷ []) specs tags) }
 {
     let mut urls = List::new(alloc);
     urls.push(address)?;
@@ -183,6 +184,10 @@ fn open(
     requires { store.hash ≡ refs.hash }
     ensures state { IfOk result (λ repo. state_of repo ≡ record { hash = store.hash; objects = store.objects; border = border; refs = refs }) }
     ensures setup { IfOk result (λ repo. setup_of repo ≡ record {
+      base = record { meta = config.meta; sections = [] };
+      local = config;
+      overrides = [];
+      workdir = workdir;
       settings = record { kind = store.hash; config = config; lenient = lenient; git_dir = git_dir; committer = committer };
       logging = logging_of config workdir;
     }) }
@@ -214,6 +219,7 @@ pub(crate) fn set_up(alloc: Global, scene: Scene) -> Result<Setting, NoMemory>
     requires { AreOf scene.hash scene.objects }
     ensures given { IfOk result (λ s. record { remote = s.remote; options = s.options; setup = setup_of s.repo } ≡ spec.given_of scene) }
     ensures found { IfOk result (λ s. state_of s.repo ≡ spec.found_of scene) }
+    ensures worktrees { IfOk result (λ s. s.worktrees ≡ scene.worktrees) }
     ensures pieces { IfOk result (λ s. s.pieces ≡ scene.pieces) }
 {
     let committer = committer(alloc)?;

@@ -8,7 +8,7 @@ use crate::reporting::lines::{append_hex, append_number, append_target};
 use fetch_pack::PackError;
 use fetch_refs::{RefError, Target};
 use fetch_remote::{FetchError, fetch, prepare, ref_map};
-use fetch_store::{NoMemory, ObjectId};
+use fetch_store::{Kind, NoMemory, ObjectId};
 use fetch_update::update;
 use fetch_wire::WireError;
 
@@ -191,6 +191,7 @@ fn append_ref_map(out: &mut Vec<u8>, refusal: &ref_map::Error) -> Result<(), NoM
         ref_map::Error::Handshake(e) => append_wire(out, e),
         ref_map::Error::Transport => append_word(out, b"Transport"),
         ref_map::Error::Interrupted => append_word(out, b"Interrupted"),
+        ref_map::Error::InitRefMap(_) => append_word(out, b"InitRefMap"),
         ref_map::Error::NoMemory => append_word(out, b"NoMemory"),
     }
 }
@@ -202,9 +203,29 @@ fn append_prepare(out: &mut Vec<u8>, refusal: &prepare::Error) -> Result<(), NoM
     match refusal {
         prepare::Error::MissingRefSpecs => append_word(out, b"MissingRefSpecs"),
         prepare::Error::RefMap(e) => append_ref_map(out, e),
-        prepare::Error::Unbuilt => append_word(out, b"Unbuilt"),
         prepare::Error::NoMemory => append_word(out, b"NoMemory"),
     }
+}
+
+/// The name of a hash.
+fn append_kind(out: &mut Vec<u8>, kind: Kind) -> Result<(), NoMemory>
+    ensures { OnOk result (out.new.items ≡ out.old.items ++ spec.hash_text kind) }
+{
+    match kind {
+        Kind::Sha1 => append_word(out, b"sha1"),
+        Kind::Sha256 => append_word(out, b"sha256"),
+    }
+}
+
+#[tactic(auto, unfolding(crate::specs::Tokens::keeping))]
+fn append_kinds(out: &mut Vec<u8>, word: &[u8], local: Kind, remote: Kind) -> Result<(), NoMemory>
+    ensures { OnOk result (out.new.items ≡ out.old.items ++ spec.keeping (spec.keeping word.now (spec.hash_text local)) (spec.hash_text remote)) }
+{
+    out.extend_from_slice(word)?;
+    out.extend_from_slice(b" ")?;
+    append_kind(out, local)?;
+    out.extend_from_slice(b" ")?;
+    append_kind(out, remote)
 }
 
 #[tactic(auto, unfolding(crate::specs::Tokens::receive_token))]
@@ -212,11 +233,42 @@ fn append_receive(out: &mut Vec<u8>, refusal: &fetch::Error) -> Result<(), NoMem
     ensures { OnOk result (out.new.items ≡ out.old.items ++ spec.receive_token refusal.now) }
 {
     match refusal {
+        fetch::Error::NoMapping {
+            num_remote_refs,
+            ..
+        } => append_count(out, b"NoMapping", *num_remote_refs),
+        fetch::Error::IncompatibleObjectHash { local, remote } => {
+            append_kinds(out, b"IncompatibleObjectHash", *local, *remote)
+        }
+        fetch::Error::Disconnected { link } => {
+            append_both(out, b"Disconnected", &link.from, &link.to)
+        }
+        fetch::Error::RejectShallowRemoteConfig { value } => append_text(
+            out,
+            b"RejectShallowRemoteConfig",
+            value.as_bytes(),
+        ),
+        fetch::Error::NegotiationAlgorithmConfig { value } => append_text(
+            out,
+            b"NegotiationAlgorithmConfig",
+            value.as_bytes(),
+        ),
+        fetch::Error::PackThreads { value } => append_text(out, b"PackThreads", value.as_bytes()),
         fetch::Error::Fetch(e) => append_wire(out, e),
         fetch::Error::Client => append_word(out, b"Client"),
+        fetch::Error::Interrupted => append_word(out, b"Interrupted"),
+        fetch::Error::RejectShallowRemote { id } => {
+            append_digits(out, b"RejectShallowRemote", id)
+        }
         fetch::Error::Pack(e) => append_pack(out, e),
         fetch::Error::Collision { id } => append_digits(out, b"Collision", id),
+        fetch::Error::KeepFile { path } => append_text(out, b"KeepFile", path.as_bytes()),
         fetch::Error::UpdateRefs(e) => append_update(out, e),
+        fetch::Error::RemovePackKeepFile { path } => append_text(
+            out,
+            b"RemovePackKeepFile",
+            path.as_bytes(),
+        ),
         fetch::Error::Unbuilt => append_word(out, b"Unbuilt"),
         fetch::Error::NoMemory => append_word(out, b"NoMemory"),
     }

@@ -70,9 +70,9 @@ pub(crate) fn read_objects<'a, R: Threads + Sync>(
 {
     let place = lines.place();
     let (payloads, lines) = lines.payloads();
+    let Some(objects) = read_objects_in(rt, alloc, hash, payloads)? else {
+        return Err(SceneFault::Malformed { place });
+    };
     let (_, lines) = read_next(alloc, &Delimiter, lines)?;
-    match read_objects_in(rt, alloc, hash, payloads)? {
-        Some(objects) => Ok((objects, lines)),
-        None => Err(SceneFault::Malformed { place }),
-    }
+    Ok((objects, lines))
 }

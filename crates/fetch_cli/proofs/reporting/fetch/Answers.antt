@@ -6,5 +6,15 @@ pub returns : goal.returns
 returns g c =
     let told = rw c.into_vec.ensures at c.new-peer.ensures.told in
     let sure = rw c.new.ensures.items at c.new-peer.ensures.faults in
-    fetched _ _ _ _ _ (concat c.args.setting.pieces) c.fetch-result.result told c.fetch-result.ensures.fetched c.fetch-result.ensures.refused
-    (λ e. no_fault _ _ sure c.fetch-result.ensures.counts (c.fetch-result.ensures.transport e)) (λ e. no_fault _ _ sure c.fetch-result.ensures.counts (c.fetch-result.ensures.client e))
+    let calm = rw c.new-2.ensures.items at c.new-interrupt.ensures.count in
+    let trees = rw c.into_vec-2.ensures at c.new-worktrees.ensures.told in
+    let f = c.fetch-result.ensures in
+    fetched _ c.args.setting.worktrees _ _ _ _ (concat c.args.setting.pieces) c.fetch-result.result told (rw trees at f.fetched) (rw trees at f.refused) (record {
+      transport = λ e. no_fault _ _ sure f.counts (f.transport e);
+      interrupted = λ e. no_fault _ _ calm f.asked (f.interrupted e);
+      client = λ e. no_fault _ _ sure f.counts (f.client e);
+      stopped = λ e. no_fault _ _ calm f.asked (f.stopped e);
+      listing = λ e. no_fault _ _ (rw c.new-4.ensures.items at c.new-worktrees.ensures.listing) f.listing_counts (f.listing e);
+      open_repo = λ e. no_fault _ _ (rw c.new-4.ensures.items at c.new-worktrees.ensures.open_repo) f.open_repo_counts (f.open_repo e);
+      follow_symref = λ e. no_fault _ _ (rw c.new-4.ensures.items at c.new-worktrees.ensures.follow_symref) f.follow_symref_counts (f.follow_symref e);
+    })

@@ -5,4 +5,5 @@ use Rattle.fetch_cli.proofs.reporting.report.Goals as goal
 
 pub returns : goal.returns
 returns g c =
-    reports_if c.args.scene _ _ c.append_report.result _ _ _ _ _ _ c.in_ok-setting.ensures.given c.in_ok-setting.ensures.found (ap (λ (pieces : List (List ℕ)). concat pieces) c.in_ok-setting.ensures.pieces) c.fetch-fetched.ensures c.append_report.ensures
+    let setting = c.in_ok-setting.ensures in
+    reports_if c.args.scene _ _ c.append_report.result _ _ _ _ _ _ _ setting.given setting.worktrees setting.found (ap (λ (pieces : List (List ℕ)). concat pieces) setting.pieces) c.fetch-fetched.ensures c.append_report.ensures
