@@ -1,0 +1,105 @@
+-- What fronts of a journal say of the objects.
+use Rattle.std.proofs.Common.{◌≡◌, ◌⊎◌, ◌||◌, true, List, [], ◌∷◌, ◌++◌, Option, None, Some, is_some, inl, inr, ⊎_elim, refl, sym, ap, subst, ◌∙◌}
+use Rattle.std.specs.FinMap.{get, same_map}
+use Rattle.std.specs.FinSet as set
+use Rattle.std.specs.List.{AllByRecursion}
+use Rattle.std.proofs.lemmas.List.Elements.{All-from_recursion}
+use Rattle.fetch_store.specs.declared.id.ObjectId.{ObjectId}
+use Rattle.fetch_store.specs.Borders.{set_of}
+use Rattle.fetch_store.specs.Closed.{Grows}
+use Rattle.fetch_store.specs.Hashing.{id_of}
+use Rattle.fetch_store.specs.Objects.{Stored}
+use Rattle.fetch_store.specs.Stores.{ObjectMap}
+use Rattle.fetch_store.proofs.Growth.{added_cases}
+use Rattle.fetch_store.proofs.Ids.{id_cmp_total, id_cmp_exact}
+use Rattle.fetch_store.proofs.Lists.{All-find}
+use Rattle.fetch_shared.specs.declared.entry.Entry.{Entry}
+use Rattle.fetch_shared.specs.declared.entry.Entry.TheVariants as entries
+use Rattle.fetch_shared.specs.Machine.{Repository, State, Event, effect, after, run}
+use Rattle.fetch_shared.specs.Machine.Event.{Plan, Snapshot, Take, Commit, Delete}
+use Rattle.fetch_shared.specs.Replays.{Outline, outline, played, replay}
+use Rattle.fetch_shared.specs.Fronts.{IsNamedEvent, IsPinned, IsStateOf, IsAlike}
+use Rattle.fetch_shared.proofs.Replays.{contains-ids, replay-append}
+use Rattle.fetch_shared.proofs.Runs.{after_cases, run_grows}
+
+abbrev IsNamed : ObjectId × Stored → Type 0
+IsNamed e = e.0 ≡ id_of e.1.hash e.1.kind e.1.bytes
+
+-- ids stay
+ids_played : (v : Outline) (e : Entry) (q : ObjectId) → set.contains v.ids q ≡ true → set.contains (played v e).ids q ≡ true
+ids_played v (entries.Take pass ids shallow unshallow) q is = set.contains-union id_cmp_total v.ids (set_of ids) q ∙ ap (λ b. b || set.contains (set_of ids) q) is
+ids_played v (entries.Commit pass edits committer) q is = is
+ids_played v (entries.Delete pass names) q is = is
+
+ids_replay : (v : Outline) (es : List Entry) (q : ObjectId) → set.contains v.ids q ≡ true → set.contains (replay v es).ids q ≡ true
+ids_replay v [] q is = is
+ids_replay v (e ∷ es) q is = ids_replay (played v e) es q (ids_played v e q is)
+
+value : (o : Option Stored) → is_some o ≡ true → (x : Stored) × (o ≡ Some x)
+value None is = absurd cc
+value (Some x) is = (x, refl)
+
+-- a longer front has the ids of a shorter one
+pub fronts_grow : (opening : Repository) (front more : List Entry) (before now : Repository) → IsStateOf opening front before → IsStateOf opening (front ++ more) now → IsAlike before.objects now.objects → Grows before.objects now.objects
+fronts_grow opening front more before now at later alike = record {
+  keeps = λ id o is.
+      let old : set.contains (outline before).ids id ≡ true = contains-ids before.objects id ∙ ap is_some is in
+      let then' : set.contains (replay (outline opening) front).ids id ≡ true = subst (λ (v : Outline). set.contains v.ids id ≡ true) at.told old in
+      let on : set.contains (replay (replay (outline opening) front) more).ids id ≡ true = ids_replay (replay (outline opening) front) more id then' in
+      let here : set.contains (outline now).ids id ≡ true = subst (λ (v : Outline). set.contains v.ids id ≡ true) (sym (later.told ∙ replay-append (outline opening) front more)) on in
+      let other : (x : Stored) × (get now.objects id ≡ Some x) = value (get now.objects id) (sym (contains-ids now.objects id) ∙ here) in
+      other.1 ∙ ap (λ (x : Stored). Some x) (sym (alike.same id o other.0 is other.1));
+}
+
+-- each object stood there before, or has its hash as its id
+pub record Brought (before now : ObjectMap) : Type 0 where
+  pub each : (id : ObjectId) (o : Stored) → get now id ≡ Some o → (get before id ≡ Some o) ⊎ IsNamed (id, o)
+
+brought_more : (m n p : ObjectMap) → Brought m n → Brought n p → Brought m p
+brought_more m n p a b = record { each = λ id o is. ⊎_elim (λ was. a.each id o was) (λ own. inr own) (b.each id o is) }
+
+brought_self : (m : ObjectMap) → Brought m m
+brought_self m = record { each = λ id o is. inl is }
+
+pub effect_brought : (s : State) (event : Event) → IsNamedEvent event → Brought s.repository.objects (effect s event).repository.objects
+effect_brought s Plan fit = brought_self s.repository.objects
+effect_brought s Snapshot fit = brought_self s.repository.objects
+effect_brought s (Take pass wants pack) fit = record {
+  each = λ id o is. ⊎_elim (λ was. inl was) (λ new. inr (All-find IsNamed id o pack.objects (All-from_recursion IsNamed pack.objects fit) new)) (added_cases s.repository.objects pack.objects id o is);
+}
+effect_brought s (Commit pass edits committer) fit = brought_self s.repository.objects
+effect_brought s (Delete pass names) fit = brought_self s.repository.objects
+
+run_brought : (s : State) (events : List Event) → AllByRecursion IsNamedEvent events → Brought s.repository.objects (run s events).repository.objects
+run_brought s [] fit = brought_self s.repository.objects
+run_brought s (e ∷ es) fit =
+    brought_more s.repository.objects (after s e).repository.objects (run (after s e) es).repository.objects
+    (after_cases (λ t. Brought s.repository.objects t.repository.objects) s e (brought_self s.repository.objects) (λ ok. effect_brought s e fit.0)) (run_brought (after s e) es fit.1)
+
+pub run_pinned : (s : State) (events : List Event) → AllByRecursion IsNamedEvent events → IsPinned s.repository.objects (run s events).repository.objects
+run_pinned s events fit = record {
+  kept = run_grows s events;
+  named = λ id o none is. ⊎_elim (λ was. let no : None ≡ Some o = sym none ∙ was in absurd cc) (λ named. named) ((run_brought s events fit).each id o is);
+}
+
+-- a front leaves one repository
+module _ (r q : Repository) (told : outline r ≡ outline q) (alike : IsAlike r.objects q.objects) where
+  stored_too : (id : ObjectId) → is_some (get r.objects id) ≡ is_some (get q.objects id)
+  stored_too id = sym (contains-ids r.objects id) ∙ ap (λ (v : Outline). set.contains v.ids id) told ∙ contains-ids q.objects id
+
+  one_object : (id : ObjectId) (a b : Option Stored) → get r.objects id ≡ a → get q.objects id ≡ b → is_some a ≡ is_some b → a ≡ b
+  one_object id None None at here same = refl
+  one_object id None (Some o) at here same = absurd cc
+  one_object id (Some o) None at here same = absurd cc
+  one_object id (Some o) (Some p) at here same = ap (λ (x : Stored). Some x) (alike.same id o p at here)
+
+  same_objects : r.objects ≡ q.objects
+  same_objects = same_map id_cmp_total id_cmp_exact r.objects q.objects (λ id. one_object id (get r.objects id) (get q.objects id) refl refl (stored_too id))
+
+  pub same_repository : r ≡ q
+  same_repository =
+      let objects = same_objects in
+      λ i. record { hash = (told i).hash; objects = objects i; border = (told i).border; refs = (told i).refs; logging = (told i).logging }
+
+pub one_state : (opening : Repository) (front : List Entry) (r q : Repository) → IsStateOf opening front r → IsStateOf opening front q → IsAlike r.objects q.objects → r ≡ q
+one_state opening front r q a b alike = same_repository r q (a.told ∙ sym b.told) alike

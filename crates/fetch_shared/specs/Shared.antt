@@ -1,0 +1,54 @@
+-- What a shared repository shows: what it opened as, what it is now, and its journal.
+use Rattle.std.specs.Prelude.{◌≡◌, List, [], length, Option, None, Some, Result, Ok, Err, ⊤}
+use Rattle.fetch_store.specs.Graph.{graph_of}
+use Rattle.fetch_shared.specs.declared.entry.Entry.{Entry}
+use Rattle.fetch_shared.specs.declared.error.SharedError.{SharedError}
+use Rattle.fetch_shared.specs.declared.error.SharedError.TheVariants as errors
+use Rattle.fetch_specs.specs.declared.tags.Tags.{Tags}
+use Rattle.fetch_wire.specs.declared.mapping.RefMap.{RefMap}
+use Rattle.fetch_negotiate.specs.declared.algorithm.Shallow.{Shallow}
+use Rattle.fetch_negotiate.specs.Tips.{tips_of}
+use Rattle.fetch_negotiate.specs.Wants.{wants_of}
+use Rattle.fetch_shared.specs.declared.plan.Plan.{Plan}
+use Rattle.fetch_shared.specs.declared.plan.Taken.{Taken}
+use Rattle.fetch_shared.specs.Fronts.{IsSound, IsStateOf}
+use Rattle.fetch_shared.specs.Machine.{Repository, State, Event, effect}
+use Rattle.fetch_shared.specs.Replays.{AllMet, outline}
+
+pub record SharedValue : Type 0 where
+  pub opening : Repository
+  pub repository : Repository
+  pub journal : List Entry
+
+abbrev pub opened : Repository → SharedValue
+opened r = record { opening = r; repository = r; journal = [] }
+
+abbrev pub state_of : SharedValue → State
+state_of v = record { repository = v.repository; journal = v.journal }
+
+-- once an event has had its effect
+abbrev pub done : SharedValue → Event → SharedValue
+done v event = record { opening = v.opening; repository = (effect (state_of v) event).repository; journal = (effect (state_of v) event).journal }
+
+-- what a fetch with these mappings, tags and depth is to ask with: the number of entries, and what it wants, the border,
+-- the tips and the graph as they are now
+abbrev pub plan_of : SharedValue → RefMap → Tags → Shallow → Plan
+plan_of v mappings tags shallow =
+    let graph = graph_of v.repository.objects in
+    record { place = length v.journal; wants = wants_of mappings tags shallow graph; border = v.repository.border; tips = tips_of v.repository.refs.names graph; graph = graph }
+
+-- what a fetch is to judge by: the number of entries, the references and the graph as they are now
+abbrev pub snapshot_of : SharedValue → Taken
+snapshot_of v = record { place = length v.journal; refs = v.repository.refs; graph = graph_of v.repository.objects }
+
+-- It is closed, and what the journal leaves of what it opened as. Each commit met its expectations at its place.
+pub record IsKept (v : SharedValue) : Type 0 where
+  pub sound : IsSound v.repository
+  pub state : IsStateOf v.opening v.journal v.repository
+  pub met : AllMet (outline v.opening) v.journal
+
+-- Ok where there is no cause to refuse, and else this cause, or want of memory
+abbrev pub Answers : {X : Type 0} → Option SharedError → Result X SharedError → Type 0
+Answers cause (Ok x) = cause ≡ None
+Answers cause (Err errors.NoMemory) = ⊤
+Answers cause (Err e) = cause ≡ Some e

@@ -1,0 +1,103 @@
+//! Edits and deletions of references.
+
+ghost use Rattle.std.specs.Prelude.{◌≡◌, ◌⊎◌, OnOk, OnErr, IfOk, map};
+ghost use Rattle.fetch_shared.specs.Deletions.{without};
+ghost use Rattle.fetch_shared.specs.Deletions as deletions;
+ghost use Rattle.fetch_shared.specs.Unmet as spec;
+ghost use Rattle.fetch_shared.specs.Machine.{commit_refusal, edited};
+ghost use Rattle.fetch_shared.specs.Shared.{Answers};
+ghost use Rattle.fetch_shared.specs.declared.error.SharedError.TheVariants as errors;
+
+use crate::error::SharedError;
+use fetch_refs::{
+    Change, PackedRefs, PreviousValue, RefEdit, RefError, RefLog, Refs, Signature, Target,
+};
+use fetch_specs::FullName;
+use fetch_store::{NoMemory, Text};
+use std::alloc::Global;
+
+/// Makes the edits, or none of them.
+pub(crate) fn edit(
+    refs: &mut Refs,
+    edits: &[RefEdit],
+    committer: &Signature,
+    logging: bool,
+) -> Result<(), SharedError>
+    ensures ok { OnOk result (refs.new ≡ edited logging refs.old edits.now committer.now) }
+    ensures err { OnErr result (refs.new ≡ refs.old) }
+    ensures refusal { Answers (commit_refusal refs.old.names edits.now) result }
+{
+    match refs.prepare(edits, committer, logging, PackedRefs::Never) {
+        Ok(prepared) => {
+            prepared.commit();
+            Ok(())
+        }
+        Err(cause) => Err(told(edits, cause)),
+    }
+}
+
+/// What is told where edits aren't made ready for this cause.
+fn told(edits: &[RefEdit], cause: RefError) -> SharedError
+    requires { spec.IsOf edits.now cause }
+    ensures { spec.IsTold edits.now cause result }
+{
+    match cause {
+        RefError::Expectation { index, found } => unmet(&edits[index], found),
+        _ => SharedError::NoMemory,
+    }
+}
+
+/// An edit found this, and expects something else.
+fn unmet(edit: &RefEdit, found: Option<Target>) -> SharedError
+    ensures { (result ≡ errors.NoMemory) ⊎ (result ≡ errors.EditReferences edit.now.name found) }
+{
+    match edit.name.try_clone() {
+        Ok(name) => SharedError::EditReferences { name, found },
+        Err(_) => SharedError::NoMemory,
+    }
+}
+
+/// Deletes these names with their reflogs, or none of them.
+#[tactic(auto, using(crate::proofs::Deleted::by_edits))]
+pub(crate) fn delete(refs: &mut Refs, alloc: Global, names: &[FullName]) -> Result<(), NoMemory>
+    ensures ok { OnOk result (refs.new ≡ without refs.old names.now) }
+    ensures err { OnErr result (refs.new ≡ refs.old) }
+{
+    let edits = deletions(alloc, names)?;
+    match edit(refs, edits.as_slice(), &nobody(alloc), false) {
+        Ok(()) => Ok(()),
+        Err(_) => Err(NoMemory),
+    }
+}
+
+fn deletions(alloc: Global, names: &[FullName]) -> Result<Vec<RefEdit>, NoMemory>
+    ensures { IfOk result (λ edits. edits.items ≡ map deletions.deletion names.now) }
+{
+    let mut edits = Vec::with_capacity(alloc, names.len())?;
+    for name in names {
+        edits.push(deletion(name)?)?;
+    }
+    Ok(edits)
+}
+
+fn deletion(name: &FullName) -> Result<RefEdit, NoMemory>
+    ensures { IfOk result (λ edit. edit ≡ deletions.deletion name.now) }
+{
+    Ok(RefEdit {
+        change: Change::Delete {
+            expected: PreviousValue::Any,
+            log: RefLog::AndReference,
+        },
+        name: name.try_clone()?,
+    })
+}
+
+/// Who writes no line.
+fn nobody(alloc: Global) -> Signature {
+    Signature {
+        name: Text::from(Vec::new(alloc)),
+        email: Text::from(Vec::new(alloc)),
+        seconds: 0,
+        offset_minutes: 0,
+    }
+}

@@ -1,0 +1,89 @@
+//! Why a shared repository refuses.
+
+ghost use Rattle.std.specs.Prelude.{◌≡◌, IfOk};
+
+use fetch_refs::Target;
+use fetch_specs::FullName;
+use fetch_store::{Missing, NoMemory, ObjectId};
+use std::alloc::AllocError;
+use thiserror::Error;
+
+/// Why an event of a shared repository isn't allowed, or why a repository can't be shared.
+#[derive(Debug, Drop, Error)]
+pub enum SharedError {
+    /// The repository isn't closed: this is its first missing link.
+    #[error("the repository has a link to an object that is not stored")]
+    NotClosed {
+        link: Missing,
+    },
+    /// The pack would leave a link missing: this is the first.
+    #[error("the pack has a link to an object that is not stored")]
+    Disconnected {
+        link: Missing,
+    },
+    /// Another object has this id.
+    #[error("another object has this id")]
+    Collision {
+        id: ObjectId,
+    },
+    /// An edit expects something else than what stands at its name.
+    #[error("a reference is not as expected")]
+    EditReferences {
+        /// The name of the first such edit.
+        name: FullName,
+        /// What stands there.
+        found: Option<Target>,
+    },
+    /// Memory ran out.
+    #[error("out of memory")]
+    NoMemory,
+}
+
+impl SharedError {
+    /// A copy of the error.
+    pub fn try_clone(&self) -> Result<SharedError, NoMemory>
+        ensures { IfOk result (λ copy. copy ≡ self.now) }
+    {
+        match self {
+            SharedError::NotClosed { link } => Ok(SharedError::NotClosed { link: *link }),
+            SharedError::Disconnected { link } => Ok(SharedError::Disconnected { link: *link }),
+            SharedError::Collision { id } => Ok(SharedError::Collision { id: *id }),
+            SharedError::EditReferences { name, found } => Ok(SharedError::EditReferences {
+                name: name.try_clone()?,
+                found: copy_of(found)?,
+            }),
+            SharedError::NoMemory => Ok(SharedError::NoMemory),
+        }
+    }
+}
+
+fn copy_of(found: &Option<Target>) -> Result<Option<Target>, NoMemory>
+    ensures { IfOk result (λ copy. copy ≡ found.now) }
+{
+    match found {
+        Some(target) => Ok(Some(target.try_clone()?)),
+        None => Ok(None),
+    }
+}
+
+impl From<NoMemory> for SharedError {
+    ghost use Rattle.std.specs.Prelude.{◌≡◌};
+    ghost use Rattle.fetch_shared.specs.declared.error.SharedError.TheVariants as errors;
+
+    ghost from_gives = { λ _ e. e ≡ errors.NoMemory };
+
+    fn from(_e: NoMemory) -> SharedError {
+        SharedError::NoMemory
+    }
+}
+
+impl From<AllocError> for SharedError {
+    ghost use Rattle.std.specs.Prelude.{◌≡◌};
+    ghost use Rattle.fetch_shared.specs.declared.error.SharedError.TheVariants as errors;
+
+    ghost from_gives = { λ _ e. e ≡ errors.NoMemory };
+
+    fn from(_e: AllocError) -> SharedError {
+        SharedError::NoMemory
+    }
+}

@@ -1,0 +1,95 @@
+//! Packs that are about to be taken.
+
+ghost use Rattle.std.specs.Prelude.{◌≡◌, IfOk, None, map};
+ghost use Rattle.fetch_store.specs.Borders as borders;
+ghost use Rattle.fetch_store.specs.Closed.{holding};
+ghost use Rattle.fetch_store.specs.Graph.{graph_of};
+ghost use Rattle.fetch_store.specs.References.{pack_of};
+ghost use Rattle.fetch_store.specs.Stores.{AreOf, add_all, collision};
+ghost use Rattle.fetch_shared.specs.Machine.{take_refusal};
+ghost use Rattle.fetch_shared.specs.Shared.{Answers};
+ghost use Rattle.fetch_shared.specs.declared.entry.Entry.TheVariants as entries;
+
+use crate::entry::Entry;
+use crate::error::SharedError;
+use fetch_store::{
+    Border, Graph, List, NoMemory, Object, ObjectId, Store, StoreError, Take, first_missing_of_take,
+};
+use std::alloc::Global;
+
+/// Whether nothing is against this take: a collision, or else what it would leave missing.
+pub(crate) fn judge(
+    alloc: Global,
+    store: &Store,
+    border: &Border,
+    take: &Take<'_>,
+) -> Result<(), SharedError>
+    ensures { Answers (take_refusal (holding store.now.objects border.now) take.now.wants.now (pack_of take.now)) result }
+{
+    if let Err(StoreError::Collision { id }) = store.check(take.objects) {
+        return Err(SharedError::Collision { id });
+    }
+    match first_missing_of_take(alloc, store, border, take)? {
+        Some(link) => Err(SharedError::Disconnected { link }),
+        None => Ok(()),
+    }
+}
+
+/// The entry of a take.
+pub(crate) fn entry_of(alloc: Global, pass: u64, take: &Take<'_>) -> Result<Entry, NoMemory>
+    ensures { IfOk result (λ entry. entry ≡ entries.Take pass (map (λ e. e.0) take.now.objects.now) take.now.shallow.now take.now.unshallow.now) }
+{
+    Ok(Entry::Take {
+        pass,
+        ids: ids_of(alloc, take.objects)?,
+        shallow: copy(alloc, take.shallow)?,
+        unshallow: copy(alloc, take.unshallow)?,
+    })
+}
+
+fn ids_of(alloc: Global, objects: &[(ObjectId, Object)]) -> Result<List<ObjectId>, NoMemory>
+    ensures { IfOk result (λ ids. ids ≡ map (λ e. e.0) objects.now) }
+{
+    let mut ids = Vec::with_capacity(alloc, objects.len())?;
+    for (id, _) in objects {
+        ids.push(*id)?;
+    }
+    Ok(List::from(ids))
+}
+
+fn copy(alloc: Global, ids: &[ObjectId]) -> Result<List<ObjectId>, NoMemory>
+    ensures { IfOk result (λ copy. copy ≡ ids.now) }
+{
+    Ok(List::from(Vec::from_slice(alloc, ids)?))
+}
+
+/// The border after a take.
+pub(crate) fn merged(
+    alloc: Global,
+    border: &Border,
+    shallow: &[ObjectId],
+    unshallow: &[ObjectId],
+) -> Result<Border, NoMemory>
+    ensures { IfOk result (λ merged. merged ≡ borders.merged border.now shallow.now unshallow.now) }
+{
+    match border.merged(alloc, shallow, unshallow) {
+        Ok(border) => Ok(border),
+        Err(_) => Err(NoMemory),
+    }
+}
+
+/// The graph after a take.
+pub(crate) fn graph_with(
+    alloc: Global,
+    store: &Store,
+    objects: &[(ObjectId, Object)],
+) -> Result<Graph, NoMemory>
+    requires of_hash { AreOf store.now.hash objects.now }
+    requires no_collision { collision store.now.objects objects.now ≡ None }
+    ensures { IfOk result (λ graph. graph ≡ graph_of (add_all store.now.objects objects.now)) }
+{
+    match Graph::of_added(alloc, store, objects) {
+        Ok(graph) => Ok(graph),
+        Err(_) => Err(NoMemory),
+    }
+}
