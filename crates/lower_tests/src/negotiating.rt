@@ -141,6 +141,47 @@ fn a_line_is_told_in_part(rt: HostRuntime) -> Result<(), Fail> {
     Ok(())
 }
 
+/// The names of these commits.
+fn names(alloc: Global, ids: &[ObjectId]) -> Result<Vec<u8>, Fail> {
+    let mut names = Vec::new(alloc);
+    for id in ids {
+        names.extend_from_slice(&id.as_bytes()[..1])?;
+    }
+    Ok(names)
+}
+
+/// A line of twenty fills one window, and the next one is what is left. Where the other side has the tenth, nothing is.
+#[test]
+#[tactic(auto, using(fetch_negotiate::specs::Unread::unread_told))]
+fn a_line_is_told_in_windows(rt: HostRuntime) -> Result<(), Fail> {
+    let alloc = rt.alloc();
+    let store = line(alloc)?;
+    let none = Border::new(alloc);
+    let mut negotiator = AnyNegotiator::new(alloc, Algorithm::Consecutive, &[id(20)], &none)?;
+    let first = negotiator.window(alloc, &store, 16)?;
+    let sixteen = [20, 19, 18, 17, 16, 15, 14, 13, 12, 11, 10, 9, 8, 7, 6, 5];
+    assert!(rt; names(alloc, &first)?.as_slice() == sixteen.as_slice());
+    let mut other = negotiator.try_clone(alloc)?;
+    let rest = negotiator.window(alloc, &store, 32)?;
+    assert!(rt; names(alloc, &rest)?.as_slice() == [4, 3, 2, 1].as_slice());
+    other.in_common(alloc, &store, &id(10))?;
+    assert!(rt; other.window(alloc, &store, 32)?.is_empty());
+    Ok(())
+}
+
+/// Sixteen commits fill a window, and the next one is empty.
+#[test]
+#[tactic(auto, using(fetch_negotiate::specs::Unread::unread_told))]
+fn a_full_window_is_followed_by_an_empty_one(rt: HostRuntime) -> Result<(), Fail> {
+    let alloc = rt.alloc();
+    let store = line(alloc)?;
+    let none = Border::new(alloc);
+    let mut negotiator = AnyNegotiator::new(alloc, Algorithm::Consecutive, &[id(16)], &none)?;
+    assert!(rt; negotiator.window(alloc, &store, 16)?.len() == 16);
+    assert!(rt; negotiator.window(alloc, &store, 32)?.is_empty());
+    Ok(())
+}
+
 /// Of two commits that are as late, the smaller id comes first, and each is told once.
 #[test]
 fn a_merge_is_told_with_both_parents(rt: HostRuntime) -> Result<(), Fail> {

@@ -17,7 +17,7 @@ use std::alloc::Global;
 use std::test::Fail;
 
 /// Local is 1 at 10, remote 3 at 20, and the one in the middle has these seconds.
-fn commits(alloc: Global, seconds: u8) -> Result<Store, Fail>
+pub(crate) fn commits(alloc: Global, seconds: u8) -> Result<Store, Fail>
     ensures { IfOk result (λ store. store.hash ≡ kinds.Sha1) }
 {
     let mut store = Store::new(alloc, Kind::Sha1);
@@ -28,13 +28,13 @@ fn commits(alloc: Global, seconds: u8) -> Result<Store, Fail>
 }
 
 /// One reference and its target.
-fn one_ref(alloc: Global, name: &[u8], new: Target) -> Result<Refs, Fail> {
+pub(crate) fn one_ref(alloc: Global, name: &[u8], new: Target) -> Result<Refs, Fail> {
     let mut refs = Refs::new(alloc, Kind::Sha1);
     put(alloc, &mut refs, name, new)?;
     Ok(refs)
 }
 
-fn put(alloc: Global, refs: &mut Refs, name: &[u8], new: Target) -> Result<(), Fail> {
+pub(crate) fn put(alloc: Global, refs: &mut Refs, name: &[u8], new: Target) -> Result<(), Fail> {
     let edit = RefEdit {
         change: Change::Update {
             log: LogChange {
@@ -59,25 +59,25 @@ fn put(alloc: Global, refs: &mut Refs, name: &[u8], new: Target) -> Result<(), F
     Ok(())
 }
 
-fn to(alloc: Global, name: &[u8]) -> Result<Target, Fail> {
+pub(crate) fn to(alloc: Global, name: &[u8]) -> Result<Target, Fail> {
     Ok(Target::Symbolic(FullName::new(alloc, name)?))
 }
 
-fn born(alloc: Global, object: ObjectId) -> Result<Ref, Fail> {
+pub(crate) fn born(alloc: Global, object: ObjectId) -> Result<Ref, Fail> {
     Ok(Ref::Direct {
         full_ref_name: Text::new(alloc, b"refs/heads/main")?,
         object,
     })
 }
 
-fn unborn(alloc: Global, target: &[u8]) -> Result<Ref, Fail> {
+pub(crate) fn unborn(alloc: Global, target: &[u8]) -> Result<Ref, Fail> {
     Ok(Ref::Unborn {
         full_ref_name: Text::new(alloc, b"HEAD")?,
         target: Text::new(alloc, target)?,
     })
 }
 
-fn checked_out(alloc: Global, directory: &[u8]) -> Result<Worktree, Fail> {
+pub(crate) fn checked_out(alloc: Global, directory: &[u8]) -> Result<Worktree, Fail> {
     Ok(Worktree {
         branch: FullName::new(alloc, b"refs/heads/main")?,
         directory: Text::new(alloc, directory)?,
@@ -132,7 +132,7 @@ impl Case<'_> {
 }
 
 /// The mode as it is printed, and the message of the edit if there is one.
-fn told(alloc: Global, outcome: &Outcome) -> Result<Text, Fail> {
+pub(crate) fn told(alloc: Global, outcome: &Outcome) -> Result<Text, Fail> {
     let mut text = Vec::new(alloc);
     for update in outcome.updates.as_slice() {
         let mode = format!(in alloc; "{}", update.mode)?;
@@ -384,16 +384,6 @@ fn unborn_references_are_told(rt: HostRuntime) -> Result<(), Fail> {
             assert!(rt; told(alloc, &outcome)?.as_bytes() == expected);
         }
     }
-    Ok(())
-}
-
-/// A tag that nothing led to, where tags come with what they name.
-#[test]
-fn an_unrelated_tag_is_told(rt: HostRuntime) -> Result<(), Fail> {
-    let alloc = rt.alloc();
-    let mode = Mode::ImplicitTagNotSentByRemote;
-    let text = format!(in alloc; "{mode}")?;
-    assert!(rt; text.as_bytes() == b"unrelated tag on remote".as_slice());
     Ok(())
 }
 

@@ -2,8 +2,20 @@
 #![tactic(auto)]
 
 #[cfg(test)]
-mod listing;
+mod cuts;
+#[cfg(test)]
+mod ends;
+#[cfg(test)]
+mod fetching;
+#[cfg(test)]
+mod fixture;
+#[cfg(test)]
+mod refusals;
 #[cfg(test)]
 mod running;
 #[cfg(test)]
 mod scenes;
+#[cfg(test)]
+mod second_hash;
+#[cfg(test)]
+mod sharing;

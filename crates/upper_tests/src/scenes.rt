@@ -59,6 +59,14 @@ fn places_of_what_is_no_configuration(rt: HostRuntime) -> Result<(), Fail> {
     Ok(())
 }
 
+/// A pack that is none, in front of a flush where the remote should follow, is told before that flush.
+#[test]
+fn the_place_of_what_is_no_pack(rt: HostRuntime) -> Result<(), Fail> {
+    let bytes = b"000cscene 1\n000ehash sha1\n0014git-dir /w/.git\n00010005x0000";
+    assert_eq!(rt; place_in(&rt, rt.alloc(), bytes), Some(50));
+    Ok(())
+}
+
 #[test]
 fn reads_to_the_end(rt: HostRuntime) -> Result<(), Fail> {
     let alloc = rt.alloc();
