@@ -6,14 +6,16 @@ use Rattle.fetch_store.specs.Closed.{IsClosed, AreAllOf, holding}
 use Rattle.fetch_store.specs.Honest.{Pack}
 use Rattle.fetch_store.specs.Stores.{ObjectMap, Entries, add_all}
 use Rattle.fetch_store.proofs.Growth.{grows_self, grows_trans}
+use Rattle.fetch_remote.specs.RepositoryValues.{RepositoryValue}
+use Rattle.fetch_remote.specs.Repositories as repositories
 use Rattle.fetch_shared.specs.declared.entry.Entry.{Entry}
 use Rattle.fetch_shared.specs.Fronts.{IsPinned, IsEventOf, IsNamedEvent}
-use Rattle.fetch_shared.specs.Machine.{Repository, State, Event, refusal, effect, held, take_refusal, with_pack}
+use Rattle.fetch_shared.specs.Machine.{State, Event, refusal, effect, held, take_refusal, with_pack}
 use Rattle.fetch_shared.specs.Replays.{Tells, outline}
 use Rattle.fetch_shared.specs.Shared.{SharedValue, IsKept, state_of, done, opened}
 use Rattle.fetch_shared.proofs.Fronts.{Brought, effect_brought}
 use Rattle.fetch_shared.proofs.Replays.{effect_tells}
-use Rattle.fetch_shared.proofs.Runs.{effect_closed, effect_grows, effect_hash, effect_of}
+use Rattle.fetch_shared.proofs.Runs.{effect_closed, effect_grows, effect_hash, effect_of, effect_setup}
 
 pinned_on : (m n p : ObjectMap) → IsPinned m n → IsPinned n p → Brought n p → IsPinned m p
 pinned_on m n p a b brought = record {
@@ -21,39 +23,41 @@ pinned_on m n p a b brought = record {
   named = λ id o none is. ⊎_elim (λ was. a.named id o none was) (λ own. own) (brought.each id o is);
 }
 
-pinned_by : (s : State) (event : Event) → IsNamedEvent event → IsPinned s.repository.objects (effect s event).repository.objects
+pinned_by : (s : State) (event : Event) → IsNamedEvent event → IsPinned s.repository.state.objects (effect s event).repository.state.objects
 pinned_by s event named = record {
   kept = effect_grows s event;
   named = λ id o none is. ⊎_elim (λ was. let no : None ≡ Some o = sym none ∙ was in absurd cc) (λ own. own) ((effect_brought s event named).each id o is);
 }
 
-pub kept_done : (v : SharedValue) (event : Event) → IsKept v → IsEventOf v.repository.hash event → IsNamedEvent event → refusal (state_of v) event ≡ None → IsKept (done v event)
+pub kept_done : (v : SharedValue) (event : Event) → IsKept v → IsEventOf v.repository.state.hash event → IsNamedEvent event → refusal (state_of v) event ≡ None → IsKept (done v event)
 kept_done v event kept of named ok =
     let tells : Tells (outline v.opening) (effect (state_of v) event) = effect_tells (outline v.opening) (state_of v) event (record { replays = kept.state.told; met = kept.met }) ok in
     record {
+      setup = effect_setup (state_of v) event ∙ kept.setup;
       sound = record {
         closed = effect_closed (state_of v) event kept.sound.closed ok;
-        of_hash = subst (λ h. AreAllOf h (effect (state_of v) event).repository.objects) (sym (effect_hash (state_of v) event)) (effect_of v.repository.hash (state_of v) event of kept.sound.of_hash);
+        of_hash = subst (λ h. AreAllOf h (effect (state_of v) event).repository.state.objects) (sym (effect_hash (state_of v) event)) (effect_of v.repository.state.hash (state_of v) event of kept.sound.of_hash);
       };
       state = record {
         told = tells.replays;
-        pinned = pinned_on v.opening.objects v.repository.objects (effect (state_of v) event).repository.objects kept.state.pinned (pinned_by (state_of v) event named) (effect_brought (state_of v) event named);
+        pinned = pinned_on v.opening.state.objects v.repository.state.objects (effect (state_of v) event).repository.state.objects kept.state.pinned (pinned_by (state_of v) event named) (effect_brought (state_of v) event named);
       };
       met = tells.met;
     }
 
-pub kept_now : (v now : SharedValue) (event : Event) → IsKept v → IsEventOf v.repository.hash event → IsNamedEvent event → refusal (state_of v) event ≡ None → now ≡ done v event → IsKept now
+pub kept_now : (v now : SharedValue) (event : Event) → IsKept v → IsEventOf v.repository.state.hash event → IsNamedEvent event → refusal (state_of v) event ≡ None → now ≡ done v event → IsKept now
 kept_now v now event kept of named ok is = subst IsKept (sym is) (kept_done v event kept of named ok)
 
-pub kept_opened : (r : Repository) → IsClosed (held r) → AreAllOf r.hash r.objects → IsKept (opened r)
+pub kept_opened : (r : RepositoryValue) → IsClosed (held r) → AreAllOf r.state.hash r.state.objects → IsKept (opened r)
 kept_opened r closed of = record {
+  setup = refl;
   sound = record { closed = closed; of_hash = of };
-  state = record { told = refl; pinned = record { kept = grows_self r.objects; named = λ id o none is. let no : None ≡ Some o = sym none ∙ is in absurd cc } };
+  state = record { told = refl; pinned = record { kept = grows_self r.state.objects; named = λ id o none is. let no : None ≡ Some o = sym none ∙ is in absurd cc } };
   met = tt;
 }
 
 -- a value by its parts
-pub value_by : (opening r q : Repository) (xs ys : List Entry) → r ≡ q → xs ≡ ys → ◌≡◌ {A = SharedValue} (record { opening = opening; repository = r; journal = xs }) (record { opening = opening; repository = q; journal = ys })
+pub value_by : (opening r q : RepositoryValue) (xs ys : List Entry) → r ≡ q → xs ≡ ys → ◌≡◌ {A = SharedValue} (record { opening = opening; repository = r; journal = xs }) (record { opening = opening; repository = q; journal = ys })
 value_by opening r q xs ys a b = λ i. record { opening = opening; repository = a i; journal = b i }
 
 -- an entry at the end of a list that has room for it
@@ -65,7 +69,12 @@ pub allowed_by : (m n : ObjectMap) (a b : IdSet) (es fs : Entries) (wants shallo
     → take_refusal (holding n b) wants (record { objects = fs; shallow = shallow; unshallow = unshallow }) ≡ None
 allowed_by m n a b es fs wants shallow unshallow p q r is = sym (λ i. take_refusal (holding (p i) (q i)) wants (record { objects = r i; shallow = shallow; unshallow = unshallow })) ∙ is
 
+-- a repository by its parts
+pub parts : (q : RepositoryValue) (state : repositories.State) (setup : repositories.Setup) → q.state ≡ state → q.setup ≡ setup → q ≡ record { state = state; setup = setup }
+parts q state setup a b = λ i. record { state = a i; setup = b i }
+
 -- what a pack leaves, over the border that was made for it
-pub pack_taken : (r q : Repository) (pack : Pack) (made found : IdSet) → q ≡ record r { objects = add_all r.objects pack.objects; border = made } → made ≡ merged found pack.shallow pack.unshallow → found ≡ r.border → q ≡ with_pack r pack
-pack_taken r q pack made found is border same =
-    is ∙ ap (λ (b : IdSet). record r { objects = add_all r.objects pack.objects; border = b }) (border ∙ ap (λ (b : IdSet). merged b pack.shallow pack.unshallow) same)
+pub pack_taken : (r q : RepositoryValue) (pack : Pack) (made found : IdSet) → q.state ≡ repositories.with_pack r.state pack.objects made → q.setup ≡ r.setup → made ≡ merged found pack.shallow pack.unshallow → found ≡ r.state.border → q ≡ with_pack r pack
+pack_taken r q pack made found is rest border same =
+    parts q (repositories.with_pack r.state pack.objects made) r.setup is rest
+    ∙ ap (λ (b : IdSet). record r { state = repositories.with_pack r.state pack.objects b }) (border ∙ ap (λ (b : IdSet). merged b pack.shallow pack.unshallow) same)

@@ -6,3 +6,9 @@ pub mod Fronts
 pub mod Deleted
 pub mod Unmet
 pub mod Effects
+pub mod Journals
+pub mod Held
+pub mod Views
+pub mod TurnSteps
+pub mod SeatSteps
+pub mod Back

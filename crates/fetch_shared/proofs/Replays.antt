@@ -10,9 +10,10 @@ use Rattle.fetch_store.specs.Objects.{Stored}
 use Rattle.fetch_store.specs.Stores.{id_cmp, ObjectMap, Entries, add_all, first_some}
 use Rattle.fetch_store.proofs.Additions.{get-add_all}
 use Rattle.fetch_store.proofs.Ids.{id_cmp_total, id_cmp_exact}
+use Rattle.fetch_remote.specs.RepositoryValues.{RepositoryValue}
 use Rattle.fetch_shared.specs.declared.entry.Entry.{Entry}
 use Rattle.fetch_shared.specs.declared.entry.Entry.TheVariants as entries
-use Rattle.fetch_shared.specs.Machine.{Repository, State, Event, with_pack, entered, start, run, after, effect, refusal}
+use Rattle.fetch_shared.specs.Machine.{State, Event, with_pack, entered, start, run, after, effect, refusal}
 use Rattle.fetch_shared.specs.Machine.Event.{Plan, Snapshot, Take, Commit, Delete}
 use Rattle.fetch_shared.specs.Replays.{Outline, outline, played, replay, IsMet, AllMet, Tells}
 use Rattle.fetch_shared.proofs.Refusals.{commit_met}
@@ -33,10 +34,10 @@ ids_added m es = set.same_set id_cmp_total id_cmp_exact (set_of (fin.keys (add_a
     ∙ sym (set.contains-union id_cmp_total (set_of (fin.keys m)) (set_of (map (λ e. e.0) es)) q
     ∙ ap₂ (λ x y. x || y) (contains-ids m q) (set.contains-from_list id_cmp_total (map (λ e. e.0) es) q ∙ sym (is_some-find id_cmp q es))))
 
-pub outline-take : (r : Repository) (pass : ℕ) (pack : Pack) → outline (with_pack r pack) ≡ played (outline r) (entries.Take pass (map (λ e. e.0) pack.objects) pack.shallow pack.unshallow)
+pub outline-take : (r : RepositoryValue) (pass : ℕ) (pack : Pack) → outline (with_pack r pack) ≡ played (outline r) (entries.Take pass (map (λ e. e.0) pack.objects) pack.shallow pack.unshallow)
 outline-take r pass pack =
-    let same = ids_added r.objects pack.objects in
-    λ i. record { hash = r.hash; ids = same i; border = merged r.border pack.shallow pack.unshallow; refs = r.refs; logging = r.logging }
+    let same = ids_added r.state.objects pack.objects in
+    λ i. record { hash = r.state.hash; ids = same i; border = merged r.state.border pack.shallow pack.unshallow; refs = r.state.refs; setup = r.setup }
 
 pub replay-append : (v : Outline) (xs ys : List Entry) → replay v (xs ++ ys) ≡ replay (replay v xs) ys
 replay-append v [] ys = refl
@@ -50,7 +51,7 @@ pub met_at : (v : Outline) (front : List Entry) (e : Entry) (rest : List Entry) 
 met_at v [] e rest all = all.0
 met_at v (x ∷ front) e rest all = met_at (played v x) front e rest all.1
 
-tells_more : (v : Outline) (s : State) (r : Repository) (e : Entry) → Tells v s → outline r ≡ played (outline s.repository) e → IsMet s.repository.refs.names e → Tells v (entered s r e)
+tells_more : (v : Outline) (s : State) (r : RepositoryValue) (e : Entry) → Tells v s → outline r ≡ played (outline s.repository) e → IsMet s.repository.state.refs.names e → Tells v (entered s r e)
 tells_more v s r e tells is met = record {
   replays = is ∙ ap (λ o. played o e) tells.replays ∙ sym (replay-append v s.journal (e ∷ []));
   met = met_push v s.journal e tells.met (subst (λ (o : Outline). IsMet o.refs.names e) tells.replays met);
@@ -60,12 +61,12 @@ pub effect_tells : (v : Outline) (s : State) (event : Event) → Tells v s → r
 effect_tells v s Plan tells ok = tells
 effect_tells v s Snapshot tells ok = tells
 effect_tells v s (Take pass wants pack) tells ok = tells_more v s (with_pack s.repository pack) _ tells (outline-take s.repository pass pack) tt
-effect_tells v s (Commit pass edits committer) tells ok = tells_more v s _ (entries.Commit pass edits committer) tells refl (commit_met s.repository.refs.names edits ok)
+effect_tells v s (Commit pass edits committer) tells ok = tells_more v s _ (entries.Commit pass edits committer) tells refl (commit_met s.repository.state.refs.names edits ok)
 effect_tells v s (Delete pass names) tells ok = tells_more v s _ (entries.Delete pass names) tells refl tt
 
 pub run_tells : (v : Outline) (s : State) (events : List Event) → Tells v s → Tells v (run s events)
 run_tells v s [] tells = tells
 run_tells v s (e ∷ es) tells = run_tells v (after s e) es (after_cases (Tells v) s e tells (λ ok. effect_tells v s e tells ok))
 
-pub start_tells : (r : Repository) → Tells (outline r) (start r)
+pub start_tells : (r : RepositoryValue) → Tells (outline r) (start r)
 start_tells r = record { replays = refl; met = tt }

@@ -46,34 +46,46 @@ run_closed s [] closed = closed
 run_closed s (e ∷ es) closed = run_closed (after s e) es (after_closed s e closed)
 
 -- the objects grow
-pub effect_grows : (s : State) (event : Event) → Grows s.repository.objects (effect s event).repository.objects
-effect_grows s Plan = grows_self s.repository.objects
-effect_grows s Snapshot = grows_self s.repository.objects
-effect_grows s (Take pass wants pack) = grows-add_all s.repository.objects pack.objects
-effect_grows s (Commit pass edits committer) = grows_self s.repository.objects
-effect_grows s (Delete pass names) = grows_self s.repository.objects
+pub effect_grows : (s : State) (event : Event) → Grows s.repository.state.objects (effect s event).repository.state.objects
+effect_grows s Plan = grows_self s.repository.state.objects
+effect_grows s Snapshot = grows_self s.repository.state.objects
+effect_grows s (Take pass wants pack) = grows-add_all s.repository.state.objects pack.objects
+effect_grows s (Commit pass edits committer) = grows_self s.repository.state.objects
+effect_grows s (Delete pass names) = grows_self s.repository.state.objects
 
-pub after_grows : (s : State) (event : Event) → Grows s.repository.objects (after s event).repository.objects
-after_grows s event = after_cases (λ t. Grows s.repository.objects t.repository.objects) s event (grows_self s.repository.objects) (λ ok. effect_grows s event)
+pub after_grows : (s : State) (event : Event) → Grows s.repository.state.objects (after s event).repository.state.objects
+after_grows s event = after_cases (λ t. Grows s.repository.state.objects t.repository.state.objects) s event (grows_self s.repository.state.objects) (λ ok. effect_grows s event)
 
-pub run_grows : (s : State) (events : List Event) → Grows s.repository.objects (run s events).repository.objects
-run_grows s [] = grows_self s.repository.objects
-run_grows s (e ∷ es) = grows_trans s.repository.objects (after s e).repository.objects (run (after s e) es).repository.objects (after_grows s e) (run_grows (after s e) es)
+pub run_grows : (s : State) (events : List Event) → Grows s.repository.state.objects (run s events).repository.state.objects
+run_grows s [] = grows_self s.repository.state.objects
+run_grows s (e ∷ es) = grows_trans s.repository.state.objects (after s e).repository.state.objects (run (after s e) es).repository.state.objects (after_grows s e) (run_grows (after s e) es)
 
 -- the hash stays
-pub effect_hash : (s : State) (event : Event) → (effect s event).repository.hash ≡ s.repository.hash
+pub effect_hash : (s : State) (event : Event) → (effect s event).repository.state.hash ≡ s.repository.state.hash
 effect_hash s Plan = refl
 effect_hash s Snapshot = refl
 effect_hash s (Take pass wants pack) = refl
 effect_hash s (Commit pass edits committer) = refl
 effect_hash s (Delete pass names) = refl
 
-pub after_hash : (s : State) (event : Event) → (after s event).repository.hash ≡ s.repository.hash
-after_hash s event = after_cases (λ t. t.repository.hash ≡ s.repository.hash) s event refl (λ ok. effect_hash s event)
+pub after_hash : (s : State) (event : Event) → (after s event).repository.state.hash ≡ s.repository.state.hash
+after_hash s event = after_cases (λ t. t.repository.state.hash ≡ s.repository.state.hash) s event refl (λ ok. effect_hash s event)
 
-pub run_hash : (s : State) (events : List Event) → (run s events).repository.hash ≡ s.repository.hash
+pub run_hash : (s : State) (events : List Event) → (run s events).repository.state.hash ≡ s.repository.state.hash
 run_hash s [] = refl
 run_hash s (e ∷ es) = run_hash (after s e) es ∙ after_hash s e
+
+-- and so does the setup
+pub effect_setup : (s : State) (event : Event) → (effect s event).repository.setup ≡ s.repository.setup
+effect_setup s Plan = refl
+effect_setup s Snapshot = refl
+effect_setup s (Take pass wants pack) = refl
+effect_setup s (Commit pass edits committer) = refl
+effect_setup s (Delete pass names) = refl
+
+pub run_setup : (s : State) (events : List Event) → (run s events).repository.setup ≡ s.repository.setup
+run_setup s [] = refl
+run_setup s (e ∷ es) = run_setup (after s e) es ∙ after_cases (λ t. t.repository.setup ≡ s.repository.setup) s e refl (λ ok. effect_setup s e)
 
 -- and the objects are of that hash
 of_added : (hash : Kind) (m : ObjectMap) (es : Entries) → AreAllOf hash m → AreOf hash es → AreAllOf hash (add_all m es)
@@ -81,17 +93,17 @@ of_added hash m es old new = record {
   each = λ id o is. ⊎_elim (λ was. old.each id o was) (λ brought. All-find (λ e. e.1.hash ≡ hash) id o es (All-of hash es new) brought) (added_cases m es id o is);
 }
 
-pub effect_of : (hash : Kind) (s : State) (event : Event) → IsEventOf hash event → AreAllOf hash s.repository.objects → AreAllOf hash (effect s event).repository.objects
+pub effect_of : (hash : Kind) (s : State) (event : Event) → IsEventOf hash event → AreAllOf hash s.repository.state.objects → AreAllOf hash (effect s event).repository.state.objects
 effect_of hash s Plan fit of = of
 effect_of hash s Snapshot fit of = of
-effect_of hash s (Take pass wants pack) fit of = of_added hash s.repository.objects pack.objects of fit
+effect_of hash s (Take pass wants pack) fit of = of_added hash s.repository.state.objects pack.objects of fit
 effect_of hash s (Commit pass edits committer) fit of = of
 effect_of hash s (Delete pass names) fit of = of
 
-pub after_of : (hash : Kind) (s : State) (event : Event) → IsEventOf hash event → AreAllOf hash s.repository.objects → AreAllOf hash (after s event).repository.objects
-after_of hash s event fit of = after_cases (λ t. AreAllOf hash t.repository.objects) s event of (λ ok. effect_of hash s event fit of)
+pub after_of : (hash : Kind) (s : State) (event : Event) → IsEventOf hash event → AreAllOf hash s.repository.state.objects → AreAllOf hash (after s event).repository.state.objects
+after_of hash s event fit of = after_cases (λ t. AreAllOf hash t.repository.state.objects) s event of (λ ok. effect_of hash s event fit of)
 
-pub run_of : (hash : Kind) (s : State) (events : List Event) → AllByRecursion (IsEventOf hash) events → AreAllOf hash s.repository.objects → AreAllOf hash (run s events).repository.objects
+pub run_of : (hash : Kind) (s : State) (events : List Event) → AllByRecursion (IsEventOf hash) events → AreAllOf hash s.repository.state.objects → AreAllOf hash (run s events).repository.state.objects
 run_of hash s [] fit of = of
 run_of hash s (e ∷ es) fit of = run_of hash (after s e) es fit.1 (after_of hash s e fit.0 of)
 

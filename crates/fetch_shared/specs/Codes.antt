@@ -1,13 +1,9 @@
--- Repositories, edits and journals as data that a model may keep.
+-- Edits and journals as data that a model may keep.
 use Rattle.std.specs.Prelude.{◌≡◌, ℕ, zero, suc, Bool, true, false, ◌⊎◌, List, refl}
 use Rattle.std.proofs.Common.{inl, inr}
 use Rattle.std.specs.Coded.{Coded, code_by, coded_ℕ, coded_bool, coded_list, coded×, coded⊎}
-use Rattle.std.specs.FinMap as map
-use Rattle.fetch_store.specs.declared.id.Kind.{Kind}
 use Rattle.fetch_store.specs.declared.id.ObjectId.{ObjectId}
-use Rattle.fetch_store.specs.Borders.{IdSet, coded_ids}
-use Rattle.fetch_store.specs.Codes.{coded_kind, coded_id, coded_stored}
-use Rattle.fetch_store.specs.Stores.{id_cmp, ObjectMap}
+use Rattle.fetch_store.specs.Codes.{coded_id}
 use Rattle.fetch_refs.specs.declared.edit.Change.{Change}
 use Rattle.fetch_refs.specs.declared.edit.Change.TheVariants.{Update, Delete}
 use Rattle.fetch_refs.specs.declared.edit.LogChange.{LogChange}
@@ -19,16 +15,11 @@ use Rattle.fetch_refs.specs.declared.edit.RefLog.TheVariants.{AndReference, Only
 use Rattle.fetch_refs.specs.declared.log.Signature.{Signature}
 use Rattle.fetch_refs.specs.declared.target.Target.{Target}
 use Rattle.fetch_refs.specs.Codes.{coded_target, coded_signature}
-use Rattle.fetch_refs.specs.Names.{RefsValue, coded_refs}
+use Rattle.fetch_remote.specs.Codes.{coded_repository}
+use Rattle.fetch_remote.specs.RepositoryValues.{RepositoryValue}
 use Rattle.fetch_shared.specs.declared.entry.Entry.{Entry}
 use Rattle.fetch_shared.specs.declared.entry.Entry.TheVariants as entries
-use Rattle.fetch_shared.specs.Machine.{Repository}
 use Rattle.fetch_shared.specs.Shared.{SharedValue}
-
-abbrev pub coded_repository : Coded Repository
-coded_repository =
-    code_by (Kind × (ObjectMap × (IdSet × (RefsValue × Bool)))) (coded× coded_kind (coded× (map.code {R = id_cmp} coded_id coded_stored) (coded× coded_ids (coded× coded_refs coded_bool))))
-    (λ r. (r.hash, (r.objects, (r.border, (r.refs, r.logging))))) (λ p. record { hash = p.0; objects = p.1.0; border = p.1.1.0; refs = p.1.1.1.0; logging = p.1.1.1.1 }) (λ _. refl)
 
 abbrev coded_text : Coded (List ℕ)
 coded_text = coded_list coded_ℕ
@@ -140,5 +131,5 @@ coded_entry =
 
 abbrev pub coded_shared : Coded SharedValue
 coded_shared =
-    code_by (Repository × (Repository × List Entry)) (coded× coded_repository (coded× coded_repository (coded_list coded_entry)))
+    code_by (RepositoryValue × (RepositoryValue × List Entry)) (coded× coded_repository (coded× coded_repository (coded_list coded_entry)))
     (λ v. (v.opening, (v.repository, v.journal))) (λ p. record { opening = p.0; repository = p.1.0; journal = p.1.1 }) (λ _. refl)

@@ -8,15 +8,16 @@ use Rattle.fetch_store.specs.Hashing.{id_of}
 use Rattle.fetch_store.specs.Objects.{Stored}
 use Rattle.fetch_store.specs.Stores.{ObjectMap, AreOf}
 use Rattle.fetch_pack.specs.Once.{AreNamed}
+use Rattle.fetch_remote.specs.RepositoryValues.{RepositoryValue}
 use Rattle.fetch_shared.specs.declared.entry.Entry.{Entry}
-use Rattle.fetch_shared.specs.Machine.{Repository, Event, held}
+use Rattle.fetch_shared.specs.Machine.{Event, held}
 use Rattle.fetch_shared.specs.Machine.Event.{Take}
 use Rattle.fetch_shared.specs.Replays.{outline, replay}
 
 -- a closed repository with objects of its hash
-pub record IsSound (r : Repository) : Type 0 where
+pub record IsSound (r : RepositoryValue) : Type 0 where
   pub closed : IsClosed (held r)
-  pub of_hash : AreAllOf r.hash r.objects
+  pub of_hash : AreAllOf r.state.hash r.state.objects
 
 -- the ids and the objects of a take are of this hash
 abbrev pub IsEventOf : Kind → Event → Type 0
@@ -34,9 +35,9 @@ pub record IsPinned (before now : ObjectMap) : Type 0 where
   pub named : (id : ObjectId) (o : Stored) → map.get before id ≡ None → map.get now id ≡ Some o → id ≡ id_of o.hash o.kind o.bytes
 
 -- the repository that a front of the journal leaves
-pub record IsStateOf (opening : Repository) (front : List Entry) (r : Repository) : Type 0 where
+pub record IsStateOf (opening : RepositoryValue) (front : List Entry) (r : RepositoryValue) : Type 0 where
   pub told : outline r ≡ replay (outline opening) front
-  pub pinned : IsPinned opening.objects r.objects
+  pub pinned : IsPinned opening.state.objects r.state.objects
 
 -- an id that both have has one object
 pub record IsAlike (m n : ObjectMap) : Type 0 where

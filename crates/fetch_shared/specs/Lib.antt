@@ -5,3 +5,10 @@ pub mod Fronts
 pub mod Codes
 pub mod Shared
 pub mod Unmet
+pub mod Journals
+pub mod Numbers
+pub mod Nothing
+pub mod Turns
+pub mod Passes
+pub mod PassCodes
+pub mod Received

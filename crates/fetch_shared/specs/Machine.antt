@@ -2,43 +2,37 @@
 use Rattle.std.specs.Prelude.{◌≡◌, ℕ, Bool, List, [], ◌∷◌, ◌++◌, map, find, Option, None, is_some, option_map, slice_get, if◌then◌else◌}
 use Rattle.std.specs.FinMap as finmap
 use Rattle.std.specs.Option.{option_or}
-use Rattle.fetch_store.specs.declared.id.Kind.{Kind}
 use Rattle.fetch_store.specs.declared.id.ObjectId.{ObjectId}
-use Rattle.fetch_store.specs.Borders.{IdSet, merged}
+use Rattle.fetch_store.specs.Borders.{merged}
 use Rattle.fetch_store.specs.Closed.{Holding, holding}
 use Rattle.fetch_store.specs.Honest.{Pack, Request}
 use Rattle.fetch_store.specs.Missing.{missing}
-use Rattle.fetch_store.specs.Stores.{ObjectMap, add_all, collision}
+use Rattle.fetch_store.specs.Stores.{collision}
 use Rattle.fetch_refs.specs.declared.edit.PackedRefs.TheVariants.{Never}
 use Rattle.fetch_refs.specs.declared.edit.RefEdit.{RefEdit}
 use Rattle.fetch_refs.specs.declared.log.Signature.{Signature}
 use Rattle.fetch_refs.specs.Expectations.{fails}
 use Rattle.fetch_refs.specs.Logs as refs
 use Rattle.fetch_refs.specs.Names.{Names, RefsValue}
+use Rattle.fetch_remote.specs.Repositories as repositories
+use Rattle.fetch_remote.specs.RepositoryValues.{RepositoryValue}
 use Rattle.fetch_shared.specs.declared.entry.Entry.{Entry}
 use Rattle.fetch_shared.specs.declared.entry.Entry.TheVariants as entries
 use Rattle.fetch_shared.specs.declared.error.SharedError.{SharedError}
 use Rattle.fetch_shared.specs.declared.error.SharedError.TheVariants.{Collision, Disconnected, EditReferences}
 use Rattle.fetch_shared.specs.Deletions.{without}
 
--- objects of a hash, the commits whose parents are left aside, the references with their reflogs, and whether the usual
--- names are logged
-pub record Repository : Type 0 where
-  pub hash : Kind
-  pub objects : ObjectMap
-  pub border : IdSet
-  pub refs : RefsValue
-  pub logging : Bool
-
-abbrev pub held : Repository → Holding
-held r = holding r.objects r.border
+-- the objects with their border
+abbrev pub held : RepositoryValue → Holding
+held r = holding r.state.objects r.state.border
 
 -- with the objects of a pack, and with its lines in the border
-abbrev pub with_pack : Repository → Pack → Repository
-with_pack r pack = record r { objects = add_all r.objects pack.objects; border = merged r.border pack.shallow pack.unshallow }
+abbrev pub with_pack : RepositoryValue → Pack → RepositoryValue
+with_pack r pack = record r { state = repositories.with_pack r.state pack.objects (merged r.state.border pack.shallow pack.unshallow) }
 
-abbrev pub with_refs : Repository → RefsValue → Repository
-with_refs r refs = record r { refs = refs }
+-- with these references
+abbrev pub with_refs : RepositoryValue → RefsValue → RepositoryValue
+with_refs r refs = record r { state = repositories.with_refs r.state refs }
 
 -- the references and the reflogs that these edits leave
 abbrev pub edited : Bool → RefsValue → List RefEdit → Signature → RefsValue
@@ -46,10 +40,10 @@ edited logging found edits committer = refs.after committer logging Never found 
 
 -- a repository, and what became of it so far
 pub record State : Type 0 where
-  pub repository : Repository
+  pub repository : RepositoryValue
   pub journal : List Entry
 
-abbrev pub start : Repository → State
+abbrev pub start : RepositoryValue → State
 start r = record { repository = r; journal = [] }
 
 pub data Event : Type 0 where
@@ -76,14 +70,14 @@ abbrev pub refusal : State → Event → Option SharedError
 refusal s Plan = None
 refusal s Snapshot = None
 refusal s (Take pass wants pack) = take_refusal (held s.repository) wants pack
-refusal s (Commit pass edits committer) = commit_refusal s.repository.refs.names edits
+refusal s (Commit pass edits committer) = commit_refusal s.repository.state.refs.names edits
 refusal s (Delete pass names) = None
 
 abbrev pub IsAllowed : State → Event → Type 0
 IsAllowed s event = refusal s event ≡ None
 
 -- the repository becomes this, and the journal has an entry more
-abbrev pub entered : State → Repository → Entry → State
+abbrev pub entered : State → RepositoryValue → Entry → State
 entered s r entry = record { repository = r; journal = s.journal ++ entry ∷ [] }
 
 -- what an event does that is allowed
@@ -92,8 +86,8 @@ effect s Plan = s
 effect s Snapshot = s
 effect s (Take pass wants pack) = entered s (with_pack s.repository pack) (entries.Take pass (map (λ e. e.0) pack.objects) pack.shallow pack.unshallow)
 effect s (Commit pass edits committer) =
-    entered s (with_refs s.repository (edited s.repository.logging s.repository.refs edits committer)) (entries.Commit pass edits committer)
-effect s (Delete pass names) = entered s (with_refs s.repository (without s.repository.refs names)) (entries.Delete pass names)
+    entered s (with_refs s.repository (edited s.repository.setup.logging s.repository.state.refs edits committer)) (entries.Commit pass edits committer)
+effect s (Delete pass names) = entered s (with_refs s.repository (without s.repository.state.refs names)) (entries.Delete pass names)
 
 -- An event that isn't allowed changes nothing.
 abbrev pub after : State → Event → State

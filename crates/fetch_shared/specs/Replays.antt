@@ -1,15 +1,16 @@
 -- What a journal tells of a repository: all but what its objects hold.
-use Rattle.std.specs.Prelude.{◌≡◌, Bool, List, [], ◌∷◌, None, ⊤}
+use Rattle.std.specs.Prelude.{◌≡◌, List, [], ◌∷◌, None, ⊤}
 use Rattle.std.specs.FinMap as map
 use Rattle.std.specs.FinSet as set
 use Rattle.fetch_store.specs.declared.id.Kind.{Kind}
 use Rattle.fetch_store.specs.Borders.{IdSet, set_of, merged}
 use Rattle.fetch_refs.specs.Expectations.{refusal_of}
 use Rattle.fetch_refs.specs.Names.{Names, RefsValue}
+use Rattle.fetch_remote.specs.RepositoryValues.{RepositoryValue, Setup}
 use Rattle.fetch_shared.specs.declared.entry.Entry.{Entry}
 use Rattle.fetch_shared.specs.declared.entry.Entry.TheVariants.{Take, Commit, Delete}
 use Rattle.fetch_shared.specs.Deletions.{without}
-use Rattle.fetch_shared.specs.Machine.{Repository, State, edited}
+use Rattle.fetch_shared.specs.Machine.{State, edited}
 
 -- a repository without what its objects hold
 pub record Outline : Type 0 where
@@ -17,15 +18,15 @@ pub record Outline : Type 0 where
   pub ids : IdSet
   pub border : IdSet
   pub refs : RefsValue
-  pub logging : Bool
+  pub setup : Setup
 
-abbrev pub outline : Repository → Outline
-outline r = record { hash = r.hash; ids = set_of (map.keys r.objects); border = r.border; refs = r.refs; logging = r.logging }
+abbrev pub outline : RepositoryValue → Outline
+outline r = record { hash = r.state.hash; ids = set_of (map.keys r.state.objects); border = r.state.border; refs = r.state.refs; setup = r.setup }
 
 -- what an entry makes of it
 abbrev pub played : Outline → Entry → Outline
 played v (Take pass ids shallow unshallow) = record v { ids = set.union v.ids (set_of ids); border = merged v.border shallow unshallow }
-played v (Commit pass edits committer) = record v { refs = edited v.logging v.refs edits committer }
+played v (Commit pass edits committer) = record v { refs = edited v.setup.logging v.refs edits committer }
 played v (Delete pass names) = record v { refs = without v.refs names }
 
 -- what entries make of it, one after the other

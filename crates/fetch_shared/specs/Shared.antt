@@ -1,6 +1,7 @@
 -- What a shared repository shows: what it opened as, what it is now, and its journal.
 use Rattle.std.specs.Prelude.{◌≡◌, List, [], length, Option, None, Some, Result, Ok, Err, ⊤}
 use Rattle.fetch_store.specs.Graph.{graph_of}
+use Rattle.fetch_remote.specs.RepositoryValues.{RepositoryValue}
 use Rattle.fetch_shared.specs.declared.entry.Entry.{Entry}
 use Rattle.fetch_shared.specs.declared.error.SharedError.{SharedError}
 use Rattle.fetch_shared.specs.declared.error.SharedError.TheVariants as errors
@@ -12,15 +13,15 @@ use Rattle.fetch_negotiate.specs.Wants.{wants_of}
 use Rattle.fetch_shared.specs.declared.plan.Plan.{Plan}
 use Rattle.fetch_shared.specs.declared.plan.Taken.{Taken}
 use Rattle.fetch_shared.specs.Fronts.{IsSound, IsStateOf}
-use Rattle.fetch_shared.specs.Machine.{Repository, State, Event, effect}
+use Rattle.fetch_shared.specs.Machine.{State, Event, effect}
 use Rattle.fetch_shared.specs.Replays.{AllMet, outline}
 
 pub record SharedValue : Type 0 where
-  pub opening : Repository
-  pub repository : Repository
+  pub opening : RepositoryValue
+  pub repository : RepositoryValue
   pub journal : List Entry
 
-abbrev pub opened : Repository → SharedValue
+abbrev pub opened : RepositoryValue → SharedValue
 opened r = record { opening = r; repository = r; journal = [] }
 
 abbrev pub state_of : SharedValue → State
@@ -34,15 +35,17 @@ done v event = record { opening = v.opening; repository = (effect (state_of v) e
 -- the tips and the graph as they are now
 abbrev pub plan_of : SharedValue → RefMap → Tags → Shallow → Plan
 plan_of v mappings tags shallow =
-    let graph = graph_of v.repository.objects in
-    record { place = length v.journal; wants = wants_of mappings tags shallow graph; border = v.repository.border; tips = tips_of v.repository.refs.names graph; graph = graph }
+    let graph = graph_of v.repository.state.objects in
+    record { place = length v.journal; wants = wants_of mappings tags shallow graph; border = v.repository.state.border; tips = tips_of v.repository.state.refs.names graph; graph = graph }
 
 -- what a fetch is to judge by: the number of entries, the references and the graph as they are now
 abbrev pub snapshot_of : SharedValue → Taken
-snapshot_of v = record { place = length v.journal; refs = v.repository.refs; graph = graph_of v.repository.objects }
+snapshot_of v = record { place = length v.journal; refs = v.repository.state.refs; graph = graph_of v.repository.state.objects }
 
--- It is closed, and what the journal leaves of what it opened as. Each commit met its expectations at its place.
+-- It is closed, and what the journal leaves of what it opened as: its setup is as it was. Each commit met its expectations
+-- at its place.
 pub record IsKept (v : SharedValue) : Type 0 where
+  pub setup : v.repository.setup ≡ v.opening.setup
   pub sound : IsSound v.repository
   pub state : IsStateOf v.opening v.journal v.repository
   pub met : AllMet (outline v.opening) v.journal

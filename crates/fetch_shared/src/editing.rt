@@ -1,37 +1,34 @@
-//! Edits and deletions of references.
+//! Edits and deletions of a repository's references.
 
 ghost use Rattle.std.specs.Prelude.{◌≡◌, ◌⊎◌, OnOk, OnErr, IfOk, map};
 ghost use Rattle.fetch_shared.specs.Deletions.{without};
 ghost use Rattle.fetch_shared.specs.Deletions as deletions;
 ghost use Rattle.fetch_shared.specs.Unmet as spec;
-ghost use Rattle.fetch_shared.specs.Machine.{commit_refusal, edited};
+ghost use Rattle.fetch_shared.specs.Machine.{commit_refusal, edited, with_refs};
 ghost use Rattle.fetch_shared.specs.Shared.{Answers};
 ghost use Rattle.fetch_shared.specs.declared.error.SharedError.TheVariants as errors;
 
 use crate::error::SharedError;
 use fetch_refs::{
-    Change, PackedRefs, PreviousValue, RefEdit, RefError, RefLog, Refs, Signature, Target,
+    Change, PackedRefs, PreviousValue, RefEdit, RefError, RefLog, Signature, Target,
 };
+use fetch_remote::Repository;
 use fetch_specs::FullName;
 use fetch_store::{NoMemory, Text};
 use std::alloc::Global;
 
 /// Makes the edits, or none of them.
 pub(crate) fn edit(
-    refs: &mut Refs,
+    repo: &mut Repository,
     edits: &[RefEdit],
     committer: &Signature,
-    logging: bool,
 ) -> Result<(), SharedError>
-    ensures ok { OnOk result (refs.new ≡ edited logging refs.old edits.now committer.now) }
-    ensures err { OnErr result (refs.new ≡ refs.old) }
-    ensures refusal { Answers (commit_refusal refs.old.names edits.now) result }
+    ensures ok { OnOk result (repo.new ≡ with_refs repo.old (edited repo.old.setup.logging repo.old.state.refs edits.now committer.now)) }
+    ensures err { OnErr result (repo.new ≡ repo.old) }
+    ensures refusal { Answers (commit_refusal repo.old.state.refs.names edits.now) result }
 {
-    match refs.prepare(edits, committer, logging, PackedRefs::Never) {
-        Ok(prepared) => {
-            prepared.commit();
-            Ok(())
-        }
+    match repo.edit_refs(edits, committer, PackedRefs::Never) {
+        Ok(()) => Ok(()),
         Err(cause) => Err(told(edits, cause)),
     }
 }
@@ -59,12 +56,16 @@ fn unmet(edit: &RefEdit, found: Option<Target>) -> SharedError
 
 /// Deletes these names with their reflogs, or none of them.
 #[tactic(auto, using(crate::proofs::Deleted::by_edits))]
-pub(crate) fn delete(refs: &mut Refs, alloc: Global, names: &[FullName]) -> Result<(), NoMemory>
-    ensures ok { OnOk result (refs.new ≡ without refs.old names.now) }
-    ensures err { OnErr result (refs.new ≡ refs.old) }
+pub(crate) fn delete(
+    repo: &mut Repository,
+    alloc: Global,
+    names: &[FullName],
+) -> Result<(), NoMemory>
+    ensures ok { OnOk result (repo.new ≡ with_refs repo.old (without repo.old.state.refs names.now)) }
+    ensures err { OnErr result (repo.new ≡ repo.old) }
 {
     let edits = deletions(alloc, names)?;
-    match edit(refs, edits.as_slice(), &nobody(alloc), false) {
+    match edit(repo, edits.as_slice(), &nobody(alloc)) {
         Ok(()) => Ok(()),
         Err(_) => Err(NoMemory),
     }

@@ -3,6 +3,7 @@
 ghost use Rattle.std.specs.Prelude.{◌≡◌, IfOk};
 
 use fetch_refs::Target;
+use fetch_remote::FetchError;
 use fetch_specs::FullName;
 use fetch_store::{Missing, NoMemory, ObjectId};
 use std::alloc::AllocError;
@@ -34,6 +35,9 @@ pub enum SharedError {
         /// What stands there.
         found: Option<Target>,
     },
+    /// A fetch was refused.
+    #[error("{0}")]
+    Fetch(FetchError),
     /// Memory ran out.
     #[error("out of memory")]
     NoMemory,
@@ -52,6 +56,7 @@ impl SharedError {
                 name: name.try_clone()?,
                 found: copy_of(found)?,
             }),
+            SharedError::Fetch(cause) => Ok(SharedError::Fetch(copy_of_fetch(cause)?)),
             SharedError::NoMemory => Ok(SharedError::NoMemory),
         }
     }
@@ -63,6 +68,17 @@ fn copy_of(found: &Option<Target>) -> Result<Option<Target>, NoMemory>
     match found {
         Some(target) => Ok(Some(target.try_clone()?)),
         None => Ok(None),
+    }
+}
+
+fn copy_of_fetch(cause: &FetchError) -> Result<FetchError, NoMemory>
+    ensures { IfOk result (λ copy. copy ≡ cause.now) }
+{
+    match cause {
+        FetchError::Prepare(e) => Ok(FetchError::Prepare(e.try_clone()?)),
+        FetchError::Receive(e) => Ok(FetchError::Receive(e.try_clone()?)),
+        FetchError::Unbuilt => Ok(FetchError::Unbuilt),
+        FetchError::NoMemory => Ok(FetchError::NoMemory),
     }
 }
 

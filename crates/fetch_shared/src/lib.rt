@@ -1,17 +1,25 @@
 //! A repository that several use: its events, and the journal that tells what became of it.
 #![tactic(auto)]
 
-mod contents;
 mod editing;
 mod entry;
 mod error;
 pub mod laws;
+mod pass;
 mod plan;
+mod shared;
 mod state;
 mod taking;
+mod turn;
+mod turning;
+mod turns;
+mod view;
 
-pub use contents::Contents;
 pub use entry::Entry;
 pub use error::SharedError;
+pub use pass::Pass;
 pub use plan::{Plan, Taken};
+pub use shared::SharedRepository;
 pub use state::SharedState;
+pub use turns::ReceivedPack;
+pub use view::Span;

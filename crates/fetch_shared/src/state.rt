@@ -10,13 +10,15 @@ ghost use Rattle.fetch_shared.specs.Machine.Event.{Take, Commit, Delete};
 ghost use Rattle.fetch_shared.specs.Shared.{Answers, IsKept, done, opened, plan_of, snapshot_of, state_of};
 ghost use Rattle.fetch_shared.specs.declared.error.SharedError.TheVariants as errors;
 
-use crate::contents::Contents;
+use crate::editing::{delete, edit};
 use crate::entry::Entry;
 use crate::error::SharedError;
 use crate::plan::{Plan, Taken};
 use crate::taking::{entry_of, graph_with, judge, merged};
+use fetch_conversation::Settings;
 use fetch_negotiate::{Shallow, tips, wants};
 use fetch_refs::{RefEdit, Signature};
+use fetch_remote::Repository;
 use fetch_specs::{FullName, Tags};
 use fetch_store::{Border, Graph, List, NoMemory, Object, ObjectId, Store, first_missing};
 use fetch_wire::RefMap;
@@ -28,8 +30,8 @@ use std::marker::Model;
 /// repository that it opened as.
 #[derive(Drop)]
 pub struct SharedState {
-    opening: Opening<Contents>,
-    contents: Contents,
+    opening: Opening<Repository>,
+    repo: Repository,
     entries: Vec<Entry>,
 }
 
@@ -41,24 +43,25 @@ impl Model for SharedState {
 
     ghost coded = { coded_shared };
 
-    ghost view = { λ s. record { opening = s.opening.value; repository = s.contents; journal = s.entries.items } };
+    ghost view = { λ s. record { opening = s.opening.value; repository = s.repo; journal = s.entries.items } };
 
-    ghost invariant = { λ s. IsKept (record { opening = s.opening.value; repository = s.contents; journal = s.entries.items }) };
+    ghost invariant = { λ s. IsKept (record { opening = s.opening.value; repository = s.repo; journal = s.entries.items }) };
 }
 
 impl SharedState {
     /// Shares a closed repository. Its journal is empty. `NotClosed` comes exactly where the repository isn't closed, with
     /// its first missing link. Takes no memory.
-    pub fn new(alloc: Global, contents: Contents) -> Result<SharedState, SharedError>
-        ensures opened { IfOk result (λ state. state ≡ opened contents) }
-        ensures closed { MatchOption (slice_get (unclosed (held contents)) 0) (IsOk result) (λ link. result ≡ Err (errors.NotClosed link)) }
+    pub fn new(alloc: Global, repo: Repository) -> Result<SharedState, SharedError>
+        ensures opened { IfOk result (λ state. state ≡ opened repo) }
+        ensures closed { MatchOption (slice_get (unclosed (held repo)) 0) (IsOk result) (λ link. result ≡ Err (errors.NotClosed link)) }
     {
-        if let Ok(Some(link)) = first_missing(contents.store(), contents.border()) {
+        let _kind = repo.store().kind();
+        if let Ok(Some(link)) = first_missing(repo.store(), repo.border()) {
             return Err(SharedError::NotClosed { link });
         }
         Ok(SharedState {
-            opening: Opening::of(&contents),
-            contents,
+            opening: Opening::of(&repo),
+            repo,
             entries: Vec::new(alloc),
         })
     }
@@ -76,10 +79,10 @@ impl SharedState {
         ensures memory { IfErr result (λ e. e ≡ errors.NoMemory) }
         ensures unchanged { self.new ≡ self.old }
     {
-        let graph = graph_of(alloc, self.contents.store())?;
+        let graph = graph_of(alloc, self.repo.store())?;
         let wants = wants(alloc, map, tags, shallow, &graph)?;
-        let tips = tips(alloc, self.contents.refs(), &graph)?;
-        let border = self.contents.border().try_clone()?;
+        let tips = tips(alloc, self.repo.refs(), &graph)?;
+        let border = self.repo.border().try_clone()?;
         Ok(Plan {
             place: self.entries.len() as u64,
             wants: List::from(wants),
@@ -102,7 +105,7 @@ impl SharedState {
         shallow: &[ObjectId],
         unshallow: &[ObjectId],
     ) -> Result<Taken, SharedError>
-        requires of_hash { AreOf self.old.repository.hash objects.items }
+        requires of_hash { AreOf self.old.repository.state.hash objects.items }
         requires named { AreNamed objects.items }
         ensures ok { OnOk result (self.new ≡ done self.old (Take pass wants.now (record { objects = objects.items; shallow = shallow.now; unshallow = unshallow.now }))) }
         ensures taken { IfOk result (λ taken. taken ≡ snapshot_of self.new) }
@@ -115,13 +118,15 @@ impl SharedState {
             shallow,
             unshallow,
         };
-        judge(alloc, self.contents.store(), self.contents.border(), &take)?;
+        judge(alloc, self.repo.store(), self.repo.border(), &take)?;
         let entry = entry_of(alloc, pass, &take)?;
-        let border = merged(alloc, self.contents.border(), shallow, unshallow)?;
-        let graph = graph_with(alloc, self.contents.store(), objects.as_slice())?;
-        let refs = self.contents.refs().try_clone()?;
+        let border = merged(alloc, self.repo.border(), shallow, unshallow)?;
+        let graph = graph_with(alloc, self.repo.store(), objects.as_slice())?;
+        let refs = self.repo.refs().try_clone()?;
         self.entries.reserve(1)?;
-        self.contents.take_pack(objects, border)?;
+        if self.repo.take_pack(objects, border).is_err() {
+            return Err(SharedError::NoMemory);
+        }
         self.entries.push_reserved(entry);
         Ok(Taken {
             place: self.entries.len() as u64,
@@ -144,7 +149,7 @@ impl SharedState {
         ensures err { OnErr result (self.new ≡ self.old) }
     {
         self.entries.reserve(1)?;
-        self.contents.edit(edits.as_slice(), &committer)?;
+        edit(&mut self.repo, edits.as_slice(), &committer)?;
         let place = self.entries.len() as u64;
         self.entries.push_reserved(Entry::Commit {
             pass,
@@ -172,7 +177,7 @@ impl SharedState {
             names: copies(alloc, names)?,
         };
         self.entries.reserve(1)?;
-        self.contents.delete(alloc, names)?;
+        delete(&mut self.repo, alloc, names)?;
         let place = self.entries.len() as u64;
         self.entries.push_reserved(entry);
         Ok(place)
@@ -183,13 +188,33 @@ impl SharedState {
         ensures taken { IfOk result (λ taken. taken ≡ snapshot_of self.now) }
         ensures memory { IfErr result (λ e. e ≡ errors.NoMemory) }
     {
-        let refs = self.contents.refs().try_clone()?;
-        let graph = graph_of(alloc, self.contents.store())?;
+        let refs = self.repo.refs().try_clone()?;
+        let graph = graph_of(alloc, self.repo.store())?;
         Ok(Taken {
             place: self.entries.len() as u64,
             refs,
             graph,
         })
+    }
+
+    /// Configuration, leniency, git directory, hash and committer of the repository.
+    pub(crate) fn settings(&self) -> &Settings
+        ensures { result.now ≡ self.now.repository.setup.settings }
+    {
+        self.repo.settings()
+    }
+
+    /// The repository, and what became of it.
+    pub(crate) fn into_parts(self) -> (Repository, Vec<Entry>)
+        ensures journal { result.1.items ≡ self.journal }
+        ensures kept { IsKept (record { opening = self.opening; repository = result.0; journal = result.1.items }) }
+    {
+        let SharedState {
+            opening: _,
+            repo,
+            entries,
+        } = self;
+        (repo, entries)
     }
 
     /// What became of the repository so far.

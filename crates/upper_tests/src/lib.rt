@@ -19,3 +19,5 @@ mod scenes;
 mod second_hash;
 #[cfg(test)]
 mod sharing;
+#[cfg(test)]
+mod turns;

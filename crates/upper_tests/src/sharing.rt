@@ -5,11 +5,13 @@ ghost use Rattle.fetch_store.specs.Stores.{AreOf};
 ghost use Rattle.fetch_store.specs.declared.id.Kind.TheVariants as kinds;
 ghost use Rattle.fetch_pack.specs.Once.{AreNamed};
 
+use fetch_config::{File, Meta, Origin};
 use fetch_negotiate::Shallow;
 use fetch_refs::{
     Change, LogChange, PreviousValue, RefEdit, RefLog, Refs, Signature, Target, TargetRef,
 };
-use fetch_shared::{Contents, Entry, Plan, SharedError, SharedState, laws};
+use fetch_remote::{OpenOptions, Parts, Repository};
+use fetch_shared::{Entry, Plan, SharedError, SharedState, laws};
 use fetch_specs::{FullName, Tags};
 use fetch_store::{
     Border, Kind, List, Missing, NoMemory, Object, ObjectId, ObjectKind, Store, StoreError, Text,
@@ -54,7 +56,7 @@ fn merge() -> ObjectId {
 
 /// The second commit with its tree, and the border that leaves its parent aside.
 fn shallow(alloc: Global) -> Result<SharedState, Fail>
-    ensures { IfOk result (λ state. state.repository.hash ≡ kinds.Sha1) }
+    ensures { IfOk result (λ state. state.repository.state.hash ≡ kinds.Sha1) }
 {
     let mut store = Store::new(alloc, Kind::Sha1);
     store.add_all(vec![in alloc;
@@ -66,11 +68,42 @@ fn shallow(alloc: Global) -> Result<SharedState, Fail>
 }
 
 fn shared(alloc: Global, store: Store, border: Border) -> Result<SharedState, Fail>
-    ensures { IfOk result (λ state. state.repository.hash ≡ store.hash) }
+    requires { store.hash ≡ kinds.Sha1 }
+    ensures { IfOk result (λ state. state.repository.state.hash ≡ kinds.Sha1) }
 {
-    let refs = Refs::new(alloc, Kind::Sha1);
-    let state = SharedState::new(alloc, Contents::new(store, border, refs, true))?;
+    let state = SharedState::new(alloc, repository(alloc, store, border)?)?;
     Ok(state)
+}
+
+/// A repository whose branches are logged.
+pub(crate) fn repository(alloc: Global, store: Store, border: Border) -> Result<Repository, Fail>
+    requires { store.hash ≡ kinds.Sha1 }
+    ensures { IfOk result (λ repo. repo.state.hash ≡ kinds.Sha1) }
+{
+    let parts = Parts {
+        store,
+        refs: Refs::new(alloc, Kind::Sha1),
+        border,
+        local: File::new(alloc, meta(Origin::Local))?,
+        committer: signature(alloc)?,
+        git_dir: Text::new(alloc, b"/w/.git")?,
+        workdir: Some(Text::new(alloc, b"/w")?),
+        options: OpenOptions {
+            lenient_config: false,
+            api_config_overrides: List::new(alloc),
+            base: File::new(alloc, meta(Origin::Global))?,
+        },
+    };
+    Ok(Repository::from_parts(alloc, parts)?)
+}
+
+fn meta(source: Origin) -> Meta {
+    Meta {
+        source,
+        level: 0,
+        path: None,
+        trusted: true,
+    }
 }
 
 /// What a fetch of this commit plans.
@@ -121,16 +154,16 @@ fn take(
     objects: Vec<(ObjectId, Object)>,
     unshallow: &[ObjectId],
 ) -> Result<u64, SharedError>
-    requires hash { state.old.repository.hash ≡ kinds.Sha1 }
+    requires hash { state.old.repository.state.hash ≡ kinds.Sha1 }
     requires of_hash { AreOf kinds.Sha1 objects.items }
     requires named { AreNamed objects.items }
-    ensures { state.new.repository.hash ≡ kinds.Sha1 }
+    ensures { state.new.repository.state.hash ≡ kinds.Sha1 }
 {
     let taken = state.take(alloc, pass, plan.wants.as_slice(), objects, &[], unshallow)?;
     Ok(taken.place)
 }
 
-fn signature(alloc: Global) -> Result<Signature, NoMemory> {
+pub(crate) fn signature(alloc: Global) -> Result<Signature, NoMemory> {
     Ok(Signature {
         name: Text::new(alloc, b"A")?,
         email: Text::new(alloc, b"a@x")?,
@@ -139,12 +172,19 @@ fn signature(alloc: Global) -> Result<Signature, NoMemory> {
     })
 }
 
+const MAIN: &[u8] = b"refs/heads/main";
+
 fn main_branch(alloc: Global) -> Result<FullName, Fail> {
-    Ok(FullName::new(alloc, b"refs/heads/main")?)
+    Ok(FullName::new(alloc, MAIN)?)
 }
 
-/// Puts the branch at this commit.
-fn moving(alloc: Global, expected: PreviousValue, id: ObjectId) -> Result<Vec<RefEdit>, Fail> {
+/// Puts a branch at this commit.
+pub(crate) fn moving(
+    alloc: Global,
+    branch: &[u8],
+    expected: PreviousValue,
+    id: ObjectId,
+) -> Result<Vec<RefEdit>, Fail> {
     let edit = RefEdit {
         change: Change::Update {
             log: LogChange {
@@ -155,7 +195,7 @@ fn moving(alloc: Global, expected: PreviousValue, id: ObjectId) -> Result<Vec<Re
             expected,
             new: Target::Object(id),
         },
-        name: main_branch(alloc)?,
+        name: FullName::new(alloc, branch)?,
     };
     Ok(vec![in alloc; edit]?)
 }
@@ -167,8 +207,8 @@ fn commit(
     pass: u64,
     edits: Vec<RefEdit>,
 ) -> Result<u64, SharedError>
-    requires { state.old.repository.hash ≡ kinds.Sha1 }
-    ensures { state.new.repository.hash ≡ kinds.Sha1 }
+    requires { state.old.repository.state.hash ≡ kinds.Sha1 }
+    ensures { state.new.repository.state.hash ≡ kinds.Sha1 }
 {
     let committer = signature(alloc)?;
     state.commit(pass, edits, committer)
@@ -177,16 +217,16 @@ fn commit(
 /// Two fetches plan over one border. The first takes the parent that the second leaves out, and the commit leaves the
 /// border. Each tells the number of entries after its take, and the place of its commit.
 fn both_fetches(state: &mut SharedState, alloc: Global) -> Result<[u64; 4], Fail>
-    requires { state.old.repository.hash ≡ kinds.Sha1 }
+    requires { state.old.repository.state.hash ≡ kinds.Sha1 }
 {
     let first = planned(state, alloc, one())?;
     let second = planned(state, alloc, merge())?;
     let taken = take(state, alloc, 1, &first, first_pack(alloc)?, &[two()])?;
-    let created = moving(alloc, PreviousValue::MustNotExist, one())?;
+    let created = moving(alloc, MAIN, PreviousValue::MustNotExist, one())?;
     let place = commit(state, alloc, 1, created)?;
     let then = take(state, alloc, 2, &second, merge_pack(alloc)?, &[])?;
     let expected = PreviousValue::MustExistAndMatch(Target::Object(one()));
-    let moved = moving(alloc, expected, merge())?;
+    let moved = moving(alloc, MAIN, expected, merge())?;
     let last = commit(state, alloc, 2, moved)?;
     Ok([taken, place, then, last])
 }
@@ -245,10 +285,10 @@ fn a_plan_shows_what_stands(rt: HostRuntime) -> Result<(), Fail> {
 
 /// A branch that two fetches go on from is deleted behind both takes. Tells the deletion's place.
 fn deleted(state: &mut SharedState, alloc: Global) -> Result<u64, Fail>
-    requires { state.old.repository.hash ≡ kinds.Sha1 }
-    ensures { IfOk result (λ place. state.new.repository.hash ≡ kinds.Sha1) }
+    requires { state.old.repository.state.hash ≡ kinds.Sha1 }
+    ensures { IfOk result (λ place. state.new.repository.state.hash ≡ kinds.Sha1) }
 {
-    let created = moving(alloc, PreviousValue::MustNotExist, two())?;
+    let created = moving(alloc, MAIN, PreviousValue::MustNotExist, two())?;
     commit(state, alloc, 1, created)?;
     let plan = planned(state, alloc, merge())?;
     let first = planned(state, alloc, one())?;
@@ -267,7 +307,7 @@ fn a_deletion_takes_what_a_commit_expects(rt: HostRuntime) -> Result<(), Fail> {
     let place = deleted(&mut state, alloc)?;
     assert_eq!(rt; place, 3);
     let expected = PreviousValue::MustExistAndMatch(Target::Object(two()));
-    let moved = moving(alloc, expected, merge())?;
+    let moved = moving(alloc, MAIN, expected, merge())?;
     let answer = commit(&mut state, alloc, 2, moved);
     let main = main_branch(alloc)?;
     assert!(rt;
@@ -300,9 +340,7 @@ fn a_commit_without_its_tree_is_refused(rt: HostRuntime) -> Result<(), Fail> {
         from: one(),
         to: tree,
     };
-    let refs = Refs::new(alloc, Kind::Sha1);
-    let contents = Contents::new(store, Border::new(alloc), refs, true);
-    let answer = SharedState::new(alloc, contents);
+    let answer = SharedState::new(alloc, repository(alloc, store, Border::new(alloc))?);
     assert!(rt; matches!(&answer, Err(SharedError::NotClosed { link: told }) if *told == link));
     Ok(())
 }

@@ -4,6 +4,7 @@ use Rattle.fetch_shared.specs.Machine.{start}
 use Rattle.fetch_shared.specs.Replays.{outline, AllMet}
 use Rattle.fetch_shared.proofs.Fronts.{run_pinned}
 use Rattle.fetch_shared.proofs.Replays.{run_tells, start_tells, met_at}
+use Rattle.fetch_shared.proofs.Runs.{run_setup}
 use Rattle.fetch_shared.proofs.laws.a_journal_replays.Goals as goal
 
 pub returns-clause-replays : goal.returns-clause-replays
@@ -15,3 +16,6 @@ returns-clause-met c r events front rest pass edits committer is =
 
 pub returns-clause-state : goal.returns-clause-state
 returns-clause-state c r events named = record { told = (run_tells (outline r) (start r) events (start_tells r)).replays; pinned = run_pinned (start r) events named }
+
+pub returns-clause-setup : goal.returns-clause-setup
+returns-clause-setup c r events = run_setup (start r) events

@@ -12,4 +12,4 @@ pub returns-clause-take : goal.returns-clause-take
 returns-clause-take c s pass wants pack = (allowed_take (held s.repository) wants pack, λ both. take_allowed (held s.repository) wants pack both.0 both.1)
 
 pub returns-clause-commit : goal.returns-clause-commit
-returns-clause-commit c s pass edits committer = (commit_met s.repository.refs.names edits, met_commit s.repository.refs.names edits)
+returns-clause-commit c s pass edits committer = (commit_met s.repository.state.refs.names edits, met_commit s.repository.state.refs.names edits)

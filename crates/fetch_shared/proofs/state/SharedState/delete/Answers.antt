@@ -7,7 +7,7 @@ use Rattle.fetch_shared.proofs.state.SharedState.delete.Goals as goal
 
 pub invariant_of-self-2 : goal.invariant_of-self-2
 invariant_of-self-2 c =
-    let v : SharedValue = record { opening = c.self.inside.opening.value; repository = c.self.inside.contents; journal = c.self.inside.entries.items } in
+    let v : SharedValue = record { opening = c.self.inside.opening.value; repository = c.self.inside.repo; journal = c.self.inside.entries.items } in
     kept_now v _ (Delete c.args.pass c.args.names.now) c.self.invariant tt tt refl
     (value_by c.self.inside.opening.value _ _ _ _ c.in_ok-delete.ensures.ok
     (pushed c.self.inside.entries.items _ _ _ _ c.push_reserved.ensures.items c.in_ok-reserve.ensures.items (ap (λ (ns : List (List ℕ)). entries.Delete c.args.pass ns) c.in_ok-copies.ensures)))

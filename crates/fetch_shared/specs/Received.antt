@@ -1,0 +1,6 @@
+-- Packs that are handed in whole.
+use Rattle.fetch_store.specs.Honest.{Pack}
+use Rattle.fetch_shared.specs.declared.turns.ReceivedPack.{ReceivedPack}
+
+abbrev pub pack_in : ReceivedPack → Pack
+pack_in p = record { objects = p.objects.items; shallow = p.shallow.now; unshallow = p.unshallow.now }
