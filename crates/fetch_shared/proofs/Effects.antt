@@ -11,10 +11,10 @@ use Rattle.fetch_remote.specs.Repositories as repositories
 use Rattle.fetch_shared.specs.declared.entry.Entry.{Entry}
 use Rattle.fetch_shared.specs.Fronts.{IsPinned, IsEventOf, IsNamedEvent}
 use Rattle.fetch_shared.specs.Machine.{State, Event, refusal, effect, held, take_refusal, with_pack}
-use Rattle.fetch_shared.specs.Replays.{Tells, outline}
+use Rattle.fetch_shared.specs.Replays.{Outline, Tells, outline}
 use Rattle.fetch_shared.specs.Shared.{SharedValue, IsKept, state_of, done, opened}
 use Rattle.fetch_shared.proofs.Fronts.{Brought, effect_brought}
-use Rattle.fetch_shared.proofs.Replays.{effect_tells}
+use Rattle.fetch_shared.proofs.Replays.{effect_tells, replay_hash}
 use Rattle.fetch_shared.proofs.Runs.{effect_closed, effect_grows, effect_hash, effect_of, effect_setup}
 
 pinned_on : (m n p : ObjectMap) → IsPinned m n → IsPinned n p → Brought n p → IsPinned m p
@@ -47,6 +47,10 @@ kept_done v event kept of named ok =
 
 pub kept_now : (v now : SharedValue) (event : Event) → IsKept v → IsEventOf v.repository.state.hash event → IsNamedEvent event → refusal (state_of v) event ≡ None → now ≡ done v event → IsKept now
 kept_now v now event kept of named ok is = subst IsKept (sym is) (kept_done v event kept of named ok)
+
+-- ids and objects are of the hash of what it opened as
+pub kept_hash : (v : SharedValue) → IsKept v → v.repository.state.hash ≡ v.opening.state.hash
+kept_hash v kept = ap (λ (o : Outline). o.hash) kept.state.told ∙ replay_hash (outline v.opening) v.journal
 
 pub kept_opened : (r : RepositoryValue) → IsClosed (held r) → AreAllOf r.state.hash r.state.objects → IsKept (opened r)
 kept_opened r closed of = record {

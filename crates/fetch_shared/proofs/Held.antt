@@ -5,8 +5,10 @@ use mathlib.Core.Option.{some, some-injective, some-ne-none}
 use lib.ListN.{get_elem?}
 use Rattle.fetch_shared.specs.declared.view.Span.{Span}
 use Rattle.fetch_shared.specs.declared.view.View.{View}
-use Rattle.fetch_shared.specs.Numbers.{span, times_in, times_held}
-use Rattle.fetch_shared.specs.Turns.{held_by, times_over}
+use Rattle.fetch_shared.specs.declared.view.Stage.{Stage}
+use Rattle.fetch_shared.specs.declared.view.Stage.TheVariants.{Resting}
+use Rattle.fetch_shared.specs.Numbers.{span, times_in, times_held, Holds}
+use Rattle.fetch_shared.specs.Turns.{own_at, own, held_by, times_over}
 
 pub times_in-le : (n : ℕ) (r : Span) → times_in n r ≤ 1
 times_in-le n r = at (nat_le r.first n && nat_lt n r.end)
@@ -62,3 +64,10 @@ times_in-cut n first count end more room = grind (arith, nat_tests)
 
 pub times_in-first : (n end : ℕ) → 1 ≤ end → times_in n (span 0 1) + times_in n (span 1 end) ≡ times_in n (span 0 end)
 times_in-first n end more = grind (arith, nat_tests)
+
+-- a view at rest holds its own number
+pub holds_own : (v : View) → v.stage ≡ Resting → Holds (own v) v.number
+holds_own v is =
+    let here = times_in-here v.number in
+    let same : times_held v.number (own v) ≡ times_held v.number (own_at v Resting) = ap (λ (st : Stage). times_held v.number (own_at v st)) is in
+    omega arith

@@ -12,3 +12,4 @@ pub mod Views
 pub mod TurnSteps
 pub mod SeatSteps
 pub mod Back
+pub mod Turned

@@ -43,6 +43,15 @@ pub replay-append : (v : Outline) (xs ys : List Entry) → replay v (xs ++ ys) �
 replay-append v [] ys = refl
 replay-append v (x ∷ xs) ys = replay-append (played v x) xs ys
 
+played_hash : (v : Outline) (e : Entry) → (played v e).hash ≡ v.hash
+played_hash v (entries.Take pass ids shallow unshallow) = refl
+played_hash v (entries.Commit pass edits committer) = refl
+played_hash v (entries.Delete pass names) = refl
+
+pub replay_hash : (v : Outline) (es : List Entry) → (replay v es).hash ≡ v.hash
+replay_hash v [] = refl
+replay_hash v (e ∷ es) = replay_hash (played v e) es ∙ played_hash v e
+
 met_push : (v : Outline) (es : List Entry) (e : Entry) → AllMet v es → IsMet (replay v es).refs.names e → AllMet v (es ++ e ∷ [])
 met_push v [] e all met = (met, tt)
 met_push v (x ∷ es) e all met = (all.0, met_push (played v x) es e all.1 met)

@@ -28,12 +28,14 @@ impl SharedRepository {
         ensures turn { seat.new.me ≡ (turning seat.old.me.0 result.journal, (0, None) ∷ []) }
         ensures opening { result.opening ≡ seat.old.me.0.opening }
         ensures finds { Finds seat.old.me.0 result.journal }
+        ensures kept { IsKept result }
     {
         let shared = &self.table.shared;
         for _ in rt.forever() {
             if shared.compare_exchange::<Try>(seat, TURN, 0, 1) == 0 {
                 let state = shared.exchange(seat, 0, None).unwrap();
                 shared.load::<Load>(seat, ENTRIES);
+                let _journal = state.journal();
                 return state;
             }
             yield_now();

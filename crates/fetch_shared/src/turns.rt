@@ -96,7 +96,6 @@ impl SharedRepository {
 
     /// Takes a pack for these wants, as `SharedState::take` does with what the turn finds, and tells what it leaves. Each
     /// id is its object's hash, as it is in a pack that was read.
-    #[tactic(auto, using(crate::proofs::Back::begins_entered, crate::proofs::Back::others_entered, crate::proofs::Back::own_entered))]
     pub fn take<R: Wait>(
         &self,
         rt: &R,
@@ -109,8 +108,8 @@ impl SharedRepository {
         requires of_hash { AreOf self.now.opening.state.hash pack.objects.items }
         requires named { AreNamed pack.objects.items }
         ensures back { IsBack pass result.0 }
-        ensures turn { let event = Take pass.number wants.now (pack_in pack) in IsTurn pass result.0 event (λ v. snapshot_of (done v event)) result.1 }
-        ensures added { OnOk result.1 (entries_of pass.number result.0.front ≡ entries_of pass.number pass.front ++ entries.Take pass.number (map (λ e. e.0) pack.objects.items) pack.shallow.now pack.unshallow.now ∷ []) }
+        ensures turn { let event = Take pass.number wants.now (pack_in pack.entry) in IsTurn pass result.0 event (λ v. snapshot_of (done v event)) result.1 }
+        ensures added { OnOk result.1 (entries_of pass.number result.0.front ≡ entries_of pass.number pass.front ++ entries.Take pass.number (map (λ e. e.0) pack.entry.objects.items) pack.entry.shallow.now pack.entry.unshallow.now ∷ []) }
         ensures none { OnErr result.1 (entries_of pass.number result.0.front ≡ entries_of pass.number pass.front) }
     {
         let Pass {
@@ -124,21 +123,29 @@ impl SharedRepository {
             unshallow,
         } = pack;
         let mut state = self.take_turn(rt, &mut seat);
-        let answer = state.take(alloc, number, wants, objects, shallow, unshallow);
-        match &answer {
-            Ok(_) => self.record(&mut seat, state),
-            Err(_) => self.give_back(&mut seat, state),
+        match state.take(alloc, number, wants, objects, shallow, unshallow) {
+            Ok(taken) => {
+                self.record(&mut seat, state);
+                let pass = Pass {
+                    number,
+                    unused,
+                    seat,
+                };
+                (pass, Ok(taken))
+            }
+            Err(e) => {
+                self.give_back(&mut seat, state);
+                let pass = Pass {
+                    number,
+                    unused,
+                    seat,
+                };
+                (pass, Err(e))
+            }
         }
-        let pass = Pass {
-            number,
-            unused,
-            seat,
-        };
-        (pass, answer)
     }
 
     /// Changes references, as `SharedState::commit` does with what the turn finds, and tells the place of the entry.
-    #[tactic(auto, using(crate::proofs::Back::begins_entered, crate::proofs::Back::others_entered, crate::proofs::Back::own_entered, crate::proofs::Back::last_entered))]
     pub fn commit<R: Wait>(
         &self,
         rt: &R,
@@ -159,22 +166,30 @@ impl SharedRepository {
             mut seat,
         } = pass;
         let mut state = self.take_turn(rt, &mut seat);
-        let answer = state.commit(number, edits, committer);
-        match &answer {
-            Ok(_) => self.record(&mut seat, state),
-            Err(_) => self.give_back(&mut seat, state),
+        match state.commit(number, edits, committer) {
+            Ok(place) => {
+                self.record(&mut seat, state);
+                let pass = Pass {
+                    number,
+                    unused,
+                    seat,
+                };
+                (pass, Ok(place))
+            }
+            Err(e) => {
+                self.give_back(&mut seat, state);
+                let pass = Pass {
+                    number,
+                    unused,
+                    seat,
+                };
+                (pass, Err(e))
+            }
         }
-        let pass = Pass {
-            number,
-            unused,
-            seat,
-        };
-        (pass, answer)
     }
 
     /// Deletes these names with their reflogs, as `SharedState::delete` does with what the turn finds, and tells the place
     /// of the entry.
-    #[tactic(auto, using(crate::proofs::Back::begins_entered, crate::proofs::Back::others_entered, crate::proofs::Back::own_entered, crate::proofs::Back::last_entered))]
     pub fn delete<R: Wait>(
         &self,
         rt: &R,
@@ -195,16 +210,25 @@ impl SharedRepository {
             mut seat,
         } = pass;
         let mut state = self.take_turn(rt, &mut seat);
-        let answer = state.delete(alloc, number, names);
-        match &answer {
-            Ok(_) => self.record(&mut seat, state),
-            Err(_) => self.give_back(&mut seat, state),
+        match state.delete(alloc, number, names) {
+            Ok(place) => {
+                self.record(&mut seat, state);
+                let pass = Pass {
+                    number,
+                    unused,
+                    seat,
+                };
+                (pass, Ok(place))
+            }
+            Err(e) => {
+                self.give_back(&mut seat, state);
+                let pass = Pass {
+                    number,
+                    unused,
+                    seat,
+                };
+                (pass, Err(e))
+            }
         }
-        let pass = Pass {
-            number,
-            unused,
-            seat,
-        };
-        (pass, answer)
     }
 }

@@ -1,0 +1,13 @@
+use Rattle.std.proofs.Common.{ℕ, refl, ap, ◌∙◌}
+use Rattle.fetch_shared.specs.Machine.Event.{Snapshot}
+use Rattle.fetch_shared.specs.Shared.{snapshot_of}
+use Rattle.fetch_shared.specs.Turns.{turning, resting}
+use Rattle.fetch_shared.proofs.Turned.{looked}
+use Rattle.fetch_shared.proofs.shared.SharedRepository.snapshot.Goals as goal
+
+pub returns-clause-turn : goal.returns-clause-turn
+returns-clause-turn g c =
+    let v = c.pass.inside.seat.me.0 in let took = c.take_turn-state.ensures in
+    let me = ap (λ m. m.0) c.give_back.ensures.turn ∙ ap (λ m. resting m.0) took.turn in
+    looked (λ n. Snapshot) (λ n. snapshot_of) c.pass.inside.seat.table_id c.give_back.new.seat.table_id v c.give_back.new.seat.me.0 c.args.pass c.pass.view_is c.pass.inside.number c.pass.invariant.number_is c.take_turn-state.result
+    c.pass.invariant.stage (c.give_back.ensures.table ∙ took.table) took.opening took.finds took.kept c.snapshot-answer.result me (λ n. refl) (λ n. refl) c.snapshot-answer.ensures.memory c.snapshot-answer.ensures.taken
