@@ -14,7 +14,7 @@ use crate::editing::{delete, edit};
 use crate::entry::Entry;
 use crate::error::SharedError;
 use crate::plan::{Plan, Taken};
-use crate::taking::{entry_of, graph_with, judge, merged};
+use crate::taking::{add, entry_of, graph_with, judge, merged};
 use fetch_conversation::Settings;
 use fetch_negotiate::{Shallow, tips, wants};
 use fetch_refs::{RefEdit, Signature};
@@ -124,9 +124,7 @@ impl SharedState {
         let graph = graph_with(alloc, self.repo.store(), objects.as_slice())?;
         let refs = self.repo.refs().try_clone()?;
         self.entries.reserve(1)?;
-        if self.repo.take_pack(objects, border).is_err() {
-            return Err(SharedError::NoMemory);
-        }
+        add(&mut self.repo, objects, border)?;
         self.entries.push_reserved(entry);
         Ok(Taken {
             place: self.entries.len() as u64,

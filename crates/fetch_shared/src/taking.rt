@@ -1,17 +1,19 @@
 //! Packs that are about to be taken.
 
-ghost use Rattle.std.specs.Prelude.{◌≡◌, IfOk, None, map};
+ghost use Rattle.std.specs.Prelude.{◌≡◌, IfOk, None, OnErr, OnOk, map};
 ghost use Rattle.fetch_store.specs.Borders as borders;
 ghost use Rattle.fetch_store.specs.Closed.{holding};
 ghost use Rattle.fetch_store.specs.Graph.{graph_of};
 ghost use Rattle.fetch_store.specs.References.{pack_of};
 ghost use Rattle.fetch_store.specs.Stores.{AreOf, add_all, collision};
+ghost use Rattle.fetch_remote.specs.Repositories.{with_pack};
 ghost use Rattle.fetch_shared.specs.Machine.{take_refusal};
 ghost use Rattle.fetch_shared.specs.Shared.{Answers};
 ghost use Rattle.fetch_shared.specs.declared.entry.Entry.TheVariants as entries;
 
 use crate::entry::Entry;
 use crate::error::SharedError;
+use fetch_remote::Repository;
 use fetch_store::{
     Border, Graph, List, NoMemory, Object, ObjectId, Store, StoreError, Take, first_missing_of_take,
 };
@@ -74,6 +76,23 @@ pub(crate) fn merged(
 {
     match border.merged(alloc, shallow, unshallow) {
         Ok(border) => Ok(border),
+        Err(_) => Err(NoMemory),
+    }
+}
+
+/// Adds the objects of a take that was judged, with the border after it, or nothing.
+pub(crate) fn add(
+    repo: &mut Repository,
+    objects: Vec<(ObjectId, Object)>,
+    border: Border,
+) -> Result<(), NoMemory>
+    requires { AreOf repo.old.state.hash objects.items }
+    ensures state { OnOk result (repo.new.state ≡ with_pack repo.old.state objects.items border) }
+    ensures setup { repo.new.setup ≡ repo.old.setup }
+    ensures err { OnErr result (repo.new ≡ repo.old) }
+{
+    match repo.take_pack(objects, border) {
+        Ok(()) => Ok(()),
         Err(_) => Err(NoMemory),
     }
 }

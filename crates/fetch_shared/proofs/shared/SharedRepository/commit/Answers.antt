@@ -8,8 +8,8 @@ use Rattle.fetch_shared.proofs.shared.SharedRepository.commit.Goals as goal
 
 pub record-requires-clause-grown : goal.record-requires-clause-grown
 record-requires-clause-grown g c =
-    let took = c.take_turn-state.ensures in let entry = λ n. entries.Commit n c.args.edits.items c.args.committer in
-    (entry c.pass.inside.number, sym c.pass.invariant.number_is ∙ sym (ap (λ m. m.0.number) took.turn), ap (λ (s : SharedValue). s.journal) c.in-Ok.ensures.ok ∙ ap (λ m. m.0.front ++ entry c.pass.inside.number ∷ []) (sym took.turn))
+    let took = c.take_turn-state.ensures in
+    (entries.Commit c.pass.inside.number c.args.edits.items c.args.committer, sym c.pass.invariant.number_is ∙ sym (ap (λ m. m.0.number) took.turn), ap (λ (s : SharedValue). s.journal) c.in-Ok.ensures.ok ∙ ap (λ m. m.0.front ++ entries.Commit c.pass.inside.number c.args.edits.items c.args.committer ∷ []) (sym took.turn))
 
 pub returns-in-Ok-clause-back : goal.returns-in-Ok-clause-back
 returns-in-Ok-clause-back g c =

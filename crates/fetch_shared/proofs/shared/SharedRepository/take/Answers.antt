@@ -1,25 +1,16 @@
-use Rattle.std.proofs.Common.{◌≡◌, ℕ, List, [], ◌∷◌, ◌++◌, length, refl, sym, ap, ◌∙◌, subst, map}
+use Rattle.std.proofs.Common.{◌≡◌, ℕ, List, [], ◌∷◌, ◌++◌, length, refl, sym, ap, ◌∙◌, map}
 use Rattle.fetch_shared.specs.declared.entry.Entry.TheVariants as entries
 use Rattle.fetch_shared.specs.Machine.Event.{Take}
-use Rattle.fetch_store.specs.Stores.{AreOf}
-use Rattle.fetch_remote.specs.RepositoryValues.{RepositoryValue}
 use Rattle.fetch_shared.specs.Received.{pack_in}
 use Rattle.fetch_shared.specs.Shared.{SharedValue, done, snapshot_of}
 use Rattle.fetch_shared.specs.Turns.{turning, resting}
-use Rattle.fetch_shared.proofs.Effects.{kept_hash}
 use Rattle.fetch_shared.proofs.Turned.{entered, refused}
 use Rattle.fetch_shared.proofs.shared.SharedRepository.take.Goals as goal
 
-pub take-requires-clause-of_hash : goal.take-requires-clause-of_hash
-take-requires-clause-of_hash g c =
-    let took = c.take_turn-state.ensures in
-    let opening = took.opening ∙ ap (λ p. p.shared.opening) c.pass.view_is ∙ ap (λ s. s.opening) c.requires.shared in
-    subst (λ h. AreOf h c.args.pack.objects.items) (sym (kept_hash c.take_turn-state.result took.kept ∙ ap (λ (r : RepositoryValue). r.state.hash) opening)) c.requires.of_hash
-
 pub record-requires-clause-grown : goal.record-requires-clause-grown
 record-requires-clause-grown g c =
-    let took = c.take_turn-state.ensures in let entry = λ n. entries.Take n (map (λ e. e.0) c.args.pack.objects.items) c.args.pack.shallow.now c.args.pack.unshallow.now in
-    (entry c.pass.inside.number, sym c.pass.invariant.number_is ∙ sym (ap (λ m. m.0.number) took.turn), ap (λ (s : SharedValue). s.journal) c.in-Ok.ensures.ok ∙ ap (λ m. m.0.front ++ entry c.pass.inside.number ∷ []) (sym took.turn))
+    let took = c.take_turn-state.ensures in
+    (entries.Take c.pass.inside.number (map (λ e. e.0) c.args.pack.objects.items) c.args.pack.shallow.now c.args.pack.unshallow.now, sym c.pass.invariant.number_is ∙ sym (ap (λ m. m.0.number) took.turn), ap (λ (s : SharedValue). s.journal) c.in-Ok.ensures.ok ∙ ap (λ m. m.0.front ++ entries.Take c.pass.inside.number (map (λ e. e.0) c.args.pack.objects.items) c.args.pack.shallow.now c.args.pack.unshallow.now ∷ []) (sym took.turn))
 
 pub returns-in-Ok-clause-back : goal.returns-in-Ok-clause-back
 returns-in-Ok-clause-back g c =

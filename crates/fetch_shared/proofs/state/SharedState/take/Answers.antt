@@ -15,14 +15,14 @@ invariant_of-self-2 c =
     let allowed : take_refusal (held c.self.inside.repo) c.args.wants.now (record { objects = c.args.objects.items; shallow = c.args.shallow.now; unshallow = c.args.unshallow.now }) ≡ None =
     allowed_by _ _ _ _ _ _ c.args.wants.now c.args.shallow.now c.args.unshallow.now c.store.ensures.objects c.border.ensures c.as_slice.ensures.value c.in_ok-judge.ensures in
     kept_now v _ (Take c.args.pass c.args.wants.now pack) c.self.invariant (subst (λ (w : SharedValue). AreOf w.repository.state.hash c.args.objects.items) (sym c.self.view_is) c.requires.of_hash) c.requires.named allowed
-    (value_by c.self.inside.opening.value _ _ _ _ (pack_taken c.self.inside.repo _ pack _ _ c.if-is_err.ensures.ok c.if-is_err.ensures.setup c.in_ok-border.ensures c.border-2.ensures)
+    (value_by c.self.inside.opening.value _ _ _ _ (pack_taken c.self.inside.repo _ pack _ _ c.in_ok-add.ensures.state c.in_ok-add.ensures.setup c.in_ok-border.ensures c.border-2.ensures)
     (pushed c.self.inside.entries.items _ _ _ _ c.push_reserved.ensures.items c.in_ok-reserve.ensures.items
     (c.in_ok-entry.ensures ∙ ap (λ (es : Entries). entries.Take c.args.pass (map (λ e. e.0) es) c.args.shallow.now c.args.unshallow.now) c.as_slice.ensures.value)))
 
 pub returns-clause-ok : goal.returns-clause-ok
 returns-clause-ok c =
     let pack : Pack = record { objects = c.args.objects.items; shallow = c.args.shallow.now; unshallow = c.args.unshallow.now } in
-    value_by c.self.inside.opening.value _ _ _ _ (pack_taken c.self.inside.repo _ pack _ _ c.if-is_err.ensures.ok c.if-is_err.ensures.setup c.in_ok-border.ensures c.border-2.ensures)
+    value_by c.self.inside.opening.value _ _ _ _ (pack_taken c.self.inside.repo _ pack _ _ c.in_ok-add.ensures.state c.in_ok-add.ensures.setup c.in_ok-border.ensures c.border-2.ensures)
     (pushed c.self.inside.entries.items _ _ _ _ c.push_reserved.ensures.items c.in_ok-reserve.ensures.items
     (c.in_ok-entry.ensures ∙ ap (λ (es : Entries). entries.Take c.args.pass (map (λ e. e.0) es) c.args.shallow.now c.args.unshallow.now) c.as_slice.ensures.value))
     ∙ ap (λ (v : SharedValue). done v (Take c.args.pass c.args.wants.now pack)) c.self.view_is
