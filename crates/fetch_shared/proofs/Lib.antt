@@ -13,3 +13,4 @@ pub mod TurnSteps
 pub mod SeatSteps
 pub mod Back
 pub mod Turned
+pub mod Starts

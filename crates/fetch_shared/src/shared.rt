@@ -58,7 +58,9 @@ impl SharedRepository {
     {
         let opening = Opening::of(&repo);
         let state = SharedState::new(alloc, repo)?;
-        let settings = state.settings().try_clone(alloc)?;
+        let Ok(settings) = state.settings().try_clone(alloc) else {
+            return Err(SharedError::NoMemory);
+        };
         let mut slots = Vec::new(alloc);
         if slots.push(Some(state)).is_err() {
             return Err(SharedError::NoMemory);

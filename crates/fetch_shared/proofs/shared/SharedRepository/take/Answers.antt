@@ -1,11 +1,20 @@
-use Rattle.std.proofs.Common.{◌≡◌, ℕ, List, [], ◌∷◌, ◌++◌, length, refl, sym, ap, ◌∙◌, map}
+use Rattle.std.proofs.Common.{◌≡◌, ℕ, List, [], ◌∷◌, ◌++◌, length, refl, sym, ap, ◌∙◌, subst, map}
 use Rattle.fetch_shared.specs.declared.entry.Entry.TheVariants as entries
 use Rattle.fetch_shared.specs.Machine.Event.{Take}
+use Rattle.fetch_store.specs.Stores.{AreOf}
+use Rattle.fetch_remote.specs.RepositoryValues.{RepositoryValue}
 use Rattle.fetch_shared.specs.Received.{pack_in}
 use Rattle.fetch_shared.specs.Shared.{SharedValue, done, snapshot_of}
 use Rattle.fetch_shared.specs.Turns.{turning, resting}
+use Rattle.fetch_shared.proofs.Effects.{kept_hash}
 use Rattle.fetch_shared.proofs.Turned.{entered, refused}
 use Rattle.fetch_shared.proofs.shared.SharedRepository.take.Goals as goal
+
+pub take-requires-clause-of_hash : goal.take-requires-clause-of_hash
+take-requires-clause-of_hash g c =
+    let took = c.take_turn-state.ensures in
+    let opening = took.opening ∙ (ap (λ p. p.shared.opening) c.pass.view_is ∙ ap (λ s. s.opening) c.requires.shared) in
+    subst (λ h. AreOf h c.args.pack.objects.items) (sym (kept_hash c.take_turn-state.result took.kept ∙ ap (λ (r : RepositoryValue). r.state.hash) opening)) c.requires.of_hash
 
 pub record-requires-clause-grown : goal.record-requires-clause-grown
 record-requires-clause-grown g c =
