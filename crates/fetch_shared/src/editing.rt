@@ -9,9 +9,7 @@ ghost use Rattle.fetch_shared.specs.Shared.{Answers};
 ghost use Rattle.fetch_shared.specs.declared.error.SharedError.TheVariants as errors;
 
 use crate::error::SharedError;
-use fetch_refs::{
-    Change, PackedRefs, PreviousValue, RefEdit, RefError, RefLog, Signature, Target,
-};
+use fetch_refs::{Change, PackedRefs, PreviousValue, RefEdit, RefError, RefLog, Signature, Target};
 use fetch_remote::Repository;
 use fetch_specs::FullName;
 use fetch_store::{NoMemory, Text};

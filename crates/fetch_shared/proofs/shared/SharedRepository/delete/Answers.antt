@@ -16,8 +16,8 @@ returns-in-Ok-clause-back g c =
     let v = c.pass.inside.seat.me.0 in let took = c.take_turn-state.ensures in let now = c.delete.new.self in
     let me = ap (λ m. m.0) c.record.ensures.turn ∙ ap (λ m. resting (turning m.0 now.journal)) took.turn in
     let t = entered (λ n. Delete n c.args.names.now) (λ n (s : SharedValue). length s.journal) c.pass.inside.seat.table_id c.record.new.seat.table_id v c.record.new.seat.me.0 c.args.pass c.pass.view_is c.pass.inside.number c.pass.invariant.number_is c.take_turn-state.result
-        c.pass.invariant.stage (c.record.ensures.table ∙ took.table) took.opening took.finds took.kept (λ n. entries.Delete n c.args.names.now) now c.in-Ok.place me c.in-Ok.ensures.ok (λ n. refl) (λ n. refl) c.record.ensures.kept c.in-Ok.ensures.refusal
-        (c.in-Ok.ensures.place) in
+    c.pass.invariant.stage (c.record.ensures.table ∙ took.table) took.opening took.finds took.kept (λ n. entries.Delete n c.args.names.now) now c.in-Ok.place me c.in-Ok.ensures.ok (λ n. refl) (λ n. refl) c.record.ensures.kept c.in-Ok.ensures.refusal
+    (c.in-Ok.ensures.place) in
     t.back
 
 pub returns-in-Ok-clause-turn : goal.returns-in-Ok-clause-turn
@@ -25,8 +25,8 @@ returns-in-Ok-clause-turn g c =
     let v = c.pass.inside.seat.me.0 in let took = c.take_turn-state.ensures in let now = c.delete.new.self in
     let me = ap (λ m. m.0) c.record.ensures.turn ∙ ap (λ m. resting (turning m.0 now.journal)) took.turn in
     let t = entered (λ n. Delete n c.args.names.now) (λ n (s : SharedValue). length s.journal) c.pass.inside.seat.table_id c.record.new.seat.table_id v c.record.new.seat.me.0 c.args.pass c.pass.view_is c.pass.inside.number c.pass.invariant.number_is c.take_turn-state.result
-        c.pass.invariant.stage (c.record.ensures.table ∙ took.table) took.opening took.finds took.kept (λ n. entries.Delete n c.args.names.now) now c.in-Ok.place me c.in-Ok.ensures.ok (λ n. refl) (λ n. refl) c.record.ensures.kept c.in-Ok.ensures.refusal
-        (c.in-Ok.ensures.place) in
+    c.pass.invariant.stage (c.record.ensures.table ∙ took.table) took.opening took.finds took.kept (λ n. entries.Delete n c.args.names.now) now c.in-Ok.place me c.in-Ok.ensures.ok (λ n. refl) (λ n. refl) c.record.ensures.kept c.in-Ok.ensures.refusal
+    (c.in-Ok.ensures.place) in
     t.turn
 
 pub returns-in-Ok-clause-added : goal.returns-in-Ok-clause-added
@@ -34,8 +34,8 @@ returns-in-Ok-clause-added g c =
     let v = c.pass.inside.seat.me.0 in let took = c.take_turn-state.ensures in let now = c.delete.new.self in
     let me = ap (λ m. m.0) c.record.ensures.turn ∙ ap (λ m. resting (turning m.0 now.journal)) took.turn in
     let t = entered (λ n. Delete n c.args.names.now) (λ n (s : SharedValue). length s.journal) c.pass.inside.seat.table_id c.record.new.seat.table_id v c.record.new.seat.me.0 c.args.pass c.pass.view_is c.pass.inside.number c.pass.invariant.number_is c.take_turn-state.result
-        c.pass.invariant.stage (c.record.ensures.table ∙ took.table) took.opening took.finds took.kept (λ n. entries.Delete n c.args.names.now) now c.in-Ok.place me c.in-Ok.ensures.ok (λ n. refl) (λ n. refl) c.record.ensures.kept c.in-Ok.ensures.refusal
-        (c.in-Ok.ensures.place) in
+    c.pass.invariant.stage (c.record.ensures.table ∙ took.table) took.opening took.finds took.kept (λ n. entries.Delete n c.args.names.now) now c.in-Ok.place me c.in-Ok.ensures.ok (λ n. refl) (λ n. refl) c.record.ensures.kept c.in-Ok.ensures.refusal
+    (c.in-Ok.ensures.place) in
     t.added
 
 pub returns-in-Ok-clause-place : goal.returns-in-Ok-clause-place
@@ -43,8 +43,8 @@ returns-in-Ok-clause-place g c =
     let v = c.pass.inside.seat.me.0 in let took = c.take_turn-state.ensures in let now = c.delete.new.self in
     let me = ap (λ m. m.0) c.record.ensures.turn ∙ ap (λ m. resting (turning m.0 now.journal)) took.turn in
     let t = entered (λ n. Delete n c.args.names.now) (λ n (s : SharedValue). length s.journal) c.pass.inside.seat.table_id c.record.new.seat.table_id v c.record.new.seat.me.0 c.args.pass c.pass.view_is c.pass.inside.number c.pass.invariant.number_is c.take_turn-state.result
-        c.pass.invariant.stage (c.record.ensures.table ∙ took.table) took.opening took.finds took.kept (λ n. entries.Delete n c.args.names.now) now c.in-Ok.place me c.in-Ok.ensures.ok (λ n. refl) (λ n. refl) c.record.ensures.kept c.in-Ok.ensures.refusal
-        (c.in-Ok.ensures.place) in
+    c.pass.invariant.stage (c.record.ensures.table ∙ took.table) took.opening took.finds took.kept (λ n. entries.Delete n c.args.names.now) now c.in-Ok.place me c.in-Ok.ensures.ok (λ n. refl) (λ n. refl) c.record.ensures.kept c.in-Ok.ensures.refusal
+    (c.in-Ok.ensures.place) in
     t.placed _ c.in-Ok.ensures.place
 
 pub returns-in-Err-clause-back : goal.returns-in-Err-clause-back
@@ -52,7 +52,7 @@ returns-in-Err-clause-back g c =
     let v = c.pass.inside.seat.me.0 in let took = c.take_turn-state.ensures in
     let me = ap (λ m. m.0) c.give_back.ensures.turn ∙ ap (λ m. resting m.0) took.turn in
     let t = refused (λ n. Delete n c.args.names.now) (λ n (s : SharedValue). length s.journal) c.pass.inside.seat.table_id c.give_back.new.seat.table_id v c.give_back.new.seat.me.0 c.args.pass c.pass.view_is c.pass.inside.number c.pass.invariant.number_is c.take_turn-state.result
-        c.pass.invariant.stage (c.give_back.ensures.table ∙ took.table) took.opening took.finds took.kept c.in-Err.e me c.in-Err.ensures.refusal in
+    c.pass.invariant.stage (c.give_back.ensures.table ∙ took.table) took.opening took.finds took.kept c.in-Err.e me c.in-Err.ensures.refusal in
     t.back
 
 pub returns-in-Err-clause-turn : goal.returns-in-Err-clause-turn
@@ -60,7 +60,7 @@ returns-in-Err-clause-turn g c =
     let v = c.pass.inside.seat.me.0 in let took = c.take_turn-state.ensures in
     let me = ap (λ m. m.0) c.give_back.ensures.turn ∙ ap (λ m. resting m.0) took.turn in
     let t = refused (λ n. Delete n c.args.names.now) (λ n (s : SharedValue). length s.journal) c.pass.inside.seat.table_id c.give_back.new.seat.table_id v c.give_back.new.seat.me.0 c.args.pass c.pass.view_is c.pass.inside.number c.pass.invariant.number_is c.take_turn-state.result
-        c.pass.invariant.stage (c.give_back.ensures.table ∙ took.table) took.opening took.finds took.kept c.in-Err.e me c.in-Err.ensures.refusal in
+    c.pass.invariant.stage (c.give_back.ensures.table ∙ took.table) took.opening took.finds took.kept c.in-Err.e me c.in-Err.ensures.refusal in
     t.turn
 
 pub returns-in-Err-clause-none : goal.returns-in-Err-clause-none
@@ -68,5 +68,5 @@ returns-in-Err-clause-none g c =
     let v = c.pass.inside.seat.me.0 in let took = c.take_turn-state.ensures in
     let me = ap (λ m. m.0) c.give_back.ensures.turn ∙ ap (λ m. resting m.0) took.turn in
     let t = refused (λ n. Delete n c.args.names.now) (λ n (s : SharedValue). length s.journal) c.pass.inside.seat.table_id c.give_back.new.seat.table_id v c.give_back.new.seat.me.0 c.args.pass c.pass.view_is c.pass.inside.number c.pass.invariant.number_is c.take_turn-state.result
-        c.pass.invariant.stage (c.give_back.ensures.table ∙ took.table) took.opening took.finds took.kept c.in-Err.e me c.in-Err.ensures.refusal in
+    c.pass.invariant.stage (c.give_back.ensures.table ∙ took.table) took.opening took.finds took.kept c.in-Err.e me c.in-Err.ensures.refusal in
     t.none

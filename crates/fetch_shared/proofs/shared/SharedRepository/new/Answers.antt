@@ -12,4 +12,4 @@ new-requires-2 c =
     (ap (λ (s : SharedValue). s.journal) c.in_ok-state.ensures.opened) (ap (λ (s : SharedValue). s.opening) c.in_ok-state.ensures.opened ∙ sym c.of-opening.ensures)
 
 pub returns-clause-all : goal.returns-clause-all
-returns-clause-all c n low = subst (λ (u : View). Holds (own u) n) (sym (ap (λ m. m.0) c.in-Ok-2.ensures.ok.4)) (holds_all c.of-opening.result.value n low)
+returns-clause-all c n low = subst (λ (u : View). Holds (own u) n) (sym (ap (λ m. m.0) c.in-Ok-new.ensures.ok.4)) (holds_all c.of-opening.result.value n low)

@@ -26,8 +26,8 @@ returns-in-Ok-clause-back g c =
     let v = c.pass.inside.seat.me.0 in let took = c.take_turn-state.ensures in let now = c.take.new.self in
     let me = ap (λ m. m.0) c.record.ensures.turn ∙ ap (λ m. resting (turning m.0 now.journal)) took.turn in
     let t = entered (λ n. Take n c.args.wants.now (pack_in c.args.pack)) (λ n s. snapshot_of (done s (Take n c.args.wants.now (pack_in c.args.pack)))) c.pass.inside.seat.table_id c.record.new.seat.table_id v c.record.new.seat.me.0 c.args.pass c.pass.view_is c.pass.inside.number c.pass.invariant.number_is c.take_turn-state.result
-        c.pass.invariant.stage (c.record.ensures.table ∙ took.table) took.opening took.finds took.kept (λ n. entries.Take n (map (λ e. e.0) c.args.pack.objects.items) c.args.pack.shallow.now c.args.pack.unshallow.now) now c.in-Ok.taken me c.in-Ok.ensures.ok (λ n. refl) (λ n. refl) c.record.ensures.kept c.in-Ok.ensures.refusal
-        (c.in-Ok.ensures.taken ∙ ap snapshot_of c.in-Ok.ensures.ok) in
+    c.pass.invariant.stage (c.record.ensures.table ∙ took.table) took.opening took.finds took.kept (λ n. entries.Take n (map (λ e. e.0) c.args.pack.objects.items) c.args.pack.shallow.now c.args.pack.unshallow.now) now c.in-Ok.taken me c.in-Ok.ensures.ok (λ n. refl) (λ n. refl) c.record.ensures.kept c.in-Ok.ensures.refusal
+    (c.in-Ok.ensures.taken ∙ ap snapshot_of c.in-Ok.ensures.ok) in
     t.back
 
 pub returns-in-Ok-clause-turn : goal.returns-in-Ok-clause-turn
@@ -35,8 +35,8 @@ returns-in-Ok-clause-turn g c =
     let v = c.pass.inside.seat.me.0 in let took = c.take_turn-state.ensures in let now = c.take.new.self in
     let me = ap (λ m. m.0) c.record.ensures.turn ∙ ap (λ m. resting (turning m.0 now.journal)) took.turn in
     let t = entered (λ n. Take n c.args.wants.now (pack_in c.args.pack)) (λ n s. snapshot_of (done s (Take n c.args.wants.now (pack_in c.args.pack)))) c.pass.inside.seat.table_id c.record.new.seat.table_id v c.record.new.seat.me.0 c.args.pass c.pass.view_is c.pass.inside.number c.pass.invariant.number_is c.take_turn-state.result
-        c.pass.invariant.stage (c.record.ensures.table ∙ took.table) took.opening took.finds took.kept (λ n. entries.Take n (map (λ e. e.0) c.args.pack.objects.items) c.args.pack.shallow.now c.args.pack.unshallow.now) now c.in-Ok.taken me c.in-Ok.ensures.ok (λ n. refl) (λ n. refl) c.record.ensures.kept c.in-Ok.ensures.refusal
-        (c.in-Ok.ensures.taken ∙ ap snapshot_of c.in-Ok.ensures.ok) in
+    c.pass.invariant.stage (c.record.ensures.table ∙ took.table) took.opening took.finds took.kept (λ n. entries.Take n (map (λ e. e.0) c.args.pack.objects.items) c.args.pack.shallow.now c.args.pack.unshallow.now) now c.in-Ok.taken me c.in-Ok.ensures.ok (λ n. refl) (λ n. refl) c.record.ensures.kept c.in-Ok.ensures.refusal
+    (c.in-Ok.ensures.taken ∙ ap snapshot_of c.in-Ok.ensures.ok) in
     t.turn
 
 pub returns-in-Ok-clause-added : goal.returns-in-Ok-clause-added
@@ -44,8 +44,8 @@ returns-in-Ok-clause-added g c =
     let v = c.pass.inside.seat.me.0 in let took = c.take_turn-state.ensures in let now = c.take.new.self in
     let me = ap (λ m. m.0) c.record.ensures.turn ∙ ap (λ m. resting (turning m.0 now.journal)) took.turn in
     let t = entered (λ n. Take n c.args.wants.now (pack_in c.args.pack)) (λ n s. snapshot_of (done s (Take n c.args.wants.now (pack_in c.args.pack)))) c.pass.inside.seat.table_id c.record.new.seat.table_id v c.record.new.seat.me.0 c.args.pass c.pass.view_is c.pass.inside.number c.pass.invariant.number_is c.take_turn-state.result
-        c.pass.invariant.stage (c.record.ensures.table ∙ took.table) took.opening took.finds took.kept (λ n. entries.Take n (map (λ e. e.0) c.args.pack.objects.items) c.args.pack.shallow.now c.args.pack.unshallow.now) now c.in-Ok.taken me c.in-Ok.ensures.ok (λ n. refl) (λ n. refl) c.record.ensures.kept c.in-Ok.ensures.refusal
-        (c.in-Ok.ensures.taken ∙ ap snapshot_of c.in-Ok.ensures.ok) in
+    c.pass.invariant.stage (c.record.ensures.table ∙ took.table) took.opening took.finds took.kept (λ n. entries.Take n (map (λ e. e.0) c.args.pack.objects.items) c.args.pack.shallow.now c.args.pack.unshallow.now) now c.in-Ok.taken me c.in-Ok.ensures.ok (λ n. refl) (λ n. refl) c.record.ensures.kept c.in-Ok.ensures.refusal
+    (c.in-Ok.ensures.taken ∙ ap snapshot_of c.in-Ok.ensures.ok) in
     t.added
 
 pub returns-in-Err-clause-back : goal.returns-in-Err-clause-back
@@ -53,7 +53,7 @@ returns-in-Err-clause-back g c =
     let v = c.pass.inside.seat.me.0 in let took = c.take_turn-state.ensures in
     let me = ap (λ m. m.0) c.give_back.ensures.turn ∙ ap (λ m. resting m.0) took.turn in
     let t = refused (λ n. Take n c.args.wants.now (pack_in c.args.pack)) (λ n s. snapshot_of (done s (Take n c.args.wants.now (pack_in c.args.pack)))) c.pass.inside.seat.table_id c.give_back.new.seat.table_id v c.give_back.new.seat.me.0 c.args.pass c.pass.view_is c.pass.inside.number c.pass.invariant.number_is c.take_turn-state.result
-        c.pass.invariant.stage (c.give_back.ensures.table ∙ took.table) took.opening took.finds took.kept c.in-Err.e me c.in-Err.ensures.refusal in
+    c.pass.invariant.stage (c.give_back.ensures.table ∙ took.table) took.opening took.finds took.kept c.in-Err.e me c.in-Err.ensures.refusal in
     t.back
 
 pub returns-in-Err-clause-turn : goal.returns-in-Err-clause-turn
@@ -61,7 +61,7 @@ returns-in-Err-clause-turn g c =
     let v = c.pass.inside.seat.me.0 in let took = c.take_turn-state.ensures in
     let me = ap (λ m. m.0) c.give_back.ensures.turn ∙ ap (λ m. resting m.0) took.turn in
     let t = refused (λ n. Take n c.args.wants.now (pack_in c.args.pack)) (λ n s. snapshot_of (done s (Take n c.args.wants.now (pack_in c.args.pack)))) c.pass.inside.seat.table_id c.give_back.new.seat.table_id v c.give_back.new.seat.me.0 c.args.pass c.pass.view_is c.pass.inside.number c.pass.invariant.number_is c.take_turn-state.result
-        c.pass.invariant.stage (c.give_back.ensures.table ∙ took.table) took.opening took.finds took.kept c.in-Err.e me c.in-Err.ensures.refusal in
+    c.pass.invariant.stage (c.give_back.ensures.table ∙ took.table) took.opening took.finds took.kept c.in-Err.e me c.in-Err.ensures.refusal in
     t.turn
 
 pub returns-in-Err-clause-none : goal.returns-in-Err-clause-none
@@ -69,5 +69,5 @@ returns-in-Err-clause-none g c =
     let v = c.pass.inside.seat.me.0 in let took = c.take_turn-state.ensures in
     let me = ap (λ m. m.0) c.give_back.ensures.turn ∙ ap (λ m. resting m.0) took.turn in
     let t = refused (λ n. Take n c.args.wants.now (pack_in c.args.pack)) (λ n s. snapshot_of (done s (Take n c.args.wants.now (pack_in c.args.pack)))) c.pass.inside.seat.table_id c.give_back.new.seat.table_id v c.give_back.new.seat.me.0 c.args.pass c.pass.view_is c.pass.inside.number c.pass.invariant.number_is c.take_turn-state.result
-        c.pass.invariant.stage (c.give_back.ensures.table ∙ took.table) took.opening took.finds took.kept c.in-Err.e me c.in-Err.ensures.refusal in
+    c.pass.invariant.stage (c.give_back.ensures.table ∙ took.table) took.opening took.finds took.kept c.in-Err.e me c.in-Err.ensures.refusal in
     t.none
