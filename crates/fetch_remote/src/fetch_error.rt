@@ -1,5 +1,7 @@
 //! Why a fetch was refused.
 
+ghost use Rattle.std.specs.Prelude.{◌≡◌, IfOk};
+
 use crate::{fetch, prepare};
 use fetch_store::NoMemory;
 use thiserror::Error;
@@ -18,6 +20,20 @@ pub enum FetchError {
     Unbuilt,
     #[error("out of memory")]
     NoMemory,
+}
+
+impl FetchError {
+    /// An equal error.
+    pub fn try_clone(&self) -> Result<FetchError, NoMemory>
+        ensures { IfOk result (λ copy. copy ≡ self.now) }
+    {
+        match self {
+            FetchError::Prepare(e) => Ok(FetchError::Prepare(e.try_clone()?)),
+            FetchError::Receive(e) => Ok(FetchError::Receive(e.try_clone()?)),
+            FetchError::Unbuilt => Ok(FetchError::Unbuilt),
+            FetchError::NoMemory => Ok(FetchError::NoMemory),
+        }
+    }
 }
 
 /// Want of memory stays want of memory.
