@@ -35,7 +35,7 @@ use Rattle.fetch_conversation.proofs.AwaitedTold.{TellsReply, reply_tells}
 use Rattle.fetch_conversation.proofs.Tied.{answer_of, answer_by, at_rest, IsTied}
 
 -- a session that awaits the reply, and this came of it
-abbrev reply_state : SessionState → ℕ → AskedReply → List ℕ → SessionState
+abbrev pub reply_state : SessionState → ℕ → AskedReply → List ℕ → SessionState
 reply_state s bound asked bytes = record s { intake = record { bound = bound; place = 0; pending = bytes; reading = Some (reading.Reply asked parts.Beginning no_reply) } }
 
 -- behind a reply nothing is asked
@@ -80,10 +80,10 @@ pieces_by s bound asked pending others (Err faults.TooLong) well is tells = then
 pieces_by s bound asked pending others (Err (faults.Said text)) well is tells = then_told s bound asked pending others (Err (faults.Said text)) is (λ p e. cc)
 
 -- what is to be sent of a request, before its reply is read
-abbrev asking_state : SessionState → Request → SessionState
+abbrev pub asking_state : SessionState → Request → SessionState
 asking_state s r = record s { outgoing = lines_text (request_lines r); reply = None }
 
-fed_requested : (s : SessionState) (r : Request) (read_pack : Bool) (stream : List ℕ) → s.trouble ≡ None
+pub fed_requested : (s : SessionState) (r : Request) (read_pack : Bool) (stream : List ℕ) → s.trouble ≡ None
     → fed (requested s r read_pack) stream ≡ read_one rests (reply_state (asking_state s r) s.intake.bound (asked_by s r read_pack) (s.intake.pending ++ stream))
 fed_requested s r read_pack stream well =
     let bound : ℕ = s.intake.bound in
