@@ -19,7 +19,7 @@ use Rattle.fetch_conversation.specs.Rounds.{CourseValue, Negotiated, first_cours
 use Rattle.fetch_conversation.specs.declared.conversing.View.{View}
 use Rattle.fetch_conversation.specs.declared.fetch.Error.{Error}
 use Rattle.fetch_conversation.proofs.Chained.{sent_behind, answer_behind, sent_then, answer_then}
-use Rattle.fetch_conversation.proofs.Rounds.{round_in, behind_round, negotiating_is, goes_on, ends_here}
+use Rattle.fetch_conversation.proofs.Held.{round_in, behind_round, negotiating_is, goes_on, ends_here}
 
 module _ (bound : ℕ) (t : TermsValue) (g : Graph) (algorithm : Algorithm) (view : View) where
   -- a course that open rounds lead to
@@ -50,9 +50,9 @@ module _ (bound : ℕ) (t : TermsValue) (g : Graph) (algorithm : Algorithm) (vie
       (All-from_recursion (λ (r : Round). r.done ≡ false) c.rounds h.open)
 
   -- the same is sent to one who says this, and the same is answered
-  record IsSame (a b : Conversation Negotiated Error) : Type 0 where
-    sent : (stream : List ℕ) → sent_in bound a stream ≡ sent_in bound b stream
-    answered : (stream : List ℕ) → answer_in bound a stream ≡ answer_in bound b stream
+  pub record IsSame (a b : Conversation Negotiated Error) : Type 0 where
+    pub sent : (stream : List ℕ) → sent_in bound a stream ≡ sent_in bound b stream
+    pub answered : (stream : List ℕ) → answer_in bound a stream ≡ answer_in bound b stream
 
   same_none : (a : Conversation Negotiated Error) → IsSame a a
   same_none a = record { sent = λ stream. refl; answered = λ stream. refl }

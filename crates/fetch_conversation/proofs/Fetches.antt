@@ -18,7 +18,7 @@ use Rattle.fetch_conversation.specs.declared.fetch.Error.{Error}
 use Rattle.fetch_conversation.specs.declared.fetch.Error.TheVariants as errors
 use Rattle.fetch_conversation.specs.declared.negotiate.Negotiate.{Negotiate}
 use Rattle.fetch_conversation.proofs.Chained.{concludes_then, breaks_late, breaks_early}
-use Rattle.fetch_conversation.proofs.Rounds.{concluded_at_once, broken_at_once}
+use Rattle.fetch_conversation.proofs.Held.{concluded_at_once, broken_at_once}
 
 abbrev Holds : Bool → ℕ → Option Talk → Option Talk → List ℕ → List ℕ → Graph → TermsValue → Result (Option Received) Error → Type 0
 Holds answers bound old new pending rest g t result = Converses is_free_receiving answers bound old new pending rest (converse_stage bound g t) result

@@ -11,7 +11,7 @@ pub mod Replied
 pub mod Listings
 pub mod Requests
 pub mod Exchanged
-pub mod Rounds
+pub mod Held
 pub mod Told
 pub mod Ending
 pub mod Fetches

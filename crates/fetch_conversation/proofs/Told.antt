@@ -30,7 +30,7 @@ use Rattle.fetch_conversation.specs.Rounds.{CourseValue, Negotiated, first_cours
 use Rattle.fetch_conversation.specs.declared.conversing.Received.{Received}
 use Rattle.fetch_conversation.specs.declared.fetch.Error.{Error}
 use Rattle.fetch_conversation.proofs.Chained.{sent_behind, answer_behind, sent_then, answer_then}
-use Rattle.fetch_conversation.proofs.Rounds.{round_in, behind_round, negotiating_is, negotiating_none, goes_on, ends_here}
+use Rattle.fetch_conversation.proofs.Held.{round_in, behind_round, negotiating_is, negotiating_none, goes_on, ends_here}
 
 -- ---- one request
 
@@ -266,7 +266,7 @@ fetching_sends bound g t stream =
       answered = λ r rest is. brings_told bound t (answer_in bound tree stream) s.rounds r rest (λ n left e. s.answered n left e) (sym (answer_then bound tree (λ n. ends (received t n)) stream) ∙ is);
     }
 
-wanting_sends : (bound : ℕ) (g : Graph) (t : TermsValue) (stream : List ℕ) (wants : List ObjectId) → SendsRounds bound g t stream (wanting bound g t wants)
+pub wanting_sends : (bound : ℕ) (g : Graph) (t : TermsValue) (stream : List ℕ) (wants : List ObjectId) → SendsRounds bound g t stream (wanting bound g t wants)
 wanting_sends bound g t stream [] = sends_nothing bound g t stream _ (Ok None) refl (λ r is. cc)
 wanting_sends bound g t stream (id ∷ ids) = fetching_sends bound g t stream
 
