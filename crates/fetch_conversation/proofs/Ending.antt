@@ -25,7 +25,7 @@ module _ (bound : ℕ) (t : TermsValue) (g : Graph) (algorithm : Algorithm) (vie
   -- a course that open rounds lead to
   record IsCourse (c : CourseValue) : Type 0 where
     are : (more : List Round) → AreRounds g algorithm c.size c.so_far more → AreRounds g algorithm first_size (begun algorithm view.tips view.border) (c.rounds ++ more)
-    open : AllByRecursion (λ (r : Round). r.done ≡ false) c.rounds
+    going : AllByRecursion (λ (r : Round). r.done ≡ false) c.rounds
 
   open_more : (rounds : List Round) (r : Round) → AllByRecursion (λ (r : Round). r.done ≡ false) rounds → r.done ≡ false → AllByRecursion (λ (r : Round). r.done ≡ false) (rounds ++ r ∷ [])
   open_more [] r all one = (one, tt)
@@ -41,13 +41,13 @@ module _ (bound : ℕ) (t : TermsValue) (g : Graph) (algorithm : Algorithm) (vie
       let r : Round = round_of c w reply in
       record {
         are = λ more next. subst (λ (l : List Round). AreRounds g algorithm first_size (begun algorithm view.tips view.border) l) (sym (append_assoc c.rounds (r ∷ []) more)) (h.are (r ∷ more) (record { haves = refl; done = refl }, next));
-        open = open_more c.rounds r h.open (or_left (is_short c w) reply.last going);
+        going = open_more c.rounds r h.going (or_left (is_short c w) reply.last going);
       }
 
   few : (c : CourseValue) → IsCourse c → 16 * length c.rounds ≤ map.len g
   few c h =
       are_few g algorithm view.tips view.border c.rounds (subst (λ (l : List Round). AreRounds g algorithm first_size (begun algorithm view.tips view.border) l) (append-nil c.rounds) (h.are [] tt))
-      (All-from_recursion (λ (r : Round). r.done ≡ false) c.rounds h.open)
+      (All-from_recursion (λ (r : Round). r.done ≡ false) c.rounds h.going)
 
   -- the same is sent to one who says this, and the same is answered
   pub record IsSame (a b : Conversation Negotiated Error) : Type 0 where
@@ -85,14 +85,15 @@ module _ (bound : ℕ) (t : TermsValue) (g : Graph) (algorithm : Algorithm) (vie
   same_rounds : (left more : ℕ) (c : CourseValue) → IsCourse c → map.len g < left + length c.rounds → IsSame (negotiating (left + more) bound t g algorithm c) (negotiating left bound t g algorithm c)
   same_rounds zero more c h less = let le = few c h in absurd (omega arith)
   same_rounds (suc left) more c h less =
-      same_by _ _ _ _ (negotiating_is bound t g algorithm (left + more) c) (negotiating_is bound t g algorithm left c)
+      let sum : suc left + more ≡ suc (left + more) = omega arith in
+      same_by _ _ _ _ (ap (λ (n : ℕ). negotiating n bound t g algorithm c) sum ∙ negotiating_is bound t g algorithm (left + more) c) (negotiating_is bound t g algorithm left c)
       (same_then (round_in bound t g algorithm c) (λ reply. behind_round bound t g algorithm (left + more) c reply) (λ reply. behind_round bound t g algorithm left c reply)
       (λ reply. same_behind left more c reply (is_end c (next_window g algorithm c) reply) refl
       (λ going. same_rounds left more (course_after algorithm c (next_window g algorithm c) reply) (course_on c reply h going)
       (let l = length-append c.rounds (round_of c (next_window g algorithm c) reply ∷ []) in omega arith))))
 
   first_is : IsCourse (first_course algorithm view)
-  first_is = record { are = λ more h. h; open = tt }
+  first_is = record { are = λ more h. h; going = tt }
 
   pub never_used_up : (more : ℕ) → IsSame (negotiating (suc (map.len g) + more) bound t g algorithm (first_course algorithm view)) (negotiating (suc (map.len g)) bound t g algorithm (first_course algorithm view))
   never_used_up more = same_rounds (suc (map.len g)) more (first_course algorithm view) first_is (omega arith)

@@ -22,7 +22,7 @@ use Rattle.fetch_negotiate.specs.Windows.{Window}
 use Rattle.fetch_negotiate.specs.declared.algorithm.Algorithm.{Algorithm}
 use Rattle.fetch_negotiate.specs.declared.algorithm.Round.{Round}
 use Rattle.fetch_conversation.specs.Conversation.{Conversation, ends, asks, asks_unless, and_then, after_reply, beside, sent_in, answer_in}
-use Rattle.fetch_conversation.specs.ConverseStage.{algorithm_in, no_mapping, other_hash, unfit, lacking, received, read_of, rejected, result_unless, unpacked, without_pack, fetching, wanting, converse_stage}
+use Rattle.fetch_conversation.specs.ConverseStage.{algorithm_in, no_mapping, other_hash, unfit, lacking, received, read_of, rejected, result_unless, unpacked, with_pack, without_pack, fetching, wanting, converse_stage}
 use Rattle.fetch_conversation.specs.Exchange.{TermsValue, asked_by, haves_told, too_long, failed, replied, reply_to, exchange}
 use Rattle.fetch_conversation.specs.ListStage.{unless}
 use Rattle.fetch_conversation.specs.Requested.{requests_of, AreOpen, TellsRounds}
@@ -68,11 +68,15 @@ exchange_sends bound t haves done stream = one_or_none bound (fetch_request (ask
 
 -- ---- the rounds
 
-same_first : {A B : Type 0} (x y : A) (u v : B) → (x, u) ≡ (y, v) → x ≡ y
-same_first x y u v is = ap (λ (p : _ × _). p.0) is
+abbrev pair : {A B : Type 0} → A → B → A × B
+pair x u = (x, u)
 
-same_told : {A B E : Type 0} (x y : A) (u v : B) → Ok {E = E} (x, u) ≡ Ok (y, v) → x ≡ y
-same_told x y u v is = let p : (x, u) ≡ (y, v) = cc in same_first x y u v p
+same_first : {A B : Type 0} (x y : A) (u v : B) → pair x u ≡ pair y v → x ≡ y
+same_first {A} {B} x y u v is = ap (λ (p : A × B). p.0) is
+
+-- what was answered, and is known to be this
+same_told : {A B E : Type 0} (answer : Result (A × B) E) (x y : A) (u v : B) → answer ≡ Ok (x, u) → answer ≡ Ok (y, v) → x ≡ y
+same_told answer x y u v is at = let p : pair x u ≡ pair y v = cc in same_first x y u v p
 
 or_left : (a b : Bool) → (a || b) ≡ false → a ≡ false
 or_left false b is = refl
@@ -114,7 +118,7 @@ module _ (bound : ℕ) (t : TermsValue) (g : Graph) (algorithm : Algorithm) wher
   pub record Sends (more : ℕ) (c : CourseValue) (stream : List ℕ) : Type 0 where
     pub rounds : List Round
     pub are : AreRounds g algorithm c.size c.so_far rounds
-    pub open : AreOpen rounds
+    pub going : AreOpen rounds
     pub lines : sent_in bound (negotiating more bound t g algorithm c) stream ≡ requests_of (asked_by t) c.shared rounds
     pub answered : (n : Negotiated) (rest : List ℕ) → answer_in bound (negotiating more bound t g algorithm c) stream ≡ Ok (n, rest) → n.rounds ≡ c.rounds ++ rounds
 
@@ -135,7 +139,7 @@ module _ (bound : ℕ) (t : TermsValue) (g : Graph) (algorithm : Algorithm) wher
   no_round more c stream e none refused = record {
     rounds = [];
     are = tt;
-    open = tt;
+    going = tt;
     lines = none;
     answered = λ n rest is. absurd (cc);
   }
@@ -145,7 +149,7 @@ module _ (bound : ℕ) (t : TermsValue) (g : Graph) (algorithm : Algorithm) wher
   last_round more c stream reply sent answered = record {
     rounds = round_of c (window_in c) reply ∷ [];
     are = (record { haves = refl; done = refl }, tt);
-    open = (λ some. absurd (some refl), tt);
+    going = (λ some. absurd (some refl), tt);
     lines = sent;
     answered = answered;
   }
@@ -156,7 +160,7 @@ module _ (bound : ℕ) (t : TermsValue) (g : Graph) (algorithm : Algorithm) wher
   more_rounds more c stream rest reply going s sent answer = record {
     rounds = round_of c (window_in c) reply ∷ s.rounds;
     are = (record { haves = refl; done = refl }, s.are);
-    open = (λ some. or_left (is_short c (window_in c)) reply.last going, s.open);
+    going = (λ some. or_left (is_short c (window_in c)) reply.last going, s.going);
     lines = sent ∙ ap (λ (l : List Line). request_in c ++ l) s.lines;
     answered = λ n left is. s.answered n left (sym answer ∙ is) ∙ append_assoc c.rounds (round_of c (window_in c) reply ∷ []) s.rounds;
   }
@@ -168,7 +172,7 @@ module _ (bound : ℕ) (t : TermsValue) (g : Graph) (algorithm : Algorithm) wher
       let last : behind more c reply ≡ ends (Ok n) = ends_here bound t g algorithm more c reply end in
       last_round (suc more) c stream reply
       (sent_is more c stream (request_in c) (Ok (reply, rest)) sent at ∙ ap (λ (l : List Line). request_in c ++ l) (at_end_sent bound (behind more c reply) n rest last))
-      (λ m left is. ap (λ (x : Negotiated). x.rounds) (same_told {E = Error} m n left rest (sym is ∙ answer_is more c stream (Ok (reply, rest)) at ∙ at_end_answer bound (behind more c reply) n rest last)))
+      (λ m left is. ap (λ (x : Negotiated). x.rounds) (same_told (answer_in bound (tree (suc more) c) stream) m n left rest is (answer_is more c stream (Ok (reply, rest)) at ∙ at_end_answer bound (behind more c reply) n rest last)))
   answered_round more c stream rest reply false end sent at again =
       let next : behind more c reply ≡ tree more (course_after algorithm c (window_in c) reply) = goes_on bound t g algorithm more c reply end in
       more_rounds more c stream rest reply end again
@@ -197,7 +201,7 @@ abbrev Lines : ℕ → Graph → TermsValue → List ℕ → List Line
 Lines bound g t stream = sent_in bound (converse_stage bound g t) stream
 
 no_rounds : (g : Graph) (t : TermsValue) (lines : List Line) → lines ≡ [] → TellsRounds g t lines []
-no_rounds g t lines none = record { are = tt; open = tt; lines = none }
+no_rounds g t lines none = record { are = tt; going = tt; lines = none }
 
 -- What is sent by the stage are the requests of rounds; where something is received, it tells them.
 pub record SendsRounds (bound : ℕ) (g : Graph) (t : TermsValue) (stream : List ℕ) (c : Conversation (Option Received) Error) : Type 0 where
@@ -207,23 +211,26 @@ pub record SendsRounds (bound : ℕ) (g : Graph) (t : TermsValue) (stream : List
 
 sends_nothing : (bound : ℕ) (g : Graph) (t : TermsValue) (stream : List ℕ) (c : Conversation (Option Received) Error) (answer : Result (Option Received) Error) → c ≡ ends answer → ((r : Received) → answer ≡ Ok (Some r) → ⊥) → SendsRounds bound g t stream c
 unfolding sent_in answer_in
-sends_nothing bound g t stream c (Ok None) is other = rw is (record { rounds = []; tells = no_rounds g t [] refl; answered = λ r rest e. absurd (cc) })
+sends_nothing bound g t stream c (Ok None) is other = rw is (record {
+  rounds = [];
+  tells = no_rounds g t [] refl;
+  answered = λ r rest e.
+      let none : None ≡ Some r = same_told (answer_in bound (ends (Ok None)) stream) None (Some r) stream rest refl e in
+      absurd (cc);
+})
 sends_nothing bound g t stream c (Ok (Some x)) is other = absurd (other x refl)
 sends_nothing bound g t stream c (Err e) is other = rw is (record { rounds = []; tells = no_rounds g t [] refl; answered = λ r rest e. absurd (cc) })
 
+same_received : (result : Result (Option Received) Error) (x y : Received) → result ≡ Ok (Some x) → result ≡ Ok (Some y) → x ≡ y
+same_received result x y is at = cc
+
 -- what is brought tells the rounds
 unpacked_tells : (n : Negotiated) (c : Result Contents PackError) (r : Received) → unpacked n c ≡ Ok (Some r) → r.negotiate.rounds ≡ n.rounds
-unpacked_tells n (Ok c) r is = ap (λ (x : Received). x.negotiate.rounds) (some_same r _ (sym is))
-  where
-    some_same : (x y : Received) → Ok {E = Error} (Some y) ≡ Ok (Some x) → x ≡ y
-    some_same x y e = cc
+unpacked_tells n (Ok c) r is = ap (λ (x : Received). x.negotiate.rounds) (same_received (Ok (Some r)) r (with_pack n c) refl (sym is))
 unpacked_tells n (Err e) r is = absurd (cc)
 
 dry_tells : (dry : Bool) (n : Negotiated) (c : Result Contents PackError) (r : Received) → (if dry then Ok (Some (without_pack n)) else unpacked n c) ≡ Ok (Some r) → r.negotiate.rounds ≡ n.rounds
-dry_tells true n c r is = ap (λ (x : Received). x.negotiate.rounds) (same_received (without_pack n) r is)
-  where
-    same_received : (x y : Received) → Ok {E = Error} (Some x) ≡ Ok (Some y) → y ≡ x
-    same_received x y e = cc
+dry_tells true n c r is = ap (λ (x : Received). x.negotiate.rounds) (same_received (Ok (Some r)) r (without_pack n) refl (sym is))
 dry_tells false n c r is = unpacked_tells n c r is
 
 unless_tells : {X : Type 0} (refusal : Option Error) (result : Result X Error) (x : X) → result_unless refusal result ≡ Ok x → result ≡ Ok x
@@ -235,7 +242,7 @@ unfolding received
 received_tells t n r is = dry_tells t.dry_run n _ r (unless_tells (rejected t.settings t.view t.shallow n.reply) (read_of t.listed.handshake.object_hash t.dry_run n) (Some r) is)
 
 brought : (rest left : List ℕ) (result : Result (Option Received) Error) (r : Received) → beside rest result ≡ Ok (Some r, left) → result ≡ Ok (Some r)
-brought rest left (Ok x) r is = ap (λ (o : Option Received). Ok o) (same_told {E = Error} x (Some r) rest left is)
+brought rest left (Ok x) r is = ap (λ (o : Option Received). Ok o) (same_told (beside rest (Ok x)) x (Some r) rest left refl is)
 brought rest left (Err e) r is = absurd (cc)
 
 brings_sent : (bound : ℕ) (t : TermsValue) (answer : Result (Negotiated × List ℕ) Error) → sent_behind bound (λ n. ends (received t n)) answer ≡ []
@@ -260,7 +267,7 @@ fetching_sends bound g t stream =
       rounds = s.rounds;
       tells = record {
         are = s.are;
-        open = s.open;
+        going = s.going;
         lines = sent_then bound tree (λ n. ends (received t n)) stream ∙ ap (λ (l : List Line). sent_in bound tree stream ++ l) (brings_sent bound t (answer_in bound tree stream)) ∙ append-nil _ ∙ s.lines;
       };
       answered = λ r rest is. brings_told bound t (answer_in bound tree stream) s.rounds r rest (λ n left e. s.answered n left e) (sym (answer_then bound tree (λ n. ends (received t n)) stream) ∙ is);

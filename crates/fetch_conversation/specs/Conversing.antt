@@ -74,13 +74,13 @@ reply_of (Err e) reply = Err e
 -- ---- the rounds
 
 abbrev pub course_of : Course → CourseValue
-course_of c = record { so_far = so_far_of c.negotiator; shared = c.shared; rounds = c.rounds; size = c.size }
+course_of c = record { so_far = so_far_of c.negotiator; shared = c.shared.items; rounds = c.rounds; size = c.size }
 
 -- A round was held: the request of its window was answered by the reply that is kept, and it is told whether that ends
 -- the rounds.
-pub record IsHeld (answers : Bool) (bound : ℕ) (old new : Option Talk) (pending rest : List ℕ) (t : TermsValue) (g : Graph) (algorithm : Algorithm) (c now : CourseValue) (kept : Option FetchReply) (last : Bool) : Type 0 where
+pub record IsHeld (answers : Bool) (bound : ℕ) (old new : Option Talk) (pending rest : List ℕ) (t : TermsValue) (g : Graph) (algorithm : Algorithm) (c now : CourseValue) (stored : Option FetchReply) (last : Bool) : Type 0 where
   pub reply : FetchReply
-  pub kept : kept ≡ Some reply
+  pub kept : stored ≡ Some reply
   pub held : Concludes answers bound old new pending (exchange bound t (haves_told c.shared (next_window g algorithm c).haves) (is_short c (next_window g algorithm c))) reply rest
   pub ends : last ≡ is_end c (next_window g algorithm c) reply
   pub rounds : now.rounds ≡ rounds_with c (next_window g algorithm c) reply

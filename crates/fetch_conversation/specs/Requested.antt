@@ -23,7 +23,7 @@ AreOpen [] = ⊤
 AreOpen (r ∷ rounds) = (rounds ≢ [] → r.done ≡ false) × AreOpen rounds
 
 -- These lines are the requests of these rounds, of which each tells the next window of the settings' algorithm.
-pub record TellsRounds (g : Graph) (t : TermsValue) (lines : List Line) (rounds : List Round) : Type 0 where
+pub record TellsRounds (g : Graph) (t : TermsValue) (sent : List Line) (rounds : List Round) : Type 0 where
   pub are : AreRounds g (algorithm_in t.settings) first_size (begun (algorithm_in t.settings) t.view.tips t.view.border) rounds
-  pub open : AreOpen rounds
-  pub lines : lines ≡ requests_of (asked_by t) [] rounds
+  pub going : AreOpen rounds
+  pub lines : sent ≡ requests_of (asked_by t) [] rounds

@@ -1,6 +1,7 @@
 //! What holds of every conversation.
 
-ghost use Rattle.std.specs.Prelude.{◌≡◌, ℕ, Bool, false, List, [], Option, Some, Result, Ok, Err};
+ghost use Rattle.std.specs.Prelude.{◌≡◌, ℕ, suc, ◌+◌, Bool, false, List, [], Option, Some, Result, Ok, Err};
+ghost use Rattle.std.specs.FinMap as map;
 ghost use Rattle.fetch_wire.specs.Talks.{Talk};
 ghost use Rattle.fetch_wire.specs.declared.line.Line.{Line};
 ghost use Rattle.fetch_store.specs.Graph.{Graph};

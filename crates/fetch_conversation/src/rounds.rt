@@ -40,7 +40,7 @@ const LARGEST_SIZE: usize = 1024;
 pub(crate) struct Course {
     negotiator: AnyNegotiator,
     /// The ids acknowledged so far, as the replies list them.
-    shared: List<ObjectId>,
+    shared: Vec<ObjectId>,
     rounds: List<Round>,
     /// How many commits the next window may have.
     size: usize,
@@ -78,7 +78,7 @@ impl Course {
         let tips = terms.view.tips.as_slice();
         Ok(Course {
             negotiator: AnyNegotiator::new(alloc, algorithm, tips, &terms.view.border)?,
-            shared: List::new(alloc),
+            shared: Vec::new(alloc),
             rounds: List::new(alloc),
             size: FIRST_SIZE,
         })
@@ -125,7 +125,7 @@ impl Course {
         requires { IsTold (known_by self.old.negotiator) (O.graph objects.now) }
         ensures course { OnOk result (course_of self.new ≡ record {
           so_far = sharing_all (algorithm_of self.old.negotiator) (course_of self.old).so_far ids.now;
-          shared = self.old.shared ++ ids.now;
+          shared = self.old.shared.items ++ ids.now;
           rounds = self.old.rounds;
           size = next_size self.old.size;
         }) }
@@ -133,9 +133,7 @@ impl Course {
         ensures told { IsTold (known_by self.new.negotiator) (O.graph objects.now) }
     {
         self.tell(objects, ids)?;
-        for id in ids {
-            self.shared.push(*id)?;
-        }
+        self.shared.extend_from_slice(ids)?;
         self.size = next_size(self.size);
         Ok(())
     }
@@ -152,7 +150,7 @@ impl Course {
         ensures rounds { OnOk result (self.new.rounds ≡ self.old.rounds ++ (record { haves = round.haves; acknowledged = reply.now.acknowledged; done = round.done }) ∷ []) }
         ensures goes { IfOk result (λ last. last ≡ false → course_of self.new ≡ record {
           so_far = sharing_all (algorithm_of self.old.negotiator) (course_of self.old).so_far reply.now.acknowledged;
-          shared = self.old.shared ++ reply.now.acknowledged;
+          shared = self.old.shared.items ++ reply.now.acknowledged;
           rounds = self.old.rounds ++ (record { haves = round.haves; acknowledged = reply.now.acknowledged; done = round.done }) ∷ [];
           size = next_size self.old.size;
         }) }

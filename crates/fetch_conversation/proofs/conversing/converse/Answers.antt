@@ -1,4 +1,4 @@
-use Rattle.std.proofs.Common.{◌≡◌, false, List, Option, Some, None, Result, Ok, Err, refl, sym, ◌∙◌, arith}
+use Rattle.std.proofs.Common.{◌≡◌, false, List, Option, Some, None, Result, Ok, Err, refl, sym, subst, ◌∙◌, arith}
 use Rattle.std.proofs.lemmas.Result.{err_from_is_err_and}
 use Rattle.fetch_wire.specs.declared.records.FetchReply.{FetchReply}
 use Rattle.fetch_negotiate.specs.declared.algorithm.Round.{Round}
@@ -6,7 +6,7 @@ use Rattle.fetch_conversation.specs.Conversing.{terms_told}
 use Rattle.fetch_conversation.specs.ConverseStage.{received}
 use Rattle.fetch_conversation.specs.Errors.{is_free_receiving}
 use Rattle.fetch_conversation.specs.Exchange.{TermsValue, other_reply}
-use Rattle.fetch_conversation.specs.ListStage.{shown, is_nil}
+use Rattle.fetch_conversation.specs.ListStage.{ListedValue, shown, is_nil}
 use Rattle.fetch_conversation.specs.declared.conversing.Received.{Received}
 use Rattle.fetch_conversation.specs.declared.fetch.Error.{Error}
 use Rattle.fetch_conversation.proofs.Fetches.{FindsIn, holds_refusal, holds_nothing, holds_broken, holds_found}
@@ -55,7 +55,24 @@ returns-in_default-clause-held g c =
     c.in_ok-negotiate.ensures.held.held (finds_none t n.rounds c.negotiate.new.listed.session.reply none)
 
 pub returns-in_err-received-clause-held : goal.returns-in_err-received-clause-held
-returns-in_err-received-clause-held g c = ?
+returns-in_err-received-clause-held g c =
+    let t : TermsValue = terms_told (shown c.args.listed.now) c.args.terms.now in
+    let some : is_nil c.args.terms.now.view.now.wants ≡ false = sym (nil_by c.args.terms.now.view.now.wants c.is_empty.result c.is_empty.ensures) ∙ c.if-is_empty.false in
+    let n = c.in_ok-negotiate.negotiate in
+    let e : Error = c.in_err-received.field-0.0 in
+    let p = err_from_is_err_and c.from_residual-in_err-received.result c.from_residual-in_err-received.ensures.1 in
+    let told : c.negotiate.new.listed.session.reply ≡ Some c.in-Some.reply.now = grind arith in
+    let refused = subst (λ (l : ListedValue). is_free_receiving e ≡ false → received (terms_told l c.args.terms.now) (record { rounds = n.rounds; reply = c.in-Some.reply.now }) ≡ Err e) c.in_ok-negotiate.ensures.kept c.in_err-received.ensures.refused in
+    rw (p.1, p.2) (holds_found g.P.Peer.answers c.args.listed.now.session.intake.bound (g.P.Peer.told c.args.peer.now) (g.P.Peer.told c.negotiate.new.peer) _ _ (g.O.Objects.graph c.args.objects.now) t n c.negotiate.new.listed.session.reply (Err e) c.in_ok-refuse.ensures.clear some
+    c.in_ok-negotiate.ensures.held.held (finds_refusal t n.rounds c.negotiate.new.listed.session.reply c.in-Some.reply.now e told refused))
 
 pub returns-clause-held : goal.returns-clause-held
-returns-clause-held g c = ?
+returns-clause-held g c =
+    let t : TermsValue = terms_told (shown c.args.listed.now) c.args.terms.now in
+    let some : is_nil c.args.terms.now.view.now.wants ≡ false = sym (nil_by c.args.terms.now.view.now.wants c.is_empty.result c.is_empty.ensures) ∙ c.if-is_empty.false in
+    let n = c.in_ok-negotiate.negotiate in
+    let x : Received = c.in_ok-received.received in
+    let told : c.negotiate.new.listed.session.reply ≡ Some c.in-Some.reply.now = grind arith in
+    let received_so = subst (λ (l : ListedValue). received (terms_told l c.args.terms.now) (record { rounds = n.rounds; reply = c.in-Some.reply.now }) ≡ Ok (Some x)) c.in_ok-negotiate.ensures.kept c.in_ok-received.ensures.received in
+    holds_found g.P.Peer.answers c.args.listed.now.session.intake.bound (g.P.Peer.told c.args.peer.now) (g.P.Peer.told c.negotiate.new.peer) _ _ (g.O.Objects.graph c.args.objects.now) t n c.negotiate.new.listed.session.reply (Ok (Some x)) c.in_ok-refuse.ensures.clear some
+    c.in_ok-negotiate.ensures.held.held (finds_received t n.rounds c.negotiate.new.listed.session.reply c.in-Some.reply.now x told received_so)
