@@ -210,6 +210,17 @@ fn hold_round<P: Peer, I: Interrupt, O: Objects>(
     }
 }
 
+/// How many rounds there are at most: one more than there are objects. No memory holds so many that there is no such
+/// number.
+fn most_rounds<O: Objects>(objects: &O) -> Result<usize, NoMemory>
+    ensures { IfOk result (λ most. most ≡ suc (map.len (O.graph objects.now))) }
+{
+    match objects.len().checked_add(1) {
+        Some(most) => Ok(most),
+        None => Err(NoMemory),
+    }
+}
+
 /// Holds the rounds until one of them ends them. The session keeps the last reply. The interrupt is asked before each
 /// receive.
 pub(crate) fn negotiate<P: Peer, I: Interrupt, O: Objects>(
@@ -231,8 +242,9 @@ pub(crate) fn negotiate<P: Peer, I: Interrupt, O: Objects>(
     ensures interrupted { IsErrOf result errors.Interrupted → Rose (I.yes interrupt.old) (I.yes interrupt.new) }
     ensures uninterrupted { OnOk result ((I.yes interrupt.new).count ≡ (I.yes interrupt.old).count) }
 {
+    let most = most_rounds(objects)?;
     let mut course = Course::new(alloc, terms)?;
-    for _ in 0..=objects.len() {
+    for _ in 0..most {
         if hold_round(listed, terms, &mut course, objects, peer, interrupt)? {
             return Ok(Negotiate {
                 rounds: course.rounds,
