@@ -1,8 +1,8 @@
 -- The rounds are never used up.
-use Rattle.std.proofs.Common.{◌≡◌, ℕ, zero, suc, ◌+◌, ◌*◌, ◌<◌, ◌≤◌, Bool, true, false, List, [], ◌∷◌, ◌++◌, length, Option, Some, None, Result, Ok, Err, refl, sym, ap, ◌∙◌, subst, arith, append_assoc, append-nil, length-append}
+use Rattle.std.proofs.Common.{◌≡◌, ℕ, zero, suc, ◌+◌, ◌*◌, ◌<◌, ◌≤◌, Bool, true, false, List, [], ◌∷◌, ◌++◌, length, Result, Ok, Err, refl, sym, ap, ◌∙◌, subst, arith, append_assoc, append-nil, length-append}
 use Rattle.std.specs.Prelude.{◌||◌}
 use Rattle.std.specs.FinMap as map
-use Rattle.std.specs.List.{All, AllByRecursion}
+use Rattle.std.specs.List.{AllByRecursion}
 use Rattle.std.proofs.lemmas.List.Elements.{All-from_recursion}
 use Rattle.fetch_store.specs.Graph.{Graph}
 use Rattle.fetch_wire.specs.declared.line.Line.{Line}
@@ -13,9 +13,9 @@ use Rattle.fetch_negotiate.specs.Windows.{Window, first_size}
 use Rattle.fetch_negotiate.specs.declared.algorithm.Algorithm.{Algorithm}
 use Rattle.fetch_negotiate.specs.declared.algorithm.Round.{Round}
 use Rattle.fetch_negotiate.proofs.Rounding.{are_few}
-use Rattle.fetch_conversation.specs.Conversation.{Conversation, ends, and_then, sent_in, answer_in}
+use Rattle.fetch_conversation.specs.Conversation.{Conversation, and_then, sent_in, answer_in}
 use Rattle.fetch_conversation.specs.Exchange.{TermsValue}
-use Rattle.fetch_conversation.specs.Rounds.{CourseValue, Negotiated, first_course, next_window, is_short, is_end, round_of, rounds_with, course_after, negotiating}
+use Rattle.fetch_conversation.specs.Rounds.{CourseValue, Negotiated, first_course, next_window, is_short, is_end, round_of, course_after, negotiating}
 use Rattle.fetch_conversation.specs.declared.conversing.View.{View}
 use Rattle.fetch_conversation.specs.declared.fetch.Error.{Error}
 use Rattle.fetch_conversation.proofs.Chained.{sent_behind, answer_behind, sent_then, answer_then}

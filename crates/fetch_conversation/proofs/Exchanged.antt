@@ -1,7 +1,5 @@
 -- One request, and its reply.
-use Rattle.std.proofs.Common.{◌≡◌, ◌≢◌, ℕ, Bool, true, false, not, List, [], ◌++◌, Option, Some, None, Result, Ok, Err, refl, sym, ap, ◌∙◌, subst}
-use Rattle.std.specs.Prelude.{OnOk}
-use Rattle.fetch_store.specs.declared.id.Kind.{Kind}
+use Rattle.std.proofs.Common.{◌≡◌, ◌≢◌, ℕ, Bool, false, not, List, [], ◌++◌, Option, Some, None, Result, Ok, Err, refl, sym, ap, ◌∙◌, subst}
 use Rattle.fetch_store.specs.declared.id.ObjectId.{ObjectId}
 use Rattle.fetch_wire.specs.declared.awaited.AskedReply.{AskedReply}
 use Rattle.fetch_wire.specs.declared.awaited.Await.TheVariants as awaits
@@ -11,10 +9,8 @@ use Rattle.fetch_wire.specs.declared.awaited.Told.{Told}
 use Rattle.fetch_wire.specs.declared.awaited.Told.TheVariants as told
 use Rattle.fetch_wire.specs.declared.error.WireError.{WireError}
 use Rattle.fetch_wire.specs.declared.error.WireError.TheVariants as wire
-use Rattle.fetch_wire.specs.declared.handshake.Handshake.{Handshake}
 use Rattle.fetch_wire.specs.declared.line.Line.{Line}
 use Rattle.fetch_wire.specs.declared.reading.Part.TheVariants as parts
-use Rattle.fetch_wire.specs.declared.reading.Reading.{Reading}
 use Rattle.fetch_wire.specs.declared.reading.Reading.TheVariants as reading
 use Rattle.fetch_wire.specs.declared.records.FetchReply.{FetchReply}
 use Rattle.fetch_wire.specs.declared.records.Request.{Request}
@@ -30,8 +26,8 @@ use Rattle.fetch_wire.specs.Written.{lines_text, first_too_long, TellsTooLong}
 use Rattle.fetch_wire.proofs.SessionAlike.{stays_alike}
 use Rattle.fetch_negotiate.specs.Requests.{fetch_request}
 use Rattle.fetch_conversation.specs.Conversation.{Conversation, ends, asks, sent_in, answer_in, RefusesWith, Converses}
-use Rattle.fetch_conversation.specs.Conversing.{found_in, reply_of, IsAsked}
-use Rattle.fetch_conversation.specs.Drives.{IsDrivable, with_heard, Finishes, Stops}
+use Rattle.fetch_conversation.specs.Conversing.{found_in, IsAsked}
+use Rattle.fetch_conversation.specs.Drives.{IsDrivable, Finishes, Stops}
 use Rattle.fetch_conversation.specs.Errors.{is_free_receiving, fetch_of_wire, fetch_of_stop}
 use Rattle.fetch_conversation.specs.Exchange.{TermsValue, asked_by, too_long, failed, replied, reply_to, other_reply, exchange}
 use Rattle.fetch_conversation.specs.ListStage.{IsReady, shown}

@@ -1,5 +1,5 @@
 -- The second stage is held.
-use Rattle.std.proofs.Common.{◌≡◌, ◌≢◌, ℕ, suc, Bool, true, false, List, [], ◌∷◌, Option, Some, None, Result, Ok, Err, refl, sym, ap, ◌∙◌, subst}
+use Rattle.std.proofs.Common.{◌≡◌, ◌≢◌, ℕ, suc, Bool, false, List, [], ◌∷◌, Option, Some, None, Result, Ok, Err, refl, sym, ap, ◌∙◌, subst}
 use Rattle.std.specs.FinMap as map
 use Rattle.fetch_store.specs.Graph.{Graph}
 use Rattle.fetch_store.specs.declared.id.ObjectId.{ObjectId}
@@ -7,7 +7,7 @@ use Rattle.fetch_wire.specs.Talks.{Talk}
 use Rattle.fetch_wire.specs.declared.records.FetchReply.{FetchReply}
 use Rattle.fetch_negotiate.specs.declared.algorithm.Round.{Round}
 use Rattle.fetch_conversation.specs.Conversation.{Conversation, ends, and_then, Concludes, Breaks, ConversesBy, Converses}
-use Rattle.fetch_conversation.specs.Conversing.{Tells, IsClear, found_in, negotiated_of}
+use Rattle.fetch_conversation.specs.Conversing.{Tells, IsClear, negotiated_of}
 use Rattle.fetch_conversation.specs.ConverseStage.{unmapped, unlike, unfit, lacked, is_border_needed, algorithm_in, received, fetching, wanting, converse_stage}
 use Rattle.fetch_conversation.specs.Errors.{is_free_receiving}
 use Rattle.fetch_conversation.specs.Exchange.{TermsValue, other_reply}

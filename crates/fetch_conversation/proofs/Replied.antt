@@ -1,5 +1,5 @@
 -- A session to which a request was given is that of a question.
-use Rattle.std.proofs.Common.{◌≡◌, ◌≢◌, ℕ, Bool, true, false, List, [], ◌∷◌, ◌++◌, Option, Some, None, Result, Ok, Err, refl, sym, ap, ◌∙◌, subst, append_assoc}
+use Rattle.std.proofs.Common.{◌≡◌, ℕ, Bool, List, [], ◌++◌, Option, Some, None, Result, Ok, Err, refl, sym, ap, ◌∙◌, subst}
 use Rattle.std.proofs.lemmas.List.{append-nil}
 use Rattle.fetch_wire.specs.declared.awaited.AskedReply.{AskedReply}
 use Rattle.fetch_wire.specs.declared.awaited.Await.TheVariants as awaits
@@ -18,14 +18,12 @@ use Rattle.fetch_wire.specs.declared.records.Request.{Request}
 use Rattle.fetch_wire.specs.declared.reference.Ref.{Ref}
 use Rattle.fetch_wire.specs.Awaited.{told_at, told_from, step_of}
 use Rattle.fetch_wire.specs.FetchReplies.{no_reply}
-use Rattle.fetch_wire.specs.Intakes.{Intake, told_with, taking}
-use Rattle.fetch_wire.specs.Intakes as intakes
+use Rattle.fetch_wire.specs.Intakes.{told_with}
 use Rattle.fetch_wire.specs.RequestLines.{request_lines}
-use Rattle.fetch_wire.specs.SessionStates.{SessionState, IsAlike, fed, requested, asked_by, after_told, read_one, rests, asks, error_of}
+use Rattle.fetch_wire.specs.SessionStates.{SessionState, fed, requested, asked_by, after_told, read_one, rests, asks, error_of}
 use Rattle.fetch_wire.specs.StepLaws.{IsSettled, with_more, read_by-more}
 use Rattle.fetch_wire.specs.Written.{lines_text}
 use Rattle.fetch_wire.proofs.Conversing.{fed_is}
-use Rattle.fetch_wire.proofs.SessionAlike.{stays_alike}
 use Rattle.fetch_conversation.specs.Conversation.{Conversation, ends, sent_in, answer_in, after_reply, beside}
 use Rattle.fetch_conversation.specs.Conversation as tree
 use Rattle.fetch_conversation.specs.Conversing.{found_in}

@@ -1,6 +1,6 @@
 -- What is sent for a pack: the requests of rounds.
-use Rattle.std.proofs.Common.{◌≡◌, ◌≢◌, ℕ, zero, suc, ◌+◌, ◌*◌, ◌<◌, ◌≤◌, Bool, true, false, List, [], ◌∷◌, ◌++◌, length, Option, Some, None, Result, Ok, Err, refl, sym, ap, ◌∙◌, subst, arith, append_assoc, append-nil, length-append, inl, inr}
-use Rattle.std.specs.Prelude.{◌||◌, ◌⊎◌, ⊤, if◌then◌else◌}
+use Rattle.std.proofs.Common.{◌≡◌, ℕ, zero, suc, Bool, true, false, List, [], ◌∷◌, ◌++◌, Option, Some, None, Result, Ok, Err, refl, sym, ap, ◌∙◌, append_assoc, append-nil, inl, inr}
+use Rattle.std.specs.Prelude.{◌||◌, ◌⊎◌, if◌then◌else◌}
 use Rattle.std.specs.FinMap as map
 use Rattle.std.specs.Option.{option_or}
 use Rattle.fetch_store.specs.declared.id.ObjectId.{ObjectId}
@@ -21,7 +21,7 @@ use Rattle.fetch_negotiate.specs.Rounds.{AreRounds}
 use Rattle.fetch_negotiate.specs.Windows.{Window}
 use Rattle.fetch_negotiate.specs.declared.algorithm.Algorithm.{Algorithm}
 use Rattle.fetch_negotiate.specs.declared.algorithm.Round.{Round}
-use Rattle.fetch_conversation.specs.Conversation.{Conversation, ends, asks, asks_unless, and_then, after_reply, beside, sent_in, answer_in}
+use Rattle.fetch_conversation.specs.Conversation.{Conversation, ends, asks, asks_unless, after_reply, beside, sent_in, answer_in}
 use Rattle.fetch_conversation.specs.ConverseStage.{algorithm_in, no_mapping, other_hash, unfit, lacking, received, read_of, rejected, result_unless, unpacked, with_pack, without_pack, fetching, wanting, converse_stage}
 use Rattle.fetch_conversation.specs.Exchange.{TermsValue, asked_by, haves_told, too_long, failed, replied, reply_to, exchange}
 use Rattle.fetch_conversation.specs.ListStage.{unless}

@@ -1,12 +1,11 @@
 -- How a pack is asked for and read, step by step.
-use Rattle.std.specs.Prelude.{◌≡◌, ◌≢◌, ℕ, suc, Bool, false, List, [], ◌∷◌, ◌++◌, Option, Some, None, Result, Ok, Err, ⊤, not}
+use Rattle.std.specs.Prelude.{◌≡◌, ◌≢◌, ℕ, suc, Bool, false, List, Option, Some, None, Result, Ok, Err, ⊤, not}
 use Rattle.fetch_store.specs.declared.id.ObjectId.{ObjectId}
 use Rattle.fetch_store.specs.Graph.{Graph}
 use Rattle.fetch_wire.specs.declared.records.FetchReply.{FetchReply}
 use Rattle.fetch_negotiate.specs.Any.{so_far_of}
 use Rattle.fetch_negotiate.specs.Requests.{fetch_request}
 use Rattle.fetch_negotiate.specs.declared.algorithm.Algorithm.{Algorithm}
-use Rattle.fetch_negotiate.specs.declared.algorithm.Round.{Round}
 use Rattle.fetch_wire.specs.RequestLines.{request_lines}
 use Rattle.fetch_wire.specs.SessionStates.{SessionState, IsAlike, requested}
 use Rattle.fetch_wire.specs.SessionStates as session

@@ -1,5 +1,5 @@
 -- How an inner refusal is told by an outer call, and which refusals have a count or nothing in place of a cause.
-use Rattle.std.specs.Prelude.{ℕ, Bool, true, false, List}
+use Rattle.std.specs.Prelude.{Bool, true, false}
 use Rattle.fetch_pack.specs.declared.error.PackError.{PackError}
 use Rattle.fetch_pack.specs.declared.error.PackError.TheVariants as pack
 use Rattle.fetch_update.specs.declared.update.Error.{Error as UpdateError}

@@ -1,6 +1,5 @@
-use Rattle.std.proofs.Common.{◌≡◌, false, Option, Some, None, Result, Ok, Err, IfOk, IfErr, refl}
+use Rattle.std.proofs.Common.{◌≡◌, false, Some, None, Result, Ok, Err, IfOk, IfErr, refl}
 use Rattle.std.proofs.lemmas.Result.{err_from_is_err_and}
-use Rattle.fetch_store.specs.declared.id.Kind.{Kind}
 use Rattle.fetch_conversation.specs.Conversing.{terms_told}
 use Rattle.fetch_conversation.specs.ConverseStage.{received, rejected, read_of}
 use Rattle.fetch_conversation.specs.Errors.{is_free_receiving}

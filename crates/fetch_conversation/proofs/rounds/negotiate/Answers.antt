@@ -1,4 +1,4 @@
-use Rattle.std.proofs.Common.{◌≡◌, ℕ, zero, suc, ◌+◌, ◌<◌, Bool, true, false, List, Option, Result, Ok, Err, refl, sym, subst, ◌∙◌, arith}
+use Rattle.std.proofs.Common.{◌≡◌, ℕ, suc, ◌<◌, Bool, true, false, List, Option, Result, Ok, Err, refl, subst, ◌∙◌, arith}
 use Rattle.std.specs.FinMap as map
 use Rattle.std.proofs.lemmas.Result.{err_from_is_err_and}
 use Rattle.fetch_store.specs.Faults.{Counts-then}
@@ -15,7 +15,7 @@ use Rattle.fetch_conversation.specs.Rounds.{CourseValue, first_course}
 use Rattle.fetch_conversation.specs.declared.conversing.Terms.{Terms}
 use Rattle.fetch_conversation.specs.declared.fetch.Error.{Error}
 use Rattle.fetch_conversation.specs.declared.fetch.Error.TheVariants as errors
-use Rattle.fetch_conversation.proofs.Held.{Goes, goes_again, goes_to_end, goes_off, goes_out, goes_nowhere}
+use Rattle.fetch_conversation.proofs.Held.{goes_again, goes_to_end, goes_off, goes_out, goes_nowhere}
 use Rattle.fetch_conversation.proofs.rounds.negotiate.Goals as goal
 
 -- a round, told of the session at the first one
