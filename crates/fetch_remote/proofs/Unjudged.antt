@@ -1,6 +1,6 @@
 -- A conversation is never refused as judging is.
 use Rattle.std.proofs.Common.{◌≡◌, ℕ, zero, suc, Bool, true, false, not, List, [], ◌∷◌, ◌++◌, length, Option, Some, None, Result, Ok, Err, refl, sym, ap, ◌∙◌, subst, inl, inr}
-use Rattle.std.specs.Prelude.{◌⊎◌, ◌||◌, ⊤, IfSome, if◌then◌else◌}
+use Rattle.std.specs.Prelude.{◌⊎◌, ◌&&◌, ◌||◌, ⊤, IfSome, if◌then◌else◌}
 use Rattle.std.specs.FinMap as map
 use Rattle.std.specs.Option.{option_or, option_map}
 use Rattle.fetch_store.specs.Graph.{Graph, graph_of}
@@ -123,9 +123,14 @@ other_when : (b : Bool) (o : Option Error) → IfSome o IsOther → IfSome (if b
 other_when true o h = h
 other_when false o h = tt
 
+other_rejected : (t : TermsValue) (n : Negotiated) → IfSome (rejected t.settings t.view t.shallow n.reply) IsOther
+other_rejected t n =
+    other_when (converse.is_rejecting (rejects_shallow_of t.settings.config) && converse.is_no_change t.shallow) (option_map (λ (id : ObjectId). errors.RejectShallowRemote id) (converse.first_outside t.view.border n.reply.shallow))
+    (other_outside (converse.first_outside t.view.border n.reply.shallow))
+
 spares_received : (t : TermsValue) (n : Negotiated) → Spares (ends (received t n))
 unfolding received
-spares_received t n = spares_result (rejected t.settings t.view t.shallow n.reply) _ (other_when _ _ (other_outside _)) (spares_dry t.dry_run _ _ (spares_unpacked n _))
+spares_received t n = spares_result (rejected t.settings t.view t.shallow n.reply) _ (other_rejected t n) (spares_dry t.dry_run _ _ (spares_unpacked n _))
 
 spares_replied : (x : Told) → Spares (replied x)
 spares_replied (told.Reply reply) = spares_ok reply
