@@ -1,5 +1,5 @@
 -- The rounds of a fetch.
-use Rattle.std.proofs.Common.{◌≡◌, ℕ, Bool, List, [], ◌++◌, Option, Some, None, Result, Ok, Err, refl, sym, subst, arith}
+use Rattle.std.proofs.Common.{◌≡◌, ℕ, List, [], ◌++◌, Option, Some, None, Result, Ok, Err, refl, sym, subst, arith}
 use Rattle.std.specs.Option.{option_or}
 use Rattle.fetch_store.specs.Graph.{Graph, graph_of}
 use Rattle.fetch_store.specs.declared.id.ObjectId.{ObjectId}
@@ -15,7 +15,6 @@ use Rattle.fetch_conversation.specs.Exchange.{TermsValue}
 use Rattle.fetch_conversation.specs.ListStage.{ListedValue, unless}
 use Rattle.fetch_conversation.specs.Requested.{TellsRounds}
 use Rattle.fetch_conversation.specs.declared.conversing.Received.{Received}
-use Rattle.fetch_conversation.specs.declared.fetch.Error.{Error}
 use Rattle.fetch_conversation.proofs.Told.{stage_sends}
 use Rattle.fetch_remote.specs.Form.{Given}
 use Rattle.fetch_remote.specs.Negotiated.{HasNegotiated, HasNegotiatedBy, AreHeld}

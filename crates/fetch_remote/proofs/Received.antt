@@ -22,7 +22,7 @@ use Rattle.fetch_wire.specs.declared.line.Line.{Line}
 use Rattle.fetch_wire.specs.declared.reference.Ref.{Ref}
 use Rattle.fetch_wire.specs.References.{name_in}
 use Rattle.fetch_conversation.specs.Conversation.{Conversation, ends, asks, asks_unless, asking, and_then, after_reply, answer_in}
-use Rattle.fetch_conversation.specs.ConverseStage.{converse_stage, wanting, fetching, received, rejected, result_unless, unpacked, with_pack, without_pack, no_mapping, other_hash, unfit, lacking, is_same_kind}
+use Rattle.fetch_conversation.specs.ConverseStage.{converse_stage, wanting, fetching, received, rejected, result_unless, unpacked, with_pack, without_pack, no_mapping, unfit, lacking, is_same_kind}
 use Rattle.fetch_conversation.specs.Exchange.{TermsValue}
 use Rattle.fetch_conversation.specs.Rounds.{Negotiated}
 use Rattle.fetch_conversation.specs.ListStage as list

@@ -1,5 +1,5 @@
 -- A conversation is never refused as judging is.
-use Rattle.std.proofs.Common.{◌≡◌, ℕ, zero, suc, Bool, true, false, not, List, [], ◌∷◌, ◌++◌, length, Option, Some, None, Result, Ok, Err, refl, sym, ap, ◌∙◌, subst, inl, inr}
+use Rattle.std.proofs.Common.{◌≡◌, ℕ, zero, suc, Bool, true, false, not, List, [], ◌∷◌, ◌++◌, length, Option, Some, None, Result, Ok, Err, refl, sym, ◌∙◌, subst, inl, inr}
 use Rattle.std.specs.Prelude.{◌⊎◌, ◌&&◌, ◌||◌, ⊤, IfSome, if◌then◌else◌}
 use Rattle.std.specs.FinMap as map
 use Rattle.std.specs.Option.{option_or, option_map}
@@ -36,7 +36,6 @@ use Rattle.fetch_conversation.specs.Exchange.{TermsValue, replied, exchange}
 use Rattle.fetch_conversation.specs.Rounds.{CourseValue, Negotiated, first_course, next_window, course_after, negotiating}
 use Rattle.fetch_conversation.specs.Errors.{fetch_of_pack}
 use Rattle.fetch_conversation.specs.ListStage.{ListedValue, unless}
-use Rattle.fetch_conversation.specs.declared.conversing.Received.{Received}
 use Rattle.fetch_conversation.specs.declared.fetch.Error.{Error}
 use Rattle.fetch_conversation.specs.declared.fetch.Error.TheVariants as errors
 use Rattle.fetch_conversation.specs.declared.prepare.Error.{Error as PrepareError}
