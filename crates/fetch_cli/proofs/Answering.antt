@@ -49,7 +49,7 @@ answers_none input bytes place status text all found is = record { bytes = bytes
 
 -- none of those that the ends and want of memory have
 abbrev pub IsAnswered : ℕ → Type 0
-IsAnswered status = (status ≢ 2) × (status ≢ 3) × (status ≢ 5) × (status ≤ 6)
+IsAnswered status = (status ≢ 2) × (status ≢ 3) × (status ≢ 5) × (status ≤ 5)
 
 answered_by : (wanted status : ℕ) → status ≡ wanted → IsAnswered wanted → IsAnswered status
 answered_by wanted status is h = rw is h
@@ -63,12 +63,8 @@ one_answers = (λ e. cc, λ e. cc, λ e. cc, omega arith)
 four_answers : IsAnswered 4
 four_answers = (λ e. cc, λ e. cc, λ e. cc, omega arith)
 
-six_answers : IsAnswered 6
-six_answers = (λ e. cc, λ e. cc, λ e. cc, omega arith)
-
 answered_with : (sent : List Line) (result : Result (Outcome × State) FetchError) (left : State) → IsAnswered (report_with sent result left).0
 answered_with sent (Ok x) left = zero_answers
-answered_with sent (Err errors.Unbuilt) left = six_answers
 answered_with sent (Err (errors.Prepare e)) left = one_answers
 answered_with sent (Err (errors.Receive e)) left = one_answers
 answered_with sent (Err errors.NoMemory) left = one_answers

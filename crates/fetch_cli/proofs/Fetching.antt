@@ -115,12 +115,10 @@ sure_receiving (receive.Collision id) c = refl
 sure_receiving (receive.KeepFile path) c = refl
 sure_receiving (receive.UpdateRefs e) c = sure_judging e c
 sure_receiving (receive.RemovePackKeepFile path) c = refl
-sure_receiving receive.Unbuilt c = refl
 
 refused : (g : Given) (trees : List Worktree) (before after : State) (e : FetchError) (a b : Talk) (stream : List ℕ) → Some a ≡ Some (record { heard = []; given = []; to_come = stream; rule = None }) → IsCalm (Err e)
     → IsRefused false (Some a) (Some b) (Some trees) g before after e → HasRefusedBy g trees before stream e after b.heard
 refused g trees before after errors.NoMemory a b stream told c h = tt
-refused g trees before after errors.Unbuilt a b stream told c h = refused_for g trees before after errors.Unbuilt a b stream (same_talk a _ told) refl h
 refused g trees before after (errors.Prepare e) a b stream told c h = refused_for g trees before after (errors.Prepare e) a b stream (same_talk a _ told) (sure_listing e c) h
 refused g trees before after (errors.Receive e) a b stream told c h = refused_for g trees before after (errors.Receive e) a b stream (same_talk a _ told) (sure_receiving e c) h
 

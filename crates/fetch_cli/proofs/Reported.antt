@@ -37,7 +37,6 @@ is_report : (scene : Scene) (status : ℕ) (text heard : List ℕ) (result : Res
     → result ≢ Err errors.NoMemory → report_with (lines_heard heard) (beside left result) left ≡ (status, text) → IsReport scene status text
 is_report scene status text heard (Ok outcome) left h known is = done_is scene status text heard outcome left h is
 is_report scene status text heard (Err errors.NoMemory) left h known is = absurd (known refl)
-is_report scene status text heard (Err errors.Unbuilt) left h known is = refused_is scene status text heard errors.Unbuilt left h is
 is_report scene status text heard (Err (errors.Prepare e)) left h known is = refused_is scene status text heard (errors.Prepare e) left h is
 is_report scene status text heard (Err (errors.Receive e)) left h known is = refused_is scene status text heard (errors.Receive e) left h is
 

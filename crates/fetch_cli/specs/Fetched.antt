@@ -23,7 +23,6 @@ pub record HasRefused (g : Given) (trees : List Worktree) (found : State) (strea
 -- Neither the peer nor the worktrees fail, and nobody interrupts; memory may run out.
 abbrev pub HasRefusedBy : Given → List Worktree → State → List ℕ → FetchError → State → List ℕ → Type 0
 HasRefusedBy g trees found stream errors.NoMemory left heard = ⊤
-HasRefusedBy g trees found stream errors.Unbuilt left heard = HasRefused g trees found stream errors.Unbuilt left heard
 HasRefusedBy g trees found stream (errors.Prepare e) left heard = HasRefused g trees found stream (errors.Prepare e) left heard
 HasRefusedBy g trees found stream (errors.Receive e) left heard = HasRefused g trees found stream (errors.Receive e) left heard
 

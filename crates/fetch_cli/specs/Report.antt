@@ -141,15 +141,11 @@ done_text sent outcome after =
 unfoldable pub refused_text : List Line → FetchError → State → List ℕ
 refused_text sent e left = sent_lines sent ++ refused_line (token e) ++ state_lines left
 
-unfoldable pub unbuilt_line : List ℕ
-unbuilt_line = codes "unbuilt\n"
-
 -- ---- the report
 
 -- the status, and the report with these lines sent
 abbrev pub report_with : List Line → Result (Outcome × State) FetchError → State → ℕ × List ℕ
 report_with sent (Ok x) left = (0, done_text sent x.0 x.1)
-report_with sent (Err errors.Unbuilt) left = (6, unbuilt_line)
 report_with sent (Err (errors.Prepare e)) left = (1, refused_text sent (errors.Prepare e) left)
 report_with sent (Err (errors.Receive e)) left = (1, refused_text sent (errors.Receive e) left)
 report_with sent (Err errors.NoMemory) left = (1, refused_text sent errors.NoMemory left)

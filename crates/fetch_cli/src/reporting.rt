@@ -171,14 +171,6 @@ fn append_refused_fetch(
     append_state(out, repo)
 }
 
-#[tactic(auto, unfolding(crate::specs::Report::unbuilt_line))]
-fn append_unbuilt(out: &mut Vec<u8>) -> Result<(), NoMemory>
-    ensures { OnOk result (out.new.items ≡ out.old.items ++ spec.unbuilt_line) }
-{
-    out.extend_from_slice(b"unbuilt\n")?;
-    Ok(())
-}
-
 /// The report of a fetch, and its status.
 fn append_report(out: &mut Vec<u8>, fetched: &Fetched) -> Result<u8, NoMemory>
     ensures { IfOk result (λ status. spec.Tells out.old.items out.new.items status fetched.now.result (state_of fetched.now.repo) fetched.now.peer.heard) }
@@ -189,10 +181,6 @@ fn append_report(out: &mut Vec<u8>, fetched: &Fetched) -> Result<u8, NoMemory>
             append_done(out, heard, outcome, &fetched.repo)?;
             Ok(0)
         }
-        Err(FetchError::Unbuilt) => {
-            append_unbuilt(out)?;
-            Ok(6)
-        }
         Err(FetchError::NoMemory) => Err(NoMemory),
         Err(refusal) => {
             append_refused_fetch(out, heard, refusal, &fetched.repo)?;
@@ -201,8 +189,8 @@ fn append_report(out: &mut Vec<u8>, fetched: &Fetched) -> Result<u8, NoMemory>
     }
 }
 
-/// Fetches as a scene says, and puts the report behind what is there: its status, which is 0 where the fetch was done, 1
-/// where it was refused, and 6 where it isn't built yet. After an error a part of the report may stand there.
+/// Fetches as a scene says, and puts the report behind what is there: its status, which is 0 where the fetch was done and
+/// 1 where it was refused. After an error a part of the report may stand there.
 ///
 /// The objects of the scene are of its hash, as those that are read are.
 pub fn report<R: Threads + Sync>(

@@ -2,6 +2,7 @@
 use Rattle.std.proofs.Common.{◌≡◌, ℕ, Bool, true, false, List, [], ◌++◌, Option, None, Result, Ok, refl, sym, ap, subst, ◌∙◌, append_assoc}
 use Rattle.std.proofs.lemmas.List.{append-nil}
 use Rattle.fetch_store.specs.Closed.{IsClosed}
+use Rattle.fetch_store.specs.Graph.{graph_of}
 use Rattle.fetch_store.specs.declared.id.ObjectId.{ObjectId}
 use Rattle.fetch_refs.specs.declared.edit.PackedRefs.{PackedRefs}
 use Rattle.fetch_refs.specs.declared.edit.RefEdit.{RefEdit}
@@ -24,6 +25,7 @@ use Rattle.fetch_remote.specs.Repositories.{State, Setup, held}
 use Rattle.fetch_remote.specs.Settling.{brought, taken, settled, policy_in, moved, outcome_in, done, IsSettled}
 use Rattle.fetch_remote.specs.Stages.{Told, bound_of, wants_in, inquiry_in, terms_in, listing_stage, conversation}
 use Rattle.fetch_remote.specs.Talking.{HasTold}
+use Rattle.fetch_remote.proofs.Negotiated.{are_held}
 use Rattle.fetch_remote.proofs.Received.{is_mapped, is_received}
 use Rattle.fetch_remote.proofs.Spoken.{said_in, heard_in, told_spoken}
 use Rattle.fetch_remote.proofs.Settled.{settled_as, takes, judged_is, stays_closed, holds_mapped}
@@ -134,11 +136,13 @@ fetched_with answers old new known g trees before l r rest s u listed told took 
     let k = told_spoken answers old new g before l r rest told in
     let said = said_in answers old new g before l r rest told in
     let is = settled_from g trees before l r s u took judged in
-    let none = (is_received (bound_of g) (terms_in g before l) _ r _ (told.pack.answered [])).none in
+    let none = (is_received (bound_of g) (graph_of before.objects) (terms_in g before l) _ r _ (told.pack.answered [])).none in
+    let read : HasRead g before said (at_outcome g l r u) = has_read answers old new g before l r rest u told in
     record {
       said = said;
       heard = has_heard answers old new g before l r rest told;
-      read = has_read answers old new g before l r rest u told;
+      read = read;
+      rounds = are_held g before l read.behind read.rest r read.replied;
       trees = trees;
       listed_trees = listed;
       judged = is_judged g trees before l r s u (takes before _ _ s took).refs judged;

@@ -3,6 +3,7 @@ pub mod Wanted
 pub mod Spoken
 pub mod Broken
 pub mod Received
+pub mod Negotiated
 pub mod Settled
 pub mod Fetched
 pub mod Refused

@@ -146,7 +146,6 @@ no_listing_pack (receive.Collision id) x is = absurd (cc)
 no_listing_pack (receive.KeepFile path) x is = absurd (cc)
 no_listing_pack (receive.UpdateRefs e) x is = absurd (cc)
 no_listing_pack (receive.RemovePackKeepFile path) x is = absurd (cc)
-no_listing_pack receive.Unbuilt x is = absurd (cc)
 no_listing_pack receive.NoMemory x is = absurd (cc)
 
 listing_by : (answers : Bool) (old new : Option Talk) (known : Option (List Worktree)) (g : Given) (before : State) (e : PrepareError) → Breaks is_free_listing answers (bound_of g) old new [] (listing_stage g) e → (b : Bool) → is_free (preparing e) ≡ b
@@ -303,7 +302,6 @@ not_settled_by answers old new known g trees before after l r rest receive.Clien
 not_settled_by answers old new known g trees before after l r rest receive.Interrupted listed told h = absurd h
 not_settled_by answers old new known g trees before after l r rest (receive.KeepFile path) listed told h = absurd h
 not_settled_by answers old new known g trees before after l r rest (receive.RemovePackKeepFile path) listed told h = absurd h
-not_settled_by answers old new known g trees before after l r rest receive.Unbuilt listed told h = late_by answers old new known g trees before after l r rest receive.Unbuilt listed told h refl
 not_settled_by answers old new known g trees before after l r rest (receive.NoMapping specs count) listed told h = late_by answers old new known g trees before after l r rest (receive.NoMapping specs count) listed told h refl
 not_settled_by answers old new known g trees before after l r rest (receive.IncompatibleObjectHash local remote) listed told h = late_by answers old new known g trees before after l r rest (receive.IncompatibleObjectHash local remote) listed told h refl
 not_settled_by answers old new known g trees before after l r rest (receive.Disconnected link) listed told h = late_by answers old new known g trees before after l r rest (receive.Disconnected link) listed told h refl

@@ -128,7 +128,6 @@ untaken setup how trees before wants l r (errors.Fetch e) h = absurd (of_taking 
 untaken setup how trees before wants l r (errors.RejectShallowRemote id) h = absurd (of_taking before wants (brought how.dry_run r) (errors.RejectShallowRemote id) h)
 untaken setup how trees before wants l r (errors.Pack e) h = absurd (of_taking before wants (brought how.dry_run r) (errors.Pack e) h)
 untaken setup how trees before wants l r (errors.UpdateRefs e) h = absurd (of_taking before wants (brought how.dry_run r) (errors.UpdateRefs e) h)
-untaken setup how trees before wants l r errors.Unbuilt h = absurd (of_taking before wants (brought how.dry_run r) errors.Unbuilt h)
 
 -- ---- judging is refused behind the taking
 
@@ -170,7 +169,6 @@ unjudged : (setup : Setup) (how : Manner) (trees : List Worktree) (before : Stat
     → AnswersBy {X = Updates} (judged_of (policy_in mid how trees) l.ref_map) (Err e) → IsUnsettledBy setup how trees before wants l r mid e
 unjudged setup how trees before wants l r mid errors.NoMemory took h = inr took
 unjudged setup how trees before wants l r mid (errors.UpdateRefs e) took h = unlisted setup how trees before wants l r mid e took h
-unjudged setup how trees before wants l r mid errors.Unbuilt took h = absurd (of_judging (policy_in mid how trees) l.ref_map errors.Unbuilt (h refl))
 unjudged setup how trees before wants l r mid errors.Client took h = of_judging (policy_in mid how trees) l.ref_map errors.Client (h refl)
 unjudged setup how trees before wants l r mid errors.Interrupted took h = of_judging (policy_in mid how trees) l.ref_map errors.Interrupted (h refl)
 unjudged setup how trees before wants l r mid (errors.KeepFile path) took h = of_judging (policy_in mid how trees) l.ref_map (errors.KeepFile path) (h refl)

@@ -1,7 +1,9 @@
 -- A conversation is never refused as judging is.
-use Rattle.std.proofs.Common.{◌≡◌, ℕ, Bool, true, false, not, List, [], ◌∷◌, ◌++◌, length, Option, Some, None, Result, Ok, Err, refl, sym, ap, ◌∙◌, subst, inl, inr}
-use Rattle.std.specs.Prelude.{◌⊎◌, ◌||◌, ⊤, IfSome, if◌then◌else◌}
-use Rattle.std.specs.Option.{option_or}
+use Rattle.std.proofs.Common.{◌≡◌, ℕ, zero, suc, Bool, true, false, not, List, [], ◌∷◌, ◌++◌, length, Option, Some, None, Result, Ok, Err, refl, sym, ◌∙◌, subst, inl, inr}
+use Rattle.std.specs.Prelude.{◌⊎◌, ◌&&◌, ◌||◌, ⊤, IfSome, if◌then◌else◌}
+use Rattle.std.specs.FinMap as map
+use Rattle.std.specs.Option.{option_or, option_map}
+use Rattle.fetch_store.specs.Graph.{Graph, graph_of}
 use Rattle.fetch_pack.specs.Reading.{Contents}
 use Rattle.fetch_pack.specs.declared.error.PackError.{PackError}
 use Rattle.fetch_pack.specs.declared.error.PackError.TheVariants as pack
@@ -9,7 +11,6 @@ use Rattle.fetch_store.specs.declared.id.Kind.{Kind}
 use Rattle.fetch_store.specs.declared.id.Kind.TheVariants.{Sha1, Sha256}
 use Rattle.fetch_negotiate.specs.Requests.{fetch_request}
 use Rattle.fetch_negotiate.specs.declared.algorithm.Algorithm.{Algorithm}
-use Rattle.fetch_negotiate.specs.declared.algorithm.Algorithm.TheVariants as algorithms
 use Rattle.fetch_conversation.specs.ReadSettings.{rejects_shallow_of, algorithm_of_config, threads_of}
 use Rattle.fetch_conversation.specs.declared.settings.Settings.{Settings}
 use Rattle.fetch_wire.specs.Greetings.{offers}
@@ -26,14 +27,15 @@ use Rattle.fetch_wire.specs.declared.awaited.Told.{Told}
 use Rattle.fetch_wire.specs.declared.awaited.Told.TheVariants as told
 use Rattle.fetch_wire.specs.declared.handshake.Handshake.{Handshake}
 use Rattle.fetch_wire.specs.declared.mapping.RefMap.{RefMap}
-use Rattle.fetch_wire.specs.declared.records.FetchReply.{FetchReply}
 use Rattle.fetch_update.specs.declared.update.Error.{Error as UpdateError}
-use Rattle.fetch_conversation.specs.Conversation.{Conversation, ends, asks, asks_unless, asking, after_reply, answer_in, IsRefusedBy}
+use Rattle.fetch_conversation.specs.Conversation.{Conversation, ends, asks, asks_unless, asking, and_then, after_reply, answer_in, IsRefusedBy}
 use Rattle.fetch_conversation.specs.ConverseStage as converse
-use Rattle.fetch_conversation.specs.ConverseStage.{TermsValue, converse_stage, wanting, fetching, replied, received, unpacked, is_unmapped, unmapped, unlike, unread_as, unbuilt_rounds, unfit, lacks, lacked, lacking, no_mapping, other_hash}
+use Rattle.fetch_conversation.specs.ConverseStage.{converse_stage, wanting, fetching, algorithm_in, received, rejected, result_unless, unpacked, is_unmapped, unmapped, unlike, unread_as, unfit, lacks, lacked, lacking, no_mapping, other_hash}
+use Rattle.fetch_conversation.specs.Exchange as exchanging
+use Rattle.fetch_conversation.specs.Exchange.{TermsValue, replied, exchange}
+use Rattle.fetch_conversation.specs.Rounds.{CourseValue, Negotiated, first_course, next_window, course_after, negotiating}
 use Rattle.fetch_conversation.specs.Errors.{fetch_of_pack}
 use Rattle.fetch_conversation.specs.ListStage.{ListedValue, unless}
-use Rattle.fetch_conversation.specs.declared.conversing.Received.{Received}
 use Rattle.fetch_conversation.specs.declared.fetch.Error.{Error}
 use Rattle.fetch_conversation.specs.declared.fetch.Error.TheVariants as errors
 use Rattle.fetch_conversation.specs.declared.prepare.Error.{Error as PrepareError}
@@ -100,23 +102,46 @@ other_pack (pack.IdMismatch written computed) = tt
 other_pack (pack.Collision id) = tt
 other_pack pack.NoMemory = tt
 
-spares_unpacked : (reply : FetchReply) (r : Result Contents PackError) → Spares (ends (unpacked reply r))
-spares_unpacked reply (Ok c) = spares_ok _
-spares_unpacked reply (Err e) = spares_err _ _ (other_pack e)
+spares_unpacked : (n : Negotiated) (r : Result Contents PackError) → Spares (ends (unpacked n r))
+spares_unpacked n (Ok c) = spares_ok _
+spares_unpacked n (Err e) = spares_err _ _ (other_pack e)
 
 spares_dry : {X : Type 0} (dry : Bool) (x : X) (r : Result X Error) → Spares (ends r) → Spares (ends (if dry then Ok x else r))
 spares_dry true x r h = spares_ok x
 spares_dry false x r h = h
 
-spares_received : (t : TermsValue) (reply : FetchReply) → Spares (ends (received t reply))
-unfolding received
-spares_received t reply = spares_dry t.dry_run _ _ (spares_unpacked reply _)
+spares_result : {X : Type 0} (o : Option Error) (r : Result X Error) → IfSome o IsOther → Spares (ends r) → Spares (ends (result_unless o r))
+spares_result None r h k = k
+spares_result {X} (Some e) r h k = spares_err X e h
 
-spares_replied : (t : TermsValue) (x : Told) → Spares (replied t x)
-spares_replied t (told.Reply reply) = spares_received t reply
-spares_replied t (told.Greeting h) = spares_err _ _ tt
-spares_replied t (told.Advertisement h refs) = spares_err _ _ tt
-spares_replied t (told.Listing refs) = spares_err _ _ tt
+other_outside : (o : Option ObjectId) → IfSome (option_map (λ id. errors.RejectShallowRemote id) o) IsOther
+other_outside None = tt
+other_outside (Some id) = tt
+
+other_when : (b : Bool) (o : Option Error) → IfSome o IsOther → IfSome (if b then o else None) IsOther
+other_when true o h = h
+other_when false o h = tt
+
+other_rejected : (t : TermsValue) (n : Negotiated) → IfSome (rejected t.settings t.view t.shallow n.reply) IsOther
+other_rejected t n =
+    other_when (converse.is_rejecting (rejects_shallow_of t.settings.config) && converse.is_no_change t.shallow) (option_map (λ (id : ObjectId). errors.RejectShallowRemote id) (converse.first_outside t.view.border n.reply.shallow))
+    (other_outside (converse.first_outside t.view.border n.reply.shallow))
+
+spares_received : (t : TermsValue) (n : Negotiated) → Spares (ends (received t n))
+unfolding received
+spares_received t n = spares_result (rejected t.settings t.view t.shallow n.reply) _ (other_rejected t n) (spares_dry t.dry_run _ _ (spares_unpacked n _))
+
+spares_replied : (x : Told) → Spares (replied x)
+spares_replied (told.Reply reply) = spares_ok reply
+spares_replied (told.Greeting h) = spares_err _ _ tt
+spares_replied (told.Advertisement h refs) = spares_err _ _ tt
+spares_replied (told.Listing refs) = spares_err _ _ tt
+
+spares_then : {X Y : Type 0} (c : Conversation X Error) (f : X → Conversation Y Error) → Spares c → ((x : X) → Spares (f x)) → Spares (and_then c f)
+unfolding and_then Spares
+spares_then (ends (Ok x)) f h k = k x
+spares_then (ends (Err e)) f h k = h
+spares_then (asks lines awaited failed next) f h k = (h.0, λ t. spares_then (next t) f (h.1 t) k)
 
 spares_asks : {X : Type 0} (lines : List Line) (awaited : Await) (failed : Fault → Error) (next : Told → Conversation X Error) → ((fault : Fault) → IsOther (failed fault)) → ((t : Told) → Spares (next t)) → Spares (asks lines awaited failed next)
 unfolding Spares
@@ -126,14 +151,28 @@ spares_asking : {X : Type 0} (long : ℕ → Error) (lines : List Line) (awaited
     → Spares (asking long lines awaited failed next)
 spares_asking long lines awaited failed next a h k = spares_long (first_too_long lines) long (asks lines awaited failed next) a (spares_asks lines awaited failed next h k)
 
-spares_fetching : (bound : ℕ) (t : TermsValue) → Spares (fetching bound t)
-unfolding fetching
-spares_fetching bound t =
-    spares_asking converse.too_long (fetch_request (converse.asked_by t) [] true) (awaits.Reply (converse.reply_to t)) (converse.failed bound) (λ x. replied t x) (λ n. tt) (λ fault. tt) (λ x. spares_replied t x)
+spares_exchange : (bound : ℕ) (t : TermsValue) (haves : List ObjectId) (done : Bool) → Spares (exchange bound t haves done)
+unfolding exchange
+spares_exchange bound t haves done =
+    spares_asking exchanging.too_long (fetch_request (exchanging.asked_by t) haves done) (awaits.Reply (exchanging.reply_to t haves done)) (exchanging.failed bound) (λ x. replied x) (λ n. tt) (λ fault. tt) (λ x. spares_replied x)
 
-spares_wanting : (bound : ℕ) (t : TermsValue) (wants : List ObjectId) → Spares (wanting bound t wants)
-spares_wanting bound t [] = spares_ok _
-spares_wanting bound t (id ∷ ids) = spares_fetching bound t
+spares_either : {X : Type 0} (b : Bool) (c d : Conversation X Error) → Spares c → Spares d → Spares (if b then c else d)
+spares_either true c d h k = h
+spares_either false c d h k = k
+
+spares_negotiating : (more bound : ℕ) (t : TermsValue) (g : Graph) (algorithm : Algorithm) (c : CourseValue) → Spares (negotiating more bound t g algorithm c)
+unfolding negotiating
+spares_negotiating zero bound t g algorithm c = spares_err _ _ tt
+spares_negotiating (suc more) bound t g algorithm c =
+    spares_then _ _ (spares_exchange bound t _ _) (λ reply. spares_either _ _ _ (spares_ok _) (spares_negotiating more bound t g algorithm (course_after algorithm c (next_window g algorithm c) reply)))
+
+spares_fetching : (bound : ℕ) (g : Graph) (t : TermsValue) → Spares (fetching bound g t)
+unfolding fetching
+spares_fetching bound g t = spares_then _ _ (spares_negotiating (suc (map.len g)) bound t g (algorithm_in t.settings) (first_course (algorithm_in t.settings) t.view)) (λ n. spares_received t n)
+
+spares_wanting : (bound : ℕ) (g : Graph) (t : TermsValue) (wants : List ObjectId) → Spares (wanting bound g t wants)
+spares_wanting bound g t [] = spares_ok _
+spares_wanting bound g t (id ∷ ids) = spares_fetching bound g t
 
 other_unmapped : (m : RefMap) → IfSome (unmapped m) IsOther
 other_unmapped m = other_unless (is_unmapped m) (errors.NoMapping (converse.specs_of m) (length m.remote_refs)) tt
@@ -158,30 +197,22 @@ other_unread : {X : Type 0} (refusal : List ℕ → Error) (r : Result X (List �
 other_unread refusal (Ok x) h = tt
 other_unread refusal (Err value) h = h value
 
-other_rounds : (r : Result Algorithm (List ℕ)) → IfSome (unbuilt_rounds r) IsOther
-other_rounds (Ok algorithms.Noop) = tt
-other_rounds (Ok algorithms.Consecutive) = tt
-other_rounds (Ok algorithms.Skipping) = tt
-other_rounds (Err value) = tt
-
 other_unfit : (s : Settings) → IfSome (unfit s) IsOther
 other_unfit s =
-    let rounds = unbuilt_rounds (algorithm_of_config s.config s.lenient) in
     let threads = unread_as errors.PackThreads (threads_of s.config s.lenient) in
     let algorithm = unread_as errors.NegotiationAlgorithmConfig (algorithm_of_config s.config s.lenient) in
     let shallow = unread_as errors.RejectShallowRemoteConfig (rejects_shallow_of s.config) in
-    other_or shallow (option_or algorithm (option_or threads rounds)) (other_unread errors.RejectShallowRemoteConfig (rejects_shallow_of s.config) (λ value. tt))
-    (other_or algorithm (option_or threads rounds) (other_unread errors.NegotiationAlgorithmConfig (algorithm_of_config s.config s.lenient) (λ value. tt))
-    (other_or threads rounds (other_unread errors.PackThreads (threads_of s.config s.lenient) (λ value. tt)) (other_rounds (algorithm_of_config s.config s.lenient))))
+    other_or shallow (option_or algorithm threads) (other_unread errors.RejectShallowRemoteConfig (rejects_shallow_of s.config) (λ value. tt))
+    (other_or algorithm threads (other_unread errors.NegotiationAlgorithmConfig (algorithm_of_config s.config s.lenient) (λ value. tt)) (other_unread errors.PackThreads (threads_of s.config s.lenient) (λ value. tt)))
 
-spares_converse : (bound : ℕ) (t : TermsValue) → Spares (converse_stage bound t)
+spares_converse : (bound : ℕ) (g : Graph) (t : TermsValue) → Spares (converse_stage bound g t)
 unfolding converse_stage
-spares_converse bound t =
-    spares_unless (option_or (no_mapping t) (option_or (other_hash t) (option_or (unfit t.settings) (lacking t)))) (wanting bound t t.view.wants)
+spares_converse bound g t =
+    spares_unless (option_or (no_mapping t) (option_or (other_hash t) (option_or (unfit t.settings) (lacking t)))) (wanting bound g t t.view.wants)
     (other_or (no_mapping t) (option_or (other_hash t) (option_or (unfit t.settings) (lacking t))) (other_unmapped t.listed.ref_map)
     (other_or (other_hash t) (option_or (unfit t.settings) (lacking t)) (other_unlike t.settings.kind t.listed.handshake.object_hash)
     (other_or (unfit t.settings) (lacking t) (other_unfit t.settings) (other_lacked t.listed.handshake (converse.needs_shallow t)))))
-    (spares_wanting bound t t.view.wants)
+    (spares_wanting bound g t t.view.wants)
 
 -- ---- the whole
 
@@ -201,12 +232,11 @@ refusal_is (errors.KeepFile path) fault is = absurd (cc)
 refusal_is (errors.RemovePackKeepFile path) fault is = absurd (cc)
 refusal_is errors.Client fault is = absurd (cc)
 refusal_is errors.Interrupted fault is = absurd (cc)
-refusal_is errors.Unbuilt fault is = absurd (cc)
 refusal_is errors.NoMemory fault is = absurd (cc)
 
 refused_as : (now : Option Talk) (g : Given) (s : State) (l : ListedValue) (stream heard : List ℕ) (fault : UpdateError) → IsRefusedBy (bound_of g) now (pack_stage g s l) stream heard (errors.UpdateRefs fault) → ⊥
-refused_as now g s l stream heard fault (inl all) = spared (bound_of g) (pack_stage g s l) (stream ++ []) fault (spares_converse (bound_of g) (terms_in g s l)) (all []).answer
-refused_as now g s l stream heard fault (inr last) = spared (bound_of g) (pack_stage g s l) stream fault (spares_converse (bound_of g) (terms_in g s l)) last.1.answer
+refused_as now g s l stream heard fault (inl all) = spared (bound_of g) (pack_stage g s l) (stream ++ []) fault (spares_converse (bound_of g) (graph_of s.objects) (terms_in g s l)) (all []).answer
+refused_as now g s l stream heard fault (inr last) = spared (bound_of g) (pack_stage g s l) stream fault (spares_converse (bound_of g) (graph_of s.objects) (terms_in g s l)) last.1.answer
 
 -- the second stage breaks off by no refusal of judging
 pub receives_no_fault : (answers : Bool) (old new : Option Talk) (g : Given) (s : State) (e : FetchError) (h : BreaksReceiving answers old new g s e) (fault : UpdateError) → receiving h.cause ≡ fetch.Receive (errors.UpdateRefs fault) → ⊥

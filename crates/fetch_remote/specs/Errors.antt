@@ -13,9 +13,7 @@ abbrev pub preparing : PrepareError → FetchError
 preparing prepare.NoMemory = errors.NoMemory
 preparing e = errors.Prepare e
 
--- what isn't built stays what it is, too
 abbrev pub receiving : ReceiveError → FetchError
-receiving fetch.Unbuilt = errors.Unbuilt
 receiving fetch.NoMemory = errors.NoMemory
 receiving e = errors.Receive e
 
@@ -29,5 +27,4 @@ is_unlisted e = false
 abbrev pub is_free : FetchError → Bool
 is_free (errors.Prepare e) = is_transport e || is_interrupted e
 is_free (errors.Receive e) = is_client e || (is_stopped e || is_unlisted e)
-is_free errors.Unbuilt = false
 is_free errors.NoMemory = true

@@ -30,6 +30,7 @@ use Rattle.fetch_conversation.specs.declared.conversing.Received.{Received}
 use Rattle.fetch_remote.specs.Fetching.{manner_in, fetched_in, requests_in}
 use Rattle.fetch_remote.specs.Form.{Given}
 use Rattle.fetch_remote.specs.Judging.{IsTold}
+use Rattle.fetch_remote.specs.Negotiated.{AreHeld}
 use Rattle.fetch_remote.specs.Repositories.{State, Setup, held}
 use Rattle.fetch_remote.specs.Settling.{brought, policy_in, status_of}
 use Rattle.fetch_remote.specs.Stages.{bound_of, wants_in, inquiry_in, listing_stage, pack_stage}
@@ -115,9 +116,9 @@ pub record IsLeft (dry_run : Bool) (packed_refs : PackedRefs) (setup : Setup) (b
 
 -- ---- what is safe
 
--- what the fetch request was made of
-abbrev pub request_in : Given → State → RefMap → Request
-request_in g s m = record { held = held s; wants = wants_in g s m; haves = [] }
+-- what the fetch requests were made of, with the haves of all rounds
+abbrev pub request_in : Given → State → RefMap → List ObjectId → Request
+request_in g s m haves = record { held = held s; wants = wants_in g s m; haves = haves }
 
 -- a mapping of the tags that come with the history
 abbrev pub is_aside : Given → RefMap → Mapping → Bool
@@ -138,6 +139,8 @@ pub record IsFetched (answers : Bool) (old new : Option Talk) (known : Option (L
   pub said : List ℕ
   pub heard : HasHeard answers old new g before said
   pub read : HasRead g before said outcome
+  -- One round a request was held, and told what is there.
+  pub rounds : AreHeld g before (listed_in outcome) read.behind read.received
   -- The worktrees' list is the one that is told.
   pub trees : List Worktree
   pub listed_trees : IsTold known trees

@@ -2,6 +2,7 @@ pub mod Remotes
 pub mod Errors
 pub mod RepositoryValues
 pub mod Codes
+pub mod Negotiated
 pub mod Paths
 pub mod Repositories
 pub mod Finding

@@ -15,9 +15,6 @@ pub enum FetchError {
     /// From the fetch request on.
     #[error("{0}")]
     Receive(fetch::Error),
-    /// Well formed, and not built yet.
-    #[error("what is asked for isn't built yet")]
-    Unbuilt,
     #[error("out of memory")]
     NoMemory,
 }
@@ -51,7 +48,7 @@ impl From<prepare::Error> for FetchError {
     }
 }
 
-/// Want of memory and what isn't built stay what they are.
+/// Want of memory stays want of memory.
 impl From<fetch::Error> for FetchError {
     ghost use Rattle.std.specs.Prelude.{◌≡◌};
     ghost use Rattle.fetch_remote.specs.Errors.{receiving};
@@ -60,7 +57,6 @@ impl From<fetch::Error> for FetchError {
 
     fn from(e: fetch::Error) -> FetchError {
         match e {
-            fetch::Error::Unbuilt => FetchError::Unbuilt,
             fetch::Error::NoMemory => FetchError::NoMemory,
             e => FetchError::Receive(e),
         }

@@ -18,6 +18,7 @@ ghost use Rattle.fetch_wire.specs.declared.mapping.RefMap.{RefMap};
 ghost use Rattle.fetch_conversation.specs.declared.conversing.Received.{Received};
 ghost use Rattle.fetch_remote.specs.Fetched.{IsFetched, request_in};
 ghost use Rattle.fetch_remote.specs.Fetching.{fetched_in, requests_in};
+ghost use Rattle.fetch_negotiate.specs.Rounds.{haves_in};
 ghost use Rattle.fetch_remote.specs.Form.{Given};
 ghost use Rattle.fetch_remote.specs.Lasting.{updates_in, AcceptsNone, AreAlike, with_packed};
 ghost use Rattle.fetch_remote.specs.Repositories.{State, held};
@@ -26,15 +27,16 @@ ghost use Rattle.fetch_remote.specs.Settling.{connected, pack_of};
 ghost use Rattle.fetch_remote.specs.Stages.{wants_in};
 ghost use Rattle.fetch_remote.specs.declared.outcome.Outcome.{Outcome};
 
-/// What a peer is sent is the first line, then the listing request, then one fetch request for what is wanted, and
-/// nothing else; each once at most.
+/// What a peer is sent is the first line, then the listing request, each once at most, then the fetch requests for what is
+/// wanted, one a round, and nothing else.
 pub fn a_fetch_asks_in_order()
     ensures { (g : Given) (s : State) (stream : List ℕ) → AsksInOrder g s (requests_in g s stream) }
 {}
 
-/// A pack that is honest for the request of a fetch is never told as disconnected in a closed repository.
+/// A pack that is honest for what a fetch wants and for the haves of all its rounds is never told as disconnected in a
+/// closed repository.
 pub fn an_honest_pack_is_never_disconnected()
-    ensures { (g : Given) (s : State) (m : RefMap) (r : Received) → IsClosed (held s) → collision s.objects r.objects ≡ None → IsHonest (request_in g s m) (pack_of r)
+    ensures { (g : Given) (s : State) (m : RefMap) (r : Received) → IsClosed (held s) → collision s.objects r.objects ≡ None → IsHonest (request_in g s m (haves_in r.negotiate.rounds)) (pack_of r)
         → connected s (wants_in g s m) (pack_of r) ≡ Ok tt }
 {}
 

@@ -12,6 +12,8 @@ mod fixture;
 #[cfg(test)]
 mod refusals;
 #[cfg(test)]
+mod rounds;
+#[cfg(test)]
 mod running;
 #[cfg(test)]
 mod scenes;

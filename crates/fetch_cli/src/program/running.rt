@@ -127,7 +127,7 @@ fn answer<R: Threads + Sync, S: Source>(
 
 /// Runs the program with the words behind its name, and answers its status: 0 where the fetch was done, or help or the
 /// version was asked for; 1 where the fetch was refused; 2 where the source failed, and 3 where the sink did; 4 where
-/// the words or the scene are malformed; 5 where memory ran out; 6 where what is asked for isn't built yet.
+/// the words or the scene are malformed; 5 where memory ran out.
 pub fn run<R: Threads + Sync, S: Source, K: Sink>(
     rt: &R,
     alloc: Global,
@@ -145,10 +145,9 @@ pub fn run<R: Threads + Sync, S: Source, K: Sink>(
     ensures front { result ≡ 3 → WritesFront (map (λ word. word.items) words.now) (S.left source.old) (K.taken sink.old) (K.taken sink.new) }
     ensures malformed { result ≡ 4 → Writes (map (λ word. word.items) words.now) (S.left source.old) (K.taken sink.old) (K.taken sink.new) 4 }
     ensures memory { result ≡ 5 → (sink.new ≡ sink.old) ⊎ WritesFront (map (λ word. word.items) words.now) (S.left source.old) (K.taken sink.old) (K.taken sink.new) }
-    ensures unbuilt { result ≡ 6 → Writes (map (λ word. word.items) words.now) (S.left source.old) (K.taken sink.old) (K.taken sink.new) 6 }
     // Words are tested before the source is read.
     ensures words { asks_fetch (map (λ word. word.items) words.now) ≡ false → source.new ≡ source.old }
-    ensures known { result ≤ 6 }
+    ensures known { result ≤ 5 }
 {
     match answer(rt, alloc, words, source) {
         Ok((status, text)) => match sink.write_all(&text) {
