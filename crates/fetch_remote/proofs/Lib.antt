@@ -3,6 +3,7 @@ pub mod Wanted
 pub mod Spoken
 pub mod Broken
 pub mod Received
+pub mod Keeping
 pub mod Settled
 pub mod Fetched
 pub mod Refused

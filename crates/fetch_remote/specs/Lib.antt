@@ -10,6 +10,7 @@ pub mod Connecting
 pub mod Reloads
 pub mod Threads
 pub mod Judging
+pub mod Keeping
 pub mod Settling
 pub mod Form
 pub mod Stages
