@@ -15,3 +15,4 @@ pub mod Lost
 pub mod Judged
 pub mod Unjudged
 pub mod Lasting
+pub mod Complete

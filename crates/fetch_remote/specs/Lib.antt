@@ -18,5 +18,6 @@ pub mod Talking
 pub mod Fetching
 pub mod Fetched
 pub mod Refused
+pub mod Valid
 pub mod Requested
 pub mod Lasting

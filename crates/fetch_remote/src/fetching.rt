@@ -7,11 +7,13 @@ ghost use Rattle.fetch_conversation.specs.declared.fetch.Error.TheVariants as re
 ghost use Rattle.fetch_conversation.specs.declared.prepare.Error.TheVariants as prepare_errors;
 ghost use Rattle.fetch_conversation.specs.declared.ref_map.Error.TheVariants as ref_map_errors;
 ghost use Rattle.fetch_update.specs.declared.update.Error.TheVariants as update_errors;
+ghost use Rattle.fetch_remote.specs.Errors.{is_free};
 ghost use Rattle.fetch_remote.specs.Fetched.{IsFetched};
 ghost use Rattle.fetch_remote.specs.Fetching.{manner_of, message_of, places_of};
 ghost use Rattle.fetch_remote.specs.Keeping.{made_in, with_keep};
 ghost use Rattle.fetch_remote.specs.Refused.{IsRefused, is_early};
 ghost use Rattle.fetch_remote.specs.Repositories.{state_of, setup_of};
+ghost use Rattle.fetch_remote.specs.Valid.{HasValidInput};
 ghost use Rattle.fetch_remote.specs.declared.fetch_error.FetchError.TheVariants as errors;
 
 use crate::fetch_error::FetchError;
@@ -53,6 +55,8 @@ impl Remote {
             (record { remote = self.now; options = options; setup = setup_of repo.old }) (state_of repo.old) (state_of repo.new) outcome) }
         ensures refused { IfErr result (λ e. IsRefused P.answers (P.told peer.old) (P.told peer.new) (W.told worktrees.old) (F.told files.old) (F.told files.new)
             (record { remote = self.now; options = options; setup = setup_of repo.old }) (state_of repo.old) (state_of repo.new) e) }
+        ensures complete { IfErr result (λ e. HasValidInput (P.told peer.old) (P.told peer.new) (W.told worktrees.old)
+            (record { remote = self.now; options = options; setup = setup_of repo.old }) (state_of repo.old) → is_free e ≡ true) }
         ensures setup { setup_of repo.new ≡ setup_of repo.old }
         ensures counts { Counts (P.faults peer.old) (P.faults peer.new) }
         ensures transport { IsErrOf result (errors.Prepare (prepare_errors.RefMap ref_map_errors.Transport)) → Rose (P.faults peer.old) (P.faults peer.new) }

@@ -5,6 +5,7 @@ use Rattle.std.proofs.lemmas.Result.{err_from_is_err_and}
 use Rattle.fetch_conversation.specs.ListStage.{shown}
 use Rattle.fetch_remote.specs.Repositories.{state_of}
 use Rattle.fetch_remote.specs.declared.fetch_error.FetchError.TheVariants as errors
+use Rattle.fetch_remote.proofs.Complete.{complete}
 use Rattle.fetch_remote.proofs.Fetched.{is_fetched}
 use Rattle.fetch_remote.proofs.Talked.{told_same}
 use Rattle.fetch_remote.proofs.Unjudged.{refusal_is, same_refusal, talks_no_other}
@@ -110,3 +111,23 @@ returns-in_err-outcome-clause-removable g c path is =
     let p = err_from_is_err_and c.from_residual-in_err-outcome.result c.from_residual-in_err-outcome.ensures.1 in
     let told = told_same c.from_residual-in_err-outcome.result c.in_err-outcome.field-0.0 p.0 (errors.Receive (receive.RemovePackKeepFile path)) p.1 p.2 is in
     c.in_err-outcome.ensures.removable path (rw (refusal_is c.in_err-outcome.field-0.0 (receive.RemovePackKeepFile path) told) refl)
+
+pub returns-in_err-how-clause-complete : goal.returns-in_err-how-clause-complete
+returns-in_err-how-clause-complete g c =
+    let p = err_from_is_err_and c.from_residual.result c.from_residual.ensures.1 in
+    rw (p.1, p.2) (λ v. refl)
+
+pub returns-in_err-talked-clause-complete : goal.returns-in_err-talked-clause-complete
+returns-in_err-talked-clause-complete g c =
+    let p = err_from_is_err_and c.from_residual-in_err-talked.result c.from_residual-in_err-talked.ensures.1 in
+    let told = g.W.Worktrees.told c.args.worktrees.now in
+    let files = g.F.Files.told c.args.files.now in
+    rw (p.1, p.2) (λ v. complete _ _ _ told files files _ _ _ c.in_err-talked.field-0.0 (broken_off _ _ _ told files _ (state_of c.args.repo.now) c.in_err-talked.field-0.0 c.in_err-talked.ensures.held.held) v)
+
+pub returns-in_err-outcome-clause-complete : goal.returns-in_err-outcome-clause-complete
+returns-in_err-outcome-clause-complete g c =
+    let p = err_from_is_err_and c.from_residual-in_err-outcome.result c.from_residual-in_err-outcome.ensures.1 in
+    let t = c.in_ok-talked.ensures.held.held in
+    let u = rw (c.in_ok-how.ensures, c.fetch_tags.ensures, t.wants) at c.in_err-outcome.ensures.refused in
+    let told = g.W.Worktrees.told c.args.worktrees.now in
+    rw (p.1, p.2) (λ v. complete _ _ _ told _ _ _ _ _ _ (not_settled _ _ _ told _ _ _ (state_of c.args.repo.now) (state_of c.settle.new.repo) (shown c.in_ok-talked.talked.listed) c.in_ok-talked.talked.received _ c.in_err-outcome.field-0.0 t.told u) v)
