@@ -130,7 +130,7 @@ is_safe g before m r s u took none = record {
 }
 
 is_kept : (g : Given) (files left : Option Tree) (l : ListedValue) (r : Option Received) (u : Updates) → AreFiles files left (left_tree g.setup.settings.git_dir (at_outcome g l r u).status) → IsKept g files left r u (at_outcome g l r u)
-is_kept g files left l r u h = record { keep = keep_is g.setup.settings.git_dir g.options.dry_run r u; files = h }
+is_kept g files left l r u h = record { keep = keep_is g.setup.settings.git_dir g.options.dry_run r u; tree = h }
 
 fetched_with : (answers : Bool) (old new : Option Talk) (known : Option (List Worktree)) (files left : Option Tree) (g : Given) (trees : List Worktree) (before : State) (l : ListedValue) (r : Option Received) (rest : List ℕ) (s : State) (u : Updates) → IsTold known trees
     → HasTold answers old new g before l r rest → taken_in g before (record { listed = l; received = r }) ≡ Ok s → judged_of (policy_in s (manner_in g) trees) l.ref_map ≡ Ok u

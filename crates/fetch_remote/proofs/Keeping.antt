@@ -1,5 +1,5 @@
 -- Keep files that are made and removed.
-use Rattle.std.proofs.Common.{◌≡◌, ℕ, Bool, true, false, cond, ◌||◌, List, [], ◌∷◌, Option, Some, None, refl, sym, ap, ◌∙◌}
+use Rattle.std.proofs.Common.{◌≡◌, ℕ, Bool, true, false, cond, ◌||◌, List, [], ◌∷◌, Option, Some, None, refl, sym, ap, subst, ◌∙◌}
 use Rattle.std.specs.Prelude.{IfSome, is_some, if◌then◌else◌}
 use Rattle.std.specs.Option.{option_and_then, option_map}
 use Rattle.std.specs.FinMap as map
@@ -17,8 +17,10 @@ use Rattle.fetch_update.specs.declared.update.Outcome.{Outcome as Updates}
 use Rattle.fetch_conversation.specs.declared.conversing.Received.{Received}
 use Rattle.fetch_remote.specs.Keeping.{AreFiles, stays, kept, made, keep_in, made_in, removed_in, with_keep, without_keep, left_tree}
 use Rattle.fetch_remote.specs.Paths.{keep_path}
-use Rattle.fetch_remote.specs.Settling.{brought, pack_read, status_of, status_by, told_of, kept_of, released_of}
+use Rattle.fetch_remote.specs.Settling.{brought, pack_read, status_of, status_by, told_of, kept_of, released_of, IsUnreleased}
+use Rattle.fetch_conversation.specs.declared.fetch.Error.{Error}
 use Rattle.fetch_remote.specs.declared.outcome.Status.{Status}
+use Rattle.fetch_remote.specs.declared.settling.Taken.{Taken}
 
 -- ---- trees
 
@@ -44,8 +46,8 @@ inserted_at t part path v =
     get-insert path_cmp_total t (part ∷ path) v (part ∷ path) ∙ ap (λ (b : Bool). cond b (Some v) (map.get t (part ∷ path))) (ap is_eq (tied_itself path_cmp_total (part ∷ path)))
 
 removes_by : (b : Bool) (u : Tree) (path : Path) → is_file (node_at u path) ≡ b → b ≡ true → without_file u path ≡ None → ⊥
-removes_by true u path is yes none = absurd (cc)
-removes_by false u path is yes none = absurd (cc)
+removes_by true u path is there none = absurd (cc)
+removes_by false u path is there none = absurd (cc)
 
 removes_with : (b : Bool) (t u : Tree) (part : List ℕ) (path : Path) (bytes : List ℕ) → (if b then None else Some (map.insert (with_each t (parents_of (part ∷ path))) (part ∷ path) (File bytes))) ≡ Some u → without_file u (part ∷ path) ≡ None → ⊥
 removes_with true t u part path bytes is none = absurd (cc)
@@ -139,7 +141,19 @@ gone_made git_dir false (Some r) u path is = by r.pack is
 pub left_files : (files mid left : Option Tree) (git_dir : List ℕ) (dry_run : Bool) (r : Option Received) (u : Updates) (status : Status) → status ≡ status_of git_dir dry_run r u
     → AreFiles files mid (with_keep (made git_dir (pack_read dry_run r))) → AreFiles mid left (without_keep (released_of u (told_of git_dir dry_run r))) → AreFiles files left (left_tree git_dir status)
 left_files files mid left git_dir dry_run r u status is h k =
-    rw (is, made_is git_dir dry_run r u, removed_is git_dir dry_run r u) (files_then files mid left (with_keep (made git_dir (pack_read dry_run r))) (without_keep (released_of u (told_of git_dir dry_run r))) h k)
+    let a : made_in git_dir status ≡ made git_dir (pack_read dry_run r) = ap (λ (x : Status). made_in git_dir x) is ∙ made_is git_dir dry_run r u in
+    let b : removed_in git_dir status ≡ released_of u (told_of git_dir dry_run r) = ap (λ (x : Status). removed_in git_dir x) is ∙ removed_is git_dir dry_run r u in
+    let all = files_then files mid left (with_keep (made git_dir (pack_read dry_run r))) (without_keep (released_of u (told_of git_dir dry_run r))) h k in
+    subst (λ (x : Option (List ℕ)). AreFiles files left (λ t. option_and_then (without_keep (removed_in git_dir status)) (with_keep x t))) (sym a)
+    (subst (λ (y : Option (List ℕ)). AreFiles files left (λ t. option_and_then (without_keep y) (with_keep (made git_dir (pack_read dry_run r)) t))) (sym b) all)
+
+-- files that tell a tree refuse no removal of a keep file
+pub removable : (files mid : Option Tree) (may_fail : Bool) (git_dir : List ℕ) (dry_run : Bool) (r : Option Received) (u : Updates) (taken : Option Taken) (e : Error) → taken ≡ told_of git_dir dry_run r
+    → AreFiles files mid (with_keep (made git_dir (pack_read dry_run r))) → IsRefused may_fail mid (without_keep (released_of u taken)) → IsUnreleased (released_of u taken) e → may_fail ≡ false → files ≡ None
+removable files mid may_fail git_dir dry_run r u taken e is h k gone never =
+    let goes : released_of u (told_of git_dir dry_run r) ≡ Some gone.0 = ap (λ (x : Option Taken). released_of u x) (sym is) ∙ gone.2 in
+    let was : made git_dir (pack_read dry_run r) ≡ Some gone.0 = gone_made git_dir dry_run r u gone.0 goes in
+    no_refusal files mid may_fail gone.0 (subst (λ (x : Option (List ℕ)). AreFiles files mid (with_keep x)) was h) (subst (λ (x : Option (List ℕ)). IsRefused may_fail mid (without_keep x)) gone.2 k) never
 
 pub made_none : (git_dir : List ℕ) (dry_run : Bool) (r : Option Received) → made git_dir (pack_read dry_run r) ≡ None → pack_read dry_run r ≡ None
 made_none git_dir dry_run r = by (pack_read dry_run r)

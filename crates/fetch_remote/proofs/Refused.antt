@@ -47,7 +47,7 @@ keep_left_is g before stream answer is = rw is refl
 
 -- all is as found
 found : (before : State) (files : Option Tree) → IsFound before before files files
-found before files = record { state = refl; files = refl }
+found before files = record { same_state = refl; same_files = refl }
 
 -- ---- no counted refusal
 
@@ -202,9 +202,9 @@ receiving_by answers old new known files g before e h true free =
       interrupted = λ is. absurd (no_listing_pack h.cause _ is);
       client = λ _. cut;
       stopped = λ _. cut;
-      making = λ path is. absurd (receives_no_other answers old new g before e h (receive.KeepFile path) (λ no. no) refl is);
-      worktrees = λ fault yes is. absurd (receives_no_other answers old new g before e h (receive.UpdateRefs fault) (λ no. no) refl is);
-      removing = λ path is. absurd (receives_no_other answers old new g before e h (receive.RemovePackKeepFile path) (λ no. no) refl is);
+      making = λ path is. absurd (receives_no_other answers old new g before e h (receive.KeepFile path) (λ x. x) refl is);
+      worktrees = λ fault yes is. absurd (receives_no_other answers old new g before e h (receive.UpdateRefs fault) (λ x. x) refl is);
+      removing = λ path is. absurd (receives_no_other answers old new g before e h (receive.RemovePackKeepFile path) (λ x. x) refl is);
     })
 
 pub broken_receiving : (answers : Bool) (old new : Option Talk) (known : Option (List Worktree)) (files : Option Tree) (g : Given) (before : State) (e : FetchError) → BreaksReceiving answers old new g before e → IsRefused answers old new known files files g before before e
@@ -240,13 +240,13 @@ taken_at : (g : Given) (before after : State) (files left : Option Tree) (said :
 taken_at g before after files left said t ended h = record { told = t; ended = ended; state = h.took; kept = h.kept; refs = (takes before _ _ after h.took).refs }
 
 making_at : (g : Given) (before after : State) (files left : Option Tree) (said path : List ℕ) (t : Told) → HasEnded g before said t → after ≡ before → settling.IsMaking (taken_in g before t) (keep_made g t) path files left → IsMaking g before after files left said path
-making_at g before after files left said path t ended is h = record { told = t; ended = ended; state = h.state; took = h.took; keep = h.keep; found = is; tree = h.told }
+making_at g before after files left said path t ended is h = record { told = t; ended = ended; state = h.state; took = h.took; keep = h.made; found = is; tree = h.told }
 
 stands_at : (g : Given) (before after : State) (files left : Option Tree) (said : List ℕ) (t : Told) → HasEnded g before said t → IsLeft before (taken_in g before t) (keep_made g t) files left after → IsStanding g before after files left said
 stands_at g before after files left said t ended (inl h) = unmoved h.0 h.1
   where
     unmoved : after ≡ before → (left ≡ files) ⊎ ((path : List ℕ) × settling.IsMaking (taken_in g before t) (keep_made g t) path files left) → IsStanding g before after files left said
-    unmoved is (inl same) = inl (record { state = is; files = same })
+    unmoved is (inl same) = inl (record { same_state = is; same_files = same })
     unmoved is (inr m) = inr (inl (m.0, making_at g before after files left said m.0 t ended is m.1))
 stands_at g before after files left said t ended (inr h) = inr (inr (taken_at g before after files left said t ended h))
 
@@ -292,7 +292,7 @@ not_settled answers old new known files left g before after l r rest e told u =
       why = λ sure.
       let k = b.why ((told_as e).sure sure) in
       inl (λ more. late_with g u.trees before after files left (said ++ more) heard t (rest ++ more) e (h.answered more) (h.asked more) k);
-      stands = λ early. stands_at g before after files left said t ended (b.left ((told_as e).early early));
+      stands = λ early. stands_at g before after files left said t ended (b.stands ((told_as e).early early));
       counted = record {
         transport = λ is. absurd (no_listing_pack e _ is);
         interrupted = λ is. absurd (no_listing_pack e _ is);
@@ -304,6 +304,6 @@ not_settled answers old new known files left g before after l r rest e told u =
         worktrees = λ fault yes is. taken_at g before after files left said t ended (b.unlisted fault yes (refusal_is e (receive.UpdateRefs fault) is));
         removing = λ path is.
         let k = b.moved path (refusal_is e (receive.RemovePackKeepFile path) is) in
-        record { outcome = k.outcome; fetched = λ more. fetched_is g u.trees before (said ++ more) _ _ (h.answered more) (rw k.by refl); removed = k.path; tree = k.told };
+        record { outcome = k.outcome; fetched = λ more. fetched_is g u.trees before (said ++ more) _ _ (h.answered more) (rw k.by refl); removed = k.removed; tree = k.told };
       };
     }

@@ -1,5 +1,5 @@
 -- What a settled fetch took, judged and moved.
-use Rattle.std.proofs.Common.{◌≡◌, ◌≢◌, ℕ, Bool, true, false, List, [], ◌∷◌, Option, Some, None, Result, Ok, Err, refl, sym, ap, subst, Contains, arith, inl, inr}
+use Rattle.std.proofs.Common.{◌≡◌, ◌≢◌, ℕ, Bool, true, false, List, [], ◌∷◌, Option, Some, None, Result, Ok, Err, refl, sym, ap, ◌∙◌, subst, Contains, arith, inl, inr}
 use Rattle.std.specs.Prelude.{◌⊎◌, ◌||◌, IfErr, ⊤, is_some, unwrap_or}
 use Rattle.std.specs.FinMap as map
 use Rattle.fetch_store.specs.Objects.{Stored}
@@ -141,7 +141,7 @@ untaken_early before wants r keep files e h = record {
 pub untaken_making : (before : State) (wants : List ObjectId) (r : Received) (s : State) (git_dir : List ℕ) (files left : Option Tree) (e : Error) → taken before wants (Some r) ≡ Ok s → IsUnmade (made git_dir r.pack) files left e
     → IsUntaken (taken before wants (Some r)) (made git_dir r.pack) files left e
 untaken_making before wants r s git_dir files left e took h =
-    let m : IsMaking (taken before wants (Some r)) (made git_dir r.pack) h.path files left = record { state = s; took = took; keep = h.made; told = h.told } in
+    let m : IsMaking (taken before wants (Some r)) (made git_dir r.pack) h.path files left = record { state = s; took = took; made = h.made; told = h.told } in
     record { why = λ sure. absurd (no_cause e h.path sure h.why); making = λ path is. making_at path is h.why m; stands = inr (h.path, m) }
   where
     no_cause : (e : Error) (path : List ℕ) → is_free_taking e ≡ false → (e ≡ errors.KeepFile path) ⊎ (e ≡ errors.NoMemory) → ⊥
@@ -160,7 +160,7 @@ untaken_behind before wants r s git_dir files left took h = record { why = λ su
   where
     stands : (keep : Option (List ℕ)) → AreFiles files left (with_keep keep) → (left ≡ files) ⊎ ((path : List ℕ) × IsMaking (taken before wants (Some r)) keep path files left)
     stands None k = inl (files_same files left k)
-    stands (Some path) k = inr (path, record { state = s; took = took; keep = refl; told = k.0 })
+    stands (Some path) k = inr (path, record { state = s; took = took; made = refl; told = k.0 })
 
 pub untaken : (setup : Setup) (how : Manner) (trees : List Worktree) (before : State) (wants : List ObjectId) (l : ListedValue) (r : Option Received) (files left : Option Tree) (e : Error)
     → IsUntaken (taken before wants (brought how.dry_run r)) (keep_of setup how r) files left e
@@ -170,7 +170,7 @@ untaken setup how trees before wants l r files left e h = record {
   why = λ sure.
   let k = h.why (either_false (is_free_taking e) _ sure).0 in
   (rw k.0 refl, rw k.0 refl, rw (k.0, k.1) (same_files files));
-  left = λ _. inl (refl, h.stands);
+  stands = λ _. inl (refl, h.stands);
   unlisted = λ fault faulty is. absurd (only (errors.UpdateRefs fault) refl is);
   making = λ path is. (refl, h.making path is);
   moved = λ path is. absurd (only (errors.RemovePackKeepFile path) refl is);
@@ -267,7 +267,7 @@ unjudged setup how trees before wants l r files left mid e took kept h = record 
   why = λ sure.
   let k = h (judging_sure e sure) in
   (rw (took, k) refl, rw took refl, rw took kept);
-  left = λ _. inr at;
+  stands = λ _. inr at;
   unlisted = λ fault faulty is. at;
   making = λ path is. absurd (never_keeps e path only is);
   moved = λ path is. absurd (never_removes e path only is);
@@ -294,7 +294,7 @@ pub unmoved : (setup : Setup) (how : Manner) (trees : List Worktree) (before : S
     → AreFiles files left (with_keep (keep_of setup how r)) → IsUnsettledBy (settled setup how trees before wants l r) (taken before wants (brought how.dry_run r)) (keep_of setup how r) setup.settings.git_dir files left before mid errors.NoMemory
 unmoved setup how trees before wants l r files left mid took kept = record {
   why = λ sure. absurd (cc);
-  left = λ _. inr (record { took = took; kept = kept });
+  stands = λ _. inr (record { took = took; kept = kept });
   unlisted = λ fault faulty is. absurd (cc);
   making = λ path is. absurd (cc);
   moved = λ path is. absurd (cc);
@@ -308,7 +308,7 @@ pub unreleased : (setup : Setup) (how : Manner) (trees : List Worktree) (before 
     → IsUnsettledBy (settled setup how trees before wants l r) (taken before wants (brought how.dry_run r)) (keep_of setup how r) setup.settings.git_dir files left before now e
 unreleased setup how trees before wants l r files left mid u now e took judged is h told = rw h.1 (record {
   why = λ sure. absurd (cc);
-  left = λ sure. absurd (cc);
+  stands = λ sure. absurd (cc);
   unlisted = λ fault faulty same. absurd (cc);
   making = λ path same. absurd (cc);
   moved = λ path same. gone path same;
@@ -324,7 +324,7 @@ unreleased setup how trees before wants l r files left mid u now e took judged i
         record {
           outcome = outcome_in dir how l r u;
           by = settles setup how trees before wants l r mid u (status_of dir how.dry_run r u) now took judged (sym (status_is dir how.dry_run r u)) is;
-          path = removed_is dir how.dry_run r u ∙ h.2 ∙ ap (λ (x : List ℕ). Some x) one;
+          removed = removed_is dir how.dry_run r u ∙ h.2 ∙ ap (λ (x : List ℕ). Some x) one;
           told = told;
         }
 

@@ -61,14 +61,14 @@ Spares (asks lines awaited failed next) = ((fault : Fault) → IsOther (failed f
 spared_after : {X : Type 0} (bound : ℕ) (failed : Fault → Error) (next : Told → Conversation X Error) (reading : Result (Told × List ℕ) Fault) (e : Error) → (IsOther e → ⊥) → ((fault : Fault) → IsOther (failed fault))
     → ((t : Told) (stream : List ℕ) → answer_in bound (next t) stream ≡ Err e → ⊥)
     → after_reply (λ fault. Err (failed fault)) (λ told rest. answer_in bound (next told) rest) reading ≡ Err e → ⊥
-spared_after bound failed next (Ok y) e no other again is = again y.0 y.1 is
-spared_after {X} bound failed next (Err fault) e no other again is = let h : failed fault ≡ e = cc in no (subst IsOther h (other fault))
+spared_after bound failed next (Ok y) e apart other again is = again y.0 y.1 is
+spared_after {X} bound failed next (Err fault) e apart other again is = let h : failed fault ≡ e = cc in apart (subst IsOther h (other fault))
 
 spared : {X : Type 0} (bound : ℕ) (c : Conversation X Error) (stream : List ℕ) (e : Error) → (IsOther e → ⊥) → Spares c → answer_in bound c stream ≡ Err e → ⊥
 unfolding answer_in Spares
-spared bound (ends (Ok y)) stream e no h is = absurd (cc)
-spared bound (ends (Err x)) stream e no h is = let k : x ≡ e = cc in no (subst IsOther k h)
-spared bound (asks lines awaited failed next) stream e no h is = spared_after bound failed next (told_at bound awaited stream) e no h.0 (λ t s. spared bound (next t) s e no (h.1 t)) is
+spared bound (ends (Ok y)) stream e apart h is = absurd (cc)
+spared bound (ends (Err x)) stream e apart h is = let k : x ≡ e = cc in apart (subst IsOther k h)
+spared bound (asks lines awaited failed next) stream e apart h is = spared_after bound failed next (told_at bound awaited stream) e apart h.0 (λ t s. spared bound (next t) s e apart (h.1 t)) is
 
 spares_ok : {X : Type 0} (x : X) → Spares (ends (Ok x))
 unfolding Spares
@@ -206,15 +206,15 @@ refusal_is errors.Unbuilt x is = absurd (cc)
 refusal_is errors.NoMemory x is = absurd (cc)
 
 refused_as : (now : Option Talk) (g : Given) (s : State) (l : ListedValue) (stream heard : List ℕ) (x : Error) → (IsOther x → ⊥) → IsRefusedBy (bound_of g) now (pack_stage g s l) stream heard x → ⊥
-refused_as now g s l stream heard x no (inl all) = spared (bound_of g) (pack_stage g s l) (stream ++ []) x no (spares_converse (bound_of g) (terms_in g s l)) (all []).answer
-refused_as now g s l stream heard x no (inr last) = spared (bound_of g) (pack_stage g s l) stream x no (spares_converse (bound_of g) (terms_in g s l)) last.1.answer
+refused_as now g s l stream heard x apart (inl all) = spared (bound_of g) (pack_stage g s l) (stream ++ []) x apart (spares_converse (bound_of g) (terms_in g s l)) (all []).answer
+refused_as now g s l stream heard x apart (inr last) = spared (bound_of g) (pack_stage g s l) stream x no (spares_converse (bound_of g) (terms_in g s l)) last.1.answer
 
 -- the second stage breaks off by no refusal of judging or of the files
 pub receives_no_other : (answers : Bool) (old new : Option Talk) (g : Given) (s : State) (e : FetchError) (h : BreaksReceiving answers old new g s e) (x : Error) → (IsOther x → ⊥) → is_free_receiving x ≡ false → receiving h.cause ≡ fetch.Receive x → ⊥
-receives_no_other answers old new g s e h x no sure is =
+receives_no_other answers old new g s e h x apart sure is =
     let cause = refusal_is h.cause x is in
     let b = rw cause at h.broke in
-    refused_as new g s h.listed _ _ x no (b.why sure)
+    refused_as new g s h.listed _ _ x apart (b.why sure)
 
 listing_no_other : (e : PrepareError) (x : Error) → preparing e ≡ fetch.Receive x → ⊥
 listing_no_other prepare.MissingRefSpecs x is = absurd (cc)
@@ -223,8 +223,8 @@ listing_no_other prepare.NoMemory x is = absurd (cc)
 
 -- no conversation breaks off so
 pub talks_no_other : (answers : Bool) (old new : Option Talk) (g : Given) (s : State) (e : FetchError) (x : Error) → (IsOther x → ⊥) → is_free_receiving x ≡ false → BreaksListing answers old new g e ⊎ BreaksReceiving answers old new g s e → e ≡ fetch.Receive x → ⊥
-talks_no_other answers old new g s e x no sure (inl h) is = listing_no_other h.cause x (sym h.told ∙ is)
-talks_no_other answers old new g s e x no sure (inr h) is = receives_no_other answers old new g s e h x no sure (sym h.told ∙ is)
+talks_no_other answers old new g s e x apart sure (inl h) is = listing_no_other h.cause x (sym h.told ∙ is)
+talks_no_other answers old new g s e x apart sure (inr h) is = receives_no_other answers old new g s e h x no sure (sym h.told ∙ is)
 
 -- what `?` returned is the refusal that was told
 pub same_refusal : {T : Type 0} (r : Result T FetchError) (e y x : FetchError) → r ≡ Err y → y ≡ e → r ≡ Err x → e ≡ x

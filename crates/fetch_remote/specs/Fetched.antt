@@ -121,7 +121,7 @@ pub record IsKept (g : Given) (files left : Option Tree) (received : Option Rece
   -- The outcome tells the keep file of the pack that was read, where it stays: where no edit stands and the pack has objects.
   pub keep : keep_in outcome.status ≡ option_and_then (kept g.setup.settings.git_dir updates) (pack_read g.options.dry_run received)
   -- The files are those found, with the keep file of the pack, and without it where it doesn't stay.
-  pub files : AreFiles files left (left_tree g.setup.settings.git_dir outcome.status)
+  pub tree : AreFiles files left (left_tree g.setup.settings.git_dir outcome.status)
 
 -- ---- what is safe
 

@@ -62,8 +62,8 @@ AreFiles before now changed = (is_some now ≡ is_some before) × IfSome before 
 
 -- A keep file that couldn't be made: a call of the files was refused, which tell a tree still where they did, or memory
 -- ran out before that.
-pub record IsUnmade (made : Option (List ℕ)) (files left : Option Tree) (e : Error) : Type 0 where
+pub record IsUnmade (keep : Option (List ℕ)) (files left : Option Tree) (e : Error) : Type 0 where
   pub path : List ℕ
-  pub made : made ≡ Some path
+  pub made : keep ≡ Some path
   pub why : (e ≡ errors.KeepFile path) ⊎ (e ≡ errors.NoMemory)
   pub told : is_some left ≡ is_some files

@@ -71,10 +71,10 @@ pub record IsMoved (g : Given) (trees : List Worktree) (before after : State) (f
   pub removed : removed_in g.setup.settings.git_dir outcome.status ≡ Some path
   pub tree : is_some files_left ≡ is_some files
 
--- All is as found
+-- All is as found.
 pub record IsFound (before after : State) (files files_left : Option Tree) : Type 0 where
-  pub state : after ≡ before
-  pub files : files_left ≡ files
+  pub same_state : after ≡ before
+  pub same_files : files_left ≡ files
 
 -- All is as found, or a keep file was being made, or all that was received is taken.
 abbrev pub IsStanding : Given → State → State → Option Tree → Option Tree → List ℕ → Type 0

@@ -203,15 +203,15 @@ IsOfJudging e = (e ≡ errors.NoMemory) ⊎ ((cause : UpdateError) × (e ≡ err
 
 -- What was received could be taken, and its keep file was being made or stood already: the files tell a tree still, where
 -- they did.
-pub record IsMaking (took : Result State Error) (keep : Option (List ℕ)) (path : List ℕ) (files left : Option Tree) : Type 0 where
+pub record IsMaking (taking : Result State Error) (keep : Option (List ℕ)) (path : List ℕ) (files left : Option Tree) : Type 0 where
   pub state : State
-  pub took : took ≡ Ok state
-  pub keep : keep ≡ Some path
+  pub took : taking ≡ Ok state
+  pub made : keep ≡ Some path
   pub told : is_some left ≡ is_some files
 
 -- What was received is taken, and its keep file stands.
-pub record IsTaken (took : Result State Error) (keep : Option (List ℕ)) (files left : Option Tree) (now : State) : Type 0 where
-  pub took : took ≡ Ok now
+pub record IsTaken (taking : Result State Error) (keep : Option (List ℕ)) (files left : Option Tree) (now : State) : Type 0 where
+  pub took : taking ≡ Ok now
   pub kept : AreFiles files left (with_keep keep)
 
 -- ---- a taking that was refused
@@ -255,13 +255,13 @@ IsLeft before took keep files left now =
 pub record IsMoved (all : Result (Outcome × State) Error) (git_dir path : List ℕ) (files left : Option Tree) (now : State) : Type 0 where
   pub outcome : Outcome
   pub by : all ≡ Ok (outcome, now)
-  pub path : removed_in git_dir outcome.status ≡ Some path
+  pub removed : removed_in git_dir outcome.status ≡ Some path
   pub told : is_some left ≡ is_some files
 
 -- Why it was refused, and what that leaves: of all of it, of the taking, and of the keep file that is made.
 pub record IsUnsettledBy (all : Result (Outcome × State) Error) (took : Result State Error) (keep : Option (List ℕ)) (git_dir : List ℕ) (files left : Option Tree) (before now : State) (e : Error) : Type 0 where
   pub why : is_free_settling e ≡ false → (all ≡ Err e) × (now ≡ kept_or before took) × AreFiles files left (with_keep (standing took keep))
-  pub left : is_late e ≡ false → IsLeft before took keep files left now
+  pub stands : is_late e ≡ false → IsLeft before took keep files left now
   pub unlisted : (fault : UpdateError) → is_worktree_fault fault ≡ true → e ≡ errors.UpdateRefs fault → IsTaken took keep files left now
   pub making : (path : List ℕ) → e ≡ errors.KeepFile path → (now ≡ before) × IsMaking took keep path files left
   pub moved : (path : List ℕ) → e ≡ errors.RemovePackKeepFile path → IsMoved all git_dir path files left now

@@ -3,9 +3,11 @@ use Rattle.std.proofs.lemmas.Result.{err_from_is_err_and}
 use Rattle.fetch_wire.specs.declared.handshake.Handshake.{Handshake}
 use Rattle.fetch_wire.specs.declared.mapping.RefMap.{RefMap}
 use Rattle.fetch_conversation.specs.ListStage.{shown}
+use Rattle.fetch_remote.specs.Keeping.{made_in}
 use Rattle.fetch_remote.specs.Repositories.{state_of, setup_of}
-use Rattle.fetch_remote.proofs.Keeping.{left_files, status_is, made_none, made_is, kept_none, dry_none, no_refusal, gone_made}
-use Rattle.fetch_remote.proofs.Settled.{settles, untaken, unjudged_found, unmoved, unreleased, finds_all, list_of, list_told, never_keeps, never_removes, never_early, untaken_unremoved}
+use Rattle.fetch_remote.specs.declared.outcome.Status.{Status}
+use Rattle.fetch_remote.proofs.Keeping.{left_files, status_is, made_none, made_is, kept_none, removable}
+use Rattle.fetch_remote.proofs.Settled.{settles, untaken, unjudged_found, unmoved, unreleased, finds_all, list_of, list_told}
 use Rattle.fetch_remote.proofs.settling.settle.Goals as goal
 
 pub returns-in_err-taken-clause-refused : goal.returns-in_err-taken-clause-refused
@@ -67,8 +69,13 @@ returns-clause-unread g c none =
     let dry = c.args.how.now.dry_run in
     let r = c.args.talked.received in
     let u = c.in_ok-updates.updates in
-    let no_pack = made_none dir dry r (sym (made_is dir dry r u) ∙ sym (ap (λ s. made_in dir s) (told ∙ status_is dir dry r u)) ∙ none) in
+    let no_pack = made_none dir dry r (sym (made_is dir dry r u) ∙ sym (ap (λ (s : Status). made_in dir s) (told ∙ status_is dir dry r u)) ∙ none) in
     c.in_ok-status.ensures.unread (rw c.in_ok-taken.ensures.told (kept_none dir dry r no_pack)) ∙ c.in_ok-taken.ensures.unread no_pack
+
+pub returns-in_err-status-clause-removable : goal.returns-in_err-status-clause-removable
+returns-in_err-status-clause-removable g c path is never =
+    let dir = (setup_of c.args.repo.now).settings.git_dir in
+    removable _ _ _ dir c.args.how.now.dry_run c.args.talked.received c.in_ok-updates.updates c.in_ok-taken.taken c.in_err-status.field-0.0 c.in_ok-taken.ensures.told c.in_ok-taken.ensures.made c.in_err-status.ensures.in_the_way c.in_err-status.ensures.refused (c.in_ok-taken.ensures.may_fail ∙ never)
 
 pub move_refs-requires : goal.move_refs-requires
 move_refs-requires g c =

@@ -38,7 +38,7 @@ returns-clause-fetched g c =
 pub returns-in_err-talked-clause-listing : goal.returns-in_err-talked-clause-listing
 returns-in_err-talked-clause-listing g c is =
     let p = err_from_is_err_and c.from_residual-in_err-talked.result c.from_residual-in_err-talked.ensures.1 in
-    absurd (talks_no_other _ _ _ _ (state_of c.args.repo.now) c.in_err-talked.field-0.0 (receive.UpdateRefs update.WorktreeListing) (λ no. no) refl c.in_err-talked.ensures.held.held (same_refusal c.from_residual-in_err-talked.result _ _ _ p.1 p.2 is))
+    absurd (talks_no_other _ _ _ _ (state_of c.args.repo.now) c.in_err-talked.field-0.0 (receive.UpdateRefs update.WorktreeListing) (λ x. x) refl c.in_err-talked.ensures.held.held (same_refusal c.from_residual-in_err-talked.result _ _ _ p.1 p.2 is))
 
 pub returns-in_err-outcome-clause-listing : goal.returns-in_err-outcome-clause-listing
 returns-in_err-outcome-clause-listing g c is =
@@ -49,7 +49,7 @@ returns-in_err-outcome-clause-listing g c is =
 pub returns-in_err-talked-clause-open_repo : goal.returns-in_err-talked-clause-open_repo
 returns-in_err-talked-clause-open_repo g c is =
     let p = err_from_is_err_and c.from_residual-in_err-talked.result c.from_residual-in_err-talked.ensures.1 in
-    absurd (talks_no_other _ _ _ _ (state_of c.args.repo.now) c.in_err-talked.field-0.0 (receive.UpdateRefs update.OpenWorktreeRepo) (λ no. no) refl c.in_err-talked.ensures.held.held (same_refusal c.from_residual-in_err-talked.result _ _ _ p.1 p.2 is))
+    absurd (talks_no_other _ _ _ _ (state_of c.args.repo.now) c.in_err-talked.field-0.0 (receive.UpdateRefs update.OpenWorktreeRepo) (λ x. x) refl c.in_err-talked.ensures.held.held (same_refusal c.from_residual-in_err-talked.result _ _ _ p.1 p.2 is))
 
 pub returns-in_err-outcome-clause-open_repo : goal.returns-in_err-outcome-clause-open_repo
 returns-in_err-outcome-clause-open_repo g c is =
@@ -60,7 +60,7 @@ returns-in_err-outcome-clause-open_repo g c is =
 pub returns-in_err-talked-clause-follow_symref : goal.returns-in_err-talked-clause-follow_symref
 returns-in_err-talked-clause-follow_symref g c is =
     let p = err_from_is_err_and c.from_residual-in_err-talked.result c.from_residual-in_err-talked.ensures.1 in
-    absurd (talks_no_other _ _ _ _ (state_of c.args.repo.now) c.in_err-talked.field-0.0 (receive.UpdateRefs update.FollowSymref) (λ no. no) refl c.in_err-talked.ensures.held.held (same_refusal c.from_residual-in_err-talked.result _ _ _ p.1 p.2 is))
+    absurd (talks_no_other _ _ _ _ (state_of c.args.repo.now) c.in_err-talked.field-0.0 (receive.UpdateRefs update.FollowSymref) (λ x. x) refl c.in_err-talked.ensures.held.held (same_refusal c.from_residual-in_err-talked.result _ _ _ p.1 p.2 is))
 
 pub returns-in_err-outcome-clause-follow_symref : goal.returns-in_err-outcome-clause-follow_symref
 returns-in_err-outcome-clause-follow_symref g c is =
@@ -71,7 +71,7 @@ returns-in_err-outcome-clause-follow_symref g c is =
 pub returns-in_err-talked-clause-keep_file : goal.returns-in_err-talked-clause-keep_file
 returns-in_err-talked-clause-keep_file g c path is =
     let p = err_from_is_err_and c.from_residual-in_err-talked.result c.from_residual-in_err-talked.ensures.1 in
-    absurd (talks_no_other _ _ _ _ (state_of c.args.repo.now) c.in_err-talked.field-0.0 (receive.KeepFile path) (λ no. no) refl c.in_err-talked.ensures.held.held (same_refusal c.from_residual-in_err-talked.result _ _ _ p.1 p.2 is))
+    absurd (talks_no_other _ _ _ _ (state_of c.args.repo.now) c.in_err-talked.field-0.0 (receive.KeepFile path) (λ x. x) refl c.in_err-talked.ensures.held.held (same_refusal c.from_residual-in_err-talked.result _ _ _ p.1 p.2 is))
 
 pub returns-in_err-outcome-clause-keep_file : goal.returns-in_err-outcome-clause-keep_file
 returns-in_err-outcome-clause-keep_file g c path is =
@@ -82,7 +82,7 @@ returns-in_err-outcome-clause-keep_file g c path is =
 pub returns-in_err-talked-clause-in_the_way : goal.returns-in_err-talked-clause-in_the_way
 returns-in_err-talked-clause-in_the_way g c path is =
     let p = err_from_is_err_and c.from_residual-in_err-talked.result c.from_residual-in_err-talked.ensures.1 in
-    absurd (talks_no_other _ _ _ _ (state_of c.args.repo.now) c.in_err-talked.field-0.0 (receive.KeepFile path) (λ no. no) refl c.in_err-talked.ensures.held.held (same_refusal c.from_residual-in_err-talked.result _ _ _ p.1 p.2 is))
+    absurd (talks_no_other _ _ _ _ (state_of c.args.repo.now) c.in_err-talked.field-0.0 (receive.KeepFile path) (λ x. x) refl c.in_err-talked.ensures.held.held (same_refusal c.from_residual-in_err-talked.result _ _ _ p.1 p.2 is))
 
 pub returns-in_err-outcome-clause-in_the_way : goal.returns-in_err-outcome-clause-in_the_way
 returns-in_err-outcome-clause-in_the_way g c path is =
@@ -93,7 +93,7 @@ returns-in_err-outcome-clause-in_the_way g c path is =
 pub returns-in_err-talked-clause-remove_keep_file : goal.returns-in_err-talked-clause-remove_keep_file
 returns-in_err-talked-clause-remove_keep_file g c path is =
     let p = err_from_is_err_and c.from_residual-in_err-talked.result c.from_residual-in_err-talked.ensures.1 in
-    absurd (talks_no_other _ _ _ _ (state_of c.args.repo.now) c.in_err-talked.field-0.0 (receive.RemovePackKeepFile path) (λ no. no) refl c.in_err-talked.ensures.held.held (same_refusal c.from_residual-in_err-talked.result _ _ _ p.1 p.2 is))
+    absurd (talks_no_other _ _ _ _ (state_of c.args.repo.now) c.in_err-talked.field-0.0 (receive.RemovePackKeepFile path) (λ x. x) refl c.in_err-talked.ensures.held.held (same_refusal c.from_residual-in_err-talked.result _ _ _ p.1 p.2 is))
 
 pub returns-in_err-outcome-clause-remove_keep_file : goal.returns-in_err-outcome-clause-remove_keep_file
 returns-in_err-outcome-clause-remove_keep_file g c path is =
@@ -104,7 +104,7 @@ returns-in_err-outcome-clause-remove_keep_file g c path is =
 pub returns-in_err-talked-clause-removable : goal.returns-in_err-talked-clause-removable
 returns-in_err-talked-clause-removable g c path is =
     let p = err_from_is_err_and c.from_residual-in_err-talked.result c.from_residual-in_err-talked.ensures.1 in
-    absurd (talks_no_other _ _ _ _ (state_of c.args.repo.now) c.in_err-talked.field-0.0 (receive.RemovePackKeepFile path) (λ no. no) refl c.in_err-talked.ensures.held.held (same_refusal c.from_residual-in_err-talked.result _ _ _ p.1 p.2 is))
+    absurd (talks_no_other _ _ _ _ (state_of c.args.repo.now) c.in_err-talked.field-0.0 (receive.RemovePackKeepFile path) (λ x. x) refl c.in_err-talked.ensures.held.held (same_refusal c.from_residual-in_err-talked.result _ _ _ p.1 p.2 is))
 
 pub returns-in_err-outcome-clause-removable : goal.returns-in_err-outcome-clause-removable
 returns-in_err-outcome-clause-removable g c path is =
