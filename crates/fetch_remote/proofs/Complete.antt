@@ -1,5 +1,5 @@
 -- Valid input is fetched, unless a refusal comes that has a count or nothing in place of a cause.
-use Rattle.std.proofs.Common.{◌≡◌, ℕ, Bool, true, false, List, [], ◌∷◌, ◌++◌, Option, Some, None, Result, Ok, Err, refl, sym, ap, subst, ◌∙◌, Contains}
+use Rattle.std.proofs.Common.{◌≡◌, ℕ, Bool, true, false, List, [], ◌∷◌, ◌++◌, Option, Some, None, Result, Ok, Err, refl, sym, ap, subst, ◌∙◌, inl, inr, Contains}
 use Rattle.std.specs.Prelude.{IfSome}
 use Rattle.std.proofs.lemmas.List.{append-nil, append_cancel_left}
 use Rattle.fetch_store.specs.declared.id.ObjectId.{ObjectId}
@@ -13,13 +13,14 @@ use Rattle.fetch_wire.specs.Talks.{Talk, Talks, IsDrained}
 use Rattle.fetch_wire.specs.declared.mapping.Mapping.{Mapping}
 use Rattle.fetch_wire.specs.declared.mapping.RefMap.{RefMap}
 use Rattle.fetch_conversation.specs.declared.conversing.Received.{Received}
-use Rattle.fetch_remote.specs.Errors.{is_free}
+use Rattle.fetch_conversation.specs.Conversation.{map_refusal}
+use Rattle.fetch_remote.specs.Errors.{is_free, receiving}
 use Rattle.fetch_remote.specs.Fetching.{manner_in, taken_in, fetched_in}
 use Rattle.fetch_remote.specs.Form.{Given}
 use Rattle.fetch_remote.specs.Judging.{IsTold, judged_of}
 use Rattle.fetch_remote.specs.Refused.{IsRefusedBy, IsRefused}
 use Rattle.fetch_remote.specs.Repositories.{State}
-use Rattle.fetch_remote.specs.Settling.{brought, taken, pack_of, after_take, policy_in}
+use Rattle.fetch_remote.specs.Settling.{brought, taken, pack_of, after_take, policy_in, done}
 use Rattle.fetch_remote.specs.Stages.{Told, wants_in}
 use Rattle.fetch_remote.specs.Valid.{IsTakeable, AreJudgeable, policy_with, IsValidInput, HasValidInput}
 use Rattle.fetch_remote.specs.declared.fetch_error.FetchError.{FetchError}
@@ -55,7 +56,7 @@ judges_it p m h = by (outcome_of p m.refspecs m.extra_refspecs m.mappings) refl
     by (Ok u) is = (u, judged_yes p m u is)
     by (Err e) is =
         let r = refused_with p m.refspecs m.extra_refspecs m.mappings e is in
-        absurd (h.each r.mapping e (rw r.whole (among r.before r.after r.mapping)) r.refuses)
+        absurd (h.each r.mapping e (subst (λ (ms : List Mapping). Contains ms r.mapping) (sym r.whole) (among r.before r.after r.mapping)) r.refuses)
 
 -- ---- the fetch
 
@@ -66,7 +67,8 @@ fetches_it g trees s stream v =
     let took : taken_in g s v.told ≡ Ok state = takes_it s (wants_in g s v.told.listed.ref_map) r v.pack in
     let j = judges_it (policy_in state (manner_in g) trees) v.told.listed.ref_map (subst (λ (p : Policy). AreJudgeable p v.told.listed.ref_map) (same_policy g trees s v.told r refl) v.mappings) in
     let is = settled_from g trees s v.told.listed v.told.received state j.0 took j.1 in
-    (_, fetched_is g trees s stream (Ok (v.told, v.behind)) _ v.replies (rw is refl))
+    let x : Outcome × State = done g.setup (manner_in g) v.told.listed v.told.received state j.0 in
+    (x, fetched_is g trees s stream (Ok (v.told, v.behind)) (Ok x) v.replies (ap (map_refusal receiving) is))
 
 refused_no : (now : Talk) (g : Given) (trees : List Worktree) (before after : State) (files left : Option Tree) (said heard : List ℕ) (e : FetchError) → IsRefusedBy (Some now) g trees before after files left said heard e
     → (x : Outcome × State) → fetched_in g trees before (said ++ now.to_come) ≡ Ok x → ⊥

@@ -41,7 +41,7 @@ pub fetched_is : (g : Given) (trees : List Worktree) (before : State) (stream : 
 unfolding fetched_in
 fetched_is g trees before stream answer result is by = rw is by
 
-settled_from : (g : Given) (trees : List Worktree) (before : State) (l : ListedValue) (r : Option Received) (s : State) (u : Updates) → taken_in g before (record { listed = l; received = r }) ≡ Ok s → judged_of (policy_in s (manner_in g) trees) l.ref_map ≡ Ok u
+pub settled_from : (g : Given) (trees : List Worktree) (before : State) (l : ListedValue) (r : Option Received) (s : State) (u : Updates) → taken_in g before (record { listed = l; received = r }) ≡ Ok s → judged_of (policy_in s (manner_in g) trees) l.ref_map ≡ Ok u
     → settled_in g trees before (record { listed = l; received = r }) ≡ Ok (done g.setup (manner_in g) l r s u)
 unfolding settled
 settled_from g trees before l r s u took judged = rw (took, judged) refl

@@ -207,7 +207,7 @@ refusal_is errors.NoMemory x is = absurd (cc)
 
 refused_as : (now : Option Talk) (g : Given) (s : State) (l : ListedValue) (stream heard : List ℕ) (x : Error) → (IsOther x → ⊥) → IsRefusedBy (bound_of g) now (pack_stage g s l) stream heard x → ⊥
 refused_as now g s l stream heard x apart (inl all) = spared (bound_of g) (pack_stage g s l) (stream ++ []) x apart (spares_converse (bound_of g) (terms_in g s l)) (all []).answer
-refused_as now g s l stream heard x apart (inr last) = spared (bound_of g) (pack_stage g s l) stream x no (spares_converse (bound_of g) (terms_in g s l)) last.1.answer
+refused_as now g s l stream heard x apart (inr last) = spared (bound_of g) (pack_stage g s l) stream x apart (spares_converse (bound_of g) (terms_in g s l)) last.1.answer
 
 -- the second stage breaks off by no refusal of judging or of the files
 pub receives_no_other : (answers : Bool) (old new : Option Talk) (g : Given) (s : State) (e : FetchError) (h : BreaksReceiving answers old new g s e) (x : Error) → (IsOther x → ⊥) → is_free_receiving x ≡ false → receiving h.cause ≡ fetch.Receive x → ⊥
@@ -224,7 +224,7 @@ listing_no_other prepare.NoMemory x is = absurd (cc)
 -- no conversation breaks off so
 pub talks_no_other : (answers : Bool) (old new : Option Talk) (g : Given) (s : State) (e : FetchError) (x : Error) → (IsOther x → ⊥) → is_free_receiving x ≡ false → BreaksListing answers old new g e ⊎ BreaksReceiving answers old new g s e → e ≡ fetch.Receive x → ⊥
 talks_no_other answers old new g s e x apart sure (inl h) is = listing_no_other h.cause x (sym h.told ∙ is)
-talks_no_other answers old new g s e x apart sure (inr h) is = receives_no_other answers old new g s e h x no sure (sym h.told ∙ is)
+talks_no_other answers old new g s e x apart sure (inr h) is = receives_no_other answers old new g s e h x apart sure (sym h.told ∙ is)
 
 -- what `?` returned is the refusal that was told
 pub same_refusal : {T : Type 0} (r : Result T FetchError) (e y x : FetchError) → r ≡ Err y → y ≡ e → r ≡ Err x → e ≡ x
