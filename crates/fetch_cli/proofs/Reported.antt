@@ -5,6 +5,8 @@ use Rattle.fetch_update.specs.declared.worktrees.Worktree.{Worktree}
 use Rattle.fetch_wire.specs.declared.line.Line.{Line}
 use Rattle.fetch_remote.specs.Fetching.{requests_in}
 use Rattle.fetch_remote.specs.Form.{Given}
+use Rattle.fetch_remote.specs.Valid.{IsValidInput}
+use Rattle.fetch_remote.proofs.Complete.{fetches_it}
 use Rattle.fetch_remote.specs.Repositories.{State}
 use Rattle.fetch_remote.specs.declared.fetch_error.FetchError.{FetchError}
 use Rattle.fetch_remote.specs.declared.fetch_error.FetchError.TheVariants as errors
@@ -62,3 +64,11 @@ pub reports_if : {E : Type 0} (scene : Scene) (old new : List ℕ) (answer : Res
     → IfOk answer (λ status. Tells old new status result left keep heard) → IfOk answer (λ status. Reports scene old new status)
 reports_if scene old new (Err e) g trees found left files keep stream heard result given_is trees_is found_is stream_is h stands t = tt
 reports_if scene old new (Ok status) g trees found left files keep stream heard result given_is trees_is found_is stream_is h stands t = reports scene old new status g trees found left files keep stream heard result given_is trees_is found_is stream_is h stands t
+
+-- a scene with valid input is fetched
+pub valid_fetched : (scene : Scene) (status : ℕ) (text : List ℕ) → IsValidInput (given_of scene) scene.worktrees (found_of scene) (stream_of scene) → IsReport scene status text → status ≡ 0
+unfolding report_of
+valid_fetched scene status text v r =
+    let f = fetches_it (given_of scene) scene.worktrees (found_of scene) (stream_of scene) v in
+    let is : report_with (requests_in (given_of scene) (found_of scene) (stream_of scene)) (Ok f.0) (left_by scene) (keep_left_by scene) ≡ (status, text) = rw f.1 at r.whole in
+    ap (λ (x : ℕ × List ℕ). x.0) (sym is)
