@@ -194,11 +194,7 @@ fn append_unbuilt(out: &mut Vec<u8>) -> Result<(), NoMemory>
 }
 
 /// The report of a fetch, and its status. At a refusal it left this keep file.
-fn append_report(
-    out: &mut Vec<u8>,
-    fetched: &Fetched,
-    keep: &Option<Text>,
-) -> Result<u8, NoMemory>
+fn append_report(out: &mut Vec<u8>, fetched: &Fetched, keep: &Option<Text>) -> Result<u8, NoMemory>
     ensures { IfOk result (λ status. spec.Tells out.old.items out.new.items status fetched.now.result (state_of fetched.now.repo) keep.now fetched.now.peer.heard) }
 {
     let heard = fetched.peer.heard();

@@ -60,7 +60,7 @@ judges_it p m h = by (outcome_of p m.refspecs m.extra_refspecs m.mappings) refl
 
 -- ---- the fetch
 
-fetches_it : (g : Given) (trees : List Worktree) (s : State) (stream : List ℕ) → IsValidInput g trees s stream → (x : Outcome × State) × (fetched_in g trees s stream ≡ Ok x)
+pub fetches_it : (g : Given) (trees : List Worktree) (s : State) (stream : List ℕ) → IsValidInput g trees s stream → (x : Outcome × State) × (fetched_in g trees s stream ≡ Ok x)
 fetches_it g trees s stream v =
     let r = brought g.options.dry_run v.told.received in
     let state = state_with s r in

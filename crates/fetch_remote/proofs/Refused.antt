@@ -254,6 +254,7 @@ stands_at g before after files left said t ended (inr h) = inr (inr (taken_at g 
 record SaysSame (e : ReceiveError) : Type 0 where
   sure : is_free (receiving e) ≡ false → is_free_settling e ≡ false
   early : is_late (receiving e) ≡ false → settling.is_late e ≡ false
+
 told_as : (e : ReceiveError) → SaysSame e
 told_as (receive.NoMapping specs count) = record { sure = λ h. refl; early = λ h. refl }
 told_as (receive.IncompatibleObjectHash local remote) = record { sure = λ h. refl; early = λ h. refl }
@@ -290,8 +291,8 @@ not_settled answers old new known files left g before after l r rest e told u =
       trees = u.trees;
       listed_trees = u.listed_trees;
       why = λ sure.
-      let k = b.why ((told_as e).sure sure) in
-      inl (λ more. late_with g u.trees before after files left (said ++ more) heard t (rest ++ more) e (h.answered more) (h.asked more) k);
+          let k = b.why ((told_as e).sure sure) in
+          inl (λ more. late_with g u.trees before after files left (said ++ more) heard t (rest ++ more) e (h.answered more) (h.asked more) k);
       stands = λ early. stands_at g before after files left said t ended (b.stands ((told_as e).early early));
       counted = record {
         transport = λ is. absurd (no_listing_pack e _ is);
@@ -299,11 +300,11 @@ not_settled answers old new known files left g before after l r rest e told u =
         client = λ is. absurd (b.unheard.0 (refusal_is e receive.Client is));
         stopped = λ is. absurd (b.unheard.1 (refusal_is e receive.Interrupted is));
         making = λ path is.
-        let k = b.making path (refusal_is e (receive.KeepFile path) is) in
-        making_at g before after files left said path t ended k.0 k.1;
+            let k = b.making path (refusal_is e (receive.KeepFile path) is) in
+            making_at g before after files left said path t ended k.0 k.1;
         worktrees = λ fault yes is. taken_at g before after files left said t ended (b.unlisted fault yes (refusal_is e (receive.UpdateRefs fault) is));
         removing = λ path is.
-        let k = b.moved path (refusal_is e (receive.RemovePackKeepFile path) is) in
-        record { outcome = k.outcome; fetched = λ more. fetched_is g u.trees before (said ++ more) _ _ (h.answered more) (rw k.by refl); removed = k.removed; tree = k.told };
+            let k = b.moved path (refusal_is e (receive.RemovePackKeepFile path) is) in
+            record { outcome = k.outcome; fetched = λ more. fetched_is g u.trees before (said ++ more) _ _ (h.answered more) (rw k.by refl); removed = k.removed; tree = k.told };
       };
     }

@@ -168,8 +168,8 @@ pub untaken : (setup : Setup) (how : Manner) (trees : List Worktree) (before : S
 unfolding settled
 untaken setup how trees before wants l r files left e h = record {
   why = λ sure.
-  let k = h.why (either_false (is_free_taking e) _ sure).0 in
-  (rw k.0 refl, rw k.0 refl, rw (k.0, k.1) (same_files files));
+      let k = h.why (either_false (is_free_taking e) _ sure).0 in
+      (rw k.0 refl, rw k.0 refl, rw (k.0, k.1) (same_files files));
   stands = λ _. inl (refl, h.stands);
   unlisted = λ fault faulty is. absurd (only (errors.UpdateRefs fault) refl is);
   making = λ path is. (refl, h.making path is);
@@ -265,8 +265,8 @@ pub unjudged : (setup : Setup) (how : Manner) (trees : List Worktree) (before : 
 unfolding settled
 unjudged setup how trees before wants l r files left mid e took kept h = record {
   why = λ sure.
-  let k = h (judging_sure e sure) in
-  (rw (took, k) refl, rw took refl, rw took kept);
+      let k = h (judging_sure e sure) in
+      (rw (took, k) refl, rw took refl, rw took kept);
   stands = λ _. inr at;
   unlisted = λ fault faulty is. at;
   making = λ path is. absurd (never_keeps e path only is);

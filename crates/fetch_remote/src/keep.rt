@@ -131,7 +131,11 @@ fn stays(updates: &update::Outcome, num_objects: u32) -> bool
 }
 
 /// The path, where the file stays; else the file is removed.
-fn path_that_stays<F: Files>(files: &mut F, path: Text, stays: bool) -> Result<Option<Text>, fetch::Error>
+fn path_that_stays<F: Files>(
+    files: &mut F,
+    path: Text,
+    stays: bool,
+) -> Result<Option<Text>, fetch::Error>
     ensures told { IfOk result (λ told. told ≡ (if stays then Some path else None)) }
     ensures removed { OnOk result (AreFiles (F.told files.old) (F.told files.new) (without_keep (if stays then None else Some path))) }
     ensures refused { IfErr result (λ e. (e ≡ errors.RemovePackKeepFile path) × (stays ≡ false)) }

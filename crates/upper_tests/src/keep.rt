@@ -47,7 +47,10 @@ fn a_keep_file_that_goes(rt: HostRuntime) -> Result<(), Fail> {
     let mut files = MemoryFiles::new(alloc, Vec::new(alloc));
     fetched_over(&rt, alloc, &mut repo, &mut files)??;
     assert_eq!(rt; files.kind_of(KEEP)?, None);
-    assert_eq!(rt; files.kind_of(b"/w/.git/objects/pack")?, Some(Node::Directory));
+    assert_eq!(rt;
+        files.kind_of(b"/w/.git/objects/pack")?,
+        Some(Node::Directory)
+    );
     Ok(())
 }
 
@@ -115,8 +118,7 @@ fn a_keep_file_of_a_refusal(rt: HostRuntime) -> Result<(), Fail> {
     let alloc = rt.alloc();
     let repository =
         b"000cscene 1\n000ehash sha1\n0014git-dir /w/.git\n000fworkdir /w\n0023ref @refs/heads/b refs/heads/a\n0023ref @refs/heads/a refs/heads/b\n0013config [fetch]\n0027config negotiationAlgorithm = noop\n00010024PLNP\x00\x00\x00\x01\x00\x00\x00\x00%\x1f\xc4\xe0H\x0b\x1d0Y\xe8\xff\x9c\xe4\xfa\x99\xf2%\xb0?00001";
-    let remote =
-        b"0016remote /srv/a.git\n0027fetch refs/heads/main:refs/heads/a\n000etags none\n";
+    let remote = b"0016remote /srv/a.git\n0027fetch refs/heads/main:refs/heads/a\n000etags none\n";
     let around = scene(alloc, repository, remote, b"", &[GREETING, LISTING, REPLY])?;
     let report =
         b"\nrefused PeelToId refs/heads/a Cycle refs/heads/a\nref @refs/heads/b refs/heads/a\nref @refs/heads/a refs/heads/b\nid 4b825dc642cb6eb9a060e54bf8d69288fbee4904\nid bc6e39d85183dbf480419262896d4ffa452774ab\nkeep /w/.git/objects/pack/pack-f28e64e54bf04a958245d45f75f49b57f957d997.keep\n";
