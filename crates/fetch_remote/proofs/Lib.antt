@@ -4,6 +4,7 @@ pub mod Spoken
 pub mod Broken
 pub mod Received
 pub mod Negotiated
+pub mod Keeping
 pub mod Settled
 pub mod Fetched
 pub mod Refused
@@ -15,3 +16,4 @@ pub mod Lost
 pub mod Judged
 pub mod Unjudged
 pub mod Lasting
+pub mod Complete

@@ -1,5 +1,5 @@
--- A conversation is never refused as judging is.
-use Rattle.std.proofs.Common.{◌≡◌, ℕ, zero, suc, Bool, true, false, not, List, [], ◌∷◌, ◌++◌, length, Option, Some, None, Result, Ok, Err, refl, sym, ◌∙◌, subst, inl, inr}
+-- A conversation is never refused as judging is, nor by the files.
+use Rattle.std.proofs.Common.{◌≡◌, ℕ, zero, suc, Bool, true, false, not, List, [], ◌∷◌, ◌++◌, length, Option, Some, None, Result, Ok, Err, refl, sym, ap, ◌∙◌, subst, inl, inr}
 use Rattle.std.specs.Prelude.{◌⊎◌, ◌&&◌, ◌||◌, ⊤, IfSome, if◌then◌else◌}
 use Rattle.std.specs.FinMap as map
 use Rattle.std.specs.Option.{option_or, option_map}
@@ -27,14 +27,13 @@ use Rattle.fetch_wire.specs.declared.awaited.Told.{Told}
 use Rattle.fetch_wire.specs.declared.awaited.Told.TheVariants as told
 use Rattle.fetch_wire.specs.declared.handshake.Handshake.{Handshake}
 use Rattle.fetch_wire.specs.declared.mapping.RefMap.{RefMap}
-use Rattle.fetch_update.specs.declared.update.Error.{Error as UpdateError}
 use Rattle.fetch_conversation.specs.Conversation.{Conversation, ends, asks, asks_unless, asking, and_then, after_reply, answer_in, IsRefusedBy}
 use Rattle.fetch_conversation.specs.ConverseStage as converse
 use Rattle.fetch_conversation.specs.ConverseStage.{converse_stage, wanting, fetching, algorithm_in, received, rejected, result_unless, unpacked, is_unmapped, unmapped, unlike, unread_as, unfit, lacks, lacked, lacking, no_mapping, other_hash}
 use Rattle.fetch_conversation.specs.Exchange as exchanging
 use Rattle.fetch_conversation.specs.Exchange.{TermsValue, replied, exchange}
 use Rattle.fetch_conversation.specs.Rounds.{CourseValue, Negotiated, first_course, next_window, course_after, negotiating}
-use Rattle.fetch_conversation.specs.Errors.{fetch_of_pack}
+use Rattle.fetch_conversation.specs.Errors.{fetch_of_pack, is_free_receiving}
 use Rattle.fetch_conversation.specs.ListStage.{ListedValue, unless}
 use Rattle.fetch_conversation.specs.declared.fetch.Error.{Error}
 use Rattle.fetch_conversation.specs.declared.fetch.Error.TheVariants as errors
@@ -48,28 +47,30 @@ use Rattle.fetch_remote.specs.Talking.{BreaksListing, BreaksReceiving}
 use Rattle.fetch_remote.specs.declared.fetch_error.FetchError.{FetchError}
 use Rattle.fetch_remote.specs.declared.fetch_error.FetchError.TheVariants as fetch
 
--- no refusal of judging
-abbrev IsOther : Error → Type 0
+-- no refusal of judging or of the files
+abbrev pub IsOther : Error → Type 0
 IsOther (errors.UpdateRefs e) = ⊥
+IsOther (errors.KeepFile path) = ⊥
+IsOther (errors.RemovePackKeepFile path) = ⊥
 IsOther e = ⊤
 
--- None of its refusals is one of judging.
+-- None of its refusals is one of judging or of the files.
 unfoldable Spares : {X : Type 0} → Conversation X Error → Type 0
 Spares (ends (Ok x)) = ⊤
 Spares (ends (Err e)) = IsOther e
 Spares (asks lines awaited failed next) = ((fault : Fault) → IsOther (failed fault)) × ((t : Told) → Spares (next t))
 
-spared_after : {X : Type 0} (bound : ℕ) (failed : Fault → Error) (next : Told → Conversation X Error) (reading : Result (Told × List ℕ) Fault) (e : UpdateError) → ((fault : Fault) → IsOther (failed fault))
-    → ((t : Told) (stream : List ℕ) → answer_in bound (next t) stream ≡ Err (errors.UpdateRefs e) → ⊥)
-    → after_reply (λ fault. Err (failed fault)) (λ told rest. answer_in bound (next told) rest) reading ≡ Err (errors.UpdateRefs e) → ⊥
-spared_after bound failed next (Ok y) e other again is = again y.0 y.1 is
-spared_after {X} bound failed next (Err fault) e other again is = let h : failed fault ≡ errors.UpdateRefs e = cc in subst IsOther h (other fault)
+spared_after : {X : Type 0} (bound : ℕ) (failed : Fault → Error) (next : Told → Conversation X Error) (reading : Result (Told × List ℕ) Fault) (e : Error) → (IsOther e → ⊥) → ((fault : Fault) → IsOther (failed fault))
+    → ((t : Told) (stream : List ℕ) → answer_in bound (next t) stream ≡ Err e → ⊥)
+    → after_reply (λ fault. Err (failed fault)) (λ told rest. answer_in bound (next told) rest) reading ≡ Err e → ⊥
+spared_after bound failed next (Ok y) e apart other again is = again y.0 y.1 is
+spared_after {X} bound failed next (Err fault) e apart other again is = let h : failed fault ≡ e = cc in apart (subst IsOther h (other fault))
 
-spared : {X : Type 0} (bound : ℕ) (c : Conversation X Error) (stream : List ℕ) (e : UpdateError) → Spares c → answer_in bound c stream ≡ Err (errors.UpdateRefs e) → ⊥
+spared : {X : Type 0} (bound : ℕ) (c : Conversation X Error) (stream : List ℕ) (e : Error) → (IsOther e → ⊥) → Spares c → answer_in bound c stream ≡ Err e → ⊥
 unfolding answer_in Spares
-spared bound (ends (Ok y)) stream e h is = absurd (cc)
-spared bound (ends (Err x)) stream e h is = let k : x ≡ errors.UpdateRefs e = cc in subst IsOther k h
-spared bound (asks lines awaited failed next) stream e h is = spared_after bound failed next (told_at bound awaited stream) e h.0 (λ t s. spared bound (next t) s e (h.1 t)) is
+spared bound (ends (Ok y)) stream e apart h is = absurd (cc)
+spared bound (ends (Err x)) stream e apart h is = let k : x ≡ e = cc in apart (subst IsOther k h)
+spared bound (asks lines awaited failed next) stream e apart h is = spared_after bound failed next (told_at bound awaited stream) e apart h.0 (λ t s. spared bound (next t) s e apart (h.1 t)) is
 
 spares_ok : {X : Type 0} (x : X) → Spares (ends (Ok x))
 unfolding Spares
@@ -216,44 +217,44 @@ spares_converse bound g t =
 
 -- ---- the whole
 
-pub refusal_is : (e : Error) (fault : UpdateError) → receiving e ≡ fetch.Receive (errors.UpdateRefs fault) → e ≡ errors.UpdateRefs fault
-refusal_is (errors.UpdateRefs e) fault is = cc
-refusal_is (errors.NoMapping specs count) fault is = absurd (cc)
-refusal_is (errors.IncompatibleObjectHash local remote) fault is = absurd (cc)
-refusal_is (errors.Disconnected link) fault is = absurd (cc)
-refusal_is (errors.RejectShallowRemoteConfig value) fault is = absurd (cc)
-refusal_is (errors.NegotiationAlgorithmConfig value) fault is = absurd (cc)
-refusal_is (errors.PackThreads value) fault is = absurd (cc)
-refusal_is (errors.Fetch e) fault is = absurd (cc)
-refusal_is (errors.RejectShallowRemote id) fault is = absurd (cc)
-refusal_is (errors.Pack e) fault is = absurd (cc)
-refusal_is (errors.Collision id) fault is = absurd (cc)
-refusal_is (errors.KeepFile path) fault is = absurd (cc)
-refusal_is (errors.RemovePackKeepFile path) fault is = absurd (cc)
-refusal_is errors.Client fault is = absurd (cc)
-refusal_is errors.Interrupted fault is = absurd (cc)
-refusal_is errors.NoMemory fault is = absurd (cc)
+pub refusal_is : (e x : Error) → receiving e ≡ fetch.Receive x → e ≡ x
+refusal_is (errors.UpdateRefs e) x is = cc
+refusal_is (errors.NoMapping specs count) x is = cc
+refusal_is (errors.IncompatibleObjectHash local remote) x is = cc
+refusal_is (errors.Disconnected link) x is = cc
+refusal_is (errors.RejectShallowRemoteConfig value) x is = cc
+refusal_is (errors.NegotiationAlgorithmConfig value) x is = cc
+refusal_is (errors.PackThreads value) x is = cc
+refusal_is (errors.Fetch e) x is = cc
+refusal_is (errors.RejectShallowRemote id) x is = cc
+refusal_is (errors.Pack e) x is = cc
+refusal_is (errors.Collision id) x is = cc
+refusal_is (errors.KeepFile path) x is = cc
+refusal_is (errors.RemovePackKeepFile path) x is = cc
+refusal_is errors.Client x is = cc
+refusal_is errors.Interrupted x is = cc
+refusal_is errors.NoMemory x is = absurd (cc)
 
-refused_as : (now : Option Talk) (g : Given) (s : State) (l : ListedValue) (stream heard : List ℕ) (fault : UpdateError) → IsRefusedBy (bound_of g) now (pack_stage g s l) stream heard (errors.UpdateRefs fault) → ⊥
-refused_as now g s l stream heard fault (inl all) = spared (bound_of g) (pack_stage g s l) (stream ++ []) fault (spares_converse (bound_of g) (graph_of s.objects) (terms_in g s l)) (all []).answer
-refused_as now g s l stream heard fault (inr last) = spared (bound_of g) (pack_stage g s l) stream fault (spares_converse (bound_of g) (graph_of s.objects) (terms_in g s l)) last.1.answer
+refused_as : (now : Option Talk) (g : Given) (s : State) (l : ListedValue) (stream heard : List ℕ) (x : Error) → (IsOther x → ⊥) → IsRefusedBy (bound_of g) now (pack_stage g s l) stream heard x → ⊥
+refused_as now g s l stream heard x apart (inl all) = spared (bound_of g) (pack_stage g s l) (stream ++ []) x apart (spares_converse (bound_of g) (graph_of s.objects) (terms_in g s l)) (all []).answer
+refused_as now g s l stream heard x apart (inr last) = spared (bound_of g) (pack_stage g s l) stream x apart (spares_converse (bound_of g) (graph_of s.objects) (terms_in g s l)) last.1.answer
 
--- the second stage breaks off by no refusal of judging
-pub receives_no_fault : (answers : Bool) (old new : Option Talk) (g : Given) (s : State) (e : FetchError) (h : BreaksReceiving answers old new g s e) (fault : UpdateError) → receiving h.cause ≡ fetch.Receive (errors.UpdateRefs fault) → ⊥
-receives_no_fault answers old new g s e h fault is =
-    let cause = refusal_is h.cause fault is in
+-- the second stage breaks off by no refusal of judging or of the files
+pub receives_no_other : (answers : Bool) (old new : Option Talk) (g : Given) (s : State) (e : FetchError) (h : BreaksReceiving answers old new g s e) (x : Error) → (IsOther x → ⊥) → is_free_receiving x ≡ false → receiving h.cause ≡ fetch.Receive x → ⊥
+receives_no_other answers old new g s e h x apart sure is =
+    let cause = refusal_is h.cause x is in
     let b = rw cause at h.broke in
-    refused_as new g s h.listed _ _ fault (b.why refl)
+    refused_as new g s h.listed _ _ x apart (b.why sure)
 
-listing_no_fault : (e : PrepareError) (fault : UpdateError) → preparing e ≡ fetch.Receive (errors.UpdateRefs fault) → ⊥
-listing_no_fault prepare.MissingRefSpecs fault is = absurd (cc)
-listing_no_fault (prepare.RefMap e) fault is = absurd (cc)
-listing_no_fault prepare.NoMemory fault is = absurd (cc)
+listing_no_other : (e : PrepareError) (x : Error) → preparing e ≡ fetch.Receive x → ⊥
+listing_no_other prepare.MissingRefSpecs x is = absurd (cc)
+listing_no_other (prepare.RefMap e) x is = absurd (cc)
+listing_no_other prepare.NoMemory x is = absurd (cc)
 
 -- no conversation breaks off so
-pub talks_no_fault : (answers : Bool) (old new : Option Talk) (g : Given) (s : State) (e : FetchError) (fault : UpdateError) → BreaksListing answers old new g e ⊎ BreaksReceiving answers old new g s e → e ≡ fetch.Receive (errors.UpdateRefs fault) → ⊥
-talks_no_fault answers old new g s e fault (inl h) is = listing_no_fault h.cause fault (sym h.told ∙ is)
-talks_no_fault answers old new g s e fault (inr h) is = receives_no_fault answers old new g s e h fault (sym h.told ∙ is)
+pub talks_no_other : (answers : Bool) (old new : Option Talk) (g : Given) (s : State) (e : FetchError) (x : Error) → (IsOther x → ⊥) → is_free_receiving x ≡ false → BreaksListing answers old new g e ⊎ BreaksReceiving answers old new g s e → e ≡ fetch.Receive x → ⊥
+talks_no_other answers old new g s e x apart sure (inl h) is = listing_no_other h.cause x (sym h.told ∙ is)
+talks_no_other answers old new g s e x apart sure (inr h) is = receives_no_other answers old new g s e h x apart sure (sym h.told ∙ is)
 
 -- what `?` returned is the refusal that was told
 pub same_refusal : {T : Type 0} (r : Result T FetchError) (e y x : FetchError) → r ≡ Err y → y ≡ e → r ≡ Err x → e ≡ x

@@ -11,6 +11,7 @@ pub mod Connecting
 pub mod Reloads
 pub mod Threads
 pub mod Judging
+pub mod Keeping
 pub mod Settling
 pub mod Form
 pub mod Stages
@@ -18,5 +19,6 @@ pub mod Talking
 pub mod Fetching
 pub mod Fetched
 pub mod Refused
+pub mod Valid
 pub mod Requested
 pub mod Lasting

@@ -27,7 +27,6 @@ impl FetchError {
         match self {
             FetchError::Prepare(e) => Ok(FetchError::Prepare(e.try_clone()?)),
             FetchError::Receive(e) => Ok(FetchError::Receive(e.try_clone()?)),
-            FetchError::Unbuilt => Ok(FetchError::Unbuilt),
             FetchError::NoMemory => Ok(FetchError::NoMemory),
         }
     }

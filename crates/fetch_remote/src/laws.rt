@@ -6,6 +6,7 @@ ghost use Rattle.std.specs.FinMap as map;
 ghost use Rattle.fetch_store.specs.Closed.{IsClosed, IsStored, Grows};
 ghost use Rattle.fetch_store.specs.Honest.{IsHonest};
 ghost use Rattle.fetch_store.specs.Stores.{collision};
+ghost use Rattle.fetch_store.specs.Trees.{Tree};
 ghost use Rattle.fetch_store.specs.declared.id.ObjectId.{ObjectId};
 ghost use Rattle.fetch_refs.specs.declared.edit.RefEdit.{RefEdit};
 ghost use Rattle.fetch_refs.specs.declared.target.Target.TheVariants.{Object};
@@ -42,25 +43,25 @@ pub fn an_honest_pack_is_never_disconnected()
 
 /// A fetch only adds to the objects, and a dry run changes nothing.
 pub fn a_fetch_keeps_what_is_stored()
-    ensures grows { (answers : Bool) (old new : Option Talk) (known : Option (List Worktree)) (g : Given) (before after : State) (outcome : Outcome) → IsFetched answers old new known g before after outcome → Grows before.objects after.objects }
-    ensures dry { (answers : Bool) (old new : Option Talk) (known : Option (List Worktree)) (g : Given) (before after : State) (outcome : Outcome) → IsFetched answers old new known g before after outcome → g.options.dry_run ≡ true → after ≡ before }
+    ensures grows { (answers : Bool) (old new : Option Talk) (known : Option (List Worktree)) (files files_left : Option Tree) (g : Given) (before after : State) (outcome : Outcome) → IsFetched answers old new known files files_left g before after outcome → Grows before.objects after.objects }
+    ensures dry { (answers : Bool) (old new : Option Talk) (known : Option (List Worktree)) (files files_left : Option Tree) (g : Given) (before after : State) (outcome : Outcome) → IsFetched answers old new known files files_left g before after outcome → g.options.dry_run ≡ true → after ≡ before }
 {}
 
 /// A reference that no accepted update has an edit of keeps its value.
 pub fn other_references_keep_their_values()
-    ensures { (answers : Bool) (old new : Option Talk) (known : Option (List Worktree)) (g : Given) (before after : State) (outcome : Outcome) → IsFetched answers old new known g before after outcome
+    ensures { (answers : Bool) (old new : Option Talk) (known : Option (List Worktree)) (files files_left : Option Tree) (g : Given) (before after : State) (outcome : Outcome) → IsFetched answers old new known files files_left g before after outcome
         → (name : List ℕ) → AcceptsNone (updates_in outcome.status) name → map.get after.refs.names name ≡ map.get before.refs.names name }
 {}
 
 /// But for a dry run, each id that an edit newly gives to a reference is stored.
 pub fn new_ids_are_stored()
-    ensures { (answers : Bool) (old new : Option Talk) (known : Option (List Worktree)) (g : Given) (before after : State) (outcome : Outcome) → IsFetched answers old new known g before after outcome
+    ensures { (answers : Bool) (old new : Option Talk) (known : Option (List Worktree)) (files files_left : Option Tree) (g : Given) (before after : State) (outcome : Outcome) → IsFetched answers old new known files files_left g before after outcome
         → g.options.dry_run ≡ false → (e : RefEdit) (id : ObjectId) → Contains (updates_in outcome.status).edits e → gives e ≡ Some (Object id) → map.get before.refs.names e.name ≢ Some (Object id) → IsStored after.objects id }
 {}
 
 /// No fetch that was done tells that a source's object isn't found: it is asked for, or stored already.
 pub fn every_source_is_found()
-    ensures { (answers : Bool) (old new : Option Talk) (known : Option (List Worktree)) (g : Given) (before after : State) (outcome : Outcome) → IsFetched answers old new known g before after outcome
+    ensures { (answers : Bool) (old new : Option Talk) (known : Option (List Worktree)) (files files_left : Option Tree) (g : Given) (before after : State) (outcome : Outcome) → IsFetched answers old new known files files_left g before after outcome
         → (u : Update) (id : ObjectId) → Contains (updates_in outcome.status).updates u → u.mode ≢ modes.RejectedSourceObjectNotFound id }
 {}
 

@@ -10,6 +10,8 @@ mod fetching;
 #[cfg(test)]
 mod fixture;
 #[cfg(test)]
+mod keep;
+#[cfg(test)]
 mod refusals;
 #[cfg(test)]
 mod rounds;
