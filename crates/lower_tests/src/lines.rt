@@ -1,8 +1,8 @@
 //! Lines as Git writes them, and a conversation over a scripted peer that gives what real Git gave.
 
-use fetch_store::{Kind, List, Text};
+use fetch_store::{Kind, Text};
 use fetch_wire::{
-    Interrupt, LineRef, Peer, ReplyBound, Request, ScriptedInterrupt, ScriptedPeer, Session, Turn,
+    Interrupt, LineRef, Peer, ReplyBound, ScriptedInterrupt, ScriptedPeer, Session, Turn,
     WireError, write_line,
 };
 use std::alloc::Global;
@@ -52,14 +52,11 @@ const FIRST: &[u8] = b"0026git-upload-pack /r.git\0\0version=2\0";
 const ASKED: &[u8] = b"0014command=ls-refs\n0013agent=git/test\n0017object-format=sha1\n0001\
     000csymrefs\n0009peel\n000bunborn\n0000";
 
-/// A peer that gives a greeting, a listing, and a reply in three pieces.
+/// A peer that gives a greeting and a listing.
 fn scripted(alloc: Global) -> Result<ScriptedPeer, Fail> {
     let mut pieces = Vec::new(alloc);
     pieces.push(Text::new(alloc, GREETING)?)?;
     pieces.push(Text::new(alloc, LISTING)?)?;
-    pieces.push(Text::new(alloc, b"000dpackfile\n0008\x01abc00")?)?;
-    pieces.push(Text::new(alloc, b"06\x02!0005\x01000")?)?;
-    pieces.push(Text::new(alloc, b"0")?)?;
     Ok(ScriptedPeer::new(alloc, pieces, Vec::new(alloc)))
 }
 
@@ -93,22 +90,18 @@ fn talk(session: &mut Session, peer: &mut ScriptedPeer) -> Result<(), Fail> {
     Ok(())
 }
 
-fn fetch_request(alloc: Global) -> Result<Request, Fail> {
-    let mut lines = List::new(alloc);
-    lines.push(Text::new(alloc, b"command=fetch")?)?;
-    Ok(Request {
-        lines,
-        haves: List::new(alloc),
-        done: true,
-    })
+/// A session with this peer, which has told all that it says.
+fn greeted(alloc: Global, peer: &mut ScriptedPeer) -> Result<Session, Fail> {
+    let mut session = Session::new(alloc, b"/r.git", &[], b"test", &[], ReplyBound::default())?;
+    talk(&mut session, peer)?;
+    Ok(session)
 }
 
 #[test]
 fn a_greeting_and_a_listing_are_read(rt: HostRuntime) -> Result<(), Fail> {
     let alloc = rt.alloc();
     let mut peer = scripted(alloc)?;
-    let mut session = Session::new(alloc, b"/r.git", &[], b"test", &[], ReplyBound::default())?;
-    talk(&mut session, &mut peer)?;
+    let session = greeted(alloc, &mut peer)?;
     assert_eq!(rt; session.poll(), Turn::Idle);
     let handshake = session.handshake().ok_or("no greeting")?;
     assert!(rt; handshake.supports(b"fetch", b"shallow"));
@@ -118,21 +111,6 @@ fn a_greeting_and_a_listing_are_read(rt: HostRuntime) -> Result<(), Fail> {
     assert!(rt; peer.heard().ends_with(ASKED));
     let refs = session.refs().ok_or("no listing")?;
     assert_eq!(rt; refs.len(), 3);
-    Ok(())
-}
-
-#[test]
-fn a_pack_in_pieces_is_read(rt: HostRuntime) -> Result<(), Fail> {
-    let alloc = rt.alloc();
-    let mut peer = scripted(alloc)?;
-    let mut session = Session::new(alloc, b"/r.git", &[], b"test", &[], ReplyBound::default())?;
-    talk(&mut session, &mut peer)?;
-    assert_eq!(rt; session.poll(), Turn::Idle);
-    session.request(&fetch_request(alloc)?, true)?;
-    talk(&mut session, &mut peer)?;
-    let reply = session.reply().ok_or("no reply")?;
-    let pack = reply.pack.as_ref().ok_or("no pack")?;
-    assert_eq!(rt; pack.as_bytes(), b"abc".as_slice());
     Ok(())
 }
 
