@@ -14,3 +14,5 @@ pub mod Lost
 pub mod Judged
 pub mod Unjudged
 pub mod Lasting
+pub mod Deletions
+pub mod Undeleted

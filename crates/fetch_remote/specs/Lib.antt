@@ -19,3 +19,5 @@ pub mod Fetched
 pub mod Refused
 pub mod Requested
 pub mod Lasting
+pub mod Deleting
+pub mod DeletionSteps
