@@ -4,14 +4,15 @@ use Rattle.std.specs.Prelude.{not, ◌||◌, position}
 use Rattle.std.specs.BTreeSet.{insert_key}
 use Rattle.std.specs.FinMap as finmap
 use Rattle.std.specs.FinMap.{FinMap, get-remove, get-retain_keys, same_map}
-use Rattle.std.specs.List.{flat_map, position_from}
+use Rattle.std.specs.List.{position_from}
 use Rattle.std.specs.Ordering.{eq_by_cmp}
+use Rattle.std.specs.declared.cmp.Ordering.{Ordering}
 use Rattle.std.proofs.lemmas.Iterator.Adapters.{position_from-zero}
 use Rattle.std.proofs.lemmas.List.{append-nil, at_drop_all}
 use Rattle.fetch_config.proofs.Flat.{drop_item}
 use Rattle.fetch_lookup.specs.Ordered.{placed, is_among}
 use Rattle.fetch_refs.specs.Edits.{refs_after}
-use Rattle.fetch_refs.specs.Expectations.{fails, refusal_of, found_by}
+use Rattle.fetch_refs.specs.Expectations.{fails, refusal_of}
 use Rattle.fetch_refs.specs.Logs.{Logging, after, logs_after}
 use Rattle.fetch_refs.specs.Names.{Logs, Names, PackedList, RefsValue, name_cmp}
 use Rattle.fetch_refs.specs.Packed.{packed_after}
@@ -104,14 +105,21 @@ pub push-end : {A B : Type 0} (f : A → B) (xs : List A) (i : ℕ) (out whole :
 push-end f xs i out whole over so_far = sym (append-nil out) ∙ sym (at_drop_all (λ ys. out ++ each f ys) xs i over) ∙ so_far
 
 -- one value more in its place
-pub put-step : {A K : Type 0} (f : A → K) (xs : List A) (i : ℕ) (x : A) (cmp : _) (keys new whole : List K) → i < length xs → x ≡ get_or xs i x → new ≡ insert_key cmp keys (f x) → placed cmp keys (each f (drop i xs)) ≡ whole → placed cmp new (each f (drop (i + 1) xs)) ≡ whole
+pub put-step : {K : Type 0} (cmp : K → K → Ordering) (xs : List K) (i : ℕ) (x : K) (keys new whole : List K) → i < length xs → x ≡ get_or xs i x → new ≡ insert_key cmp keys x → placed cmp keys (drop i xs) ≡ whole → placed cmp new (drop (i + 1) xs) ≡ whole
 unfolding placed
-put-step f xs i x cmp keys new whole lt is put so_far = ap (λ ks. placed cmp ks (each f (drop (i + 1) xs))) put ∙ ap (λ ys. placed cmp keys (each f ys)) (sym (drop_item xs i x lt is)) ∙ so_far
+put-step cmp xs i x keys new whole lt is put so_far = ap (λ ks. placed cmp ks (drop (i + 1) xs)) put ∙ ap (placed cmp keys) (sym (drop_item xs i x lt is)) ∙ so_far
 
-pub put-end : {A K : Type 0} (f : A → K) (xs : List A) (i : ℕ) (cmp : _) (keys whole : List K) → length xs ≤ i → placed cmp keys (each f (drop i xs)) ≡ whole → keys ≡ whole
+pub put-end : {K : Type 0} (cmp : K → K → Ordering) (xs : List K) (i : ℕ) (keys whole : List K) → length xs ≤ i → placed cmp keys (drop i xs) ≡ whole → keys ≡ whole
 unfolding placed
-put-end f xs i cmp keys whole over so_far = sym (at_drop_all (λ ys. placed cmp keys (each f ys)) xs i over) ∙ so_far
+put-end cmp xs i keys whole over so_far = sym (at_drop_all (placed cmp keys) xs i over) ∙ so_far
 
-pub each_itself : {A : Type 0} (xs : List A) → each (λ x. x) xs ≡ xs
-each_itself [] = refl
-each_itself (x ∷ xs) = ap (λ ys. x ∷ ys) (each_itself xs)
+-- and one that is made of it
+pub made-step : {A K : Type 0} (cmp : K → K → Ordering) (f : A → K) (xs : List A) (i : ℕ) (x : A) (keys new whole : List K) → i < length xs → x ≡ get_or xs i x → new ≡ insert_key cmp keys (f x)
+    → placed cmp keys (each f (drop i xs)) ≡ whole → placed cmp new (each f (drop (i + 1) xs)) ≡ whole
+unfolding placed
+made-step cmp f xs i x keys new whole lt is put so_far =
+    ap (λ ks. placed cmp ks (each f (drop (i + 1) xs))) put ∙ ap (λ ys. placed cmp keys (each f ys)) (sym (drop_item xs i x lt is)) ∙ so_far
+
+pub made-end : {A K : Type 0} (cmp : K → K → Ordering) (f : A → K) (xs : List A) (i : ℕ) (keys whole : List K) → length xs ≤ i → placed cmp keys (each f (drop i xs)) ≡ whole → keys ≡ whole
+unfolding placed
+made-end cmp f xs i keys whole over so_far = sym (at_drop_all (λ ys. placed cmp keys (each f ys)) xs i over) ∙ so_far

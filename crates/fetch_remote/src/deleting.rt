@@ -2,11 +2,14 @@
 
 ghost use Rattle.std.specs.Prelude.{◌≡◌, ◌≢◌, [], Ok, map as each, is_some, IfOk, IfErr, IfSome, IsErrOf, OnOk, OnErr, option_and_then};
 ghost use Rattle.std.specs.Bool.{OnTrue};
+ghost use Rattle.std.specs.BTreeSet.{insert_key};
 ghost use Rattle.fetch_store.specs.Faults.{Rose, Counts};
 ghost use Rattle.fetch_store.specs.Paths.{parts_of};
 ghost use Rattle.fetch_store.specs.Trees.{written, renamed};
+ghost use Rattle.fetch_specs.specs.Categories.{shortened};
 ghost use Rattle.fetch_config.specs.Print.{text_of};
 ghost use Rattle.fetch_lookup.specs.Removed.{without_branches};
+ghost use Rattle.fetch_refs.specs.Names.{name_cmp};
 ghost use Rattle.fetch_remote.specs.Deleting as spec;
 ghost use Rattle.fetch_remote.specs.DeletionSteps as steps;
 ghost use Rattle.fetch_remote.specs.Repositories.{state_of, setup_of, in_force};
@@ -149,9 +152,16 @@ fn in_order(alloc: Global, names: &[FullName]) -> Result<List<FullName>, NoMemor
 {
     let mut set = BTreeSet::new(alloc);
     for name in names {
-        set.insert(name.try_clone()?)?;
+        place(&mut set, name.try_clone()?)?;
     }
     list(alloc, set)
+}
+
+fn place(set: &mut BTreeSet<FullName>, name: FullName) -> Result<(), NoMemory>
+    ensures { OnOk result (set.new.keys ≡ insert_key name_cmp set.old.keys name) }
+{
+    set.insert(name)?;
+    Ok(())
 }
 
 fn list(alloc: Global, set: BTreeSet<FullName>) -> Result<List<FullName>, NoMemory>
@@ -170,9 +180,16 @@ fn short_names(alloc: Global, names: &[FullName]) -> Result<Names, NoMemory>
 {
     let mut short = BTreeSet::new(alloc);
     for name in names {
-        short.insert(Text::new(alloc, name.shorten())?)?;
+        place_short(alloc, &mut short, name)?;
     }
     Ok(short)
+}
+
+fn place_short(alloc: Global, short: &mut Names, name: &FullName) -> Result<(), NoMemory>
+    ensures { OnOk result (short.new.keys ≡ insert_key name_cmp short.old.keys (shortened name.now)) }
+{
+    short.insert(Text::new(alloc, name.shorten())?)?;
+    Ok(())
 }
 
 /// The file's text without the sections of these branches.
