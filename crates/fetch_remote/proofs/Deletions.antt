@@ -1,16 +1,23 @@
 -- References that are deleted by an edit each, and loops over names.
 use Rattle.std.proofs.Common.{◌≡◌, ℕ, ◌+◌, ◌<◌, ◌≤◌, Bool, true, false, cond, List, [], ◌∷◌, ◌++◌, length, get_or, drop, map as each, Option, Some, None, refl, sym, ap, ◌∙◌, append_assoc}
-use Rattle.std.specs.Prelude.{not, ◌||◌, position}
+use Rattle.std.specs.Prelude.{not, ◌||◌, filter, if◌then◌else◌, position}
 use Rattle.std.specs.BTreeSet.{insert_key}
 use Rattle.std.specs.FinMap as finmap
 use Rattle.std.specs.FinMap.{FinMap, get-remove, get-retain_keys, same_map}
-use Rattle.std.specs.List.{position_from}
+use Rattle.std.specs.List.{flat_map, position_from}
+use Rattle.std.specs.Option.{option_map}
+use Rattle.std.specs.Str.{bytes_eq}
 use Rattle.std.specs.Ordering.{eq_by_cmp}
 use Rattle.std.specs.declared.cmp.Ordering.{Ordering}
 use Rattle.std.proofs.lemmas.Iterator.Adapters.{position_from-zero}
 use Rattle.std.proofs.lemmas.List.{append-nil, at_drop_all}
+use Rattle.fetch_config.specs.Contents.{Contents}
+use Rattle.fetch_config.specs.Print.{of_origin, text_of}
+use Rattle.fetch_config.specs.declared.section.Section.{Section}
 use Rattle.fetch_config.proofs.Flat.{drop_item}
-use Rattle.fetch_lookup.specs.Ordered.{placed, is_among}
+use Rattle.fetch_lookup.specs.Ordered.{ascending, placed, is_among}
+use Rattle.fetch_lookup.specs.Removed.{has_branches, without_branches}
+use Rattle.fetch_lookup.proofs.Ascending.{ascends}
 use Rattle.fetch_refs.specs.Edits.{refs_after}
 use Rattle.fetch_refs.specs.Expectations.{fails, refusal_of}
 use Rattle.fetch_refs.specs.Logs.{Logging, after, logs_after}
@@ -19,8 +26,12 @@ use Rattle.fetch_refs.specs.Packed.{packed_after}
 use Rattle.fetch_refs.specs.declared.edit.PackedRefs.TheVariants.{Never}
 use Rattle.fetch_refs.specs.declared.log.Signature.{Signature}
 use Rattle.fetch_refs.proofs.Names.{name_cmp_total, name_cmp_exact}
-use Rattle.fetch_remote.specs.Deleting.{without, refs_without}
-use Rattle.fetch_remote.specs.DeletionSteps.{deletion}
+use Rattle.fetch_update.specs.Trees.{directories_in, directories_of}
+use Rattle.fetch_update.specs.declared.worktrees.Worktree.{Worktree}
+use Rattle.fetch_update.proofs.Directories.{as_set}
+use Rattle.fetch_remote.specs.Deleting.{without, refs_without, setup_without, short_names}
+use Rattle.fetch_remote.specs.DeletionSteps.{deletion, directory_of}
+use Rattle.fetch_remote.specs.Repositories.{Setup, in_force, resolved_of}
 
 -- ---- names that are taken out one by one
 
@@ -123,3 +134,43 @@ made-step cmp f xs i x keys new whole lt is put so_far =
 pub made-end : {A K : Type 0} (cmp : K → K → Ordering) (f : A → K) (xs : List A) (i : ℕ) (keys whole : List K) → length xs ≤ i → placed cmp keys (each f (drop i xs)) ≡ whole → keys ≡ whole
 unfolding placed
 made-end cmp f xs i keys whole over so_far = sym (at_drop_all (λ ys. placed cmp keys (each f ys)) xs i over) ∙ so_far
+
+-- ---- directories
+
+one_directory : (name : List ℕ) (w : Worktree) (ws : List Worktree) → directory_of name w ++ directories_in ws name ≡ directories_in (w ∷ ws) name
+one_directory name w ws = by (bytes_eq w.branch name)
+  where
+    by : (b : Bool) → (if b then w.directory ∷ [] else []) ++ directories_in ws name ≡ each (λ x. x.directory) (if b then w ∷ filter (λ x. bytes_eq x.branch name) ws else filter (λ x. bytes_eq x.branch name) ws)
+    by true = refl
+    by false = refl
+
+gathered : (ws : List Worktree) (name : List ℕ) → flat_map (directory_of name) ws ≡ directories_in ws name
+gathered [] name = refl
+gathered (w ∷ ws) name = ap (λ (ds : List (List ℕ)). directory_of name w ++ ds) (gathered ws name) ∙ one_directory name w ws
+
+pub in_all : (ws : List Worktree) (name : List ℕ) → ascending name_cmp (flat_map (directory_of name) ws) ≡ directories_of ws name
+in_all ws name =
+    let a = ascends name_cmp_total (directories_in ws name) in
+    ap (ascending name_cmp) (gathered ws name) ∙ as_set (ascending name_cmp (directories_in ws name)) (directories_in ws name) a.ascends a.same
+
+-- ---- the configuration
+
+every : (ss : List Section) → of_origin None ss ≡ ss
+every [] = refl
+every (s ∷ ss) = ap (λ (rest : List Section). s ∷ rest) (every ss)
+
+pub text_kept : (f g : Contents) (text : List ℕ) → f ≡ g → text ≡ text_of (of_origin None f.sections) → text ≡ text_of g.sections
+text_kept f g text is told = told ∙ ap text_of (every f.sections) ∙ ap (λ (x : Contents). text_of x.sections) is
+
+pub sections_planned : (names : List (List ℕ)) (file : Contents) (keys : List (List ℕ)) (found : Bool) → keys ≡ short_names names → found ≡ has_branches keys file.sections → found ≡ true → has_branches (short_names names) file.sections ≡ true
+sections_planned names file keys found is told there = ap (λ (ks : List (List ℕ)). has_branches ks file.sections) (sym is) ∙ sym told ∙ there
+
+pub text_planned : (names : List (List ℕ)) (file : Contents) (keys : List (List ℕ)) (text : List ℕ) → keys ≡ short_names names → text ≡ text_of (without_branches keys file).sections → text ≡ text_of (without_branches (short_names names) file).sections
+text_planned names file keys text is told = told ∙ ap (λ (ks : List (List ℕ)). text_of (without_branches ks file).sections) is
+
+pub planned : (names : List (List ℕ)) (setup : Setup) (keys : List (List ℕ)) (now file config : Contents) → keys ≡ short_names names → now ≡ without_branches keys setup.local → file ≡ now
+    → resolved_of setup.base now setup.overrides ≡ Some config → setup_without names setup ≡ Some (in_force setup file config)
+planned names setup keys now file config is gone same resolved =
+    let local : without_branches (short_names names) setup.local ≡ now = sym (gone ∙ ap (λ (ks : List (List ℕ)). without_branches ks setup.local) is) in
+    ap (λ (x : Contents). option_map (in_force setup x) (resolved_of setup.base x setup.overrides)) local ∙ ap (option_map (in_force setup now)) resolved
+    ∙ ap (λ (x : Contents). Some (in_force setup x config)) (sym same)

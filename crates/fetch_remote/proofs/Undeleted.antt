@@ -21,15 +21,15 @@ unlocal trees told dir names (errors.ConfigRead cause) h = absurd h
 unlocal trees told dir names (errors.Cleanup references source) h = absurd h
 unlocal trees told dir names errors.NoMemory h = tt
 
-pub unlocal_left : (found : Option (List ℕ)) (names : List (List ℕ)) (s : State) (e : Error) → IsUnlocal found e → Leaves names s s e
-unlocal_left found names s (errors.NotLocal name) h = refl
-unlocal_left found names s errors.WorktreeListing h = absurd h
-unlocal_left found names s errors.OpenWorktreeRepo h = absurd h
-unlocal_left found names s errors.FollowSymref h = absurd h
-unlocal_left found names s (errors.CheckedOut name directories) h = absurd h
-unlocal_left found names s (errors.ConfigRead cause) h = absurd h
-unlocal_left found names s (errors.Cleanup references source) h = absurd h
-unlocal_left found names s errors.NoMemory h = inl refl
+pub unlocal_left : (told : Option Tree) (dir : List ℕ) (found : Option (List ℕ)) (names : List (List ℕ)) (s : State) (e : Error) → IsUnlocal found e → Leaves told dir names s s e
+unlocal_left told dir found names s (errors.NotLocal name) h = refl
+unlocal_left told dir found names s errors.WorktreeListing h = absurd h
+unlocal_left told dir found names s errors.OpenWorktreeRepo h = absurd h
+unlocal_left told dir found names s errors.FollowSymref h = absurd h
+unlocal_left told dir found names s (errors.CheckedOut name directories) h = absurd h
+unlocal_left told dir found names s (errors.ConfigRead cause) h = absurd h
+unlocal_left told dir found names s (errors.Cleanup references source) h = absurd h
+unlocal_left told dir found names s errors.NoMemory h = inl refl
 
 pub unlocal_faultless : (found : Option (List ℕ)) (e : Error) → IsUnlocal found e → is_file_fault e ≡ false
 unlocal_faultless found (errors.NotLocal name) h = refl
@@ -56,15 +56,15 @@ held trees told dir names (errors.ConfigRead cause) local h = absurd h
 held trees told dir names (errors.Cleanup references source) local h = absurd h
 held trees told dir names errors.NoMemory local h = tt
 
-pub held_left : (trees : Option (List Worktree)) (names : List (List ℕ)) (s : State) (e : Error) → IsHeld trees names e → Leaves names s s e
-held_left trees names s (errors.NotLocal name) h = absurd h
-held_left trees names s errors.WorktreeListing h = refl
-held_left trees names s errors.OpenWorktreeRepo h = refl
-held_left trees names s errors.FollowSymref h = refl
-held_left trees names s (errors.CheckedOut name directories) h = refl
-held_left trees names s (errors.ConfigRead cause) h = absurd h
-held_left trees names s (errors.Cleanup references source) h = absurd h
-held_left trees names s errors.NoMemory h = inl refl
+pub held_left : (told : Option Tree) (dir : List ℕ) (trees : Option (List Worktree)) (names : List (List ℕ)) (s : State) (e : Error) → IsHeld trees names e → Leaves told dir names s s e
+held_left told dir trees names s (errors.NotLocal name) h = absurd h
+held_left told dir trees names s errors.WorktreeListing h = refl
+held_left told dir trees names s errors.OpenWorktreeRepo h = refl
+held_left told dir trees names s errors.FollowSymref h = refl
+held_left told dir trees names s (errors.CheckedOut name directories) h = refl
+held_left told dir trees names s (errors.ConfigRead cause) h = absurd h
+held_left told dir trees names s (errors.Cleanup references source) h = absurd h
+held_left told dir trees names s errors.NoMemory h = inl refl
 
 pub held_faultless : (trees : Option (List Worktree)) (names : List (List ℕ)) (e : Error) → IsHeld trees names e → (is_file_fault e ≡ false) × (is_unlocal e ≡ false)
 held_faultless trees names (errors.NotLocal name) h = absurd h

@@ -160,16 +160,17 @@ IsRefused trees told git_dir names (errors.ConfigRead cause) = AreFree trees nam
 IsRefused trees told git_dir names (errors.Cleanup references source) = (references ≡ names) × (AreFree trees names × HasSections told git_dir names)
 IsRefused trees told git_dir names errors.NoMemory = ⊤
 
--- What a refusal leaves of references and reflogs: behind the clean-up they are gone, and behind want of memory they may be.
-abbrev pub Leaves : List (List ℕ) → State → State → Error → Type 0
-Leaves names before after (errors.NotLocal name) = after ≡ before
-Leaves names before after errors.WorktreeListing = after ≡ before
-Leaves names before after errors.OpenWorktreeRepo = after ≡ before
-Leaves names before after errors.FollowSymref = after ≡ before
-Leaves names before after (errors.CheckedOut name directories) = after ≡ before
-Leaves names before after (errors.ConfigRead cause) = after ≡ before
-Leaves names before after (errors.Cleanup references source) = after ≡ state_without names before
-Leaves names before after errors.NoMemory = (after ≡ before) ⊎ (after ≡ state_without names before)
+-- What a refusal leaves of references and reflogs. Behind the clean-up they are gone, and behind want of memory they may be,
+-- where there are sections to clean up.
+abbrev pub Leaves : Option Tree → List ℕ → List (List ℕ) → State → State → Error → Type 0
+Leaves told git_dir names before after (errors.NotLocal name) = after ≡ before
+Leaves told git_dir names before after errors.WorktreeListing = after ≡ before
+Leaves told git_dir names before after errors.OpenWorktreeRepo = after ≡ before
+Leaves told git_dir names before after errors.FollowSymref = after ≡ before
+Leaves told git_dir names before after (errors.CheckedOut name directories) = after ≡ before
+Leaves told git_dir names before after (errors.ConfigRead cause) = after ≡ before
+Leaves told git_dir names before after (errors.Cleanup references source) = after ≡ state_without names before
+Leaves told git_dir names before after errors.NoMemory = (after ≡ before) ⊎ ((after ≡ state_without names before) × HasSections told git_dir names)
 
 -- A failed file call.
 abbrev pub is_file_fault : Error → Bool

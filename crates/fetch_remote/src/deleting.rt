@@ -59,7 +59,7 @@ impl Repository {
         ensures nothing { names.now ≡ [] → (result ≡ Ok tt) × ((self.new ≡ self.old) × ((worktrees.new ≡ worktrees.old) × (files.new ≡ files.old))) }
         ensures deleted { names.now ≢ [] → OnOk result (spec.IsDeleted (W.told worktrees.old) (F.told files.old) (F.told files.new) (spec.in_order names.now) self.old self.new) }
         ensures refused { IfErr result (spec.IsRefused (W.told worktrees.old) (F.told files.old) (setup_of self.old).settings.git_dir (spec.in_order names.now)) }
-        ensures left { IfErr result (spec.Leaves (spec.in_order names.now) (state_of self.old) (state_of self.new)) }
+        ensures left { IfErr result (spec.Leaves (F.told files.old) (setup_of self.old).settings.git_dir (spec.in_order names.now) (state_of self.old) (state_of self.new)) }
         ensures setup { OnErr result (setup_of self.new ≡ setup_of self.old) }
         ensures unasked { IfErr result (λ e. OnTrue (spec.is_unlocal e) (worktrees.new ≡ worktrees.old)) }
         ensures listing { IsErrOf result errors.WorktreeListing → Rose (W.listing worktrees.old) (W.listing worktrees.new) }
@@ -93,7 +93,7 @@ impl Repository {
     ) -> Result<(), Error>
         ensures deleted { OnOk result (steps.IsGone (F.told files.old) (F.told files.new) names self.old self.new) }
         ensures refused { IfErr result (steps.IsNotGone (F.told files.old) (setup_of self.old).settings.git_dir names) }
-        ensures left { IfErr result (spec.Leaves names (state_of self.old) (state_of self.new)) }
+        ensures left { IfErr result (spec.Leaves (F.told files.old) (setup_of self.old).settings.git_dir names (state_of self.old) (state_of self.new)) }
         ensures setup { OnErr result (setup_of self.new ≡ setup_of self.old) }
         ensures file_fault { IfErr result (λ e. OnTrue (spec.is_file_fault e) (Rose (F.faults files.old) (F.faults files.new))) }
         ensures counts { Counts (F.faults files.old) (F.faults files.new) }
@@ -198,7 +198,10 @@ fn text_without(alloc: Global, file: File, branches: &Names) -> Result<Text, NoM
 {
     let mut file = file;
     without_branch_sections(&mut file, branches);
-    file.write(alloc, None).map_err(|_| NoMemory)
+    match file.write(alloc, None) {
+        Ok(text) => Ok(text),
+        Err(_) => Err(NoMemory),
+    }
 }
 
 /// Reads the configuration file. Where there is none it has no sections.
