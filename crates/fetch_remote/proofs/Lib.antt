@@ -15,7 +15,6 @@ pub mod Judged
 pub mod Unjudged
 pub mod Lasting
 pub mod Deletions
-pub mod Undeleted
 pub mod Replaced
 pub mod SectionsBack
 pub mod DeletedTwice
