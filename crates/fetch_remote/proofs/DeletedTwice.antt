@@ -1,7 +1,7 @@
 -- A second deletion of the same branches.
-use Rattle.std.proofs.Common.{◌≡◌, ℕ, Bool, true, false, List, [], Option, Some, None, refl, sym, ap, ◌∙◌, subst}
+use Rattle.std.proofs.Common.{◌≡◌, ℕ, Bool, true, false, List, [], Option, Some, None, refl, sym, ap, ◌∙◌}
 use Rattle.std.specs.Option.{option_map}
-use Rattle.fetch_store.specs.Paths.{Path, parts_of}
+use Rattle.fetch_store.specs.Paths.{parts_of}
 use Rattle.fetch_store.specs.Trees.{Tree, read_in}
 use Rattle.fetch_config.specs.Contents.{Contents}
 use Rattle.fetch_config.specs.Lines.{sections_of}
@@ -9,7 +9,7 @@ use Rattle.fetch_config.specs.Print.{text_of}
 use Rattle.fetch_lookup.specs.Removed.{has_branches, is_branch_of, without_branches}
 use Rattle.fetch_refs.specs.Names.{RefsValue}
 use Rattle.fetch_update.specs.declared.worktrees.Worktree.{Worktree}
-use Rattle.fetch_remote.specs.Deleting.{Cleans, IsCleaned, IsDeleted, IsLeft, file_meta, file_without, has_sections, lock_path, refs_without, setup_without, short_names, state_without, without}
+use Rattle.fetch_remote.specs.Deleting.{Cleans, IsDeleted, IsLeft, file_meta, file_without, has_sections, lock_path, refs_without, short_names, state_without, without}
 use Rattle.fetch_remote.specs.Paths.{config_path}
 use Rattle.fetch_remote.specs.Repositories.{RepositoryValue, Setup, State, in_force, resolved_of, with_refs}
 use Rattle.fetch_remote.proofs.Deletions.{without_twice}

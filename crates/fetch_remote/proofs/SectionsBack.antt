@@ -3,11 +3,11 @@ use Rattle.std.proofs.Common.{◌≡◌, ℕ, Bool, true, false, not, List, [], 
 use Rattle.std.specs.Prelude.{◌&&◌, ◌||◌, if◌then◌else◌, filter}
 use Rattle.std.specs.List.{AllByRecursion, cons_option, filter_map, list_all, list_any}
 use Rattle.std.specs.Str.Lines.{lines}
-use Rattle.fetch_config.specs.Kept.{AreKept, is_kept}
+use Rattle.fetch_config.specs.Kept.{is_kept}
 use Rattle.fetch_config.specs.Lines.{EntryList, gather, line_of, sections_of}
 use Rattle.fetch_config.specs.Pieces.{is_key, is_name}
 use Rattle.fetch_config.specs.Print.{text_of}
-use Rattle.fetch_config.specs.Written.{AreNamed, Says, is_named, read_from}
+use Rattle.fetch_config.specs.Written.{AreNamed, is_named, read_from}
 use Rattle.fetch_config.specs.declared.line.Line.{Line}
 use Rattle.fetch_config.specs.declared.line.Line.TheVariants.{Nothing, Header, Entry}
 use Rattle.fetch_config.specs.declared.meta.Meta.{Meta}

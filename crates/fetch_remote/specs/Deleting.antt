@@ -1,5 +1,5 @@
 -- Local branches that are deleted: what is tested before, and what goes. The names of a deletion are in ascending order, each once.
-use Rattle.std.specs.Prelude.{◌≡◌, ◌⊎◌, ℕ, Bool, true, false, not, List, [], filter, find, map as each, Option, Some, None, IfSome, is_some, ⊤, nat_eq, codes}
+use Rattle.std.specs.Prelude.{◌≡◌, ◌⊎◌, ℕ, Bool, true, false, not, List, [], find, map as each, Option, Some, None, IfSome, ⊤, nat_eq, codes}
 use Rattle.std.specs.FinMap as finmap
 use Rattle.std.specs.List.{starts_with}
 use Rattle.std.specs.Option.{option_and_then}
@@ -21,7 +21,6 @@ use Rattle.fetch_remote.specs.Judging.{IsTold}
 use Rattle.fetch_remote.specs.Paths.{in_directory, config_path}
 use Rattle.fetch_remote.specs.Reloads.{Reads, HasBrokenLine}
 use Rattle.fetch_remote.specs.Repositories.{State, Setup, RepositoryValue, reopened, with_refs}
-use Rattle.fetch_remote.specs.declared.delete.CleanupError.{CleanupError}
 use Rattle.fetch_remote.specs.declared.delete.Error.{Error}
 use Rattle.fetch_remote.specs.declared.delete.Error.TheVariants as errors
 use Rattle.fetch_remote.specs.declared.open_error.OpenError.{OpenError}

@@ -1,5 +1,5 @@
 -- What the steps of a deletion say.
-use Rattle.std.specs.Prelude.{◌≡◌, ℕ, Bool, true, false, List, [], ◌∷◌, find, Option, Some, None, ⊤, if◌then◌else◌}
+use Rattle.std.specs.Prelude.{◌≡◌, ℕ, true, false, List, [], ◌∷◌, find, Option, Some, None, ⊤, if◌then◌else◌}
 use Rattle.std.specs.Str.{bytes_eq}
 use Rattle.fetch_store.specs.Trees.{Tree}
 use Rattle.fetch_store.specs.declared.file_error.FileError.{FileError}

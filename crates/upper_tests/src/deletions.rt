@@ -4,9 +4,7 @@ use fetch_refs::{
 };
 use fetch_remote::{OpenError, OpenOptions, Parts, Repository, delete};
 use fetch_specs::FullName;
-use fetch_store::{
-    Border, FileError, Files, Kind, List, MemoryFiles, ObjectId, Store, Text,
-};
+use fetch_store::{Border, FileError, Files, Kind, List, MemoryFiles, ObjectId, Store, Text};
 use fetch_update::{ScriptedWorktrees, Worktree, WorktreeFault};
 use std::alloc::Global;
 use std::test::Fail;
@@ -16,8 +14,7 @@ const CONFIG: &[u8] =
     b"[core]\n\tbare = false\n[branch \"main\"]\n\tremote = origin\n[branch \"dev\"]\n\tremote = origin\n";
 
 /// The same, as `git config --remove-section branch.main` leaves it.
-const WITHOUT_MAIN: &[u8] =
-    b"[core]\n\tbare = false\n[branch \"dev\"]\n\tremote = origin\n";
+const WITHOUT_MAIN: &[u8] = b"[core]\n\tbare = false\n[branch \"dev\"]\n\tremote = origin\n";
 
 fn meta(source: Origin) -> Meta {
     Meta {
@@ -163,7 +160,13 @@ fn a_missing_branch_loses_its_section(rt: HostRuntime) -> Result<(), Fail> {
     let mut repo = empty(alloc, CONFIG)?;
     let mut files = files(alloc, CONFIG, &[])?;
     let mut worktrees = no_worktrees(alloc);
-    deleted(alloc, &mut repo, &[b"refs/heads/main"], &mut worktrees, &mut files)??;
+    deleted(
+        alloc,
+        &mut repo,
+        &[b"refs/heads/main"],
+        &mut worktrees,
+        &mut files,
+    )??;
     assert!(rt; has_config(&mut files, WITHOUT_MAIN)?);
     assert_eq!(rt; repo.branch_names(alloc)?.len(), 1);
     Ok(())
@@ -177,10 +180,22 @@ fn a_configuration_without_the_section_stays(rt: HostRuntime) -> Result<(), Fail
     let mut repo = repository(alloc, other)?;
     let mut files = files(alloc, other, &[])?;
     let mut worktrees = no_worktrees(alloc);
-    deleted(alloc, &mut repo, &[b"refs/heads/main"], &mut worktrees, &mut files)??;
+    deleted(
+        alloc,
+        &mut repo,
+        &[b"refs/heads/main"],
+        &mut worktrees,
+        &mut files,
+    )??;
     assert!(rt; has_config(&mut files, other)?);
     files.remove_file(b"/w/.git/config")?;
-    deleted(alloc, &mut repo, &[b"refs/heads/dev"], &mut worktrees, &mut files)??;
+    deleted(
+        alloc,
+        &mut repo,
+        &[b"refs/heads/dev"],
+        &mut worktrees,
+        &mut files,
+    )??;
     assert_eq!(rt; stands(alloc, &repo, b"refs/heads/dev")?, (false, 0));
     assert!(rt; files.kind_of(b"/w/.git/config")?.is_none());
     Ok(())
@@ -194,7 +209,9 @@ fn a_tag_is_no_local_branch(rt: HostRuntime) -> Result<(), Fail> {
     let mut worktrees = no_worktrees(alloc);
     let names: [&[u8]; 3] = [b"refs/tags/y", b"refs/heads/main", b"refs/tags/x"];
     let answer = deleted(alloc, &mut repo, &names, &mut worktrees, &mut files)?;
-    assert!(rt; matches!(&answer, Err(delete::Error::NotLocal { name }) if name.as_bytes() == b"refs/tags/x".as_slice()));
+    assert!(rt;
+        matches!(&answer, Err(delete::Error::NotLocal { name }) if name.as_bytes() == b"refs/tags/x".as_slice())
+    );
     assert_eq!(rt; stands(alloc, &repo, b"refs/heads/main")?, (true, 1));
     Ok(())
 }
@@ -214,10 +231,12 @@ fn a_branch_that_is_checked_out(rt: HostRuntime) -> Result<(), Fail> {
     }
     let mut worktrees = ScriptedWorktrees::new(trees, Vec::new(alloc));
     let names: [&[u8]; 2] = [b"refs/heads/main", b"refs/heads/dev"];
-    let Err(delete::Error::CheckedOut {
-        name,
-        worktree_dirs,
-    }) = deleted(alloc, &mut repo, &names, &mut worktrees, &mut files)?
+    let Err(
+        delete::Error::CheckedOut {
+            name,
+            worktree_dirs,
+        },
+    ) = deleted(alloc, &mut repo, &names, &mut worktrees, &mut files)?
     else {
         return Err(Fail::new("another answer"));
     };
@@ -235,7 +254,13 @@ fn refused(alloc: Global, fault: WorktreeFault) -> Result<Option<delete::Error>,
     let mut files = files(alloc, CONFIG, &[])?;
     let failing = vec![in alloc; (0, fault)]?;
     let mut worktrees = ScriptedWorktrees::new(Vec::new(alloc), failing);
-    let answer = deleted(alloc, &mut repo, &[b"refs/heads/main"], &mut worktrees, &mut files)?;
+    let answer = deleted(
+        alloc,
+        &mut repo,
+        &[b"refs/heads/main"],
+        &mut worktrees,
+        &mut files,
+    )?;
     let is_there = stands(alloc, &repo, b"refs/heads/main")? == (true, 1);
     Ok(answer.err().filter(|_| is_there))
 }
@@ -259,11 +284,37 @@ fn a_configuration_that_is_not_read(rt: HostRuntime) -> Result<(), Fail> {
     let mut repo = repository(alloc, CONFIG)?;
     let mut worktrees = no_worktrees(alloc);
     let mut broken = files(alloc, b"[core]\n[a\n", &[])?;
-    let answer = deleted(alloc, &mut repo, &[b"refs/heads/main"], &mut worktrees, &mut broken)?;
-    assert!(rt; matches!(&answer, Err(delete::Error::ConfigRead { cause: OpenError::Config { line: 2 } })));
+    let answer = deleted(
+        alloc,
+        &mut repo,
+        &[b"refs/heads/main"],
+        &mut worktrees,
+        &mut broken,
+    )?;
+    assert!(rt;
+        matches!(
+            &answer,
+            Err(delete::Error::ConfigRead {
+                cause: OpenError::Config { line: 2 }
+            })
+        )
+    );
     let mut failing = files(alloc, CONFIG, &[1])?;
-    let answer = deleted(alloc, &mut repo, &[b"refs/heads/main"], &mut worktrees, &mut failing)?;
-    assert!(rt; matches!(&answer, Err(delete::Error::ConfigRead { cause: OpenError::Io })));
+    let answer = deleted(
+        alloc,
+        &mut repo,
+        &[b"refs/heads/main"],
+        &mut worktrees,
+        &mut failing,
+    )?;
+    assert!(rt;
+        matches!(
+            &answer,
+            Err(delete::Error::ConfigRead {
+                cause: OpenError::Io
+            })
+        )
+    );
     assert_eq!(rt; stands(alloc, &repo, b"refs/heads/main")?, (true, 1));
     Ok(())
 }
@@ -277,8 +328,13 @@ fn what_is_left_to_clean_up(rt: HostRuntime) -> Result<(), Fail> {
         let mut files = files(alloc, CONFIG, &[call])?;
         let mut worktrees = no_worktrees(alloc);
         let names: [&[u8]; 2] = [b"refs/heads/main", b"refs/heads/dev"];
-        let Err(delete::Error::Cleanup { references, source }) =
-            deleted(alloc, &mut repo, &names, &mut worktrees, &mut files)?
+        let Err(delete::Error::Cleanup { references, source }) = deleted(
+            alloc,
+            &mut repo,
+            &names,
+            &mut worktrees,
+            &mut files,
+        )?
         else {
             return Err(Fail::new("another answer"));
         };

@@ -2,7 +2,6 @@ use Rattle.std.proofs.Common.{◌≡◌, ℕ, List, arith, subst, ◌∙◌}
 use Rattle.std.specs.Prelude.{IfOk}
 use Rattle.fetch_lookup.proofs.Placing.{place-step, place-end}
 use Rattle.fetch_refs.specs.Names.{name_cmp}
-use Rattle.fetch_update.specs.Trees.{directories_of}
 use Rattle.fetch_remote.specs.DeletionSteps.{directory_of}
 use Rattle.fetch_remote.proofs.Deletions.{in_all}
 use Rattle.fetch_remote.proofs.undeletable.directories.Goals as goal
