@@ -17,3 +17,7 @@ pub mod Judged
 pub mod Unjudged
 pub mod Lasting
 pub mod Complete
+pub mod Deletions
+pub mod Replaced
+pub mod SectionsBack
+pub mod DeletedTwice

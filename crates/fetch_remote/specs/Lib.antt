@@ -22,3 +22,5 @@ pub mod Refused
 pub mod Valid
 pub mod Requested
 pub mod Lasting
+pub mod Deleting
+pub mod DeletionSteps

@@ -17,12 +17,13 @@ ghost use Rattle.fetch_update.specs.declared.worktrees.Worktree.{Worktree};
 ghost use Rattle.fetch_wire.specs.Talks.{Talk};
 ghost use Rattle.fetch_wire.specs.declared.mapping.RefMap.{RefMap};
 ghost use Rattle.fetch_conversation.specs.declared.conversing.Received.{Received};
+ghost use Rattle.fetch_remote.specs.Deleting.{IsDeleted};
 ghost use Rattle.fetch_remote.specs.Fetched.{IsFetched, request_in};
 ghost use Rattle.fetch_remote.specs.Fetching.{fetched_in, requests_in};
 ghost use Rattle.fetch_negotiate.specs.Rounds.{haves_in};
 ghost use Rattle.fetch_remote.specs.Form.{Given};
 ghost use Rattle.fetch_remote.specs.Lasting.{updates_in, AcceptsNone, AreAlike, with_packed};
-ghost use Rattle.fetch_remote.specs.Repositories.{State, held};
+ghost use Rattle.fetch_remote.specs.Repositories.{RepositoryValue, State, held};
 ghost use Rattle.fetch_remote.specs.Requested.{AsksInOrder};
 ghost use Rattle.fetch_remote.specs.Settling.{connected, pack_of};
 ghost use Rattle.fetch_remote.specs.Stages.{wants_in};
@@ -69,4 +70,10 @@ pub fn every_source_is_found()
 pub fn packed_and_loose_fetches_leave_the_same()
     ensures { (g : Given) (only other : Bool) (trees : List Worktree) (s : State) (stream : List ℕ) (outcome : Outcome) (a : State) → fetched_in (with_packed only g) trees s stream ≡ Ok (outcome, a)
         → (b : State) × (fetched_in (with_packed other g) trees s stream ≡ Ok (outcome, b)) × AreAlike a b }
+{}
+
+/// A deletion that follows another of the same branches leaves all as it is, where nothing changes between.
+pub fn a_second_deletion_changes_nothing()
+    ensures { (trees more : Option (List Worktree)) (t u v : Tree) (names : List (List ℕ)) (before between after : RepositoryValue) → IsDeleted trees (Some t) (Some u) names before between → IsDeleted more (Some u) (Some v) names between after
+        → (after ≡ between) × (v ≡ u) }
 {}

@@ -5,6 +5,8 @@ pub mod branch;
 mod changing;
 pub mod connect;
 mod copies;
+pub mod delete;
+mod deleting;
 mod direction;
 mod editing;
 mod fetch_error;
@@ -31,6 +33,7 @@ mod settling;
 mod talking;
 mod thread_safe;
 mod threads;
+mod undeletable;
 pub mod upstream;
 
 pub use direction::Direction;

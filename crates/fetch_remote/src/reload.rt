@@ -62,7 +62,7 @@ fn read_file<F: Files>(path: Text, files: &mut F) -> Result<Text, OpenError>
 }
 
 /// The file of a text.
-fn file_of(alloc: Global, text: &[u8], meta: &Meta) -> Result<File, OpenError>
+pub(crate) fn file_of(alloc: Global, text: &[u8], meta: &Meta) -> Result<File, OpenError>
     ensures accepted { OnOk result (broken_line text.now ≡ None) }
     ensures file { IfOk result (λ file. file ≡ record { meta = meta.now; sections = sections_of meta.now text.now }) }
     ensures refused { IfErr result (IsBroken (broken_line text.now)) }

@@ -4,6 +4,8 @@
 #[cfg(test)]
 mod cuts;
 #[cfg(test)]
+mod deletions;
+#[cfg(test)]
 mod ends;
 #[cfg(test)]
 mod fetching;
