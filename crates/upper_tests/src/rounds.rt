@@ -5,8 +5,7 @@ use std::test::Fail;
 use std::thread::Threads;
 
 /// The head of a repository with a line of commits, up to its references.
-const HEAD: &[u8] =
-    b"000cscene 1\n000ehash sha1\n0014git-dir /w/.git\n000fworkdir /w\n";
+const HEAD: &[u8] = b"000cscene 1\n000ehash sha1\n0014git-dir /w/.git\n000fworkdir /w\n";
 
 /// A branch at the twentieth commit of the line.
 const TWENTY: &[u8] = b"0041ref d4511516a466529dcdc57db6e7f3d3516338aae2 refs/heads/line\n";
@@ -49,11 +48,16 @@ const IDS: [&[u8]; 21] = [
 
 /// What a server says that has none of the haves, that has the tenth commit, and the same where it is ready.
 const NONE: &[u8] = b"0014acknowledgments\n0008NAK\n0000";
+
 const TENTH: &[u8] = b"0014acknowledgments\n0031ACK 5f6990c365228792c6e46feb5554193190d43b4c\n0000";
-const READY: &[u8] = b"0014acknowledgments\n0031ACK 5f6990c365228792c6e46feb5554193190d43b4c\n000aready\n0001";
+
+const READY: &[u8] =
+    b"0014acknowledgments\n0031ACK 5f6990c365228792c6e46feb5554193190d43b4c\n000aready\n0001";
 
 const CONSECUTIVE: &[u8] = b"002econfig negotiationAlgorithm = consecutive\n";
+
 const SKIPPING: &[u8] = b"002bconfig negotiationAlgorithm = skipping\n";
+
 const NOOP: &[u8] = b"0027config negotiationAlgorithm = noop\n";
 
 /// What is sent before the fetch requests.
@@ -69,6 +73,7 @@ const FETCHED: &[u8] = b"map 0 refs/heads/main -> refs/remotes/origin/main: new\
 
 /// The commits c20 to c5, and c4 to c1.
 const LATER: &[usize] = &[20, 19, 18, 17, 16, 15, 14, 13, 12, 11, 10, 9, 8, 7, 6, 5];
+
 const EARLIER: &[usize] = &[4, 3, 2, 1];
 
 /// A fetch of a commit beside a line of commits, by an algorithm, from a server that says this behind its listing.
