@@ -260,7 +260,7 @@ file_parts dir name c none = ap parts_of (append_assoc dir (codes "/") (c ∷ na
 -- ---- nothing is in the way
 
 module _ where
-  nothing : Tree
+  abbrev nothing : Tree
   nothing = finmap.empty
 
   plain_by : (b : Bool) (q : Path) → is_file (if b then Some Directory else finmap.get nothing q) ≡ false
