@@ -125,6 +125,10 @@ sure_receiving (receive.KeepFile path) c k = absurd (k path refl)
 sure_receiving (receive.UpdateRefs e) c k = sure_judging e c
 sure_receiving (receive.RemovePackKeepFile path) c k = absurd (c.unremoved path refl)
 
+-- what is in the way of a file in a tree that is empty
+pub in_nothing : (t : Tree) (path : List ℕ) → Some t ≡ Some map.empty → written t (parts_of path) [] ≡ None → written map.empty (parts_of path) [] ≡ None
+in_nothing t path same is = let e : t ≡ map.empty = cc in rw e at is
+
 never_kept : (g : Given) (trees : List Worktree) (before after : State) (files : Tree) (e : ReceiveError) (a b : Talk) → IsCalm (Err (errors.Receive e)) → IsRefused false (Some a) (Some b) (Some trees) (Some map.empty) (Some files) g before after (errors.Receive e)
     → (path : List ℕ) → e ≡ receive.KeepFile path → ⊥
 never_kept g trees before after files e a b c h path is =

@@ -1,6 +1,6 @@
 use Rattle.std.proofs.Common.{sym, ◌∙◌}
 use Rattle.std.specs.List.{concat}
-use Rattle.fetch_cli.proofs.Fetching.{fetched, no_fault}
+use Rattle.fetch_cli.proofs.Fetching.{fetched, no_fault, in_nothing}
 use Rattle.fetch_cli.proofs.reporting.fetch.Goals as goal
 
 pub returns-clause-fetched : goal.returns-clause-fetched
@@ -20,7 +20,7 @@ returns-clause-fetched g c =
       listing = λ e. no_fault _ _ (rw c.new-4.ensures.items at c.new-worktrees.ensures.listing) f.listing_counts (f.listing e);
       open_repo = λ e. no_fault _ _ (rw c.new-4.ensures.items at c.new-worktrees.ensures.open_repo) f.open_repo_counts (f.open_repo e);
       follow_symref = λ e. no_fault _ _ (rw c.new-4.ensures.items at c.new-worktrees.ensures.follow_symref) f.follow_symref_counts (f.follow_symref e);
-      unmade = λ path e. rw nothing at f.in_the_way path e never;
+      unmade = λ path e. in_nothing _ path nothing (f.in_the_way path e never);
       unremoved = λ path e. let none = f.removable path e never in absurd (cc (none, nothing));
     })
 
