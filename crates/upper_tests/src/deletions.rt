@@ -344,8 +344,10 @@ fn what_is_left_to_clean_up(rt: HostRuntime) -> Result<(), Fail> {
             delete::CleanupError::Commit
         };
         assert!(rt; source == wanted);
-        assert_eq!(rt; references.len(), 2);
-        assert!(rt; references.as_slice()[0].as_bytes() == b"refs/heads/dev".as_slice());
+        let [first, _] = references.as_slice() else {
+            return Err(Fail::new("another number of branches"));
+        };
+        assert!(rt; first.as_bytes() == b"refs/heads/dev".as_slice());
         assert_eq!(rt; stands(alloc, &repo, b"refs/heads/main")?, (false, 0));
         assert_eq!(rt; repo.branch_names(alloc)?.len(), 2);
         let text = files.read(b"/w/.git/config")?;
