@@ -26,8 +26,8 @@ all-then : (t : Tree) (steps : List Step) (step : Step) → tree_after_all t (st
 all-then t [] step = stays (tree_after t step)
 all-then t (first ∷ steps) step =
     elim (tree_after t first) as (λ o. option_and_then (λ u. tree_after_all u (steps ++ step ∷ [])) o ≡ option_and_then (λ u. tree_after u step) (option_and_then (λ u. tree_after_all u steps) o)) [
-      None ↦ refl
-    | Some u ↦ all-then u steps step
+      | None ↦ refl
+      | Some u ↦ all-then u steps step
     ]
 
 pub one-more : (before stood now : Option Tree) (steps : List Step) (step : Step) → Reaches before steps stood → Makes stood step now → Reaches before (steps ++ step ∷ []) now

@@ -1,3 +1,4 @@
 pub mod Configuration
 pub mod Plans
 pub mod Creation
+pub mod HostFaults
