@@ -2,3 +2,4 @@ pub mod Configuration
 pub mod Plans
 pub mod Creation
 pub mod HostFaults
+pub mod Branches

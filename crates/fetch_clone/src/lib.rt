@@ -1,11 +1,17 @@
 //! Repositories that are created.
 #![tactic(auto)]
 
+mod branches;
 mod configuration;
 pub mod create;
 mod host_files;
 mod making;
 mod plan;
 mod step;
+#[cfg(test)]
+mod tests;
 
 pub use host_files::HostFiles;
+
+/// The short name of the branch that `HEAD` of a new repository leads to, where the configuration names none.
+pub const DEFAULT_BRANCH_NAME: &str = "main";
