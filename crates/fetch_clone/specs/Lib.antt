@@ -3,3 +3,4 @@ pub mod Plans
 pub mod Creation
 pub mod HostFaults
 pub mod Branches
+pub mod Initial

@@ -5,13 +5,16 @@ mod branches;
 mod configuration;
 pub mod create;
 mod host_files;
+pub mod init;
 mod making;
+mod opening;
 mod plan;
 mod step;
 #[cfg(test)]
 mod tests;
 
 pub use host_files::HostFiles;
+pub use init::init_opts;
 
 /// The short name of the branch that `HEAD` of a new repository leads to, where the configuration names none.
 pub const DEFAULT_BRANCH_NAME: &str = "main";
