@@ -4,3 +4,5 @@ pub mod Creation
 pub mod HostFaults
 pub mod Branches
 pub mod Initial
+pub mod Revisions
+pub mod Tracking

@@ -10,6 +10,8 @@ mod making;
 mod opening;
 mod plan;
 mod step;
+mod tracking;
+pub mod with_revision;
 #[cfg(test)]
 mod tests;
 
