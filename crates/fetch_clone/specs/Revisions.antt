@@ -1,5 +1,6 @@
 -- Which texts name one revision of a remote.
-use Rattle.std.specs.Prelude.{ℕ, Bool, true, false, not, ◌&&◌, ◌||◌, ◌==◌, if◌then◌else◌, List, [], ◌∷◌, Option, Some, None, is_some, is_none, Result, Ok, Err, codes, nat_eq}
+use Rattle.std.specs.Prelude.{◌≡◌, ℕ, Bool, true, false, not, ◌&&◌, ◌||◌, ◌==◌, if◌then◌else◌, List, [], ◌∷◌, Option, Some, None, is_some, is_none, Result, Ok, Err, codes, nat_eq}
+use Rattle.std.specs.Bool.{OnFalse}
 use Rattle.std.specs.List.{list_any, starts_with}
 use Rattle.std.specs.Str.{bytes_eq}
 use Rattle.fetch_store.specs.Id.{id_in_hex}
@@ -43,3 +44,8 @@ abbrev pub is_memory : Error → Bool
 is_memory NoMemory = true
 is_memory Invalid = false
 is_memory (Parse e) = false
+
+-- Why a revision is refused: what is said of its text. None is never refused.
+abbrev pub IsRevisionRefusal : Option (List ℕ) → Error → Type 0
+IsRevisionRefusal None e = ⊥
+IsRevisionRefusal (Some text) e = OnFalse (is_memory e) (revision_of text ≡ Err e)

@@ -2,6 +2,7 @@
 #![tactic(auto)]
 
 mod branches;
+mod choices;
 mod configuration;
 pub mod create;
 mod host_files;
@@ -10,11 +11,12 @@ mod making;
 mod opening;
 mod plan;
 mod step;
-mod tracking;
-pub mod with_revision;
 #[cfg(test)]
 mod tests;
+mod tracking;
+pub mod with_revision;
 
+pub use choices::{Choices, Wanted};
 pub use host_files::HostFiles;
 pub use init::init_opts;
 
