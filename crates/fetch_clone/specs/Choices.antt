@@ -1,6 +1,9 @@
 -- What a clone is asked for beside its place.
-use Rattle.std.specs.Prelude.{◌≡◌, ℕ, List, Option, Some, None, Ok}
+use Rattle.std.specs.Prelude.{◌≡◌, ℕ, List, Option, Some, None, Result, Ok, Err, false, ⊤}
+use Rattle.fetch_specs.specs.Names.{name_trouble}
 use Rattle.fetch_specs.specs.Specs.{Spec}
+use Rattle.fetch_specs.specs.declared.error.NameError.{NameError}
+use Rattle.fetch_specs.specs.declared.error.NameError.TheVariants as names
 use Rattle.fetch_clone.specs.Revisions.{revision_of}
 use Rattle.fetch_clone.specs.declared.choices.Choices.{Choices}
 use Rattle.fetch_clone.specs.declared.choices.Wanted.{Wanted}
@@ -30,3 +33,14 @@ ref_name_chosen before None = without_ref_name before
 abbrev pub ChoosesRevision : Wanted → Option (List ℕ) → Wanted → Type 0
 ChoosesRevision before None now = now ≡ without_revision before
 ChoosesRevision before (Some text) now = (found : Spec) × (revision_of text ≡ Ok found) × (now ≡ Revision found)
+
+-- A text that is a name is refused for want of memory alone; one that isn't is refused with its place; None is never refused.
+abbrev pub IsNameRefusalAt : Option ℕ → NameError → Type 0
+IsNameRefusalAt None e = e ≡ names.NoMemory
+IsNameRefusalAt (Some place) e = e ≡ names.Invalid place
+
+abbrev pub RefNameVerdict : {X Y : Type 0} → Option (List ℕ) → Result X (Y × NameError) → Type 0
+RefNameVerdict None (Ok x) = ⊤
+RefNameVerdict None (Err e) = ⊥
+RefNameVerdict (Some text) (Ok x) = name_trouble false text ≡ None
+RefNameVerdict (Some text) (Err e) = IsNameRefusalAt (name_trouble false text) e.1
