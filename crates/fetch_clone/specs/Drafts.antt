@@ -85,8 +85,12 @@ is_removed draft = if draft.free then is_some draft.repo else false
 abbrev pub IsRemoved : Bool → Option Tree → List ℕ → Option Tree → Type 0
 IsRemoved may_fail before place now = TellsStill before now × (may_fail ≡ false → IfSome before (λ t. IfSome (without_all t (parts_of place)) (λ u. now ≡ Some u)))
 
+abbrev pub IsGivenUpIf : Bool → Bool → Option Tree → List ℕ → Option Tree → Type 0
+IsGivenUpIf true may_fail before place now = IsRemoved may_fail before place now
+IsGivenUpIf false may_fail before place now = now ≡ before
+
 abbrev pub IsGivenUp : Bool → Option Tree → Draft → Option Tree → Type 0
-IsGivenUp may_fail before draft now = if is_removed draft then IsRemoved may_fail before draft.place now else (now ≡ before)
+IsGivenUp may_fail before draft now = IsGivenUpIf (is_removed draft) may_fail before draft.place now
 
 -- ---- builders
 
