@@ -14,8 +14,6 @@ mod opening;
 mod plan;
 mod prepare_fetch;
 mod step;
-#[cfg(test)]
-mod tests;
 mod tracking;
 pub mod with_revision;
 

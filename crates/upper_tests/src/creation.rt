@@ -1,7 +1,7 @@
-//! Tests of creation.
+//! Creation, in memory and on the host.
 
-use crate::create::{self, Error, Kind, Options};
-use crate::host_files::HostFiles;
+use fetch_clone::HostFiles;
+use fetch_clone::create::{self, Error, Kind, Options};
 use fetch_store::{Files, MemoryFiles, Node};
 use std::alloc::Global;
 use std::env;
