@@ -45,6 +45,7 @@ pub use fetch_lookup::{Name, Names, name, push, save};
 pub use open_error::OpenError;
 pub use options::FetchOptions;
 pub use outcome::{Outcome, PackOutcome, Status};
+pub use reload::read_configuration;
 pub use remote::Remote;
 pub use repository::{OpenOptions, Parts, Repository};
 pub use scripted_connect::ScriptedConnect;

@@ -2,6 +2,8 @@
 #![tactic(auto)]
 
 #[cfg(test)]
+mod creation;
+#[cfg(test)]
 mod cuts;
 #[cfg(test)]
 mod deletions;
