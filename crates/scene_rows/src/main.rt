@@ -9,6 +9,7 @@ use std::process::ExitCode;
 use std::thread::Threads;
 
 /// A scene with what it shows.
+#[derive(Clone, Copy)]
 struct Row<'a> {
     about: &'a [u8],
     scene: &'a [u8],
@@ -66,24 +67,22 @@ fn tell_all(
     Ok(if rest.is_empty() { Some(out) } else { None })
 }
 
-/// Reads all rows, and writes what they tell. False where the input isn't rows alone.
-fn tell_input(rt: &HostRuntime) -> io::Result<bool> {
+fn read_all(rt: &HostRuntime) -> io::Result<Vec<u8>> {
     let mut bytes = Vec::new(rt.alloc());
     rt.stdin().read_to_end(&mut bytes)?;
-    match tell_all(rt, rt.alloc(), &bytes) {
-        Ok(Some(out)) => {
-            rt.stdout().write_all(&out)?;
-            Ok(true)
-        }
-        Ok(None) => Ok(false),
-        Err(NoMemory) => Err(io::ErrorKind::OutOfMemory.into()),
-    }
+    Ok(bytes)
 }
 
 fn main(rt: HostRuntime) -> ExitCode {
-    match tell_input(&rt) {
-        Ok(true) => ExitCode::SUCCESS,
-        Ok(false) => ExitCode::from(1),
-        Err(_) => ExitCode::from(2),
+    let Ok(bytes) = read_all(&rt) else {
+        return ExitCode::from(2);
+    };
+    match tell_all(&rt, rt.alloc(), &bytes) {
+        Ok(Some(out)) => match rt.stdout().write_all(&out) {
+            Ok(()) => ExitCode::SUCCESS,
+            Err(_) => ExitCode::from(3),
+        },
+        Ok(None) => ExitCode::from(4),
+        Err(NoMemory) => ExitCode::from(5),
     }
 }
