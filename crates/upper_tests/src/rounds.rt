@@ -169,7 +169,14 @@ fn a_line_of_sixteen_commits(rt: HostRuntime) -> Result<(), Fail> {
 #[test]
 fn a_server_that_is_ready(rt: HostRuntime) -> Result<(), Fail> {
     let alloc = rt.alloc();
-    let report = fetch_beside(&rt, alloc, (TWENTY, COMMITS), CONSECUTIVE, b"", &[READY, REPLY])?;
+    let report = fetch_beside(
+        &rt,
+        alloc,
+        (TWENTY, COMMITS),
+        CONSECUTIVE,
+        b"",
+        &[READY, REPLY],
+    )?;
     let mut wanted = Vec::from_slice(alloc, LISTED)?;
     put_request(&mut wanted, LATER)?;
     wanted.extend_from_slice(b"> 0000\n")?;
