@@ -1,4 +1,4 @@
-use crate::fixture::{GREETING, LISTING, REMOTE, REPLY, fetch, scene};
+use crate::fixture::{GREETING, LISTING, NOTHING, REMOTE, REPLY, fetch, scene};
 use fetch_store::NoMemory;
 use std::alloc::Global;
 use std::test::Fail;
@@ -60,6 +60,13 @@ const SKIPPING: &[u8] = b"002bconfig negotiationAlgorithm = skipping\n";
 
 const NOOP: &[u8] = b"0027config negotiationAlgorithm = noop\n";
 
+/// No haves, and a server with a border of its own is refused.
+const REJECTING: &[u8] =
+    b"0027config negotiationAlgorithm = noop\n0013config [clone]\n0020config rejectShallow = true\n";
+
+/// What a server says of its border before the pack.
+const CUT: &[u8] = b"0011shallow-info\n0035shallow bc6e39d85183dbf480419262896d4ffa452774ab\n0001";
+
 /// What is sent before the fetch requests.
 const LISTED: &[u8] =
     b"> \"git-upload-pack /srv/a.git\\x00\\x00version=2\\x00\"\n> \"command=ls-refs\\n\"\n> \"object-format=sha1\\n\"\n> 0001\n> \"symrefs\\n\"\n> \"peel\\n\"\n> \"unborn\\n\"\n> \"ref-prefix refs/heads/\\n\"\n> 0000\n";
@@ -82,6 +89,7 @@ fn fetch_beside(
     alloc: Global,
     line: (&[u8], &[u8]),
     algorithm: &[u8],
+    options: &[u8],
     replies: &[&[u8]],
 ) -> Result<Vec<u8>, Fail> {
     let mut repository = Vec::from_slice(alloc, HEAD)?;
@@ -91,7 +99,7 @@ fn fetch_beside(
     repository.extend_from_slice(line.1)?;
     let mut pieces = vec![in alloc; GREETING, LISTING]?;
     pieces.extend_from_slice(replies)?;
-    let bytes = scene(alloc, &repository, REMOTE, b"", &pieces)?;
+    let bytes = scene(alloc, &repository, REMOTE, options, &pieces)?;
     let (_, sink) = fetch(rt, alloc, &bytes)?;
     Ok(Vec::from_slice(alloc, sink.bytes())?)
 }
@@ -125,11 +133,11 @@ fn told(alloc: Global, open: &[&[usize]], last: &[usize]) -> Result<Vec<u8>, NoM
 fn a_line_of_twenty_commits(rt: HostRuntime) -> Result<(), Fail> {
     let alloc = rt.alloc();
     let line = (TWENTY, COMMITS);
-    let all = fetch_beside(&rt, alloc, line, CONSECUTIVE, &[NONE, REPLY])?;
+    let all = fetch_beside(&rt, alloc, line, CONSECUTIVE, b"", &[NONE, REPLY])?;
     assert!(rt; all.starts_with(&told(alloc, &[LATER], EARLIER)?));
-    let usual = fetch_beside(&rt, alloc, line, b"", &[NONE, REPLY])?;
+    let usual = fetch_beside(&rt, alloc, line, b"", b"", &[NONE, REPLY])?;
     assert_eq!(rt; usual.as_slice(), all.as_slice());
-    let shared = fetch_beside(&rt, alloc, line, CONSECUTIVE, &[TENTH, REPLY])?;
+    let shared = fetch_beside(&rt, alloc, line, CONSECUTIVE, b"", &[TENTH, REPLY])?;
     assert!(rt; shared.starts_with(&told(alloc, &[LATER], &[10])?));
     Ok(())
 }
@@ -139,9 +147,9 @@ fn a_line_of_twenty_commits(rt: HostRuntime) -> Result<(), Fail> {
 fn other_algorithms(rt: HostRuntime) -> Result<(), Fail> {
     let alloc = rt.alloc();
     let line = (TWENTY, COMMITS);
-    let few = fetch_beside(&rt, alloc, line, SKIPPING, &[REPLY])?;
+    let few = fetch_beside(&rt, alloc, line, SKIPPING, b"", &[REPLY])?;
     assert!(rt; few.starts_with(&told(alloc, &[], &[20, 18, 15, 10, 2, 1])?));
-    let none = fetch_beside(&rt, alloc, line, NOOP, &[REPLY])?;
+    let none = fetch_beside(&rt, alloc, line, NOOP, b"", &[REPLY])?;
     assert!(rt; none.starts_with(&told(alloc, &[], &[])?));
     Ok(())
 }
@@ -152,7 +160,7 @@ fn a_line_of_sixteen_commits(rt: HostRuntime) -> Result<(), Fail> {
     let alloc = rt.alloc();
     let line = (SIXTEEN, FEWER_COMMITS);
     let all = [16, 15, 14, 13, 12, 11, 10, 9, 8, 7, 6, 5, 4, 3, 2, 1];
-    let report = fetch_beside(&rt, alloc, line, CONSECUTIVE, &[NONE, REPLY])?;
+    let report = fetch_beside(&rt, alloc, line, CONSECUTIVE, b"", &[NONE, REPLY])?;
     assert!(rt; report.starts_with(&told(alloc, &[&all], &[])?));
     Ok(())
 }
@@ -161,11 +169,40 @@ fn a_line_of_sixteen_commits(rt: HostRuntime) -> Result<(), Fail> {
 #[test]
 fn a_server_that_is_ready(rt: HostRuntime) -> Result<(), Fail> {
     let alloc = rt.alloc();
-    let report = fetch_beside(&rt, alloc, (TWENTY, COMMITS), CONSECUTIVE, &[READY, REPLY])?;
+    let report = fetch_beside(
+        &rt,
+        alloc,
+        (TWENTY, COMMITS),
+        CONSECUTIVE,
+        b"",
+        &[READY, REPLY],
+    )?;
     let mut wanted = Vec::from_slice(alloc, LISTED)?;
     put_request(&mut wanted, LATER)?;
     wanted.extend_from_slice(b"> 0000\n")?;
     wanted.extend_from_slice(FETCHED)?;
     assert!(rt; report.starts_with(&wanted));
+    Ok(())
+}
+
+/// A border that wasn't sent is refused before the pack is read, in a dry run too; a changed depth takes it.
+#[test]
+fn a_border_of_the_server(rt: HostRuntime) -> Result<(), Fail> {
+    let alloc = rt.alloc();
+    let line = (TWENTY, COMMITS);
+    let mut refused = Vec::from_slice(alloc, LISTED)?;
+    put_request(&mut refused, &[])?;
+    refused.extend_from_slice(b"> \"done\\n\"\n> 0000\n")?;
+    refused.extend_from_slice(
+        b"refused RejectShallowRemote bc6e39d85183dbf480419262896d4ffa452774ab\n",
+    )?;
+    let report = fetch_beside(&rt, alloc, line, REJECTING, b"", &[CUT, NOTHING])?;
+    assert!(rt; report.starts_with(&refused));
+    let dry = b"0013option dry-run\n";
+    let report = fetch_beside(&rt, alloc, line, REJECTING, dry, &[CUT, NOTHING])?;
+    assert!(rt; report.starts_with(&refused));
+    let depth = b"0013option depth 1\n";
+    let report = fetch_beside(&rt, alloc, line, REJECTING, depth, &[CUT, REPLY])?;
+    assert!(rt; report.ends_with(b"ok\n"));
     Ok(())
 }
