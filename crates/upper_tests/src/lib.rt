@@ -2,8 +2,6 @@
 #![tactic(auto)]
 
 #[cfg(test)]
-mod creation;
-#[cfg(test)]
 mod cuts;
 #[cfg(test)]
 mod deletions;
@@ -17,8 +15,6 @@ mod fixture;
 mod keep;
 #[cfg(test)]
 mod refusals;
-#[cfg(test)]
-mod rounds;
 #[cfg(test)]
 mod running;
 #[cfg(test)]
