@@ -5,7 +5,7 @@ import subprocess
 
 from realgit.lines import decoded_text, line_at, text_of
 from realgit.report import read_report
-from realgit.trouble import BAD_INPUT, BAD_WORDS, ENGINE_FAILED, UNBUILT, Trouble
+from realgit.trouble import BAD_INPUT, BAD_WORDS, ENGINE_FAILED, Trouble
 
 PROGRAM = os.path.normpath(os.path.join(os.path.dirname(__file__), "..", "..", "bagjulen"))
 MALFORMED = 4
@@ -25,8 +25,6 @@ class Engine:
             ended = subprocess.run([self.program, "fetch"], input=scene, capture_output=True)
         except OSError as error:
             raise Trouble(ENGINE_FAILED, f"can't run {self.program}: {error.strerror}") from None
-        if ended.returncode == UNBUILT:
-            raise Trouble(UNBUILT, "the engine answers `unbuilt`: this fetch isn't built yet")
         if ended.returncode == MALFORMED:
             raise malformed(scene, decoded_text(ended.stdout).strip())
         if ended.returncode not in (0, 1):

@@ -4,7 +4,7 @@ import re
 from dataclasses import dataclass, field
 
 from realgit.lines import Mark, decoded_text
-from realgit.trouble import BAD_INPUT, UNBUILT, Trouble
+from realgit.trouble import BAD_INPUT, Trouble
 
 MAPPING = re.compile(r"(\d+) (.+?) -> (\(none\)|\S+): (.*?)( \[symbolic-to-direct\])?")
 ESCAPE = re.compile(rb'\\(n|"|\\|x[0-9a-f]{2})')
@@ -74,8 +74,6 @@ def read_report(data):
 
 
 def _no_report(line):
-    if line == "unbuilt":
-        return Trouble(UNBUILT, "the engine answers `unbuilt`: this fetch isn't built yet")
     return Trouble(BAD_INPUT, f"no report: {line[:100]!r}")
 
 

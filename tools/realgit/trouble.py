@@ -9,7 +9,6 @@ BAD_WORDS = 2
 BAD_INPUT = 3
 GIT_REFUSED = 4
 ENGINE_FAILED = 5
-UNBUILT = 6
 # What a shell tells of a program that an interrupt ended.
 INTERRUPTED = 130
 
@@ -20,7 +19,6 @@ statuses:
   3  what they name is no repository, scene or report, or can't be read or written
   4  Git refused
   5  the engine failed
-  6  the engine answers `unbuilt`
 
 Whatever isn't done gets one line on standard error."""
 

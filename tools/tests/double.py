@@ -2,7 +2,7 @@
 """Stands in for the engine in the checks of the tools.
 
 It fetches by one refspec without a star into a name that is absent or up to date. BEHAVIOUR in the environment makes it
-answer `unbuilt` or `malformed`, report a refusal, leave the reference out of its report, tell what it has first, or
+answer `malformed`, report a refusal, leave the reference out of its report, tell what it has first, or
 want what nobody has.
 """
 
@@ -15,7 +15,7 @@ from realgit.lines import Mark, placed_lines, text_of
 from realgit.scene import packs_in, read_scene
 
 BEHAVIOUR = os.environ.get("BEHAVIOUR", "")
-ALONE = {"unbuilt": ("unbuilt", 6), "malformed": ("malformed 12", 4)}
+ALONE = {"malformed": ("malformed 12", 4)}
 
 
 def say(*lines):

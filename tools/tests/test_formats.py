@@ -8,7 +8,7 @@ from realgit.lines import MalformedLine, Mark, encoded, placed_lines
 from realgit.plainpack import MalformedPack, Object, object_id, read_pack, write_pack
 from realgit.report import read_report
 from realgit.scene import read_scene
-from realgit.trouble import BAD_INPUT, UNBUILT, Trouble, read_file
+from realgit.trouble import BAD_INPUT, Trouble, read_file
 
 TOP = os.path.join(os.path.dirname(__file__), "..", "..")
 COMMIT = b"tree 4b825dc642cb6eb9a060e54bf8d69288fbee4904\nauthor A <a@x> 1 +0000\ncommitter A <a@x> 1 +0000\n\none\n"
@@ -103,10 +103,10 @@ ok
         self.assertEqual((report.references, report.border), ({"HEAD": "@refs/heads/b"}, ["11"]))
 
     def test_texts_that_are_no_report(self):
-        for text in (b"unbuilt\n", b"malformed 0\n", b"", b"id 1\n", b"ok\nid 1\n", b'> "a\nok\n', b"map x\nok\n"):
+        for text in (b"malformed 0\n", b"", b"id 1\n", b"ok\nid 1\n", b'> "a\nok\n', b"map x\nok\n"):
             with self.assertRaises(Trouble) as caught:
                 read_report(text)
-            self.assertEqual(caught.exception.status, UNBUILT if text == b"unbuilt\n" else BAD_INPUT)
+            self.assertEqual(caught.exception.status, BAD_INPUT)
 
 
 class Configurations(unittest.TestCase):

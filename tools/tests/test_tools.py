@@ -104,7 +104,6 @@ class Scenes(WithRepositories):
     def test_what_goes_wrong_is_told_in_a_line(self):
         cases = [([self.folder, SPEC], "", 3, "is no repository"), ([self.path("no"), SPEC], "", 3, "there is nothing"),
                  ([self.path("scene"), SPEC], "", 3, "is no bundle"), ([self.server, "--depth"], "", 2, "unrecognized"),
-                 ([self.server, SPEC], "unbuilt", 6, "unbuilt"),
                  ([self.server, SPEC], "malformed", 3, "can't read the line 'hash sha1'")]
         open(self.path("scene"), "w").close()
         for words, behaviour, status, text in cases:
@@ -156,7 +155,7 @@ class Applied(WithRepositories):
 
     def test_what_goes_wrong_is_told_in_a_line(self):
         self.scene(self.server, SPEC)
-        for text, status in [("refused Malformed 0\n", 1), ("unbuilt\n", 6), ("x\n", 3), (f"id {'1' * 40}\nok\n", 3)]:
+        for text, status in [("refused Malformed 0\n", 1), ("x\n", 3), (f"id {'1' * 40}\nok\n", 3)]:
             with open(self.path("report"), "w") as report:
                 report.write(text)
             ended = run("apply-report", self.path("scene"), self.path("report"), self.client)
@@ -170,10 +169,6 @@ class Compared(unittest.TestCase):
         status, out, _ = run("compare-with-git", *DOUBLE, "--level", "plain", "4", "2", behaviour="forgets")
         self.assertEqual(status, 1)
         self.assertIn(b"UNEXPLAINED", out)
-
-    def test_what_is_not_built_is_passed_over(self):
-        status, out, _ = run("compare-with-git", *DOUBLE, "3", behaviour="unbuilt")
-        self.assertEqual((status, out), (0, b"3 pairs of seed 1, level whole:\n     3 unbuilt\n"))
 
     def test_wrong_words(self):
         for words in (["many"], ["-1"], ["1", "2", "3"], ["--level", "none"], ["--first", "x"]):

@@ -9,7 +9,7 @@ use Rattle.fetch_remote.specs.declared.fetch_error.FetchError.TheVariants as err
 use Rattle.fetch_remote.specs.declared.outcome.Outcome.{Outcome}
 use Rattle.fetch_wire.specs.declared.line.Line.{Line}
 use Rattle.fetch_cli.specs.Ends.{IsAll, IsLongerThan}
-use Rattle.fetch_cli.specs.Report.{report_with, report_of, given_of, found_of, stream_of, fetched_by, left_by, IsReport}
+use Rattle.fetch_cli.specs.Report.{report_with, report_of, given_of, found_of, stream_of, fetched_by, left_by, keep_left_by, IsReport}
 use Rattle.fetch_cli.specs.ReportLines.{malformed_line}
 use Rattle.fetch_cli.specs.Run.{Are, IsSceneAnswer, IsInputAnswer, IsAnswerTo, IsAnswer}
 use Rattle.fetch_cli.specs.Scene.{limit, scene_of}
@@ -49,7 +49,7 @@ answers_none input bytes place status text all found is = record { bytes = bytes
 
 -- none of those that the ends and want of memory have
 abbrev pub IsAnswered : ℕ → Type 0
-IsAnswered status = (status ≢ 2) × (status ≢ 3) × (status ≢ 5) × (status ≤ 6)
+IsAnswered status = (status ≢ 2) × (status ≢ 3) × (status ≢ 5) × (status ≤ 5)
 
 answered_by : (wanted status : ℕ) → status ≡ wanted → IsAnswered wanted → IsAnswered status
 answered_by wanted status is h = rw is h
@@ -63,19 +63,15 @@ one_answers = (λ e. cc, λ e. cc, λ e. cc, omega arith)
 four_answers : IsAnswered 4
 four_answers = (λ e. cc, λ e. cc, λ e. cc, omega arith)
 
-six_answers : IsAnswered 6
-six_answers = (λ e. cc, λ e. cc, λ e. cc, omega arith)
-
-answered_with : (sent : List Line) (result : Result (Outcome × State) FetchError) (left : State) → IsAnswered (report_with sent result left).0
-answered_with sent (Ok x) left = zero_answers
-answered_with sent (Err errors.Unbuilt) left = six_answers
-answered_with sent (Err (errors.Prepare e)) left = one_answers
-answered_with sent (Err (errors.Receive e)) left = one_answers
-answered_with sent (Err errors.NoMemory) left = one_answers
+answered_with : (sent : List Line) (result : Result (Outcome × State) FetchError) (left : State) (keep : Option (List ℕ)) → IsAnswered (report_with sent result left keep).0
+answered_with sent (Ok x) left keep = zero_answers
+answered_with sent (Err (errors.Prepare e)) left keep = one_answers
+answered_with sent (Err (errors.Receive e)) left keep = one_answers
+answered_with sent (Err errors.NoMemory) left keep = one_answers
 
 answered_report : (scene : Scene) → IsAnswered (report_of scene).0
 unfolding report_of
-answered_report scene = answered_with (requests_in (given_of scene) (found_of scene) (stream_of scene)) (fetched_by scene) (left_by scene)
+answered_report scene = answered_with (requests_in (given_of scene) (found_of scene) (stream_of scene)) (fetched_by scene) (left_by scene) (keep_left_by scene)
 
 known_report : (scene : Scene) (status : ℕ) (text : List ℕ) → IsReport scene status text → IsAnswered status
 known_report scene status text r = answered_by (report_of scene).0 status (sym (ap (λ (x : ℕ × List ℕ). x.0) r.whole)) (answered_report scene)

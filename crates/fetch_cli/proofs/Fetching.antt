@@ -1,7 +1,10 @@
--- A fetch from a peer and with worktrees that never fail, seen from the whole of what it says.
+-- A fetch from a peer, over files that begin with nothing and with worktrees, none of which ever fail, seen from the whole of what it says.
 use Rattle.std.proofs.Common.{◌≡◌, ◌≢◌, ℕ, Bool, true, false, List, [], ◌++◌, Some, None, Result, Ok, Err, IfOk, IfErr, refl, sym, ap, ◌∙◌, arith, inl, inr}
 use Rattle.std.proofs.lemmas.List.{append-nil}
+use Rattle.std.specs.FinMap as map
 use Rattle.fetch_store.specs.Faults.{Faults, Rose, Counts}
+use Rattle.fetch_store.specs.Paths.{parts_of}
+use Rattle.fetch_store.specs.Trees.{Tree, written}
 use Rattle.fetch_update.specs.declared.update.Error.{Error as UpdateError}
 use Rattle.fetch_update.specs.declared.update.Error.TheVariants as update
 use Rattle.fetch_update.specs.declared.worktrees.Worktree.{Worktree}
@@ -22,6 +25,7 @@ use Rattle.fetch_remote.specs.declared.fetch_error.FetchError.{FetchError}
 use Rattle.fetch_remote.specs.declared.fetch_error.FetchError.TheVariants as errors
 use Rattle.fetch_remote.specs.declared.outcome.Outcome.{Outcome}
 use Rattle.fetch_cli.specs.Fetched.{HasDone, HasRefused, HasRefusedBy, HasFetched}
+use Rattle.fetch_cli.proofs.KeepFiles.{never_unmade}
 
 -- ---- all that the peer says
 
@@ -41,9 +45,9 @@ heard_is a b heard said stream told p =
 same_talk : (a : Talk) (t : Talk) → Some a ≡ Some t → a ≡ t
 same_talk a t e = cc
 
-done : (g : Given) (trees : List Worktree) (before after : State) (outcome : Outcome) (a b : Talk) (stream : List ℕ) → Some a ≡ Some (record { heard = []; given = []; to_come = stream; rule = None })
-    → IsFetched false (Some a) (Some b) (Some trees) g before after outcome → HasDone g trees before stream outcome after b.heard
-done g trees before after outcome a b stream told h =
+done : (g : Given) (trees : List Worktree) (before after : State) (files : Tree) (outcome : Outcome) (a b : Talk) (stream : List ℕ) → Some a ≡ Some (record { heard = []; given = []; to_come = stream; rule = None })
+    → IsFetched false (Some a) (Some b) (Some trees) (Some map.empty) (Some files) g before after outcome → HasDone g trees before stream outcome after b.heard
+done g trees before after files outcome a b stream told h =
     let same = same_talk a _ told in
     let all = whole a b _ h.said stream same h.heard.passed in
     record {
@@ -51,21 +55,24 @@ done g trees before after outcome a b stream told h =
       requests = heard_is a b _ h.said stream same h.heard.passed ∙ rw all (sym (h.heard.same_requests b.to_come));
     }
 
-refused_with : (g : Given) (trees : List Worktree) (before after : State) (e : FetchError) (stream heard bytes : List ℕ) → bytes ≡ heard → RefusesWith g trees before after stream heard e → HasRefused g trees before stream e after bytes
-refused_with g trees before after e stream heard bytes is h = record { fetched = h.refused; left = sym h.left; requests = is ∙ sym h.requests }
+refused_with : (g : Given) (trees : List Worktree) (before after : State) (files : Tree) (e : FetchError) (stream heard bytes : List ℕ) → bytes ≡ heard → RefusesWith g trees before after (Some map.empty) (Some files) stream heard e
+    → HasRefused g trees before stream e after files bytes
+refused_with g trees before after files e stream heard bytes is h = record { fetched = h.refused; left = sym h.left; kept = h.kept.1; requests = is ∙ sym h.requests }
 
-refused_by : (g : Given) (trees : List Worktree) (before after : State) (e : FetchError) (b : Talk) (said heard stream : List ℕ) → stream ≡ said ++ b.to_come → b.heard ≡ heard → IsRefusedBy (Some b) g trees before after said heard e → HasRefused g trees before stream e after b.heard
-refused_by g trees before after e b said heard stream all is (inl every) = rw all (refused_with g trees before after e (said ++ b.to_come) heard b.heard is (every b.to_come))
-refused_by g trees before after e b said heard stream all is (inr last) =
+refused_by : (g : Given) (trees : List Worktree) (before after : State) (files : Tree) (e : FetchError) (b : Talk) (said heard stream : List ℕ) → stream ≡ said ++ b.to_come → b.heard ≡ heard
+    → IsRefusedBy (Some b) g trees before after (Some map.empty) (Some files) said heard e → HasRefused g trees before stream e after files b.heard
+refused_by g trees before after files e b said heard stream all is (inl every) = rw all (refused_with g trees before after files e (said ++ b.to_come) heard b.heard is (every b.to_come))
+refused_by g trees before after files e b said heard stream all is (inr last) =
     let none : stream ≡ said = all ∙ ap (λ (l : List ℕ). said ++ l) last.0 ∙ append-nil said in
-    rw none (refused_with g trees before after e said heard b.heard is last.1)
+    rw none (refused_with g trees before after files e said heard b.heard is last.1)
 
-refused_for : (g : Given) (trees : List Worktree) (before after : State) (e : FetchError) (a b : Talk) (stream : List ℕ) → a ≡ record { heard = []; given = []; to_come = stream; rule = None }
-    → is_free e ≡ false → IsRefused false (Some a) (Some b) (Some trees) g before after e → HasRefused g trees before stream e after b.heard
-refused_for g trees before after e a b stream same sure h =
-    refused_by g trees before after e b h.said h.heard stream (whole a b _ h.said stream same h.passed) (heard_is a b _ h.said stream same h.passed) (rw h.listed_trees at (h.why sure))
+refused_for : (g : Given) (trees : List Worktree) (before after : State) (files : Tree) (e : FetchError) (a b : Talk) (stream : List ℕ) → a ≡ record { heard = []; given = []; to_come = stream; rule = None }
+    → is_free e ≡ false → IsRefused false (Some a) (Some b) (Some trees) (Some map.empty) (Some files) g before after e → HasRefused g trees before stream e after files b.heard
+refused_for g trees before after files e a b stream same sure h =
+    refused_by g trees before after files e b h.said h.heard stream (whole a b _ h.said stream same h.passed) (heard_is a b _ h.said stream same h.passed) (rw h.listed_trees at (h.why sure))
 
--- no fault of the peer or of the worktrees is told, and no yes of the interrupt
+-- No fault of the peer or of the worktrees is told, and no yes of the interrupt. A keep file that couldn't be made has
+-- something in its way, and none couldn't be removed.
 pub record IsCalm (result : Result Outcome FetchError) : Type 0 where
   pub transport : result ≡ Err (errors.Prepare (prepare.RefMap ref_map.Transport)) → ⊥
   pub interrupted : result ≡ Err (errors.Prepare (prepare.RefMap ref_map.Interrupted)) → ⊥
@@ -74,6 +81,8 @@ pub record IsCalm (result : Result Outcome FetchError) : Type 0 where
   pub listing : result ≡ Err (errors.Receive (receive.UpdateRefs update.WorktreeListing)) → ⊥
   pub open_repo : result ≡ Err (errors.Receive (receive.UpdateRefs update.OpenWorktreeRepo)) → ⊥
   pub follow_symref : result ≡ Err (errors.Receive (receive.UpdateRefs update.FollowSymref)) → ⊥
+  pub unmade : (path : List ℕ) → result ≡ Err (errors.Receive (receive.KeepFile path)) → written map.empty (parts_of path) [] ≡ None
+  pub unremoved : (path : List ℕ) → result ≡ Err (errors.Receive (receive.RemovePackKeepFile path)) → ⊥
 
 -- so that the refusal has a cause
 sure_map : (e : RefMapError) → IsCalm (Err (errors.Prepare (prepare.RefMap e))) → is_free (errors.Prepare (prepare.RefMap e)) ≡ false
@@ -98,37 +107,46 @@ sure_judging update.OpenWorktreeRepo c = absurd (c.open_repo refl)
 sure_judging update.FollowSymref c = absurd (c.follow_symref refl)
 sure_judging update.NoMemory c = refl
 
-sure_receiving : (e : ReceiveError) → IsCalm (Err (errors.Receive e)) → is_free (errors.Receive e) ≡ false
-sure_receiving receive.Client c = absurd (c.client refl)
-sure_receiving receive.Interrupted c = absurd (c.stopped refl)
-sure_receiving receive.NoMemory c = refl
-sure_receiving (receive.NoMapping specs count) c = refl
-sure_receiving (receive.IncompatibleObjectHash local remote) c = refl
-sure_receiving (receive.Disconnected link) c = refl
-sure_receiving (receive.RejectShallowRemoteConfig value) c = refl
-sure_receiving (receive.NegotiationAlgorithmConfig value) c = refl
-sure_receiving (receive.PackThreads value) c = refl
-sure_receiving (receive.Fetch e) c = refl
-sure_receiving (receive.RejectShallowRemote id) c = refl
-sure_receiving (receive.Pack e) c = refl
-sure_receiving (receive.Collision id) c = refl
-sure_receiving (receive.KeepFile path) c = refl
-sure_receiving (receive.UpdateRefs e) c = sure_judging e c
-sure_receiving (receive.RemovePackKeepFile path) c = refl
-sure_receiving receive.Unbuilt c = refl
+sure_receiving : (e : ReceiveError) → IsCalm (Err (errors.Receive e)) → ((path : List ℕ) → e ≡ receive.KeepFile path → ⊥) → is_free (errors.Receive e) ≡ false
+sure_receiving receive.Client c k = absurd (c.client refl)
+sure_receiving receive.Interrupted c k = absurd (c.stopped refl)
+sure_receiving receive.NoMemory c k = refl
+sure_receiving (receive.NoMapping specs count) c k = refl
+sure_receiving (receive.IncompatibleObjectHash local remote) c k = refl
+sure_receiving (receive.Disconnected link) c k = refl
+sure_receiving (receive.RejectShallowRemoteConfig value) c k = refl
+sure_receiving (receive.NegotiationAlgorithmConfig value) c k = refl
+sure_receiving (receive.PackThreads value) c k = refl
+sure_receiving (receive.Fetch e) c k = refl
+sure_receiving (receive.RejectShallowRemote id) c k = refl
+sure_receiving (receive.Pack e) c k = refl
+sure_receiving (receive.Collision id) c k = refl
+sure_receiving (receive.KeepFile path) c k = absurd (k path refl)
+sure_receiving (receive.UpdateRefs e) c k = sure_judging e c
+sure_receiving (receive.RemovePackKeepFile path) c k = absurd (c.unremoved path refl)
 
-refused : (g : Given) (trees : List Worktree) (before after : State) (e : FetchError) (a b : Talk) (stream : List ℕ) → Some a ≡ Some (record { heard = []; given = []; to_come = stream; rule = None }) → IsCalm (Err e)
-    → IsRefused false (Some a) (Some b) (Some trees) g before after e → HasRefusedBy g trees before stream e after b.heard
-refused g trees before after errors.NoMemory a b stream told c h = tt
-refused g trees before after errors.Unbuilt a b stream told c h = refused_for g trees before after errors.Unbuilt a b stream (same_talk a _ told) refl h
-refused g trees before after (errors.Prepare e) a b stream told c h = refused_for g trees before after (errors.Prepare e) a b stream (same_talk a _ told) (sure_listing e c) h
-refused g trees before after (errors.Receive e) a b stream told c h = refused_for g trees before after (errors.Receive e) a b stream (same_talk a _ told) (sure_receiving e c) h
+-- what is in the way of a file in a tree that is empty
+pub in_nothing : (t : Tree) (path : List ℕ) → Some t ≡ Some map.empty → written t (parts_of path) [] ≡ None → written map.empty (parts_of path) [] ≡ None
+in_nothing t path same is = let e : t ≡ map.empty = cc in rw e at is
 
-pub fetched : (g : Given) (trees : List Worktree) (before after : State) (a b : Talk) (stream : List ℕ) (result : Result Outcome FetchError) → Some a ≡ Some (record { heard = []; given = []; to_come = stream; rule = None })
-    → IfOk result (λ outcome. IsFetched false (Some a) (Some b) (Some trees) g before after outcome) → IfErr result (λ e. IsRefused false (Some a) (Some b) (Some trees) g before after e)
-    → IsCalm result → HasFetched g trees before stream result after b.heard
-fetched g trees before after a b stream (Ok outcome) told h r c = record { by = done g trees before after outcome a b stream told h }
-fetched g trees before after a b stream (Err e) told h r c = record { by = refused g trees before after e a b stream told c r }
+never_kept : (g : Given) (trees : List Worktree) (before after : State) (files : Tree) (e : ReceiveError) (a b : Talk) → IsCalm (Err (errors.Receive e)) → IsRefused false (Some a) (Some b) (Some trees) (Some map.empty) (Some files) g before after (errors.Receive e)
+    → (path : List ℕ) → e ≡ receive.KeepFile path → ⊥
+never_kept g trees before after files e a b c h path is =
+    let m = h.counted.making path (ap (λ (x : ReceiveError). errors.Receive x) is) in
+    never_unmade g m.told path m.keep (c.unmade path (ap (λ (x : ReceiveError). Err (errors.Receive x)) is))
+
+refused : (g : Given) (trees : List Worktree) (before after : State) (files : Tree) (e : FetchError) (a b : Talk) (stream : List ℕ) → Some a ≡ Some (record { heard = []; given = []; to_come = stream; rule = None }) → IsCalm (Err e)
+    → IsRefused false (Some a) (Some b) (Some trees) (Some map.empty) (Some files) g before after e → HasRefusedBy g trees before stream e after files b.heard
+refused g trees before after files errors.NoMemory a b stream told c h = tt
+refused g trees before after files (errors.Prepare e) a b stream told c h = refused_for g trees before after files (errors.Prepare e) a b stream (same_talk a _ told) (sure_listing e c) h
+refused g trees before after files (errors.Receive e) a b stream told c h =
+    refused_for g trees before after files (errors.Receive e) a b stream (same_talk a _ told) (sure_receiving e c (never_kept g trees before after files e a b c h)) h
+
+pub fetched : (g : Given) (trees : List Worktree) (before after : State) (files : Tree) (a b : Talk) (stream : List ℕ) (result : Result Outcome FetchError) → Some a ≡ Some (record { heard = []; given = []; to_come = stream; rule = None })
+    → IfOk result (λ outcome. IsFetched false (Some a) (Some b) (Some trees) (Some map.empty) (Some files) g before after outcome) → IfErr result (λ e. IsRefused false (Some a) (Some b) (Some trees) (Some map.empty) (Some files) g before after e)
+    → IsCalm result → HasFetched g trees before stream result after files b.heard
+fetched g trees before after files a b stream (Ok outcome) told h r c = record { by = done g trees before after files outcome a b stream told h }
+fetched g trees before after files a b stream (Err e) told h r c = record { by = refused g trees before after files e a b stream told c r }
 
 -- a count that rose, where none is possible
 pub no_fault : (before now : Faults) → before ≡ record { count = 0; possible = false } → Counts before now → Rose before now → ⊥

@@ -7,6 +7,7 @@ pub mod ReferenceLines
 pub mod Gathered
 pub mod TextLines
 pub mod Opening
+pub mod KeepFiles
 pub mod Fetching
 pub mod HeardLines
 pub mod Reported

@@ -1,9 +1,12 @@
 -- The requests of a fetch are lines that fit, and are read back as they were written.
-use Rattle.std.proofs.Common.{◌≡◌, ℕ, Bool, true, false, if◌then◌else◌, List, [], ◌∷◌, ◌++◌, Option, Some, None, Result, Ok, Err, map, codes, refl, ap, ◌∙◌}
+use Rattle.std.proofs.Common.{◌≡◌, ℕ, zero, suc, Bool, true, false, if◌then◌else◌, List, [], ◌∷◌, ◌++◌, Option, Some, None, Result, Ok, Err, map, codes, refl, ap, ◌∙◌}
 use Rattle.std.specs.Prelude.{⊤}
+use Rattle.std.specs.FinMap as finmap
 use Rattle.std.specs.List.{list_all}
 use Rattle.std.specs.Option.{option_or}
+use Rattle.fetch_store.specs.Graph.{Graph, graph_of}
 use Rattle.fetch_store.specs.declared.id.ObjectId.{ObjectId}
+use Rattle.fetch_negotiate.specs.declared.algorithm.Algorithm.{Algorithm}
 use Rattle.fetch_wire.specs.Awaited.{told_at}
 use Rattle.fetch_wire.specs.declared.awaited.Await.{Await}
 use Rattle.fetch_wire.specs.declared.awaited.Await.TheVariants as awaits
@@ -19,8 +22,10 @@ use Rattle.fetch_wire.specs.Requests.{first_line, listing_lines, listing_word, h
 use Rattle.fetch_wire.specs.Written.{too_long_in, first_too_long}
 use Rattle.fetch_negotiate.specs.Requests.{Asked, fetch_request, head_of, asked_of, pack_word}
 use Rattle.fetch_conversation.specs.Conversation.{Conversation, ends, asks, asking, asks_unless, sent_in, after_reply, told_as, and_then}
-use Rattle.fetch_conversation.specs.ConverseStage.{TermsValue, converse_stage, wanting, fetching, replied, asked_by, reply_to}
-use Rattle.fetch_conversation.specs.ConverseStage as converse
+use Rattle.fetch_conversation.specs.ConverseStage.{converse_stage, wanting, fetching, algorithm_in}
+use Rattle.fetch_conversation.specs.Exchange.{TermsValue, asked_by, reply_to, replied, exchange}
+use Rattle.fetch_conversation.specs.Exchange as exchanging
+use Rattle.fetch_conversation.specs.Rounds.{CourseValue, first_course, next_window, course_after, negotiating}
 use Rattle.fetch_conversation.specs.ListStage.{InquiryValue, ListedValue, list_stage, inquiry_stage, greeted, listing, listed, unless, unlisted, unsendable, no_specs, prefixes_asked}
 use Rattle.fetch_conversation.specs.ListStage as list
 use Rattle.fetch_remote.specs.Errors.{preparing, receiving}
@@ -160,25 +165,39 @@ fit_list bound q =
     (fit_asking list.too_long (first_line q.address q.options.handshake_parameters ∷ []) awaits.Greeting (list.failed bound) (λ t. greeted bound q t)
     (first_sent q.address q.options.handshake_parameters) (λ t. fit_greeted bound q t)))
 
-fit_replied : (t : TermsValue) (x : Told) → IsFit (replied t x)
-fit_replied t (told.Reply reply) = fit_ends _
-fit_replied t (told.Greeting h) = fit_ends _
-fit_replied t (told.Advertisement h refs) = fit_ends _
-fit_replied t (told.Listing refs) = fit_ends _
+fit_replied : (x : Told) → IsFit (replied x)
+fit_replied (told.Reply reply) = fit_ends _
+fit_replied (told.Greeting h) = fit_ends _
+fit_replied (told.Advertisement h refs) = fit_ends _
+fit_replied (told.Listing refs) = fit_ends _
 
-fit_wanting : (bound : ℕ) (t : TermsValue) (wants : List ObjectId) → IsFit (wanting bound t wants)
+fit_exchange : (bound : ℕ) (t : TermsValue) (haves : List ObjectId) (done : Bool) → IsFit (exchange bound t haves done)
+unfolding exchange
+fit_exchange bound t haves done =
+    fit_asking exchanging.too_long (fetch_request (asked_by t) haves done) (awaits.Reply (reply_to t haves done)) (exchanging.failed bound) (λ x. replied x) (fetch_sent (asked_by t) haves done) (λ x. fit_replied x)
+
+fit_either : {X E : Type 0} (b : Bool) (c d : Conversation X E) → IsFit c → IsFit d → IsFit (if b then c else d)
+fit_either true c d h k = h
+fit_either false c d h k = k
+
+fit_negotiating : (more bound : ℕ) (t : TermsValue) (g : Graph) (algorithm : Algorithm) (c : CourseValue) → IsFit (negotiating more bound t g algorithm c)
+unfolding negotiating
+fit_negotiating zero bound t g algorithm c = fit_ends _
+fit_negotiating (suc more) bound t g algorithm c =
+    fit_then _ _ (fit_exchange bound t _ _) (λ reply. fit_either _ _ _ (fit_ends _) (fit_negotiating more bound t g algorithm (course_after algorithm c (next_window g algorithm c) reply)))
+
+fit_wanting : (bound : ℕ) (g : Graph) (t : TermsValue) (wants : List ObjectId) → IsFit (wanting bound g t wants)
 unfolding fetching
-fit_wanting bound t [] = fit_ends _
-fit_wanting bound t (id ∷ ids) =
-    fit_asking converse.too_long (fetch_request (asked_by t) [] true) (awaits.Reply (reply_to t)) (converse.failed bound) (λ x. replied t x) (fetch_sent (asked_by t) [] true) (λ x. fit_replied t x)
+fit_wanting bound g t [] = fit_ends _
+fit_wanting bound g t (id ∷ ids) = fit_then _ _ (fit_negotiating (suc (finmap.len g)) bound t g (algorithm_in t.settings) (first_course (algorithm_in t.settings) t.view)) (λ n. fit_ends _)
 
-fit_converse : (bound : ℕ) (t : TermsValue) → IsFit (converse_stage bound t)
+fit_converse : (bound : ℕ) (g : Graph) (t : TermsValue) → IsFit (converse_stage bound g t)
 unfolding converse_stage
-fit_converse bound t = fit_unless _ _ (fit_wanting bound t t.view.wants)
+fit_converse bound g t = fit_unless _ _ (fit_wanting bound g t t.view.wants)
 
 fit_receiving : (g : Given) (s : State) (l : ListedValue) → IsFit (receiving_stage g s l)
 unfolding receiving_stage
-fit_receiving g s l = fit_then _ _ (fit_told receiving _ (fit_converse (bound_of g) (terms_in g s l))) (λ r. fit_ends _)
+fit_receiving g s l = fit_then _ _ (fit_told receiving _ (fit_converse (bound_of g) (graph_of s.objects) (terms_in g s l))) (λ r. fit_ends _)
 
 fit_conversation : (g : Given) (s : State) → IsFit (conversation g s)
 unfolding conversation

@@ -14,6 +14,7 @@ pub mod MapLines
 pub mod Words
 pub mod Tokens
 pub mod Heard
+pub mod KeepFiles
 pub mod Report
 pub mod Opened
 pub mod Fetched

@@ -14,8 +14,9 @@ use Rattle.fetch_wire.specs.declared.line.Line.{Line}
 use Rattle.fetch_wire.specs.declared.mapping.Mapping.{Mapping}
 use Rattle.fetch_update.specs.declared.update.Outcome.{Outcome as Updates}
 use Rattle.fetch_update.specs.declared.update.Update.{Update}
-use Rattle.fetch_remote.specs.Fetching.{fetched_in, requests_in, left_in}
+use Rattle.fetch_remote.specs.Fetching.{fetched_in, requests_in, left_in, keep_left_in}
 use Rattle.fetch_remote.specs.Form.{Given}
+use Rattle.fetch_remote.specs.Keeping.{keep_in}
 use Rattle.fetch_remote.specs.Remotes.{nameless}
 use Rattle.fetch_remote.specs.Repositories.{State, logging_of}
 use Rattle.fetch_remote.specs.declared.fetch_error.FetchError.{FetchError}
@@ -89,6 +90,10 @@ requests_of s = lines_text (requests_in (given_of s) (found_of s) (stream_of s))
 abbrev pub left_by : Scene → State
 left_by s = left_in (given_of s) (found_of s) (stream_of s)
 
+-- the keep file that a refusal leaves
+abbrev pub keep_left_by : Scene → Option (List ℕ)
+keep_left_by s = keep_left_in (given_of s) (found_of s) (stream_of s)
+
 -- ---- the lines of a report
 
 abbrev pub sent_lines : List Line → List ℕ
@@ -125,10 +130,6 @@ abbrev pub updates_of : Status → Updates
 updates_of (statuses.NoPackReceived dry_run negotiate updates) = updates
 updates_of (statuses.Change negotiate pack updates) = updates
 
-abbrev pub keep_path_of : Status → Option (List ℕ)
-keep_path_of (statuses.NoPackReceived dry_run negotiate updates) = None
-keep_path_of (statuses.Change negotiate pack updates) = pack.keep_path
-
 -- the keep file, where one stays
 abbrev pub keep_lines : Option (List ℕ) → List ℕ
 keep_lines None = []
@@ -136,39 +137,35 @@ keep_lines (Some path) = keep_line path
 
 unfoldable pub done_text : List Line → Outcome → State → List ℕ
 done_text sent outcome after =
-    sent_lines sent ++ map_lines outcome.ref_map.mappings (updates_of outcome.status).updates ++ state_lines after ++ keep_lines (keep_path_of outcome.status) ++ codes "ok\n"
+    sent_lines sent ++ map_lines outcome.ref_map.mappings (updates_of outcome.status).updates ++ state_lines after ++ keep_lines (keep_in outcome.status) ++ codes "ok\n"
 
-unfoldable pub refused_text : List Line → FetchError → State → List ℕ
-refused_text sent e left = sent_lines sent ++ refused_line (token e) ++ state_lines left
-
-unfoldable pub unbuilt_line : List ℕ
-unbuilt_line = codes "unbuilt\n"
+unfoldable pub refused_text : List Line → FetchError → State → Option (List ℕ) → List ℕ
+refused_text sent e left keep = sent_lines sent ++ refused_line (token e) ++ state_lines left ++ keep_lines keep
 
 -- ---- the report
 
--- the status, and the report with these lines sent
-abbrev pub report_with : List Line → Result (Outcome × State) FetchError → State → ℕ × List ℕ
-report_with sent (Ok x) left = (0, done_text sent x.0 x.1)
-report_with sent (Err errors.Unbuilt) left = (6, unbuilt_line)
-report_with sent (Err (errors.Prepare e)) left = (1, refused_text sent (errors.Prepare e) left)
-report_with sent (Err (errors.Receive e)) left = (1, refused_text sent (errors.Receive e) left)
-report_with sent (Err errors.NoMemory) left = (1, refused_text sent errors.NoMemory left)
+-- the status, and the report with these lines sent; a refusal left this state and this keep file
+abbrev pub report_with : List Line → Result (Outcome × State) FetchError → State → Option (List ℕ) → ℕ × List ℕ
+report_with sent (Ok x) left keep = (0, done_text sent x.0 x.1)
+report_with sent (Err (errors.Prepare e)) left keep = (1, refused_text sent (errors.Prepare e) left keep)
+report_with sent (Err (errors.Receive e)) left keep = (1, refused_text sent (errors.Receive e) left keep)
+report_with sent (Err errors.NoMemory) left keep = (1, refused_text sent errors.NoMemory left keep)
 
 -- what was answered, with the state that was left
 abbrev pub beside : State → Result Outcome FetchError → Result (Outcome × State) FetchError
 beside left (Ok outcome) = Ok (outcome, left)
 beside left (Err e) = Err e
 
--- the report of a fetch that answered this, left this state, and whose peer heard these bytes
-pub record Tells (old new : List ℕ) (status : ℕ) (result : Result Outcome FetchError) (left : State) (heard : List ℕ) : Type 0 where
+-- the report of a fetch that answered this, left this state and this keep file, and whose peer heard these bytes
+pub record Tells (old new : List ℕ) (status : ℕ) (result : Result Outcome FetchError) (left : State) (keep : Option (List ℕ)) (heard : List ℕ) : Type 0 where
   pub text : List ℕ
-  pub is : report_with (lines_heard heard) (beside left result) left ≡ (status, text)
+  pub is : report_with (lines_heard heard) (beside left result) left keep ≡ (status, text)
   pub known : result ≢ Err errors.NoMemory
   pub added : new ≡ old ++ text
 
 -- the report of a scene: the requests for all that its peer says were sent
 unfoldable pub report_of : Scene → ℕ × List ℕ
-report_of s = report_with (requests_in (given_of s) (found_of s) (stream_of s)) (fetched_by s) (left_by s)
+report_of s = report_with (requests_in (given_of s) (found_of s) (stream_of s)) (fetched_by s) (left_by s) (keep_left_by s)
 
 -- The status and the text are the report of the scene.
 pub record IsReport (s : Scene) (status : ℕ) (text : List ℕ) : Type 0 where

@@ -99,11 +99,9 @@ receive_token (receive.Collision id) = keeping (codes "Collision") (hex_of id)
 receive_token (receive.KeepFile path) = keeping (codes "KeepFile") path
 receive_token (receive.UpdateRefs e) = update_token e
 receive_token (receive.RemovePackKeepFile path) = keeping (codes "RemovePackKeepFile") path
-receive_token receive.Unbuilt = codes "Unbuilt"
 receive_token receive.NoMemory = codes "NoMemory"
 
 unfoldable pub token : FetchError → List ℕ
 token (errors.Prepare e) = prepare_token e
 token (errors.Receive e) = receive_token e
-token errors.Unbuilt = codes "Unbuilt"
 token errors.NoMemory = codes "NoMemory"

@@ -6,7 +6,8 @@ ghost use Rattle.fetch_wire.specs.Written.{lines_text};
 ghost use Rattle.fetch_wire.specs.declared.line.Line.{Line};
 ghost use Rattle.fetch_cli.specs.Heard.{AreSent, lines_heard};
 ghost use Rattle.fetch_remote.specs.Fetching.{requests_in};
-ghost use Rattle.fetch_cli.specs.Report.{given_of, found_of, stream_of, requests_of};
+ghost use Rattle.fetch_remote.specs.Valid.{IsValidInput};
+ghost use Rattle.fetch_cli.specs.Report.{given_of, found_of, stream_of, requests_of, IsReport};
 ghost use Rattle.fetch_cli.specs.declared.scene.Scene.{Scene};
 ghost use Rattle.fetch_cli.specs.SceneConfig.{AreLines, IsOneOf, text_of, file_in};
 
@@ -29,4 +30,9 @@ pub fn lines_are_heard_as_written()
 /// Where all requests of a scene were sent, its report tells each line of them.
 pub fn a_report_tells_the_requests()
     ensures { (scene : Scene) → lines_heard (requests_of scene) ≡ requests_in (given_of scene) (found_of scene) (stream_of scene) }
+{}
+
+/// The report of a scene with valid input tells a fetch that was done.
+pub fn a_valid_scene_is_fetched()
+    ensures { (scene : Scene) (status : ℕ) (text : List ℕ) → IsValidInput (given_of scene) scene.worktrees (found_of scene) (stream_of scene) → IsReport scene status text → status ≡ 0 }
 {}

@@ -8,7 +8,7 @@ mod scene;
 
 pub use laws::{
     a_configuration_has_the_lines_of_its_scene, a_configuration_is_broken_at_a_line_of_its_scene,
-    a_report_tells_the_requests, lines_are_heard_as_written,
+    a_report_tells_the_requests, a_valid_scene_is_fetched, lines_are_heard_as_written,
 };
 pub use program::ends::{Sink, Source};
 pub use program::input::{MAX_SCENE, ReadError, read_all};

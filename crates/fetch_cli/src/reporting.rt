@@ -1,16 +1,18 @@
 //! The report of a scene.
 
 pub mod heard;
+mod keep_files;
 pub mod lines;
 pub mod map_lines;
 pub mod setting;
 pub mod state_lines;
 pub mod tokens;
 
-ghost use Rattle.std.specs.Prelude.{◌≡◌, ◌++◌, IfOk, OnOk};
+ghost use Rattle.std.specs.Prelude.{◌≡◌, ◌++◌, false, IfOk, OnOk};
 ghost use Rattle.std.specs.List.{concat};
 ghost use Rattle.std.specs.Option.{option_copied};
 ghost use Rattle.fetch_store.specs.Stores.{AreOf};
+ghost use Rattle.fetch_remote.specs.Keeping.{keep_in};
 ghost use Rattle.fetch_remote.specs.Repositories.{state_of, setup_of};
 ghost use Rattle.fetch_cli.specs.Fetched.{HasFetched};
 ghost use Rattle.fetch_cli.specs.Heard.{lines_heard};
@@ -20,6 +22,7 @@ ghost use Rattle.fetch_cli.specs.ReportLines.{refused_line};
 ghost use Rattle.fetch_cli.specs.Tokens.{token};
 
 use crate::reporting::heard::append_heard;
+use crate::reporting::keep_files::first_kept;
 use crate::reporting::lines::{append_keep, append_refused};
 use crate::reporting::map_lines::append_map;
 use crate::reporting::setting::{Setting, set_up};
@@ -27,7 +30,7 @@ use crate::reporting::state_lines::append_state;
 use crate::reporting::tokens::append_token;
 use crate::scene::Scene;
 use fetch_remote::{FetchError, Outcome, Repository, Status};
-use fetch_store::{List, MemoryFiles, NoMemory, Text};
+use fetch_store::{Files, List, MemoryFiles, NoMemory, Text};
 use fetch_update::{ScriptedWorktrees, Update, update};
 use fetch_wire::{Mapping, ScriptedInterrupt, ScriptedPeer};
 use std::alloc::Global;
@@ -41,10 +44,12 @@ pub(crate) struct Fetched {
     peer: ScriptedPeer,
 }
 
-/// Fetches as it is set up, from a peer and with worktrees that never fail.
-fn fetch<R: Threads + Sync>(rt: &R, alloc: Global, setting: Setting) -> Fetched
-    ensures { HasFetched (record { remote = setting.remote; options = setting.options; setup = setup_of setting.repo }) setting.worktrees (state_of setting.repo) (concat setting.pieces)
-        result.result (state_of result.repo) result.peer.heard }
+/// Fetches as it is set up, from a peer, with files and worktrees that never fail; and gives the files back, too.
+fn fetch<R: Threads + Sync>(rt: &R, alloc: Global, setting: Setting) -> (Fetched, MemoryFiles)
+    ensures fetched { HasFetched (record { remote = setting.remote; options = setting.options; setup = setup_of setting.repo }) setting.worktrees (state_of setting.repo) (concat setting.pieces)
+        result.0.result (state_of result.0.repo) result.1.tree result.0.peer.heard }
+    ensures setup { setup_of result.0.repo ≡ setup_of setting.repo }
+    ensures calm { ⟦<MemoryFiles as Files>⟧.may_fail result.1 ≡ false }
 {
     let Setting {
         repo,
@@ -68,7 +73,7 @@ fn fetch<R: Threads + Sync>(rt: &R, alloc: Global, setting: Setting) -> Fetched
         &mut worktrees,
         options,
     );
-    Fetched { result, repo, peer }
+    (Fetched { result, repo, peer }, files)
 }
 
 /// The line of an update, where its mapping is there.
@@ -109,19 +114,26 @@ fn updates_of(status: &Status) -> &update::Outcome
     }
 }
 
+/// The line of a keep file, where there is one.
+fn append_keep_at(out: &mut Vec<u8>, path: &Option<Text>) -> Result<(), NoMemory>
+    ensures { OnOk result (out.new.items ≡ out.old.items ++ spec.keep_lines path.now) }
+{
+    match path {
+        Some(path) => append_keep(out, path.as_bytes()),
+        None => Ok(()),
+    }
+}
+
 /// The keep file, where one stays.
 fn append_keep_of(out: &mut Vec<u8>, status: &Status) -> Result<(), NoMemory>
-    ensures { OnOk result (out.new.items ≡ out.old.items ++ spec.keep_lines (spec.keep_path_of status.now)) }
+    ensures { OnOk result (out.new.items ≡ out.old.items ++ spec.keep_lines (keep_in status.now)) }
 {
     match status {
         Status::NoPackReceived { .. } => Ok(()),
         Status::Change {
             write_pack_bundle,
             ..
-        } => match &write_pack_bundle.keep_path {
-            Some(path) => append_keep(out, path.as_bytes()),
-            None => Ok(()),
-        },
+        } => append_keep_at(out, &write_pack_bundle.keep_path),
     }
 }
 
@@ -163,25 +175,19 @@ fn append_refused_fetch(
     heard: &[u8],
     refusal: &FetchError,
     repo: &Repository,
+    keep: &Option<Text>,
 ) -> Result<(), NoMemory>
-    ensures { OnOk result (out.new.items ≡ out.old.items ++ spec.refused_text (lines_heard heard.now) refusal.now (state_of repo.now)) }
+    ensures { OnOk result (out.new.items ≡ out.old.items ++ spec.refused_text (lines_heard heard.now) refusal.now (state_of repo.now) keep.now) }
 {
     append_heard(out, heard)?;
     append_refusal(out, refusal)?;
-    append_state(out, repo)
+    append_state(out, repo)?;
+    append_keep_at(out, keep)
 }
 
-#[tactic(auto, unfolding(crate::specs::Report::unbuilt_line))]
-fn append_unbuilt(out: &mut Vec<u8>) -> Result<(), NoMemory>
-    ensures { OnOk result (out.new.items ≡ out.old.items ++ spec.unbuilt_line) }
-{
-    out.extend_from_slice(b"unbuilt\n")?;
-    Ok(())
-}
-
-/// The report of a fetch, and its status.
-fn append_report(out: &mut Vec<u8>, fetched: &Fetched) -> Result<u8, NoMemory>
-    ensures { IfOk result (λ status. spec.Tells out.old.items out.new.items status fetched.now.result (state_of fetched.now.repo) fetched.now.peer.heard) }
+/// The report of a fetch, and its status. At a refusal it left this keep file.
+fn append_report(out: &mut Vec<u8>, fetched: &Fetched, keep: &Option<Text>) -> Result<u8, NoMemory>
+    ensures { IfOk result (λ status. spec.Tells out.old.items out.new.items status fetched.now.result (state_of fetched.now.repo) keep.now fetched.now.peer.heard) }
 {
     let heard = fetched.peer.heard();
     match &fetched.result {
@@ -189,20 +195,16 @@ fn append_report(out: &mut Vec<u8>, fetched: &Fetched) -> Result<u8, NoMemory>
             append_done(out, heard, outcome, &fetched.repo)?;
             Ok(0)
         }
-        Err(FetchError::Unbuilt) => {
-            append_unbuilt(out)?;
-            Ok(6)
-        }
         Err(FetchError::NoMemory) => Err(NoMemory),
         Err(refusal) => {
-            append_refused_fetch(out, heard, refusal, &fetched.repo)?;
+            append_refused_fetch(out, heard, refusal, &fetched.repo, keep)?;
             Ok(1)
         }
     }
 }
 
-/// Fetches as a scene says, and puts the report behind what is there: its status, which is 0 where the fetch was done, 1
-/// where it was refused, and 6 where it isn't built yet. After an error a part of the report may stand there.
+/// Fetches as a scene says, and puts the report behind what is there: its status, which is 0 where the fetch was done and
+/// 1 where it was refused. After an error a part of the report may stand there.
 ///
 /// The objects of the scene are of its hash, as those that are read are.
 pub fn report<R: Threads + Sync>(
@@ -215,6 +217,7 @@ pub fn report<R: Threads + Sync>(
     ensures { IfOk result (λ status. Reports scene out.old.items out.new.items status) }
 {
     let setting = set_up(alloc, scene)?;
-    let fetched = fetch(rt, alloc, setting);
-    append_report(out, &fetched)
+    let (fetched, files) = fetch(rt, alloc, setting);
+    let keep = first_kept(alloc, files, fetched.repo.git_dir())?;
+    append_report(out, &fetched, &keep)
 }

@@ -8,7 +8,6 @@ use Rattle.fetch_wire.specs.declared.awaited.Fault.{Fault}
 use Rattle.fetch_wire.specs.declared.awaited.Fault.TheVariants as faults
 use Rattle.fetch_wire.specs.declared.awaited.Told.{Told}
 use Rattle.fetch_wire.specs.declared.awaited.Told.TheVariants as told
-use Rattle.fetch_wire.specs.declared.error.WireError.{WireError}
 use Rattle.fetch_wire.specs.declared.error.WireError.TheVariants as wire
 use Rattle.fetch_wire.specs.declared.handshake.Handshake.{Handshake}
 use Rattle.fetch_wire.specs.declared.line.Line.{Line}
@@ -17,13 +16,13 @@ use Rattle.fetch_wire.specs.declared.records.FetchReply.{FetchReply}
 use Rattle.fetch_wire.specs.declared.reference.Ref.{Ref}
 use Rattle.fetch_wire.specs.Awaited.{told_at, told_from}
 use Rattle.fetch_wire.specs.Greetings.{offers}
-use Rattle.fetch_wire.specs.Intakes.{resting, awaiting, told_with}
+use Rattle.fetch_wire.specs.Intakes.{resting, told_with}
 use Rattle.fetch_wire.specs.Requests.{listing_lines}
-use Rattle.fetch_wire.specs.SessionStates.{SessionState, fed, opened, after_told, read_one, rests, asks, listing_by, listing_feature, failing}
+use Rattle.fetch_wire.specs.SessionStates.{SessionState, fed, opened, after_told, read_one, rests, asks, listing_by, listing_feature}
 use Rattle.fetch_wire.specs.Written.{line_text, lines_text, first_too_long}
 use Rattle.fetch_conversation.specs.Conversation.{Conversation, ends, sent_in, answer_in, after_reply, asks_unless}
 use Rattle.fetch_conversation.specs.Conversation as tree
-use Rattle.fetch_conversation.specs.ListStage.{InquiryValue, ListedValue, prefixes_asked, handshaking, too_long, failed, unless, mapped, other_reply, listed, listing, greeted}
+use Rattle.fetch_conversation.specs.ListStage.{InquiryValue, ListedValue, prefixes_asked, handshaking, too_long, failed, unless, listed, listing, greeted}
 use Rattle.fetch_conversation.specs.Listing.{found_in}
 use Rattle.fetch_conversation.specs.declared.prepare.Error.{Error}
 use Rattle.fetch_conversation.proofs.AwaitedTold.{TellsRefs, listing_tells}

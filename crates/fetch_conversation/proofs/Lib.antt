@@ -10,5 +10,9 @@ pub mod Inquired
 pub mod Replied
 pub mod Listings
 pub mod Requests
+pub mod Exchanged
+pub mod Held
+pub mod Told
+pub mod Ending
 pub mod Fetches
 pub mod Turns

@@ -1,6 +1,5 @@
 -- The first stage is held.
-use Rattle.std.proofs.Common.{◌≡◌, ◌≢◌, ℕ, Bool, true, false, List, [], ◌∷◌, ◌++◌, map, Option, Some, None, Result, Ok, Err, refl, sym, ap, ◌∙◌, subst}
-use Rattle.std.specs.Option.{option_map}
+use Rattle.std.proofs.Common.{◌≡◌, ◌≢◌, ℕ, Bool, true, false, List, [], ◌∷◌, map, Option, Some, None, Result, Ok, Err, refl, sym, ap, ◌∙◌, subst}
 use Rattle.fetch_specs.specs.Conflicts.{conflicts_of}
 use Rattle.fetch_specs.specs.Matches.{mappings_of}
 use Rattle.fetch_specs.specs.declared.conflict.Conflict.{Conflict}
@@ -9,20 +8,19 @@ use Rattle.fetch_wire.specs.SessionStates.{SessionState, IsAlike, fed, opened}
 use Rattle.fetch_wire.specs.Stepping.{read_within}
 use Rattle.fetch_wire.specs.Lines.{line_at}
 use Rattle.fetch_wire.specs.Talks.{Talk}
-use Rattle.fetch_wire.specs.Written.{lines_text, first_too_long}
+use Rattle.fetch_wire.specs.Written.{first_too_long}
 use Rattle.fetch_wire.specs.declared.error.WireError.{WireError}
 use Rattle.fetch_wire.specs.declared.error.WireError.TheVariants as wire
 use Rattle.fetch_wire.specs.declared.handshake.Handshake.{Handshake}
 use Rattle.fetch_wire.specs.declared.line.Line.{Line}
-use Rattle.fetch_wire.specs.declared.mapping.RefMap.{RefMap}
 use Rattle.fetch_wire.specs.declared.reference.Ref.{Ref}
 use Rattle.fetch_wire.specs.References.{name_in}
 use Rattle.fetch_wire.proofs.Conversing.{same}
 use Rattle.fetch_conversation.specs.Conversation.{Conversation, ends, sent_in, answer_in, Concludes, RefusesWith, Converses}
-use Rattle.fetch_conversation.specs.Drives.{IsDrivable, Finishes, Stops, with_heard}
+use Rattle.fetch_conversation.specs.Drives.{IsDrivable, Finishes, Stops}
 use Rattle.fetch_conversation.specs.Errors.{is_free_listing, prepare_of, prepare_of_wire, prepare_of_stop}
 use Rattle.fetch_conversation.specs.Listing.{IsOpened, TellsUnopened, Answers, TellsConflicts, TellsUntold, found_in, first_of}
-use Rattle.fetch_conversation.specs.ListStage.{InquiryValue, ListedValue, prefixes_asked, all_specs, handshaking, too_long, no_specs, unsendable, mapped, mapped_unless, map_of, inquiry_stage, list_stage, answer_shown, left_by, shown, is_nil}
+use Rattle.fetch_conversation.specs.ListStage.{InquiryValue, ListedValue, prefixes_asked, all_specs, handshaking, too_long, no_specs, mapped, mapped_unless, map_of, inquiry_stage, list_stage, answer_shown, left_by, shown, is_nil}
 use Rattle.fetch_conversation.specs.declared.drive.Stop.{Stop}
 use Rattle.fetch_conversation.specs.declared.drive.Stop.TheVariants as stops
 use Rattle.fetch_conversation.specs.declared.listing.Listed.{Listed}

@@ -1,5 +1,5 @@
 -- A session to which a request was given is that of a question.
-use Rattle.std.proofs.Common.{◌≡◌, ◌≢◌, ℕ, Bool, true, false, List, [], ◌∷◌, ◌++◌, Option, Some, None, Result, Ok, Err, refl, sym, ap, ◌∙◌, subst, append_assoc}
+use Rattle.std.proofs.Common.{◌≡◌, ℕ, Bool, List, [], ◌++◌, Option, Some, None, Result, Ok, Err, refl, sym, ap, ◌∙◌, subst}
 use Rattle.std.proofs.lemmas.List.{append-nil}
 use Rattle.fetch_wire.specs.declared.awaited.AskedReply.{AskedReply}
 use Rattle.fetch_wire.specs.declared.awaited.Await.TheVariants as awaits
@@ -18,14 +18,12 @@ use Rattle.fetch_wire.specs.declared.records.Request.{Request}
 use Rattle.fetch_wire.specs.declared.reference.Ref.{Ref}
 use Rattle.fetch_wire.specs.Awaited.{told_at, told_from, step_of}
 use Rattle.fetch_wire.specs.FetchReplies.{no_reply}
-use Rattle.fetch_wire.specs.Intakes.{Intake, told_with, taking}
-use Rattle.fetch_wire.specs.Intakes as intakes
+use Rattle.fetch_wire.specs.Intakes.{told_with}
 use Rattle.fetch_wire.specs.RequestLines.{request_lines}
-use Rattle.fetch_wire.specs.SessionStates.{SessionState, IsAlike, fed, requested, asked_by, after_told, read_one, rests, asks, error_of}
+use Rattle.fetch_wire.specs.SessionStates.{SessionState, fed, requested, asked_by, after_told, read_one, rests, asks, error_of}
 use Rattle.fetch_wire.specs.StepLaws.{IsSettled, with_more, read_by-more}
 use Rattle.fetch_wire.specs.Written.{lines_text}
 use Rattle.fetch_wire.proofs.Conversing.{fed_is}
-use Rattle.fetch_wire.proofs.SessionAlike.{stays_alike}
 use Rattle.fetch_conversation.specs.Conversation.{Conversation, ends, sent_in, answer_in, after_reply, beside}
 use Rattle.fetch_conversation.specs.Conversation as tree
 use Rattle.fetch_conversation.specs.Conversing.{found_in}
@@ -35,7 +33,7 @@ use Rattle.fetch_conversation.proofs.AwaitedTold.{TellsReply, reply_tells}
 use Rattle.fetch_conversation.proofs.Tied.{answer_of, answer_by, at_rest, IsTied}
 
 -- a session that awaits the reply, and this came of it
-abbrev reply_state : SessionState → ℕ → AskedReply → List ℕ → SessionState
+abbrev pub reply_state : SessionState → ℕ → AskedReply → List ℕ → SessionState
 reply_state s bound asked bytes = record s { intake = record { bound = bound; place = 0; pending = bytes; reading = Some (reading.Reply asked parts.Beginning no_reply) } }
 
 -- behind a reply nothing is asked
@@ -80,10 +78,10 @@ pieces_by s bound asked pending others (Err faults.TooLong) well is tells = then
 pieces_by s bound asked pending others (Err (faults.Said text)) well is tells = then_told s bound asked pending others (Err (faults.Said text)) is (λ p e. cc)
 
 -- what is to be sent of a request, before its reply is read
-abbrev asking_state : SessionState → Request → SessionState
+abbrev pub asking_state : SessionState → Request → SessionState
 asking_state s r = record s { outgoing = lines_text (request_lines r); reply = None }
 
-fed_requested : (s : SessionState) (r : Request) (read_pack : Bool) (stream : List ℕ) → s.trouble ≡ None
+pub fed_requested : (s : SessionState) (r : Request) (read_pack : Bool) (stream : List ℕ) → s.trouble ≡ None
     → fed (requested s r read_pack) stream ≡ read_one rests (reply_state (asking_state s r) s.intake.bound (asked_by s r read_pack) (s.intake.pending ++ stream))
 fed_requested s r read_pack stream well =
     let bound : ℕ = s.intake.bound in

@@ -1,5 +1,5 @@
 -- A conversation that is a session's: both send the same, and end the same.
-use Rattle.std.proofs.Common.{◌≡◌, ◌≢◌, ℕ, Bool, true, false, List, [], ◌∷◌, ◌++◌, Option, Some, None, Result, Ok, Err, refl, sym, ap, ◌∙◌, subst, append_assoc, inl, inr}
+use Rattle.std.proofs.Common.{◌≡◌, ◌≢◌, ℕ, Bool, true, false, List, [], ◌++◌, Option, Some, None, Result, Ok, Err, refl, sym, ap, ◌∙◌, subst, append_assoc, inl, inr}
 use Rattle.std.specs.Prelude.{is_some}
 use Rattle.std.proofs.lemmas.List.{append-nil}
 use Rattle.fetch_wire.specs.declared.awaited.Fault.{Fault}
@@ -12,14 +12,14 @@ use Rattle.fetch_wire.specs.declared.records.FetchReply.{FetchReply}
 use Rattle.fetch_wire.specs.declared.reference.Ref.{Ref}
 use Rattle.fetch_wire.specs.Intakes.{Intake, told_with, taking}
 use Rattle.fetch_wire.specs.Intakes as intakes
-use Rattle.fetch_wire.specs.SessionStates.{SessionState, IsAlike, fed, ended, error_of, after_told, read_one, rests, asks}
-use Rattle.fetch_wire.specs.Talks.{Talk, Talks, IsDrained, IsFront, Talks-none}
+use Rattle.fetch_wire.specs.SessionStates.{SessionState, IsAlike, fed, error_of, after_told, read_one, rests, asks}
+use Rattle.fetch_wire.specs.Talks.{Talk, Talks, Talks-none}
 use Rattle.fetch_wire.specs.Written.{lines_text}
 use Rattle.fetch_wire.proofs.Conversing.{fed_is}
 use Rattle.fetch_wire.proofs.SessionAlike.{stays_alike}
 use Rattle.fetch_wire.proofs.SessionPieces.{pieces, stuck}
 use Rattle.fetch_conversation.specs.Conversation.{Conversation, sent_in, answer_in, beside, Concludes, RefusesWith, IsRefusedBy, Breaks}
-use Rattle.fetch_conversation.specs.Drives.{with_heard, GoesOn, Finishes, Refuses, Stops}
+use Rattle.fetch_conversation.specs.Drives.{with_heard, Finishes, Refuses, Stops}
 use Rattle.fetch_conversation.specs.declared.drive.Stop.{Stop}
 use Rattle.fetch_conversation.specs.declared.drive.Stop.TheVariants as stops
 use Rattle.fetch_conversation.proofs.Driven.{resting, end_is, trouble_at_end, same_outgoing}

@@ -1,25 +1,21 @@
 -- The second stage of a fetch: a pack is asked for and read.
-use Rattle.std.specs.Prelude.{ℕ, Bool, true, false, not, ◌&&◌, ◌||◌, ◌==◌, List, [], ◌∷◌, ◌++◌, length, Option, Some, None, Result, Ok, Err, codes, is_none, unwrap_or, if◌then◌else◌}
-use Rattle.std.specs.List.{list_any, list_all}
-use Rattle.std.specs.Option.{option_or}
+use Rattle.std.specs.Prelude.{ℕ, suc, Bool, true, false, not, ◌&&◌, ◌||◌, ◌==◌, List, [], ◌∷◌, ◌++◌, length, find, Option, Some, None, Result, Ok, Err, codes, unwrap_or, if◌then◌else◌}
+use Rattle.std.specs.FinMap as map
+use Rattle.std.specs.FinSet as set
+use Rattle.std.specs.List.{list_any}
+use Rattle.std.specs.Option.{option_or, option_map}
 use Rattle.fetch_pack.specs.Reading.{Contents, read}
 use Rattle.fetch_pack.specs.declared.error.PackError.{PackError}
 use Rattle.fetch_store.specs.Borders.{IdSet, ids_of}
+use Rattle.fetch_store.specs.Graph.{Graph}
 use Rattle.fetch_store.specs.declared.id.Kind.{Kind}
 use Rattle.fetch_store.specs.declared.id.Kind.TheVariants.{Sha1, Sha256}
 use Rattle.fetch_store.specs.declared.id.ObjectId.{ObjectId}
 use Rattle.fetch_specs.specs.Specs.{Spec}
 use Rattle.fetch_specs.specs.declared.operation.Mode.{Mode}
 use Rattle.fetch_specs.specs.declared.operation.Mode.TheVariants as modes
-use Rattle.fetch_specs.specs.declared.tags.Tags.{Tags}
 use Rattle.fetch_wire.specs.Greetings.{offers, has_word, value_of}
 use Rattle.fetch_wire.specs.RequestWords.{plain_pack, plain_pack_2}
-use Rattle.fetch_wire.specs.SessionStates.{error_of}
-use Rattle.fetch_wire.specs.declared.awaited.AskedReply.{AskedReply}
-use Rattle.fetch_wire.specs.declared.awaited.Await.TheVariants as awaits
-use Rattle.fetch_wire.specs.declared.awaited.Fault.{Fault}
-use Rattle.fetch_wire.specs.declared.awaited.Told.{Told}
-use Rattle.fetch_wire.specs.declared.awaited.Told.TheVariants as told
 use Rattle.fetch_wire.specs.declared.error.WireError.TheVariants as wire
 use Rattle.fetch_wire.specs.declared.handshake.Capability.{Capability}
 use Rattle.fetch_wire.specs.declared.handshake.Handshake.{Handshake}
@@ -27,32 +23,21 @@ use Rattle.fetch_wire.specs.declared.handshake.Version.{Version}
 use Rattle.fetch_wire.specs.declared.handshake.Version.TheVariants as versions
 use Rattle.fetch_wire.specs.declared.mapping.RefMap.{RefMap}
 use Rattle.fetch_wire.specs.declared.records.FetchReply.{FetchReply}
-use Rattle.fetch_negotiate.specs.Requests.{Asked, fetch_request}
 use Rattle.fetch_negotiate.specs.declared.algorithm.Algorithm.{Algorithm}
 use Rattle.fetch_negotiate.specs.declared.algorithm.Algorithm.TheVariants as algorithms
-use Rattle.fetch_negotiate.specs.declared.algorithm.Round.{Round}
 use Rattle.fetch_negotiate.specs.declared.algorithm.Shallow.{Shallow}
 use Rattle.fetch_negotiate.specs.declared.algorithm.Shallow.TheVariants as depth
-use Rattle.fetch_conversation.specs.Conversation.{Conversation, ends, asking}
+use Rattle.fetch_conversation.specs.Conversation.{Conversation, ends, and_then}
 use Rattle.fetch_conversation.specs.Errors.{fetch_of_pack}
-use Rattle.fetch_conversation.specs.ListStage.{ListedValue, is_nil, unless}
-use Rattle.fetch_conversation.specs.ReadSettings.{agent_of, rejects_shallow_of, algorithm_of_config, threads_of}
+use Rattle.fetch_conversation.specs.Exchange.{TermsValue}
+use Rattle.fetch_conversation.specs.ListStage.{is_nil, unless}
+use Rattle.fetch_conversation.specs.ReadSettings.{rejects_shallow_of, algorithm_of_config, threads_of}
+use Rattle.fetch_conversation.specs.Rounds.{Negotiated, first_course, negotiating}
 use Rattle.fetch_conversation.specs.declared.conversing.Received.{Received}
 use Rattle.fetch_conversation.specs.declared.conversing.View.{View}
-use Rattle.fetch_conversation.specs.declared.negotiate.Negotiate.{Negotiate}
 use Rattle.fetch_conversation.specs.declared.settings.Settings.{Settings}
 use Rattle.fetch_conversation.specs.declared.fetch.Error.{Error}
 use Rattle.fetch_conversation.specs.declared.fetch.Error.TheVariants as errors
-
--- What the stage goes by: what was listed, the repository's settings and what it shows, what is done with tags, how the
--- depth is to change, and whether nothing is to be changed.
-pub record TermsValue : Type 0 where
-  pub listed : ListedValue
-  pub settings : Settings
-  pub view : View
-  pub tags : Tags
-  pub shallow : Shallow
-  pub dry_run : Bool
 
 -- ---- refusals before anything is sent, also where nothing is wanted
 
@@ -99,20 +84,12 @@ abbrev pub unread_as : {X : Type 0} → (List ℕ → Error) → Result X (List 
 unread_as refusal (Ok x) = None
 unread_as refusal (Err value) = Some (refusal value)
 
--- Rounds aren't built yet: an algorithm that tells what is there.
-abbrev pub unbuilt_rounds : Result Algorithm (List ℕ) → Option Error
-unbuilt_rounds (Ok algorithms.Noop) = None
-unbuilt_rounds (Ok algorithms.Consecutive) = Some errors.Unbuilt
-unbuilt_rounds (Ok algorithms.Skipping) = Some errors.Unbuilt
-unbuilt_rounds (Err value) = None
-
--- the first of the settings that can't be read, or else that isn't built
+-- the first of the settings that can't be read
 abbrev pub unfit : Settings → Option Error
 unfit s =
     option_or (unread_as errors.RejectShallowRemoteConfig (rejects_shallow_of s.config)) (
-    option_or (unread_as errors.NegotiationAlgorithmConfig (algorithm_of_config s.config s.lenient)) (
-    option_or (unread_as errors.PackThreads (threads_of s.config s.lenient))
-    (unbuilt_rounds (algorithm_of_config s.config s.lenient))))
+    option_or (unread_as errors.NegotiationAlgorithmConfig (algorithm_of_config s.config s.lenient))
+    (unread_as errors.PackThreads (threads_of s.config s.lenient)))
 
 unfoldable pub fetch_feature : List ℕ
 fetch_feature = codes "fetch"
@@ -159,65 +136,68 @@ lacked h border_needed =
 abbrev pub lacking : TermsValue → Option Error
 lacking t = lacked t.listed.handshake (needs_shallow t)
 
--- ---- the conversation
+-- ---- what the rounds bring
 
-abbrev pub too_long : ℕ → Error
-too_long length = errors.Fetch (wire.LineTooLong length)
-
--- what is wrong with a reply
-abbrev pub failed : ℕ → Fault → Error
-failed bound fault = errors.Fetch (error_of bound fault)
-
--- what the request is made of
-abbrev pub asked_by : TermsValue → Asked
-asked_by t = record { handshake = t.listed.handshake; agent = agent_of t.settings.config; tags = t.tags; shallow = t.shallow; border = t.view.border; wants = t.view.wants }
-
--- one request, which says nothing of what is there
-abbrev pub only_round : Round
-only_round = record { haves = []; acknowledged = []; done = true }
-
-abbrev pub only_rounds : Negotiate
-only_rounds = record { rounds = only_round ∷ [] }
-
--- what a reply changes of the border, beside a pack that holds this
-abbrev pub with_pack : FetchReply → Contents → Received
-with_pack reply c = record { negotiate = only_rounds; objects = c.objects; shallow = reply.shallow; unshallow = reply.unshallow; pack = Some (c.count, c.digest) }
+-- the pack beside the rounds, where it holds this
+abbrev pub with_pack : Negotiated → Contents → Received
+with_pack n c = record { negotiate = record { rounds = n.rounds }; objects = c.objects; shallow = n.reply.shallow; unshallow = n.reply.unshallow; pack = Some (c.count, c.digest) }
 
 -- the same where no pack is read
-abbrev pub without_pack : FetchReply → Received
-without_pack reply = record { negotiate = only_rounds; objects = []; shallow = reply.shallow; unshallow = reply.unshallow; pack = None }
+abbrev pub without_pack : Negotiated → Received
+without_pack n = record { negotiate = record { rounds = n.rounds }; objects = []; shallow = n.reply.shallow; unshallow = n.reply.unshallow; pack = None }
 
-abbrev pub unpacked : FetchReply → Result Contents PackError → Result (Option Received) Error
-unpacked reply (Ok c) = Ok (Some (with_pack reply c))
-unpacked reply (Err e) = Err (fetch_of_pack e)
+abbrev pub unpacked : Negotiated → Result Contents PackError → Result (Option Received) Error
+unpacked n (Ok c) = Ok (Some (with_pack n c))
+unpacked n (Err e) = Err (fetch_of_pack e)
 
--- what a reply brings: in a dry run no pack is read
-unfoldable pub received : TermsValue → FetchReply → Result (Option Received) Error
-received t reply = if t.dry_run then Ok (Some (without_pack reply)) else unpacked reply (read t.listed.handshake.object_hash (unwrap_or reply.pack []))
+-- whether a server with a border of its own is refused
+abbrev pub is_rejecting : Result Bool (List ℕ) → Bool
+is_rejecting (Ok rejects) = rejects
+is_rejecting (Err value) = false
 
--- a reply of another kind than the one that is awaited; none tells it
-abbrev pub other_reply : Error
-other_reply = errors.Fetch (wire.Malformed 0)
+-- the first commit of a border that isn't in this one
+abbrev pub first_outside : IdSet → List ObjectId → Option ObjectId
+first_outside border shallow = find (λ id. not (set.contains border id)) shallow
 
-abbrev pub replied : TermsValue → Told → Conversation (Option Received) Error
-replied t (told.Reply reply) = ends (received t reply)
-replied t (told.Greeting h) = ends (Err other_reply)
-replied t (told.Advertisement h refs) = ends (Err other_reply)
-replied t (told.Listing refs) = ends (Err other_reply)
+-- A server whose history is cut off where that of the request isn't is refused, where the settings say so and the depth
+-- isn't to change.
+abbrev pub rejected : Settings → View → Shallow → FetchReply → Option Error
+rejected settings view shallow reply =
+    if is_rejecting (rejects_shallow_of settings.config) && is_no_change shallow then option_map (λ id. errors.RejectShallowRemote id) (first_outside view.border reply.shallow) else None
 
--- the reply that is awaited: in a dry run up to the pack
-abbrev pub reply_to : TermsValue → AskedReply
-reply_to t = record { kind = t.listed.handshake.object_hash; haves = []; done = true; read_pack = not t.dry_run }
+abbrev pub result_unless : {X E : Type 0} → Option E → Result X E → Result X E
+result_unless None r = r
+result_unless (Some e) r = Err e
 
--- the fetch request, and the reply
-unfoldable pub fetching : ℕ → TermsValue → Conversation (Option Received) Error
-fetching bound t = asking too_long (fetch_request (asked_by t) [] true) (awaits.Reply (reply_to t)) (failed bound) (λ x. replied t x)
+-- what is read of the last reply: in a dry run no pack
+abbrev pub read_of : Kind → Bool → Negotiated → Result (Option Received) Error
+read_of kind dry_run n = if dry_run then Ok (Some (without_pack n)) else unpacked n (read kind (unwrap_or n.reply.pack []))
+
+-- what the rounds bring; a border that is refused comes before the pack
+unfoldable pub received : TermsValue → Negotiated → Result (Option Received) Error
+received t n = result_unless (rejected t.settings t.view t.shallow n.reply) (read_of t.listed.handshake.object_hash t.dry_run n)
+
+-- ---- the conversation
+
+-- how commits are chosen; a setting that can't be read is refused before
+abbrev pub algorithm_told : Result Algorithm (List ℕ) → Algorithm
+algorithm_told (Ok algorithm) = algorithm
+algorithm_told (Err value) = algorithms.Consecutive
+
+abbrev pub algorithm_in : Settings → Algorithm
+algorithm_in s = algorithm_told (algorithm_of_config s.config s.lenient)
+
+-- the rounds, and what they bring
+unfoldable pub fetching : ℕ → Graph → TermsValue → Conversation (Option Received) Error
+fetching bound g t =
+    let algorithm : Algorithm = algorithm_in t.settings in
+    and_then (negotiating (suc (map.len g)) bound t g algorithm (first_course algorithm t.view)) (λ n. ends (received t n))
 
 -- nothing is asked for where nothing is wanted
-abbrev pub wanting : ℕ → TermsValue → List ObjectId → Conversation (Option Received) Error
-wanting bound t [] = ends (Ok None)
-wanting bound t (id ∷ ids) = fetching bound t
+abbrev pub wanting : ℕ → Graph → TermsValue → List ObjectId → Conversation (Option Received) Error
+wanting bound g t [] = ends (Ok None)
+wanting bound g t (id ∷ ids) = fetching bound g t
 
--- the whole stage
-unfoldable pub converse_stage : ℕ → TermsValue → Conversation (Option Received) Error
-converse_stage bound t = unless (option_or (no_mapping t) (option_or (other_hash t) (option_or (unfit t.settings) (lacking t)))) (wanting bound t t.view.wants)
+-- the whole stage, over the objects that are stored
+unfoldable pub converse_stage : ℕ → Graph → TermsValue → Conversation (Option Received) Error
+converse_stage bound g t = unless (option_or (no_mapping t) (option_or (other_hash t) (option_or (unfit t.settings) (lacking t)))) (wanting bound g t t.view.wants)

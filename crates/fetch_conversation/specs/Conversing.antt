@@ -1,20 +1,32 @@
 -- How a pack is asked for and read, step by step.
-use Rattle.std.specs.Prelude.{◌≡◌, ◌≢◌, ℕ, Bool, true, false, List, [], ◌∷◌, Option, Some, None, Result, Ok, Err, ⊤, unwrap_or, not, if◌then◌else◌}
-use Rattle.fetch_pack.specs.Reading.{read}
-use Rattle.fetch_store.specs.declared.id.Kind.{Kind}
+use Rattle.std.specs.Prelude.{◌≡◌, ◌≢◌, ℕ, suc, Bool, false, List, Option, Some, None, Result, Ok, Err, ⊤, not}
+use Rattle.fetch_store.specs.declared.id.ObjectId.{ObjectId}
+use Rattle.fetch_store.specs.Graph.{Graph}
 use Rattle.fetch_wire.specs.declared.records.FetchReply.{FetchReply}
+use Rattle.fetch_negotiate.specs.Any.{so_far_of}
 use Rattle.fetch_negotiate.specs.Requests.{fetch_request}
+use Rattle.fetch_negotiate.specs.declared.algorithm.Algorithm.{Algorithm}
 use Rattle.fetch_wire.specs.RequestLines.{request_lines}
 use Rattle.fetch_wire.specs.SessionStates.{SessionState, IsAlike, requested}
 use Rattle.fetch_wire.specs.SessionStates as session
+use Rattle.fetch_wire.specs.Talks.{Talk}
 use Rattle.fetch_wire.specs.Written.{first_too_long}
 use Rattle.fetch_wire.specs.declared.records.Request.{Request}
-use Rattle.fetch_conversation.specs.Conversation.{ends}
-use Rattle.fetch_conversation.specs.ConverseStage.{TermsValue, asked_by, reply_to, without_pack, unpacked, other_reply, unmapped, unlike, unfit, lacked, is_border_needed, converse_stage}
+use Rattle.fetch_conversation.specs.Conversation.{ends, Concludes, Breaks}
+use Rattle.fetch_conversation.specs.ConverseStage.{unmapped, unlike, unfit, lacked, is_border_needed, converse_stage}
 use Rattle.fetch_conversation.specs.Errors.{is_free_receiving, is_client, is_stopped}
-use Rattle.fetch_conversation.specs.declared.conversing.Received.{Received}
+use Rattle.fetch_conversation.specs.Exchange.{TermsValue, asked_by, haves_told, reply_to, other_reply, exchange}
+use Rattle.fetch_conversation.specs.ListStage.{ListedValue}
+use Rattle.fetch_conversation.specs.Rounds.{CourseValue, Negotiated, next_window, is_short, is_end, rounds_with, course_after, negotiating}
+use Rattle.fetch_conversation.specs.declared.conversing.Terms.{Terms}
 use Rattle.fetch_conversation.specs.declared.fetch.Error.{Error}
 use Rattle.fetch_conversation.specs.declared.fetch.Error.TheVariants as errors
+use Rattle.fetch_conversation.specs.declared.negotiate.Negotiate.{Negotiate}
+use Rattle.fetch_conversation.specs.declared.rounds.Course.{Course}
+
+-- what a pack is asked for by, which was lent
+abbrev pub terms_told : ListedValue → Terms → TermsValue
+terms_told l t = record { listed = l; settings = t.settings.now; view = t.view.now; tags = t.tags; shallow = t.shallow.now; dry_run = t.dry_run }
 
 -- a refusal is told, or want of memory in its place; where there is none, nothing is refused
 abbrev pub Tells : {T : Type 0} → Option Error → Result T Error → Type 0
@@ -32,25 +44,53 @@ pub record IsClear (t : TermsValue) : Type 0 where
 
 -- The stage is this refusal, unless it is a free one.
 abbrev pub IsRefusal : TermsValue → Error → Type 0
-IsRefusal t e = is_free_receiving e ≡ false → (bound : ℕ) → converse_stage bound t ≡ ends (Err e)
+IsRefusal t e = is_free_receiving e ≡ false → (bound : ℕ) (g : Graph) → converse_stage bound g t ≡ ends (Err e)
 
 -- neither a fault of the peer nor a yes of the interrupt
 abbrev pub IsOwn : Error → Type 0
 IsOwn e = (is_client e ≡ false) × (is_stopped e ≡ false)
 
--- what a reply brings; in a dry run no pack is read
-abbrev pub received_of : Kind → Bool → FetchReply → Result (Option Received) Error
-received_of kind dry_run reply = if dry_run then Ok (Some (without_pack reply)) else unpacked reply (read kind (unwrap_or reply.pack []))
+-- ---- one request
+
+-- The request with these haves is to be sent, and its reply is awaited.
+pub record IsAsked (t : TermsValue) (haves : List ObjectId) (done : Bool) (before now : SessionState) : Type 0 where
+  pub request : Request
+  pub lines : request_lines request ≡ fetch_request (asked_by t) haves done
+  pub reply : session.asked_by before request (not t.dry_run) ≡ reply_to t haves done
+  pub fits : first_too_long (fetch_request (asked_by t) haves done) ≡ None
+  pub is : IsAlike now (requested before request (not t.dry_run))
 
 -- what is found, once the reply is there
 abbrev pub found_in : {X : Type 0} → (FetchReply → Result X Error) → Option FetchReply → Result X Error
 found_in f None = Err other_reply
 found_in f (Some reply) = f reply
 
--- The request is to be sent, and its reply is awaited.
-pub record IsAsked (t : TermsValue) (before now : SessionState) : Type 0 where
-  pub request : Request
-  pub lines : request_lines request ≡ fetch_request (asked_by t) [] true
-  pub reply : session.asked_by before request (not t.dry_run) ≡ reply_to t
-  pub fits : first_too_long (fetch_request (asked_by t) [] true) ≡ None
-  pub is : IsAlike now (requested before request (not t.dry_run))
+-- the reply that a session keeps once a request was answered
+abbrev pub reply_of : {T : Type 0} → Result T Error → Option FetchReply → Result FetchReply Error
+reply_of (Ok x) reply = found_in Ok reply
+reply_of (Err e) reply = Err e
+
+-- ---- the rounds
+
+abbrev pub course_of : Course → CourseValue
+course_of c = record { so_far = so_far_of c.negotiator; shared = c.shared.items; rounds = c.rounds; size = c.size }
+
+-- A round was held: the request of its window was answered by the reply that is kept, and it is told whether that ends
+-- the rounds.
+pub record IsHeld (answers : Bool) (bound : ℕ) (old new : Option Talk) (pending rest : List ℕ) (t : TermsValue) (g : Graph) (algorithm : Algorithm) (c now : CourseValue) (stored : Option FetchReply) (last : Bool) : Type 0 where
+  pub reply : FetchReply
+  pub kept : stored ≡ Some reply
+  pub held : Concludes answers bound old new pending (exchange bound t (haves_told c.shared (next_window g algorithm c).haves) (is_short c (next_window g algorithm c))) reply rest
+  pub ends : last ≡ is_end c (next_window g algorithm c) reply
+  pub rounds : now.rounds ≡ rounds_with c (next_window g algorithm c) reply
+  pub goes : last ≡ false → now ≡ course_after algorithm c (next_window g algorithm c) reply
+
+-- A round is held, or the rounds break off.
+abbrev pub Holds : Bool → ℕ → Option Talk → Option Talk → List ℕ → List ℕ → TermsValue → Graph → Algorithm → CourseValue → CourseValue → Option FetchReply → Result Bool Error → Type 0
+Holds answers bound old new pending rest t g algorithm c now kept (Ok last) = IsHeld answers bound old new pending rest t g algorithm c now kept last
+Holds answers bound old new pending rest t g algorithm c now kept (Err e) = (more : ℕ) → Breaks is_free_receiving answers bound old new pending (negotiating (suc more) bound t g algorithm c) e
+
+-- what the rounds end with, the reply being the one that a session keeps
+abbrev pub negotiated_of : Result Negotiate Error → Option FetchReply → Result Negotiated Error
+negotiated_of (Ok n) reply = found_in (λ r. Ok (record { rounds = n.rounds; reply = r })) reply
+negotiated_of (Err e) reply = Err e

@@ -1,5 +1,5 @@
 -- How an inner refusal is told by an outer call, and which refusals have a count or nothing in place of a cause.
-use Rattle.std.specs.Prelude.{ℕ, Bool, true, false, List}
+use Rattle.std.specs.Prelude.{Bool, true, false}
 use Rattle.fetch_pack.specs.declared.error.PackError.{PackError}
 use Rattle.fetch_pack.specs.declared.error.PackError.TheVariants as pack
 use Rattle.fetch_update.specs.declared.update.Error.{Error as UpdateError}
@@ -122,7 +122,6 @@ is_client (fetch.Collision id) = false
 is_client (fetch.KeepFile path) = false
 is_client (fetch.UpdateRefs e) = false
 is_client (fetch.RemovePackKeepFile path) = false
-is_client fetch.Unbuilt = false
 is_client fetch.NoMemory = false
 
 -- a yes of the interrupt
@@ -142,7 +141,6 @@ is_stopped (fetch.Collision id) = false
 is_stopped (fetch.KeepFile path) = false
 is_stopped (fetch.UpdateRefs e) = false
 is_stopped (fetch.RemovePackKeepFile path) = false
-is_stopped fetch.Unbuilt = false
 is_stopped fetch.NoMemory = false
 
 -- A free refusal has no cause in the conversation: want of memory has none at all, and a fault and a yes have a count.
@@ -163,4 +161,3 @@ is_free_receiving (fetch.Fetch e) = false
 is_free_receiving (fetch.RejectShallowRemote id) = false
 is_free_receiving (fetch.Pack e) = false
 is_free_receiving (fetch.Collision id) = false
-is_free_receiving fetch.Unbuilt = false

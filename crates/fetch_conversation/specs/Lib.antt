@@ -3,8 +3,11 @@ pub mod ConverseStage
 pub mod Conversing
 pub mod Drives
 pub mod Errors
+pub mod Exchange
 pub mod ListStage
 pub mod Listing
 pub mod Mapped
 pub mod ReadSettings
+pub mod Requested
+pub mod Rounds
 pub mod Served

@@ -1,5 +1,5 @@
 -- Which references of a remote go where.
-use Rattle.std.specs.Prelude.{ℕ, ◌-◌, nat_lt, Bool, List, map, slice_get, Option, Some, option_and_then, if◌then◌else◌}
+use Rattle.std.specs.Prelude.{ℕ, ◌-◌, nat_lt, List, map, slice_get, Option, Some, option_and_then, if◌then◌else◌}
 use Rattle.std.specs.List.{filter_map}
 use Rattle.std.specs.Option.{option_map}
 use Rattle.fetch_store.specs.declared.id.Kind.{Kind}

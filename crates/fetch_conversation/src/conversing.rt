@@ -1,28 +1,25 @@
 //! Asking for the pack, and reading it.
 
-ghost use Rattle.std.specs.Prelude.{◌≡◌, [], true, IfErr, IfOk, IfSome, OnOk, IsErrOf};
+ghost use Rattle.std.specs.Prelude.{◌≡◌, IfErr, IfOk, IfSome, OnOk, IsErrOf};
 ghost use Rattle.fetch_store.specs.Faults.{Rose, Counts};
 ghost use Rattle.fetch_store.specs.Stores.{AreOf};
 ghost use Rattle.fetch_conversation.specs.Conversation.{Converses};
-ghost use Rattle.fetch_conversation.specs.ConverseStage.{TermsValue, asked_by, converse_stage};
-ghost use Rattle.fetch_conversation.specs.Conversing.{IsAsked, IsClear, IsRefusal, IsOwn};
-ghost use Rattle.fetch_negotiate.specs.Requests.{fetch_request};
-ghost use Rattle.fetch_wire.specs.Written.{first_too_long, TellsTooLong};
+ghost use Rattle.fetch_conversation.specs.ConverseStage.{converse_stage};
+ghost use Rattle.fetch_conversation.specs.Conversing.{IsClear, IsRefusal, IsOwn, terms_told};
 ghost use Rattle.fetch_conversation.specs.Errors.{is_free_receiving};
 ghost use Rattle.fetch_conversation.specs.ListStage.{IsReady, shown, pending_of};
 ghost use Rattle.fetch_conversation.specs.declared.fetch.Error.TheVariants as errors;
 
 use crate::copies::copied_ids;
-use crate::drive::drive;
 use crate::fetch;
 use crate::listing::Listed;
 use crate::negotiate::Negotiate;
 use crate::progress::Progress;
-use crate::reading_settings::agent;
-use crate::receiving::{received, tell, thread_count};
+use crate::receiving::{received, tell};
 use crate::refusals::{refuse_lacking, refuse_other_hash, refuse_settings, refuse_unmapped};
+use crate::rounds::negotiate;
 use crate::settings::Settings;
-use fetch_negotiate::{Shallow, request_of};
+use fetch_negotiate::Shallow;
 use fetch_specs::Tags;
 use fetch_store::{Border, List, NoMemory, Object, ObjectId, Objects};
 use fetch_wire::{Interrupt, Peer, WireError};
@@ -97,22 +94,8 @@ pub struct Terms<'a> {
 
 /// Refuses before anything is sent.
 fn refuse(alloc: Global, listed: &Listed, terms: &Terms<'_>) -> Result<(), fetch::Error>
-    ensures clear { OnOk result (IsClear (record {
-      listed = shown listed.now;
-      settings = terms.now.settings.now;
-      view = terms.now.view.now;
-      tags = terms.now.tags;
-      shallow = terms.now.shallow.now;
-      dry_run = terms.now.dry_run;
-    })) }
-    ensures refused { IfErr result (λ e. IsRefusal (record {
-      listed = shown listed.now;
-      settings = terms.now.settings.now;
-      view = terms.now.view.now;
-      tags = terms.now.tags;
-      shallow = terms.now.shallow.now;
-      dry_run = terms.now.dry_run;
-    }) e) }
+    ensures clear { OnOk result (IsClear (terms_told (shown listed.now) terms.now)) }
+    ensures refused { IfErr result (λ e. IsRefusal (terms_told (shown listed.now) terms.now) e) }
     ensures own { IfErr result (λ e. IsOwn e) }
 {
     refuse_unmapped(alloc, &listed.ref_map)?;
@@ -121,44 +104,8 @@ fn refuse(alloc: Global, listed: &Listed, terms: &Terms<'_>) -> Result<(), fetch
     refuse_lacking(alloc, &listed.handshake, &terms.view.border, terms.shallow)
 }
 
-/// The request for the pack, which is to be sent.
-fn ask(alloc: Global, listed: &mut Listed, terms: &Terms<'_>) -> Result<(), WireError>
-    requires { IsReady listed.old }
-    ensures asked { OnOk result (IsAsked (record {
-      listed = shown listed.old;
-      settings = terms.now.settings.now;
-      view = terms.now.view.now;
-      tags = terms.now.tags;
-      shallow = terms.now.shallow.now;
-      dry_run = terms.now.dry_run;
-    }) listed.old.session listed.new.session) }
-    ensures too_long { IfErr result (λ e. TellsTooLong (first_too_long (fetch_request (asked_by (record {
-      listed = shown listed.old;
-      settings = terms.now.settings.now;
-      view = terms.now.view.now;
-      tags = terms.now.tags;
-      shallow = terms.now.shallow.now;
-      dry_run = terms.now.dry_run;
-    })) [] true)) e) }
-    ensures kept { shown listed.new ≡ shown listed.old }
-{
-    let request = request_of(
-        alloc,
-        &listed.handshake,
-        agent(terms.settings),
-        terms.tags,
-        terms.shallow,
-        &terms.view.border,
-        terms.view.wants.as_slice(),
-        &[],
-        &[],
-        true,
-    )?;
-    listed.session.request(&request, !terms.dry_run)
-}
-
-/// Asks for the pack of what is wanted, and reads it. Where nothing is wanted, nothing is sent. The interrupt is asked
-/// before each receive.
+/// Asks for the pack of what is wanted, in rounds that tell which commits are there, and reads it. Where nothing is
+/// wanted, nothing is sent. The interrupt is asked before each receive.
 pub fn converse<R: Threads + Sync, P: Peer, I: Interrupt, Q: Progress, O: Objects>(
     rt: &R,
     alloc: Global,
@@ -171,14 +118,7 @@ pub fn converse<R: Threads + Sync, P: Peer, I: Interrupt, Q: Progress, O: Object
 ) -> Result<Option<Received>, fetch::Error>
     requires { IsReady listed.old }
     ensures held { Converses is_free_receiving P.answers listed.old.session.intake.bound (P.told peer.old) (P.told peer.new) (pending_of listed.old) (pending_of listed.new)
-        (converse_stage listed.old.session.intake.bound (record {
-          listed = shown listed.old;
-          settings = terms.now.settings.now;
-          view = terms.now.view.now;
-          tags = terms.now.tags;
-          shallow = terms.now.shallow.now;
-          dry_run = terms.now.dry_run;
-        })) result }
+        (converse_stage listed.old.session.intake.bound (O.graph objects.now) (terms_told (shown listed.old) terms.now)) result }
     ensures of_kind { IfOk result (λ found. IfSome found (λ r. AreOf listed.old.handshake.object_hash r.objects)) }
     ensures kept { shown listed.new ≡ shown listed.old }
     ensures counts { Counts (P.faults peer.old) (P.faults peer.new) }
@@ -187,18 +127,15 @@ pub fn converse<R: Threads + Sync, P: Peer, I: Interrupt, Q: Progress, O: Object
     ensures interrupted { IsErrOf result errors.Interrupted → Rose (I.yes interrupt.old) (I.yes interrupt.new) }
     ensures uninterrupted { OnOk result ((I.yes interrupt.new).count ≡ (I.yes interrupt.old).count) }
 {
-    let _ = objects;
-    let kind = listed.handshake.object_hash;
     refuse(alloc, listed, terms)?;
     if terms.view.wants.is_empty() {
         return Ok(None);
     }
-    ask(alloc, listed, terms)?;
-    drive(alloc, &mut listed.session, peer, interrupt)?;
+    let negotiate = negotiate(alloc, listed, terms, objects, peer, interrupt)?;
     let Some(reply) = listed.session.reply() else {
         return Err(fetch::Error::Fetch(WireError::Malformed { place: 0 }));
     };
     tell(progress, reply.progress.as_slice());
-    let threads = thread_count(terms.settings);
-    Ok(Some(received(rt, alloc, kind, threads, terms.dry_run, reply)?))
+    let received = received(rt, alloc, listed, terms, negotiate, reply)?;
+    Ok(Some(received))
 }

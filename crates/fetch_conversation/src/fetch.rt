@@ -81,9 +81,6 @@ pub enum Error {
     RemovePackKeepFile {
         path: Text,
     },
-    /// Well formed, and not built yet.
-    #[error("what is asked for isn't built yet")]
-    Unbuilt,
     /// Memory ran out.
     #[error("out of memory")]
     NoMemory,
@@ -124,7 +121,6 @@ impl Error {
             Error::Pack(e) => Ok(Error::Pack(*e)),
             Error::Collision { id } => Ok(Error::Collision { id: *id }),
             Error::UpdateRefs(e) => Ok(Error::UpdateRefs(e.try_clone()?)),
-            Error::Unbuilt => Ok(Error::Unbuilt),
             Error::NoMemory => Ok(Error::NoMemory),
             Error::RejectShallowRemoteConfig { value } => Ok(Error::RejectShallowRemoteConfig {
                 value: value.try_clone()?,

@@ -1,9 +1,19 @@
 //! What holds of every conversation.
 
-ghost use Rattle.std.specs.Prelude.{◌≡◌, ℕ, Bool, false, List, [], Option, Some, Result, Ok, Err};
+ghost use Rattle.std.specs.Prelude.{◌≡◌, ℕ, suc, ◌+◌, Bool, false, List, [], Option, Some, Result, Ok, Err};
+ghost use Rattle.std.specs.FinMap as map;
 ghost use Rattle.fetch_wire.specs.Talks.{Talk};
 ghost use Rattle.fetch_wire.specs.declared.line.Line.{Line};
-ghost use Rattle.fetch_conversation.specs.Conversation.{Conversation, Concludes, Breaks};
+ghost use Rattle.fetch_store.specs.Graph.{Graph};
+ghost use Rattle.fetch_negotiate.specs.declared.algorithm.Algorithm.{Algorithm};
+ghost use Rattle.fetch_negotiate.specs.declared.algorithm.Round.{Round};
+ghost use Rattle.fetch_conversation.specs.Conversation.{Conversation, Concludes, Breaks, sent_in, answer_in};
+ghost use Rattle.fetch_conversation.specs.ConverseStage.{converse_stage};
+ghost use Rattle.fetch_conversation.specs.Exchange.{TermsValue};
+ghost use Rattle.fetch_conversation.specs.Requested.{TellsRounds};
+ghost use Rattle.fetch_conversation.specs.Rounds.{first_course, negotiating};
+ghost use Rattle.fetch_conversation.specs.declared.conversing.Received.{Received};
+ghost use Rattle.fetch_conversation.specs.declared.conversing.View.{View};
 ghost use Rattle.fetch_conversation.specs.Served.{answer_with, AsksOnly, Serves, IsAnswered, IsFresh, Follows};
 
 /// A conversation that was held to its end with a peer that answers request by request has the answer that these
@@ -15,4 +25,22 @@ pub fn a_served_conversation<X, E>()
     ensures broken { (is_request : List Line → Bool) (rule : List ℕ → List ℕ) (serve : List Line → List ℕ) (answers : Bool) (bound : ℕ) (old : Option Talk) (new : Talk) (c : Conversation X E) (free : E → Bool) (e : E)
         → Serves is_request rule serve → AsksOnly is_request c → IsAnswered bound serve c → IsFresh rule old → Follows rule new
         → Breaks free answers bound old (Some new) [] c e → free e ≡ false → answer_with bound serve c ≡ Err e }
+{}
+
+/// Whatever a peer says, what is sent to it for a pack are the requests of rounds: each tells the ids acknowledged before
+/// it, in the order in which each first was, and then the next window of the algorithm, and has `done` exactly where that
+/// window isn't full; a request with `done` is the last. Where something is received, it tells these rounds.
+pub fn requests_tell_rounds()
+    ensures sent { (bound : ℕ) (g : Graph) (t : TermsValue) (stream : List ℕ) → (rounds : List Round) × TellsRounds g t (sent_in bound (converse_stage bound g t) stream) rounds }
+    ensures received { (bound : ℕ) (g : Graph) (t : TermsValue) (stream : List ℕ) (r : Received) (rest : List ℕ)
+        → answer_in bound (converse_stage bound g t) stream ≡ Ok (Some r, rest) → TellsRounds g t (sent_in bound (converse_stage bound g t) stream) r.negotiate.rounds }
+{}
+
+/// So many rounds as there are stored objects, and one, are never used up: were more allowed, the same would be sent and
+/// answered.
+pub fn rounds_are_never_used_up()
+    ensures sent { (bound more : ℕ) (t : TermsValue) (g : Graph) (algorithm : Algorithm) (view : View) (stream : List ℕ)
+        → sent_in bound (negotiating (suc (map.len g) + more) bound t g algorithm (first_course algorithm view)) stream ≡ sent_in bound (negotiating (suc (map.len g)) bound t g algorithm (first_course algorithm view)) stream }
+    ensures answered { (bound more : ℕ) (t : TermsValue) (g : Graph) (algorithm : Algorithm) (view : View) (stream : List ℕ)
+        → answer_in bound (negotiating (suc (map.len g) + more) bound t g algorithm (first_course algorithm view)) stream ≡ answer_in bound (negotiating (suc (map.len g)) bound t g algorithm (first_course algorithm view)) stream }
 {}

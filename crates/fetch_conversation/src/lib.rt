@@ -6,6 +6,7 @@ mod asking;
 mod conversing;
 mod copies;
 mod drive;
+mod exchange;
 pub mod fetch;
 pub mod laws;
 mod listing;
@@ -17,6 +18,7 @@ mod reading_settings;
 mod receiving;
 pub mod ref_map;
 mod refusals;
+mod rounds;
 mod settings;
 
 pub use conversing::{Received, Terms, View, converse};

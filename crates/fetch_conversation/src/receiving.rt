@@ -2,20 +2,24 @@
 
 ghost use Rattle.std.specs.Prelude.{◌≡◌, false, Some, Ok, Err, IfOk, IfErr};
 ghost use Rattle.fetch_store.specs.Stores.{AreOf};
-ghost use Rattle.fetch_conversation.specs.ConverseStage.{only_rounds, without_pack};
-ghost use Rattle.fetch_conversation.specs.Conversing.{received_of, IsOwn};
+ghost use Rattle.fetch_conversation.specs.ConverseStage as spec;
+ghost use Rattle.fetch_conversation.specs.ConverseStage.{rejected, without_pack, read_of};
+ghost use Rattle.fetch_conversation.specs.Conversing.{Tells, IsOwn, terms_told};
 ghost use Rattle.fetch_conversation.specs.Errors.{is_free_receiving};
+ghost use Rattle.fetch_conversation.specs.ListStage.{shown};
+ghost use Rattle.fetch_conversation.specs.ReadSettings.{rejects_shallow_of};
 
-use crate::conversing::Received;
+use crate::conversing::{Received, Terms};
 use crate::copies::copied_ids;
 use crate::fetch;
+use crate::listing::Listed;
 use crate::negotiate::Negotiate;
 use crate::progress::Progress;
-use crate::reading_settings::threads;
+use crate::reading_settings::{rejects_shallow, threads};
 use crate::settings::Settings;
-use fetch_negotiate::Round;
+use fetch_negotiate::Shallow;
 use fetch_pack::read_pack;
-use fetch_store::{Kind, List, NoMemory, Text};
+use fetch_store::{Border, Kind, List, NoMemory, ObjectId, Text};
 use fetch_wire::FetchReply;
 use std::alloc::Global;
 use std::thread::Threads;
@@ -35,25 +39,54 @@ pub(crate) fn tell<Q: Progress>(progress: &mut Q, texts: &[Text]) {
     }
 }
 
-/// The one request that was made, which said nothing of what is there.
-fn only_round(alloc: Global) -> Result<Negotiate, NoMemory>
-    ensures { IfOk result (λ negotiate. negotiate ≡ only_rounds) }
+/// Refuses a border of the server's that the request's lacks, where the settings say so and the depth isn't to change.
+fn refuse_border(terms: &Terms<'_>, reply: &FetchReply) -> Result<(), fetch::Error>
+    ensures told { Tells (rejected terms.now.settings.now terms.now.view.now terms.now.shallow.now reply.now) result }
+    ensures own { IfErr result (λ e. IsOwn e) }
 {
-    let mut rounds = List::new(alloc);
-    rounds.push(Round {
-        haves: List::new(alloc),
-        acknowledged: List::new(alloc),
-        done: true,
-    })?;
-    Ok(Negotiate { rounds })
+    if !is_rejecting(terms.settings) || !is_no_change(terms.shallow) {
+        return Ok(());
+    }
+    match first_outside(&terms.view.border, reply.shallow.as_slice()) {
+        Some(id) => Err(fetch::Error::RejectShallowRemote { id }),
+        None => Ok(()),
+    }
 }
 
-/// What a reply changes of the border, and no pack.
-fn unpacked(alloc: Global, reply: &FetchReply) -> Result<Received, NoMemory>
-    ensures { IfOk result (λ r. r ≡ without_pack reply.now) }
+/// Whether the settings refuse a server with a border of its own.
+fn is_rejecting(settings: &Settings) -> bool
+    ensures { result ≡ spec.is_rejecting (rejects_shallow_of settings.now.config) }
+{
+    match rejects_shallow(settings) {
+        Ok(rejects) => rejects,
+        Err(_) => false,
+    }
+}
+
+fn is_no_change(shallow: &Shallow) -> bool
+    ensures { result ≡ spec.is_no_change shallow.now }
+{
+    matches!(shallow, Shallow::NoChange)
+}
+
+/// The first of these commits that isn't in the border.
+fn first_outside(border: &Border, commits: &[ObjectId]) -> Option<ObjectId>
+    ensures { result ≡ spec.first_outside border.now commits.now }
+{
+    for id in commits {
+        if !border.contains(id) {
+            return Some(*id);
+        }
+    }
+    None
+}
+
+/// What the rounds bring beside the pack.
+fn unpacked(alloc: Global, negotiate: Negotiate, reply: &FetchReply) -> Result<Received, NoMemory>
+    ensures { IfOk result (λ r. r ≡ without_pack (record { rounds = negotiate.rounds; reply = reply.now })) }
 {
     Ok(Received {
-        negotiate: only_round(alloc)?,
+        negotiate,
         objects: List::new(alloc),
         shallow: copied_ids(&reply.shallow)?,
         unshallow: copied_ids(&reply.unshallow)?,
@@ -61,30 +94,55 @@ fn unpacked(alloc: Global, reply: &FetchReply) -> Result<Received, NoMemory>
     })
 }
 
-/// What a reply brings. In a dry run no pack is read.
-pub(crate) fn received<R: Threads + Sync>(
+/// Reads the pack of a reply, none in a dry run.
+fn unpack<R: Threads + Sync>(
     rt: &R,
     alloc: Global,
     kind: Kind,
-    threads: usize,
-    dry_run: bool,
+    terms: &Terms<'_>,
+    negotiate: Negotiate,
     reply: &FetchReply,
 ) -> Result<Received, fetch::Error>
-    ensures received { IfOk result (λ r. received_of kind dry_run reply.now ≡ Ok (Some r)) }
-    ensures refused { IfErr result (λ e. is_free_receiving e ≡ false → received_of kind dry_run reply.now ≡ Err e) }
+    ensures received { IfOk result (λ r. read_of kind terms.now.dry_run (record { rounds = negotiate.rounds; reply = reply.now }) ≡ Ok (Some r)) }
+    ensures refused { IfErr result (λ e. is_free_receiving e ≡ false → read_of kind terms.now.dry_run (record { rounds = negotiate.rounds; reply = reply.now }) ≡ Err e) }
     ensures of_kind { IfOk result (λ r. AreOf kind r.objects) }
     ensures own { IfErr result (λ e. IsOwn e) }
 {
-    let mut received = unpacked(alloc, reply)?;
-    if dry_run {
+    let mut received = unpacked(alloc, negotiate, reply)?;
+    if terms.dry_run {
         return Ok(received);
     }
     let bytes = match &reply.pack {
         Some(bytes) => bytes.as_bytes(),
         None => &[],
     };
-    let pack = read_pack(rt, alloc, kind, bytes, threads)?;
+    let pack = read_pack(rt, alloc, kind, bytes, thread_count(terms.settings))?;
     received.objects = pack.objects;
     received.pack = Some((pack.count, pack.digest));
     Ok(received)
+}
+
+/// What the rounds bring. A border that is refused comes before the pack, which isn't read in a dry run.
+pub(crate) fn received<R: Threads + Sync>(
+    rt: &R,
+    alloc: Global,
+    listed: &Listed,
+    terms: &Terms<'_>,
+    negotiate: Negotiate,
+    reply: &FetchReply,
+) -> Result<Received, fetch::Error>
+    ensures received { IfOk result (λ r. spec.received (terms_told (shown listed.now) terms.now) (record { rounds = negotiate.rounds; reply = reply.now }) ≡ Ok (Some r)) }
+    ensures refused { IfErr result (λ e. is_free_receiving e ≡ false → spec.received (terms_told (shown listed.now) terms.now) (record { rounds = negotiate.rounds; reply = reply.now }) ≡ Err e) }
+    ensures of_kind { IfOk result (λ r. AreOf listed.now.handshake.object_hash r.objects) }
+    ensures own { IfErr result (λ e. IsOwn e) }
+{
+    refuse_border(terms, reply)?;
+    unpack(
+        rt,
+        alloc,
+        listed.handshake.object_hash,
+        terms,
+        negotiate,
+        reply,
+    )
 }

@@ -6,7 +6,6 @@ ghost use Rattle.fetch_wire.specs.RequestWords.{plain_pack, plain_pack_2};
 ghost use Rattle.std.specs.List.{list_any};
 ghost use Rattle.std.specs.Option.{option_copied, option_or};
 ghost use Rattle.fetch_conversation.specs.ConverseStage as spec;
-ghost use Rattle.fetch_conversation.specs.ConverseStage.{TermsValue};
 ghost use Rattle.fetch_conversation.specs.Conversing.{Tells, IsOwn};
 ghost use Rattle.fetch_conversation.specs.ReadSettings.{rejects_shallow_of, algorithm_of_config, threads_of};
 ghost use Rattle.fetch_conversation.specs.declared.fetch.Error.TheVariants as errors;
@@ -15,7 +14,7 @@ use crate::asking::joined_specs;
 use crate::fetch;
 use crate::reading_settings::{algorithm, rejects_shallow, threads};
 use crate::settings::Settings;
-use fetch_negotiate::{Algorithm, Shallow};
+use fetch_negotiate::Shallow;
 use fetch_specs::RefSpec;
 use fetch_store::{Border, Kind, List, NoMemory, Text};
 use fetch_wire::{Handshake, RefMap, Version, WireError};
@@ -133,27 +132,14 @@ fn refuse_threads(alloc: Global, settings: &Settings) -> Result<(), fetch::Error
     }
 }
 
-/// Refuses an algorithm that tells what is there: rounds aren't built yet.
-fn refuse_rounds(settings: &Settings) -> Result<(), fetch::Error>
-    ensures told { Tells (spec.unbuilt_rounds (algorithm_of_config settings.now.config settings.now.lenient)) result }
-    ensures own { IfErr result (λ e. IsOwn e) }
-{
-    match algorithm(settings) {
-        Ok(Algorithm::Noop) => Ok(()),
-        Ok(Algorithm::Consecutive | Algorithm::Skipping) => Err(fetch::Error::Unbuilt),
-        Err(_) => Ok(()),
-    }
-}
-
-/// Refuses settings that can't be read, the first of them, and then what isn't built of them.
+/// Refuses settings that can't be read, the first of them.
 pub(crate) fn refuse_settings(alloc: Global, settings: &Settings) -> Result<(), fetch::Error>
     ensures told { Tells (spec.unfit settings.now) result }
     ensures own { IfErr result (λ e. IsOwn e) }
 {
     refuse_rejection(alloc, settings)?;
     refuse_algorithm(alloc, settings)?;
-    refuse_threads(alloc, settings)?;
-    refuse_rounds(settings)
+    refuse_threads(alloc, settings)
 }
 
 /// Refuses where this isn't offered.

@@ -51,7 +51,6 @@ free_receiving (receive.Collision id) sure = refl
 free_receiving (receive.KeepFile path) sure = refl
 free_receiving (receive.UpdateRefs e) sure = refl
 free_receiving (receive.RemovePackKeepFile path) sure = refl
-free_receiving receive.Unbuilt sure = refl
 free_receiving receive.NoMemory sure = sure
 
 -- ---- the whole broke off

@@ -2,6 +2,7 @@
 use Rattle.std.proofs.Common.{◌≡◌, ℕ, Bool, true, false, List, [], ◌++◌, Option, None, Result, Ok, refl, sym, ap, subst, ◌∙◌, append_assoc}
 use Rattle.std.proofs.lemmas.List.{append-nil}
 use Rattle.fetch_store.specs.Closed.{IsClosed}
+use Rattle.fetch_store.specs.Graph.{graph_of}
 use Rattle.fetch_store.specs.declared.id.ObjectId.{ObjectId}
 use Rattle.fetch_refs.specs.declared.edit.PackedRefs.{PackedRefs}
 use Rattle.fetch_refs.specs.declared.edit.RefEdit.{RefEdit}
@@ -16,14 +17,18 @@ use Rattle.fetch_conversation.specs.ListStage.{ListedValue}
 use Rattle.fetch_conversation.specs.declared.conversing.Received.{Received}
 use Rattle.fetch_remote.specs.declared.fetch_error.FetchError.{FetchError}
 use Rattle.fetch_remote.specs.declared.outcome.Outcome.{Outcome}
-use Rattle.fetch_remote.specs.Fetched.{HasHeard, HasRead, IsJudged, IsLeft, IsSafe, IsFetched, policy_at}
+use Rattle.fetch_store.specs.Trees.{Tree}
+use Rattle.fetch_remote.specs.Fetched.{HasHeard, HasRead, IsJudged, IsLeft, IsKept, IsSafe, IsFetched, policy_at}
 use Rattle.fetch_remote.specs.Fetching.{manner_in, taken_in, settled_in, settled_by, fetched_in, requests_in}
 use Rattle.fetch_remote.specs.Form.{Given}
 use Rattle.fetch_remote.specs.Judging.{IsTold, judged_of}
+use Rattle.fetch_remote.specs.Keeping.{AreFiles, left_tree}
 use Rattle.fetch_remote.specs.Repositories.{State, Setup, held}
 use Rattle.fetch_remote.specs.Settling.{brought, taken, settled, policy_in, moved, outcome_in, done, IsSettled}
 use Rattle.fetch_remote.specs.Stages.{Told, bound_of, wants_in, inquiry_in, terms_in, listing_stage, conversation}
 use Rattle.fetch_remote.specs.Talking.{HasTold}
+use Rattle.fetch_remote.proofs.Negotiated.{are_held}
+use Rattle.fetch_remote.proofs.Keeping.{keep_is}
 use Rattle.fetch_remote.proofs.Received.{is_mapped, is_received}
 use Rattle.fetch_remote.proofs.Spoken.{said_in, heard_in, told_spoken}
 use Rattle.fetch_remote.proofs.Settled.{settled_as, takes, judged_is, stays_closed, holds_mapped}
@@ -38,7 +43,7 @@ pub fetched_is : (g : Given) (trees : List Worktree) (before : State) (stream : 
 unfolding fetched_in
 fetched_is g trees before stream answer result is by = rw is by
 
-settled_from : (g : Given) (trees : List Worktree) (before : State) (l : ListedValue) (r : Option Received) (s : State) (u : Updates) → taken_in g before (record { listed = l; received = r }) ≡ Ok s → judged_of (policy_in s (manner_in g) trees) l.ref_map ≡ Ok u
+pub settled_from : (g : Given) (trees : List Worktree) (before : State) (l : ListedValue) (r : Option Received) (s : State) (u : Updates) → taken_in g before (record { listed = l; received = r }) ≡ Ok s → judged_of (policy_in s (manner_in g) trees) l.ref_map ≡ Ok u
     → settled_in g trees before (record { listed = l; received = r }) ≡ Ok (done g.setup (manner_in g) l r s u)
 unfolding settled
 settled_from g trees before l r s u took judged = rw (took, judged) refl
@@ -61,7 +66,7 @@ has_heard answers old new g before l r rest told =
     record { passed = rw same k.passed; same_requests = λ more. heard more ∙ sym same }
 
 abbrev at_outcome : Given → ListedValue → Option Received → Updates → Outcome
-at_outcome g l r u = outcome_in (manner_in g) l r u
+at_outcome g l r u = outcome_in g.setup.settings.git_dir (manner_in g) l r u
 
 has_read : (answers : Bool) (old new : Option Talk) (g : Given) (before : State) (l : ListedValue) (r : Option Received) (rest : List ℕ) (u : Updates) → (told : HasTold answers old new g before l r rest)
     → HasRead g before (said_in answers old new g before l r rest told) (at_outcome g l r u)
@@ -126,30 +131,38 @@ is_safe g before m r s u took none = record {
   holds = λ wet. rw (moved_objects g.options.dry_run (manner_in g).packed g.setup s u.edits) (holds_mapped g before m (brought g.options.dry_run r) s took (λ e. none (rw wet at e)));
 }
 
-fetched_with : (answers : Bool) (old new : Option Talk) (known : Option (List Worktree)) (g : Given) (trees : List Worktree) (before : State) (l : ListedValue) (r : Option Received) (rest : List ℕ) (s : State) (u : Updates) → IsTold known trees
+is_kept : (g : Given) (files left : Option Tree) (l : ListedValue) (r : Option Received) (u : Updates) → AreFiles files left (left_tree g.setup.settings.git_dir (at_outcome g l r u).status) → IsKept g files left r u (at_outcome g l r u)
+is_kept g files left l r u h = record { keep = keep_is g.setup.settings.git_dir g.options.dry_run r u; tree = h }
+
+fetched_with : (answers : Bool) (old new : Option Talk) (known : Option (List Worktree)) (files left : Option Tree) (g : Given) (trees : List Worktree) (before : State) (l : ListedValue) (r : Option Received) (rest : List ℕ) (s : State) (u : Updates) → IsTold known trees
     → HasTold answers old new g before l r rest → taken_in g before (record { listed = l; received = r }) ≡ Ok s → judged_of (policy_in s (manner_in g) trees) l.ref_map ≡ Ok u
-    → IsFetched answers old new known g before (moved_in g s u.edits) (at_outcome g l r u)
+    → AreFiles files left (left_tree g.setup.settings.git_dir (at_outcome g l r u).status) → IsFetched answers old new known files left g before (moved_in g s u.edits) (at_outcome g l r u)
 unfolding has_read is_judged
-fetched_with answers old new known g trees before l r rest s u listed told took judged =
+fetched_with answers old new known files left g trees before l r rest s u listed told took judged kept =
     let k = told_spoken answers old new g before l r rest told in
     let said = said_in answers old new g before l r rest told in
     let is = settled_from g trees before l r s u took judged in
-    let none = (is_received (bound_of g) (terms_in g before l) _ r _ (told.pack.answered [])).none in
+    let none = (is_received (bound_of g) (graph_of before.objects) (terms_in g before l) _ r _ (told.pack.answered [])).none in
+    let read : HasRead g before said (at_outcome g l r u) = has_read answers old new g before l r rest u told in
     record {
       said = said;
       heard = has_heard answers old new g before l r rest told;
-      read = has_read answers old new g before l r rest u told;
+      read = read;
+      rounds = are_held g before l read.behind read.rest r read.replied;
       trees = trees;
       listed_trees = listed;
       judged = is_judged g trees before l r s u (takes before _ _ s took).refs judged;
       left = has_left g.options.dry_run (manner_in g).packed g before _ r s u took;
+      kept = is_kept g files left l r u kept;
       safe = is_safe g before l.ref_map r s u took none;
       whole = λ more. fetched_is g trees before (said ++ more) _ _ (k.answered more) (rw is refl);
     }
 
-pub is_fetched : (answers : Bool) (old new : Option Talk) (known : Option (List Worktree)) (g : Given) (before after : State) (outcome : Outcome) (l : ListedValue) (r : Option Received) (rest : List ℕ) → HasTold answers old new g before l r rest → IsSettled known g.setup (manner_in g) before (wants_in g before l.ref_map) l r outcome after → IsFetched answers old new known g before after outcome
-is_fetched answers old new known g before after outcome l r rest told is =
+pub is_fetched : (answers : Bool) (old new : Option Talk) (known : Option (List Worktree)) (files left : Option Tree) (g : Given) (before after : State) (outcome : Outcome) (l : ListedValue) (r : Option Received) (rest : List ℕ) → HasTold answers old new g before l r rest
+    → IsSettled known g.setup (manner_in g) before (wants_in g before l.ref_map) l r outcome after → AreFiles files left (left_tree g.setup.settings.git_dir outcome.status) → IsFetched answers old new known files left g before after outcome
+is_fetched answers old new known files left g before after outcome l r rest told is kept =
     let p = settled_as g.setup (manner_in g) is.trees before (wants_in g before l.ref_map) l r outcome after is.by in
-    let f = fetched_with answers old new known g is.trees before l r rest p.state p.updates is.listed_trees told p.took p.judged in
-    subst (λ (x : State). IsFetched answers old new known g before x outcome) (sym p.after_is)
-    (subst (λ (o : Outcome). IsFetched answers old new known g before (moved_in g p.state p.updates.edits) o) (sym p.outcome_is) f)
+    let there = subst (λ (o : Outcome). AreFiles files left (left_tree g.setup.settings.git_dir o.status)) p.outcome_is kept in
+    let f = fetched_with answers old new known files left g is.trees before l r rest p.state p.updates is.listed_trees told p.took p.judged there in
+    subst (λ (x : State). IsFetched answers old new known files left g before x outcome) (sym p.after_is)
+    (subst (λ (o : Outcome). IsFetched answers old new known files left g before (moved_in g p.state p.updates.edits) o) (sym p.outcome_is) f)

@@ -13,6 +13,7 @@ use Rattle.fetch_store.specs.Closed.{IsStored}
 use Rattle.fetch_store.specs.Graph.{node_of, graph_of}
 use Rattle.fetch_store.specs.Objects.{Stored}
 use Rattle.fetch_store.specs.Stores.{ObjectMap}
+use Rattle.fetch_store.specs.Trees.{Tree}
 use Rattle.fetch_store.proofs.Graphs.{get-graph_of}
 use Rattle.fetch_specs.specs.declared.tags.Tags.{Tags}
 use Rattle.fetch_specs.specs.declared.tags.Tags.TheVariants as wanted_tags
@@ -66,7 +67,7 @@ use Rattle.fetch_remote.specs.Fetching.{manner_in, places_of, settled_in, settle
 use Rattle.fetch_remote.specs.Form.{Given}
 use Rattle.fetch_remote.specs.Lasting.{updates_in, AcceptsNone, AreAlike, with_packed}
 use Rattle.fetch_remote.specs.Repositories.{State, Setup}
-use Rattle.fetch_remote.specs.Settling.{told_with, status_of, pack_told, moved, outcome_in, settled}
+use Rattle.fetch_remote.specs.Settling.{told_with, status_of, moved, outcome_in, settled}
 use Rattle.fetch_remote.specs.Stages.{Told, bound_of, conversation, receiving_stage}
 use Rattle.fetch_remote.specs.declared.fetch_error.FetchError.{FetchError}
 use Rattle.fetch_remote.specs.declared.fetch_error.FetchError.TheVariants as errors
@@ -220,31 +221,31 @@ kept_name false p specs extra mappings o name c each none = kept_after p specs e
 
 -- ---- the updates that an outcome tells
 
-updates_told : (dry : Bool) (r : Option Received) (u : Updates) → updates_in (status_of dry r u) ≡ u
-updates_told true r u = refl
-updates_told false None u = refl
-updates_told false (Some r) u = by r.pack
+updates_told : (git_dir : List ℕ) (dry : Bool) (r : Option Received) (u : Updates) → updates_in (status_of git_dir dry r u) ≡ u
+updates_told git_dir true r u = refl
+updates_told git_dir false None u = refl
+updates_told git_dir false (Some r) u = by r.pack
   where
-    by : (p : Option (ℕ × ObjectId)) → updates_in (told_with r.negotiate (pack_told p) u) ≡ u
+    by : (p : Option (ℕ × ObjectId)) → updates_in (told_with git_dir r.negotiate p u) ≡ u
     by None = refl
     by (Some p) = refl
 
-updates_are : (answers : Bool) (old new : Option Talk) (known : Option (List Worktree)) (g : Given) (before after : State) (outcome : Outcome) → (h : IsFetched answers old new known g before after outcome) → updates_in outcome.status ≡ h.judged.updates
-updates_are answers old new known g before after outcome h = ap updates_in h.judged.status ∙ updates_told g.options.dry_run h.read.received h.judged.updates
+updates_are : (answers : Bool) (old new : Option Talk) (known : Option (List Worktree)) (files files_left : Option Tree) (g : Given) (before after : State) (outcome : Outcome) → (h : IsFetched answers old new known files files_left g before after outcome) → updates_in outcome.status ≡ h.judged.updates
+updates_are answers old new known files files_left g before after outcome h = ap updates_in h.judged.status ∙ updates_told g.setup.settings.git_dir g.options.dry_run h.read.received h.judged.updates
 
 -- ---- the laws
 
-pub others_stay : (answers : Bool) (old new : Option Talk) (known : Option (List Worktree)) (g : Given) (before after : State) (outcome : Outcome) → IsFetched answers old new known g before after outcome
+pub others_stay : (answers : Bool) (old new : Option Talk) (known : Option (List Worktree)) (files files_left : Option Tree) (g : Given) (before after : State) (outcome : Outcome) → IsFetched answers old new known files files_left g before after outcome
     → (name : List ℕ) → AcceptsNone (updates_in outcome.status) name → finmap.get after.refs.names name ≡ finmap.get before.refs.names name
-others_stay answers old new known g before after outcome h name none =
-    let same = updates_are answers old new known g before after outcome h in
+others_stay answers old new known files files_left g before after outcome h name none =
+    let same = updates_are answers old new known files files_left g before after outcome h in
     let j = h.judged in
     rw h.left.refs (kept_name g.options.dry_run (policy_at g h.trees before after) outcome.ref_map.refspecs outcome.ref_map.extra_refspecs outcome.ref_map.mappings j.updates name j.carried j.one_each (rw same at none))
 
-pub new_ids_stay : (answers : Bool) (old new : Option Talk) (known : Option (List Worktree)) (g : Given) (before after : State) (outcome : Outcome) → IsFetched answers old new known g before after outcome
+pub new_ids_stay : (answers : Bool) (old new : Option Talk) (known : Option (List Worktree)) (files files_left : Option Tree) (g : Given) (before after : State) (outcome : Outcome) → IsFetched answers old new known files files_left g before after outcome
     → g.options.dry_run ≡ false → (e : RefEdit) (id : ObjectId) → Contains (updates_in outcome.status).edits e → gives e ≡ Some (targets.Object id) → finmap.get before.refs.names e.name ≢ Some (targets.Object id) → IsStored after.objects id
-new_ids_stay answers old new known g before after outcome h wet e id among given_id other =
-    let same = updates_are answers old new known g before after outcome h in
+new_ids_stay answers old new known files files_left g before after outcome h wet e id among given_id other =
+    let same = updates_are answers old new known files files_left g before after outcome h in
     let j = h.judged in
     stored_node after.objects id (new_ids_stored (policy_at g h.trees before after) outcome.ref_map.refspecs outcome.ref_map.extra_refspecs outcome.ref_map.mappings j.updates j.verdicts wet e id (rw same at among) given_id other)
 
@@ -305,10 +306,10 @@ not_rejected : (g : Given) (trees : List Worktree) (before after : State) (m : R
 not_rejected g trees before after m edits mapping s id safe among made (inl r) = not_missing g trees before after m mapping s id safe among made r
 not_rejected g trees before after m edits mapping s id safe among made (inr k) = let h = k.0 in absurd (cc)
 
-pub all_sources_found : (answers : Bool) (old new : Option Talk) (known : Option (List Worktree)) (g : Given) (before after : State) (outcome : Outcome) → IsFetched answers old new known g before after outcome
+pub all_sources_found : (answers : Bool) (old new : Option Talk) (known : Option (List Worktree)) (files files_left : Option Tree) (g : Given) (before after : State) (outcome : Outcome) → IsFetched answers old new known files files_left g before after outcome
     → (u : Update) (id : ObjectId) → Contains (updates_in outcome.status).updates u → u.mode ≡ modes.RejectedSourceObjectNotFound id → ⊥
-all_sources_found answers old new known g before after outcome h u id among is =
-    let same = updates_are answers old new known g before after outcome h in
+all_sources_found answers old new known files files_left g before after outcome h u id among is =
+    let same = updates_are answers old new known files files_left g before after outcome h in
     let j = h.judged in
     let m = outcome.ref_map in
     let there = rw same at among in
@@ -333,7 +334,7 @@ settled_elsewhere : (setup : Setup) (how : Manner) (packed : PackedRefs) (trees 
 unfolding settled
 settled_elsewhere setup how packed trees before wants l r outcome a p =
     let state = moved how.dry_run packed setup p.state p.updates.edits in
-    let is : settled setup (record how { packed = packed }) trees before wants l r ≡ Ok (outcome_in how l r p.updates, state) = rw (p.took, p.judged) refl in
+    let is : settled setup (record how { packed = packed }) trees before wants l r ≡ Ok (outcome_in setup.settings.git_dir how l r p.updates, state) = rw (p.took, p.judged) refl in
     record {
       state = state;
       is = is ∙ ap (λ (o : Outcome). Ok (o, state)) (sym p.outcome_is);

@@ -3,6 +3,8 @@ pub mod Wanted
 pub mod Spoken
 pub mod Broken
 pub mod Received
+pub mod Negotiated
+pub mod Keeping
 pub mod Settled
 pub mod Fetched
 pub mod Refused
@@ -14,3 +16,8 @@ pub mod Lost
 pub mod Judged
 pub mod Unjudged
 pub mod Lasting
+pub mod Complete
+pub mod Deletions
+pub mod Replaced
+pub mod SectionsBack
+pub mod DeletedTwice

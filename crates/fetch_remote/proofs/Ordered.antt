@@ -1,9 +1,9 @@
 -- The requests of a fetch come in order.
-use Rattle.std.proofs.Common.{◌≡◌, ℕ, Bool, true, false, List, [], ◌∷◌, ◌++◌, Option, Some, None, Result, Ok, Err, refl, ap, ◌∙◌, append_assoc, inl, inr}
-use Rattle.std.specs.Prelude.{◌⊎◌, if◌then◌else◌}
+use Rattle.std.proofs.Common.{◌≡◌, ℕ, List, [], ◌∷◌, ◌++◌, Option, Some, None, Result, Ok, Err, refl, ap, ◌∙◌, append_assoc, inl, inr}
+use Rattle.std.specs.Prelude.{◌⊎◌}
 use Rattle.std.proofs.lemmas.List.{append-nil}
+use Rattle.fetch_store.specs.Graph.{graph_of}
 use Rattle.fetch_store.specs.declared.id.ObjectId.{ObjectId}
-use Rattle.fetch_negotiate.specs.Requests.{fetch_request}
 use Rattle.fetch_wire.specs.Awaited.{told_at}
 use Rattle.fetch_wire.specs.Requests.{listing_lines}
 use Rattle.fetch_wire.specs.Written.{first_too_long}
@@ -15,17 +15,17 @@ use Rattle.fetch_wire.specs.declared.awaited.Told.TheVariants as told
 use Rattle.fetch_wire.specs.declared.handshake.Handshake.{Handshake}
 use Rattle.fetch_wire.specs.declared.line.Line.{Line}
 use Rattle.fetch_conversation.specs.Conversation.{Conversation, ends, asks, asks_unless, after_reply, sent_in, answer_in, and_then, told_as}
-use Rattle.fetch_conversation.specs.ConverseStage.{TermsValue, converse_stage, wanting, fetching, replied, asked_by}
+use Rattle.fetch_conversation.specs.ConverseStage.{converse_stage, wanting}
 use Rattle.fetch_conversation.specs.ListStage.{InquiryValue, ListedValue, list_stage, inquiry_stage, greeted, listing, listed, unless, unlisted, unsendable, no_specs, prefixes_asked}
-use Rattle.fetch_conversation.specs.ConverseStage as converse
 use Rattle.fetch_conversation.specs.ListStage as list
 use Rattle.fetch_conversation.specs.declared.prepare.Error.{Error as PrepareError}
 use Rattle.fetch_conversation.proofs.Chained.{sent_then, sent_as, sent_behind}
+use Rattle.fetch_conversation.proofs.Told.{wanting_sends}
 use Rattle.fetch_remote.specs.Errors.{preparing, receiving}
 use Rattle.fetch_remote.specs.Fetching.{requests_in}
 use Rattle.fetch_remote.specs.Form.{Given}
 use Rattle.fetch_remote.specs.Repositories.{State}
-use Rattle.fetch_remote.specs.Requested.{first_request, IsListingRequest, IsFetchRequest, AsksInOrder}
+use Rattle.fetch_remote.specs.Requested.{first_request, IsListingRequest, AreFetchRequests, AsksInOrder}
 use Rattle.fetch_remote.specs.Stages.{Told, bound_of, inquiry_in, wants_in, terms_in, listing_stage, pack_stage, receiving_stage, conversation}
 use Rattle.fetch_remote.specs.declared.fetch_error.FetchError.{FetchError}
 
@@ -111,38 +111,28 @@ lists : (g : Given) (stream : List ℕ) → Lists g (sent_in (bound_of g) (listi
 unfolding list_stage inquiry_stage
 lists g stream = lists_unless g (no_specs (inquiry_in g)) _ stream (lists_unless g (unsendable (inquiry_in g)) _ stream (lists_asking g stream (first_too_long (first_request g))))
 
--- ---- the fetch request
-
-replied_none : (bound : ℕ) (t : TermsValue) (x : Reply) (rest : List ℕ) → sent_in bound (replied t x) rest ≡ []
-unfolding sent_in
-replied_none bound t (told.Reply reply) rest = refl
-replied_none bound t (told.Greeting h) rest = refl
-replied_none bound t (told.Advertisement h refs) rest = refl
-replied_none bound t (told.Listing refs) rest = refl
+-- ---- the fetch requests
 
 sent_end : {X E : Type 0} (bound : ℕ) (answer : Result X E) (stream : List ℕ) → sent_in bound (ends answer) stream ≡ []
 unfolding sent_in
 sent_end bound answer stream = refl
 
-wanting_asks : (g : Given) (s : State) (l : ListedValue) (stream : List ℕ) (wants : List ObjectId) → wants_in g s l.ref_map ≡ wants → AtMost (IsFetchRequest g s) (sent_in (bound_of g) (wanting (bound_of g) (terms_in g s l) wants) stream)
-unfolding fetching
+wanting_asks : (g : Given) (s : State) (l : ListedValue) (stream : List ℕ) (wants : List ObjectId) → wants_in g s l.ref_map ≡ wants → AtMost (AreFetchRequests g s) (sent_in (bound_of g) (wanting (bound_of g) (graph_of s.objects) (terms_in g s l) wants) stream)
 wanting_asks g s l stream [] is = inl (sent_end (bound_of g) _ stream)
 wanting_asks g s l stream (id ∷ ids) is =
-    let t = terms_in g s l in
-    at_most_long (IsFetchRequest g s) (bound_of g) (first_too_long (fetch_request (asked_by t) [] true)) converse.too_long _ stream
-    (at_most_asks (IsFetchRequest g s) (bound_of g) (fetch_request (asked_by t) [] true) (awaits.Reply (converse.reply_to t)) (converse.failed (bound_of g)) (λ x. replied t x) stream
-    (record { listed = l; wanted = λ none. absurd (cc (is, none)); are = refl }) (λ x rest. replied_none (bound_of g) t x rest))
+    let sends = wanting_sends (bound_of g) (graph_of s.objects) (terms_in g s l) stream (id ∷ ids) in
+    inr (record { listed = l; wanted = λ none. absurd (cc (is, none)); rounds = sends.rounds; tells = sends.tells })
 
-pack_asks : (g : Given) (s : State) (l : ListedValue) (stream : List ℕ) → AtMost (IsFetchRequest g s) (sent_in (bound_of g) (pack_stage g s l) stream)
+pack_asks : (g : Given) (s : State) (l : ListedValue) (stream : List ℕ) → AtMost (AreFetchRequests g s) (sent_in (bound_of g) (pack_stage g s l) stream)
 unfolding converse_stage
-pack_asks g s l stream = at_most_unless (IsFetchRequest g s) (bound_of g) _ _ stream (wanting_asks g s l stream (wants_in g s l.ref_map) refl)
+pack_asks g s l stream = at_most_unless (AreFetchRequests g s) (bound_of g) _ _ stream (wanting_asks g s l stream (wants_in g s l.ref_map) refl)
 
 end_none : {X Y E : Type 0} (bound : ℕ) (f : X → Y) (found : Result (X × List ℕ) E) → sent_behind {E = E} bound (λ r. ends (Ok (f r))) found ≡ []
 unfolding sent_in
 end_none bound f (Ok x) = refl
 end_none bound f (Err e) = refl
 
-receiving_asks : (g : Given) (s : State) (l : ListedValue) (stream : List ℕ) → AtMost (IsFetchRequest g s) (sent_in (bound_of g) (receiving_stage g s l) stream)
+receiving_asks : (g : Given) (s : State) (l : ListedValue) (stream : List ℕ) → AtMost (AreFetchRequests g s) (sent_in (bound_of g) (receiving_stage g s l) stream)
 unfolding receiving_stage
 receiving_asks g s l stream =
     let c = told_as receiving (pack_stage g s l) in
@@ -153,7 +143,7 @@ receiving_asks g s l stream =
 
 -- ---- both
 
-in_order : (g : Given) (s : State) (a b : List Line) → Lists g a → AtMost (IsFetchRequest g s) b → AsksInOrder g s (a ++ b)
+in_order : (g : Given) (s : State) (a b : List Line) → Lists g a → AtMost (AreFetchRequests g s) b → AsksInOrder g s (a ++ b)
 in_order g s a b h k = record {
   first = h.first;
   listing = h.listing;
@@ -161,10 +151,10 @@ in_order g s a b h k = record {
   are = ap (λ (x : List Line). x ++ b) h.are ∙ append_assoc h.first h.listing b;
   is_first = h.is_first;
   is_listing = h.is_listing;
-  is_fetch = k;
+  are_fetch = k;
 }
 
-behind_asks : (g : Given) (s : State) (found : Result (ListedValue × List ℕ) FetchError) → AtMost (IsFetchRequest g s) (sent_behind (bound_of g) (receiving_stage g s) found)
+behind_asks : (g : Given) (s : State) (found : Result (ListedValue × List ℕ) FetchError) → AtMost (AreFetchRequests g s) (sent_behind (bound_of g) (receiving_stage g s) found)
 behind_asks g s (Ok x) = receiving_asks g s x.0 x.1
 behind_asks g s (Err e) = inl refl
 

@@ -2,13 +2,13 @@
 use Rattle.std.proofs.Common.{◌≡◌, ℕ, Bool, true, false, List, [], ◌∷◌, map, Option, Some, None, Result, Ok, Err, refl, ap}
 use Rattle.std.specs.Prelude.{⊤, if◌then◌else◌}
 use Rattle.std.specs.Option.{option_or}
+use Rattle.fetch_store.specs.Graph.{Graph}
 use Rattle.fetch_store.specs.declared.id.Kind.{Kind}
 use Rattle.fetch_store.specs.declared.id.Kind.TheVariants.{Sha1, Sha256}
 use Rattle.fetch_store.specs.declared.id.ObjectId.{ObjectId}
 use Rattle.fetch_specs.specs.Conflicts.{conflicts_of}
 use Rattle.fetch_specs.specs.Matches.{mappings_of}
 use Rattle.fetch_specs.specs.declared.conflict.Conflict.{Conflict}
-use Rattle.fetch_negotiate.specs.Requests.{fetch_request}
 use Rattle.fetch_wire.specs.Awaited.{told_at}
 use Rattle.fetch_wire.specs.Requests.{first_line}
 use Rattle.fetch_wire.specs.Written.{first_too_long}
@@ -19,12 +19,12 @@ use Rattle.fetch_wire.specs.declared.awaited.Told.{Told}
 use Rattle.fetch_wire.specs.declared.awaited.Told.TheVariants as told
 use Rattle.fetch_wire.specs.declared.handshake.Handshake.{Handshake}
 use Rattle.fetch_wire.specs.declared.line.Line.{Line}
-use Rattle.fetch_wire.specs.declared.records.FetchReply.{FetchReply}
 use Rattle.fetch_wire.specs.declared.reference.Ref.{Ref}
 use Rattle.fetch_wire.specs.References.{name_in}
-use Rattle.fetch_conversation.specs.Conversation.{Conversation, ends, asks, asks_unless, asking, after_reply, answer_in}
-use Rattle.fetch_conversation.specs.ConverseStage.{TermsValue, converse_stage, wanting, fetching, replied, received, unpacked, with_pack, without_pack, no_mapping, other_hash, unfit, lacking, is_same_kind}
-use Rattle.fetch_conversation.specs.ConverseStage as converse
+use Rattle.fetch_conversation.specs.Conversation.{Conversation, ends, asks, asks_unless, asking, and_then, after_reply, answer_in}
+use Rattle.fetch_conversation.specs.ConverseStage.{converse_stage, wanting, fetching, received, rejected, result_unless, unpacked, with_pack, without_pack, no_mapping, unfit, lacking, is_same_kind}
+use Rattle.fetch_conversation.specs.Exchange.{TermsValue}
+use Rattle.fetch_conversation.specs.Rounds.{Negotiated}
 use Rattle.fetch_conversation.specs.ListStage as list
 use Rattle.fetch_conversation.specs.ListStage.{InquiryValue, ListedValue, list_stage, inquiry_stage, greeted, listing, listed, mapped, mapped_unless, map_of, all_specs, unless, unlisted, unsendable, no_specs}
 use Rattle.fetch_conversation.specs.declared.conversing.Received.{Received}
@@ -136,22 +136,28 @@ dry_or_gives : {X E : Type 0} (p : X → Type 0) (dry : Bool) (x : X) (r : Resul
 dry_or_gives p true x r h k = gives_ok _ p x h
 dry_or_gives p false x r h k = k
 
-received_gives : (t : TermsValue) (reply : FetchReply) → t.settings.kind ≡ t.listed.handshake.object_hash → Gives {E = ReceiveError} (IsReceived t) (ends (received t reply))
+unless_gives : {X E : Type 0} (p : X → Type 0) (o : Option E) (r : Result X E) → Gives p (ends r) → Gives p (ends (result_unless o r))
+unless_gives p None r h = h
+unless_gives p (Some e) r h = gives_err p e
+
+received_gives : (t : TermsValue) (n : Negotiated) → t.settings.kind ≡ t.listed.handshake.object_hash → Gives {E = ReceiveError} (IsReceived t) (ends (received t n))
 unfolding received
-received_gives t reply same =
-    dry_or_gives (IsReceived t) t.dry_run (Some (without_pack reply)) _ (some_received t (without_pack reply) same)
-    (either_gives (IsReceived t) (unpacked reply) (λ c. gives_ok _ (IsReceived t) (Some (with_pack reply c)) (some_received t (with_pack reply c) same)) (λ e. gives_err (IsReceived t) _) _)
+received_gives t n same =
+    unless_gives (IsReceived t) (rejected t.settings t.view t.shallow n.reply) _
+    (dry_or_gives (IsReceived t) t.dry_run (Some (without_pack n)) _ (some_received t (without_pack n) same)
+    (either_gives (IsReceived t) (unpacked n) (λ c. gives_ok _ (IsReceived t) (Some (with_pack n c)) (some_received t (with_pack n c) same)) (λ e. gives_err (IsReceived t) _) _))
 
-replied_gives : (t : TermsValue) (x : Told) → t.settings.kind ≡ t.listed.handshake.object_hash → Gives (IsReceived t) (replied t x)
-replied_gives t (told.Reply reply) same = received_gives t reply same
-replied_gives t (told.Greeting h) same = gives_err (IsReceived t) _
-replied_gives t (told.Advertisement h refs) same = gives_err (IsReceived t) _
-replied_gives t (told.Listing refs) same = gives_err (IsReceived t) _
+-- one conversation after another gives what the other gives
+gives_then : {X Y E : Type 0} (p : Y → Type 0) (c : Conversation X E) (f : X → Conversation Y E) → ((x : X) → Gives p (f x)) → Gives p (and_then c f)
+unfolding Gives and_then
+gives_then p (ends (Ok x)) f h = h x
+gives_then p (ends (Err e)) f h = tt
+gives_then p (asks lines awaited failed next) f h = λ t. gives_then p (next t) f h
 
-wanting_gives : (bound : ℕ) (t : TermsValue) (wants : List ObjectId) → t.view.wants ≡ wants → t.settings.kind ≡ t.listed.handshake.object_hash → Gives (IsReceived t) (wanting bound t wants)
+wanting_gives : (bound : ℕ) (g : Graph) (t : TermsValue) (wants : List ObjectId) → t.view.wants ≡ wants → t.settings.kind ≡ t.listed.handshake.object_hash → Gives (IsReceived t) (wanting bound g t wants)
 unfolding fetching
-wanting_gives bound t [] is same = gives_ok _ (IsReceived t) None (record { none = λ _. is; kind = same })
-wanting_gives bound t (id ∷ ids) is same = gives_asking (IsReceived t) converse.too_long (fetch_request (converse.asked_by t) [] true) (awaits.Reply (converse.reply_to t)) (converse.failed bound) (replied t) (λ x. replied_gives t x same)
+wanting_gives bound g t [] is same = gives_ok _ (IsReceived t) None (record { none = λ _. is; kind = same })
+wanting_gives bound g t (id ∷ ids) is same = gives_then (IsReceived t) _ _ (λ n. received_gives t n same)
 
 kinds_same : (a b : Kind) → is_same_kind a b ≡ true → a ≡ b
 kinds_same Sha1 Sha1 is = refl
@@ -159,16 +165,16 @@ kinds_same Sha1 Sha256 is = absurd (cc)
 kinds_same Sha256 Sha1 is = absurd (cc)
 kinds_same Sha256 Sha256 is = refl
 
-converse_gives : (bound : ℕ) (t : TermsValue) → Gives (IsReceived t) (converse_stage bound t)
+converse_gives : (bound : ℕ) (g : Graph) (t : TermsValue) → Gives (IsReceived t) (converse_stage bound g t)
 unfolding converse_stage
-converse_gives bound t = by (no_mapping t) (is_same_kind t.settings.kind t.listed.handshake.object_hash) refl (option_or (unfit t.settings) (lacking t))
+converse_gives bound g t = by (no_mapping t) (is_same_kind t.settings.kind t.listed.handshake.object_hash) refl (option_or (unfit t.settings) (lacking t))
   where
     by : (a : Option ReceiveError) (b : Bool) → is_same_kind t.settings.kind t.listed.handshake.object_hash ≡ b → (c : Option ReceiveError)
-        → Gives (IsReceived t) (unless (option_or a (option_or (if b then None else Some (errors.IncompatibleObjectHash t.settings.kind t.listed.handshake.object_hash)) c)) (wanting bound t t.view.wants))
+        → Gives (IsReceived t) (unless (option_or a (option_or (if b then None else Some (errors.IncompatibleObjectHash t.settings.kind t.listed.handshake.object_hash)) c)) (wanting bound g t t.view.wants))
     by (Some e) b same c = gives_err (IsReceived t) e
     by None false same c = gives_err (IsReceived t) _
     by None true same (Some e) = gives_err (IsReceived t) e
-    by None true same None = wanting_gives bound t t.view.wants refl (kinds_same _ _ same)
+    by None true same None = wanting_gives bound g t t.view.wants refl (kinds_same _ _ same)
 
-pub is_received : (bound : ℕ) (t : TermsValue) (stream : List ℕ) (r : Option Received) (rest : List ℕ) → answer_in bound (converse_stage bound t) stream ≡ Ok (r, rest) → IsReceived t r
-is_received bound t stream r rest is = gives_answer (IsReceived t) bound (converse_stage bound t) stream r rest (converse_gives bound t) is
+pub is_received : (bound : ℕ) (g : Graph) (t : TermsValue) (stream : List ℕ) (r : Option Received) (rest : List ℕ) → answer_in bound (converse_stage bound g t) stream ≡ Ok (r, rest) → IsReceived t r
+is_received bound g t stream r rest is = gives_answer (IsReceived t) bound (converse_stage bound g t) stream r rest (converse_gives bound g t) is

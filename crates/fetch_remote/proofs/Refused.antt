@@ -19,57 +19,67 @@ use Rattle.fetch_conversation.specs.declared.ref_map.Error.TheVariants as ref_ma
 use Rattle.fetch_remote.specs.declared.fetch_error.FetchError.{FetchError}
 use Rattle.fetch_remote.specs.declared.fetch_error.FetchError.TheVariants as errors
 use Rattle.fetch_remote.specs.Errors.{preparing, receiving, is_free}
-use Rattle.fetch_remote.specs.Fetching.{manner_in, taken_in, settled_in, fetched_in, requests_in, left_by, left_in}
+use Rattle.fetch_remote.specs.Fetching.{manner_in, taken_in, keep_made, settled_in, fetched_in, requests_in, left_by, left_in, keep_left_by, keep_left_in}
 use Rattle.fetch_remote.specs.Form.{Given}
-use Rattle.fetch_remote.specs.Judging.{IsTold}
-use Rattle.fetch_remote.specs.Refused.{RefusesWith, IsRefusedBy, IsTaken, IsStanding, unjudged, IsCutListing, IsCutReceiving, IsCounted, IsRefused, interrupted_listing, interrupted_receiving}
-use Rattle.fetch_remote.specs.Repositories.{State, Setup}
-use Rattle.fetch_remote.specs.declared.settling.Manner.{Manner}
-use Rattle.fetch_store.specs.declared.id.ObjectId.{ObjectId}
-use Rattle.fetch_remote.specs.Settling.{kept_or, IsUnjudged, IsUnsettled, IsUnsettledBy}
+use Rattle.fetch_remote.specs.Keeping.{AreFiles, with_keep}
+use Rattle.fetch_remote.specs.Refused.{RefusesWith, IsRefusedBy, HasEnded, IsFound, IsMaking, IsTaken, IsMoved, IsStanding, unjudged, unmade, unremoved, is_late, IsCutListing, IsCutReceiving, IsCounted, IsRefused, interrupted_listing, interrupted_receiving}
+use Rattle.fetch_remote.specs.Repositories.{State}
+use Rattle.fetch_store.specs.Trees.{Tree}
+use Rattle.fetch_remote.specs.Settling.{kept_or, standing, is_free_settling, IsLeft, IsUnsettled}
+use Rattle.fetch_remote.specs.Settling as settling
 use Rattle.fetch_remote.specs.Stages.{Told, bound_of, wants_in, listing_stage, conversation}
 use Rattle.fetch_remote.specs.Talking.{HasTold, BreaksListing, BreaksReceiving}
 use Rattle.fetch_remote.proofs.Broken.{whole_listing, whole_receiving, front_listing, front_receiving, Later}
 use Rattle.fetch_remote.proofs.Fetched.{in_form, fetched_is}
+use Rattle.fetch_remote.proofs.Keeping.{same_files}
 use Rattle.fetch_remote.proofs.Settled.{takes, list_of, list_told}
 use Rattle.fetch_remote.proofs.Spoken.{said_in, heard_in, told_spoken}
-use Rattle.fetch_remote.proofs.Unjudged.{receives_no_fault}
+use Rattle.fetch_remote.proofs.Unjudged.{refusal_is, receives_no_other}
 
 left_is : (g : Given) (before : State) (stream : List ℕ) (answer : Result (Told × List ℕ) FetchError) → answer_in (bound_of g) (conversation g before) stream ≡ answer
     → left_in g before stream ≡ left_by g before answer
 unfolding left_in
 left_is g before stream answer is = rw is refl
 
+keep_left_is : (g : Given) (before : State) (stream : List ℕ) (answer : Result (Told × List ℕ) FetchError) → answer_in (bound_of g) (conversation g before) stream ≡ answer → keep_left_in g before stream ≡ keep_left_by g before answer
+unfolding keep_left_in
+keep_left_is g before stream answer is = rw is refl
+
+-- all is as found
+found : (before : State) (files : Option Tree) → IsFound before before files files
+found before files = record { same_state = refl; same_files = refl }
+
 -- ---- no counted refusal
 
-no_transport : (e : FetchError) → is_free e ≡ false → e ≡ errors.Prepare (prepare.RefMap ref_map.Transport) → ⊥
-no_transport e sure is = let h : true ≡ false = sym (ap is_free is) ∙ sure in cc
+uncaused : (e x : FetchError) → is_free e ≡ false → is_free x ≡ true → e ≡ x → ⊥
+uncaused e x sure free is = let h : true ≡ false = sym free ∙ sym (ap is_free is) ∙ sure in cc
 
-no_interrupted : (e : FetchError) → is_free e ≡ false → e ≡ interrupted_listing → ⊥
-no_interrupted e sure is = let h : true ≡ false = sym (ap is_free is) ∙ sure in cc
-
-no_client : (e : FetchError) → is_free e ≡ false → e ≡ errors.Receive receive.Client → ⊥
-no_client e sure is = let h : true ≡ false = sym (ap is_free is) ∙ sure in cc
-
-no_stopped : (e : FetchError) → is_free e ≡ false → e ≡ interrupted_receiving → ⊥
-no_stopped e sure is = let h : true ≡ false = sym (ap is_free is) ∙ sure in cc
-
-no_worktrees : (e : FetchError) → is_free e ≡ false → (fault : UpdateError) → is_worktree_fault fault ≡ true → e ≡ unjudged fault → ⊥
-no_worktrees e sure fault faulty is = let h : true ≡ false = sym faulty ∙ sym (ap is_free is) ∙ sure in cc
-
-uncounted : (g : Given) (before after : State) (said heard : List ℕ) (e : FetchError) → is_free e ≡ false → IsCounted g before after said heard e
-uncounted g before after said heard e sure = record {
-  transport = λ is. absurd (no_transport e sure is);
-  interrupted = λ is. absurd (no_interrupted e sure is);
-  client = λ is. absurd (no_client e sure is);
-  stopped = λ is. absurd (no_stopped e sure is);
-  worktrees = λ fault yes is. absurd (no_worktrees e sure fault yes is);
+uncounted : (g : Given) (trees : List Worktree) (before after : State) (files left : Option Tree) (said heard : List ℕ) (e : FetchError) → is_free e ≡ false → IsCounted g trees before after files left said heard e
+uncounted g trees before after files left said heard e sure = record {
+  transport = λ is. absurd (uncaused e _ sure refl is);
+  interrupted = λ is. absurd (uncaused e _ sure refl is);
+  client = λ is. absurd (uncaused e _ sure refl is);
+  stopped = λ is. absurd (uncaused e _ sure refl is);
+  making = λ path is. absurd (uncaused e (unmade path) sure refl is);
+  worktrees = λ fault yes is. absurd (uncaused e (unjudged fault) sure yes is);
+  removing = λ path is. absurd (uncaused e (unremoved path) sure refl is);
 }
 
 -- ---- want of memory before anything is said
 
-pub forgot : (answers : Bool) (now : Option Talk) (known : Option (List Worktree)) (g : Given) (before : State) → IsRefused answers now now known g before before errors.NoMemory
-forgot answers now known g before = record {
+no_memory_counted : (g : Given) (trees : List Worktree) (before after : State) (files left : Option Tree) (said heard : List ℕ) → IsCounted g trees before after files left said heard errors.NoMemory
+no_memory_counted g trees before after files left said heard = record {
+  transport = λ is. absurd (cc);
+  interrupted = λ is. absurd (cc);
+  client = λ is. absurd (cc);
+  stopped = λ is. absurd (cc);
+  making = λ path is. absurd (cc);
+  worktrees = λ fault yes is. absurd (cc);
+  removing = λ path is. absurd (cc);
+}
+
+pub forgot : (answers : Bool) (now : Option Talk) (known : Option (List Worktree)) (files : Option Tree) (g : Given) (before : State) → IsRefused answers now now known files files g before before errors.NoMemory
+forgot answers now known files g before = record {
   said = [];
   heard = [];
   passed = Talks-none answers now;
@@ -77,42 +87,43 @@ forgot answers now known g before = record {
   trees = list_of known;
   listed_trees = list_told known;
   why = λ sure. absurd (cc);
-  stands = inl refl;
-  counted = record { transport = λ is. absurd (cc); interrupted = λ is. absurd (cc); client = λ is. absurd (cc); stopped = λ is. absurd (cc); worktrees = λ fault yes is. absurd (cc) };
+  stands = λ _. inl (found before files);
+  counted = no_memory_counted g (list_of known) before before files files [] [];
 }
 
 -- ---- a conversation that broke off
 
-early_with : (g : Given) (trees : List Worktree) (before : State) (stream heard : List ℕ) (e : FetchError) → held.RefusesWith (bound_of g) (conversation g before) stream heard e → RefusesWith g trees before before stream heard e
-early_with g trees before stream heard e h = record {
+early_with : (g : Given) (trees : List Worktree) (before : State) (files : Option Tree) (stream heard : List ℕ) (e : FetchError) → held.RefusesWith (bound_of g) (conversation g before) stream heard e → RefusesWith g trees before before files files stream heard e
+early_with g trees before files stream heard e h = record {
   refused = fetched_is g trees before stream (Err e) (Err e) h.answer refl;
   requests = ap lines_text (in_form g before stream) ∙ h.asked;
   left = left_is g before stream (Err e) h.answer;
+  kept = rw (keep_left_is g before stream (Err e) h.answer) (same_files files);
 }
 
-early_by : (now : Option Talk) (g : Given) (trees : List Worktree) (before : State) (said heard : List ℕ) (e : FetchError) → held.IsRefusedBy (bound_of g) now (conversation g before) said heard e → IsRefusedBy now g trees before before said heard e
-early_by now g trees before said heard e (inl all) = inl (λ more. early_with g trees before (said ++ more) heard e (all more))
-early_by now g trees before said heard e (inr last) = inr (last.0, early_with g trees before said heard e last.1)
+early_by : (now : Option Talk) (g : Given) (trees : List Worktree) (before : State) (files : Option Tree) (said heard : List ℕ) (e : FetchError) → held.IsRefusedBy (bound_of g) now (conversation g before) said heard e → IsRefusedBy now g trees before before files files said heard e
+early_by now g trees before files said heard e (inl all) = inl (λ more. early_with g trees before files (said ++ more) heard e (all more))
+early_by now g trees before files said heard e (inr last) = inr (last.0, early_with g trees before files said heard e last.1)
 
 -- with a cause
-broken_for : (answers : Bool) (old new : Option Talk) (known : Option (List Worktree)) (g : Given) (before : State) (e : FetchError) → is_free e ≡ false → Breaks is_free answers (bound_of g) old new [] (conversation g before) e
-    → IsRefused answers old new known g before before e
-broken_for answers old new known g before e sure h = record {
+broken_for : (answers : Bool) (old new : Option Talk) (known : Option (List Worktree)) (files : Option Tree) (g : Given) (before : State) (e : FetchError) → is_free e ≡ false → Breaks is_free answers (bound_of g) old new [] (conversation g before) e
+    → IsRefused answers old new known files files g before before e
+broken_for answers old new known files g before e sure h = record {
   said = h.said;
   heard = h.heard;
   passed = h.passed;
   front = rw (in_form g before h.said) h.front;
   trees = list_of known;
   listed_trees = list_told known;
-  why = λ bound_to. early_by new g (list_of known) before h.said h.heard e (h.why bound_to);
-  stands = inl refl;
-  counted = uncounted g before before h.said h.heard e sure;
+  why = λ bound_to. early_by new g (list_of known) before files h.said h.heard e (h.why bound_to);
+  stands = λ _. inl (found before files);
+  counted = uncounted g (list_of known) before before files files h.said h.heard e sure;
 }
 
 -- one that is free
-broken_free : (answers : Bool) (old new : Option Talk) (known : Option (List Worktree)) (g : Given) (before : State) (said heard : List ℕ) (e : FetchError) → is_free e ≡ true → Talks answers old new heard said
-    → IsFront heard (lines_text (held.sent_in (bound_of g) (conversation g before) said)) → IsCounted g before before said heard e → IsRefused answers old new known g before before e
-broken_free answers old new known g before said heard e free passed front counted = record {
+broken_free : (answers : Bool) (old new : Option Talk) (known : Option (List Worktree)) (files : Option Tree) (g : Given) (before : State) (said heard : List ℕ) (e : FetchError) → is_free e ≡ true → Talks answers old new heard said
+    → IsFront heard (lines_text (held.sent_in (bound_of g) (conversation g before) said)) → IsCounted g (list_of known) before before files files said heard e → IsRefused answers old new known files files g before before e
+broken_free answers old new known files g before said heard e free passed front counted = record {
   said = said;
   heard = heard;
   passed = passed;
@@ -120,7 +131,7 @@ broken_free answers old new known g before said heard e free passed front counte
   trees = list_of known;
   listed_trees = list_told known;
   why = λ sure. absurd (cc (free, sure));
-  stands = inl refl;
+  stands = λ _. inl (found before files);
   counted = counted;
 }
 
@@ -146,174 +157,152 @@ no_listing_pack (receive.Collision id) x is = absurd (cc)
 no_listing_pack (receive.KeepFile path) x is = absurd (cc)
 no_listing_pack (receive.UpdateRefs e) x is = absurd (cc)
 no_listing_pack (receive.RemovePackKeepFile path) x is = absurd (cc)
-no_listing_pack receive.Unbuilt x is = absurd (cc)
 no_listing_pack receive.NoMemory x is = absurd (cc)
 
-listing_by : (answers : Bool) (old new : Option Talk) (known : Option (List Worktree)) (g : Given) (before : State) (e : PrepareError) → Breaks is_free_listing answers (bound_of g) old new [] (listing_stage g) e → (b : Bool) → is_free (preparing e) ≡ b
-    → IsRefused answers old new known g before before (preparing e)
-listing_by answers old new known g before e h false sure = broken_for answers old new known g before (preparing e) sure (whole_listing answers old new g before e h)
-listing_by answers old new known g before e h true free =
-    let cut : IsCutListing g before before h.said h.heard = record { front = h.front; found = refl } in
-    broken_free answers old new known g before h.said h.heard (preparing e) free h.passed (front_listing g before h.said h.heard h.front) (record {
+listing_by : (answers : Bool) (old new : Option Talk) (known : Option (List Worktree)) (files : Option Tree) (g : Given) (before : State) (e : PrepareError) → Breaks is_free_listing answers (bound_of g) old new [] (listing_stage g) e → (b : Bool) → is_free (preparing e) ≡ b
+    → IsRefused answers old new known files files g before before (preparing e)
+listing_by answers old new known files g before e h false sure = broken_for answers old new known files g before (preparing e) sure (whole_listing answers old new g before e h)
+listing_by answers old new known files g before e h true free =
+    let cut : IsCutListing g before before files files h.said h.heard = record { front = h.front; found = found before files } in
+    broken_free answers old new known files g before h.said h.heard (preparing e) free h.passed (front_listing g before h.said h.heard h.front) (record {
       transport = λ _. cut;
       interrupted = λ _. cut;
       client = λ is. absurd (no_pack_listing e _ is);
       stopped = λ is. absurd (no_pack_listing e _ is);
+      making = λ path is. absurd (no_pack_listing e _ is);
       worktrees = λ fault yes is. absurd (no_pack_listing e _ is);
+      removing = λ path is. absurd (no_pack_listing e _ is);
     })
 
-pub broken_listing : (answers : Bool) (old new : Option Talk) (known : Option (List Worktree)) (g : Given) (before : State) (e : FetchError) → BreaksListing answers old new g e → IsRefused answers old new known g before before e
-broken_listing answers old new known g before e h = rw h.told (listing_by answers old new known g before h.cause h.broke (is_free (preparing h.cause)) refl)
+pub broken_listing : (answers : Bool) (old new : Option Talk) (known : Option (List Worktree)) (files : Option Tree) (g : Given) (before : State) (e : FetchError) → BreaksListing answers old new g e → IsRefused answers old new known files files g before before e
+broken_listing answers old new known files g before e h = rw h.told (listing_by answers old new known files g before h.cause h.broke (is_free (preparing h.cause)) refl)
 
-receiving_by : (answers : Bool) (old new : Option Talk) (known : Option (List Worktree)) (g : Given) (before : State) (e : FetchError) → (h : BreaksReceiving answers old new g before e) → (b : Bool) → is_free (receiving h.cause) ≡ b
-    → IsRefused answers old new known g before before (receiving h.cause)
-receiving_by answers old new known g before e h false sure =
-    broken_for answers old new known g before (receiving h.cause) sure (whole_receiving answers old h.between new g before h.listed h.behind h.cause h.list h.broke)
-receiving_by answers old new known g before e h true free =
+receiving_by : (answers : Bool) (old new : Option Talk) (known : Option (List Worktree)) (files : Option Tree) (g : Given) (before : State) (e : FetchError) → (h : BreaksReceiving answers old new g before e) → (b : Bool) → is_free (receiving h.cause) ≡ b
+    → IsRefused answers old new known files files g before before (receiving h.cause)
+receiving_by answers old new known files g before e h false sure =
+    broken_for answers old new known files g before (receiving h.cause) sure (whole_receiving answers old h.between new g before h.listed h.behind h.cause h.list h.broke)
+receiving_by answers old new known files g before e h true free =
     let said = h.list.said ++ h.broke.said in
     let heard = h.list.heard ++ h.broke.heard in
     let behind = h.behind ++ h.broke.said in
     let later : Later g before h.listed said behind h.list.heard h.broke.heard = record { asked = h.list.asked h.broke.said; answered = h.list.answered h.broke.said; front = h.broke.front } in
-    let cut : IsCutReceiving g before before said heard = record {
+    let cut : IsCutReceiving g before before files files said heard = record {
       listed = h.listed;
       behind = behind;
       answered = later.answered;
       later = h.broke.heard;
       heard_all = ap (λ (l : List ℕ). l ++ h.broke.heard) (sym later.asked);
       front = h.broke.front;
-      found = refl;
+      found = found before files;
     } in
-    broken_free answers old new known g before said heard (receiving h.cause) free (Talks-then answers old h.between new h.list.heard h.list.said h.broke.heard h.broke.said h.list.passed h.broke.passed)
+    broken_free answers old new known files g before said heard (receiving h.cause) free (Talks-then answers old h.between new h.list.heard h.list.said h.broke.heard h.broke.said h.list.passed h.broke.passed)
     (front_receiving g before h.listed said behind h.list.heard h.broke.heard later) (record {
       transport = λ is. absurd (no_listing_pack h.cause _ is);
       interrupted = λ is. absurd (no_listing_pack h.cause _ is);
       client = λ _. cut;
       stopped = λ _. cut;
-      worktrees = λ fault yes is. absurd (receives_no_fault answers old new g before e h fault is);
+      making = λ path is. absurd (receives_no_other answers old new g before e h (receive.KeepFile path) (λ x. x) refl is);
+      worktrees = λ fault yes is. absurd (receives_no_other answers old new g before e h (receive.UpdateRefs fault) (λ x. x) refl is);
+      removing = λ path is. absurd (receives_no_other answers old new g before e h (receive.RemovePackKeepFile path) (λ x. x) refl is);
     })
 
-pub broken_receiving : (answers : Bool) (old new : Option Talk) (known : Option (List Worktree)) (g : Given) (before : State) (e : FetchError) → BreaksReceiving answers old new g before e → IsRefused answers old new known g before before e
-broken_receiving answers old new known g before e h = rw h.told (receiving_by answers old new known g before e h (is_free (receiving h.cause)) refl)
+pub broken_receiving : (answers : Bool) (old new : Option Talk) (known : Option (List Worktree)) (files : Option Tree) (g : Given) (before : State) (e : FetchError) → BreaksReceiving answers old new g before e → IsRefused answers old new known files files g before before e
+broken_receiving answers old new known files g before e h = rw h.told (receiving_by answers old new known files g before e h (is_free (receiving h.cause)) refl)
 
-pub broken_off : (answers : Bool) (old new : Option Talk) (known : Option (List Worktree)) (g : Given) (before : State) (e : FetchError) → BreaksListing answers old new g e ⊎ BreaksReceiving answers old new g before e
-    → IsRefused answers old new known g before before e
-broken_off answers old new known g before e (inl h) = broken_listing answers old new known g before e h
-broken_off answers old new known g before e (inr h) = broken_receiving answers old new known g before e h
+pub broken_off : (answers : Bool) (old new : Option Talk) (known : Option (List Worktree)) (files : Option Tree) (g : Given) (before : State) (e : FetchError) → BreaksListing answers old new g e ⊎ BreaksReceiving answers old new g before e
+    → IsRefused answers old new known files files g before before e
+broken_off answers old new known files g before e (inl h) = broken_listing answers old new known files g before e h
+broken_off answers old new known files g before e (inr h) = broken_receiving answers old new known files g before e h
 
 -- ---- refused behind the conversation
 
-late_with : (g : Given) (trees : List Worktree) (before after : State) (stream heard : List ℕ) (t : Told) (rest : List ℕ) (e : ReceiveError) → answer_in (bound_of g) (conversation g before) stream ≡ Ok (t, rest)
-    → lines_text (held.sent_in (bound_of g) (conversation g before) stream) ≡ heard → settled_in g trees before t ≡ Err e → after ≡ kept_or before (taken_in g before t) → RefusesWith g trees before after stream heard (receiving e)
-late_with g trees before after stream heard t rest e answered asked is kept = record {
-  refused = fetched_is g trees before stream (Ok (t, rest)) (Err (receiving e)) answered (rw is refl);
+-- the refusal's cause, and what it leaves
+abbrev IsLate : Given → List Worktree → State → State → Option Tree → Option Tree → Told → ReceiveError → Type 0
+IsLate g trees before after files left t e =
+    (settled_in g trees before t ≡ Err e) × (after ≡ kept_or before (taken_in g before t)) × AreFiles files left (with_keep (standing (taken_in g before t) (keep_made g t)))
+
+late_with : (g : Given) (trees : List Worktree) (before after : State) (files left : Option Tree) (stream heard : List ℕ) (t : Told) (rest : List ℕ) (e : ReceiveError) → answer_in (bound_of g) (conversation g before) stream ≡ Ok (t, rest)
+    → lines_text (held.sent_in (bound_of g) (conversation g before) stream) ≡ heard → IsLate g trees before after files left t e → RefusesWith g trees before after files left stream heard (receiving e)
+late_with g trees before after files left stream heard t rest e answered asked h = record {
+  refused = fetched_is g trees before stream (Ok (t, rest)) (Err (receiving e)) answered (rw h.0 refl);
   requests = ap lines_text (in_form g before stream) ∙ asked;
-  left = left_is g before stream (Ok (t, rest)) answered ∙ sym kept;
+  left = left_is g before stream (Ok (t, rest)) answered ∙ sym h.1;
+  kept = rw (keep_left_is g before stream (Ok (t, rest)) answered) h.2;
 }
-
-kept_refs : (g : Given) (before after : State) (t : Told) → after ≡ kept_or before (taken_in g before t) → (after ≡ before) ⊎ (taken_in g before t ≡ Ok after)
-kept_refs g before after t = by (taken_in g before t) refl
-  where
-    by : (x : Result State ReceiveError) → taken_in g before t ≡ x → after ≡ kept_or before x → (after ≡ before) ⊎ (taken_in g before t ≡ Ok after)
-    by (Ok s) took is = inr (took ∙ ap Ok (sym is))
-    by (Err e) took is = inl is
-
--- as found, or with all that was received
-taken_at : (g : Given) (before after : State) (said rest : List ℕ) (t : Told) → ((more : List ℕ) → answer_in (bound_of g) (conversation g before) (said ++ more) ≡ Ok (t, rest ++ more)) → taken_in g before t ≡ Ok after
-    → IsTaken g before after said
-taken_at g before after said rest t h took = record { told = t; rest = rest; answered = h; state = took; refs = (takes before _ _ after took).refs }
-
-stands_at : (g : Given) (before after : State) (said rest : List ℕ) (t : Told) → ((more : List ℕ) → answer_in (bound_of g) (conversation g before) (said ++ more) ≡ Ok (t, rest ++ more))
-    → (after ≡ before) ⊎ (taken_in g before t ≡ Ok after) → IsStanding g before after said
-stands_at g before after said rest t h (inl is) = inl is
-stands_at g before after said rest t h (inr took) = inr (taken_at g before after said rest t h took)
 
 front_all : (g : Given) (before : State) (said heard : List ℕ) → ((more : List ℕ) → lines_text (held.sent_in (bound_of g) (conversation g before) (said ++ more)) ≡ heard) → IsFront heard (lines_text (requests_in g before said))
 front_all g before said heard asked =
     let same : lines_text (requests_in g before said) ≡ heard = ap lines_text (in_form g before said) ∙ rw append-nil at (asked []) in
     ([], same ∙ sym (append-nil heard))
 
-late : (answers : Bool) (old new : Option Talk) (known : Option (List Worktree)) (g : Given) (trees : List Worktree) (before after : State) (l : ListedValue) (r : Option Received) (rest : List ℕ) (e : ReceiveError) → IsTold known trees → HasTold answers old new g before l r rest
-    → settled_in g trees before (record { listed = l; received = r }) ≡ Err e → after ≡ kept_or before (taken_in g before (record { listed = l; received = r })) → is_free (receiving e) ≡ false
-    → IsRefused answers old new known g before after (receiving e)
-late answers old new known g trees before after l r rest e listed told is kept sure =
+taken_at : (g : Given) (before after : State) (files left : Option Tree) (said : List ℕ) (t : Told) → HasEnded g before said t → settling.IsTaken (taken_in g before t) (keep_made g t) files left after → IsTaken g before after files left said
+taken_at g before after files left said t ended h = record { told = t; ended = ended; state = h.took; kept = h.kept; refs = (takes before _ _ after h.took).refs }
+
+making_at : (g : Given) (before after : State) (files left : Option Tree) (said path : List ℕ) (t : Told) → HasEnded g before said t → after ≡ before → settling.IsMaking (taken_in g before t) (keep_made g t) path files left → IsMaking g before after files left said path
+making_at g before after files left said path t ended is h = record { told = t; ended = ended; state = h.state; took = h.took; keep = h.made; found = is; tree = h.told }
+
+stands_at : (g : Given) (before after : State) (files left : Option Tree) (said : List ℕ) (t : Told) → HasEnded g before said t → IsLeft before (taken_in g before t) (keep_made g t) files left after → IsStanding g before after files left said
+stands_at g before after files left said t ended (inl h) = unmoved h.0 h.1
+  where
+    unmoved : after ≡ before → (left ≡ files) ⊎ ((path : List ℕ) × settling.IsMaking (taken_in g before t) (keep_made g t) path files left) → IsStanding g before after files left said
+    unmoved is (inl same) = inl (record { same_state = is; same_files = same })
+    unmoved is (inr m) = inr (inl (m.0, making_at g before after files left said m.0 t ended is m.1))
+stands_at g before after files left said t ended (inr h) = inr (inr (taken_at g before after files left said t ended h))
+
+-- the refusals of the settling, seen from the fetch
+record SaysSame (e : ReceiveError) : Type 0 where
+  sure : is_free (receiving e) ≡ false → is_free_settling e ≡ false
+  early : is_late (receiving e) ≡ false → settling.is_late e ≡ false
+
+told_as : (e : ReceiveError) → SaysSame e
+told_as (receive.NoMapping specs count) = record { sure = λ h. refl; early = λ h. refl }
+told_as (receive.IncompatibleObjectHash local remote) = record { sure = λ h. refl; early = λ h. refl }
+told_as (receive.Disconnected link) = record { sure = λ h. refl; early = λ h. refl }
+told_as (receive.RejectShallowRemoteConfig value) = record { sure = λ h. refl; early = λ h. refl }
+told_as (receive.NegotiationAlgorithmConfig value) = record { sure = λ h. refl; early = λ h. refl }
+told_as (receive.PackThreads value) = record { sure = λ h. refl; early = λ h. refl }
+told_as (receive.Fetch e) = record { sure = λ h. refl; early = λ h. refl }
+told_as receive.Client = record { sure = λ h. absurd (cc); early = λ h. refl }
+told_as receive.Interrupted = record { sure = λ h. absurd (cc); early = λ h. refl }
+told_as (receive.RejectShallowRemote id) = record { sure = λ h. refl; early = λ h. refl }
+told_as (receive.Pack e) = record { sure = λ h. refl; early = λ h. refl }
+told_as (receive.Collision id) = record { sure = λ h. refl; early = λ h. refl }
+told_as (receive.KeepFile path) = record { sure = λ h. absurd (cc); early = λ h. refl }
+told_as (receive.UpdateRefs e) = record { sure = λ h. h; early = λ h. refl }
+told_as (receive.RemovePackKeepFile path) = record { sure = λ h. absurd (cc); early = λ h. absurd (cc) }
+told_as receive.NoMemory = record { sure = λ h. absurd (cc); early = λ h. refl }
+
+pub not_settled : (answers : Bool) (old new : Option Talk) (known : Option (List Worktree)) (files left : Option Tree) (g : Given) (before after : State) (l : ListedValue) (r : Option Received) (rest : List ℕ) (e : ReceiveError) → HasTold answers old new g before l r rest
+    → IsUnsettled known files left g.setup (manner_in g) before (wants_in g before l.ref_map) l r after e → IsRefused answers old new known files left g before after (receiving e)
+not_settled answers old new known files left g before after l r rest e told u =
     let h = told_spoken answers old new g before l r rest told in
     let t : Told = record { listed = l; received = r } in
     let said = said_in answers old new g before l r rest told in
     let heard = heard_in answers old new g before l r rest told in
+    let ended : HasEnded g before said t = record { rest = rest; answered = h.answered } in
+    let b = u.by in
     record {
       said = said;
       heard = heard;
       passed = h.passed;
       front = front_all g before said heard h.asked;
-      trees = trees;
-      listed_trees = listed;
-      why = λ _. inl (λ more. late_with g trees before after (said ++ more) heard t (rest ++ more) e (h.answered more) (h.asked more) is kept);
-      stands = stands_at g before after said rest t h.answered (kept_refs g before after t kept);
-      counted = uncounted g before after said heard (receiving e) sure;
+      trees = u.trees;
+      listed_trees = u.listed_trees;
+      why = λ sure.
+          let k = b.why ((told_as e).sure sure) in
+          inl (λ more. late_with g u.trees before after files left (said ++ more) heard t (rest ++ more) e (h.answered more) (h.asked more) k);
+      stands = λ early. stands_at g before after files left said t ended (b.stands ((told_as e).early early));
+      counted = record {
+        transport = λ is. absurd (no_listing_pack e _ is);
+        interrupted = λ is. absurd (no_listing_pack e _ is);
+        client = λ is. absurd (b.unheard.0 (refusal_is e receive.Client is));
+        stopped = λ is. absurd (b.unheard.1 (refusal_is e receive.Interrupted is));
+        making = λ path is.
+            let k = b.making path (refusal_is e (receive.KeepFile path) is) in
+            making_at g before after files left said path t ended k.0 k.1;
+        worktrees = λ fault yes is. taken_at g before after files left said t ended (b.unlisted fault yes (refusal_is e (receive.UpdateRefs fault) is));
+        removing = λ path is.
+            let k = b.moved path (refusal_is e (receive.RemovePackKeepFile path) is) in
+            record { outcome = k.outcome; fetched = λ more. fetched_is g u.trees before (said ++ more) _ _ (h.answered more) (rw k.by refl); removed = k.removed; tree = k.told };
+      };
     }
-
-late_free : (answers : Bool) (old new : Option Talk) (known : Option (List Worktree)) (g : Given) (trees : List Worktree) (before after : State) (l : ListedValue) (r : Option Received) (rest : List ℕ) (e : FetchError) → IsTold known trees → HasTold answers old new g before l r rest
-    → (after ≡ before) ⊎ (taken_in g before (record { listed = l; received = r }) ≡ Ok after) → is_free e ≡ true
-    → ((said heard : List ℕ) → (taken_in g before (record { listed = l; received = r }) ≡ Ok after → IsTaken g before after said) → IsCounted g before after said heard e) → IsRefused answers old new known g before after e
-late_free answers old new known g trees before after l r rest e listed told left free counted =
-    let h = told_spoken answers old new g before l r rest told in
-    let said = said_in answers old new g before l r rest told in
-    let heard = heard_in answers old new g before l r rest told in
-    record {
-      said = said;
-      heard = heard;
-      passed = h.passed;
-      front = front_all g before said heard h.asked;
-      trees = trees;
-      listed_trees = listed;
-      why = λ sure. absurd (cc (free, sure));
-      stands = stands_at g before after said rest (record { listed = l; received = r }) h.answered left;
-      counted = counted said heard (λ took. taken_at g before after said rest (record { listed = l; received = r }) h.answered took);
-    }
-
--- its two parts
-late_by : (answers : Bool) (old new : Option Talk) (known : Option (List Worktree)) (g : Given) (trees : List Worktree) (before after : State) (l : ListedValue) (r : Option Received) (rest : List ℕ) (e : ReceiveError) → IsTold known trees → HasTold answers old new g before l r rest
-    → (settled_in g trees before (record { listed = l; received = r }) ≡ Err e) × (after ≡ kept_or before (taken_in g before (record { listed = l; received = r }))) → is_free (receiving e) ≡ false
-    → IsRefused answers old new known g before after (receiving e)
-late_by answers old new known g trees before after l r rest e listed told h sure = late answers old new known g trees before after l r rest e listed told h.0 h.1 sure
-
-no_memory_counted : (g : Given) (before after : State) (said heard : List ℕ) → IsCounted g before after said heard errors.NoMemory
-no_memory_counted g before after said heard = record { transport = λ is. absurd (cc); interrupted = λ is. absurd (cc); client = λ is. absurd (cc); stopped = λ is. absurd (cc); worktrees = λ fault yes is. absurd (cc) }
-
--- a refusal of judging isn't one of the conversation
-unjudged_counted : (g : Given) (before after : State) (said heard : List ℕ) (e : UpdateError) → IsTaken g before after said → IsCounted g before after said heard (unjudged e)
-unjudged_counted g before after said heard e taken =
-    record { transport = λ is. absurd (cc); interrupted = λ is. absurd (cc); client = λ is. absurd (cc); stopped = λ is. absurd (cc); worktrees = λ fault yes is. taken }
-
--- judging is refused: for its reason, or by a fault of the worktrees
-late_unjudged : (answers : Bool) (old new : Option Talk) (known : Option (List Worktree)) (g : Given) (trees : List Worktree) (before after : State) (l : ListedValue) (r : Option Received) (rest : List ℕ) (e : UpdateError) → IsTold known trees
-    → HasTold answers old new g before l r rest → (b : Bool) → is_worktree_fault e ≡ b
-    → IsUnjudged b before (taken_in g before (record { listed = l; received = r })) after (settled_in g trees before (record { listed = l; received = r }) ≡ Err (receive.UpdateRefs e))
-    → IsRefused answers old new known g before after (errors.Receive (receive.UpdateRefs e))
-late_unjudged answers old new known g trees before after l r rest e listed told true fault took =
-    late_free answers old new known g trees before after l r rest (errors.Receive (receive.UpdateRefs e)) listed told (inr took) fault (λ said heard taken. unjudged_counted g before after said heard e (taken took))
-late_unjudged answers old new known g trees before after l r rest e listed told false sure h = late_by answers old new known g trees before after l r rest (receive.UpdateRefs e) listed told h sure
-
-not_settled_by : (answers : Bool) (old new : Option Talk) (known : Option (List Worktree)) (g : Given) (trees : List Worktree) (before after : State) (l : ListedValue) (r : Option Received) (rest : List ℕ) (e : ReceiveError) → IsTold known trees
-    → HasTold answers old new g before l r rest → IsUnsettledBy g.setup (manner_in g) trees before (wants_in g before l.ref_map) l r after e → IsRefused answers old new known g before after (receiving e)
-not_settled_by answers old new known g trees before after l r rest receive.NoMemory listed told left =
-    late_free answers old new known g trees before after l r rest errors.NoMemory listed told left refl (λ said heard _. no_memory_counted g before after said heard)
-not_settled_by answers old new known g trees before after l r rest (receive.UpdateRefs e) listed told h = late_unjudged answers old new known g trees before after l r rest e listed told (is_worktree_fault e) refl h
-not_settled_by answers old new known g trees before after l r rest receive.Client listed told h = absurd h
-not_settled_by answers old new known g trees before after l r rest receive.Interrupted listed told h = absurd h
-not_settled_by answers old new known g trees before after l r rest (receive.KeepFile path) listed told h = absurd h
-not_settled_by answers old new known g trees before after l r rest (receive.RemovePackKeepFile path) listed told h = absurd h
-not_settled_by answers old new known g trees before after l r rest receive.Unbuilt listed told h = late_by answers old new known g trees before after l r rest receive.Unbuilt listed told h refl
-not_settled_by answers old new known g trees before after l r rest (receive.NoMapping specs count) listed told h = late_by answers old new known g trees before after l r rest (receive.NoMapping specs count) listed told h refl
-not_settled_by answers old new known g trees before after l r rest (receive.IncompatibleObjectHash local remote) listed told h = late_by answers old new known g trees before after l r rest (receive.IncompatibleObjectHash local remote) listed told h refl
-not_settled_by answers old new known g trees before after l r rest (receive.Disconnected link) listed told h = late_by answers old new known g trees before after l r rest (receive.Disconnected link) listed told h refl
-not_settled_by answers old new known g trees before after l r rest (receive.RejectShallowRemoteConfig value) listed told h = late_by answers old new known g trees before after l r rest (receive.RejectShallowRemoteConfig value) listed told h refl
-not_settled_by answers old new known g trees before after l r rest (receive.NegotiationAlgorithmConfig value) listed told h = late_by answers old new known g trees before after l r rest (receive.NegotiationAlgorithmConfig value) listed told h refl
-not_settled_by answers old new known g trees before after l r rest (receive.PackThreads value) listed told h = late_by answers old new known g trees before after l r rest (receive.PackThreads value) listed told h refl
-not_settled_by answers old new known g trees before after l r rest (receive.Fetch e) listed told h = late_by answers old new known g trees before after l r rest (receive.Fetch e) listed told h refl
-not_settled_by answers old new known g trees before after l r rest (receive.RejectShallowRemote id) listed told h = late_by answers old new known g trees before after l r rest (receive.RejectShallowRemote id) listed told h refl
-not_settled_by answers old new known g trees before after l r rest (receive.Pack e) listed told h = late_by answers old new known g trees before after l r rest (receive.Pack e) listed told h refl
-not_settled_by answers old new known g trees before after l r rest (receive.Collision id) listed told h = late_by answers old new known g trees before after l r rest (receive.Collision id) listed told h refl
-
-pub not_settled : (answers : Bool) (old new : Option Talk) (known : Option (List Worktree)) (g : Given) (before after : State) (l : ListedValue) (r : Option Received) (rest : List ℕ) (e : ReceiveError) → HasTold answers old new g before l r rest → IsUnsettled known g.setup (manner_in g) before (wants_in g before l.ref_map) l r after e → IsRefused answers old new known g before after (receiving e)
-not_settled answers old new known g before after l r rest e told h = not_settled_by answers old new known g h.trees before after l r rest e h.listed_trees told h.by

@@ -1,6 +1,6 @@
 -- What a settled fetch took, judged and moved.
-use Rattle.std.proofs.Common.{◌≡◌, ℕ, Bool, true, false, List, [], ◌∷◌, Option, Some, None, Result, Ok, Err, refl, sym, ap, subst, Contains, arith, inl, inr}
-use Rattle.std.specs.Prelude.{◌⊎◌, ⊤, is_some, unwrap_or}
+use Rattle.std.proofs.Common.{◌≡◌, ◌≢◌, ℕ, Bool, true, false, List, [], ◌∷◌, Option, Some, None, Result, Ok, Err, refl, sym, ap, ◌∙◌, subst, Contains, arith, inl, inr}
+use Rattle.std.specs.Prelude.{◌⊎◌, ◌||◌, IfErr, ⊤, is_some, unwrap_or}
 use Rattle.std.specs.FinMap as map
 use Rattle.fetch_store.specs.Objects.{Stored}
 use Rattle.std.specs.List.{slice_get}
@@ -10,6 +10,7 @@ use Rattle.fetch_store.specs.declared.missing.Missing.{Missing}
 use Rattle.fetch_store.specs.Closed.{IsClosed, IsStored, Grows}
 use Rattle.fetch_store.specs.Missing.{missing}
 use Rattle.fetch_store.specs.Stores.{ObjectMap, add_all, collision}
+use Rattle.fetch_store.specs.Trees.{Tree}
 use Rattle.fetch_store.proofs.Growth.{grows-add_all}
 use Rattle.fetch_store.proofs.Whole.{whole_closed, none_connects, none_held}
 use Rattle.fetch_refs.specs.Expectations.{refusal_of}
@@ -31,9 +32,11 @@ use Rattle.fetch_remote.specs.declared.outcome.Status.{Status}
 use Rattle.fetch_remote.specs.declared.settling.Manner.{Manner}
 use Rattle.fetch_remote.specs.Fetched.{HoldsMapped, objects_with, border_with}
 use Rattle.fetch_remote.specs.Form.{Given}
-use Rattle.fetch_remote.specs.Judging.{judged_as, judged_of, is_free_judging, AnswersBy, IsTold}
+use Rattle.fetch_remote.specs.Judging.{judged_as, judged_of, is_free_judging, AnswersBy, IsTold, Judges}
 use Rattle.fetch_remote.specs.Repositories.{State, Setup, held}
-use Rattle.fetch_remote.specs.Settling.{◌>>=◌, unless_hit, unless_missing, brought, pack_of, after_take, taken, policy_in, moved, outcome_in, status_of, status_by, told_of, done, settled, kept_or, Fails, IsUnjudged, IsUnsettledBy}
+use Rattle.fetch_remote.specs.Keeping.{AreFiles, IsUnmade, made, with_keep, removed_in}
+use Rattle.fetch_remote.specs.Settling.{◌>>=◌, unless_hit, unless_missing, brought, keep_of, pack_of, after_take, taken, policy_in, moved, outcome_in, status_of, status_by, told_of, released_of, done, settled, kept_or, Fails, IsOfJudging, is_early, is_free_taking, is_free_settling, IsMaking, IsTaken, IsMoved, IsUntaken, IsUnreleased, IsUnsettledBy}
+use Rattle.fetch_remote.proofs.Keeping.{files_same, same_files, status_is, removed_is}
 use Rattle.fetch_remote.specs.Stages.{wants_in}
 use Rattle.fetch_remote.proofs.Wanted.{stored_or_wanted}
 
@@ -44,7 +47,7 @@ pub record SettledAs (setup : Setup) (how : Manner) (trees : List Worktree) (bef
   pub updates : Updates
   pub took : taken before wants (brought how.dry_run r) ≡ Ok state
   pub judged : judged_of (policy_in state how trees) l.ref_map ≡ Ok updates
-  pub outcome_is : outcome ≡ outcome_in how l r updates
+  pub outcome_is : outcome ≡ outcome_in setup.settings.git_dir how l r updates
   pub after_is : after ≡ moved how.dry_run how.packed setup state updates.edits
 
 pub settled_as : (setup : Setup) (how : Manner) (trees : List Worktree) (before : State) (wants : List ObjectId) (l : ListedValue) (r : Option Received) (outcome : Outcome) (after : State) → settled setup how trees before wants l r ≡ Ok (outcome, after)
@@ -64,21 +67,11 @@ settled_as setup how trees before wants l r outcome after = by_taken (taken befo
     by_taken (Ok s) took is = by_judged s took (judged_of (policy_in s how trees) l.ref_map) refl is
     by_taken (Err e) took is = absurd (cc)
 
-status_is : (dry_run : Bool) (r : Option Received) (u : Updates) → status_by dry_run (told_of dry_run r) u ≡ status_of dry_run r u
-status_is true None u = refl
-status_is true (Some r) u = refl
-status_is false None u = refl
-status_is false (Some r) u = by r.pack
-  where
-    by : (p : Option (ℕ × ObjectId)) → status_by false (told_of false (Some (record r { pack = p }))) u ≡ status_of false (Some (record r { pack = p })) u
-    by None = refl
-    by (Some p) = refl
-
 pub settles : (setup : Setup) (how : Manner) (trees : List Worktree) (before : State) (wants : List ObjectId) (l : ListedValue) (r : Option Received) (s : State) (u : Updates) (status : Status) (after : State)
-    → taken before wants (brought how.dry_run r) ≡ Ok s → judged_of (policy_in s how trees) l.ref_map ≡ Ok u → status ≡ status_by how.dry_run (told_of how.dry_run r) u → after ≡ moved how.dry_run how.packed setup s u.edits
+    → taken before wants (brought how.dry_run r) ≡ Ok s → judged_of (policy_in s how trees) l.ref_map ≡ Ok u → status ≡ status_by how.dry_run (told_of setup.settings.git_dir how.dry_run r) u → after ≡ moved how.dry_run how.packed setup s u.edits
     → settled setup how trees before wants l r ≡ Ok (record { ref_map = l.ref_map; handshake = l.handshake; status = status }, after)
 unfolding settled
-settles setup how trees before wants l r s u status after took judged told is = rw (took, judged, told, is, status_is how.dry_run r u) refl
+settles setup how trees before wants l r s u status after took judged told is = rw (took, judged, told, is, status_is setup.settings.git_dir how.dry_run r u) refl
 
 -- a list that may be the one that is told
 abbrev pub list_of : Option (List Worktree) → List Worktree
@@ -90,10 +83,9 @@ list_told None = tt
 
 -- ---- the taking is refused
 
-untaken_with : (setup : Setup) (how : Manner) (trees : List Worktree) (before : State) (wants : List ObjectId) (l : ListedValue) (r : Option Received) (e : Error) → taken before wants (brought how.dry_run r) ≡ Err e
-    → (settled setup how trees before wants l r ≡ Err e) × (before ≡ kept_or before (taken before wants (brought how.dry_run r)))
-unfolding settled
-untaken_with setup how trees before wants l r e is = (rw is refl, rw is refl)
+either_false : (a b : Bool) → (a || b) ≡ false → (a ≡ false) × (b ≡ false)
+either_false false b h = (refl, h)
+either_false true b h = absurd (cc)
 
 -- what the taking may answer
 abbrev IsOfTaking : Error → Type 0
@@ -111,86 +103,227 @@ of_taking : (before : State) (wants : List ObjectId) (r : Option Received) (e : 
 of_taking before wants None e is = absurd (cc)
 of_taking before wants (Some r) e is = taking_by (collision before.objects r.objects) (slice_get (missing (held before) wants (pack_of r)) 0) (after_take before (pack_of r)) e is
 
-pub untaken : (setup : Setup) (how : Manner) (trees : List Worktree) (before : State) (wants : List ObjectId) (l : ListedValue) (r : Option Received) (e : Error) → Fails (taken before wants (brought how.dry_run r)) e → IsUnsettledBy setup how trees before wants l r before e
-untaken setup how trees before wants l r errors.NoMemory h = inl refl
-untaken setup how trees before wants l r (errors.Collision id) h = untaken_with setup how trees before wants l r (errors.Collision id) h
-untaken setup how trees before wants l r (errors.Disconnected link) h = untaken_with setup how trees before wants l r (errors.Disconnected link) h
-untaken setup how trees before wants l r errors.Client h = of_taking before wants (brought how.dry_run r) errors.Client h
-untaken setup how trees before wants l r errors.Interrupted h = of_taking before wants (brought how.dry_run r) errors.Interrupted h
-untaken setup how trees before wants l r (errors.KeepFile path) h = of_taking before wants (brought how.dry_run r) (errors.KeepFile path) h
-untaken setup how trees before wants l r (errors.RemovePackKeepFile path) h = of_taking before wants (brought how.dry_run r) (errors.RemovePackKeepFile path) h
-untaken setup how trees before wants l r (errors.NoMapping specs count) h = absurd (of_taking before wants (brought how.dry_run r) (errors.NoMapping specs count) h)
-untaken setup how trees before wants l r (errors.IncompatibleObjectHash local remote) h = absurd (of_taking before wants (brought how.dry_run r) (errors.IncompatibleObjectHash local remote) h)
-untaken setup how trees before wants l r (errors.RejectShallowRemoteConfig value) h = absurd (of_taking before wants (brought how.dry_run r) (errors.RejectShallowRemoteConfig value) h)
-untaken setup how trees before wants l r (errors.NegotiationAlgorithmConfig value) h = absurd (of_taking before wants (brought how.dry_run r) (errors.NegotiationAlgorithmConfig value) h)
-untaken setup how trees before wants l r (errors.PackThreads value) h = absurd (of_taking before wants (brought how.dry_run r) (errors.PackThreads value) h)
-untaken setup how trees before wants l r (errors.Fetch e) h = absurd (of_taking before wants (brought how.dry_run r) (errors.Fetch e) h)
-untaken setup how trees before wants l r (errors.RejectShallowRemote id) h = absurd (of_taking before wants (brought how.dry_run r) (errors.RejectShallowRemote id) h)
-untaken setup how trees before wants l r (errors.Pack e) h = absurd (of_taking before wants (brought how.dry_run r) (errors.Pack e) h)
-untaken setup how trees before wants l r (errors.UpdateRefs e) h = absurd (of_taking before wants (brought how.dry_run r) (errors.UpdateRefs e) h)
-untaken setup how trees before wants l r errors.Unbuilt h = absurd (of_taking before wants (brought how.dry_run r) errors.Unbuilt h)
+-- the taking answers no refusal of another step
+pub taking_only : (before : State) (wants : List ObjectId) (r : Option Received) (e x : Error) → taken before wants r ≡ Err e → e ≡ x → IsOfTaking x
+taking_only before wants r e x is same = subst IsOfTaking same (of_taking before wants r e is)
+
+pub never_unmade : (before : State) (wants : List ObjectId) (r : Option Received) (e : Error) (path : List ℕ) → Fails (taken before wants r) e → e ≡ errors.KeepFile path → ⊥
+never_unmade before wants r e path h is = of_taking before wants r (errors.KeepFile path) (rw is at h)
+
+-- the taking was refused before any call of the files
+pub untaken_early : (before : State) (wants : List ObjectId) (r : Option Received) (keep : Option (List ℕ)) (files : Option Tree) (e : Error) → Fails (taken before wants r) e → IsUntaken (taken before wants r) keep files files e
+untaken_early before wants r keep files e h = record {
+  why = λ sure. (fails_for (taken before wants r) e sure h, refl);
+  making = λ path is. absurd (never_unmade before wants r e path h is);
+  stands = inl refl;
+}
+  where
+    fails_for : (x : Result State Error) (e : Error) → is_free_taking e ≡ false → Fails x e → x ≡ Err e
+    fails_for x (errors.NoMapping specs count) sure h = h
+    fails_for x (errors.IncompatibleObjectHash local remote) sure h = h
+    fails_for x (errors.Disconnected link) sure h = h
+    fails_for x (errors.RejectShallowRemoteConfig value) sure h = h
+    fails_for x (errors.NegotiationAlgorithmConfig value) sure h = h
+    fails_for x (errors.PackThreads value) sure h = h
+    fails_for x (errors.Fetch e) sure h = h
+    fails_for x errors.Client sure h = h
+    fails_for x errors.Interrupted sure h = h
+    fails_for x (errors.RejectShallowRemote id) sure h = h
+    fails_for x (errors.Pack e) sure h = h
+    fails_for x (errors.Collision id) sure h = h
+    fails_for x (errors.KeepFile path) sure h = absurd (cc)
+    fails_for x (errors.UpdateRefs e) sure h = h
+    fails_for x (errors.RemovePackKeepFile path) sure h = h
+    fails_for x errors.NoMemory sure h = absurd (cc)
+
+-- the keep file couldn't be made
+pub untaken_making : (before : State) (wants : List ObjectId) (r : Received) (s : State) (git_dir : List ℕ) (files left : Option Tree) (e : Error) → taken before wants (Some r) ≡ Ok s → IsUnmade (made git_dir r.pack) files left e
+    → IsUntaken (taken before wants (Some r)) (made git_dir r.pack) files left e
+untaken_making before wants r s git_dir files left e took h =
+    let m : IsMaking (taken before wants (Some r)) (made git_dir r.pack) h.path files left = record { state = s; took = took; made = h.made; told = h.told } in
+    record { why = λ sure. absurd (no_cause e h.path sure h.why); making = λ path is. making_at path is h.why m; stands = inr (h.path, m) }
+  where
+    no_cause : (e : Error) (path : List ℕ) → is_free_taking e ≡ false → (e ≡ errors.KeepFile path) ⊎ (e ≡ errors.NoMemory) → ⊥
+    no_cause e path sure (inl is) = let k : true ≡ false = sym (ap is_free_taking is) ∙ sure in cc
+    no_cause e path sure (inr is) = let k : true ≡ false = sym (ap is_free_taking is) ∙ sure in cc
+
+    making_at : (path : List ℕ) → e ≡ errors.KeepFile path → (e ≡ errors.KeepFile h.path) ⊎ (e ≡ errors.NoMemory) → IsMaking (taken before wants (Some r)) (made git_dir r.pack) h.path files left
+        → IsMaking (taken before wants (Some r)) (made git_dir r.pack) path files left
+    making_at path is (inl by) m = let same : h.path ≡ path = cc in subst (λ (x : List ℕ). IsMaking (taken before wants (Some r)) (made git_dir r.pack) x files left) same m
+    making_at path is (inr by) m = absurd (cc)
+
+-- memory ran out behind the making
+pub untaken_behind : (before : State) (wants : List ObjectId) (r : Received) (s : State) (git_dir : List ℕ) (files left : Option Tree) → taken before wants (Some r) ≡ Ok s → AreFiles files left (with_keep (made git_dir r.pack))
+    → IsUntaken (taken before wants (Some r)) (made git_dir r.pack) files left errors.NoMemory
+untaken_behind before wants r s git_dir files left took h = record { why = λ sure. absurd (cc); making = λ path is. absurd (cc); stands = stands (made git_dir r.pack) h }
+  where
+    stands : (keep : Option (List ℕ)) → AreFiles files left (with_keep keep) → (left ≡ files) ⊎ ((path : List ℕ) × IsMaking (taken before wants (Some r)) keep path files left)
+    stands None k = inl (files_same files left k)
+    stands (Some path) k = inr (path, record { state = s; took = took; made = refl; told = k.0 })
+
+pub untaken : (setup : Setup) (how : Manner) (trees : List Worktree) (before : State) (wants : List ObjectId) (l : ListedValue) (r : Option Received) (files left : Option Tree) (e : Error)
+    → IsUntaken (taken before wants (brought how.dry_run r)) (keep_of setup how r) files left e
+    → IsUnsettledBy (settled setup how trees before wants l r) (taken before wants (brought how.dry_run r)) (keep_of setup how r) setup.settings.git_dir files left before before e
+unfolding settled
+untaken setup how trees before wants l r files left e h = record {
+  why = λ sure.
+      let k = h.why (either_false (is_free_taking e) _ sure).0 in
+      (rw k.0 refl, rw k.0 refl, rw (k.0, k.1) (same_files files));
+  stands = λ _. inl (refl, h.stands);
+  unlisted = λ fault faulty is. absurd (only (errors.UpdateRefs fault) refl is);
+  making = λ path is. (refl, h.making path is);
+  moved = λ path is. absurd (only (errors.RemovePackKeepFile path) refl is);
+  unheard = (λ is. only errors.Client refl is, λ is. only errors.Interrupted refl is);
+}
+  where
+    only : (x : Error) → is_free_taking x ≡ false → e ≡ x → IsOfTaking x
+    only x sure is = taking_only before wants (brought how.dry_run r) e x (h.why (ap is_free_taking is ∙ sure)).0 is
+
+pub untaken_unremoved : (before : State) (wants : List ObjectId) (r : Option Received) (keep : Option (List ℕ)) (files left : Option Tree) (e : Error) (path : List ℕ) → IsUntaken (taken before wants r) keep files left e → e ≡ errors.RemovePackKeepFile path → ⊥
+untaken_unremoved before wants r keep files left e path h is = taking_only before wants r e (errors.RemovePackKeepFile path) (h.why (ap is_free_taking is)).0 is
 
 -- ---- judging is refused behind the taking
 
-unjudged_with : (setup : Setup) (how : Manner) (trees : List Worktree) (before : State) (wants : List ObjectId) (l : ListedValue) (r : Option Received) (mid : State) (e : Error) → taken before wants (brought how.dry_run r) ≡ Ok mid → judged_of (policy_in mid how trees) l.ref_map ≡ Err e
-    → (settled setup how trees before wants l r ≡ Err e) × (mid ≡ kept_or before (taken before wants (brought how.dry_run r)))
-unfolding settled
-unjudged_with setup how trees before wants l r mid e took is = (rw (took, is) refl, rw took refl)
-
--- what judging may answer
-abbrev IsOfJudging : Error → Type 0
-IsOfJudging (errors.UpdateRefs e) = ⊤
-IsOfJudging errors.NoMemory = ⊤
-IsOfJudging e = ⊥
-
 told_of_judging : (o : Result Updates UpdateError) (e : Error) → judged_as o ≡ Err e → IsOfJudging e
 told_of_judging (Ok u) e is = absurd (cc)
-told_of_judging (Err update_errors.NoMemory) e is = let h : e ≡ errors.NoMemory = cc in rw h tt
-told_of_judging (Err (update_errors.FindReference name)) e is = let h : e ≡ errors.UpdateRefs (update_errors.FindReference name) = cc in rw h tt
-told_of_judging (Err (update_errors.InvalidRefName name)) e is = let h : e ≡ errors.UpdateRefs (update_errors.InvalidRefName name) = cc in rw h tt
-told_of_judging (Err (update_errors.FindCommit id)) e is = let h : e ≡ errors.UpdateRefs (update_errors.FindCommit id) = cc in rw h tt
-told_of_judging (Err (update_errors.PeelToId name cause)) e is = let h : e ≡ errors.UpdateRefs (update_errors.PeelToId name cause) = cc in rw h tt
-told_of_judging (Err update_errors.WorktreeListing) e is = let h : e ≡ errors.UpdateRefs update_errors.WorktreeListing = cc in rw h tt
-told_of_judging (Err update_errors.OpenWorktreeRepo) e is = let h : e ≡ errors.UpdateRefs update_errors.OpenWorktreeRepo = cc in rw h tt
-told_of_judging (Err update_errors.FollowSymref) e is = let h : e ≡ errors.UpdateRefs update_errors.FollowSymref = cc in rw h tt
+told_of_judging (Err update_errors.NoMemory) e is = inl (cc)
+told_of_judging (Err (update_errors.FindReference name)) e is = inr (update_errors.FindReference name, cc)
+told_of_judging (Err (update_errors.InvalidRefName name)) e is = inr (update_errors.InvalidRefName name, cc)
+told_of_judging (Err (update_errors.FindCommit id)) e is = inr (update_errors.FindCommit id, cc)
+told_of_judging (Err (update_errors.PeelToId name cause)) e is = inr (update_errors.PeelToId name cause, cc)
+told_of_judging (Err update_errors.WorktreeListing) e is = inr (update_errors.WorktreeListing, cc)
+told_of_judging (Err update_errors.OpenWorktreeRepo) e is = inr (update_errors.OpenWorktreeRepo, cc)
+told_of_judging (Err update_errors.FollowSymref) e is = inr (update_errors.FollowSymref, cc)
 
 of_judging : (p : Policy) (m : RefMap) (e : Error) → judged_of p m ≡ Err e → IsOfJudging e
 unfolding judged_of
 of_judging p m e is = told_of_judging (outcome_of p m.refspecs m.extra_refspecs m.mappings) e is
 
-unlisted : (setup : Setup) (how : Manner) (trees : List Worktree) (before : State) (wants : List ObjectId) (l : ListedValue) (r : Option Received) (mid : State) (e : UpdateError) → taken before wants (brought how.dry_run r) ≡ Ok mid
-    → (is_worktree_fault e ≡ false → judged_of (policy_in mid how trees) l.ref_map ≡ Err (errors.UpdateRefs e)) → IsUnsettledBy setup how trees before wants l r mid (errors.UpdateRefs e)
-unlisted setup how trees before wants l r mid e took h = by (is_worktree_fault e) refl
-  where
-    by : (b : Bool) → is_worktree_fault e ≡ b → IsUnjudged b before (taken before wants (brought how.dry_run r)) mid (settled setup how trees before wants l r ≡ Err (errors.UpdateRefs e))
-    by true fault = took
-    by false none = unjudged_with setup how trees before wants l r mid (errors.UpdateRefs e) took (h none)
+-- what judging may answer
+pub judging_told : (p : Policy) (m : RefMap) (e : Error) → AnswersBy {X = Updates} (judged_of p m) (Err e) → IsOfJudging e
+judging_told p m (errors.NoMapping specs count) h = of_judging p m (errors.NoMapping specs count) (h refl)
+judging_told p m (errors.IncompatibleObjectHash local remote) h = of_judging p m (errors.IncompatibleObjectHash local remote) (h refl)
+judging_told p m (errors.Disconnected link) h = of_judging p m (errors.Disconnected link) (h refl)
+judging_told p m (errors.RejectShallowRemoteConfig value) h = of_judging p m (errors.RejectShallowRemoteConfig value) (h refl)
+judging_told p m (errors.NegotiationAlgorithmConfig value) h = of_judging p m (errors.NegotiationAlgorithmConfig value) (h refl)
+judging_told p m (errors.PackThreads value) h = of_judging p m (errors.PackThreads value) (h refl)
+judging_told p m (errors.Fetch e) h = of_judging p m (errors.Fetch e) (h refl)
+judging_told p m errors.Client h = of_judging p m errors.Client (h refl)
+judging_told p m errors.Interrupted h = of_judging p m errors.Interrupted (h refl)
+judging_told p m (errors.RejectShallowRemote id) h = of_judging p m (errors.RejectShallowRemote id) (h refl)
+judging_told p m (errors.Pack e) h = of_judging p m (errors.Pack e) (h refl)
+judging_told p m (errors.Collision id) h = of_judging p m (errors.Collision id) (h refl)
+judging_told p m (errors.KeepFile path) h = of_judging p m (errors.KeepFile path) (h refl)
+judging_told p m (errors.UpdateRefs e) h = inr (e, refl)
+judging_told p m (errors.RemovePackKeepFile path) h = of_judging p m (errors.RemovePackKeepFile path) (h refl)
+judging_told p m errors.NoMemory h = inl refl
 
-unjudged : (setup : Setup) (how : Manner) (trees : List Worktree) (before : State) (wants : List ObjectId) (l : ListedValue) (r : Option Received) (mid : State) (e : Error) → taken before wants (brought how.dry_run r) ≡ Ok mid
-    → AnswersBy {X = Updates} (judged_of (policy_in mid how trees) l.ref_map) (Err e) → IsUnsettledBy setup how trees before wants l r mid e
-unjudged setup how trees before wants l r mid errors.NoMemory took h = inr took
-unjudged setup how trees before wants l r mid (errors.UpdateRefs e) took h = unlisted setup how trees before wants l r mid e took h
-unjudged setup how trees before wants l r mid errors.Unbuilt took h = absurd (of_judging (policy_in mid how trees) l.ref_map errors.Unbuilt (h refl))
-unjudged setup how trees before wants l r mid errors.Client took h = of_judging (policy_in mid how trees) l.ref_map errors.Client (h refl)
-unjudged setup how trees before wants l r mid errors.Interrupted took h = of_judging (policy_in mid how trees) l.ref_map errors.Interrupted (h refl)
-unjudged setup how trees before wants l r mid (errors.KeepFile path) took h = of_judging (policy_in mid how trees) l.ref_map (errors.KeepFile path) (h refl)
-unjudged setup how trees before wants l r mid (errors.RemovePackKeepFile path) took h = of_judging (policy_in mid how trees) l.ref_map (errors.RemovePackKeepFile path) (h refl)
-unjudged setup how trees before wants l r mid (errors.NoMapping specs count) took h = absurd (of_judging (policy_in mid how trees) l.ref_map (errors.NoMapping specs count) (h refl))
-unjudged setup how trees before wants l r mid (errors.IncompatibleObjectHash local remote) took h = absurd (of_judging (policy_in mid how trees) l.ref_map (errors.IncompatibleObjectHash local remote) (h refl))
-unjudged setup how trees before wants l r mid (errors.Disconnected link) took h = absurd (of_judging (policy_in mid how trees) l.ref_map (errors.Disconnected link) (h refl))
-unjudged setup how trees before wants l r mid (errors.RejectShallowRemoteConfig value) took h = absurd (of_judging (policy_in mid how trees) l.ref_map (errors.RejectShallowRemoteConfig value) (h refl))
-unjudged setup how trees before wants l r mid (errors.NegotiationAlgorithmConfig value) took h = absurd (of_judging (policy_in mid how trees) l.ref_map (errors.NegotiationAlgorithmConfig value) (h refl))
-unjudged setup how trees before wants l r mid (errors.PackThreads value) took h = absurd (of_judging (policy_in mid how trees) l.ref_map (errors.PackThreads value) (h refl))
-unjudged setup how trees before wants l r mid (errors.Fetch e) took h = absurd (of_judging (policy_in mid how trees) l.ref_map (errors.Fetch e) (h refl))
-unjudged setup how trees before wants l r mid (errors.RejectShallowRemote id) took h = absurd (of_judging (policy_in mid how trees) l.ref_map (errors.RejectShallowRemote id) (h refl))
-unjudged setup how trees before wants l r mid (errors.Pack e) took h = absurd (of_judging (policy_in mid how trees) l.ref_map (errors.Pack e) (h refl))
-unjudged setup how trees before wants l r mid (errors.Collision id) took h = absurd (of_judging (policy_in mid how trees) l.ref_map (errors.Collision id) (h refl))
+pub told_only : (known : Option (List Worktree)) (policy : List Worktree → Policy) (m : RefMap) (result : Result Updates Error) → Judges known policy m result → IfErr result IsOfJudging
+told_only known policy m (Ok u) h = tt
+told_only known policy m (Err e) h = judging_told (policy h.trees) m e h.by
+
+pub never_keeps : (e : Error) (path : List ℕ) → IsOfJudging e → e ≡ errors.KeepFile path → ⊥
+never_keeps e path (inl is) same = absurd (cc)
+never_keeps e path (inr (cause, is)) same = absurd (cc)
+
+pub never_removes : (e : Error) (path : List ℕ) → IsOfJudging e → e ≡ errors.RemovePackKeepFile path → ⊥
+never_removes e path (inl is) same = absurd (cc)
+never_removes e path (inr (cause, is)) same = absurd (cc)
+
+never_talks : (e : Error) → IsOfJudging e → (e ≢ errors.Client) × (e ≢ errors.Interrupted)
+never_talks e (inl is) = (λ same. absurd (cc), λ same. absurd (cc))
+never_talks e (inr (cause, is)) = (λ same. absurd (cc), λ same. absurd (cc))
+
+pub never_early : (e : Error) → IsOfJudging e → is_early e ≡ true → ⊥
+never_early e (inl is) early = let k : false ≡ true = sym (ap is_early is) ∙ early in cc
+never_early e (inr (cause, is)) early = let k : false ≡ true = sym (ap is_early is) ∙ early in cc
+
+judging_sure : (e : Error) → is_free_settling e ≡ false → is_free_judging e ≡ false
+judging_sure (errors.NoMapping specs count) h = refl
+judging_sure (errors.IncompatibleObjectHash local remote) h = refl
+judging_sure (errors.Disconnected link) h = refl
+judging_sure (errors.RejectShallowRemoteConfig value) h = refl
+judging_sure (errors.NegotiationAlgorithmConfig value) h = refl
+judging_sure (errors.PackThreads value) h = refl
+judging_sure (errors.Fetch e) h = refl
+judging_sure errors.Client h = absurd (cc)
+judging_sure errors.Interrupted h = absurd (cc)
+judging_sure (errors.RejectShallowRemote id) h = refl
+judging_sure (errors.Pack e) h = refl
+judging_sure (errors.Collision id) h = refl
+judging_sure (errors.KeepFile path) h = absurd (cc)
+judging_sure (errors.UpdateRefs e) h = h
+judging_sure (errors.RemovePackKeepFile path) h = absurd (cc)
+judging_sure errors.NoMemory h = absurd (cc)
+
+pub unjudged : (setup : Setup) (how : Manner) (trees : List Worktree) (before : State) (wants : List ObjectId) (l : ListedValue) (r : Option Received) (files left : Option Tree) (mid : State) (e : Error) → taken before wants (brought how.dry_run r) ≡ Ok mid
+    → AreFiles files left (with_keep (keep_of setup how r)) → AnswersBy {X = Updates} (judged_of (policy_in mid how trees) l.ref_map) (Err e)
+    → IsUnsettledBy (settled setup how trees before wants l r) (taken before wants (brought how.dry_run r)) (keep_of setup how r) setup.settings.git_dir files left before mid e
+unfolding settled
+unjudged setup how trees before wants l r files left mid e took kept h = record {
+  why = λ sure.
+      let k = h (judging_sure e sure) in
+      (rw (took, k) refl, rw took refl, rw took kept);
+  stands = λ _. inr at;
+  unlisted = λ fault faulty is. at;
+  making = λ path is. absurd (never_keeps e path only is);
+  moved = λ path is. absurd (never_removes e path only is);
+  unheard = never_talks e only;
+}
+  where
+    at : IsTaken (taken before wants (brought how.dry_run r)) (keep_of setup how r) files left mid
+    at = record { took = took; kept = kept }
+
+    only : IsOfJudging e
+    only = judging_told (policy_in mid how trees) l.ref_map e h
 
 -- the same over a map that is the one that was listed
-pub unjudged_found : (setup : Setup) (how : Manner) (trees : List Worktree) (before : State) (wants : List ObjectId) (l : ListedValue) (r : Option Received) (mid : State) (e : Error) (m : RefMap) → m ≡ l.ref_map → taken before wants (brought how.dry_run r) ≡ Ok mid
-    → AnswersBy {X = Updates} (judged_of (policy_in mid how trees) m) (Err e) → IsUnsettledBy setup how trees before wants l r mid e
-unjudged_found setup how trees before wants l r mid e m same took h =
-    unjudged setup how trees before wants l r mid e took (subst (λ (x : RefMap). AnswersBy {X = Updates} (judged_of (policy_in mid how trees) x) (Err e)) same h)
+pub unjudged_found : (setup : Setup) (how : Manner) (trees : List Worktree) (before : State) (wants : List ObjectId) (l : ListedValue) (r : Option Received) (files left : Option Tree) (mid : State) (e : Error) (m : RefMap) → m ≡ l.ref_map
+    → taken before wants (brought how.dry_run r) ≡ Ok mid → AreFiles files left (with_keep (keep_of setup how r)) → AnswersBy {X = Updates} (judged_of (policy_in mid how trees) m) (Err e)
+    → IsUnsettledBy (settled setup how trees before wants l r) (taken before wants (brought how.dry_run r)) (keep_of setup how r) setup.settings.git_dir files left before mid e
+unjudged_found setup how trees before wants l r files left mid e m same took kept h =
+    unjudged setup how trees before wants l r files left mid e took kept (subst (λ (x : RefMap). AnswersBy {X = Updates} (judged_of (policy_in mid how trees) x) (Err e)) same h)
+
+-- ---- moving
+
+-- memory ran out behind the taking
+pub unmoved : (setup : Setup) (how : Manner) (trees : List Worktree) (before : State) (wants : List ObjectId) (l : ListedValue) (r : Option Received) (files left : Option Tree) (mid : State) → taken before wants (brought how.dry_run r) ≡ Ok mid
+    → AreFiles files left (with_keep (keep_of setup how r)) → IsUnsettledBy (settled setup how trees before wants l r) (taken before wants (brought how.dry_run r)) (keep_of setup how r) setup.settings.git_dir files left before mid errors.NoMemory
+unmoved setup how trees before wants l r files left mid took kept = record {
+  why = λ sure. absurd (cc);
+  stands = λ _. inr (record { took = took; kept = kept });
+  unlisted = λ fault faulty is. absurd (cc);
+  making = λ path is. absurd (cc);
+  moved = λ path is. absurd (cc);
+  unheard = (λ is. absurd (cc), λ is. absurd (cc));
+}
+
+-- the references have moved, and the keep file couldn't be removed
+pub unreleased : (setup : Setup) (how : Manner) (trees : List Worktree) (before : State) (wants : List ObjectId) (l : ListedValue) (r : Option Received) (files left : Option Tree) (mid : State) (u : Updates) (now : State) (e : Error)
+    → taken before wants (brought how.dry_run r) ≡ Ok mid → judged_of (policy_in mid how trees) l.ref_map ≡ Ok u → now ≡ moved how.dry_run how.packed setup mid u.edits
+    → IsUnreleased (released_of u (told_of setup.settings.git_dir how.dry_run r)) e → is_some left ≡ is_some files
+    → IsUnsettledBy (settled setup how trees before wants l r) (taken before wants (brought how.dry_run r)) (keep_of setup how r) setup.settings.git_dir files left before now e
+unreleased setup how trees before wants l r files left mid u now e took judged is h told = rw h.1 (record {
+  why = λ sure. absurd (cc);
+  stands = λ sure. absurd (cc);
+  unlisted = λ fault faulty same. absurd (cc);
+  making = λ path same. absurd (cc);
+  moved = λ path same. gone path same;
+  unheard = (λ same. absurd (cc), λ same. absurd (cc));
+})
+  where
+    dir : List ℕ
+    dir = setup.settings.git_dir
+
+    gone : (path : List ℕ) → errors.RemovePackKeepFile h.0 ≡ errors.RemovePackKeepFile path → IsMoved (settled setup how trees before wants l r) dir path files left now
+    gone path same =
+        let one : h.0 ≡ path = cc in
+        record {
+          outcome = outcome_in dir how l r u;
+          by = settles setup how trees before wants l r mid u (status_of dir how.dry_run r u) now took judged (sym (status_is dir how.dry_run r u)) is;
+          removed = removed_is dir how.dry_run r u ∙ h.2 ∙ ap (λ (x : List ℕ). Some x) one;
+          told = told;
+        }
 
 -- ---- what the taking leaves
 

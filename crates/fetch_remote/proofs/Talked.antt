@@ -1,5 +1,6 @@
 -- The two stages of a conversation, as one call holds them.
 use Rattle.std.proofs.Common.{◌≡◌, ℕ, Bool, true, List, [], ◌++◌, Option, Result, Ok, Err, refl, sym, ap, ◌∙◌, inl, inr}
+use Rattle.fetch_store.specs.Graph.{graph_of}
 use Rattle.fetch_store.specs.declared.id.ObjectId.{ObjectId}
 use Rattle.fetch_wire.specs.Talks.{Talk, Talks-none}
 use Rattle.fetch_wire.specs.Written.{lines_text}
@@ -54,7 +55,7 @@ ends_both answers old mid new g s listed now wants r same wanted h k = record {
 pub kind_received : (answers : Bool) (old mid new : Option Talk) (g : Given) (s : State) (listed : Listed) (rest : List ℕ) (r : Option Received) → g.setup.settings.kind ≡ s.hash
     → Converses is_free_listing answers (bound_of g) old mid [] (pending_of listed) (listing_stage g) (Ok (shown listed))
     → Converses is_free_receiving answers (bound_of g) mid new (pending_of listed) rest (pack_stage g s (shown listed)) (Ok r) → listed.handshake.object_hash ≡ s.hash
-kind_received answers old mid new g s listed rest r same h k = sym (is_received (bound_of g) (terms_in g s (shown listed)) _ r _ (k.held.answered [])).kind ∙ same
+kind_received answers old mid new g s listed rest r same h k = sym (is_received (bound_of g) (graph_of s.objects) (terms_in g s (shown listed)) _ r _ (k.held.answered [])).kind ∙ same
 
 -- which refusal of the second stage is told so
 pub client_is : (e : ReceiveError) → receiving e ≡ errors.Receive receive.Client → e ≡ receive.Client
@@ -73,7 +74,6 @@ client_is (receive.Collision id) is = absurd (cc)
 client_is (receive.KeepFile path) is = absurd (cc)
 client_is (receive.UpdateRefs e) is = absurd (cc)
 client_is (receive.RemovePackKeepFile path) is = absurd (cc)
-client_is receive.Unbuilt is = absurd (cc)
 client_is receive.NoMemory is = absurd (cc)
 
 pub stopped_is : (e : ReceiveError) → receiving e ≡ errors.Receive receive.Interrupted → e ≡ receive.Interrupted
@@ -92,7 +92,6 @@ stopped_is (receive.Collision id) is = absurd (cc)
 stopped_is (receive.KeepFile path) is = absurd (cc)
 stopped_is (receive.UpdateRefs e) is = absurd (cc)
 stopped_is (receive.RemovePackKeepFile path) is = absurd (cc)
-stopped_is receive.Unbuilt is = absurd (cc)
 stopped_is receive.NoMemory is = absurd (cc)
 
 pub no_listing : (e : ReceiveError) (x : PrepareError) → receiving e ≡ errors.Prepare x → ⊥
@@ -111,7 +110,6 @@ no_listing (receive.Collision id) x is = absurd (cc)
 no_listing (receive.KeepFile path) x is = absurd (cc)
 no_listing (receive.UpdateRefs e) x is = absurd (cc)
 no_listing (receive.RemovePackKeepFile path) x is = absurd (cc)
-no_listing receive.Unbuilt x is = absurd (cc)
 no_listing receive.NoMemory x is = absurd (cc)
 
 -- what `?` returned is the refusal that was told

@@ -1,7 +1,9 @@
--- A conversation is never refused as judging is.
-use Rattle.std.proofs.Common.{◌≡◌, ℕ, Bool, true, false, not, List, [], ◌∷◌, ◌++◌, length, Option, Some, None, Result, Ok, Err, refl, sym, ap, ◌∙◌, subst, inl, inr}
-use Rattle.std.specs.Prelude.{◌⊎◌, ◌||◌, ⊤, IfSome, if◌then◌else◌}
-use Rattle.std.specs.Option.{option_or}
+-- A conversation is never refused as judging is, nor by the files.
+use Rattle.std.proofs.Common.{◌≡◌, ℕ, zero, suc, Bool, true, false, not, List, [], ◌∷◌, ◌++◌, length, Option, Some, None, Result, Ok, Err, refl, sym, ap, ◌∙◌, subst, inl, inr}
+use Rattle.std.specs.Prelude.{◌⊎◌, ◌&&◌, ◌||◌, ⊤, IfSome, if◌then◌else◌}
+use Rattle.std.specs.FinMap as map
+use Rattle.std.specs.Option.{option_or, option_map}
+use Rattle.fetch_store.specs.Graph.{Graph, graph_of}
 use Rattle.fetch_pack.specs.Reading.{Contents}
 use Rattle.fetch_pack.specs.declared.error.PackError.{PackError}
 use Rattle.fetch_pack.specs.declared.error.PackError.TheVariants as pack
@@ -9,7 +11,6 @@ use Rattle.fetch_store.specs.declared.id.Kind.{Kind}
 use Rattle.fetch_store.specs.declared.id.Kind.TheVariants.{Sha1, Sha256}
 use Rattle.fetch_negotiate.specs.Requests.{fetch_request}
 use Rattle.fetch_negotiate.specs.declared.algorithm.Algorithm.{Algorithm}
-use Rattle.fetch_negotiate.specs.declared.algorithm.Algorithm.TheVariants as algorithms
 use Rattle.fetch_conversation.specs.ReadSettings.{rejects_shallow_of, algorithm_of_config, threads_of}
 use Rattle.fetch_conversation.specs.declared.settings.Settings.{Settings}
 use Rattle.fetch_wire.specs.Greetings.{offers}
@@ -26,14 +27,14 @@ use Rattle.fetch_wire.specs.declared.awaited.Told.{Told}
 use Rattle.fetch_wire.specs.declared.awaited.Told.TheVariants as told
 use Rattle.fetch_wire.specs.declared.handshake.Handshake.{Handshake}
 use Rattle.fetch_wire.specs.declared.mapping.RefMap.{RefMap}
-use Rattle.fetch_wire.specs.declared.records.FetchReply.{FetchReply}
-use Rattle.fetch_update.specs.declared.update.Error.{Error as UpdateError}
-use Rattle.fetch_conversation.specs.Conversation.{Conversation, ends, asks, asks_unless, asking, after_reply, answer_in, IsRefusedBy}
+use Rattle.fetch_conversation.specs.Conversation.{Conversation, ends, asks, asks_unless, asking, and_then, after_reply, answer_in, IsRefusedBy}
 use Rattle.fetch_conversation.specs.ConverseStage as converse
-use Rattle.fetch_conversation.specs.ConverseStage.{TermsValue, converse_stage, wanting, fetching, replied, received, unpacked, is_unmapped, unmapped, unlike, unread_as, unbuilt_rounds, unfit, lacks, lacked, lacking, no_mapping, other_hash}
-use Rattle.fetch_conversation.specs.Errors.{fetch_of_pack}
+use Rattle.fetch_conversation.specs.ConverseStage.{converse_stage, wanting, fetching, algorithm_in, received, rejected, result_unless, unpacked, is_unmapped, unmapped, unlike, unread_as, unfit, lacks, lacked, lacking, no_mapping, other_hash}
+use Rattle.fetch_conversation.specs.Exchange as exchanging
+use Rattle.fetch_conversation.specs.Exchange.{TermsValue, replied, exchange}
+use Rattle.fetch_conversation.specs.Rounds.{CourseValue, Negotiated, first_course, next_window, course_after, negotiating}
+use Rattle.fetch_conversation.specs.Errors.{fetch_of_pack, is_free_receiving}
 use Rattle.fetch_conversation.specs.ListStage.{ListedValue, unless}
-use Rattle.fetch_conversation.specs.declared.conversing.Received.{Received}
 use Rattle.fetch_conversation.specs.declared.fetch.Error.{Error}
 use Rattle.fetch_conversation.specs.declared.fetch.Error.TheVariants as errors
 use Rattle.fetch_conversation.specs.declared.prepare.Error.{Error as PrepareError}
@@ -46,28 +47,30 @@ use Rattle.fetch_remote.specs.Talking.{BreaksListing, BreaksReceiving}
 use Rattle.fetch_remote.specs.declared.fetch_error.FetchError.{FetchError}
 use Rattle.fetch_remote.specs.declared.fetch_error.FetchError.TheVariants as fetch
 
--- no refusal of judging
-abbrev IsOther : Error → Type 0
+-- no refusal of judging or of the files
+abbrev pub IsOther : Error → Type 0
 IsOther (errors.UpdateRefs e) = ⊥
+IsOther (errors.KeepFile path) = ⊥
+IsOther (errors.RemovePackKeepFile path) = ⊥
 IsOther e = ⊤
 
--- None of its refusals is one of judging.
+-- None of its refusals is one of judging or of the files.
 unfoldable Spares : {X : Type 0} → Conversation X Error → Type 0
 Spares (ends (Ok x)) = ⊤
 Spares (ends (Err e)) = IsOther e
 Spares (asks lines awaited failed next) = ((fault : Fault) → IsOther (failed fault)) × ((t : Told) → Spares (next t))
 
-spared_after : {X : Type 0} (bound : ℕ) (failed : Fault → Error) (next : Told → Conversation X Error) (reading : Result (Told × List ℕ) Fault) (e : UpdateError) → ((fault : Fault) → IsOther (failed fault))
-    → ((t : Told) (stream : List ℕ) → answer_in bound (next t) stream ≡ Err (errors.UpdateRefs e) → ⊥)
-    → after_reply (λ fault. Err (failed fault)) (λ told rest. answer_in bound (next told) rest) reading ≡ Err (errors.UpdateRefs e) → ⊥
-spared_after bound failed next (Ok y) e other again is = again y.0 y.1 is
-spared_after {X} bound failed next (Err fault) e other again is = let h : failed fault ≡ errors.UpdateRefs e = cc in subst IsOther h (other fault)
+spared_after : {X : Type 0} (bound : ℕ) (failed : Fault → Error) (next : Told → Conversation X Error) (reading : Result (Told × List ℕ) Fault) (e : Error) → (IsOther e → ⊥) → ((fault : Fault) → IsOther (failed fault))
+    → ((t : Told) (stream : List ℕ) → answer_in bound (next t) stream ≡ Err e → ⊥)
+    → after_reply (λ fault. Err (failed fault)) (λ told rest. answer_in bound (next told) rest) reading ≡ Err e → ⊥
+spared_after bound failed next (Ok y) e apart other again is = again y.0 y.1 is
+spared_after {X} bound failed next (Err fault) e apart other again is = let h : failed fault ≡ e = cc in apart (subst IsOther h (other fault))
 
-spared : {X : Type 0} (bound : ℕ) (c : Conversation X Error) (stream : List ℕ) (e : UpdateError) → Spares c → answer_in bound c stream ≡ Err (errors.UpdateRefs e) → ⊥
+spared : {X : Type 0} (bound : ℕ) (c : Conversation X Error) (stream : List ℕ) (e : Error) → (IsOther e → ⊥) → Spares c → answer_in bound c stream ≡ Err e → ⊥
 unfolding answer_in Spares
-spared bound (ends (Ok y)) stream e h is = absurd (cc)
-spared bound (ends (Err x)) stream e h is = let k : x ≡ errors.UpdateRefs e = cc in subst IsOther k h
-spared bound (asks lines awaited failed next) stream e h is = spared_after bound failed next (told_at bound awaited stream) e h.0 (λ t s. spared bound (next t) s e (h.1 t)) is
+spared bound (ends (Ok y)) stream e apart h is = absurd (cc)
+spared bound (ends (Err x)) stream e apart h is = let k : x ≡ e = cc in apart (subst IsOther k h)
+spared bound (asks lines awaited failed next) stream e apart h is = spared_after bound failed next (told_at bound awaited stream) e apart h.0 (λ t s. spared bound (next t) s e apart (h.1 t)) is
 
 spares_ok : {X : Type 0} (x : X) → Spares (ends (Ok x))
 unfolding Spares
@@ -100,23 +103,46 @@ other_pack (pack.IdMismatch written computed) = tt
 other_pack (pack.Collision id) = tt
 other_pack pack.NoMemory = tt
 
-spares_unpacked : (reply : FetchReply) (r : Result Contents PackError) → Spares (ends (unpacked reply r))
-spares_unpacked reply (Ok c) = spares_ok _
-spares_unpacked reply (Err e) = spares_err _ _ (other_pack e)
+spares_unpacked : (n : Negotiated) (r : Result Contents PackError) → Spares (ends (unpacked n r))
+spares_unpacked n (Ok c) = spares_ok _
+spares_unpacked n (Err e) = spares_err _ _ (other_pack e)
 
 spares_dry : {X : Type 0} (dry : Bool) (x : X) (r : Result X Error) → Spares (ends r) → Spares (ends (if dry then Ok x else r))
 spares_dry true x r h = spares_ok x
 spares_dry false x r h = h
 
-spares_received : (t : TermsValue) (reply : FetchReply) → Spares (ends (received t reply))
-unfolding received
-spares_received t reply = spares_dry t.dry_run _ _ (spares_unpacked reply _)
+spares_result : {X : Type 0} (o : Option Error) (r : Result X Error) → IfSome o IsOther → Spares (ends r) → Spares (ends (result_unless o r))
+spares_result None r h k = k
+spares_result {X} (Some e) r h k = spares_err X e h
 
-spares_replied : (t : TermsValue) (x : Told) → Spares (replied t x)
-spares_replied t (told.Reply reply) = spares_received t reply
-spares_replied t (told.Greeting h) = spares_err _ _ tt
-spares_replied t (told.Advertisement h refs) = spares_err _ _ tt
-spares_replied t (told.Listing refs) = spares_err _ _ tt
+other_outside : (o : Option ObjectId) → IfSome (option_map (λ id. errors.RejectShallowRemote id) o) IsOther
+other_outside None = tt
+other_outside (Some id) = tt
+
+other_when : (b : Bool) (o : Option Error) → IfSome o IsOther → IfSome (if b then o else None) IsOther
+other_when true o h = h
+other_when false o h = tt
+
+other_rejected : (t : TermsValue) (n : Negotiated) → IfSome (rejected t.settings t.view t.shallow n.reply) IsOther
+other_rejected t n =
+    other_when (converse.is_rejecting (rejects_shallow_of t.settings.config) && converse.is_no_change t.shallow) (option_map (λ (id : ObjectId). errors.RejectShallowRemote id) (converse.first_outside t.view.border n.reply.shallow))
+    (other_outside (converse.first_outside t.view.border n.reply.shallow))
+
+spares_received : (t : TermsValue) (n : Negotiated) → Spares (ends (received t n))
+unfolding received
+spares_received t n = spares_result (rejected t.settings t.view t.shallow n.reply) _ (other_rejected t n) (spares_dry t.dry_run _ _ (spares_unpacked n _))
+
+spares_replied : (x : Told) → Spares (replied x)
+spares_replied (told.Reply reply) = spares_ok reply
+spares_replied (told.Greeting h) = spares_err _ _ tt
+spares_replied (told.Advertisement h refs) = spares_err _ _ tt
+spares_replied (told.Listing refs) = spares_err _ _ tt
+
+spares_then : {X Y : Type 0} (c : Conversation X Error) (f : X → Conversation Y Error) → Spares c → ((x : X) → Spares (f x)) → Spares (and_then c f)
+unfolding and_then Spares
+spares_then (ends (Ok x)) f h k = k x
+spares_then (ends (Err e)) f h k = h
+spares_then (asks lines awaited failed next) f h k = (h.0, λ t. spares_then (next t) f (h.1 t) k)
 
 spares_asks : {X : Type 0} (lines : List Line) (awaited : Await) (failed : Fault → Error) (next : Told → Conversation X Error) → ((fault : Fault) → IsOther (failed fault)) → ((t : Told) → Spares (next t)) → Spares (asks lines awaited failed next)
 unfolding Spares
@@ -126,14 +152,28 @@ spares_asking : {X : Type 0} (long : ℕ → Error) (lines : List Line) (awaited
     → Spares (asking long lines awaited failed next)
 spares_asking long lines awaited failed next a h k = spares_long (first_too_long lines) long (asks lines awaited failed next) a (spares_asks lines awaited failed next h k)
 
-spares_fetching : (bound : ℕ) (t : TermsValue) → Spares (fetching bound t)
-unfolding fetching
-spares_fetching bound t =
-    spares_asking converse.too_long (fetch_request (converse.asked_by t) [] true) (awaits.Reply (converse.reply_to t)) (converse.failed bound) (λ x. replied t x) (λ n. tt) (λ fault. tt) (λ x. spares_replied t x)
+spares_exchange : (bound : ℕ) (t : TermsValue) (haves : List ObjectId) (done : Bool) → Spares (exchange bound t haves done)
+unfolding exchange
+spares_exchange bound t haves done =
+    spares_asking exchanging.too_long (fetch_request (exchanging.asked_by t) haves done) (awaits.Reply (exchanging.reply_to t haves done)) (exchanging.failed bound) (λ x. replied x) (λ n. tt) (λ fault. tt) (λ x. spares_replied x)
 
-spares_wanting : (bound : ℕ) (t : TermsValue) (wants : List ObjectId) → Spares (wanting bound t wants)
-spares_wanting bound t [] = spares_ok _
-spares_wanting bound t (id ∷ ids) = spares_fetching bound t
+spares_either : {X : Type 0} (b : Bool) (c d : Conversation X Error) → Spares c → Spares d → Spares (if b then c else d)
+spares_either true c d h k = h
+spares_either false c d h k = k
+
+spares_negotiating : (more bound : ℕ) (t : TermsValue) (g : Graph) (algorithm : Algorithm) (c : CourseValue) → Spares (negotiating more bound t g algorithm c)
+unfolding negotiating
+spares_negotiating zero bound t g algorithm c = spares_err _ _ tt
+spares_negotiating (suc more) bound t g algorithm c =
+    spares_then _ _ (spares_exchange bound t _ _) (λ reply. spares_either _ _ _ (spares_ok _) (spares_negotiating more bound t g algorithm (course_after algorithm c (next_window g algorithm c) reply)))
+
+spares_fetching : (bound : ℕ) (g : Graph) (t : TermsValue) → Spares (fetching bound g t)
+unfolding fetching
+spares_fetching bound g t = spares_then _ _ (spares_negotiating (suc (map.len g)) bound t g (algorithm_in t.settings) (first_course (algorithm_in t.settings) t.view)) (λ n. spares_received t n)
+
+spares_wanting : (bound : ℕ) (g : Graph) (t : TermsValue) (wants : List ObjectId) → Spares (wanting bound g t wants)
+spares_wanting bound g t [] = spares_ok _
+spares_wanting bound g t (id ∷ ids) = spares_fetching bound g t
 
 other_unmapped : (m : RefMap) → IfSome (unmapped m) IsOther
 other_unmapped m = other_unless (is_unmapped m) (errors.NoMapping (converse.specs_of m) (length m.remote_refs)) tt
@@ -158,72 +198,63 @@ other_unread : {X : Type 0} (refusal : List ℕ → Error) (r : Result X (List �
 other_unread refusal (Ok x) h = tt
 other_unread refusal (Err value) h = h value
 
-other_rounds : (r : Result Algorithm (List ℕ)) → IfSome (unbuilt_rounds r) IsOther
-other_rounds (Ok algorithms.Noop) = tt
-other_rounds (Ok algorithms.Consecutive) = tt
-other_rounds (Ok algorithms.Skipping) = tt
-other_rounds (Err value) = tt
-
 other_unfit : (s : Settings) → IfSome (unfit s) IsOther
 other_unfit s =
-    let rounds = unbuilt_rounds (algorithm_of_config s.config s.lenient) in
     let threads = unread_as errors.PackThreads (threads_of s.config s.lenient) in
     let algorithm = unread_as errors.NegotiationAlgorithmConfig (algorithm_of_config s.config s.lenient) in
     let shallow = unread_as errors.RejectShallowRemoteConfig (rejects_shallow_of s.config) in
-    other_or shallow (option_or algorithm (option_or threads rounds)) (other_unread errors.RejectShallowRemoteConfig (rejects_shallow_of s.config) (λ value. tt))
-    (other_or algorithm (option_or threads rounds) (other_unread errors.NegotiationAlgorithmConfig (algorithm_of_config s.config s.lenient) (λ value. tt))
-    (other_or threads rounds (other_unread errors.PackThreads (threads_of s.config s.lenient) (λ value. tt)) (other_rounds (algorithm_of_config s.config s.lenient))))
+    other_or shallow (option_or algorithm threads) (other_unread errors.RejectShallowRemoteConfig (rejects_shallow_of s.config) (λ value. tt))
+    (other_or algorithm threads (other_unread errors.NegotiationAlgorithmConfig (algorithm_of_config s.config s.lenient) (λ value. tt)) (other_unread errors.PackThreads (threads_of s.config s.lenient) (λ value. tt)))
 
-spares_converse : (bound : ℕ) (t : TermsValue) → Spares (converse_stage bound t)
+spares_converse : (bound : ℕ) (g : Graph) (t : TermsValue) → Spares (converse_stage bound g t)
 unfolding converse_stage
-spares_converse bound t =
-    spares_unless (option_or (no_mapping t) (option_or (other_hash t) (option_or (unfit t.settings) (lacking t)))) (wanting bound t t.view.wants)
+spares_converse bound g t =
+    spares_unless (option_or (no_mapping t) (option_or (other_hash t) (option_or (unfit t.settings) (lacking t)))) (wanting bound g t t.view.wants)
     (other_or (no_mapping t) (option_or (other_hash t) (option_or (unfit t.settings) (lacking t))) (other_unmapped t.listed.ref_map)
     (other_or (other_hash t) (option_or (unfit t.settings) (lacking t)) (other_unlike t.settings.kind t.listed.handshake.object_hash)
     (other_or (unfit t.settings) (lacking t) (other_unfit t.settings) (other_lacked t.listed.handshake (converse.needs_shallow t)))))
-    (spares_wanting bound t t.view.wants)
+    (spares_wanting bound g t t.view.wants)
 
 -- ---- the whole
 
-pub refusal_is : (e : Error) (fault : UpdateError) → receiving e ≡ fetch.Receive (errors.UpdateRefs fault) → e ≡ errors.UpdateRefs fault
-refusal_is (errors.UpdateRefs e) fault is = cc
-refusal_is (errors.NoMapping specs count) fault is = absurd (cc)
-refusal_is (errors.IncompatibleObjectHash local remote) fault is = absurd (cc)
-refusal_is (errors.Disconnected link) fault is = absurd (cc)
-refusal_is (errors.RejectShallowRemoteConfig value) fault is = absurd (cc)
-refusal_is (errors.NegotiationAlgorithmConfig value) fault is = absurd (cc)
-refusal_is (errors.PackThreads value) fault is = absurd (cc)
-refusal_is (errors.Fetch e) fault is = absurd (cc)
-refusal_is (errors.RejectShallowRemote id) fault is = absurd (cc)
-refusal_is (errors.Pack e) fault is = absurd (cc)
-refusal_is (errors.Collision id) fault is = absurd (cc)
-refusal_is (errors.KeepFile path) fault is = absurd (cc)
-refusal_is (errors.RemovePackKeepFile path) fault is = absurd (cc)
-refusal_is errors.Client fault is = absurd (cc)
-refusal_is errors.Interrupted fault is = absurd (cc)
-refusal_is errors.Unbuilt fault is = absurd (cc)
-refusal_is errors.NoMemory fault is = absurd (cc)
+pub refusal_is : (e x : Error) → receiving e ≡ fetch.Receive x → e ≡ x
+refusal_is (errors.UpdateRefs e) x is = cc
+refusal_is (errors.NoMapping specs count) x is = cc
+refusal_is (errors.IncompatibleObjectHash local remote) x is = cc
+refusal_is (errors.Disconnected link) x is = cc
+refusal_is (errors.RejectShallowRemoteConfig value) x is = cc
+refusal_is (errors.NegotiationAlgorithmConfig value) x is = cc
+refusal_is (errors.PackThreads value) x is = cc
+refusal_is (errors.Fetch e) x is = cc
+refusal_is (errors.RejectShallowRemote id) x is = cc
+refusal_is (errors.Pack e) x is = cc
+refusal_is (errors.Collision id) x is = cc
+refusal_is (errors.KeepFile path) x is = cc
+refusal_is (errors.RemovePackKeepFile path) x is = cc
+refusal_is errors.Client x is = cc
+refusal_is errors.Interrupted x is = cc
+refusal_is errors.NoMemory x is = absurd (cc)
 
-refused_as : (now : Option Talk) (g : Given) (s : State) (l : ListedValue) (stream heard : List ℕ) (fault : UpdateError) → IsRefusedBy (bound_of g) now (pack_stage g s l) stream heard (errors.UpdateRefs fault) → ⊥
-refused_as now g s l stream heard fault (inl all) = spared (bound_of g) (pack_stage g s l) (stream ++ []) fault (spares_converse (bound_of g) (terms_in g s l)) (all []).answer
-refused_as now g s l stream heard fault (inr last) = spared (bound_of g) (pack_stage g s l) stream fault (spares_converse (bound_of g) (terms_in g s l)) last.1.answer
+refused_as : (now : Option Talk) (g : Given) (s : State) (l : ListedValue) (stream heard : List ℕ) (x : Error) → (IsOther x → ⊥) → IsRefusedBy (bound_of g) now (pack_stage g s l) stream heard x → ⊥
+refused_as now g s l stream heard x apart (inl all) = spared (bound_of g) (pack_stage g s l) (stream ++ []) x apart (spares_converse (bound_of g) (graph_of s.objects) (terms_in g s l)) (all []).answer
+refused_as now g s l stream heard x apart (inr last) = spared (bound_of g) (pack_stage g s l) stream x apart (spares_converse (bound_of g) (graph_of s.objects) (terms_in g s l)) last.1.answer
 
--- the second stage breaks off by no refusal of judging
-pub receives_no_fault : (answers : Bool) (old new : Option Talk) (g : Given) (s : State) (e : FetchError) (h : BreaksReceiving answers old new g s e) (fault : UpdateError) → receiving h.cause ≡ fetch.Receive (errors.UpdateRefs fault) → ⊥
-receives_no_fault answers old new g s e h fault is =
-    let cause = refusal_is h.cause fault is in
+-- the second stage breaks off by no refusal of judging or of the files
+pub receives_no_other : (answers : Bool) (old new : Option Talk) (g : Given) (s : State) (e : FetchError) (h : BreaksReceiving answers old new g s e) (x : Error) → (IsOther x → ⊥) → is_free_receiving x ≡ false → receiving h.cause ≡ fetch.Receive x → ⊥
+receives_no_other answers old new g s e h x apart sure is =
+    let cause = refusal_is h.cause x is in
     let b = rw cause at h.broke in
-    refused_as new g s h.listed _ _ fault (b.why refl)
+    refused_as new g s h.listed _ _ x apart (b.why sure)
 
-listing_no_fault : (e : PrepareError) (fault : UpdateError) → preparing e ≡ fetch.Receive (errors.UpdateRefs fault) → ⊥
-listing_no_fault prepare.MissingRefSpecs fault is = absurd (cc)
-listing_no_fault (prepare.RefMap e) fault is = absurd (cc)
-listing_no_fault prepare.NoMemory fault is = absurd (cc)
+listing_no_other : (e : PrepareError) (x : Error) → preparing e ≡ fetch.Receive x → ⊥
+listing_no_other prepare.MissingRefSpecs x is = absurd (cc)
+listing_no_other (prepare.RefMap e) x is = absurd (cc)
+listing_no_other prepare.NoMemory x is = absurd (cc)
 
 -- no conversation breaks off so
-pub talks_no_fault : (answers : Bool) (old new : Option Talk) (g : Given) (s : State) (e : FetchError) (fault : UpdateError) → BreaksListing answers old new g e ⊎ BreaksReceiving answers old new g s e → e ≡ fetch.Receive (errors.UpdateRefs fault) → ⊥
-talks_no_fault answers old new g s e fault (inl h) is = listing_no_fault h.cause fault (sym h.told ∙ is)
-talks_no_fault answers old new g s e fault (inr h) is = receives_no_fault answers old new g s e h fault (sym h.told ∙ is)
+pub talks_no_other : (answers : Bool) (old new : Option Talk) (g : Given) (s : State) (e : FetchError) (x : Error) → (IsOther x → ⊥) → is_free_receiving x ≡ false → BreaksListing answers old new g e ⊎ BreaksReceiving answers old new g s e → e ≡ fetch.Receive x → ⊥
+talks_no_other answers old new g s e x apart sure (inl h) is = listing_no_other h.cause x (sym h.told ∙ is)
+talks_no_other answers old new g s e x apart sure (inr h) is = receives_no_other answers old new g s e h x apart sure (sym h.told ∙ is)
 
 -- what `?` returned is the refusal that was told
 pub same_refusal : {T : Type 0} (r : Result T FetchError) (e y x : FetchError) → r ≡ Err y → y ≡ e → r ≡ Err x → e ≡ x

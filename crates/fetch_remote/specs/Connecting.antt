@@ -1,5 +1,5 @@
 -- Peers that are made and taken back.
-use Rattle.std.specs.Prelude.{◌≡◌, ℕ, ◌+◌, ◌==◌, Bool, not, length, filter, if◌then◌else◌, List, [], ◌∷◌, ◌++◌, ⊤, Option, Some, None, Result, Ok, Err}
+use Rattle.std.specs.Prelude.{◌≡◌, ℕ, ◌+◌, ◌==◌, Bool, true, false, not, length, filter, if◌then◌else◌, List, [], ◌∷◌, ◌++◌, ⊤, Option, Some, None, Result, Ok, Err}
 use Rattle.fetch_store.specs.Calls.{CallList}
 use Rattle.fetch_store.specs.Faults.{Faults, counted}
 use Rattle.fetch_wire.specs.Scripts.{Script}
@@ -33,6 +33,12 @@ with_lost peer lost = if peer.count == 0 then lost else record lost { count = lo
 abbrev pub connecting : SendFault → Error
 connecting sending.Failed = errors.Connect
 connecting sending.NoMemory = errors.NoMemory
+
+-- whether the maker failed
+abbrev pub is_of_maker : Error → Bool
+is_of_maker (errors.MissingUrl direction) = false
+is_of_maker errors.Connect = true
+is_of_maker errors.NoMemory = false
 
 -- Without an address that is told, and else it isn't.
 abbrev pub IsMissing : {P : Type 0} → Option (List ℕ) → Direction → Result P Error → Type 0

@@ -13,9 +13,7 @@ abbrev pub preparing : PrepareError → FetchError
 preparing prepare.NoMemory = errors.NoMemory
 preparing e = errors.Prepare e
 
--- what isn't built stays what it is, too
 abbrev pub receiving : ReceiveError → FetchError
-receiving fetch.Unbuilt = errors.Unbuilt
 receiving fetch.NoMemory = errors.NoMemory
 receiving e = errors.Receive e
 
@@ -24,10 +22,15 @@ abbrev pub is_unlisted : ReceiveError → Bool
 is_unlisted (fetch.UpdateRefs e) = is_worktree_fault e
 is_unlisted e = false
 
--- A free refusal has no cause in what was said: want of memory has none at all, and a fault of the peer or of the worktrees
--- and a yes of the interrupt have a count.
+-- a fault of the files
+abbrev pub is_unkept : ReceiveError → Bool
+is_unkept (fetch.KeepFile path) = true
+is_unkept (fetch.RemovePackKeepFile path) = true
+is_unkept e = false
+
+-- A free refusal has no cause in what was said: want of memory has none at all, and a fault of the peer, of the files or of
+-- the worktrees and a yes of the interrupt have a count.
 abbrev pub is_free : FetchError → Bool
 is_free (errors.Prepare e) = is_transport e || is_interrupted e
-is_free (errors.Receive e) = is_client e || (is_stopped e || is_unlisted e)
-is_free errors.Unbuilt = false
+is_free (errors.Receive e) = is_client e || (is_stopped e || (is_unkept e || is_unlisted e))
 is_free errors.NoMemory = true

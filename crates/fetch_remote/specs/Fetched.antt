@@ -1,10 +1,12 @@
 -- A fetch that was done.
+use Rattle.std.specs.Option.{option_and_then}
 use Rattle.std.specs.Prelude.{◌≡◌, ℕ, Bool, true, false, ◌&&◌, List, [], ◌++◌, Option, Some, None, Ok, Contains, length}
 use Rattle.fetch_store.specs.declared.id.ObjectId.{ObjectId}
 use Rattle.fetch_store.specs.Borders.{IdSet, merged}
 use Rattle.fetch_store.specs.Closed.{IsClosed, IsStored}
 use Rattle.fetch_store.specs.Honest.{Request}
 use Rattle.fetch_store.specs.Stores.{ObjectMap, add_all}
+use Rattle.fetch_store.specs.Trees.{Tree}
 use Rattle.fetch_refs.specs.Edits.{refs_after}
 use Rattle.fetch_refs.specs.Logs.{logs_after}
 use Rattle.fetch_refs.specs.Packed.{packed_after}
@@ -30,8 +32,10 @@ use Rattle.fetch_conversation.specs.declared.conversing.Received.{Received}
 use Rattle.fetch_remote.specs.Fetching.{manner_in, fetched_in, requests_in}
 use Rattle.fetch_remote.specs.Form.{Given}
 use Rattle.fetch_remote.specs.Judging.{IsTold}
+use Rattle.fetch_remote.specs.Negotiated.{AreHeld}
+use Rattle.fetch_remote.specs.Keeping.{AreFiles, kept, keep_in, left_tree}
 use Rattle.fetch_remote.specs.Repositories.{State, Setup, held}
-use Rattle.fetch_remote.specs.Settling.{brought, policy_in, status_of}
+use Rattle.fetch_remote.specs.Settling.{brought, pack_read, policy_in, status_of}
 use Rattle.fetch_remote.specs.Stages.{bound_of, wants_in, inquiry_in, listing_stage, pack_stage}
 use Rattle.fetch_remote.specs.declared.outcome.Outcome.{Outcome}
 
@@ -83,7 +87,7 @@ pub record IsJudged (g : Given) (trees : List Worktree) (before after : State) (
   pub says : EditsSay (policy_at g trees before after) outcome.ref_map.refspecs outcome.ref_map.extra_refspecs outcome.ref_map.mappings updates
   pub turns : TellsTypeChanges (policy_at g trees before after) updates
   -- The outcome tells the pack, the rounds and the updates.
-  pub status : outcome.status ≡ status_of g.options.dry_run received updates
+  pub status : outcome.status ≡ status_of g.setup.settings.git_dir g.options.dry_run received updates
 
 -- ---- what is left
 
@@ -113,11 +117,18 @@ pub record IsLeft (dry_run : Bool) (packed_refs : PackedRefs) (setup : Setup) (b
   pub packed : after.refs.packed ≡ packed_after packed_refs before.refs.packed (carried_out dry_run updates.edits)
   pub dry : dry_run ≡ true → after ≡ before
 
+-- The keep file of a pack.
+pub record IsKept (g : Given) (files left : Option Tree) (received : Option Received) (updates : Updates) (outcome : Outcome) : Type 0 where
+  -- The outcome tells the keep file of the pack that was read, where it stays: where no edit stands and the pack has objects.
+  pub keep : keep_in outcome.status ≡ option_and_then (kept g.setup.settings.git_dir updates) (pack_read g.options.dry_run received)
+  -- The files are those found, with the keep file of the pack, and without it where it doesn't stay.
+  pub tree : AreFiles files left (left_tree g.setup.settings.git_dir outcome.status)
+
 -- ---- what is safe
 
--- what the fetch request was made of
-abbrev pub request_in : Given → State → RefMap → Request
-request_in g s m = record { held = held s; wants = wants_in g s m; haves = [] }
+-- what the fetch requests were made of, with the haves of all rounds
+abbrev pub request_in : Given → State → RefMap → List ObjectId → Request
+request_in g s m haves = record { held = held s; wants = wants_in g s m; haves = haves }
 
 -- a mapping of the tags that come with the history
 abbrev pub is_aside : Given → RefMap → Mapping → Bool
@@ -134,15 +145,18 @@ pub record IsSafe (g : Given) (before after : State) (m : RefMap) : Type 0 where
 
 -- ---- the headline
 
-pub record IsFetched (answers : Bool) (old new : Option Talk) (known : Option (List Worktree)) (g : Given) (before after : State) (outcome : Outcome) : Type 0 where
+pub record IsFetched (answers : Bool) (old new : Option Talk) (known : Option (List Worktree)) (files files_left : Option Tree) (g : Given) (before after : State) (outcome : Outcome) : Type 0 where
   pub said : List ℕ
   pub heard : HasHeard answers old new g before said
   pub read : HasRead g before said outcome
+  -- One round a request was held, and told what is there.
+  pub rounds : AreHeld g before (listed_in outcome) read.behind read.received
   -- The worktrees' list is the one that is told.
   pub trees : List Worktree
   pub listed_trees : IsTold known trees
   pub judged : IsJudged g trees before after read.received outcome
   pub left : IsLeft g.options.dry_run (manner_in g).packed g.setup before after read.received judged.updates
+  pub kept : IsKept g files files_left read.received judged.updates outcome
   pub safe : IsSafe g before after outcome.ref_map
   -- All of it is what the whole fetch gives, so that no other refusal stood against it.
   pub whole : (more : List ℕ) → fetched_in g trees before (said ++ more) ≡ Ok (outcome, after)

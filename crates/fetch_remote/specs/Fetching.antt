@@ -1,5 +1,5 @@
 -- A whole fetch, from a peer that says this and nothing else.
-use Rattle.std.specs.Prelude.{ℕ, Bool, true, false, List, Option, unwrap_or, Result, Ok, Err}
+use Rattle.std.specs.Prelude.{ℕ, Bool, true, false, List, Option, None, unwrap_or, Result, Ok, Err}
 use Rattle.fetch_refs.specs.declared.edit.PackedRefs.{PackedRefs}
 use Rattle.fetch_refs.specs.declared.edit.PackedRefs.TheVariants as places
 use Rattle.fetch_update.specs.declared.message.RefLogMessage.{RefLogMessage}
@@ -11,7 +11,7 @@ use Rattle.fetch_conversation.specs.declared.fetch.Error.{Error as ReceiveError}
 use Rattle.fetch_remote.specs.Errors.{receiving}
 use Rattle.fetch_remote.specs.Form.{Given}
 use Rattle.fetch_remote.specs.Repositories.{State}
-use Rattle.fetch_remote.specs.Settling.{brought, taken, settled, kept_or, usual_message}
+use Rattle.fetch_remote.specs.Settling.{brought, keep_of, taken, settled, kept_or, standing, usual_message}
 use Rattle.fetch_remote.specs.Stages.{Told, bound_of, wants_in, conversation}
 use Rattle.fetch_remote.specs.declared.fetch_error.FetchError.{FetchError}
 use Rattle.fetch_remote.specs.declared.options.FetchOptions.{FetchOptions}
@@ -38,6 +38,10 @@ manner_in g = manner_of g.remote.tags g.options
 abbrev pub taken_in : Given → State → Told → Result State ReceiveError
 taken_in g s t = taken s (wants_in g s t.listed.ref_map) (brought g.options.dry_run t.received)
 
+-- the keep file that is made
+abbrev pub keep_made : Given → Told → Option (List ℕ)
+keep_made g t = keep_of g.setup (manner_in g) t.received
+
 abbrev pub settled_in : Given → List Worktree → State → Told → Result (Outcome × State) ReceiveError
 settled_in g trees s t = settled g.setup (manner_in g) trees s (wants_in g s t.listed.ref_map) t.listed t.received
 
@@ -60,3 +64,11 @@ left_by g s (Ok x) = kept_or s (taken_in g s x.0)
 
 unfoldable pub left_in : Given → State → List ℕ → State
 left_in g s stream = left_by g s (answer_in (bound_of g) (conversation g s) stream)
+
+-- the keep file that a refusal leaves: the one that was made, where what comes behind the taking is refused
+abbrev pub keep_left_by : Given → State → Result (Told × List ℕ) FetchError → Option (List ℕ)
+keep_left_by g s (Err e) = None
+keep_left_by g s (Ok x) = standing (taken_in g s x.0) (keep_made g x.0)
+
+unfoldable pub keep_left_in : Given → State → List ℕ → Option (List ℕ)
+keep_left_in g s stream = keep_left_by g s (answer_in (bound_of g) (conversation g s) stream)

@@ -2,6 +2,7 @@ pub mod Remotes
 pub mod Errors
 pub mod RepositoryValues
 pub mod Codes
+pub mod Negotiated
 pub mod Paths
 pub mod Repositories
 pub mod Finding
@@ -10,6 +11,7 @@ pub mod Connecting
 pub mod Reloads
 pub mod Threads
 pub mod Judging
+pub mod Keeping
 pub mod Settling
 pub mod Form
 pub mod Stages
@@ -17,5 +19,8 @@ pub mod Talking
 pub mod Fetching
 pub mod Fetched
 pub mod Refused
+pub mod Valid
 pub mod Requested
 pub mod Lasting
+pub mod Deleting
+pub mod DeletionSteps

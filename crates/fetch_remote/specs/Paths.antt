@@ -1,6 +1,9 @@
 -- Files of a repository: the directory's path, a slash, and the file's name.
 use Rattle.std.specs.Prelude.{ℕ, Bool, true, List, ◌++◌, Option, Some, codes}
 use Rattle.std.specs.Option.{unwrap_or}
+use Rattle.hex.specs.Hex.{encode_lower}
+use Rattle.fetch_store.specs.declared.id.ObjectId.{ObjectId}
+use Rattle.fetch_store.specs.Id.{bytes_of}
 use Rattle.fetch_config.specs.Contents.{Contents}
 use Rattle.fetch_config.specs.Lookups.{values_of, explicit, last_of}
 
@@ -18,3 +21,7 @@ shallow_files_in config = values_of (codes "gitoxide") (Some (codes "core")) (co
 -- where the border is written: the last value that isn't implicit, or else `shallow`, in the git directory
 unfoldable pub shallow_file_of : Contents → List ℕ → List ℕ
 shallow_file_of config git_dir = in_directory git_dir (unwrap_or (last_of (explicit (shallow_files_in config))) (codes "shallow"))
+
+-- the file that keeps the pack of a digest
+unfoldable pub keep_path : List ℕ → ObjectId → List ℕ
+keep_path git_dir digest = in_directory git_dir (codes "objects/pack/pack-" ++ encode_lower (bytes_of digest) ++ codes ".keep")

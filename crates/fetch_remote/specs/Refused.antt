@@ -1,5 +1,6 @@
 -- A fetch that was refused.
-use Rattle.std.specs.Prelude.{◌≡◌, ◌⊎◌, ℕ, Bool, true, false, List, ◌++◌, Option, Ok, Err}
+use Rattle.std.specs.Prelude.{◌≡◌, ◌⊎◌, ℕ, Bool, true, false, List, ◌++◌, Option, Some, Ok, Err, is_some}
+use Rattle.fetch_store.specs.Trees.{Tree}
 use Rattle.fetch_update.specs.declared.update.Error.{Error as UpdateError}
 use Rattle.fetch_update.specs.declared.worktrees.Worktree.{Worktree}
 use Rattle.fetch_wire.specs.Talks.{Talk, Talks, IsFront, IsDrained}
@@ -11,58 +12,91 @@ use Rattle.fetch_conversation.specs.declared.fetch.Error.TheVariants as receive
 use Rattle.fetch_conversation.specs.declared.prepare.Error.TheVariants as prepare
 use Rattle.fetch_conversation.specs.declared.ref_map.Error.TheVariants as ref_map
 use Rattle.fetch_remote.specs.Errors.{is_free}
-use Rattle.fetch_remote.specs.Fetching.{fetched_in, requests_in, left_in, taken_in}
+use Rattle.fetch_remote.specs.Fetching.{fetched_in, requests_in, left_in, keep_left_in, taken_in, keep_made}
 use Rattle.fetch_remote.specs.Form.{Given}
 use Rattle.fetch_remote.specs.Judging.{IsTold}
+use Rattle.fetch_remote.specs.Keeping.{AreFiles, with_keep, removed_in}
 use Rattle.fetch_remote.specs.Repositories.{State}
+use Rattle.fetch_remote.specs.Settling as settling
 use Rattle.fetch_remote.specs.Stages.{Told, bound_of, listing_stage, pack_stage, conversation}
+use Rattle.fetch_remote.specs.declared.outcome.Outcome.{Outcome}
 use Rattle.fetch_remote.specs.declared.fetch_error.FetchError.{FetchError}
 use Rattle.fetch_remote.specs.declared.fetch_error.FetchError.TheVariants as errors
 
 -- ---- the cause
 
 -- With these worktrees, and from a peer that says this and nothing else, the fetch is refused so; the peer hears these
--- bytes, which are all requests, and this is left.
-pub record RefusesWith (g : Given) (trees : List Worktree) (before after : State) (stream heard : List ℕ) (e : FetchError) : Type 0 where
+-- bytes, which are all requests, and this is left; of the files those found, with the keep file where that was made.
+pub record RefusesWith (g : Given) (trees : List Worktree) (before after : State) (files files_left : Option Tree) (stream heard : List ℕ) (e : FetchError) : Type 0 where
   pub refused : fetched_in g trees before stream ≡ Err e
   pub requests : lines_text (requests_in g before stream) ≡ heard
   pub left : left_in g before stream ≡ after
+  pub kept : AreFiles files files_left (with_keep (keep_left_in g before stream))
 
 -- The refusal is that of what was said, whatever comes after; or nothing is to come, and it is that of all that was said.
-abbrev pub IsRefusedBy : Option Talk → Given → List Worktree → State → State → List ℕ → List ℕ → FetchError → Type 0
-IsRefusedBy now g trees before after said heard e =
-    ((more : List ℕ) → RefusesWith g trees before after (said ++ more) heard e) ⊎ (IsDrained now × RefusesWith g trees before after said heard e)
+abbrev pub IsRefusedBy : Option Talk → Given → List Worktree → State → State → Option Tree → Option Tree → List ℕ → List ℕ → FetchError → Type 0
+IsRefusedBy now g trees before after files files_left said heard e =
+    ((more : List ℕ) → RefusesWith g trees before after files files_left (said ++ more) heard e) ⊎ (IsDrained now × RefusesWith g trees before after files files_left said heard e)
 
 -- ---- where it stands
 
--- Behind the conversation: it came to its end, and all that was received was taken. The references are as found.
-pub record IsTaken (g : Given) (before after : State) (said : List ℕ) : Type 0 where
-  pub told : Told
+-- The conversation came to its end, with this told, whatever comes behind.
+pub record HasEnded (g : Given) (before : State) (said : List ℕ) (told : Told) : Type 0 where
   pub rest : List ℕ
   pub answered : (more : List ℕ) → answer_in (bound_of g) (conversation g before) (said ++ more) ≡ Ok (told, rest ++ more)
+
+-- Behind the conversation, with a pack that could be taken: its keep file was being made, or stood already. The state is as
+-- found, and the files still tell a tree, where they did.
+pub record IsMaking (g : Given) (before after : State) (files files_left : Option Tree) (said path : List ℕ) : Type 0 where
+  pub told : Told
+  pub ended : HasEnded g before said told
+  pub state : State
+  pub took : taken_in g before told ≡ Ok state
+  pub keep : keep_made g told ≡ Some path
+  pub found : after ≡ before
+  pub tree : is_some files_left ≡ is_some files
+
+-- Behind the conversation: all that was received was taken, and its keep file stands. The references are as found.
+pub record IsTaken (g : Given) (before after : State) (files files_left : Option Tree) (said : List ℕ) : Type 0 where
+  pub told : Told
+  pub ended : HasEnded g before said told
   pub state : taken_in g before told ≡ Ok after
+  pub kept : AreFiles files files_left (with_keep (keep_made g told))
   pub refs : after.refs ≡ before.refs
 
--- All is as found, or all that was received is taken. None stands yet where the references have moved.
-abbrev pub IsStanding : Given → State → State → List ℕ → Type 0
-IsStanding g before after said = (after ≡ before) ⊎ IsTaken g before after said
+-- The references have moved, and references, objects and border are as at Ok. The files still tell a tree, where they did.
+pub record IsMoved (g : Given) (trees : List Worktree) (before after : State) (files files_left : Option Tree) (said path : List ℕ) : Type 0 where
+  pub outcome : Outcome
+  pub fetched : (more : List ℕ) → fetched_in g trees before (said ++ more) ≡ Ok (outcome, after)
+  pub removed : removed_in g.setup.settings.git_dir outcome.status ≡ Some path
+  pub tree : is_some files_left ≡ is_some files
+
+-- All is as found.
+pub record IsFound (before after : State) (files files_left : Option Tree) : Type 0 where
+  pub same_state : after ≡ before
+  pub same_files : files_left ≡ files
+
+-- All is as found, or a keep file was being made, or all that was received is taken.
+abbrev pub IsStanding : Given → State → State → Option Tree → Option Tree → List ℕ → Type 0
+IsStanding g before after files files_left said =
+    IsFound before after files files_left ⊎ (((path : List ℕ) × IsMaking g before after files files_left said path) ⊎ IsTaken g before after files files_left said)
 
 -- ---- counted refusals
 
 -- The peer failed while the references were listed: it heard a front of that stage's lines, and all is as found.
-pub record IsCutListing (g : Given) (before after : State) (said heard : List ℕ) : Type 0 where
+pub record IsCutListing (g : Given) (before after : State) (files files_left : Option Tree) (said heard : List ℕ) : Type 0 where
   pub front : IsFront heard (lines_text (sent_in (bound_of g) (listing_stage g) said))
-  pub found : after ≡ before
+  pub found : IsFound before after files files_left
 
 -- The peer failed behind the listing: it heard all lines of that stage, and a front of the fetch request. All is as found.
-pub record IsCutReceiving (g : Given) (before after : State) (said heard : List ℕ) : Type 0 where
+pub record IsCutReceiving (g : Given) (before after : State) (files files_left : Option Tree) (said heard : List ℕ) : Type 0 where
   pub listed : ListedValue
   pub behind : List ℕ
   pub answered : answer_in (bound_of g) (listing_stage g) said ≡ Ok (listed, behind)
   pub later : List ℕ
   pub heard_all : heard ≡ lines_text (sent_in (bound_of g) (listing_stage g) said) ++ later
   pub front : IsFront later (lines_text (sent_in (bound_of g) (pack_stage g before listed) behind))
-  pub found : after ≡ before
+  pub found : IsFound before after files files_left
 
 -- the refusals of a yes of the interrupt
 abbrev pub interrupted_listing : FetchError
@@ -75,17 +109,38 @@ interrupted_receiving = errors.Receive receive.Interrupted
 abbrev pub unjudged : UpdateError → FetchError
 unjudged e = errors.Receive (receive.UpdateRefs e)
 
+-- a fault of the files: the keep file couldn't be made, or not removed
+abbrev pub unmade : List ℕ → FetchError
+unmade path = errors.Receive (receive.KeepFile path)
+
+abbrev pub unremoved : List ℕ → FetchError
+unremoved path = errors.Receive (receive.RemovePackKeepFile path)
+
+-- a refusal behind the references' move
+abbrev pub is_late : FetchError → Bool
+is_late (errors.Prepare e) = false
+is_late (errors.Receive e) = settling.is_late e
+is_late errors.NoMemory = false
+
+-- a refusal before the keep file is made
+abbrev pub is_early : FetchError → Bool
+is_early (errors.Prepare e) = true
+is_early (errors.Receive e) = settling.is_early e
+is_early errors.NoMemory = false
+
 -- What is said of a counted refusal in place of a cause. Where the worktrees fail, all that was received is taken.
-pub record IsCounted (g : Given) (before after : State) (said heard : List ℕ) (e : FetchError) : Type 0 where
-  pub transport : e ≡ errors.Prepare (prepare.RefMap ref_map.Transport) → IsCutListing g before after said heard
-  pub interrupted : e ≡ interrupted_listing → IsCutListing g before after said heard
-  pub client : e ≡ errors.Receive receive.Client → IsCutReceiving g before after said heard
-  pub stopped : e ≡ interrupted_receiving → IsCutReceiving g before after said heard
-  pub worktrees : (fault : UpdateError) → is_worktree_fault fault ≡ true → e ≡ unjudged fault → IsTaken g before after said
+pub record IsCounted (g : Given) (trees : List Worktree) (before after : State) (files files_left : Option Tree) (said heard : List ℕ) (e : FetchError) : Type 0 where
+  pub transport : e ≡ errors.Prepare (prepare.RefMap ref_map.Transport) → IsCutListing g before after files files_left said heard
+  pub interrupted : e ≡ interrupted_listing → IsCutListing g before after files files_left said heard
+  pub client : e ≡ errors.Receive receive.Client → IsCutReceiving g before after files files_left said heard
+  pub stopped : e ≡ interrupted_receiving → IsCutReceiving g before after files files_left said heard
+  pub making : (path : List ℕ) → e ≡ unmade path → IsMaking g before after files files_left said path
+  pub worktrees : (fault : UpdateError) → is_worktree_fault fault ≡ true → e ≡ unjudged fault → IsTaken g before after files files_left said
+  pub removing : (path : List ℕ) → e ≡ unremoved path → IsMoved g trees before after files files_left said path
 
 -- ---- the refusal
 
-pub record IsRefused (answers : Bool) (old new : Option Talk) (known : Option (List Worktree)) (g : Given) (before after : State) (e : FetchError) : Type 0 where
+pub record IsRefused (answers : Bool) (old new : Option Talk) (known : Option (List Worktree)) (files files_left : Option Tree) (g : Given) (before after : State) (e : FetchError) : Type 0 where
   -- What the peer gave in the call is what it said, and it heard a front of the requests for that.
   pub said : List ℕ
   pub heard : List ℕ
@@ -96,6 +151,7 @@ pub record IsRefused (answers : Bool) (old new : Option Talk) (known : Option (L
   pub listed_trees : IsTold known trees
   -- Unless the refusal is a free one, it is the one of this fetch from this peer and with these worktrees; the peer heard
   -- all requests up to it.
-  pub why : is_free e ≡ false → IsRefusedBy new g trees before after said heard e
-  pub stands : IsStanding g before after said
-  pub counted : IsCounted g before after said heard e
+  pub why : is_free e ≡ false → IsRefusedBy new g trees before after files files_left said heard e
+  -- Unless the references have moved, they are as found.
+  pub stands : is_late e ≡ false → IsStanding g before after files files_left said
+  pub counted : IsCounted g trees before after files files_left said heard e

@@ -19,6 +19,13 @@ Reads told path found = IfSome told (λ t. read_in t (parts_of path) ≡ Some fo
 abbrev pub file_of : Meta → List ℕ → Contents
 file_of meta text = record { meta = meta; sections = sections_of meta text }
 
+-- The file was read, its text obeys the grammar, and this is what it says.
+pub record HasRead (told : Option Tree) (path : List ℕ) (meta : Meta) (file : Contents) : Type 0 where
+  pub text : List ℕ
+  pub read : Reads told path (Some text)
+  pub grammar : broken_line text ≡ None
+  pub says : file ≡ file_of meta text
+
 -- The file was read, and its text obeys the grammar. It is in force in place of the old local file, under that file's
 -- metadata.
 pub record HasReloaded (told : Option Tree) (before after : Setup) : Type 0 where

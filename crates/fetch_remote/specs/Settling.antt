@@ -1,5 +1,5 @@
 -- What a fetch does with what it received.
-use Rattle.std.specs.Prelude.{◌≡◌, ◌⊎◌, ℕ, Bool, true, false, List, [], Option, Some, None, Result, Ok, Err, codes, ⊤, slice_get}
+use Rattle.std.specs.Prelude.{◌≡◌, ◌≢◌, ◌⊎◌, ◌||◌, ℕ, Bool, true, false, if◌then◌else◌, List, [], Option, Some, None, Result, Ok, Err, codes, ⊤, slice_get, is_some}
 use Rattle.std.specs.Option.{option_map, option_and_then}
 use Rattle.fetch_store.specs.declared.id.ObjectId.{ObjectId}
 use Rattle.fetch_store.specs.declared.missing.Missing.{Missing}
@@ -17,19 +17,24 @@ use Rattle.fetch_update.specs.declared.message.RefLogMessage.TheVariants.{Prefix
 use Rattle.fetch_update.specs.declared.update.Error.{Error as UpdateError}
 use Rattle.fetch_update.specs.declared.update.Outcome.{Outcome as Updates}
 use Rattle.fetch_update.specs.declared.worktrees.Worktree.{Worktree}
-use Rattle.fetch_conversation.specs.Errors.{is_worktree_fault}
+use Rattle.fetch_conversation.specs.Errors.{is_client, is_stopped, is_worktree_fault}
 use Rattle.fetch_conversation.specs.ListStage.{ListedValue}
 use Rattle.fetch_conversation.specs.declared.conversing.Received.{Received}
 use Rattle.fetch_conversation.specs.declared.fetch.Error.{Error}
 use Rattle.fetch_conversation.specs.declared.fetch.Error.TheVariants as errors
 use Rattle.fetch_conversation.specs.declared.negotiate.Negotiate.{Negotiate}
+use Rattle.fetch_store.specs.Trees.{Tree}
+use Rattle.fetch_remote.specs.declared.keep.Kept.{Kept}
 use Rattle.fetch_remote.specs.declared.outcome.Outcome.{Outcome}
 use Rattle.fetch_remote.specs.declared.outcome.PackOutcome.{PackOutcome}
 use Rattle.fetch_remote.specs.declared.outcome.Status.{Status}
 use Rattle.fetch_remote.specs.declared.outcome.Status.TheVariants as statuses
 use Rattle.fetch_remote.specs.declared.settling.Manner.{Manner}
 use Rattle.fetch_remote.specs.declared.settling.Taken.{Taken}
+use Rattle.fetch_remote.specs.Errors.{is_unlisted}
 use Rattle.fetch_remote.specs.Judging.{judged_of, IsTold}
+use Rattle.fetch_remote.specs.Keeping.{stays, kept, made, removed_in, with_keep, AreFiles}
+use Rattle.fetch_remote.specs.Paths.{keep_path}
 use Rattle.fetch_remote.specs.Repositories.{State, Setup, held, with_pack}
 
 infixl 10 ◌>>=◌
@@ -53,6 +58,14 @@ pack_of r = record { objects = r.objects; shallow = r.shallow; unshallow = r.uns
 abbrev pub brought : Bool → Option Received → Option Received
 brought true r = None
 brought false r = r
+
+-- the pack that was read: its count and its digest
+abbrev pub pack_read : Bool → Option Received → Option (ℕ × ObjectId)
+pack_read dry_run r = option_and_then (λ x. x.pack) (brought dry_run r)
+
+-- the keep file that is made for it
+abbrev pub keep_of : Setup → Manner → Option Received → Option (List ℕ)
+keep_of setup how r = made setup.settings.git_dir (pack_read how.dry_run r)
 
 abbrev pub unless_hit : Option ObjectId → Result (Unit {0}) Error
 unless_hit None = Ok tt
@@ -96,28 +109,28 @@ moved false packed setup s edits = with_edits packed setup s edits
 
 -- ---- what is told
 
-abbrev pub pack_told : Option (ℕ × ObjectId) → Option PackOutcome
-pack_told None = None
-pack_told (Some pack) = Some (record { num_objects = pack.0; digest = pack.1; keep_path = None })
+-- the pack, and its keep file where that stays
+abbrev pub pack_told : List ℕ → Updates → ℕ × ObjectId → PackOutcome
+pack_told git_dir updates pack = record { num_objects = pack.0; digest = pack.1; keep_path = kept git_dir updates pack }
 
-abbrev pub told_with : Negotiate → Option PackOutcome → Updates → Status
-told_with negotiate None updates = statuses.NoPackReceived false (Some negotiate) updates
-told_with negotiate (Some pack) updates = statuses.Change negotiate pack updates
+abbrev pub told_with : List ℕ → Negotiate → Option (ℕ × ObjectId) → Updates → Status
+told_with git_dir negotiate None updates = statuses.NoPackReceived false (Some negotiate) updates
+told_with git_dir negotiate (Some pack) updates = statuses.Change negotiate (pack_told git_dir updates pack) updates
 
 -- Whether a pack came, and what became of the mappings. Rounds are told where a request was sent; a dry run takes no pack.
-abbrev pub status_of : Bool → Option Received → Updates → Status
-status_of true r updates = statuses.NoPackReceived true (option_map (λ x. x.negotiate) r) updates
-status_of false None updates = statuses.NoPackReceived false None updates
-status_of false (Some r) updates = told_with r.negotiate (pack_told r.pack) updates
+abbrev pub status_of : List ℕ → Bool → Option Received → Updates → Status
+status_of git_dir true r updates = statuses.NoPackReceived true (option_map (λ x. x.negotiate) r) updates
+status_of git_dir false None updates = statuses.NoPackReceived false None updates
+status_of git_dir false (Some r) updates = told_with git_dir r.negotiate r.pack updates
 
-abbrev pub outcome_in : Manner → ListedValue → Option Received → Updates → Outcome
-outcome_in how listed r updates = record { ref_map = listed.ref_map; handshake = listed.handshake; status = status_of how.dry_run r updates }
+abbrev pub outcome_in : List ℕ → Manner → ListedValue → Option Received → Updates → Outcome
+outcome_in git_dir how listed r updates = record { ref_map = listed.ref_map; handshake = listed.handshake; status = status_of git_dir how.dry_run r updates }
 
 -- ---- all of it
 
 -- the outcome, and the state that is left
 abbrev pub done : Setup → Manner → ListedValue → Option Received → State → Updates → Outcome × State
-done setup how listed r s updates = (outcome_in how listed r updates, moved how.dry_run how.packed setup s updates.edits)
+done setup how listed r s updates = (outcome_in setup.settings.git_dir how listed r updates, moved how.dry_run how.packed setup s updates.edits)
 
 -- The objects are taken, the mappings are judged over the state with them and these worktrees, and the references move.
 unfoldable pub settled : Setup → Manner → List Worktree → State → List ObjectId → ListedValue → Option Received → Result (Outcome × State) Error
@@ -132,26 +145,40 @@ pub record IsSettled (known : Option (List Worktree)) (setup : Setup) (how : Man
 
 -- ---- what the code keeps between the steps
 
--- what the outcome will tell; a dry run takes no pack
-abbrev pub pack_brought : Bool → Option (ℕ × ObjectId) → Option PackOutcome
-pack_brought true pack = None
-pack_brought false pack = pack_told pack
+-- a pack, whose keep file was made
+abbrev pub pack_kept : List ℕ → ℕ × ObjectId → Kept
+pack_kept git_dir pack = record { num_objects = pack.0; digest = pack.1; path = keep_path git_dir pack.1 }
 
-abbrev pub told_of : Bool → Option Received → Option Taken
-told_of dry_run None = None
-told_of dry_run (Some r) = Some (record { negotiate = r.negotiate; pack = pack_brought dry_run r.pack })
+abbrev pub told_of : List ℕ → Bool → Option Received → Option Taken
+told_of git_dir dry_run None = None
+told_of git_dir dry_run (Some r) = Some (record { negotiate = r.negotiate; pack = option_map (pack_kept git_dir) (pack_read dry_run (Some r)) })
 
--- the keep file that was made
-abbrev pub keep_of : Option Taken → Option (List ℕ)
-keep_of taken = option_and_then (λ t. option_and_then (λ p. p.keep_path) t.pack) taken
+-- what is told of it
+abbrev pub kept_told : Updates → Kept → PackOutcome
+kept_told updates k = record { num_objects = k.num_objects; digest = k.digest; keep_path = if stays updates k.num_objects then Some k.path else None }
 
-abbrev pub told_by : Bool → Negotiate → Option PackOutcome → Updates → Status
+abbrev pub told_by : Bool → Negotiate → Option Kept → Updates → Status
 told_by dry_run negotiate None updates = statuses.NoPackReceived dry_run (Some negotiate) updates
-told_by dry_run negotiate (Some pack) updates = statuses.Change negotiate pack updates
+told_by dry_run negotiate (Some k) updates = statuses.Change negotiate (kept_told updates k) updates
 
 abbrev pub status_by : Bool → Option Taken → Updates → Status
 status_by dry_run None updates = statuses.NoPackReceived dry_run None updates
 status_by dry_run (Some t) updates = told_by dry_run t.negotiate t.pack updates
+
+-- the keep file that goes
+abbrev pub released : Updates → Option Kept → Option (List ℕ)
+released updates None = None
+released updates (Some k) = if stays updates k.num_objects then None else Some k.path
+
+abbrev pub kept_of : Option Taken → Option Kept
+kept_of taken = option_and_then (λ t. t.pack) taken
+
+abbrev pub released_of : Updates → Option Taken → Option (List ℕ)
+released_of updates taken = released updates (kept_of taken)
+
+-- it couldn't be removed
+abbrev pub IsUnreleased : Option (List ℕ) → Error → Type 0
+IsUnreleased keep e = (path : List ℕ) × (e ≡ errors.RemovePackKeepFile path) × (keep ≡ Some path)
 
 -- ---- what a refusal leaves
 
@@ -160,33 +187,89 @@ abbrev pub kept_or : State → Result State Error → State
 kept_or before (Ok s) = s
 kept_or before (Err e) = before
 
+-- the keep file that stands then
+abbrev pub standing : Result State Error → Option (List ℕ) → Option (List ℕ)
+standing (Ok s) path = path
+standing (Err e) path = None
+
 -- what was answered is this refusal, unless memory ran out
 abbrev pub Fails : {X : Type 0} → Result X Error → Error → Type 0
 Fails expected errors.NoMemory = ⊤
 Fails expected e = expected ≡ Err e
 
--- as found, or with all that was received
-abbrev pub IsLeft : State → Result State Error → State → Type 0
-IsLeft before took now = (now ≡ before) ⊎ (took ≡ Ok now)
+-- a refusal of judging
+abbrev pub IsOfJudging : Error → Type 0
+IsOfJudging e = (e ≡ errors.NoMemory) ⊎ ((cause : UpdateError) × (e ≡ errors.UpdateRefs cause))
 
--- A fault of the worktrees stands behind the taking, and has no cause here.
-abbrev pub IsUnjudged : Bool → State → Result State Error → State → Type 0 → Type 0
-IsUnjudged true before took now otherwise = took ≡ Ok now
-IsUnjudged false before took now otherwise = otherwise × (now ≡ kept_or before took)
+-- What was received could be taken, and its keep file was being made or stood already: the files tell a tree still, where
+-- they did.
+pub record IsMaking (taking : Result State Error) (keep : Option (List ℕ)) (path : List ℕ) (files left : Option Tree) : Type 0 where
+  pub state : State
+  pub took : taking ≡ Ok state
+  pub made : keep ≡ Some path
+  pub told : is_some left ≡ is_some files
 
-abbrev pub IsUnsettledBy : Setup → Manner → List Worktree → State → List ObjectId → ListedValue → Option Received → State → Error → Type 0
-IsUnsettledBy setup how trees before wants listed r now errors.NoMemory = IsLeft before (taken before wants (brought how.dry_run r)) now
-IsUnsettledBy setup how trees before wants listed r now errors.Client = ⊥
-IsUnsettledBy setup how trees before wants listed r now errors.Interrupted = ⊥
-IsUnsettledBy setup how trees before wants listed r now (errors.KeepFile path) = ⊥
-IsUnsettledBy setup how trees before wants listed r now (errors.RemovePackKeepFile path) = ⊥
-IsUnsettledBy setup how trees before wants listed r now (errors.UpdateRefs e) =
-    IsUnjudged (is_worktree_fault e) before (taken before wants (brought how.dry_run r)) now (settled setup how trees before wants listed r ≡ Err (errors.UpdateRefs e))
-IsUnsettledBy setup how trees before wants listed r now e =
-    (settled setup how trees before wants listed r ≡ Err e) × (now ≡ kept_or before (taken before wants (brought how.dry_run r)))
+-- What was received is taken, and its keep file stands.
+pub record IsTaken (taking : Result State Error) (keep : Option (List ℕ)) (files left : Option Tree) (now : State) : Type 0 where
+  pub took : taking ≡ Ok now
+  pub kept : AreFiles files left (with_keep keep)
 
--- It was refused: for its reason, over a list of worktrees, which is the one that is told; with the references as found.
-pub record IsUnsettled (known : Option (List Worktree)) (setup : Setup) (how : Manner) (before : State) (wants : List ObjectId) (listed : ListedValue) (r : Option Received) (now : State) (e : Error) : Type 0 where
+-- ---- a taking that was refused
+
+abbrev pub is_free_taking : Error → Bool
+is_free_taking (errors.KeepFile path) = true
+is_free_taking errors.NoMemory = true
+is_free_taking e = false
+
+-- Nothing was taken: for its reason, with the files as found; or the keep file couldn't be made; or memory ran out.
+pub record IsUntaken (took : Result State Error) (keep : Option (List ℕ)) (files left : Option Tree) (e : Error) : Type 0 where
+  pub why : is_free_taking e ≡ false → (took ≡ Err e) × (left ≡ files)
+  pub making : (path : List ℕ) → e ≡ errors.KeepFile path → IsMaking took keep path files left
+  pub stands : (left ≡ files) ⊎ ((path : List ℕ) × IsMaking took keep path files left)
+
+-- ---- a fetch that was refused behind its conversation
+
+-- a refusal before the keep file is made
+abbrev pub is_early : Error → Bool
+is_early (errors.KeepFile path) = false
+is_early (errors.UpdateRefs e) = false
+is_early (errors.RemovePackKeepFile path) = false
+is_early errors.NoMemory = false
+is_early e = true
+
+-- the keep file couldn't be removed
+abbrev pub is_late : Error → Bool
+is_late (errors.RemovePackKeepFile path) = true
+is_late e = false
+
+-- A refusal of the taking or of judging has a cause, unless the files or the worktrees failed or memory ran out.
+abbrev pub is_free_settling : Error → Bool
+is_free_settling e = is_free_taking e || (is_client e || (is_stopped e || (is_late e || is_unlisted e)))
+
+-- All is as found, or the keep file was being made, or all that was received is taken.
+abbrev pub IsLeft : State → Result State Error → Option (List ℕ) → Option Tree → Option Tree → State → Type 0
+IsLeft before took keep files left now =
+    ((now ≡ before) × ((left ≡ files) ⊎ ((path : List ℕ) × IsMaking took keep path files left))) ⊎ IsTaken took keep files left now
+
+-- The references have moved, and the keep file that was to go couldn't be removed.
+pub record IsMoved (all : Result (Outcome × State) Error) (git_dir path : List ℕ) (files left : Option Tree) (now : State) : Type 0 where
+  pub outcome : Outcome
+  pub by : all ≡ Ok (outcome, now)
+  pub removed : removed_in git_dir outcome.status ≡ Some path
+  pub told : is_some left ≡ is_some files
+
+-- Why it was refused, and what that leaves: of all of it, of the taking, and of the keep file that is made.
+pub record IsUnsettledBy (all : Result (Outcome × State) Error) (took : Result State Error) (keep : Option (List ℕ)) (git_dir : List ℕ) (files left : Option Tree) (before now : State) (e : Error) : Type 0 where
+  pub why : is_free_settling e ≡ false → (all ≡ Err e) × (now ≡ kept_or before took) × AreFiles files left (with_keep (standing took keep))
+  pub stands : is_late e ≡ false → IsLeft before took keep files left now
+  pub unlisted : (fault : UpdateError) → is_worktree_fault fault ≡ true → e ≡ errors.UpdateRefs fault → IsTaken took keep files left now
+  pub making : (path : List ℕ) → e ≡ errors.KeepFile path → (now ≡ before) × IsMaking took keep path files left
+  pub moved : (path : List ℕ) → e ≡ errors.RemovePackKeepFile path → IsMoved all git_dir path files left now
+  -- No conversation is held here.
+  pub unheard : (e ≢ errors.Client) × (e ≢ errors.Interrupted)
+
+-- It was refused: for its reason, over a list of worktrees, which is the one that is told.
+pub record IsUnsettled (known : Option (List Worktree)) (files left : Option Tree) (setup : Setup) (how : Manner) (before : State) (wants : List ObjectId) (listed : ListedValue) (r : Option Received) (now : State) (e : Error) : Type 0 where
   pub trees : List Worktree
   pub listed_trees : IsTold known trees
-  pub by : IsUnsettledBy setup how trees before wants listed r now e
+  pub by : IsUnsettledBy (settled setup how trees before wants listed r) (taken before wants (brought how.dry_run r)) (keep_of setup how r) setup.settings.git_dir files left before now e

@@ -8,7 +8,8 @@ use Rattle.fetch_negotiate.specs.Wants.{wants_of}
 use Rattle.fetch_negotiate.specs.declared.algorithm.Shallow.{Shallow}
 use Rattle.fetch_wire.specs.declared.mapping.RefMap.{RefMap}
 use Rattle.fetch_conversation.specs.Conversation.{Conversation, ends, and_then, told_as}
-use Rattle.fetch_conversation.specs.ConverseStage.{TermsValue, converse_stage}
+use Rattle.fetch_conversation.specs.ConverseStage.{converse_stage}
+use Rattle.fetch_conversation.specs.Exchange.{TermsValue}
 use Rattle.fetch_conversation.specs.ListStage.{InquiryValue, ListedValue, list_stage}
 use Rattle.fetch_conversation.specs.ReadSettings.{agent_of}
 use Rattle.fetch_conversation.specs.declared.conversing.Received.{Received}
@@ -60,7 +61,7 @@ abbrev pub listing_stage : Given → Conversation ListedValue PrepareError
 listing_stage g = list_stage (bound_of g) (inquiry_in g)
 
 abbrev pub pack_stage : Given → State → ListedValue → Conversation (Option Received) ReceiveError
-pack_stage g s l = converse_stage (bound_of g) (terms_in g s l)
+pack_stage g s l = converse_stage (bound_of g) (graph_of s.objects) (terms_in g s l)
 
 -- what was listed, and what was received
 pub record Told : Type 0 where

@@ -2,7 +2,7 @@
 
 ghost use Rattle.std.specs.Prelude.{◌≡◌, ◌+◌, ◌<◌, ℕ, List, Option, IfOk, IsErrOf, slice_get};
 ghost use Rattle.fetch_store.specs.Faults.{Faults, Rose, Counts};
-ghost use Rattle.fetch_remote.specs.Connecting.{IsMissing, Makes, TakesBack, out_after, with_lost};
+ghost use Rattle.fetch_remote.specs.Connecting.{is_of_maker, IsMissing, Makes, TakesBack, out_after, with_lost};
 ghost use Rattle.fetch_remote.specs.Remotes.{urls_for};
 ghost use Rattle.fetch_remote.specs.declared.connect.Error.TheVariants as errors;
 
@@ -65,6 +65,15 @@ pub enum Error {
     /// Memory ran out.
     #[error("out of memory")]
     NoMemory,
+}
+
+impl Error {
+    /// Whether the cause is the way to the server alone: the maker failed.
+    pub fn is_spurious(&self) -> bool
+        ensures { result ≡ is_of_maker self.now }
+    {
+        matches!(self, Error::Connect)
+    }
 }
 
 /// In place of a send: a fault of the maker.

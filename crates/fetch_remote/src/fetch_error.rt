@@ -1,5 +1,7 @@
 //! Why a fetch was refused.
 
+ghost use Rattle.std.specs.Prelude.{◌≡◌, IfOk};
+
 use crate::{fetch, prepare};
 use fetch_store::NoMemory;
 use thiserror::Error;
@@ -13,11 +15,21 @@ pub enum FetchError {
     /// From the fetch request on.
     #[error("{0}")]
     Receive(fetch::Error),
-    /// Well formed, and not built yet.
-    #[error("what is asked for isn't built yet")]
-    Unbuilt,
     #[error("out of memory")]
     NoMemory,
+}
+
+impl FetchError {
+    /// An equal error.
+    pub fn try_clone(&self) -> Result<FetchError, NoMemory>
+        ensures { IfOk result (λ copy. copy ≡ self.now) }
+    {
+        match self {
+            FetchError::Prepare(e) => Ok(FetchError::Prepare(e.try_clone()?)),
+            FetchError::Receive(e) => Ok(FetchError::Receive(e.try_clone()?)),
+            FetchError::NoMemory => Ok(FetchError::NoMemory),
+        }
+    }
 }
 
 /// Want of memory stays want of memory.
@@ -35,7 +47,7 @@ impl From<prepare::Error> for FetchError {
     }
 }
 
-/// Want of memory and what isn't built stay what they are.
+/// Want of memory stays want of memory.
 impl From<fetch::Error> for FetchError {
     ghost use Rattle.std.specs.Prelude.{◌≡◌};
     ghost use Rattle.fetch_remote.specs.Errors.{receiving};
@@ -44,7 +56,6 @@ impl From<fetch::Error> for FetchError {
 
     fn from(e: fetch::Error) -> FetchError {
         match e {
-            fetch::Error::Unbuilt => FetchError::Unbuilt,
             fetch::Error::NoMemory => FetchError::NoMemory,
             e => FetchError::Receive(e),
         }

@@ -1,16 +1,19 @@
 //! The whole fetch.
 
-ghost use Rattle.std.specs.Prelude.{◌≡◌, IfOk, IfErr, OnOk, IsErrOf};
+ghost use Rattle.std.specs.Prelude.{◌≡◌, ℕ, true, false, List, Some, None, IfOk, IfErr, OnOk, IsErrOf};
 ghost use Rattle.fetch_store.specs.Faults.{Rose, Counts};
+ghost use Rattle.fetch_store.specs.FileCalls.{IsRefused as IsBlocked};
 ghost use Rattle.fetch_conversation.specs.declared.fetch.Error.TheVariants as receive_errors;
 ghost use Rattle.fetch_conversation.specs.declared.prepare.Error.TheVariants as prepare_errors;
 ghost use Rattle.fetch_conversation.specs.declared.ref_map.Error.TheVariants as ref_map_errors;
 ghost use Rattle.fetch_update.specs.declared.update.Error.TheVariants as update_errors;
+ghost use Rattle.fetch_remote.specs.Errors.{is_free};
 ghost use Rattle.fetch_remote.specs.Fetched.{IsFetched};
 ghost use Rattle.fetch_remote.specs.Fetching.{manner_of, message_of, places_of};
-ghost use Rattle.fetch_remote.specs.Form.{Given};
-ghost use Rattle.fetch_remote.specs.Refused.{IsRefused};
+ghost use Rattle.fetch_remote.specs.Keeping.{made_in, with_keep};
+ghost use Rattle.fetch_remote.specs.Refused.{IsRefused, is_early};
 ghost use Rattle.fetch_remote.specs.Repositories.{state_of, setup_of};
+ghost use Rattle.fetch_remote.specs.Valid.{HasValidInput};
 ghost use Rattle.fetch_remote.specs.declared.fetch_error.FetchError.TheVariants as errors;
 
 use crate::fetch_error::FetchError;
@@ -29,12 +32,14 @@ use std::alloc::Global;
 use std::thread::Threads;
 
 impl Remote {
-    /// Fetches from the remote into a repository: lists its references, asks for what is wanted and isn't there, takes
-    /// the objects, asks where branches are checked out, and moves the references that the refspecs map. A dry run changes
-    /// nothing. The interrupt is asked before each receive.
+    /// Fetches from the remote into a repository: lists its references, asks for what is wanted and isn't there, makes the
+    /// keep file of the pack, takes the objects, asks where branches are checked out, and moves the references that the
+    /// refspecs map. The keep file is removed then, but stays where no edit stands and the pack has objects. A dry run
+    /// changes nothing. The interrupt is asked before each receive.
     ///
-    /// After an error the references and their logs are as they were found. So are objects and border, unless the error
-    /// came behind the taking: then they are with all that was received.
+    /// After an error the references and their logs are as they were found, but for `RemovePackKeepFile`: then they have
+    /// moved. Objects and border are as found, unless the error came behind the taking: then they are with all that was
+    /// received, and the keep file stands. Where a call on the files was refused, these are as that call left them.
     pub fn fetch<R: Threads + Sync, P: Peer, I: Interrupt, F: Files, W: Worktrees>(
         &self,
         rt: &R,
@@ -46,10 +51,12 @@ impl Remote {
         worktrees: &mut W,
         options: FetchOptions,
     ) -> Result<Outcome, FetchError>
-        ensures fetched { IfOk result (λ outcome. IsFetched P.answers (P.told peer.old) (P.told peer.new) (W.told worktrees.old)
+        ensures fetched { IfOk result (λ outcome. IsFetched P.answers (P.told peer.old) (P.told peer.new) (W.told worktrees.old) (F.told files.old) (F.told files.new)
             (record { remote = self.now; options = options; setup = setup_of repo.old }) (state_of repo.old) (state_of repo.new) outcome) }
-        ensures refused { IfErr result (λ e. IsRefused P.answers (P.told peer.old) (P.told peer.new) (W.told worktrees.old)
+        ensures refused { IfErr result (λ e. IsRefused P.answers (P.told peer.old) (P.told peer.new) (W.told worktrees.old) (F.told files.old) (F.told files.new)
             (record { remote = self.now; options = options; setup = setup_of repo.old }) (state_of repo.old) (state_of repo.new) e) }
+        ensures complete { IfErr result (λ e. HasValidInput (P.told peer.old) (P.told peer.new) (W.told worktrees.old)
+            (record { remote = self.now; options = options; setup = setup_of repo.old }) (state_of repo.old) → is_free e ≡ true) }
         ensures setup { setup_of repo.new ≡ setup_of repo.old }
         ensures counts { Counts (P.faults peer.old) (P.faults peer.new) }
         ensures transport { IsErrOf result (errors.Prepare (prepare_errors.RefMap ref_map_errors.Transport)) → Rose (P.faults peer.old) (P.faults peer.new) }
@@ -58,7 +65,15 @@ impl Remote {
         ensures interrupted { IsErrOf result (errors.Prepare (prepare_errors.RefMap ref_map_errors.Interrupted)) → Rose (I.yes interrupt.old) (I.yes interrupt.new) }
         ensures stopped { IsErrOf result (errors.Receive receive_errors.Interrupted) → Rose (I.yes interrupt.old) (I.yes interrupt.new) }
         ensures uninterrupted { OnOk result ((I.yes interrupt.new).count ≡ (I.yes interrupt.old).count) }
-        ensures files { files.new ≡ files.old }
+        ensures dry { options.dry_run ≡ true → files.new ≡ files.old }
+        ensures unread { IfOk result (λ outcome. made_in (setup_of repo.old).settings.git_dir outcome.status ≡ None → files.new ≡ files.old) }
+        ensures early { IfErr result (λ e. is_early e ≡ true → files.new ≡ files.old) }
+        ensures file_counts { Counts (F.faults files.old) (F.faults files.new) }
+        ensures keep_file { (path : List ℕ) → IsErrOf result (errors.Receive (receive_errors.KeepFile path)) → Rose (F.faults files.old) (F.faults files.new) }
+        ensures in_the_way { (path : List ℕ) → IsErrOf result (errors.Receive (receive_errors.KeepFile path)) → IsBlocked (F.may_fail files.old) (F.told files.old) (with_keep (Some path)) }
+        ensures remove_keep_file { (path : List ℕ) → IsErrOf result (errors.Receive (receive_errors.RemovePackKeepFile path)) → Rose (F.faults files.old) (F.faults files.new) }
+        ensures removable { (path : List ℕ) → IsErrOf result (errors.Receive (receive_errors.RemovePackKeepFile path)) → F.may_fail files.old ≡ false → F.told files.old ≡ None }
+        ensures may_fail { F.may_fail files.new ≡ F.may_fail files.old }
         ensures told { W.told worktrees.new ≡ W.told worktrees.old }
         ensures listing_counts { Counts (W.listing worktrees.old) (W.listing worktrees.new) }
         ensures open_repo_counts { Counts (W.open_repo worktrees.old) (W.open_repo worktrees.new) }

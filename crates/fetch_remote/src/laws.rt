@@ -6,6 +6,7 @@ ghost use Rattle.std.specs.FinMap as map;
 ghost use Rattle.fetch_store.specs.Closed.{IsClosed, IsStored, Grows};
 ghost use Rattle.fetch_store.specs.Honest.{IsHonest};
 ghost use Rattle.fetch_store.specs.Stores.{collision};
+ghost use Rattle.fetch_store.specs.Trees.{Tree};
 ghost use Rattle.fetch_store.specs.declared.id.ObjectId.{ObjectId};
 ghost use Rattle.fetch_refs.specs.declared.edit.RefEdit.{RefEdit};
 ghost use Rattle.fetch_refs.specs.declared.target.Target.TheVariants.{Object};
@@ -16,49 +17,52 @@ ghost use Rattle.fetch_update.specs.declared.worktrees.Worktree.{Worktree};
 ghost use Rattle.fetch_wire.specs.Talks.{Talk};
 ghost use Rattle.fetch_wire.specs.declared.mapping.RefMap.{RefMap};
 ghost use Rattle.fetch_conversation.specs.declared.conversing.Received.{Received};
+ghost use Rattle.fetch_remote.specs.Deleting.{IsDeleted};
 ghost use Rattle.fetch_remote.specs.Fetched.{IsFetched, request_in};
 ghost use Rattle.fetch_remote.specs.Fetching.{fetched_in, requests_in};
+ghost use Rattle.fetch_negotiate.specs.Rounds.{haves_in};
 ghost use Rattle.fetch_remote.specs.Form.{Given};
 ghost use Rattle.fetch_remote.specs.Lasting.{updates_in, AcceptsNone, AreAlike, with_packed};
-ghost use Rattle.fetch_remote.specs.Repositories.{State, held};
+ghost use Rattle.fetch_remote.specs.Repositories.{RepositoryValue, State, held};
 ghost use Rattle.fetch_remote.specs.Requested.{AsksInOrder};
 ghost use Rattle.fetch_remote.specs.Settling.{connected, pack_of};
 ghost use Rattle.fetch_remote.specs.Stages.{wants_in};
 ghost use Rattle.fetch_remote.specs.declared.outcome.Outcome.{Outcome};
 
-/// What a peer is sent is the first line, then the listing request, then one fetch request for what is wanted, and
-/// nothing else; each once at most.
+/// What a peer is sent is the first line, then the listing request, each once at most, then the fetch requests for what is
+/// wanted, one a round, and nothing else.
 pub fn a_fetch_asks_in_order()
     ensures { (g : Given) (s : State) (stream : List ℕ) → AsksInOrder g s (requests_in g s stream) }
 {}
 
-/// A pack that is honest for the request of a fetch is never told as disconnected in a closed repository.
+/// A pack that is honest for what a fetch wants and for the haves of all its rounds is never told as disconnected in a
+/// closed repository.
 pub fn an_honest_pack_is_never_disconnected()
-    ensures { (g : Given) (s : State) (m : RefMap) (r : Received) → IsClosed (held s) → collision s.objects r.objects ≡ None → IsHonest (request_in g s m) (pack_of r)
+    ensures { (g : Given) (s : State) (m : RefMap) (r : Received) → IsClosed (held s) → collision s.objects r.objects ≡ None → IsHonest (request_in g s m (haves_in r.negotiate.rounds)) (pack_of r)
         → connected s (wants_in g s m) (pack_of r) ≡ Ok tt }
 {}
 
 /// A fetch only adds to the objects, and a dry run changes nothing.
 pub fn a_fetch_keeps_what_is_stored()
-    ensures grows { (answers : Bool) (old new : Option Talk) (known : Option (List Worktree)) (g : Given) (before after : State) (outcome : Outcome) → IsFetched answers old new known g before after outcome → Grows before.objects after.objects }
-    ensures dry { (answers : Bool) (old new : Option Talk) (known : Option (List Worktree)) (g : Given) (before after : State) (outcome : Outcome) → IsFetched answers old new known g before after outcome → g.options.dry_run ≡ true → after ≡ before }
+    ensures grows { (answers : Bool) (old new : Option Talk) (known : Option (List Worktree)) (files files_left : Option Tree) (g : Given) (before after : State) (outcome : Outcome) → IsFetched answers old new known files files_left g before after outcome → Grows before.objects after.objects }
+    ensures dry { (answers : Bool) (old new : Option Talk) (known : Option (List Worktree)) (files files_left : Option Tree) (g : Given) (before after : State) (outcome : Outcome) → IsFetched answers old new known files files_left g before after outcome → g.options.dry_run ≡ true → after ≡ before }
 {}
 
 /// A reference that no accepted update has an edit of keeps its value.
 pub fn other_references_keep_their_values()
-    ensures { (answers : Bool) (old new : Option Talk) (known : Option (List Worktree)) (g : Given) (before after : State) (outcome : Outcome) → IsFetched answers old new known g before after outcome
+    ensures { (answers : Bool) (old new : Option Talk) (known : Option (List Worktree)) (files files_left : Option Tree) (g : Given) (before after : State) (outcome : Outcome) → IsFetched answers old new known files files_left g before after outcome
         → (name : List ℕ) → AcceptsNone (updates_in outcome.status) name → map.get after.refs.names name ≡ map.get before.refs.names name }
 {}
 
 /// But for a dry run, each id that an edit newly gives to a reference is stored.
 pub fn new_ids_are_stored()
-    ensures { (answers : Bool) (old new : Option Talk) (known : Option (List Worktree)) (g : Given) (before after : State) (outcome : Outcome) → IsFetched answers old new known g before after outcome
+    ensures { (answers : Bool) (old new : Option Talk) (known : Option (List Worktree)) (files files_left : Option Tree) (g : Given) (before after : State) (outcome : Outcome) → IsFetched answers old new known files files_left g before after outcome
         → g.options.dry_run ≡ false → (e : RefEdit) (id : ObjectId) → Contains (updates_in outcome.status).edits e → gives e ≡ Some (Object id) → map.get before.refs.names e.name ≢ Some (Object id) → IsStored after.objects id }
 {}
 
 /// No fetch that was done tells that a source's object isn't found: it is asked for, or stored already.
 pub fn every_source_is_found()
-    ensures { (answers : Bool) (old new : Option Talk) (known : Option (List Worktree)) (g : Given) (before after : State) (outcome : Outcome) → IsFetched answers old new known g before after outcome
+    ensures { (answers : Bool) (old new : Option Talk) (known : Option (List Worktree)) (files files_left : Option Tree) (g : Given) (before after : State) (outcome : Outcome) → IsFetched answers old new known files files_left g before after outcome
         → (u : Update) (id : ObjectId) → Contains (updates_in outcome.status).updates u → u.mode ≢ modes.RejectedSourceObjectNotFound id }
 {}
 
@@ -66,4 +70,10 @@ pub fn every_source_is_found()
 pub fn packed_and_loose_fetches_leave_the_same()
     ensures { (g : Given) (only other : Bool) (trees : List Worktree) (s : State) (stream : List ℕ) (outcome : Outcome) (a : State) → fetched_in (with_packed only g) trees s stream ≡ Ok (outcome, a)
         → (b : State) × (fetched_in (with_packed other g) trees s stream ≡ Ok (outcome, b)) × AreAlike a b }
+{}
+
+/// A deletion that follows another of the same branches leaves all as it is, where nothing changes between.
+pub fn a_second_deletion_changes_nothing()
+    ensures { (trees more : Option (List Worktree)) (t u v : Tree) (names : List (List ℕ)) (before between after : RepositoryValue) → IsDeleted trees (Some t) (Some u) names before between → IsDeleted more (Some u) (Some v) names between after
+        → (after ≡ between) × (v ≡ u) }
 {}

@@ -1,6 +1,7 @@
 //! Why a repository wasn't opened, or wasn't opened again.
 
-use fetch_config::ConfigError;
+ghost use Rattle.std.specs.Prelude.{◌≡◌, IfOk};
+
 use fetch_store::{NoMemory, Text};
 use thiserror::Error;
 
@@ -22,6 +23,21 @@ pub enum OpenError {
     /// Memory ran out.
     #[error("out of memory")]
     NoMemory,
+}
+
+impl OpenError {
+    /// An equal error.
+    pub fn try_clone(&self) -> Result<OpenError, NoMemory>
+        ensures { IfOk result (λ copy. copy ≡ self.now) }
+    {
+        match self {
+            OpenError::Io => Ok(OpenError::Io),
+            OpenError::Missing { path } => Ok(OpenError::Missing { path: path.try_clone()? }),
+            OpenError::Config { line } => Ok(OpenError::Config { line: *line }),
+            OpenError::Override { text } => Ok(OpenError::Override { text: text.try_clone()? }),
+            OpenError::NoMemory => Ok(OpenError::NoMemory),
+        }
+    }
 }
 
 impl From<NoMemory> for OpenError {

@@ -4,7 +4,7 @@ ghost use Rattle.std.specs.Prelude.{◌≡◌, IfOk};
 ghost use Rattle.fetch_remote.specs.Paths as spec;
 
 use crate::settings::Settings;
-use fetch_store::{NoMemory, Text};
+use fetch_store::{NoMemory, ObjectId, Text};
 use std::alloc::Global;
 
 /// The path of a file in a directory.
@@ -30,4 +30,18 @@ pub(crate) fn shallow_file(alloc: Global, settings: &Settings) -> Result<Text, N
         None => b"shallow",
     };
     in_directory(alloc, settings.git_dir.as_bytes(), name)
+}
+
+/// The file that keeps the pack of a digest.
+#[tactic(auto, unfolding(crate::specs::Paths::keep_path))]
+pub(crate) fn keep_file(alloc: Global, git_dir: &[u8], digest: &ObjectId) -> Result<Text, NoMemory>
+    ensures { IfOk result (λ path. path ≡ spec.keep_path git_dir.now digest.now) }
+{
+    let Ok(digits) = digest.to_hex(alloc) else {
+        return Err(NoMemory);
+    };
+    let mut name = Vec::from_slice(alloc, b"objects/pack/pack-")?;
+    name.extend_from_slice(digits.as_bytes())?;
+    name.extend_from_slice(b".keep")?;
+    in_directory(alloc, git_dir, &name)
 }

@@ -56,8 +56,8 @@ pub fn list<P: Peer, I: Interrupt>(
     fetch_conversation::list(alloc, &inquiry, peer, interrupt, options)
 }
 
-/// Asks for the pack of what is wanted, and reads it. Where nothing is wanted, nothing is sent. The interrupt is asked
-/// before each receive. In a dry run the reply is read up to the pack alone.
+/// Asks for the pack of what is wanted, in rounds that tell which commits are there, and reads it. Where nothing is wanted,
+/// nothing is sent. The interrupt is asked before each receive. In a dry run the last reply is read up to the pack alone.
 pub fn converse<R: Threads + Sync, P: Peer, I: Interrupt, Q: Progress, O: Objects>(
     rt: &R,
     alloc: Global,
@@ -74,7 +74,7 @@ pub fn converse<R: Threads + Sync, P: Peer, I: Interrupt, Q: Progress, O: Object
 ) -> Result<Option<Received>, fetch::Error>
     requires { IsReady listed.old }
     ensures held { Converses is_free_receiving P.answers listed.old.session.intake.bound (P.told peer.old) (P.told peer.new) (pending_of listed.old) (pending_of listed.new)
-        (converse_stage listed.old.session.intake.bound (record {
+        (converse_stage listed.old.session.intake.bound (O.graph objects.now) (record {
           listed = shown listed.old;
           settings = settings.now;
           view = view.now;

@@ -7,7 +7,7 @@ ghost use Rattle.fetch_store.specs.Paths.{parts_of};
 ghost use Rattle.fetch_store.specs.Trees.{read_in};
 ghost use Rattle.fetch_config.specs.Lines.{broken_line, sections_of};
 ghost use Rattle.fetch_remote.specs.Paths.{config_path};
-ghost use Rattle.fetch_remote.specs.Reloads.{HasReloaded, IsReloadRefusal, IsReadRefusal, IsBroken, KeepsTree, Reads};
+ghost use Rattle.fetch_remote.specs.Reloads.{HasRead, HasReloaded, IsReloadRefusal, IsReadRefusal, IsRefusedAt, IsBroken, KeepsTree, Reads};
 ghost use Rattle.fetch_remote.specs.Repositories.{state_of, setup_of};
 ghost use Rattle.fetch_remote.specs.declared.open_error.OpenError.TheVariants as errors;
 
@@ -35,10 +35,30 @@ impl Repository {
         ensures may_fail { F.may_fail files.new ≡ F.may_fail files.old }
     {
         let path = in_directory(alloc, self.git_dir(), b"config")?;
-        let text = read_file(path, files)?;
-        let local = file_of(alloc, text.as_bytes(), self.local_meta())?;
+        let local = read_configuration(alloc, files, path, self.local_meta())?;
         self.replace_local(alloc, local)
     }
+}
+
+/// Reads a configuration file that has to be there, under this metadata.
+pub fn read_configuration<F: Files>(
+    alloc: Global,
+    files: &mut F,
+    path: Text,
+    meta: &Meta,
+) -> Result<File, OpenError>
+    ensures file { IfOk result (HasRead (F.told files.old) path meta.now) }
+    ensures refused { IfErr result (IsRefusedAt (F.told files.old) path) }
+    ensures io { IsErrOf result errors.Io → Rose (F.faults files.old) (F.faults files.new) }
+    ensures in_the_way { IsErrOf result errors.Io → IsRefused (F.may_fail files.old) (F.told files.old) (λ t. read_in t (parts_of path)) }
+    ensures counts { Counts (F.faults files.old) (F.faults files.new) }
+    ensures tree { is_some (F.told files.new) ≡ is_some (F.told files.old) }
+    ensures same_tree { OnOk result (F.told files.new ≡ F.told files.old) }
+    ensures kept_tree { IfErr result (KeepsTree (F.told files.old) (F.told files.new)) }
+    ensures may_fail { F.may_fail files.new ≡ F.may_fail files.old }
+{
+    let text = read_file(path, files)?;
+    file_of(alloc, text.as_bytes(), meta)
 }
 
 /// The text of a file that has to be there.
@@ -62,7 +82,7 @@ fn read_file<F: Files>(path: Text, files: &mut F) -> Result<Text, OpenError>
 }
 
 /// The file of a text.
-fn file_of(alloc: Global, text: &[u8], meta: &Meta) -> Result<File, OpenError>
+pub(crate) fn file_of(alloc: Global, text: &[u8], meta: &Meta) -> Result<File, OpenError>
     ensures accepted { OnOk result (broken_line text.now ≡ None) }
     ensures file { IfOk result (λ file. file ≡ record { meta = meta.now; sections = sections_of meta.now text.now }) }
     ensures refused { IfErr result (IsBroken (broken_line text.now)) }

@@ -108,6 +108,13 @@ impl Model for Repository {
     ghost invariant = { λ r. IsWhole r.store.hash r.settings r.base r.local r.overrides };
 }
 
+/// A local file, and the configuration that it is in force with.
+#[derive(Drop)]
+pub(crate) struct Resolved {
+    pub(crate) file: File,
+    pub(crate) config: File,
+}
+
 impl Repository {
     /// A repository of these parts. Objects and references are of one hash.
     pub fn from_parts(alloc: Global, parts: Parts) -> Result<Repository, OpenError>
@@ -285,19 +292,48 @@ impl Repository {
         self.local.meta()
     }
 
+    /// The repository's own configuration.
+    pub(crate) fn local(&self) -> &File
+        ensures { result.now ≡ (setup_of self.now).local }
+    {
+        &self.local
+    }
+
     /// Puts a file in place of the local one, and resolves configuration, settings and logging anew. Memory alone may
     /// refuse it: then the repository is as before.
-    #[tactic(auto, using(crate::proofs::Overrides::memory_alone))]
     pub fn replace_local(&mut self, alloc: Global, local: File) -> Result<(), OpenError>
         ensures state { state_of self.new ≡ state_of self.old }
         ensures ok { OnOk result (spec.reopened (setup_of self.old) local ≡ Some (setup_of self.new)) }
         ensures refused { IfErr result (λ e. e ≡ errors.NoMemory) }
         ensures err { OnErr result (setup_of self.new ≡ setup_of self.old) }
     {
-        let config = resolved(alloc, &self.base, &local, self.overrides.as_slice())?;
-        self.local = local;
-        self.settings.config = config;
+        let resolved = self.resolve_local(alloc, local)?;
+        self.put_local(resolved);
         Ok(())
+    }
+
+    /// What a file is resolved to in place of the local one. Memory alone may refuse it.
+    #[tactic(auto, using(crate::proofs::Overrides::memory_alone))]
+    pub(crate) fn resolve_local(&self, alloc: Global, local: File) -> Result<Resolved, OpenError>
+        ensures file { IfOk result (λ resolved. resolved.file ≡ local) }
+        ensures config { IfOk result (λ resolved. spec.resolved_of (setup_of self.now).base local (setup_of self.now).overrides ≡ Some resolved.config) }
+        ensures refused { IfErr result (λ e. e ≡ errors.NoMemory) }
+    {
+        let config = resolved(alloc, &self.base, &local, self.overrides.as_slice())?;
+        Ok(Resolved {
+            file: local,
+            config,
+        })
+    }
+
+    /// Puts a file in place of the local one that was resolved before.
+    pub(crate) fn put_local(&mut self, resolved: Resolved)
+        requires { spec.resolved_of (setup_of self.old).base resolved.file (setup_of self.old).overrides ≡ Some resolved.config }
+        ensures state { state_of self.new ≡ state_of self.old }
+        ensures setup { setup_of self.new ≡ spec.in_force (setup_of self.old) resolved.file resolved.config }
+    {
+        self.local = resolved.file;
+        self.settings.config = resolved.config;
     }
 
     /// Adds objects and puts another border in place of the old one, in one step. After an error the repository is as

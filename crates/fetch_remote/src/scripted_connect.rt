@@ -3,7 +3,7 @@
 ghost use Rattle.std.specs.Prelude.{◌≡◌, ◌+◌, ◌<◌, ◌↔◌, ℕ, [], true, nat_lt, length, IfOk, IsErrOf, Some, Contains};
 ghost use Rattle.std.specs.List.{list_all};
 ghost use Rattle.fetch_store.specs.Faults.{Rose, Counts};
-ghost use Rattle.fetch_store.specs.Calls.{faults_of};
+ghost use Rattle.fetch_store.specs.Calls.{one_more, faults_of};
 ghost use Rattle.fetch_remote.specs.Connecting.{Makes, TakesBack, is_fresh, lost_in, out_after, with_lost};
 
 use crate::connect::Connect;
@@ -81,6 +81,9 @@ impl Connect for ScriptedConnect {
         ensures left { Makes (Some self.old.left) (Some self.new.left) result }
         ensures taken { self.new.taken ≡ self.old.taken }
         ensures fails { IsErrOf result SendFault.Failed ↔ Contains self.old.calls.listed self.old.calls.next }
+        ensures next { self.new.calls.next ≡ one_more self.old.calls.next }
+        ensures listed { self.new.calls.listed ≡ self.old.calls.listed }
+        ensures behind { IfOk result (λ peer. self.old.left ≡ [] → peer.pieces ≡ []) }
     {
         if self.calls.count() {
             self.failed = self.failed.saturating_add(1);

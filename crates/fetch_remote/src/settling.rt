@@ -1,28 +1,30 @@
 //! What a fetch does with what it received.
 
-ghost use Rattle.std.specs.Prelude.{◌≡◌, IfOk, IfErr, IfSome, IsErrOf, OnOk, OnErr, Some, None, Ok};
-ghost use Rattle.std.specs.Option.{option_copied};
+ghost use Rattle.std.specs.Prelude.{◌≡◌, ℕ, true, false, is_some, IfOk, IfErr, IfSome, IsErrOf, List, OnOk, OnErr, Some, None, Ok};
+ghost use Rattle.std.specs.Option.{option_map};
 ghost use Rattle.fetch_store.specs.Faults.{Rose, Counts};
+ghost use Rattle.fetch_store.specs.FileCalls.{IsRefused};
 ghost use Rattle.fetch_store.specs.Stores.{AreOf};
 ghost use Rattle.fetch_refs.specs.Expectations.{refusal_of};
 ghost use Rattle.fetch_update.specs.declared.update.Error.TheVariants as update_errors;
 ghost use Rattle.fetch_conversation.specs.ListStage.{shown};
 ghost use Rattle.fetch_conversation.specs.declared.fetch.Error.TheVariants as errors;
 ghost use Rattle.fetch_remote.specs.Judging.{Judges};
+ghost use Rattle.fetch_remote.specs.Keeping.{AreFiles, made, made_in, with_keep, without_keep, left_tree};
 ghost use Rattle.fetch_remote.specs.Repositories.{state_of, setup_of};
 ghost use Rattle.fetch_remote.specs.Settling as spec;
-ghost use Rattle.fetch_remote.specs.Settling.{taken, brought, policy_in, Fails, IsSettled, IsUnsettled};
+ghost use Rattle.fetch_remote.specs.Settling.{taken, brought, pack_read, policy_in, is_early, Fails, IsOfJudging, IsSettled, IsUnsettled, IsUntaken};
 
 use crate::fetch;
 use crate::judging::judge;
-use crate::keep::{make_keep, remove_keep};
-use crate::outcome::{Outcome, PackOutcome, Status};
+use crate::keep::{Kept, keep, release};
+use crate::outcome::{Outcome, Status};
 use crate::repository::Repository;
 use crate::talking::Talked;
 use fetch_conversation::{Listed, Negotiate, Received};
 use fetch_refs::{PackedRefs, RefEdit};
 use fetch_specs::Tags;
-use fetch_store::{Files, NoMemory, ObjectId, StoreError, Take, Text, first_missing_of_take};
+use fetch_store::{Files, NoMemory, ObjectId, StoreError, Take, first_missing_of_take};
 use fetch_update::{RefLogMessage, Worktrees, update};
 use fetch_wire::{Handshake, RefMap};
 use std::alloc::Global;
@@ -44,11 +46,12 @@ pub(crate) struct Manner {
 #[derive(Drop)]
 struct Taken {
     negotiate: Negotiate,
-    pack: Option<PackOutcome>,
+    /// With the keep file that was made.
+    pack: Option<Kept>,
 }
 
-/// Takes what was received, judges the mapped references, and moves them. All memory is taken before they move. In a
-/// dry run nothing is taken and nothing moves.
+/// Makes the keep file, takes what was received, judges the mapped references, moves them, and removes the keep file
+/// unless it stays. All memory is taken before they move. In a dry run nothing is made or taken and nothing moves.
 pub(crate) fn settle<F: Files, W: Worktrees>(
     alloc: Global,
     repo: &mut Repository,
@@ -59,9 +62,18 @@ pub(crate) fn settle<F: Files, W: Worktrees>(
 ) -> Result<Outcome, fetch::Error>
     requires { IfSome talked.received (λ r. AreOf (state_of repo.old).hash r.objects) }
     ensures settled { IfOk result (λ outcome. IsSettled (W.told worktrees.old) (setup_of repo.old) how.now (state_of repo.old) talked.wants (shown talked.listed) talked.received outcome (state_of repo.new)) }
-    ensures refused { IfErr result (λ e. IsUnsettled (W.told worktrees.old) (setup_of repo.old) how.now (state_of repo.old) talked.wants (shown talked.listed) talked.received (state_of repo.new) e) }
+    ensures kept { IfOk result (λ outcome. AreFiles (F.told files.old) (F.told files.new) (left_tree (setup_of repo.old).settings.git_dir outcome.status)) }
+    ensures refused { IfErr result (λ e. IsUnsettled (W.told worktrees.old) (F.told files.old) (F.told files.new) (setup_of repo.old) how.now (state_of repo.old) talked.wants (shown talked.listed) talked.received (state_of repo.new) e) }
     ensures setup { setup_of repo.new ≡ setup_of repo.old }
-    ensures files { files.new ≡ files.old }
+    ensures dry { how.now.dry_run ≡ true → files.new ≡ files.old }
+    ensures unread { IfOk result (λ outcome. made_in (setup_of repo.old).settings.git_dir outcome.status ≡ None → files.new ≡ files.old) }
+    ensures early { IfErr result (λ e. is_early e ≡ true → files.new ≡ files.old) }
+    ensures file_counts { Counts (F.faults files.old) (F.faults files.new) }
+    ensures keep_file { (path : List ℕ) → IsErrOf result (errors.KeepFile path) → Rose (F.faults files.old) (F.faults files.new) }
+    ensures in_the_way { (path : List ℕ) → IsErrOf result (errors.KeepFile path) → IsRefused (F.may_fail files.old) (F.told files.old) (with_keep (Some path)) }
+    ensures remove_keep_file { (path : List ℕ) → IsErrOf result (errors.RemovePackKeepFile path) → Rose (F.faults files.old) (F.faults files.new) }
+    ensures removable { (path : List ℕ) → IsErrOf result (errors.RemovePackKeepFile path) → F.may_fail files.old ≡ false → F.told files.old ≡ None }
+    ensures may_fail { F.may_fail files.new ≡ F.may_fail files.old }
     ensures told { W.told worktrees.new ≡ W.told worktrees.old }
     ensures listing_counts { Counts (W.listing worktrees.old) (W.listing worktrees.new) }
     ensures open_repo_counts { Counts (W.open_repo worktrees.old) (W.open_repo worktrees.new) }
@@ -79,11 +91,11 @@ pub(crate) fn settle<F: Files, W: Worktrees>(
     let taken = bring(alloc, repo, how.dry_run, wants.as_slice(), received, files)?;
     let updates = judged(alloc, repo, &ref_map, how, worktrees)?;
     move_refs(repo, how, updates.edits.as_slice())?;
-    remove_keep(files, kept(&taken))?;
+    let status = status(files, how.dry_run, taken, updates)?;
     Ok(Outcome {
         ref_map,
         handshake,
-        status: status(how.dry_run, taken, updates),
+        status,
     })
 }
 
@@ -105,11 +117,17 @@ fn bring<F: Files>(
 ) -> Result<Option<Taken>, fetch::Error>
     requires { IfSome received (λ r. AreOf (state_of repo.old).hash r.objects) }
     ensures state { OnOk result (taken (state_of repo.old) wants.now (brought dry_run received) ≡ Ok (state_of repo.new)) }
-    ensures told { IfOk result (λ t. t ≡ spec.told_of dry_run received) }
-    ensures refused { IfErr result (λ e. Fails (taken (state_of repo.old) wants.now (brought dry_run received)) e) }
+    ensures told { IfOk result (λ t. t ≡ spec.told_of (setup_of repo.old).settings.git_dir dry_run received) }
+    ensures made { OnOk result (AreFiles (F.told files.old) (F.told files.new) (with_keep (made (setup_of repo.old).settings.git_dir (pack_read dry_run received)))) }
+    ensures refused { IfErr result (λ e. IsUntaken (taken (state_of repo.old) wants.now (brought dry_run received)) (made (setup_of repo.old).settings.git_dir (pack_read dry_run received)) (F.told files.old) (F.told files.new) e) }
     ensures err { OnErr result (state_of repo.new ≡ state_of repo.old) }
     ensures setup { setup_of repo.new ≡ setup_of repo.old }
-    ensures files { files.new ≡ files.old }
+    ensures unread { pack_read dry_run received ≡ None → files.new ≡ files.old }
+    ensures early { IfErr result (λ e. is_early e ≡ true → files.new ≡ files.old) }
+    ensures counts { Counts (F.faults files.old) (F.faults files.new) }
+    ensures cause { (path : List ℕ) → IsErrOf result (errors.KeepFile path) → Rose (F.faults files.old) (F.faults files.new) }
+    ensures in_the_way { (path : List ℕ) → IsErrOf result (errors.KeepFile path) → IsRefused (F.may_fail files.old) (F.told files.old) (with_keep (Some path)) }
+    ensures may_fail { F.may_fail files.new ≡ F.may_fail files.old }
 {
     let Some(received) = received else {
         return Ok(None);
@@ -124,8 +142,8 @@ fn bring<F: Files>(
     Ok(Some(taken))
 }
 
-/// Takes what was received, once it is known that no id has another object and that no link is missing: objects and
-/// border change in one step.
+/// Takes what was received, once it is known that no id has another object and that no link is missing, and the keep file
+/// was made: objects and border change in one step.
 fn take<F: Files>(
     alloc: Global,
     repo: &mut Repository,
@@ -135,17 +153,37 @@ fn take<F: Files>(
 ) -> Result<Taken, fetch::Error>
     requires { AreOf (state_of repo.old).hash received.objects }
     ensures state { OnOk result (taken (state_of repo.old) wants.now (Some received) ≡ Ok (state_of repo.new)) }
-    ensures told { IfOk result (λ t. t ≡ record { negotiate = received.negotiate; pack = spec.pack_told received.pack }) }
-    ensures refused { IfErr result (λ e. Fails (taken (state_of repo.old) wants.now (Some received)) e) }
+    ensures told { IfOk result (λ t. t ≡ record { negotiate = received.negotiate; pack = option_map (spec.pack_kept (setup_of repo.old).settings.git_dir) received.pack }) }
+    ensures made { OnOk result (AreFiles (F.told files.old) (F.told files.new) (with_keep (made (setup_of repo.old).settings.git_dir received.pack))) }
+    ensures refused { IfErr result (λ e. IsUntaken (taken (state_of repo.old) wants.now (Some received)) (made (setup_of repo.old).settings.git_dir received.pack) (F.told files.old) (F.told files.new) e) }
     ensures err { OnErr result (state_of repo.new ≡ state_of repo.old) }
     ensures setup { setup_of repo.new ≡ setup_of repo.old }
-    ensures files { files.new ≡ files.old }
+    ensures unread { received.pack ≡ None → files.new ≡ files.old }
+    ensures early { IfErr result (λ e. is_early e ≡ true → files.new ≡ files.old) }
+    ensures counts { Counts (F.faults files.old) (F.faults files.new) }
+    ensures cause { (path : List ℕ) → IsErrOf result (errors.KeepFile path) → Rose (F.faults files.old) (F.faults files.new) }
+    ensures in_the_way { (path : List ℕ) → IsErrOf result (errors.KeepFile path) → IsRefused (F.may_fail files.old) (F.told files.old) (with_keep (Some path)) }
+    ensures may_fail { F.may_fail files.new ≡ F.may_fail files.old }
 {
-    check(repo, &received)?;
-    check_links(alloc, repo, wants, &received)?;
-    let pack = pack_outcome(repo, received.pack, files)?;
+    may_take(alloc, repo, wants, &received)?;
+    let pack = keep(alloc, files, repo.settings(), received.pack)?;
     let negotiate = add(alloc, repo, received)?;
     Ok(Taken { negotiate, pack })
+}
+
+/// Whether what was received may be taken.
+fn may_take(
+    alloc: Global,
+    repo: &Repository,
+    wants: &[ObjectId],
+    received: &Received,
+) -> Result<(), fetch::Error>
+    ensures ok { OnOk result (taken (state_of repo.now) wants.now (Some received.now) ≡ Ok (spec.after_take (state_of repo.now) (spec.pack_of received.now))) }
+    ensures checked { OnOk result (spec.checked (state_of repo.now) (spec.pack_of received.now) ≡ Ok tt) }
+    ensures refused { IfErr result (λ e. Fails (taken (state_of repo.now) wants.now (Some received.now)) e) }
+{
+    check(repo, received)?;
+    check_links(alloc, repo, wants, received)
 }
 
 /// Whether no id has another object, of the pack or of the repository.
@@ -179,25 +217,6 @@ fn check_links(
         Some(link) => Err(fetch::Error::Disconnected { link }),
         None => Ok(()),
     }
-}
-
-fn pack_outcome<F: Files>(
-    repo: &Repository,
-    pack: Option<(u32, ObjectId)>,
-    files: &mut F,
-) -> Result<Option<PackOutcome>, fetch::Error>
-    ensures outcome { result ≡ Ok (spec.pack_told pack) }
-    ensures files { files.new ≡ files.old }
-{
-    let Some((num_objects, digest)) = pack else {
-        return Ok(None);
-    };
-    let keep_path = make_keep(files, repo.settings(), &digest)?;
-    Ok(Some(PackOutcome {
-        num_objects,
-        digest,
-        keep_path,
-    }))
 }
 
 /// Adds the objects and puts the merged border in place of the old one. No id has another object, so that memory alone
@@ -239,6 +258,7 @@ fn judged<W: Worktrees>(
     worktrees: &mut W,
 ) -> Result<update::Outcome, fetch::Error>
     ensures judged { Judges (W.told worktrees.old) (λ trees. policy_in (state_of repo.now) how.now trees) ref_map.now result }
+    ensures only { IfErr result IsOfJudging }
     ensures told { W.told worktrees.new ≡ W.told worktrees.old }
     ensures listing_counts { Counts (W.listing worktrees.old) (W.listing worktrees.new) }
     ensures open_repo_counts { Counts (W.open_repo worktrees.old) (W.open_repo worktrees.new) }
@@ -272,42 +292,60 @@ fn move_refs(repo: &mut Repository, how: &Manner, edits: &[RefEdit]) -> Result<(
     repo.move_refs(edits, how.packed)
 }
 
-/// The keep file that was made.
-fn kept(taken: &Option<Taken>) -> Option<&Text>
-    ensures { option_copied result ≡ spec.keep_of taken.now }
-{
-    let pack = taken.as_ref()?.pack.as_ref()?;
-    pack.keep_path.as_ref()
-}
-
-/// Whether a pack came, and what became of the mappings.
-fn status(dry_run: bool, taken: Option<Taken>, updates: update::Outcome) -> Status
-    ensures { result ≡ spec.status_by dry_run taken updates }
+/// Whether a pack came, and what became of the mappings. The keep file is removed, unless it stays. Takes no memory.
+fn status<F: Files>(
+    files: &mut F,
+    dry_run: bool,
+    taken: Option<Taken>,
+    updates: update::Outcome,
+) -> Result<Status, fetch::Error>
+    ensures told { IfOk result (λ status. status ≡ spec.status_by dry_run taken updates) }
+    ensures removed { OnOk result (AreFiles (F.told files.old) (F.told files.new) (without_keep (spec.released_of updates taken))) }
+    ensures refused { IfErr result (λ e. spec.IsUnreleased (spec.released_of updates taken) e) }
+    ensures tree { is_some (F.told files.new) ≡ is_some (F.told files.old) }
+    ensures unread { spec.kept_of taken ≡ None → files.new ≡ files.old }
+    ensures counts { Counts (F.faults files.old) (F.faults files.new) }
+    ensures cause { OnErr result (Rose (F.faults files.old) (F.faults files.new)) }
+    ensures in_the_way { OnErr result (IsRefused (F.may_fail files.old) (F.told files.old) (without_keep (spec.released_of updates taken))) }
+    ensures may_fail { F.may_fail files.new ≡ F.may_fail files.old }
 {
     match taken {
-        Some(taken) => status_with(dry_run, taken, updates),
-        None => Status::NoPackReceived {
+        Some(taken) => status_with(files, dry_run, taken, updates),
+        None => Ok(Status::NoPackReceived {
             dry_run,
             negotiate: None,
             update_refs: updates,
-        },
+        }),
     }
 }
 
-fn status_with(dry_run: bool, taken: Taken, updates: update::Outcome) -> Status
-    ensures { result ≡ spec.told_by dry_run taken.negotiate taken.pack updates }
+fn status_with<F: Files>(
+    files: &mut F,
+    dry_run: bool,
+    taken: Taken,
+    updates: update::Outcome,
+) -> Result<Status, fetch::Error>
+    ensures told { IfOk result (λ status. status ≡ spec.told_by dry_run taken.negotiate taken.pack updates) }
+    ensures removed { OnOk result (AreFiles (F.told files.old) (F.told files.new) (without_keep (spec.released updates taken.pack))) }
+    ensures refused { IfErr result (λ e. spec.IsUnreleased (spec.released updates taken.pack) e) }
+    ensures tree { is_some (F.told files.new) ≡ is_some (F.told files.old) }
+    ensures unread { taken.pack ≡ None → files.new ≡ files.old }
+    ensures counts { Counts (F.faults files.old) (F.faults files.new) }
+    ensures cause { OnErr result (Rose (F.faults files.old) (F.faults files.new)) }
+    ensures in_the_way { OnErr result (IsRefused (F.may_fail files.old) (F.told files.old) (without_keep (spec.released updates taken.pack))) }
+    ensures may_fail { F.may_fail files.new ≡ F.may_fail files.old }
 {
     let Taken { negotiate, pack } = taken;
     match pack {
-        Some(pack) => Status::Change {
+        Some(kept) => Ok(Status::Change {
             negotiate,
-            write_pack_bundle: pack,
+            write_pack_bundle: release(files, kept, &updates)?,
             update_refs: updates,
-        },
-        None => Status::NoPackReceived {
+        }),
+        None => Ok(Status::NoPackReceived {
             dry_run,
             negotiate: Some(negotiate),
             update_refs: updates,
-        },
+        }),
     }
 }

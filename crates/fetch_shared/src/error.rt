@@ -56,7 +56,7 @@ impl SharedError {
                 name: name.try_clone()?,
                 found: copy_of(found)?,
             }),
-            SharedError::Fetch(cause) => Ok(SharedError::Fetch(copy_of_fetch(cause)?)),
+            SharedError::Fetch(cause) => Ok(SharedError::Fetch(cause.try_clone()?)),
             SharedError::NoMemory => Ok(SharedError::NoMemory),
         }
     }
@@ -68,17 +68,6 @@ fn copy_of(found: &Option<Target>) -> Result<Option<Target>, NoMemory>
     match found {
         Some(target) => Ok(Some(target.try_clone()?)),
         None => Ok(None),
-    }
-}
-
-fn copy_of_fetch(cause: &FetchError) -> Result<FetchError, NoMemory>
-    ensures { IfOk result (λ copy. copy ≡ cause.now) }
-{
-    match cause {
-        FetchError::Prepare(e) => Ok(FetchError::Prepare(e.try_clone()?)),
-        FetchError::Receive(e) => Ok(FetchError::Receive(e.try_clone()?)),
-        FetchError::Unbuilt => Ok(FetchError::Unbuilt),
-        FetchError::NoMemory => Ok(FetchError::NoMemory),
     }
 }
 

@@ -1,11 +1,6 @@
-//! Lines as Git writes them, and a conversation over a scripted peer that gives what real Git gave.
+//! Lines as Git writes them, and an interrupt that follows a script.
 
-use fetch_store::{Kind, List, Text};
-use fetch_wire::{
-    Interrupt, LineRef, Peer, ReplyBound, Request, ScriptedInterrupt, ScriptedPeer, Session, Turn,
-    WireError, write_line,
-};
-use std::alloc::Global;
+use fetch_wire::{Interrupt, LineRef, ScriptedInterrupt, WireError, write_line};
 use std::test::Fail;
 
 #[test]
@@ -34,105 +29,6 @@ fn the_longest_line_is_written(rt: HostRuntime) -> Result<(), Fail> {
     let refused = write_line(&mut out, LineRef::Payload(&longer));
     assert_eq!(rt; refused, Err(WireError::LineTooLong { length: 65_517 }));
     assert_eq!(rt; out.len(), 65_520);
-    Ok(())
-}
-
-const GREETING: &[u8] = b"000eversion 2\n0015agent=git/2.39.5\n0013ls-refs=unborn\n\
-    0020fetch=shallow wait-for-done\n0012server-option\n0017object-format=sha1\n0010object-info\n\
-    0000";
-
-const LISTING: &[u8] = b"0050cd7e7787b0496c5d6773e15131fcf7a3396a5685 HEAD \
-    symref-target:refs/heads/main\n\
-    003dcd7e7787b0496c5d6773e15131fcf7a3396a5685 refs/heads/main\n\
-    006a18efc26427118872e9c1085eca73702fd2621248 refs/tags/v1 \
-    peeled:cd7e7787b0496c5d6773e15131fcf7a3396a5685\n0000";
-
-const FIRST: &[u8] = b"0026git-upload-pack /r.git\0\0version=2\0";
-
-const ASKED: &[u8] = b"0014command=ls-refs\n0013agent=git/test\n0017object-format=sha1\n0001\
-    000csymrefs\n0009peel\n000bunborn\n0000";
-
-/// A peer that gives a greeting, a listing, and a reply in three pieces.
-fn scripted(alloc: Global) -> Result<ScriptedPeer, Fail> {
-    let mut pieces = Vec::new(alloc);
-    pieces.push(Text::new(alloc, GREETING)?)?;
-    pieces.push(Text::new(alloc, LISTING)?)?;
-    pieces.push(Text::new(alloc, b"000dpackfile\n0008\x01abc00")?)?;
-    pieces.push(Text::new(alloc, b"06\x02!0005\x01000")?)?;
-    pieces.push(Text::new(alloc, b"0")?)?;
-    Ok(ScriptedPeer::new(alloc, pieces, Vec::new(alloc)))
-}
-
-/// Sends all that is outgoing.
-fn send_all(session: &mut Session, peer: &mut ScriptedPeer) -> Result<(), Fail> {
-    peer.send(session.outgoing())?;
-    let count = session.outgoing().len();
-    session.sent(count);
-    Ok(())
-}
-
-/// Feeds what the peer gives next, and answers how many bytes that is.
-fn receive_once(session: &mut Session, peer: &mut ScriptedPeer) -> Result<usize, Fail> {
-    let mut piece = [0; 256];
-    let count = peer.receive(&mut piece)?;
-    session.feed(&piece[..count])?;
-    Ok(count)
-}
-
-/// Sends and receives until it is no more the turn of either.
-fn talk(session: &mut Session, peer: &mut ScriptedPeer) -> Result<(), Fail> {
-    for _ in 0..16 {
-        match session.poll() {
-            Turn::Send => send_all(session, peer)?,
-            Turn::Receive => {
-                receive_once(session, peer)?;
-            }
-            Turn::Idle | Turn::Failed => return Ok(()),
-        }
-    }
-    Ok(())
-}
-
-fn fetch_request(alloc: Global) -> Result<Request, Fail> {
-    let mut lines = List::new(alloc);
-    lines.push(Text::new(alloc, b"command=fetch")?)?;
-    Ok(Request {
-        lines,
-        haves: List::new(alloc),
-        done: true,
-    })
-}
-
-#[test]
-fn a_greeting_and_a_listing_are_read(rt: HostRuntime) -> Result<(), Fail> {
-    let alloc = rt.alloc();
-    let mut peer = scripted(alloc)?;
-    let mut session = Session::new(alloc, b"/r.git", &[], b"test", &[], ReplyBound::default())?;
-    talk(&mut session, &mut peer)?;
-    assert_eq!(rt; session.poll(), Turn::Idle);
-    let handshake = session.handshake().ok_or("no greeting")?;
-    assert!(rt; handshake.supports(b"fetch", b"shallow"));
-    assert!(rt; !handshake.supports(b"fetch", b"plain-pack"));
-    assert_eq!(rt; handshake.object_hash, Kind::Sha1);
-    assert!(rt; peer.heard().starts_with(FIRST));
-    assert!(rt; peer.heard().ends_with(ASKED));
-    let refs = session.refs().ok_or("no listing")?;
-    assert_eq!(rt; refs.len(), 3);
-    Ok(())
-}
-
-#[test]
-fn a_pack_in_pieces_is_read(rt: HostRuntime) -> Result<(), Fail> {
-    let alloc = rt.alloc();
-    let mut peer = scripted(alloc)?;
-    let mut session = Session::new(alloc, b"/r.git", &[], b"test", &[], ReplyBound::default())?;
-    talk(&mut session, &mut peer)?;
-    assert_eq!(rt; session.poll(), Turn::Idle);
-    session.request(&fetch_request(alloc)?, true)?;
-    talk(&mut session, &mut peer)?;
-    let reply = session.reply().ok_or("no reply")?;
-    let pack = reply.pack.as_ref().ok_or("no pack")?;
-    assert_eq!(rt; pack.as_bytes(), b"abc".as_slice());
     Ok(())
 }
 

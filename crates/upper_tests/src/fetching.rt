@@ -31,7 +31,7 @@ fn other_tree(alloc: Global, text: &[u8]) -> Result<Store, Fail>
 }
 
 /// A repository with these objects and no references, whose configuration negotiates nothing.
-fn repository(alloc: Global, store: Store) -> Result<Repository, Fail>
+pub(crate) fn repository(alloc: Global, store: Store) -> Result<Repository, Fail>
     requires { store.hash ≡ Sha1 }
 {
     let base = Meta {
@@ -69,7 +69,7 @@ fn repository(alloc: Global, store: Store) -> Result<Repository, Fail>
 }
 
 /// A remote with one branch to fetch.
-fn remote(alloc: Global) -> Result<Remote, Fail> {
+pub(crate) fn remote(alloc: Global) -> Result<Remote, Fail> {
     let spec = parse(
         alloc,
         b"+refs/heads/main:refs/remotes/origin/main",

@@ -4,11 +4,15 @@
 #[cfg(test)]
 mod cuts;
 #[cfg(test)]
+mod deletions;
+#[cfg(test)]
 mod ends;
 #[cfg(test)]
 mod fetching;
 #[cfg(test)]
 mod fixture;
+#[cfg(test)]
+mod keep;
 #[cfg(test)]
 mod refusals;
 #[cfg(test)]

@@ -1,6 +1,6 @@
 //! Where the program's input comes from, and where its output goes.
 
-ghost use Rattle.std.specs.Prelude.{◌≡◌, ◌≤◌, ◌<◌, List, ℕ, length, IfOk, OnErr, IsErrOf};
+ghost use Rattle.std.specs.Prelude.{◌≡◌, ◌≤◌, ◌<◌, List, ℕ, length, IfOk, OnOk, OnErr, IsErrOf};
 ghost use Rattle.std.specs.Prelude.{Option};
 ghost use Rattle.std.specs.Io.KnownBytes.{ReadConsumes};
 ghost use Rattle.fetch_store.specs.Faults.{Faults, Rose, Counts};
@@ -22,7 +22,8 @@ pub trait Source {
         ensures bound { IfOk result (λ count. count ≤ length into.new) }
         ensures bytes { ReadConsumes (left self.old) (left self.new) result into.new }
         ensures counts { Counts (faults self.old) (faults self.new) }
-        ensures cause { OnErr result (Rose (faults self.old) (faults self.new)) };
+        ensures cause { OnErr result (Rose (faults self.old) (faults self.new)) }
+        ensures quiet { OnOk result ((faults self.new).count ≡ (faults self.old).count) };
 }
 
 /// Where output goes.
@@ -37,5 +38,6 @@ pub trait Sink {
     fn write_all(&mut self, bytes: &[u8]) -> Result<(), SendFault>
         ensures bytes { Takes (taken self.old) (taken self.new) result bytes.now }
         ensures counts { Counts (faults self.old) (faults self.new) }
-        ensures cause { IsErrOf result SendFault.Failed → Rose (faults self.old) (faults self.new) };
+        ensures cause { IsErrOf result SendFault.Failed → Rose (faults self.old) (faults self.new) }
+        ensures quiet { ¬ IsErrOf result SendFault.Failed → (faults self.new).count ≡ (faults self.old).count };
 }

@@ -33,6 +33,7 @@ pub fn read_all<S: Source>(alloc: Global, source: &mut S) -> Result<Vec<u8>, Rea
     ensures too_long { IsErrOf result ReadError.TooLong → IsLongerThan MAX_SCENE (S.left source.old) }
     ensures failed { IsErrOf result ReadError.Failed → Rose (S.faults source.old) (S.faults source.new) }
     ensures counts { Counts (S.faults source.old) (S.faults source.new) }
+    ensures quiet { ¬ IsErrOf result ReadError.Failed → (S.faults source.new).count ≡ (S.faults source.old).count }
 {
     let mut bytes = Vec::new(alloc);
     let mut piece = [0; PIECE];

@@ -1,6 +1,6 @@
 //! A source and a sink in memory.
 
-ghost use Rattle.std.specs.Prelude.{◌≡◌, ◌≤◌, ◌<◌, ◌+◌, ◌++◌, ◌↔◌, ℕ, [], nat_lt, length, Some, take, drop, IfSome, IfOk, OnErr, IsErr, IsErrOf, Contains};
+ghost use Rattle.std.specs.Prelude.{◌≡◌, ◌≤◌, ◌<◌, ◌+◌, ◌++◌, ◌↔◌, ℕ, [], nat_lt, length, Some, take, drop, IfSome, IfOk, OnOk, OnErr, IsErr, IsErrOf, Contains};
 ghost use Rattle.std.specs.Io.KnownBytes.{ReadConsumes};
 ghost use Rattle.fetch_store.specs.Calls.{one_more, faults_of};
 ghost use Rattle.fetch_store.specs.Faults.{Faults, Rose, Counts};
@@ -73,6 +73,7 @@ impl Source for MemorySource {
         ensures bytes { ReadConsumes (Some self.old.left) (Some self.new.left) result into.new }
         ensures counts { Counts (faults_of self.old.calls self.old.failed) (faults_of self.new.calls self.new.failed) }
         ensures cause { OnErr result (Rose (faults_of self.old.calls self.old.failed) (faults_of self.new.calls self.new.failed)) }
+        ensures quiet { OnOk result ((faults_of self.new.calls self.new.failed).count ≡ (faults_of self.old.calls self.old.failed).count) }
         ensures fails { IsErr result ↔ Contains self.old.calls.listed self.old.calls.next }
         ensures next { self.new.calls.next ≡ one_more self.old.calls.next }
         ensures listed { self.new.calls.listed ≡ self.old.calls.listed }
@@ -136,6 +137,7 @@ impl Sink for MemorySink {
         ensures bytes { Takes (Some self.old.taken) (Some self.new.taken) result bytes.now }
         ensures counts { Counts (faults_of self.old.calls self.old.failed) (faults_of self.new.calls self.new.failed) }
         ensures cause { IsErrOf result SendFault.Failed → Rose (faults_of self.old.calls self.old.failed) (faults_of self.new.calls self.new.failed) }
+        ensures quiet { ¬ IsErrOf result SendFault.Failed → (faults_of self.new.calls self.new.failed).count ≡ (faults_of self.old.calls self.old.failed).count }
         ensures fails { IsErrOf result SendFault.Failed ↔ Contains self.old.calls.listed self.old.calls.next }
         ensures next { self.new.calls.next ≡ one_more self.old.calls.next }
         ensures listed { self.new.calls.listed ≡ self.old.calls.listed }

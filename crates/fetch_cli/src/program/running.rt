@@ -1,6 +1,6 @@
 //! The program: it reads a scene, fetches, and writes a report.
 
-ghost use Rattle.std.specs.Prelude.{◌≡◌, ◌≤◌, ◌⊎◌, map, false, IfOk, OnOk, IsErrOf};
+ghost use Rattle.std.specs.Prelude.{◌≡◌, ◌≢◌, ◌≤◌, ◌⊎◌, map, false, IfOk, OnOk, IsErrOf};
 ghost use Rattle.std.specs.Io.KnownBytes.{Appends};
 ghost use Rattle.fetch_store.specs.Faults.{Rose, Counts};
 ghost use Rattle.fetch_store.specs.Stores.{AreOf};
@@ -91,6 +91,7 @@ fn answer_to_input<R: Threads + Sync, S: Source>(
     ensures answer { IfOk result (λ x. IsInputAnswer (S.left source.old) x.0 x.1.items) }
     ensures unread { IsErrOf result Silence.Unread → Rose (S.faults source.old) (S.faults source.new) }
     ensures counts { Counts (S.faults source.old) (S.faults source.new) }
+    ensures quiet { ¬ IsErrOf result Silence.Unread → (S.faults source.new).count ≡ (S.faults source.old).count }
 {
     let bytes = match read_all(alloc, source) {
         Ok(bytes) => bytes,
@@ -115,6 +116,7 @@ fn answer<R: Threads + Sync, S: Source>(
     ensures answer { IfOk result (λ x. IsAnswer (map (λ word. word.items) words.now) (S.left source.old) x.0 x.1.items) }
     ensures unread { IsErrOf result Silence.Unread → Rose (S.faults source.old) (S.faults source.new) }
     ensures counts { Counts (S.faults source.old) (S.faults source.new) }
+    ensures quiet { ¬ IsErrOf result Silence.Unread → (S.faults source.new).count ≡ (S.faults source.old).count }
     ensures untouched { asks_fetch (map (λ word. word.items) words.now) ≡ false → source.new ≡ source.old }
 {
     match read_command(words) {
@@ -127,7 +129,7 @@ fn answer<R: Threads + Sync, S: Source>(
 
 /// Runs the program with the words behind its name, and answers its status: 0 where the fetch was done, or help or the
 /// version was asked for; 1 where the fetch was refused; 2 where the source failed, and 3 where the sink did; 4 where
-/// the words or the scene are malformed; 5 where memory ran out; 6 where what is asked for isn't built yet.
+/// the words or the scene are malformed; 5 where memory ran out.
 pub fn run<R: Threads + Sync, S: Source, K: Sink>(
     rt: &R,
     alloc: Global,
@@ -141,14 +143,16 @@ pub fn run<R: Threads + Sync, S: Source, K: Sink>(
     ensures writes { Counts (K.faults sink.old) (K.faults sink.new) }
     ensures read { result ≡ 2 → Rose (S.faults source.old) (S.faults source.new) }
     ensures unread { result ≡ 2 → sink.new ≡ sink.old }
+    // A source that failed is told by 2 alone, and a sink that failed by 3.
+    ensures quiet_source { result ≢ 2 → (S.faults source.new).count ≡ (S.faults source.old).count }
+    ensures quiet_sink { result ≢ 3 → (K.faults sink.new).count ≡ (K.faults sink.old).count }
     ensures write { result ≡ 3 → Rose (K.faults sink.old) (K.faults sink.new) }
     ensures front { result ≡ 3 → WritesFront (map (λ word. word.items) words.now) (S.left source.old) (K.taken sink.old) (K.taken sink.new) }
     ensures malformed { result ≡ 4 → Writes (map (λ word. word.items) words.now) (S.left source.old) (K.taken sink.old) (K.taken sink.new) 4 }
     ensures memory { result ≡ 5 → (sink.new ≡ sink.old) ⊎ WritesFront (map (λ word. word.items) words.now) (S.left source.old) (K.taken sink.old) (K.taken sink.new) }
-    ensures unbuilt { result ≡ 6 → Writes (map (λ word. word.items) words.now) (S.left source.old) (K.taken sink.old) (K.taken sink.new) 6 }
     // Words are tested before the source is read.
     ensures words { asks_fetch (map (λ word. word.items) words.now) ≡ false → source.new ≡ source.old }
-    ensures known { result ≤ 6 }
+    ensures known { result ≤ 5 }
 {
     match answer(rt, alloc, words, source) {
         Ok((status, text)) => match sink.write_all(&text) {

@@ -16,7 +16,7 @@ pub enum Command {
 
 /// What `--help` writes.
 pub const HELP: &[u8] =
-    b"usage: bagjulen fetch < SCENE\n\nReads a scene from standard input: a repository, a remote and what its peer says.\nFetches, and writes a report: the lines sent, what became of each reference,\nand the repository as it then stands.\n\nstatus 0  the fetch was done\n       1  it was refused, and the report says why\n       2  the input could not be read\n       3  the output could not be written\n       4  the words or the scene are malformed\n       5  memory ran out\n       6  what the scene asks for isn't built yet\n";
+    b"usage: bagjulen fetch < SCENE\n\nReads a scene from standard input: a repository, a remote and what its peer says.\nFetches, and writes a report: the lines sent, what became of each reference,\nand the repository as it then stands.\n\nstatus 0  the fetch was done\n       1  it was refused, and the report says why\n       2  the input could not be read\n       3  the output could not be written\n       4  the words or the scene are malformed\n       5  memory ran out\n";
 
 /// What `--version` writes.
 pub const VERSION: &[u8] = b"bagjulen 0.1.0\n";

@@ -269,7 +269,6 @@ fn append_receive(out: &mut Vec<u8>, refusal: &fetch::Error) -> Result<(), NoMem
             b"RemovePackKeepFile",
             path.as_bytes(),
         ),
-        fetch::Error::Unbuilt => append_word(out, b"Unbuilt"),
         fetch::Error::NoMemory => append_word(out, b"NoMemory"),
     }
 }
@@ -282,7 +281,6 @@ pub fn append_token(out: &mut Vec<u8>, refusal: &FetchError) -> Result<(), NoMem
     match refusal {
         FetchError::Prepare(e) => append_prepare(out, e),
         FetchError::Receive(e) => append_receive(out, e),
-        FetchError::Unbuilt => append_word(out, b"Unbuilt"),
         FetchError::NoMemory => append_word(out, b"NoMemory"),
     }
 }

@@ -1,9 +1,11 @@
-use Rattle.std.proofs.Common.{ap, List, ℕ}
+use Rattle.std.proofs.Common.{ap, List, ℕ, ◌∙◌}
 use Rattle.std.specs.List.{concat}
+use Rattle.fetch_cli.specs.KeepFiles.{first_kept}
 use Rattle.fetch_cli.proofs.Reported.{reports_if}
 use Rattle.fetch_cli.proofs.reporting.report.Goals as goal
 
 pub returns : goal.returns
 returns g c =
     let setting = c.in_ok-setting.ensures in
-    reports_if c.args.scene _ _ c.append_report.result _ _ _ _ _ _ _ setting.given setting.worktrees setting.found (ap (λ (pieces : List (List ℕ)). concat pieces) setting.pieces) c.fetch-fetched.ensures c.append_report.ensures
+    let kept = rw (c.git_dir.ensures, c.fetch-fetched.ensures.setup) at c.in_ok-keep.ensures in
+    reports_if c.args.scene _ _ c.append_report.result _ _ _ _ _ _ _ _ _ setting.given setting.worktrees setting.found (ap (λ (pieces : List (List ℕ)). concat pieces) setting.pieces) c.fetch-fetched.ensures.fetched kept c.append_report.ensures

@@ -1,8 +1,8 @@
-use Rattle.std.proofs.Common.{◌≡◌, Bool, true, false, not, refl, sym, ap, ◌∙◌}
+use Rattle.std.proofs.Common.{◌≡◌, Bool, true, false, not, refl, sym, ◌∙◌}
 use Rattle.std.specs.Prelude.{◌&&◌}
 use Rattle.std.specs.List.{list_any}
 use Rattle.fetch_wire.specs.declared.mapping.RefMap.{RefMap}
-use Rattle.fetch_conversation.specs.ConverseStage.{names_one, specs_of, is_unmapped}
+use Rattle.fetch_conversation.specs.ConverseStage.{names_one, specs_of}
 use Rattle.fetch_conversation.specs.ListStage.{is_nil}
 use Rattle.fetch_conversation.proofs.Nil.{nil_by}
 use Rattle.fetch_conversation.proofs.refusals.is_unmapped.Goals as goal

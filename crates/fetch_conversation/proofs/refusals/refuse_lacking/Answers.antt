@@ -1,4 +1,4 @@
-use Rattle.std.proofs.Common.{◌≡◌, Bool, not, Option, Result, refl, sym, subst}
+use Rattle.std.proofs.Common.{◌≡◌, Bool, not, Option, refl, sym, subst}
 use Rattle.std.specs.Prelude.{◌||◌}
 use Rattle.std.specs.Option.{option_or}
 use Rattle.fetch_wire.specs.Greetings.{offers, has_word, value_of}

@@ -25,21 +25,21 @@ returns-in_err-received-clause-held g c =
     let p = err_from_is_err_and c.from_residual-in_err-received.result c.from_residual-in_err-received.ensures.1 in
     let l = c.in_ok-listed.ensures in
     let listed = rw c.settings.ensures.settings at c.in_ok-listed.ensures.held in
-    let k = rw (c.in_ok-view.ensures, c.fetch_tags-tags.ensures, c.settings-2.ensures.settings, l.bound) at c.in_err-received.ensures.held in
+    let k = rw (c.in_ok-view.ensures, c.fetch_tags-tags.ensures, c.settings-2.ensures.settings, c.store.ensures.objects, l.bound) at c.in_err-received.ensures.held in
     rw (p.1, p.2) (stops_receiving _ _ _ _ _ _ _ _ _ c.in_err-received.field-0.0 listed k)
 
 pub returns-clause-held : goal.returns-clause-held
 returns-clause-held g c =
     let l = c.in_ok-listed.ensures in
     let listed = rw c.settings.ensures.settings at c.in_ok-listed.ensures.held in
-    let k = rw (c.in_ok-view.ensures, c.fetch_tags-tags.ensures, c.settings-2.ensures.settings, l.bound) at c.in_ok-received.ensures.held in
+    let k = rw (c.in_ok-view.ensures, c.fetch_tags-tags.ensures, c.settings-2.ensures.settings, c.store.ensures.objects, l.bound) at c.in_ok-received.ensures.held in
     ends_both _ _ _ _ _ _ c.in_ok-listed.listed _ _ c.in_ok-received.received c.in_ok-received.ensures.kept (rw (c.in_ok-view.ensures, c.fetch_tags-tags.ensures) refl) listed k
 
 pub returns-clause-of_kind : goal.returns-clause-of_kind
 returns-clause-of_kind g c =
     let l = c.in_ok-listed.ensures in
     let listed = rw c.settings.ensures.settings at c.in_ok-listed.ensures.held in
-    let k = rw (c.in_ok-view.ensures, c.fetch_tags-tags.ensures, c.settings-2.ensures.settings, l.bound) at c.in_ok-received.ensures.held in
+    let k = rw (c.in_ok-view.ensures, c.fetch_tags-tags.ensures, c.settings-2.ensures.settings, c.store.ensures.objects, l.bound) at c.in_ok-received.ensures.held in
     let given : Given = record { remote = c.args.remote.now; options = c.args.options; setup = setup_of c.args.repo.now } in
     let same = rw c.settings-2.ensures.settings at c.settings-2.ensures.hash in
     rw (kind_received _ _ _ _ given (state_of c.args.repo.now) c.in_ok-listed.listed _ c.in_ok-received.received same listed k) at c.in_ok-received.ensures.of_kind

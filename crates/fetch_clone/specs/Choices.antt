@@ -1,0 +1,46 @@
+-- What a clone is asked for beside its place.
+use Rattle.std.specs.Prelude.{◌≡◌, ℕ, List, Option, Some, None, Result, Ok, Err, false, ⊤}
+use Rattle.fetch_specs.specs.Names.{name_trouble}
+use Rattle.fetch_specs.specs.Specs.{Spec}
+use Rattle.fetch_specs.specs.declared.error.NameError.{NameError}
+use Rattle.fetch_specs.specs.declared.error.NameError.TheVariants as names
+use Rattle.fetch_clone.specs.Revisions.{revision_of}
+use Rattle.fetch_clone.specs.declared.choices.Choices.{Choices}
+use Rattle.fetch_clone.specs.declared.choices.Wanted.{Wanted}
+use Rattle.fetch_clone.specs.declared.choices.Wanted.TheVariants.{Everything, RefName, Revision}
+
+-- A ref name that was chosen is taken back, and a revision stays.
+abbrev pub without_ref_name : Wanted → Wanted
+without_ref_name Everything = Everything
+without_ref_name (RefName name) = Everything
+without_ref_name (Revision spec) = Revision spec
+
+-- A revision that was chosen is taken back, and a ref name stays.
+abbrev pub without_revision : Wanted → Wanted
+without_revision Everything = Everything
+without_revision (RefName name) = RefName name
+without_revision (Revision spec) = Everything
+
+abbrev pub with_wanted : Choices → Wanted → Choices
+with_wanted choices wanted = record choices { wanted = wanted }
+
+-- A name takes the place of whatever was chosen, and None takes a name back.
+abbrev pub ref_name_chosen : Wanted → Option (List ℕ) → Wanted
+ref_name_chosen before (Some name) = RefName name
+ref_name_chosen before None = without_ref_name before
+
+-- A revision takes the place of whatever was chosen, where the text is one; None takes a revision back.
+abbrev pub ChoosesRevision : Wanted → Option (List ℕ) → Wanted → Type 0
+ChoosesRevision before None now = now ≡ without_revision before
+ChoosesRevision before (Some text) now = (found : Spec) × (revision_of text ≡ Ok found) × (now ≡ Revision found)
+
+-- A text that is a name is refused for want of memory alone; one that isn't is refused with its place; None is never refused.
+abbrev pub IsNameRefusalAt : Option ℕ → NameError → Type 0
+IsNameRefusalAt None e = e ≡ names.NoMemory
+IsNameRefusalAt (Some place) e = e ≡ names.Invalid place
+
+abbrev pub RefNameVerdict : {X Y : Type 0} → Option (List ℕ) → Result X (Y × NameError) → Type 0
+RefNameVerdict None (Ok x) = ⊤
+RefNameVerdict None (Err e) = ⊥
+RefNameVerdict (Some text) (Ok x) = name_trouble false text ≡ None
+RefNameVerdict (Some text) (Err e) = IsNameRefusalAt (name_trouble false text) e.1

@@ -1,0 +1,111 @@
+//! What a clone is asked for beside its place.
+
+ghost use Rattle.std.specs.Prelude.{◌≡◌, IfOk, IfErr, IsOkUnless, MatchOption, OnOk, OnErr, IfSome, None, Some, Err, Ok, false, true, IsTrue};
+ghost use Rattle.std.specs.Option.{option_copied};
+ghost use Rattle.fetch_lookup.specs.Names.{IsNameRefusal, name_refusal};
+ghost use Rattle.fetch_specs.specs.Names.{name_trouble};
+ghost use Rattle.fetch_specs.specs.declared.error.NameError.TheVariants as name_errors;
+ghost use Rattle.fetch_clone.specs.Choices as spec;
+ghost use Rattle.fetch_clone.specs.Revisions.{IsRevisionRefusal, revision_of};
+
+use crate::with_revision::{self, revision};
+use fetch_conversation::ref_map;
+use fetch_lookup::name;
+use fetch_negotiate::Shallow;
+use fetch_specs::{NameError, PartialName, RefSpec};
+use fetch_store::{List, Text};
+use std::alloc::Global;
+
+/// Which references a clone is of. A ref name and a revision exclude each other.
+#[derive(Debug, Drop)]
+pub enum Wanted {
+    /// All branches.
+    Everything,
+    /// All branches, and `HEAD` leads to this reference.
+    RefName(PartialName),
+    /// One revision alone.
+    Revision(RefSpec),
+}
+
+/// What a clone is asked for beside its place.
+#[derive(Debug, Drop)]
+pub struct Choices {
+    /// The name of the remote, where one was given.
+    pub remote_name: Option<Text>,
+    pub shallow: Shallow,
+    /// Overrides, as a repository is opened with.
+    pub overrides: List<Text>,
+    pub wanted: Wanted,
+    pub options: ref_map::Options,
+}
+
+impl Choices {
+    /// All branches with their whole history, as the configuration says.
+    pub fn new(alloc: Global) -> Choices
+        ensures remote_name { result.remote_name ≡ None }
+        ensures wanted { result.wanted ≡ Wanted.Everything }
+    {
+        Choices {
+            remote_name: None,
+            shallow: Shallow::NoChange,
+            overrides: List::new(alloc),
+            wanted: Wanted::Everything,
+            options: ref_map::Options::new(alloc),
+        }
+    }
+
+    /// Names the remote.
+    pub fn name_remote(&mut self, alloc: Global, name: &[u8]) -> Result<(), name::Error>
+        ensures ok { OnOk result (self.new ≡ record self.old { remote_name = Some name.now }) }
+        ensures accepted { OnOk result (name_refusal name.now ≡ None) }
+        ensures refused { IfErr result (IsNameRefusal name.now) }
+        ensures err { OnErr result (self.new ≡ self.old) }
+    {
+        self.remote_name = Some(name::validated(alloc, name)?);
+        Ok(())
+    }
+
+    /// Chooses a ref name in place of whatever was chosen. None takes back a ref name alone.
+    pub fn choose_ref_name(&mut self, alloc: Global, name: Option<&[u8]>) -> Result<(), NameError>
+        ensures ok { OnOk result (self.new ≡ spec.with_wanted self.old (spec.ref_name_chosen self.old.wanted (option_copied name.entry))) }
+        ensures verdict { IfSome (option_copied name.entry) (λ text. MatchOption (name_trouble false text) (IsOkUnless result name_errors.NoMemory) (λ place. result ≡ Err (name_errors.Invalid place))) }
+        ensures none { option_copied name.entry ≡ None → result ≡ Ok tt }
+        ensures err { OnErr result (self.new ≡ self.old) }
+    {
+        match name {
+            Some(name) => {
+                self.wanted = Wanted::RefName(PartialName::new(alloc, name)?);
+            }
+            None => {
+                if matches!(self.wanted, Wanted::RefName(_)) {
+                    self.wanted = Wanted::Everything;
+                }
+            }
+        }
+        Ok(())
+    }
+
+    /// Chooses a revision in place of whatever was chosen. None takes back a revision alone.
+    pub fn choose_revision(
+        &mut self,
+        alloc: Global,
+        text: Option<&[u8]>,
+    ) -> Result<(), with_revision::Error>
+        ensures ok { OnOk result (spec.ChoosesRevision self.old.wanted (option_copied text.entry) self.new.wanted) }
+        ensures rest { self.new ≡ spec.with_wanted self.old self.new.wanted }
+        ensures refused { IfErr result (IsRevisionRefusal (option_copied text.entry)) }
+        ensures err { OnErr result (self.new ≡ self.old) }
+    {
+        match text {
+            Some(text) => {
+                self.wanted = Wanted::Revision(revision(alloc, text)?);
+            }
+            None => {
+                if matches!(self.wanted, Wanted::Revision(_)) {
+                    self.wanted = Wanted::Everything;
+                }
+            }
+        }
+        Ok(())
+    }
+}

@@ -1,0 +1,109 @@
+//! A repository's files are created.
+
+ghost use Rattle.std.specs.Prelude.{◌≡◌, IfOk, IfErr, OnOk, IsTrue};
+ghost use Rattle.fetch_store.specs.Faults.{Rose, Counts};
+ghost use Rattle.fetch_clone.specs.Creation.{Reaches, IsStopped, is_fault};
+ghost use Rattle.fetch_clone.specs.Plans.{path_of, steps_of};
+
+use crate::making::perform;
+use crate::plan;
+use fetch_store::{Files, NoMemory, Text};
+use std::alloc::Global;
+use thiserror::Error as ThisError;
+
+/// Whether a repository has a work tree.
+#[derive(Clone, Copy, Debug, PartialEq, Eq)]
+pub enum Kind {
+    /// The git directory is `.git` in the directory of the work tree.
+    WithWorktree,
+    /// The directory is the git directory.
+    Bare,
+}
+
+/// What the file system can do, as the configuration says it.
+#[derive(Clone, Copy, Debug, PartialEq, Eq)]
+pub struct Capabilities {
+    /// Files have executable bits.
+    pub executable_bit: bool,
+    /// There are symbolic links.
+    pub symlink: bool,
+    /// Names that differ in case alone are one.
+    pub ignore_case: bool,
+    /// Names come back with their characters decomposed.
+    pub precompose_unicode: bool,
+}
+
+/// How a repository is created.
+#[derive(Clone, Copy, Debug, PartialEq, Eq, Default)]
+pub struct Options {
+    /// Refuse a directory that has entries. A bare repository always does; with a work tree, None doesn't.
+    pub destination_must_be_empty: Option<bool>,
+    /// What the file system can do. None: executable bits and symbolic links, and nothing else.
+    pub fs_capabilities: Option<Capabilities>,
+    /// The hash of ids. None: SHA-1.
+    pub object_hash: Option<fetch_store::Kind>,
+}
+
+/// Where a repository stands.
+#[derive(Debug, Drop, PartialEq, Eq)]
+pub struct Path {
+    /// The directory of the repository.
+    pub git_dir: Text,
+    /// The directory of the work tree, where there is one.
+    pub workdir: Option<Text>,
+}
+
+/// Why a repository wasn't created. What was written before stays.
+#[derive(Debug, Drop, PartialEq, Eq, ThisError)]
+pub enum Error {
+    /// The files failed where they were asked what is there.
+    #[error("a directory couldn't be read")]
+    IoOpen { path: Text },
+    /// The files failed to write a file.
+    #[error("a file couldn't be written")]
+    IoWrite { path: Text },
+    /// The files failed to make a directory.
+    #[error("a directory couldn't be made")]
+    CreateDirectory { path: Text },
+    /// The directory has an entry.
+    #[error("the directory isn't empty")]
+    DirectoryNotEmpty { path: Text },
+    /// The git directory is there.
+    #[error("the directory exists")]
+    DirectoryExists { path: Text },
+    /// Memory ran out.
+    #[error("out of memory")]
+    NoMemory,
+}
+
+impl From<NoMemory> for Error {
+    ghost use Rattle.std.specs.Prelude.{◌≡◌};
+    ghost use Rattle.fetch_clone.specs.declared.create.Error.TheVariants as errors;
+
+    ghost from_gives = { λ _ e. e ≡ errors.NoMemory };
+
+    fn from(_e: NoMemory) -> Error {
+        Error::NoMemory
+    }
+}
+
+/// Creates the files of an empty repository, step by step. What was done before a step that is refused stays.
+pub fn into<F: Files>(
+    alloc: Global,
+    files: &mut F,
+    directory: &[u8],
+    kind: Kind,
+    options: Options,
+) -> Result<Path, Error>
+    ensures path { IfOk result (λ path. path ≡ path_of directory.now kind) }
+    ensures done { OnOk result (Reaches (F.told files.old) (steps_of directory.now kind options) (F.told files.new)) }
+    ensures refused { IfErr result (IsStopped (F.may_fail files.old) (F.told files.old) (steps_of directory.now kind options) (F.told files.new)) }
+    ensures cause { IfErr result (λ e. IsTrue (is_fault e) → Rose (F.faults files.old) (F.faults files.new)) }
+    ensures counts { Counts (F.faults files.old) (F.faults files.new) }
+    ensures may_fail { F.may_fail files.new ≡ F.may_fail files.old }
+{
+    let path = plan::path_of(alloc, directory, kind)?;
+    let steps = plan::steps_of(alloc, directory, kind, options)?;
+    perform(files, steps.as_slice())?;
+    Ok(path)
+}

@@ -1,0 +1,19 @@
+//! Repositories that are created, and what a clone is asked for.
+#![tactic(auto)]
+
+mod branches;
+mod choices;
+mod configuration;
+pub mod create;
+mod host_files;
+mod making;
+mod plan;
+mod step;
+mod tracking;
+pub mod with_revision;
+
+pub use choices::{Choices, Wanted};
+pub use host_files::HostFiles;
+
+/// The short name of the branch that `HEAD` of a new repository leads to, where the configuration names none.
+pub const DEFAULT_BRANCH_NAME: &str = "main";

@@ -1,0 +1,99 @@
+use Rattle.std.proofs.Common.{◌≡◌, ℕ, suc, ◌<◌, Bool, true, false, List, Option, Result, Ok, Err, refl, subst, ◌∙◌, arith}
+use Rattle.std.specs.FinMap as map
+use Rattle.std.proofs.lemmas.Result.{err_from_is_err_and}
+use Rattle.fetch_store.specs.Faults.{Counts-then}
+use Rattle.fetch_store.specs.Graph.{Graph}
+use Rattle.fetch_wire.specs.Talks.{Talk}
+use Rattle.fetch_wire.specs.declared.records.FetchReply.{FetchReply}
+use Rattle.fetch_negotiate.specs.Any.{algorithm_of}
+use Rattle.fetch_negotiate.specs.declared.algorithm.Algorithm.{Algorithm}
+use Rattle.fetch_conversation.specs.ConverseStage.{algorithm_in}
+use Rattle.fetch_conversation.specs.Conversing.{Holds, course_of, terms_told}
+use Rattle.fetch_conversation.specs.Exchange.{TermsValue}
+use Rattle.fetch_conversation.specs.ListStage.{ListedValue, shown, pending_of}
+use Rattle.fetch_conversation.specs.Rounds.{CourseValue, first_course}
+use Rattle.fetch_conversation.specs.declared.conversing.Terms.{Terms}
+use Rattle.fetch_conversation.specs.declared.fetch.Error.{Error}
+use Rattle.fetch_conversation.specs.declared.fetch.Error.TheVariants as errors
+use Rattle.fetch_conversation.proofs.Held.{goes_again, goes_to_end, goes_off, goes_out, goes_nowhere}
+use Rattle.fetch_conversation.proofs.rounds.negotiate.Goals as goal
+
+-- a round, told of the session at the first one
+holds_at : (answers : Bool) (b b' : ℕ) (old new : Option Talk) (pending rest : List ℕ) (l l' : ListedValue) (terms : Terms) (g : Graph) (a a' : Algorithm) (c now : CourseValue) (kept : Option FetchReply) (result : Result Bool Error) → b ≡ b' → l ≡ l' → a ≡ a'
+    → Holds answers b old new pending rest (terms_told l terms) g a c now kept result → Holds answers b' old new pending rest (terms_told l' terms) g a' c now kept result
+holds_at answers b b' old new pending rest l l' terms g a a' c now kept result bound listed algorithm h =
+    subst (λ (n : ℕ). Holds answers n old new pending rest (terms_told l' terms) g a' c now kept result) bound
+    (subst (λ (x : ListedValue). Holds answers b old new pending rest (terms_told x terms) g a' c now kept result) listed
+    (subst (λ (x : Algorithm). Holds answers b old new pending rest (terms_told l terms) g x c now kept result) algorithm h))
+
+pub returns-in_err-most-clause-held : goal.returns-in_err-most-clause-held
+returns-in_err-most-clause-held g c =
+    let t : TermsValue = terms_told (shown c.args.listed.now) c.args.terms.now in
+    let graph = g.O.Objects.graph c.args.objects.now in
+    let algorithm = algorithm_in c.args.terms.now.settings.now in
+    let p = err_from_is_err_and c.from_residual.result c.from_residual.ensures.1 in
+    rw (p.1, p.2) (goes_nowhere c.args.listed.now.session.intake.bound t graph algorithm g.P.Peer.answers (g.P.Peer.told c.args.peer.now) (pending_of c.args.listed.now) (pending_of c.args.listed.now) (suc (map.len graph)) (first_course algorithm c.args.terms.now.view.now) errors.NoMemory refl)
+
+pub returns-in_err-course-clause-held : goal.returns-in_err-course-clause-held
+returns-in_err-course-clause-held g c =
+    let t : TermsValue = terms_told (shown c.args.listed.now) c.args.terms.now in
+    let graph = g.O.Objects.graph c.args.objects.now in
+    let algorithm = algorithm_in c.args.terms.now.settings.now in
+    let p = err_from_is_err_and c.from_residual-in_err-course.result c.from_residual-in_err-course.ensures.1 in
+    rw (p.1, p.2) (goes_nowhere c.args.listed.now.session.intake.bound t graph algorithm g.P.Peer.answers (g.P.Peer.told c.args.peer.now) (pending_of c.args.listed.now) (pending_of c.args.listed.now) (suc (map.len graph)) (first_course algorithm c.args.terms.now.view.now) errors.NoMemory refl)
+
+pub returns-in_err-hold_round-clause-held : goal.returns-in_err-hold_round-clause-held
+returns-in_err-hold_round-clause-held g c =
+    let bound = c.args.listed.now.session.intake.bound in
+    let t : TermsValue = terms_told (shown c.args.listed.now) c.args.terms.now in
+    let graph = g.O.Objects.graph c.args.objects.now in
+    let algorithm = algorithm_in c.args.terms.now.settings.now in
+    let i = c.loop.invariant in
+    let e : Error = c.in_err-hold_round.field-0.0 in
+    let less : c.loop.counter < suc (map.len graph) = (let test = c.loop-test.true in let len = c.in_ok-most.ensures in omega arith) in
+    let held = holds_at g.P.Peer.answers c.loop.listed.session.intake.bound bound (g.P.Peer.told c.loop.peer) (g.P.Peer.told c.hold_round.new.peer) (pending_of c.loop.listed) (pending_of c.hold_round.new.listed) (shown c.loop.listed) (shown c.args.listed.now) c.args.terms.now graph (algorithm_of c.loop.course.negotiator) algorithm (course_of c.loop.course) (course_of c.hold_round.new.course) c.hold_round.new.listed.session.reply (Err e) i.bound i.kept i.algorithm c.in_err-hold_round.ensures.held in
+    let p = err_from_is_err_and c.from_residual-in_err-hold_round.result c.from_residual-in_err-hold_round.ensures.1 in
+    rw (p.1, p.2) (goes_off bound t graph algorithm g.P.Peer.answers (g.P.Peer.told c.args.peer.now) (g.P.Peer.told c.loop.peer) (g.P.Peer.told c.hold_round.new.peer) (pending_of c.args.listed.now) (pending_of c.loop.listed) (pending_of c.hold_round.new.listed) (suc (map.len graph)) (first_course algorithm c.args.terms.now.view.now) (course_of c.loop.course) c.loop.counter e less i.goes held)
+
+pub returns-then-branch-clause-held : goal.returns-then-branch-clause-held
+returns-then-branch-clause-held g c =
+    let bound = c.args.listed.now.session.intake.bound in
+    let t : TermsValue = terms_told (shown c.args.listed.now) c.args.terms.now in
+    let graph = g.O.Objects.graph c.args.objects.now in
+    let algorithm = algorithm_in c.args.terms.now.settings.now in
+    let i = c.loop.invariant in
+    let less : c.loop.counter < suc (map.len graph) = (let test = c.loop-test.true in let len = c.in_ok-most.ensures in omega arith) in
+    let told = subst (λ (b : Bool). Holds g.P.Peer.answers c.loop.listed.session.intake.bound (g.P.Peer.told c.loop.peer) (g.P.Peer.told c.hold_round.new.peer) (pending_of c.loop.listed) (pending_of c.hold_round.new.listed) (terms_told (shown c.loop.listed) c.args.terms.now) graph (algorithm_of c.loop.course.negotiator) (course_of c.loop.course) (course_of c.hold_round.new.course) c.hold_round.new.listed.session.reply (Ok b)) c.if-branch.true c.in_ok-hold_round.ensures.held in
+    let held = holds_at g.P.Peer.answers c.loop.listed.session.intake.bound bound (g.P.Peer.told c.loop.peer) (g.P.Peer.told c.hold_round.new.peer) (pending_of c.loop.listed) (pending_of c.hold_round.new.listed) (shown c.loop.listed) (shown c.args.listed.now) c.args.terms.now graph (algorithm_of c.loop.course.negotiator) algorithm (course_of c.loop.course) (course_of c.hold_round.new.course) c.hold_round.new.listed.session.reply (Ok true) i.bound i.kept i.algorithm told in
+    goes_to_end bound t graph algorithm g.P.Peer.answers (g.P.Peer.told c.args.peer.now) (g.P.Peer.told c.loop.peer) (g.P.Peer.told c.hold_round.new.peer) (pending_of c.args.listed.now) (pending_of c.loop.listed) (pending_of c.hold_round.new.listed) (suc (map.len graph)) (first_course algorithm c.args.terms.now.view.now) (course_of c.loop.course) (course_of c.hold_round.new.course) c.hold_round.new.listed.session.reply c.loop.counter (record { rounds = c.hold_round.new.course.rounds }) less i.goes refl held
+
+pub loop-preserved : goal.loop-preserved
+loop-preserved g c =
+    let bound = c.args.listed.now.session.intake.bound in
+    let t : TermsValue = terms_told (shown c.args.listed.now) c.args.terms.now in
+    let graph = g.O.Objects.graph c.args.objects.now in
+    let algorithm = algorithm_in c.args.terms.now.settings.now in
+    let i = c.loop.invariant in
+    let e = c.in_ok-hold_round.ensures in
+    let told = subst (λ (b : Bool). Holds g.P.Peer.answers c.loop.listed.session.intake.bound (g.P.Peer.told c.loop.peer) (g.P.Peer.told c.hold_round.new.peer) (pending_of c.loop.listed) (pending_of c.hold_round.new.listed) (terms_told (shown c.loop.listed) c.args.terms.now) graph (algorithm_of c.loop.course.negotiator) (course_of c.loop.course) (course_of c.hold_round.new.course) c.hold_round.new.listed.session.reply (Ok b)) c.if-branch.false e.held in
+    let held = holds_at g.P.Peer.answers c.loop.listed.session.intake.bound bound (g.P.Peer.told c.loop.peer) (g.P.Peer.told c.hold_round.new.peer) (pending_of c.loop.listed) (pending_of c.hold_round.new.listed) (shown c.loop.listed) (shown c.args.listed.now) c.args.terms.now graph (algorithm_of c.loop.course.negotiator) algorithm (course_of c.loop.course) (course_of c.hold_round.new.course) c.hold_round.new.listed.session.reply (Ok false) i.bound i.kept i.algorithm told in
+    record {
+      goes = goes_again bound t graph algorithm g.P.Peer.answers (g.P.Peer.told c.args.peer.now) (g.P.Peer.told c.loop.peer) (g.P.Peer.told c.hold_round.new.peer) (pending_of c.args.listed.now) (pending_of c.loop.listed) (pending_of c.hold_round.new.listed) (suc (map.len graph)) (first_course algorithm c.args.terms.now.view.now) (course_of c.loop.course) (course_of c.hold_round.new.course) c.hold_round.new.listed.session.reply c.loop.counter i.goes held;
+      ready = e.ready;
+      bound = e.bound ∙ i.bound;
+      kept = e.kept ∙ i.kept;
+      algorithm = e.algorithm ∙ i.algorithm;
+      told = e.told;
+      counts = Counts-then (g.P.Peer.faults c.args.peer.now) (g.P.Peer.faults c.loop.peer) (g.P.Peer.faults c.hold_round.new.peer) i.counts e.counts;
+      asked = Counts-then (g.I.Interrupt.yes c.args.interrupt.now) (g.I.Interrupt.yes c.loop.interrupt) (g.I.Interrupt.yes c.hold_round.new.interrupt) i.asked e.asked;
+      quiet = e.uninterrupted ∙ i.quiet;
+    }
+
+pub returns-clause-held : goal.returns-clause-held
+returns-clause-held g c =
+    let bound = c.args.listed.now.session.intake.bound in
+    let t : TermsValue = terms_told (shown c.args.listed.now) c.args.terms.now in
+    let graph = g.O.Objects.graph c.args.objects.now in
+    let algorithm = algorithm_in c.args.terms.now.settings.now in
+    let out : c.loop.counter ≡ suc (map.len graph) = (let test = c.loop-test.false in let len = c.in_ok-most.ensures in let end = c.loop.auto.counter-end in omega arith) in
+    goes_out bound t graph algorithm g.P.Peer.answers (g.P.Peer.told c.args.peer.now) (g.P.Peer.told c.loop.peer) (pending_of c.args.listed.now) (pending_of c.loop.listed) (pending_of c.loop.listed) (suc (map.len graph)) (first_course algorithm c.args.terms.now.view.now) (course_of c.loop.course) c.loop.counter out c.loop.invariant.goes

@@ -1,0 +1,25 @@
+use Rattle.std.proofs.Common.{◌≡◌, suc}
+use Rattle.std.specs.FinMap as map
+use Rattle.fetch_store.specs.Faults.{Counts}
+use Rattle.fetch_negotiate.specs.Any.{algorithm_of, known_by}
+use Rattle.fetch_negotiate.specs.Reading.{IsTold}
+use Rattle.fetch_conversation.specs.ConverseStage.{algorithm_in}
+use Rattle.fetch_conversation.specs.Conversing.{course_of, terms_told}
+use Rattle.fetch_conversation.specs.ListStage.{IsReady, shown, pending_of}
+use Rattle.fetch_conversation.specs.Rounds.{first_course}
+use Rattle.fetch_conversation.proofs.Held.{Goes}
+use Rattle.fetch_conversation.proofs.rounds.negotiate.Given as goal
+
+abbrev pub invariant-loop : goal.invariant-loop
+invariant-loop g l = record {
+  goes : Goes l.fn.listed.session.intake.bound (terms_told (shown l.fn.listed) l.terms) (g.O.Objects.graph l.objects) (algorithm_in l.terms.settings.now) g.P.Peer.answers (g.P.Peer.told l.fn.peer) (g.P.Peer.told l.peer) (pending_of l.fn.listed) (pending_of l.listed)
+      (suc (map.len (g.O.Objects.graph l.objects))) (first_course (algorithm_in l.terms.settings.now) l.terms.view.now) (course_of l.course) l.counter;
+  ready : IsReady l.listed;
+  bound : l.listed.session.intake.bound ≡ l.fn.listed.session.intake.bound;
+  kept : shown l.listed ≡ shown l.fn.listed;
+  algorithm : algorithm_of l.course.negotiator ≡ algorithm_in l.terms.settings.now;
+  told : IsTold (known_by l.course.negotiator) (g.O.Objects.graph l.objects);
+  counts : Counts (g.P.Peer.faults l.fn.peer) (g.P.Peer.faults l.peer);
+  asked : Counts (g.I.Interrupt.yes l.fn.interrupt) (g.I.Interrupt.yes l.interrupt);
+  quiet : (g.I.Interrupt.yes l.interrupt).count ≡ (g.I.Interrupt.yes l.fn.interrupt).count;
+}

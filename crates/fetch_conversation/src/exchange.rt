@@ -1,0 +1,82 @@
+//! One request for a pack, and its reply.
+
+ghost use Rattle.std.specs.Prelude.{◌≡◌, IfErr, OnOk, IsErrOf};
+ghost use Rattle.fetch_store.specs.Faults.{Rose, Counts};
+ghost use Rattle.fetch_conversation.specs.Conversation.{Converses};
+ghost use Rattle.fetch_conversation.specs.Conversing.{IsAsked, reply_of, terms_told};
+ghost use Rattle.fetch_conversation.specs.Errors.{is_free_receiving};
+ghost use Rattle.fetch_conversation.specs.Exchange as spec;
+ghost use Rattle.fetch_conversation.specs.Exchange.{asked_by, haves_told};
+ghost use Rattle.fetch_conversation.specs.ListStage.{IsReady, shown, pending_of};
+ghost use Rattle.fetch_conversation.specs.declared.fetch.Error.TheVariants as errors;
+ghost use Rattle.fetch_negotiate.specs.Requests.{fetch_request};
+ghost use Rattle.fetch_wire.specs.Written.{first_too_long, TellsTooLong};
+
+use crate::conversing::Terms;
+use crate::drive::drive;
+use crate::fetch;
+use crate::listing::Listed;
+use crate::reading_settings::agent;
+use fetch_negotiate::{Round, request_of};
+use fetch_store::ObjectId;
+use fetch_wire::{Interrupt, Peer, WireError};
+use std::alloc::Global;
+
+/// The request of a round, which is to be sent: the ids acknowledged before, then the window.
+fn ask(
+    alloc: Global,
+    listed: &mut Listed,
+    terms: &Terms<'_>,
+    shared: &[ObjectId],
+    round: &Round,
+) -> Result<(), WireError>
+    requires { IsReady listed.old }
+    ensures asked { OnOk result (IsAsked (terms_told (shown listed.old) terms.now) (haves_told shared.now round.now.haves) round.now.done listed.old.session listed.new.session) }
+    ensures too_long { IfErr result (λ e. TellsTooLong (first_too_long (fetch_request (asked_by (terms_told (shown listed.old) terms.now)) (haves_told shared.now round.now.haves) round.now.done)) e) }
+    ensures kept { shown listed.new ≡ shown listed.old }
+{
+    let request = request_of(
+        alloc,
+        &listed.handshake,
+        agent(terms.settings),
+        terms.tags,
+        terms.shallow,
+        &terms.view.border,
+        terms.view.wants.as_slice(),
+        shared,
+        round.haves.as_slice(),
+        round.done,
+    )?;
+    listed.session.request(&request, !terms.dry_run)
+}
+
+/// Asks for the pack in a round, and reads the reply, which the session keeps. The interrupt is asked before each
+/// receive.
+pub(crate) fn exchange<P: Peer, I: Interrupt>(
+    listed: &mut Listed,
+    terms: &Terms<'_>,
+    shared: &[ObjectId],
+    round: &Round,
+    peer: &mut P,
+    interrupt: &mut I,
+) -> Result<(), fetch::Error>
+    requires { IsReady listed.old }
+    ensures held { Converses is_free_receiving P.answers listed.old.session.intake.bound (P.told peer.old) (P.told peer.new) (pending_of listed.old) (pending_of listed.new)
+        (spec.exchange listed.old.session.intake.bound (terms_told (shown listed.old) terms.now) (haves_told shared.now round.now.haves) round.now.done) (reply_of result listed.new.session.reply) }
+    ensures ready { OnOk result (IsReady listed.new) }
+    ensures bound { OnOk result (listed.new.session.intake.bound ≡ listed.old.session.intake.bound) }
+    ensures kept { shown listed.new ≡ shown listed.old }
+    ensures counts { Counts (P.faults peer.old) (P.faults peer.new) }
+    ensures client { IsErrOf result errors.Client → Rose (P.faults peer.old) (P.faults peer.new) }
+    ensures asked { Counts (I.yes interrupt.old) (I.yes interrupt.new) }
+    ensures interrupted { IsErrOf result errors.Interrupted → Rose (I.yes interrupt.old) (I.yes interrupt.new) }
+    ensures uninterrupted { OnOk result ((I.yes interrupt.new).count ≡ (I.yes interrupt.old).count) }
+{
+    let alloc = round.haves.allocator();
+    ask(alloc, listed, terms, shared, round)?;
+    drive(alloc, &mut listed.session, peer, interrupt)?;
+    match listed.session.reply() {
+        Some(_) => Ok(()),
+        None => Err(fetch::Error::Fetch(WireError::Malformed { place: 0 })),
+    }
+}

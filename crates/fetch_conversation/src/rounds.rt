@@ -1,0 +1,255 @@
+//! The rounds of a fetch: one request after another, until one of them ends the rounds.
+
+ghost use Rattle.std.specs.Prelude.{◌≡◌, ◌+◌, ◌∷◌, ◌++◌, ◌||◌, [], false, suc, None, IfOk, OnOk, IsErrOf};
+ghost use Rattle.std.specs.FinMap as map;
+ghost use Rattle.fetch_store.specs.Faults.{Rose, Counts};
+ghost use Rattle.fetch_store.specs.declared.id.ObjectId.{ObjectId as Id};
+ghost use Rattle.fetch_negotiate.specs.Any.{algorithm_of, known_by, so_far_of};
+ghost use Rattle.fetch_negotiate.specs.Reading.{IsTold};
+ghost use Rattle.fetch_negotiate.specs.Rounds.{sharing_all};
+ghost use Rattle.fetch_negotiate.specs.Windows.{next_size};
+ghost use Rattle.fetch_conversation.specs.Conversation.{Converses};
+ghost use Rattle.fetch_conversation.specs.ConverseStage.{algorithm_in};
+ghost use Rattle.fetch_conversation.specs.Conversing.{Holds, course_of, negotiated_of, terms_told};
+ghost use Rattle.fetch_conversation.specs.Errors.{is_free_receiving};
+ghost use Rattle.fetch_conversation.specs.ListStage.{IsReady, shown, pending_of};
+ghost use Rattle.fetch_conversation.specs.Rounds as spec;
+ghost use Rattle.fetch_conversation.specs.declared.fetch.Error.TheVariants as errors;
+
+use crate::conversing::Terms;
+use crate::copies::copied_ids;
+use crate::exchange::exchange;
+use crate::fetch;
+use crate::listing::Listed;
+use crate::negotiate::Negotiate;
+use crate::reading_settings::algorithm;
+use crate::settings::Settings;
+use fetch_negotiate::{Algorithm, AnyNegotiator, Negotiator, Round};
+use fetch_store::{List, NoMemory, ObjectId, Objects};
+use fetch_wire::{FetchReply, Interrupt, Peer, WireError};
+use std::alloc::Global;
+
+/// How many commits the first window has, if so many are to be told.
+const FIRST_SIZE: usize = 16;
+
+/// How many commits a window has at most.
+const LARGEST_SIZE: usize = 1024;
+
+/// How far the rounds of a fetch are.
+#[derive(Debug, Drop)]
+pub(crate) struct Course {
+    negotiator: AnyNegotiator,
+    /// The ids acknowledged so far, as the replies list them.
+    shared: Vec<ObjectId>,
+    rounds: List<Round>,
+    /// How many commits the next window may have.
+    size: usize,
+}
+
+/// How commits are chosen. A setting that can't be read was refused before.
+fn chosen(settings: &Settings) -> Algorithm
+    ensures { result ≡ algorithm_in settings.now }
+{
+    match algorithm(settings) {
+        Ok(algorithm) => algorithm,
+        Err(_) => Algorithm::Consecutive,
+    }
+}
+
+/// How many commits the window behind one of this size may have.
+fn next_size(size: usize) -> usize
+    ensures { result ≡ next_size size }
+{
+    if size < LARGEST_SIZE / 2 {
+        size * 2
+    } else {
+        LARGEST_SIZE
+    }
+}
+
+impl Course {
+    /// Before the first round.
+    fn new(alloc: Global, terms: &Terms<'_>) -> Result<Course, NoMemory>
+        ensures course { IfOk result (λ c. course_of c ≡ spec.first_course (algorithm_in terms.now.settings.now) terms.now.view.now) }
+        ensures algorithm { IfOk result (λ c. algorithm_of c.negotiator ≡ algorithm_in terms.now.settings.now) }
+        ensures unread { IfOk result (λ c. (id : Id) → known_by c.negotiator id ≡ None) }
+    {
+        let algorithm = chosen(terms.settings);
+        let tips = terms.view.tips.as_slice();
+        Ok(Course {
+            negotiator: AnyNegotiator::new(alloc, algorithm, tips, &terms.view.border)?,
+            shared: Vec::new(alloc),
+            rounds: List::new(alloc),
+            size: FIRST_SIZE,
+        })
+    }
+
+    /// The next round, which isn't answered yet.
+    fn next<O: Objects>(&mut self, objects: &O) -> Result<Round, NoMemory>
+        requires { IsTold (known_by self.old.negotiator) (O.graph objects.now) }
+        ensures round { IfOk result (λ r. r ≡ record {
+          haves = (spec.next_window (O.graph objects.now) (algorithm_of self.old.negotiator) (course_of self.old)).haves;
+          acknowledged = [];
+          done = spec.is_short (course_of self.old) (spec.next_window (O.graph objects.now) (algorithm_of self.old.negotiator) (course_of self.old));
+        }) }
+        ensures course { OnOk result (course_of self.new ≡ record (course_of self.old) { so_far = (spec.next_window (O.graph objects.now) (algorithm_of self.old.negotiator) (course_of self.old)).later }) }
+        ensures algorithm { algorithm_of self.new.negotiator ≡ algorithm_of self.old.negotiator }
+        ensures told { IsTold (known_by self.new.negotiator) (O.graph objects.now) }
+    {
+        let alloc = self.rounds.allocator();
+        let window = self.negotiator.window(alloc, objects, self.size)?;
+        let done = window.len() < self.size;
+        Ok(Round {
+            haves: List::from(window),
+            acknowledged: List::new(alloc),
+            done,
+        })
+    }
+
+    /// Tells the negotiator what the other side has.
+    fn tell<O: Objects>(&mut self, objects: &O, ids: &[ObjectId]) -> Result<(), NoMemory>
+        requires { IsTold (known_by self.old.negotiator) (O.graph objects.now) }
+        ensures course { OnOk result (course_of self.new ≡ record (course_of self.old) { so_far = sharing_all (algorithm_of self.old.negotiator) (course_of self.old).so_far ids.now }) }
+        ensures algorithm { algorithm_of self.new.negotiator ≡ algorithm_of self.old.negotiator }
+        ensures told { IsTold (known_by self.new.negotiator) (O.graph objects.now) }
+    {
+        let alloc = self.rounds.allocator();
+        for id in ids {
+            self.negotiator.in_common(alloc, objects, id)?;
+        }
+        Ok(())
+    }
+
+    /// Takes in what a reply acknowledges, before the next round.
+    fn share<O: Objects>(&mut self, objects: &O, ids: &[ObjectId]) -> Result<(), NoMemory>
+        requires { IsTold (known_by self.old.negotiator) (O.graph objects.now) }
+        ensures course { OnOk result (course_of self.new ≡ record {
+          so_far = sharing_all (algorithm_of self.old.negotiator) (course_of self.old).so_far ids.now;
+          shared = self.old.shared.items ++ ids.now;
+          rounds = self.old.rounds;
+          size = next_size self.old.size;
+        }) }
+        ensures algorithm { algorithm_of self.new.negotiator ≡ algorithm_of self.old.negotiator }
+        ensures told { IsTold (known_by self.new.negotiator) (O.graph objects.now) }
+    {
+        self.tell(objects, ids)?;
+        self.shared.extend_from_slice(ids)?;
+        self.size = next_size(self.size);
+        Ok(())
+    }
+
+    /// Takes in a round that was answered so, and answers whether that ends the rounds.
+    fn take_in<O: Objects>(
+        &mut self,
+        objects: &O,
+        round: Round,
+        reply: &FetchReply,
+    ) -> Result<bool, NoMemory>
+        requires { IsTold (known_by self.old.negotiator) (O.graph objects.now) }
+        ensures ends { IfOk result (λ last. last ≡ (round.done || reply.now.last)) }
+        ensures rounds { OnOk result (self.new.rounds ≡ self.old.rounds ++ (record { haves = round.haves; acknowledged = reply.now.acknowledged; done = round.done }) ∷ []) }
+        ensures goes { IfOk result (λ last. last ≡ false → course_of self.new ≡ record {
+          so_far = sharing_all (algorithm_of self.old.negotiator) (course_of self.old).so_far reply.now.acknowledged;
+          shared = self.old.shared.items ++ reply.now.acknowledged;
+          rounds = self.old.rounds ++ (record { haves = round.haves; acknowledged = reply.now.acknowledged; done = round.done }) ∷ [];
+          size = next_size self.old.size;
+        }) }
+        ensures algorithm { algorithm_of self.new.negotiator ≡ algorithm_of self.old.negotiator }
+        ensures told { IsTold (known_by self.new.negotiator) (O.graph objects.now) }
+    {
+        let last = round.done || reply.last;
+        self.rounds.push(Round {
+            haves: round.haves,
+            acknowledged: copied_ids(&reply.acknowledged)?,
+            done: round.done,
+        })?;
+        if last {
+            return Ok(true);
+        }
+        self.share(objects, reply.acknowledged.as_slice())?;
+        Ok(false)
+    }
+}
+
+/// Holds the next round, and answers whether that ends the rounds. The session keeps the reply.
+fn hold_round<P: Peer, I: Interrupt, O: Objects>(
+    listed: &mut Listed,
+    terms: &Terms<'_>,
+    course: &mut Course,
+    objects: &O,
+    peer: &mut P,
+    interrupt: &mut I,
+) -> Result<bool, fetch::Error>
+    requires ready { IsReady listed.old }
+    requires told { IsTold (known_by course.old.negotiator) (O.graph objects.now) }
+    ensures held { Holds P.answers listed.old.session.intake.bound (P.told peer.old) (P.told peer.new) (pending_of listed.old) (pending_of listed.new)
+        (terms_told (shown listed.old) terms.now) (O.graph objects.now) (algorithm_of course.old.negotiator) (course_of course.old) (course_of course.new) listed.new.session.reply result }
+    ensures algorithm { OnOk result (algorithm_of course.new.negotiator ≡ algorithm_of course.old.negotiator) }
+    ensures told { OnOk result (IsTold (known_by course.new.negotiator) (O.graph objects.now)) }
+    ensures ready { OnOk result (IsReady listed.new) }
+    ensures bound { OnOk result (listed.new.session.intake.bound ≡ listed.old.session.intake.bound) }
+    ensures kept { shown listed.new ≡ shown listed.old }
+    ensures counts { Counts (P.faults peer.old) (P.faults peer.new) }
+    ensures client { IsErrOf result errors.Client → Rose (P.faults peer.old) (P.faults peer.new) }
+    ensures asked { Counts (I.yes interrupt.old) (I.yes interrupt.new) }
+    ensures interrupted { IsErrOf result errors.Interrupted → Rose (I.yes interrupt.old) (I.yes interrupt.new) }
+    ensures uninterrupted { OnOk result ((I.yes interrupt.new).count ≡ (I.yes interrupt.old).count) }
+{
+    let round = course.next(objects)?;
+    exchange(
+        listed,
+        terms,
+        course.shared.as_slice(),
+        &round,
+        peer,
+        interrupt,
+    )?;
+    match listed.session.reply() {
+        Some(reply) => Ok(course.take_in(objects, round, reply)?),
+        None => Err(fetch::Error::Fetch(WireError::Malformed { place: 0 })),
+    }
+}
+
+/// How many rounds there are at most: one more than there are objects. No memory holds so many that there is no such
+/// number.
+fn most_rounds<O: Objects>(objects: &O) -> Result<usize, NoMemory>
+    ensures { IfOk result (λ most. most ≡ suc (map.len (O.graph objects.now))) }
+{
+    match objects.len().checked_add(1) {
+        Some(most) => Ok(most),
+        None => Err(NoMemory),
+    }
+}
+
+/// Holds the rounds until one of them ends them. The session keeps the last reply. The interrupt is asked before each
+/// receive.
+pub(crate) fn negotiate<P: Peer, I: Interrupt, O: Objects>(
+    alloc: Global,
+    listed: &mut Listed,
+    terms: &Terms<'_>,
+    objects: &O,
+    peer: &mut P,
+    interrupt: &mut I,
+) -> Result<Negotiate, fetch::Error>
+    requires { IsReady listed.old }
+    ensures held { Converses is_free_receiving P.answers listed.old.session.intake.bound (P.told peer.old) (P.told peer.new) (pending_of listed.old) (pending_of listed.new)
+        (spec.negotiating (suc (map.len (O.graph objects.now))) listed.old.session.intake.bound (terms_told (shown listed.old) terms.now) (O.graph objects.now) (algorithm_in terms.now.settings.now)
+        (spec.first_course (algorithm_in terms.now.settings.now) terms.now.view.now)) (negotiated_of result listed.new.session.reply) }
+    ensures kept { shown listed.new ≡ shown listed.old }
+    ensures counts { Counts (P.faults peer.old) (P.faults peer.new) }
+    ensures client { IsErrOf result errors.Client → Rose (P.faults peer.old) (P.faults peer.new) }
+    ensures asked { Counts (I.yes interrupt.old) (I.yes interrupt.new) }
+    ensures interrupted { IsErrOf result errors.Interrupted → Rose (I.yes interrupt.old) (I.yes interrupt.new) }
+    ensures uninterrupted { OnOk result ((I.yes interrupt.new).count ≡ (I.yes interrupt.old).count) }
+{
+    let most = most_rounds(objects)?;
+    let mut course = Course::new(alloc, terms)?;
+    for _ in 0..most {
+        if hold_round(listed, terms, &mut course, objects, peer, interrupt)? {
+            return Ok(Negotiate {
+                rounds: course.rounds,
+            });
+        }
+    }
+    Err(fetch::Error::Fetch(WireError::Malformed { place: 0 }))
+}

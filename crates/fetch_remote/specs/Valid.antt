@@ -1,0 +1,57 @@
+-- Input that is promised a fetch.
+use Rattle.std.specs.Prelude.{◌≡◌, ℕ, List, [], ◌++◌, Option, Some, None, Ok, IfSome, Contains}
+use Rattle.fetch_store.specs.Missing.{missing}
+use Rattle.fetch_store.specs.Stores.{collision}
+use Rattle.fetch_store.specs.declared.id.ObjectId.{ObjectId}
+use Rattle.fetch_update.specs.Policy.{Policy}
+use Rattle.fetch_update.specs.Refusing.{Refuses}
+use Rattle.fetch_update.specs.declared.update.Error.{Error as UpdateError}
+use Rattle.fetch_update.specs.declared.worktrees.Worktree.{Worktree}
+use Rattle.fetch_wire.specs.Talks.{Talk}
+use Rattle.fetch_wire.specs.declared.mapping.Mapping.{Mapping}
+use Rattle.fetch_wire.specs.declared.mapping.RefMap.{RefMap}
+use Rattle.fetch_conversation.specs.Conversation.{answer_in}
+use Rattle.fetch_conversation.specs.declared.conversing.Received.{Received}
+use Rattle.fetch_remote.specs.Fetched.{objects_with}
+use Rattle.fetch_remote.specs.Fetching.{manner_in}
+use Rattle.fetch_remote.specs.Form.{Given}
+use Rattle.fetch_remote.specs.Judging.{IsTold}
+use Rattle.fetch_remote.specs.Repositories.{State, held}
+use Rattle.fetch_remote.specs.Settling.{brought, pack_of, policy_in}
+use Rattle.fetch_remote.specs.Stages.{Told, bound_of, wants_in, conversation}
+
+-- What was received may be taken: no id of it has another object, and nothing is missing of what was wanted and of what
+-- it links to.
+pub record IsTakeable (s : State) (wants : List ObjectId) (r : Received) : Type 0 where
+  pub one_object : collision s.objects r.objects ≡ None
+  pub linked : missing (held s) wants (pack_of r) ≡ []
+
+-- No mapping is refused: destinations are names, and so are the targets that would be written; what stands at a
+-- destination leads to a stored object or to an absent name.
+pub record AreJudgeable (p : Policy) (m : RefMap) : Type 0 where
+  pub each : (mapping : Mapping) (e : UpdateError) → Contains m.mappings mapping → Refuses p mapping e → ⊥
+
+-- what is judged by: the references found, and the objects with what was received
+abbrev pub policy_with : Given → List Worktree → State → Told → Policy
+policy_with g trees s told = policy_in (record s { objects = objects_with s.objects (brought g.options.dry_run told.received) }) (manner_in g) trees
+
+pub record IsValidInput (g : Given) (trees : List Worktree) (s : State) (stream : List ℕ) : Type 0 where
+  -- The peer's bytes are replies to the requests of this fetch, by their grammar, and neither the settings nor what the
+  -- server offers stand against it.
+  pub told : Told
+  pub behind : List ℕ
+  pub replies : answer_in (bound_of g) (conversation g s) stream ≡ Ok (told, behind)
+  -- Outside a dry run what was received may be taken.
+  pub pack : IfSome (brought g.options.dry_run told.received) (IsTakeable s (wants_in g s told.listed.ref_map))
+  pub mappings : AreJudgeable (policy_with g trees s told) told.listed.ref_map
+
+-- The input of a call is valid: what the peer gave in it, with what is still to come at its end, and the list of worktrees,
+-- where that is told.
+pub record HasValidInput (old new : Option Talk) (known : Option (List Worktree)) (g : Given) (s : State) : Type 0 where
+  pub before : Talk
+  pub after : Talk
+  pub told_before : old ≡ Some before
+  pub told_after : new ≡ Some after
+  pub said : List ℕ
+  pub gave : after.given ≡ before.given ++ said
+  pub valid : (trees : List Worktree) → IsTold known trees → IsValidInput g trees s (said ++ after.to_come)

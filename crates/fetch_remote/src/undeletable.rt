@@ -1,0 +1,132 @@
+//! Branches that can't be deleted: those that are no local ones, and those that are checked out.
+
+ghost use Rattle.std.specs.Prelude.{◌≡◌, None, find, IfOk, IfErr, IsErrOf, OnOk};
+ghost use Rattle.fetch_store.specs.Faults.{Rose, Counts};
+ghost use Rattle.fetch_lookup.specs.Ordered.{placed};
+ghost use Rattle.fetch_refs.specs.Names.{name_cmp};
+ghost use Rattle.fetch_update.specs.Trees.{directories_of};
+ghost use Rattle.fetch_update.specs.Trees as tree_spec;
+ghost use Rattle.fetch_remote.specs.Deleting as spec;
+ghost use Rattle.fetch_remote.specs.DeletionSteps.{AreUnheld, IsHeld, IsHeldIn, IsUnlocal, directory_of, listing_refusal};
+ghost use Rattle.fetch_remote.specs.declared.delete.Error.TheVariants as errors;
+
+use crate::delete::Error;
+use fetch_specs::FullName;
+use fetch_store::{List, NoMemory, Text};
+use fetch_update::{Worktree, WorktreeFault, Worktrees};
+use std::alloc::Global;
+use std::collections::BTreeSet;
+
+/// Tests that all names are below `refs/heads/`. The first that isn't is told.
+pub(crate) fn check_local(names: &[FullName]) -> Result<(), Error>
+    ensures ok { OnOk result (find spec.is_foreign names.now ≡ None) }
+    ensures refused { IfErr result (IsUnlocal (find spec.is_foreign names.now)) }
+{
+    let [first, others @ ..] = names else {
+        return Ok(());
+    };
+    if is_foreign(first) {
+        return Err(Error::NotLocal {
+            name: first.try_clone()?,
+        });
+    }
+    check_local(others)
+}
+
+#[tactic(auto, unfolding(fetch_specs::specs::Categories::heads))]
+fn is_foreign(name: &FullName) -> bool
+    ensures { result ≡ spec.is_foreign name.now }
+{
+    !name.as_bytes().starts_with(b"refs/heads/")
+}
+
+/// Tests that no branch is checked out in the work trees. The first that is one is told, and where it is.
+pub(crate) fn check_unheld<W: Worktrees>(
+    alloc: Global,
+    names: &[FullName],
+    worktrees: &mut W,
+) -> Result<(), Error>
+    ensures ok { OnOk result (AreUnheld (W.told worktrees.old) names.now) }
+    ensures refused { IfErr result (IsHeld (W.told worktrees.old) names.now) }
+    ensures told { W.told worktrees.new ≡ W.told worktrees.old }
+    ensures listing_counts { Counts (W.listing worktrees.old) (W.listing worktrees.new) }
+    ensures open_repo_counts { Counts (W.open_repo worktrees.old) (W.open_repo worktrees.new) }
+    ensures follow_symref_counts { Counts (W.follow_symref worktrees.old) (W.follow_symref worktrees.new) }
+    ensures listing { IsErrOf result errors.WorktreeListing → Rose (W.listing worktrees.old) (W.listing worktrees.new) }
+    ensures open_repo { IsErrOf result errors.OpenWorktreeRepo → Rose (W.open_repo worktrees.old) (W.open_repo worktrees.new) }
+    ensures follow_symref { IsErrOf result errors.FollowSymref → Rose (W.follow_symref worktrees.old) (W.follow_symref worktrees.new) }
+{
+    match worktrees.list() {
+        Ok(trees) => check_in(alloc, trees.as_slice(), names),
+        Err(fault) => Err(listing_error(fault)),
+    }
+}
+
+fn listing_error(fault: WorktreeFault) -> Error
+    ensures { result ≡ listing_refusal fault }
+{
+    match fault {
+        WorktreeFault::Listing => Error::WorktreeListing,
+        WorktreeFault::OpenRepo => Error::OpenWorktreeRepo,
+        WorktreeFault::FollowSymref => Error::FollowSymref,
+        WorktreeFault::NoMemory => Error::NoMemory,
+    }
+}
+
+/// The same, of a list of work trees.
+fn check_in(alloc: Global, trees: &[Worktree], names: &[FullName]) -> Result<(), Error>
+    ensures ok { OnOk result (find (tree_spec.is_checked_out trees.now) names.now ≡ None) }
+    ensures refused { IfErr result (IsHeldIn trees.now names.now) }
+{
+    let [first, others @ ..] = names else {
+        return Ok(());
+    };
+    if is_checked_out(trees, first) {
+        return Err(Error::CheckedOut {
+            name: first.try_clone()?,
+            worktree_dirs: directories(alloc, trees, first)?,
+        });
+    }
+    check_in(alloc, trees, others)
+}
+
+fn is_checked_out(trees: &[Worktree], name: &FullName) -> bool
+    ensures { result ≡ tree_spec.is_checked_out trees.now name.now }
+{
+    trees.iter().any(|tree| tree.branch == *name)
+}
+
+/// Where a branch is checked out, in ascending order.
+fn directories(alloc: Global, trees: &[Worktree], name: &FullName) -> Result<List<Text>, NoMemory>
+    ensures { IfOk result (λ list. list ≡ directories_of trees.now name.now) }
+{
+    let mut directories = BTreeSet::new(alloc);
+    for tree in trees {
+        add_directory(&mut directories, tree, name)?;
+    }
+    list(alloc, directories)
+}
+
+#[tactic(auto, unfolding(fetch_lookup::specs::Ordered::placed))]
+fn add_directory(
+    directories: &mut BTreeSet<Text>,
+    tree: &Worktree,
+    name: &FullName,
+) -> Result<(), NoMemory>
+    ensures { OnOk result (directories.new.keys ≡ placed name_cmp directories.old.keys (directory_of name.now tree.now)) }
+{
+    if tree.branch == *name {
+        directories.insert(tree.directory.try_clone()?)?;
+    }
+    Ok(())
+}
+
+fn list(alloc: Global, texts: BTreeSet<Text>) -> Result<List<Text>, NoMemory>
+    ensures { IfOk result (λ list. list ≡ texts.keys) }
+{
+    let mut list = Vec::with_capacity(alloc, texts.len())?;
+    for text in texts {
+        list.push(text)?;
+    }
+    Ok(List::from(list))
+}
