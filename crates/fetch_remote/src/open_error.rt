@@ -32,9 +32,13 @@ impl OpenError {
     {
         match self {
             OpenError::Io => Ok(OpenError::Io),
-            OpenError::Missing { path } => Ok(OpenError::Missing { path: path.try_clone()? }),
+            OpenError::Missing { path } => Ok(OpenError::Missing {
+                path: path.try_clone()?,
+            }),
             OpenError::Config { line } => Ok(OpenError::Config { line: *line }),
-            OpenError::Override { text } => Ok(OpenError::Override { text: text.try_clone()? }),
+            OpenError::Override { text } => Ok(OpenError::Override {
+                text: text.try_clone()?,
+            }),
             OpenError::NoMemory => Ok(OpenError::NoMemory),
         }
     }
