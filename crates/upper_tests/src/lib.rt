@@ -4,24 +4,10 @@
 #[cfg(test)]
 mod cuts;
 #[cfg(test)]
-mod deletions;
-#[cfg(test)]
 mod ends;
 #[cfg(test)]
 mod fetching;
 #[cfg(test)]
 mod fixture;
 #[cfg(test)]
-mod keep;
-#[cfg(test)]
-mod refusals;
-#[cfg(test)]
-mod running;
-#[cfg(test)]
 mod scenes;
-#[cfg(test)]
-mod second_hash;
-#[cfg(test)]
-mod sharing;
-#[cfg(test)]
-mod turns;
