@@ -3,6 +3,8 @@ pub mod Plans
 pub mod Creation
 pub mod HostFaults
 pub mod Branches
+pub mod Initial
 pub mod Revisions
 pub mod Tracking
 pub mod Choices
+pub mod Drafts
