@@ -12,6 +12,8 @@ mod fixture;
 #[cfg(test)]
 mod lengths;
 #[cfg(test)]
+mod packed;
+#[cfg(test)]
 mod refusals;
 #[cfg(test)]
 mod remotes;
@@ -25,6 +27,8 @@ mod rows;
 mod rows_depth;
 #[cfg(test)]
 mod rows_judged;
+#[cfg(test)]
+mod rows_malformed;
 #[cfg(test)]
 mod rows_moved;
 #[cfg(test)]

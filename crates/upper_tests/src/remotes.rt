@@ -51,7 +51,7 @@ fn a_remote_that_is_nowhere(rt: HostRuntime) -> Result<(), Fail> {
     let repo = opened(alloc, ORIGIN)?;
     assert!(rt; repo.try_find_remote(alloc, b"nowhere").is_none());
     let is_told = match repo.find_remote(alloc, b"nowhere") {
-        Err(find::existing::Error::NotFound { name }) => name.as_bytes() == b"nowhere",
+        Err(find::existing::Error::NotFound { name }) => name.as_bytes() == b"nowhere".as_slice(),
         _ => false,
     };
     assert!(rt; is_told);

@@ -89,7 +89,7 @@ fn threads_of(alloc: Global, text: &[u8], lenient: bool) -> Result<usize, Fail> 
     match index_threads(&repo) {
         Ok(Some(threads)) => Ok(threads),
         Ok(None) => Ok(0),
-        Err(fetch::Error::PackThreads { value }) => Ok(if value.as_bytes() == b"-1" {
+        Err(fetch::Error::PackThreads { value }) => Ok(if value.as_bytes() == b"-1".as_slice() {
             1000
         } else {
             2000
@@ -135,7 +135,7 @@ fn an_override_counts_last(rt: HostRuntime) -> Result<(), Fail> {
 fn an_override_that_is_none(rt: HostRuntime) -> Result<(), Fail> {
     let alloc = rt.alloc();
     let told = match opening(alloc, ORIGIN, options(alloc, false, Some(b"x"))?)? {
-        Err(OpenError::Override { text }) => text.as_bytes() == b"x",
+        Err(OpenError::Override { text }) => text.as_bytes() == b"x".as_slice(),
         _ => false,
     };
     assert!(rt; told);
@@ -164,7 +164,9 @@ fn a_file_is_read_again(rt: HostRuntime) -> Result<(), Fail> {
 fn reload_refusal(alloc: Global, files: &mut MemoryFiles) -> Result<Option<usize>, Fail> {
     let mut repo = opened(alloc, ORIGIN)?;
     let refusal = match repo.reload(alloc, files) {
-        Err(OpenError::Missing { path }) if path.as_bytes() == b"/w/.git/config" => Some(0),
+        Err(OpenError::Missing { path }) if path.as_bytes() == b"/w/.git/config".as_slice() => Some(
+            0,
+        ),
         Err(OpenError::Config { line }) => Some(line),
         Err(OpenError::Io) => Some(100),
         _ => None,
@@ -217,7 +219,7 @@ fn names_of_a_configuration(rt: HostRuntime) -> Result<(), Fail> {
     let origin = Text::new(alloc, b"origin")?;
     assert!(rt; repo.remote_names(alloc)?.contains(&origin));
     let by_default = repo.remote_default_name(alloc, Direction::Push)?;
-    assert!(rt; by_default.is_some_and(|name| name.as_bytes() == b"origin"));
+    assert!(rt; by_default.is_some_and(|name| name.as_bytes() == b"origin".as_slice()));
     let of_main = repo.branch_remote_name(alloc, b"main", Direction::Fetch)?;
     assert!(rt; of_main.is_some_and(|name| name.as_symbol() == Some("origin")));
     Ok(())

@@ -352,7 +352,7 @@ static ROWS: [Row<'static>; 23] = [
             LongLists,
             Heads,
             LongFetches,
-            Text(b"refused Malformed 162\n"),
+            Text(b"refused Malformed 146\n"),
         ],
         ..FIRST
     },
