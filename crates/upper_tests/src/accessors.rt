@@ -127,7 +127,10 @@ fn a_repository_takes_objects(rt: HostRuntime) -> Result<(), Fail> {
     repo.take_pack(objects, border)?;
     assert!(rt; repo.store().contains(&tree()?));
     assert!(rt; repo.is_shallow());
-    assert!(rt; repo.shallow_commits().is_some_and(|border| border.commits().len() == 1));
+    assert!(rt;
+        repo.shallow_commits()
+            .is_some_and(|border| border.commits().len() == 1)
+    );
     Ok(())
 }
 
@@ -147,7 +150,12 @@ fn ids_in_pieces(rt: HostRuntime) -> Result<(), Fail> {
     }
     let ids = hash_pieces(&rt, alloc, Kind::Sha1, objects.as_slice(), 3, &Open)?;
     assert_eq!(rt; ids.len(), 5);
-    assert!(rt; ids.iter().all(|id| *id == ObjectId::Sha1(*b"\x4b\x82\x5d\xc6\x42\xcb\x6e\xb9\xa0\x60\xe5\x4b\xf8\xd6\x92\x88\xfb\xee\x49\x04")));
+    assert!(rt;
+        ids.iter().all(|id| *id
+            == ObjectId::Sha1(
+                *b"\x4b\x82\x5d\xc6\x42\xcb\x6e\xb9\xa0\x60\xe5\x4b\xf8\xd6\x92\x88\xfb\xee\x49\x04"
+            ))
+    );
     assert_eq!(rt; Kind::Sha1.len_in_bytes(), 20);
     Ok(())
 }

@@ -59,7 +59,7 @@ pub(crate) enum Part<'a> {
     /// The listing request by the second hash up to its prefixes.
     LongLists,
     /// A listing of an unborn reference.
-    Unborn,
+    UnbornMain,
     /// A listing of the remote commit over the commit of second 10.
     MainTen,
     /// A listing of the remote commit over the commit of second 5.
@@ -166,7 +166,7 @@ impl<'a> Part<'a> {
             Part::AsksHead => b"> \"ref-prefix HEAD\\n\"\n> 0000\n",
             Part::LongLists =>
                 b"> \"command=ls-refs\\n\"\n> \"object-format=sha256\\n\"\n> 0001\n> \"symrefs\\n\"\n> \"peel\\n\"\n> \"unborn\\n\"\n",
-            Part::Unborn => b"002eunborn HEAD symref-target:refs/heads/main\n0000",
+            Part::UnbornMain => b"002eunborn HEAD symref-target:refs/heads/main\n0000",
             Part::MainTen => b"003de0f278a39d06ef33d84e448e5d900b38f86c1d99 refs/heads/main\n0000",
             Part::MainFive => b"003d185cc88af3b84627424a2ef4bbd93809ceb4e44c refs/heads/main\n0000",
             Part::RemoteG =>

@@ -8,7 +8,7 @@ use crate::row_parts::Part::{
 use crate::rows::{FIRST, Row, unlike};
 use std::test::Fail;
 
-static ROWS: [Row<'static>; 14] = [
+const DEPTHS: &[Row<'static>] = &[
     Row {
         about: "a depth of one commit",
         remote: &[Text(
@@ -129,6 +129,15 @@ static ROWS: [Row<'static>; 14] = [
         ],
         ..FIRST
     },
+];
+
+#[test]
+fn depths(rt: HostRuntime) -> Result<(), Fail> {
+    assert_eq!(rt; unlike(&rt, rt.alloc(), DEPTHS)?.as_slice(), b"".as_slice());
+    Ok(())
+}
+
+const BORDERS: &[Row<'static>] = &[
     Row {
         about: "one commit deeper",
         repository: &[Head, AtTwo, Border, Noop],
@@ -313,7 +322,10 @@ static ROWS: [Row<'static>; 14] = [
 ];
 
 #[test]
-fn borders_and_depths(rt: HostRuntime) -> Result<(), Fail> {
-    assert_eq!(rt; unlike(&rt, rt.alloc(), &ROWS)?.as_slice(), b"".as_slice());
+fn borders(rt: HostRuntime) -> Result<(), Fail> {
+    assert_eq!(rt;
+        unlike(&rt, rt.alloc(), BORDERS)?.as_slice(),
+        b"".as_slice()
+    );
     Ok(())
 }

@@ -6,7 +6,7 @@ use crate::row_parts::Part::{
 use crate::rows::{FIRST, Row, unlike};
 use std::test::Fail;
 
-static ROWS: [Row<'static>; 6] = [
+const ROWS: &[Row<'static>] = &[
     Row {
         about: "a destination that is no name",
         repository: &[Head, Noop],
@@ -139,6 +139,6 @@ static ROWS: [Row<'static>; 6] = [
 
 #[test]
 fn destinations_are_refused(rt: HostRuntime) -> Result<(), Fail> {
-    assert_eq!(rt; unlike(&rt, rt.alloc(), &ROWS)?.as_slice(), b"".as_slice());
+    assert_eq!(rt; unlike(&rt, rt.alloc(), ROWS)?.as_slice(), b"".as_slice());
     Ok(())
 }

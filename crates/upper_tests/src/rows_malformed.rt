@@ -4,7 +4,7 @@ use crate::row_parts::Part::{Head, Remote, Text};
 use crate::rows::{FIRST, Row, unlike};
 use std::test::Fail;
 
-static ROWS: [Row<'static>; 32] = [
+const REPOSITORIES: &[Row<'static>] = &[
     Row {
         about: "a scene of another format",
         repository: &[Text(b"scene 2\n")],
@@ -143,6 +143,18 @@ static ROWS: [Row<'static>; 32] = [
         report: &[Text(b"malformed 65\n")],
         ..FIRST
     },
+];
+
+#[test]
+fn repositories_are_malformed(rt: HostRuntime) -> Result<(), Fail> {
+    assert_eq!(rt;
+        unlike(&rt, rt.alloc(), REPOSITORIES)?.as_slice(),
+        b"".as_slice()
+    );
+    Ok(())
+}
+
+const REMOTES: &[Row<'static>] = &[
     Row {
         about: "no address",
         repository: &[Head],
@@ -183,6 +195,18 @@ static ROWS: [Row<'static>; 32] = [
         report: &[Text(b"malformed 167\n")],
         ..FIRST
     },
+];
+
+#[test]
+fn remotes_are_malformed(rt: HostRuntime) -> Result<(), Fail> {
+    assert_eq!(rt;
+        unlike(&rt, rt.alloc(), REMOTES)?.as_slice(),
+        b"".as_slice()
+    );
+    Ok(())
+}
+
+const OPTIONS: &[Row<'static>] = &[
     Row {
         about: "an option that isn't known",
         repository: &[Head],
@@ -294,7 +318,10 @@ static ROWS: [Row<'static>; 32] = [
 ];
 
 #[test]
-fn scenes_are_malformed(rt: HostRuntime) -> Result<(), Fail> {
-    assert_eq!(rt; unlike(&rt, rt.alloc(), &ROWS)?.as_slice(), b"".as_slice());
+fn options_are_malformed(rt: HostRuntime) -> Result<(), Fail> {
+    assert_eq!(rt;
+        unlike(&rt, rt.alloc(), OPTIONS)?.as_slice(),
+        b"".as_slice()
+    );
     Ok(())
 }

@@ -7,7 +7,7 @@ use crate::row_parts::Part::{
 use crate::rows::{FIRST, Row, unlike};
 use std::test::Fail;
 
-static ROWS: [Row<'static>; 17] = [
+const WAYS: &[Row<'static>] = &[
     Row {
         about: "a way over an older commit, without a plus",
         repository: &[
@@ -165,6 +165,15 @@ static ROWS: [Row<'static>; 17] = [
         ],
         ..FIRST
     },
+];
+
+#[test]
+fn ways_from_commit_to_commit(rt: HostRuntime) -> Result<(), Fail> {
+    assert_eq!(rt; unlike(&rt, rt.alloc(), WAYS)?.as_slice(), b"".as_slice());
+    Ok(())
+}
+
+const NEW: &[Row<'static>] = &[
     Row {
         about: "a branch, a remote branch and a tag, in a dry run",
         repository: &[Head, Noop],
@@ -284,6 +293,15 @@ static ROWS: [Row<'static>; 17] = [
         ],
         ..FIRST
     },
+];
+
+#[test]
+fn new_references_and_reflogs(rt: HostRuntime) -> Result<(), Fail> {
+    assert_eq!(rt; unlike(&rt, rt.alloc(), NEW)?.as_slice(), b"".as_slice());
+    Ok(())
+}
+
+const SEVERAL: &[Row<'static>] = &[
     Row {
         about: "one branch moves and another one doesn't",
         repository: &[
@@ -414,7 +432,10 @@ static ROWS: [Row<'static>; 17] = [
 ];
 
 #[test]
-fn references_move(rt: HostRuntime) -> Result<(), Fail> {
-    assert_eq!(rt; unlike(&rt, rt.alloc(), &ROWS)?.as_slice(), b"".as_slice());
+fn several_and_received(rt: HostRuntime) -> Result<(), Fail> {
+    assert_eq!(rt;
+        unlike(&rt, rt.alloc(), SEVERAL)?.as_slice(),
+        b"".as_slice()
+    );
     Ok(())
 }

@@ -2,12 +2,12 @@
 
 use crate::row_parts::Part::{
     Asks, AsksHead, AsksRemotes, Calls, Greeting, Head, LineIds, Lists, MainTen, Noop, Remote,
-    RemoteG, Text, Trees, TwoLines, Unborn,
+    RemoteG, Text, Trees, TwoLines, UnbornMain,
 };
 use crate::rows::{FIRST, Row, unlike};
 use std::test::Fail;
 
-static ROWS: [Row<'static>; 15] = [
+const STANDING: &[Row<'static>] = &[
     Row {
         about: "a source without a destination",
         repository: &[Head, Noop],
@@ -221,6 +221,18 @@ static ROWS: [Row<'static>; 15] = [
         ],
         ..FIRST
     },
+];
+
+#[test]
+fn destinations_that_stand(rt: HostRuntime) -> Result<(), Fail> {
+    assert_eq!(rt;
+        unlike(&rt, rt.alloc(), STANDING)?.as_slice(),
+        b"".as_slice()
+    );
+    Ok(())
+}
+
+const UNBORN: &[Row<'static>] = &[
     Row {
         about: "an unborn reference that names another",
         repository: &[
@@ -232,7 +244,7 @@ static ROWS: [Row<'static>; 15] = [
         remote: &[Text(
             b"remote /srv/a.git\nfetch HEAD:refs/heads/existing-unborn-symbolic-other\ntags none\noption action action\n",
         )],
-        peer: &[Greeting, Unborn],
+        peer: &[Greeting, UnbornMain],
         report: &[
             Calls,
             Lists,
@@ -255,7 +267,7 @@ static ROWS: [Row<'static>; 15] = [
         remote: &[Text(
             b"remote /srv/a.git\nfetch HEAD:refs/heads/existing-unborn-symbolic-other\ntags none\n",
         )],
-        peer: &[Greeting, Unborn],
+        peer: &[Greeting, UnbornMain],
         report: &[
             Calls,
             Lists,
@@ -274,7 +286,7 @@ static ROWS: [Row<'static>; 15] = [
         remote: &[Text(
             b"remote /srv/a.git\nfetch HEAD:refs/heads/existing-unborn-symbolic-other\ntags none\n",
         )],
-        peer: &[Greeting, Unborn],
+        peer: &[Greeting, UnbornMain],
         report: &[
             Calls,
             Lists,
@@ -295,7 +307,7 @@ static ROWS: [Row<'static>; 15] = [
         ],
         objects: TwoLines,
         remote: &[Text(b"remote /srv/a.git\nfetch HEAD:refs/heads/main\ntags none\n")],
-        peer: &[Greeting, Unborn],
+        peer: &[Greeting, UnbornMain],
         report: &[
             Calls,
             Lists,
@@ -373,7 +385,7 @@ static ROWS: [Row<'static>; 15] = [
 ];
 
 #[test]
-fn destinations_go_by_the_policy(rt: HostRuntime) -> Result<(), Fail> {
-    assert_eq!(rt; unlike(&rt, rt.alloc(), &ROWS)?.as_slice(), b"".as_slice());
+fn unborn_references(rt: HostRuntime) -> Result<(), Fail> {
+    assert_eq!(rt; unlike(&rt, rt.alloc(), UNBORN)?.as_slice(), b"".as_slice());
     Ok(())
 }

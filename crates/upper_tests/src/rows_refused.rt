@@ -7,7 +7,7 @@ use crate::row_parts::Part::{
 use crate::rows::{FIRST, Row, unlike};
 use std::test::Fail;
 
-static ROWS: [Row<'static>; 41] = [
+const UNASKED: &[Row<'static>] = &[
     Row {
         about: "no refspec, whatever is done with tags",
         remote: &[Text(b"remote /srv/a.git\ntags all\n")],
@@ -69,6 +69,18 @@ static ROWS: [Row<'static>; 41] = [
         report: &[Asks, Text(b"refused NoMapping 1\n")],
         ..FIRST
     },
+];
+
+#[test]
+fn requests_are_refused(rt: HostRuntime) -> Result<(), Fail> {
+    assert_eq!(rt;
+        unlike(&rt, rt.alloc(), UNASKED)?.as_slice(),
+        b"".as_slice()
+    );
+    Ok(())
+}
+
+const OFFERS: &[Row<'static>] = &[
     Row {
         about: "a server that doesn't list",
         peer: &[Text(b"000eversion 2\n001dfetch=shallow plain-pack\n0017object-format=sha1\n0000")],
@@ -141,6 +153,15 @@ static ROWS: [Row<'static>; 41] = [
         ],
         ..FIRST
     },
+];
+
+#[test]
+fn servers_offer_too_little(rt: HostRuntime) -> Result<(), Fail> {
+    assert_eq!(rt; unlike(&rt, rt.alloc(), OFFERS)?.as_slice(), b"".as_slice());
+    Ok(())
+}
+
+const SETTINGS: &[Row<'static>] = &[
     Row {
         about: "whether shallow servers are refused can't be read, before the other settings",
         repository: &[
@@ -206,6 +227,18 @@ static ROWS: [Row<'static>; 41] = [
         report: &[Asks, Text(b"refused PackThreads -1\n")],
         ..FIRST
     },
+];
+
+#[test]
+fn settings_are_not_read(rt: HostRuntime) -> Result<(), Fail> {
+    assert_eq!(rt;
+        unlike(&rt, rt.alloc(), SETTINGS)?.as_slice(),
+        b"".as_slice()
+    );
+    Ok(())
+}
+
+const DENIALS: &[Row<'static>] = &[
     Row {
         about: "the server refuses in its greeting",
         peer: &[Text(b"0016ERR access denied\n")],
@@ -290,6 +323,18 @@ static ROWS: [Row<'static>; 41] = [
         report: &[Calls, Text(b"refused Malformed 0\n")],
         ..FIRST
     },
+];
+
+#[test]
+fn servers_refuse_or_say_too_much(rt: HostRuntime) -> Result<(), Fail> {
+    assert_eq!(rt;
+        unlike(&rt, rt.alloc(), DENIALS)?.as_slice(),
+        b"".as_slice()
+    );
+    Ok(())
+}
+
+const GREETINGS: &[Row<'static>] = &[
     Row {
         about: "a greeting of a delimiter",
         peer: &[Text(b"0001")],
@@ -332,6 +377,18 @@ static ROWS: [Row<'static>; 41] = [
         report: &[Calls, Text(b"refused Malformed 33\n")],
         ..FIRST
     },
+];
+
+#[test]
+fn greetings_are_malformed(rt: HostRuntime) -> Result<(), Fail> {
+    assert_eq!(rt;
+        unlike(&rt, rt.alloc(), GREETINGS)?.as_slice(),
+        b"".as_slice()
+    );
+    Ok(())
+}
+
+const LISTINGS: &[Row<'static>] = &[
     Row {
         about: "a listing with an id of 39 digits",
         peer: &[
@@ -384,7 +441,10 @@ static ROWS: [Row<'static>; 41] = [
 ];
 
 #[test]
-fn fetches_are_refused(rt: HostRuntime) -> Result<(), Fail> {
-    assert_eq!(rt; unlike(&rt, rt.alloc(), &ROWS)?.as_slice(), b"".as_slice());
+fn listings_are_malformed(rt: HostRuntime) -> Result<(), Fail> {
+    assert_eq!(rt;
+        unlike(&rt, rt.alloc(), LISTINGS)?.as_slice(),
+        b"".as_slice()
+    );
     Ok(())
 }

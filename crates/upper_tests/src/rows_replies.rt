@@ -7,7 +7,7 @@ use crate::row_parts::Part::{
 use crate::rows::{FIRST, Row, unlike};
 use std::test::Fail;
 
-static ROWS: [Row<'static>; 20] = [
+const REPLIES: &[Row<'static>] = &[
     Row {
         about: "a reply of a flush",
         peer: &[Greeting, Listing, Text(b"0000")],
@@ -65,6 +65,18 @@ static ROWS: [Row<'static>; 20] = [
         report: &[Asks, Fetches, WantsOne, Text(b"refused Malformed 17\n")],
         ..FIRST
     },
+];
+
+#[test]
+fn replies_are_malformed(rt: HostRuntime) -> Result<(), Fail> {
+    assert_eq!(rt;
+        unlike(&rt, rt.alloc(), REPLIES)?.as_slice(),
+        b"".as_slice()
+    );
+    Ok(())
+}
+
+const PACKS: &[Row<'static>] = &[
     Row {
         about: "a pack of no bytes",
         peer: &[Greeting, Listing, Text(b"000dpackfile\n0000")],
@@ -177,6 +189,15 @@ static ROWS: [Row<'static>; 20] = [
         ],
         ..FIRST
     },
+];
+
+#[test]
+fn packs_are_refused(rt: HostRuntime) -> Result<(), Fail> {
+    assert_eq!(rt; unlike(&rt, rt.alloc(), PACKS)?.as_slice(), b"".as_slice());
+    Ok(())
+}
+
+const UNLINKED: &[Row<'static>] = &[
     Row {
         about: "a pack without what was wanted",
         peer: &[Greeting, Listing, Nothing],
@@ -285,7 +306,10 @@ static ROWS: [Row<'static>; 20] = [
 ];
 
 #[test]
-fn replies_are_refused(rt: HostRuntime) -> Result<(), Fail> {
-    assert_eq!(rt; unlike(&rt, rt.alloc(), &ROWS)?.as_slice(), b"".as_slice());
+fn packs_leave_links_missing(rt: HostRuntime) -> Result<(), Fail> {
+    assert_eq!(rt;
+        unlike(&rt, rt.alloc(), UNLINKED)?.as_slice(),
+        b"".as_slice()
+    );
     Ok(())
 }

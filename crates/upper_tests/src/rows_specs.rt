@@ -8,7 +8,7 @@ use crate::row_parts::Part::{
 use crate::rows::{FIRST, Row, unlike};
 use std::test::Fail;
 
-static ROWS: [Row<'static>; 24] = [
+const PREFIXES: &[Row<'static>] = &[
     Row {
         about: "a short name has six prefixes",
         repository: &[Head, Noop],
@@ -160,6 +160,18 @@ static ROWS: [Row<'static>; 24] = [
         report: &[Asks, Text(b""), OneIds, Text(b"ok\n")],
         ..FIRST
     },
+];
+
+#[test]
+fn prefixes_and_mappings(rt: HostRuntime) -> Result<(), Fail> {
+    assert_eq!(rt;
+        unlike(&rt, rt.alloc(), PREFIXES)?.as_slice(),
+        b"".as_slice()
+    );
+    Ok(())
+}
+
+const TAGS: &[Row<'static>] = &[
     Row {
         about: "all tags",
         repository: &[Head, Noop],
@@ -255,6 +267,15 @@ static ROWS: [Row<'static>; 24] = [
         report: &[Asks, NewMain, SameMain, OneIds, Text(b"ok\n")],
         ..FIRST
     },
+];
+
+#[test]
+fn tags_and_extra_refspecs(rt: HostRuntime) -> Result<(), Fail> {
+    assert_eq!(rt; unlike(&rt, rt.alloc(), TAGS)?.as_slice(), b"".as_slice());
+    Ok(())
+}
+
+const AGENTS: &[Row<'static>] = &[
     Row {
         about: "parameters of the first line",
         repository: &[Head, Noop],
@@ -367,6 +388,15 @@ static ROWS: [Row<'static>; 24] = [
         report: &[Asks, NewMain, SameMain, OneIds, Text(b"ok\n")],
         ..FIRST
     },
+];
+
+#[test]
+fn parameters_and_agents(rt: HostRuntime) -> Result<(), Fail> {
+    assert_eq!(rt; unlike(&rt, rt.alloc(), AGENTS)?.as_slice(), b"".as_slice());
+    Ok(())
+}
+
+const WANTED: &[Row<'static>] = &[
     Row {
         about: "tags that the history brings, and one that it doesn't",
         remote: &[Text(
@@ -479,7 +509,7 @@ static ROWS: [Row<'static>; 24] = [
 ];
 
 #[test]
-fn refspecs_and_tags(rt: HostRuntime) -> Result<(), Fail> {
-    assert_eq!(rt; unlike(&rt, rt.alloc(), &ROWS)?.as_slice(), b"".as_slice());
+fn tags_and_commits_that_are_wanted(rt: HostRuntime) -> Result<(), Fail> {
+    assert_eq!(rt; unlike(&rt, rt.alloc(), WANTED)?.as_slice(), b"".as_slice());
     Ok(())
 }

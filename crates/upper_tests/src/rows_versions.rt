@@ -8,7 +8,7 @@ use crate::row_parts::Part::{
 use crate::rows::{FIRST, Row, unlike};
 use std::test::Fail;
 
-static ROWS: [Row<'static>; 23] = [
+const FIRST_VERSION: &[Row<'static>] = &[
     Row {
         about: "an empty repository over version 1",
         peer: &[Text(
@@ -104,6 +104,18 @@ static ROWS: [Row<'static>; 23] = [
         report: &[Calls, Text(b"refused IncompatibleObjectHash sha1 sha256\n")],
         ..FIRST
     },
+];
+
+#[test]
+fn servers_of_version_1(rt: HostRuntime) -> Result<(), Fail> {
+    assert_eq!(rt;
+        unlike(&rt, rt.alloc(), FIRST_VERSION)?.as_slice(),
+        b"".as_slice()
+    );
+    Ok(())
+}
+
+const PACKS: &[Row<'static>] = &[
     Row {
         about: "the second version of packs where both are offered",
         peer: &[
@@ -247,6 +259,15 @@ static ROWS: [Row<'static>; 23] = [
         ],
         ..FIRST
     },
+];
+
+#[test]
+fn versions_of_packs_and_pieces(rt: HostRuntime) -> Result<(), Fail> {
+    assert_eq!(rt; unlike(&rt, rt.alloc(), PACKS)?.as_slice(), b"".as_slice());
+    Ok(())
+}
+
+const LONG: &[Row<'static>] = &[
     Row {
         about: "a fetch by the second hash",
         repository: &[LongHead, Noop],
@@ -359,7 +380,7 @@ static ROWS: [Row<'static>; 23] = [
 ];
 
 #[test]
-fn versions_hashes_and_pieces(rt: HostRuntime) -> Result<(), Fail> {
-    assert_eq!(rt; unlike(&rt, rt.alloc(), &ROWS)?.as_slice(), b"".as_slice());
+fn the_second_hash(rt: HostRuntime) -> Result<(), Fail> {
+    assert_eq!(rt; unlike(&rt, rt.alloc(), LONG)?.as_slice(), b"".as_slice());
     Ok(())
 }
