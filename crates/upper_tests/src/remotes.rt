@@ -45,16 +45,20 @@ fn a_remote_is_found_by_its_name(rt: HostRuntime) -> Result<(), Fail> {
     Ok(())
 }
 
+/// Whether no remote of this name was found.
+fn is_not_found(found: &Result<Remote, find::existing::Error>, wanted: &[u8]) -> bool {
+    match found {
+        Err(find::existing::Error::NotFound { name }) => name.as_bytes() == wanted,
+        _ => false,
+    }
+}
+
 #[test]
 fn a_remote_that_is_nowhere(rt: HostRuntime) -> Result<(), Fail> {
     let alloc = rt.alloc();
     let repo = opened(alloc, ORIGIN)?;
     assert!(rt; repo.try_find_remote(alloc, b"nowhere").is_none());
-    let is_told = match repo.find_remote(alloc, b"nowhere") {
-        Err(find::existing::Error::NotFound { name }) => name.as_bytes() == b"nowhere".as_slice(),
-        _ => false,
-    };
-    assert!(rt; is_told);
+    assert!(rt; is_not_found(&repo.find_remote(alloc, b"nowhere"), b"nowhere"));
     Ok(())
 }
 
@@ -69,27 +73,35 @@ fn a_remote_at_an_address(rt: HostRuntime) -> Result<(), Fail> {
         b"https://github.com/byron/gitoxide\n".as_slice()
     );
     let refused = repo.remote_at_without_url_rewrite(alloc, b"").err();
-    assert!(rt; matches!(refused, Some(remote::init::Error::Url)));
+    assert!(rt; matches!(&refused, Some(remote::init::Error::Url)));
     Ok(())
+}
+
+/// What the remote to fetch from tells.
+fn to_fetch(alloc: Global, repo: &Repository, text: Option<&[u8]>) -> Result<Vec<u8>, Fail> {
+    let remote = repo.find_fetch_remote(alloc, text)?;
+    told(alloc, &remote)
 }
 
 #[test]
 fn the_remote_to_fetch_from(rt: HostRuntime) -> Result<(), Fail> {
     let alloc = rt.alloc();
     let repo = opened(alloc, ORIGIN)?;
-    let by_default = repo.find_fetch_remote(alloc, None)?;
-    assert_eq!(rt; told(alloc, &by_default)?.as_slice(), TOLD);
-    let named = repo.find_fetch_remote(alloc, Some(b"origin"))?;
-    assert_eq!(rt; told(alloc, &named)?.as_slice(), TOLD);
-    let placed = repo.find_fetch_remote(alloc, Some(b"/srv/b.git"))?;
-    assert_eq!(rt;
-        told(alloc, &placed)?.as_slice(),
-        b"/srv/b.git\n".as_slice()
-    );
-    let none = opened(alloc, b"")?.find_fetch_remote(alloc, None).err();
+    assert_eq!(rt; to_fetch(alloc, &repo, None)?.as_slice(), TOLD);
+    assert_eq!(rt; to_fetch(alloc, &repo, Some(b"origin"))?.as_slice(), TOLD);
+    let placed = to_fetch(alloc, &repo, Some(b"/srv/b.git"))?;
+    assert_eq!(rt; placed.as_slice(), b"/srv/b.git\n".as_slice());
+    Ok(())
+}
+
+#[test]
+fn no_remote_to_fetch_from(rt: HostRuntime) -> Result<(), Fail> {
+    let alloc = rt.alloc();
+    let repo = opened(alloc, b"")?;
+    let refusal = repo.find_fetch_remote(alloc, None).err();
     assert!(rt;
         matches!(
-            none,
+            &refusal,
             Some(find::for_fetch::Error::ExactlyOneRemoteNotAvailable)
         )
     );

@@ -131,14 +131,19 @@ fn an_override_counts_last(rt: HostRuntime) -> Result<(), Fail> {
     Ok(())
 }
 
+/// Whether this override was told to be none.
+fn is_refused_for(opened: &Result<Repository, OpenError>, wanted: &[u8]) -> bool {
+    match opened {
+        Err(OpenError::Override { text }) => text.as_bytes() == wanted,
+        _ => false,
+    }
+}
+
 #[test]
 fn an_override_that_is_none(rt: HostRuntime) -> Result<(), Fail> {
     let alloc = rt.alloc();
-    let told = match opening(alloc, ORIGIN, options(alloc, false, Some(b"x"))?)? {
-        Err(OpenError::Override { text }) => text.as_bytes() == b"x".as_slice(),
-        _ => false,
-    };
-    assert!(rt; told);
+    let opened = opening(alloc, ORIGIN, options(alloc, false, Some(b"x"))?)?;
+    assert!(rt; is_refused_for(&opened, b"x"));
     Ok(())
 }
 
@@ -160,19 +165,25 @@ fn a_file_is_read_again(rt: HostRuntime) -> Result<(), Fail> {
     Ok(())
 }
 
-/// Why a reload was refused: the line that is broken, 0 where there is no file, and 100 where the files failed.
+/// What a refused reload tells: the line that is broken, 0 where there is no file, and 100 where the files failed.
+fn told_by(refusal: &OpenError) -> Option<usize> {
+    match refusal {
+        OpenError::Missing { .. } => Some(0),
+        OpenError::Config { line } => Some(*line),
+        OpenError::Io => Some(100),
+        _ => None,
+    }
+}
+
+/// What a reload tells that is refused and leaves the repository as before.
 fn reload_refusal(alloc: Global, files: &mut MemoryFiles) -> Result<Option<usize>, Fail> {
     let mut repo = opened(alloc, ORIGIN)?;
-    let refusal = match repo.reload(alloc, files) {
-        Err(OpenError::Missing { path }) if path.as_bytes() == b"/w/.git/config".as_slice() => Some(
-            0,
-        ),
-        Err(OpenError::Config { line }) => Some(line),
-        Err(OpenError::Io) => Some(100),
-        _ => None,
+    let told = match &repo.reload(alloc, files) {
+        Ok(()) => None,
+        Err(refusal) => told_by(refusal),
     };
     let is_as_before = index_threads(&repo)? == Some(3);
-    Ok(refusal.filter(|_| is_as_before))
+    Ok(if is_as_before { told } else { None })
 }
 
 #[test]
