@@ -1,6 +1,6 @@
 //! Objects that collide.
 
-ghost use Rattle.std.specs.Prelude.{◌≡◌, ◌↔◌, IsTrue, IfOk, option_map};
+ghost use Rattle.std.specs.Prelude.{◌≡◌, IfOk, option_map};
 ghost use Rattle.std.specs.BTreeMap as tree;
 ghost use Rattle.std.specs.FinMap as map;
 ghost use Rattle.std.specs.Option.{option_copied};
@@ -11,7 +11,7 @@ ghost use Rattle.fetch_store.specs.Stores.{id_cmp, first_some, collision};
 
 use crate::error::NoMemory;
 use crate::fronts::are_apart;
-use crate::id::ObjectId;
+use crate::id::{ObjectId, same_id};
 use crate::object::{Object, ObjectRef};
 use crate::store::Store;
 use std::alloc::Global;
@@ -32,7 +32,10 @@ pub(crate) fn first_collision(
 }
 
 /// Where no id comes twice in the list, only the store can have another object.
-fn first_collision_of_distinct(store: &Store, objects: &[(ObjectId, Object)]) -> Option<ObjectId>
+pub(crate) fn first_collision_of_distinct(
+    store: &Store,
+    objects: &[(ObjectId, Object)],
+) -> Option<ObjectId>
     requires { HaveDistinctIds objects.now }
     ensures { result ≡ collision store.now.objects objects.now }
 {
@@ -100,17 +103,11 @@ fn find<'a>(objects: &'a [(ObjectId, Object)], id: &ObjectId) -> Option<&'a Obje
     ensures { option_copied result ≡ map.find id_cmp id.now objects.now }
 {
     for (other, object) in objects {
-        if is_same(id, other) {
+        if same_id(id, other) {
             return Some(object);
         }
     }
     None
-}
-
-fn is_same(id: &ObjectId, other: &ObjectId) -> bool
-    ensures { IsTrue result ↔ (id.now ≡ other.now) }
-{
-    *id == *other
 }
 
 /// Walks what came earlier in the list again for each object.

@@ -2,11 +2,9 @@
 
 ghost use Rattle.std.specs.Prelude.{◌≡◌, ◌↔◌, None, IfOk, IsOk, slice_get, option_map, if◌then◌else◌};
 ghost use Rattle.std.specs.FinMap as map;
-ghost use Rattle.fetch_store.specs.declared.object_kind.ObjectKind.TheVariants as objects;
 ghost use Rattle.fetch_store.specs.Closed as closed;
 ghost use Rattle.fetch_store.specs.Closed.{IsClosed, holding};
 ghost use Rattle.fetch_store.specs.Missing as spec;
-ghost use Rattle.fetch_store.specs.Objects.{is_kind};
 ghost use Rattle.fetch_store.specs.References.{seen, ids_left};
 ghost use Rattle.fetch_store.specs.Stores.{ObjectMap};
 
@@ -14,7 +12,6 @@ use crate::border::Border;
 use crate::error::StoreError;
 use crate::id::ObjectId;
 use crate::object::{Links, ObjectRef};
-use crate::object_kind::ObjectKind;
 use crate::store::Store;
 
 /// A link, and what it leads to.
@@ -126,13 +123,7 @@ fn is_commit(object: Option<ObjectRef<'_>>) -> bool
     ensures { result ≡ closed.is_commit (option_map seen object.entry) }
 {
     match object {
-        Some(object) => is_commit_kind(object.kind()),
+        Some(object) => object.kind().is_commit(),
         None => false,
     }
-}
-
-fn is_commit_kind(kind: ObjectKind) -> bool
-    ensures { result ≡ is_kind kind objects.Commit }
-{
-    matches!(kind, ObjectKind::Commit)
 }

@@ -1,7 +1,6 @@
-use Rattle.std.proofs.Common.{◌≡◌, Bool, Option, Some, sym, ap, ◌∙◌, cond, take, drop, ◌+◌}
+use Rattle.std.proofs.Common.{Bool, Some, sym, ap, ◌∙◌, cond, take, drop, ◌+◌}
 use Rattle.std.specs.Prelude.{option_map}
 use Rattle.std.specs.FinMap.{get}
-use Rattle.fetch_store.specs.Objects.{Stored}
 use Rattle.fetch_store.specs.References.{seen}
 use Rattle.fetch_store.specs.Stores.{add_all, collision, first_some}
 use Rattle.fetch_store.proofs.Additions.{collision_at, last_none}
