@@ -1,5 +1,5 @@
 -- Ids that their first bytes tell apart are distinct, and where ids are distinct, each comes for the first time.
-use Rattle.std.proofs.Common.{◌≡◌, ℕ, zero, suc, ◌<◌, Bool, true, false, cond, List, [], ◌∷◌, map, length, get_or, take, Option, Some, None, refl, sym, ap, subst, ◌∙◌, arith}
+use Rattle.std.proofs.Common.{◌≡◌, ◌≢◌, ℕ, zero, suc, ◌<◌, Bool, true, false, cond, List, [], ◌∷◌, map, length, get_or, take, Some, None, refl, sym, ap, subst, ◌∙◌, arith}
 use Rattle.std.specs.List.{AllByRecursion, IsDistinct}
 use Rattle.std.specs.List.Sorted.{IsPermutation, IsStrictlyIncreasing}
 use Rattle.std.specs.Ordering.{eq_by_cmp, nat_cmp, is_eq}
@@ -7,10 +7,11 @@ use Rattle.std.specs.Cmp.{Equal-is, tied_itself}
 use Rattle.std.specs.FinMap.{find}
 use Rattle.std.proofs.lemmas.Cmp.{eq_by_cmp_equiv, nat_cmp_total}
 use Rattle.std.proofs.lemmas.List.Sorted.{IsPermutation-sym}
-use Rattle.std.proofs.lemmas.Map.Keys.{IsDistinct-from_sorted, IsDistinct-IsPermutation, IsDistinct-head, IsDistinct-tail, IsDistinct-cons, sorted_from_strictly_increasing}
+use Rattle.std.proofs.lemmas.Map.Keys.{IsDistinct-from_sorted, IsDistinct-IsPermutation, sorted_from_strictly_increasing}
 use Rattle.fetch_store.specs.declared.id.ObjectId.{ObjectId}
 use Rattle.fetch_store.specs.Objects.{Stored}
 use Rattle.fetch_store.specs.Stores.{id_cmp, Entries}
+use Rattle.fetch_store.specs.Collisions.{HasDistinctIds}
 use Rattle.fetch_store.specs.Fronts.{front, HaveDistinctIds}
 use Rattle.fetch_store.proofs.Ids.{id_cmp_total, id_cmp_exact}
 
@@ -51,3 +52,18 @@ first_time (x ∷ es) (suc i) e apart lt is =
     differs [] j all lt is = absurd (omega (arith, lt))
     differs (y ∷ ys) zero all lt is = ap (λ (z : ObjectId × Stored). eq_by_cmp id_cmp x.0 z.0) is ∙ all.0
     differs (y ∷ ys) (suc j) all lt is = differs ys j all.1 (omega (arith, lt)) is
+
+-- ---- ids of a list in which none stands twice
+
+unequal : (a b : ObjectId) (t : Bool) → eq_by_cmp id_cmp a b ≡ t → a ≢ b → t ≡ false
+unequal a b false is other = refl
+unequal a b true is other = absurd (other (id_cmp_exact a b ((Equal-is (id_cmp a b)).0 is)))
+
+differ : (a : ObjectId × Stored) (es : Entries) → ((k : ℕ) (d : ObjectId × Stored) → k < length es → a.0 ≢ (get_or es k d).0) → AllByRecursion (λ y. eq_by_cmp id_cmp a.0 y ≡ false) (map (λ e. e.0) es)
+differ a [] h = tt
+differ a (e ∷ es) h = (unequal a.0 e.0 (eq_by_cmp id_cmp a.0 e.0) refl (h 0 e (omega arith)), differ a es (λ k d lt. h (suc k) d (omega (arith, lt))))
+
+pub distinct_ids : (es : Entries) → HasDistinctIds es → HaveDistinctIds es
+unfolding IsDistinct
+distinct_ids [] h = tt
+distinct_ids (e ∷ es) h = (differ e es (λ k d lt. h 0 (suc k) d (omega arith) (omega (arith, lt))), distinct_ids es (λ i j d lt below. h (suc i) (suc j) d (omega (arith, lt)) (omega (arith, below))))

@@ -1,9 +1,14 @@
 -- When an object differs from another one of its id, and which one is the first that does.
-use Rattle.std.specs.Prelude.{◌≡◌, ◌⊎◌, ◌∷◌, ◌++◌, Some, Contains}
+use Rattle.std.specs.Prelude.{◌≡◌, ◌≢◌, ◌⊎◌, ◌∷◌, ◌++◌, Some, Contains}
+use Rattle.std.specs.List.{AllPairs}
 use Rattle.std.specs.FinMap as map
 use Rattle.fetch_store.specs.declared.id.ObjectId.{ObjectId}
 use Rattle.fetch_store.specs.Objects.{Stored}
 use Rattle.fetch_store.specs.Stores.{ObjectMap, Entries}
+
+-- No id stands twice in the list.
+abbrev pub HasDistinctIds : Entries → Type 0
+HasDistinctIds es = AllPairs (λ a b. a.0 ≢ b.0) es
 
 -- The object stands at the id in the map or in the list.
 abbrev pub IsAt : ObjectMap → Entries → ObjectId → Stored → Type 0

@@ -4,6 +4,7 @@ ghost use Rattle.std.specs.Prelude.{map as listed, ◌≡◌, ◌↔◌, ◌+◌
 ghost use Rattle.std.specs.FinMap as map;
 ghost use Rattle.std.specs.List.Sorted.{IsStrictlySortedBy};
 ghost use Rattle.fetch_store.specs.Closed.{AreAllOf};
+ghost use Rattle.fetch_store.specs.Collisions.{HasDistinctIds};
 ghost use Rattle.fetch_store.specs.Iter.{left};
 ghost use Rattle.fetch_store.specs.Objects.{IsObject};
 ghost use Rattle.fetch_store.specs.References.{seen};
@@ -12,7 +13,7 @@ ghost use Rattle.fetch_store.specs.Stores.{id_cmp, AreOf, collision, payload_len
 ghost use Rattle.fetch_store.specs.declared.error.StoreError.TheVariants as errors;
 
 use crate::buffer::{self, add_new, lend};
-use crate::collisions::first_collision;
+use crate::collisions::{first_collision, first_collision_of_distinct};
 use crate::counter::Steps;
 use crate::entries::{find_counted, find_in_order};
 use crate::error::{NoMemory, StoreError};
@@ -162,6 +163,17 @@ impl Store {
         ensures { MatchOption (collision self.now.objects objects.now) (result ≡ Ok tt) (λ id. result ≡ Err (errors.Collision id)) }
     {
         match first_collision(*self.index.allocator(), self, objects) {
+            Some(id) => Err(StoreError::Collision { id }),
+            None => Ok(()),
+        }
+    }
+
+    /// The same, where no id comes twice in the list: only the store is asked. It takes no memory.
+    pub fn check_distinct(&self, objects: &[(ObjectId, Object)]) -> Result<(), StoreError>
+        requires { HasDistinctIds objects.now }
+        ensures { MatchOption (collision self.now.objects objects.now) (result ≡ Ok tt) (λ id. result ≡ Err (errors.Collision id)) }
+    {
+        match first_collision_of_distinct(self, objects) {
             Some(id) => Err(StoreError::Collision { id }),
             None => Ok(()),
         }
