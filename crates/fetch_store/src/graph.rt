@@ -14,6 +14,7 @@ use crate::id::ObjectId;
 use crate::object::{Object, ObjectRef, read_history};
 use crate::object_kind::ObjectKind;
 use crate::objects::{Objects, target};
+use crate::parents::Parents;
 use crate::store::Store;
 use std::alloc::Global;
 use std::marker::Model;
@@ -184,6 +185,13 @@ impl Objects for Graph {
         match self.get(id) {
             Some(node) => Some(node.kind),
             None => None,
+        }
+    }
+
+    fn parents(&self, id: &ObjectId) -> Parents<'_> {
+        match self.get(id) {
+            Some(node) => Parents::List(node.parents.as_slice()),
+            None => Parents::List(&[]),
         }
     }
 

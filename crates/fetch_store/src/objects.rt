@@ -1,16 +1,17 @@
 //! What histories are read from.
 
-ghost use Rattle.std.specs.Prelude.{◌≡◌, option_map};
+ghost use Rattle.std.specs.Prelude.{◌≡◌, [], option_map};
 ghost use Rattle.std.specs.FinMap as map;
 ghost use Rattle.std.specs.List.{slice_get};
-ghost use Rattle.std.specs.Option.{option_and_then};
+ghost use Rattle.std.specs.Option.{option_and_then, option_map_or};
 ghost use Rattle.fetch_store.specs.Graph.{Graph, graph_of, is_commit_at, target_of};
 ghost use Rattle.fetch_store.specs.Objects as spec;
-ghost use Rattle.fetch_store.specs.References.{seen};
+ghost use Rattle.fetch_store.specs.References.{seen, parents_left};
 
 use crate::id::ObjectId;
 use crate::object::ObjectRef;
 use crate::object_kind::ObjectKind;
+use crate::parents::Parents;
 use crate::store::Store;
 
 /// Objects by id, however they are kept.
@@ -26,7 +27,11 @@ pub trait Objects {
     fn kind_of(&self, id: &ObjectId) -> Option<ObjectKind>
         ensures { result ≡ option_map (λ n. n.kind) (map.get (graph self.now) id.now) };
 
-    /// A commit's parent at an index.
+    /// A commit's parents, in order, each read once. Other objects have none.
+    fn parents(&self, id: &ObjectId) -> Parents<'_>
+        ensures { parents_left result ≡ option_map_or (λ n. n.parents) (map.get (graph self.now) id.now) [] };
+
+    /// A commit's parent at an index. Those before it are read, too: who wants them all asks for `parents`.
     fn parent(&self, id: &ObjectId, index: usize) -> Option<ObjectId>
         ensures { result ≡ option_and_then (λ n. slice_get n.parents index) (map.get (graph self.now) id.now) };
 
@@ -60,6 +65,13 @@ impl Objects for Store {
         match self.get(id) {
             Some(object) => Some(object.kind()),
             None => None,
+        }
+    }
+
+    fn parents(&self, id: &ObjectId) -> Parents<'_> {
+        match self.get(id) {
+            Some(object) => Parents::Text(object.parents()),
+            None => Parents::List(&[]),
         }
     }
 
