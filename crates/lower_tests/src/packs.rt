@@ -1,5 +1,6 @@
 use fetch_pack::{
-    Gate, PackError, PackVersion, read_pack, read_pack_gated, write_pack, write_pack_of,
+    Gate, PackError, PackVersion, hash_pieces, read_pack, read_pack_gated, write_pack,
+    write_pack_of,
 };
 use fetch_store::{Kind, Object, ObjectId, ObjectKind, digest};
 use std::alloc::Global;
@@ -17,6 +18,9 @@ const EMPTY_DIGEST: &[u8] = b"251fc4e0480b1d3059e8ff9ce4fa99f225b03f30";
 
 /// The SHA-1 of the pack, in version 2, of the empty tree and that commit, by `sha1sum`.
 const LONG_DIGEST: &[u8] = b"2f866d939946488509348477f123b38e3dd83bc3";
+
+/// The SHA-256 of the pack, in version 1, of the empty tree and the blob `hi` with a line feed, by `sha256sum`.
+const DIGEST_256: &[u8] = b"db24557e120fe9d37c64514c136a21d0ab8c7b05944dfd94b3b390072af6dae0";
 
 /// The SHA-256 of the pack, in version 2, of the empty tree and the blob `hi` with a line feed, by `sha256sum`.
 const LONG_DIGEST_256: &[u8] = b"f01c11332cc544490075c898675bbccb1930f3bc1ca5ee7de7a7ddbb1929f4fd";
@@ -131,6 +135,23 @@ fn version_2_of_the_other_hash(rt: HostRuntime) -> Result<(), Fail> {
     Ok(())
 }
 
+#[test]
+fn version_1_of_the_other_hash(rt: HostRuntime) -> Result<(), Fail> {
+    let alloc = rt.alloc();
+    let tree = Object::parse(Kind::Sha256, ObjectKind::Tree, Vec::new(alloc))?;
+    let bytes = Vec::from_slice(alloc, b"hi\n")?;
+    let blob = Object::parse(Kind::Sha256, ObjectKind::Blob, bytes)?;
+    let objects = vec![in alloc; tree, blob]?;
+    let mut text = Vec::new(alloc);
+    let digest = write_pack(alloc, Kind::Sha256, objects.as_slice(), &mut text)?;
+    assert!(rt; text.len() == 57);
+    assert!(rt; digest == ObjectId::from_hex(DIGEST_256)?);
+
+    let pack = read_pack(&rt, alloc, Kind::Sha256, text.as_slice(), 1)?;
+    assert!(rt; pack.objects.len() == 2);
+    Ok(())
+}
+
 /// A body with its SHA-1 at the end.
 fn with_digest(alloc: Global, body: &[u8]) -> Result<Vec<u8>, Fail> {
     let mut text = Vec::from_slice(alloc, body)?;
@@ -225,5 +246,58 @@ fn two_pieces_are_hashed_at_once(rt: HostRuntime) -> Result<(), Fail> {
     let pack = read_pack_gated(&rt, alloc, Kind::Sha1, text.as_slice(), 2, &gate)?;
     assert!(rt; pack.objects.len() == 2);
     assert!(rt; gate.seen.load(Ordering::SeqCst) == 2);
+    Ok(())
+}
+
+/// How often each piece entered, by its index.
+#[derive(Drop)]
+struct Entered {
+    counts: Vec<AtomicU64>,
+    beyond: AtomicU64,
+}
+
+impl Gate for Entered {
+    fn enter(&self, piece: usize) {
+        let count = self.counts.get(piece).unwrap_or(&self.beyond);
+        count.fetch_add(1, Ordering::SeqCst);
+    }
+}
+
+/// How many pieces 70 objects are hashed in, or 999 where not each of them entered once, with its index from 0.
+fn pieces(rt: &(impl Threads + Sync), alloc: Global, threads: usize) -> Result<usize, Fail> {
+    let mut objects = Vec::new(alloc);
+    let mut counts = Vec::new(alloc);
+    for _ in 0..70u8 {
+        objects.push(Object::parse(Kind::Sha1, ObjectKind::Blob, Vec::new(alloc))?)?;
+        counts.push(AtomicU64::new(0))?;
+    }
+    let gate = Entered {
+        counts,
+        beyond: AtomicU64::new(0),
+    };
+    let ids = hash_pieces(rt, alloc, Kind::Sha1, objects.as_slice(), threads, &gate)?;
+    let mut once = ids.len() == 70 && gate.beyond.load(Ordering::SeqCst) == 0;
+    let mut pieces = 0;
+    for (piece, count) in gate.counts.iter().enumerate() {
+        match count.load(Ordering::SeqCst) {
+            0 => {}
+            1 => {
+                once = once && piece == pieces;
+                pieces = piece + 1;
+            }
+            _ => once = false,
+        }
+    }
+    Ok(if once { pieces } else { 999 })
+}
+
+/// One thread for 0 and 1; 24, 24 and 22 objects for 3; and two objects a piece for 100, since there are 64 pieces at most.
+#[test]
+fn each_piece_enters_the_gate_once(rt: HostRuntime) -> Result<(), Fail> {
+    let alloc = rt.alloc();
+    assert!(rt; pieces(&rt, alloc, 0)? == 1);
+    assert!(rt; pieces(&rt, alloc, 1)? == 1);
+    assert!(rt; pieces(&rt, alloc, 3)? == 3);
+    assert!(rt; pieces(&rt, alloc, 100)? == 35);
     Ok(())
 }
