@@ -12,7 +12,8 @@ use Rattle.fetch_pack.specs.Records.{Payload}
 use Rattle.fetch_pack.specs.Reading.{Contents, once_from}
 use Rattle.fetch_pack.specs.Views.{contents}
 use Rattle.fetch_pack.specs.Packs.{entries, IsPack, contents_of}
-use Rattle.fetch_pack.specs.Once.{AreNamed, HasDistinctIds}
+use Rattle.fetch_store.specs.Collisions.{HasDistinctIds}
+use Rattle.fetch_pack.specs.Once.{AreNamed}
 use Rattle.fetch_pack.proofs.Once.{once-each, once-distinct}
 
 -- What holds of the contents of every list of payloads holds of what was read.

@@ -13,7 +13,8 @@ use Rattle.fetch_store.specs.Stores.{id_cmp, Entries}
 use Rattle.fetch_store.proofs.Ids.{id_cmp_total, id_cmp_exact}
 use Rattle.fetch_store.proofs.Finds.{ties}
 use Rattle.fetch_pack.specs.Reading.{is_id, keep, once_from}
-use Rattle.fetch_pack.specs.Once.{HasDistinctIds, ids_of, KeepsEachOnce}
+use Rattle.fetch_store.specs.Collisions.{HasDistinctIds}
+use Rattle.fetch_pack.specs.Once.{ids_of, KeepsEachOnce}
 
 abbrev Entry : Type 0
 Entry = ObjectId × Stored

@@ -1,17 +1,13 @@
 -- What it says that each id of a list stands once, where it first comes.
-use Rattle.std.specs.Prelude.{◌≡◌, ◌≢◌, map, List, ◌++◌, Contains}
-use Rattle.std.specs.List.{AllPairs}
+use Rattle.std.specs.Prelude.{◌≡◌, map, List, ◌++◌, Contains}
 use Rattle.fetch_store.specs.declared.id.ObjectId.{ObjectId}
 use Rattle.fetch_store.specs.Hashing.{id_of}
 use Rattle.fetch_store.specs.Objects.{Stored}
+use Rattle.fetch_store.specs.Collisions.{HasDistinctIds}
 use Rattle.fetch_store.specs.Stores.{Entries}
 use Rattle.std.specs.List.{AllByRecursion}
 use Rattle.fetch_pack.specs.Reading.{once_from}
 use Rattle.std.specs.Prelude.{[]}
-
--- no id stands twice
-abbrev pub HasDistinctIds : Entries → Type 0
-HasDistinctIds os = AllPairs (λ a b. a.0 ≢ b.0) os
 
 -- The ids are the hashes of their objects.
 abbrev pub AreNamed : Entries → Type 0

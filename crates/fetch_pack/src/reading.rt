@@ -1,6 +1,7 @@
 //! Reading a pack.
 
 ghost use Rattle.std.specs.Prelude.{◌≡◌, ◌↔◌, ◌+◌, ◌-◌, ◌≤◌, length, List as Items, [], Ok, IfOk, IfErr, IfSome};
+ghost use Rattle.fetch_store.specs.Collisions.{HasDistinctIds};
 ghost use Rattle.fetch_store.specs.Stores.{AreOf, Entries};
 ghost use Rattle.fetch_pack.specs.Reading as spec;
 ghost use Rattle.fetch_pack.specs.Reading.{Gives};
@@ -8,7 +9,7 @@ ghost use Rattle.fetch_pack.specs.Records.{Payload, records};
 ghost use Rattle.fetch_pack.specs.Packs.{IsPack, contents_of};
 ghost use Rattle.fetch_pack.specs.Views.{frame, contents};
 ghost use Rattle.fetch_pack.specs.Refusals.{IsRefused};
-ghost use Rattle.fetch_pack.specs.Once.{AreNamed, HasDistinctIds, KeepsEachOnce};
+ghost use Rattle.fetch_pack.specs.Once.{AreNamed, KeepsEachOnce};
 ghost use Rattle.fetch_pack.specs.declared.version.PackVersion.{PackVersion as Version};
 ghost use Rattle.fetch_pack.specs.declared.version.PackVersion.TheVariants.{V2};
 

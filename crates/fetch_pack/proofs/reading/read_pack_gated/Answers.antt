@@ -4,7 +4,8 @@ use Rattle.fetch_pack.specs.Views.{contents}
 use Rattle.fetch_pack.proofs.Laws.{is_found, read_again}
 use Rattle.fetch_pack.proofs.Refused.{is_refused}
 use Rattle.fetch_pack.proofs.Members.{of_contents, once_of_kind, once_named, once_distinct}
-use Rattle.fetch_pack.specs.Once.{AreNamed, HasDistinctIds}
+use Rattle.fetch_store.specs.Collisions.{HasDistinctIds}
+use Rattle.fetch_pack.specs.Once.{AreNamed}
 use Rattle.fetch_store.specs.Stores.{AreOf}
 use Rattle.fetch_pack.proofs.reading.read_pack_gated.Goals as goal
 
