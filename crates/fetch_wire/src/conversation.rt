@@ -166,6 +166,14 @@ impl Session {
         }
     }
 
+    /// The references, handed over without a copy once the listing was read whole: the session has none behind it.
+    pub fn take_refs(&mut self) -> Option<List<Ref>>
+        ensures taken { result ≡ self.old.refs }
+        ensures left { self.new ≡ record self.old { refs = None } }
+    {
+        self.refs.take()
+    }
+
     /// The reply to the last request, once it was read whole.
     pub fn reply(&self) -> Option<&FetchReply>
         ensures { option_copied result ≡ self.now.reply }

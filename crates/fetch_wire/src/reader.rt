@@ -11,6 +11,7 @@ use crate::bound::ReplyBound;
 use crate::error::WireError;
 use crate::line::LineRef;
 use crate::section::{Trouble, line_in};
+use fetch_store::NoMemory;
 use std::alloc::Global;
 use std::marker::Model;
 
@@ -82,6 +83,18 @@ impl LineReader {
         ensures { result.now ≡ self.now.pending }
     {
         &self.bytes[self.start..]
+    }
+
+    /// An equal reader: what was read already isn't copied.
+    pub fn try_clone(&self) -> Result<LineReader, NoMemory>
+        ensures { IfOk result (λ copy. copy ≡ self.now) }
+    {
+        Ok(LineReader {
+            bytes: Vec::from_slice(self.allocator(), self.pending())?,
+            start: 0,
+            place: self.place,
+            bound: self.bound,
+        })
     }
 
     /// Takes the next bytes. Want of memory alone is an error, and leaves the reader as it was.
