@@ -18,7 +18,7 @@ use Rattle.fetch_conversation.specs.declared.conversing.Received.{Received}
 use Rattle.fetch_remote.specs.declared.fetch_error.FetchError.{FetchError}
 use Rattle.fetch_remote.specs.declared.outcome.Outcome.{Outcome}
 use Rattle.fetch_store.specs.Trees.{Tree}
-use Rattle.fetch_remote.specs.Fetched.{HasHeard, HasRead, IsJudged, IsLeft, IsKept, IsSafe, IsFetched, policy_at}
+use Rattle.fetch_remote.specs.Fetched.{HasHeard, HasRead, IsJudged, IsWritten, IsLeft, IsKept, IsSafe, IsFetched, policy_at}
 use Rattle.fetch_remote.specs.Fetching.{manner_in, taken_in, settled_in, settled_by, fetched_in, requests_in}
 use Rattle.fetch_remote.specs.Form.{Given}
 use Rattle.fetch_remote.specs.Judging.{IsTold, judged_of}
@@ -105,10 +105,18 @@ is_judged g trees before l r s u same judged =
       accepts = λ wet. rw p (accepts_exactly _ _ _ _ _ outcome wet);
       guesses = λ dry. rw p (guesses_exactly _ _ _ _ _ outcome dry);
       rejects = rw p (rejects_exactly _ _ _ _ _ outcome);
+      status = refl;
+    }
+
+is_written : (g : Given) (trees : List Worktree) (before : State) (l : ListedValue) (r : Option Received) (s : State) (u : Updates) → s.refs ≡ before.refs → judged_of (policy_in s (manner_in g) trees) l.ref_map ≡ Ok u
+    → IsWritten g trees before (moved_in g s u.edits) (at_outcome g l r u) u
+is_written g trees before l r s u same judged =
+    let p = policy_same g trees before s u.edits same in
+    let outcome = judged_is (policy_in s (manner_in g) trees) l.ref_map u judged in
+    record {
       carried = rw p (edits_carry_out _ _ _ _ _ outcome);
       says = rw p (edits_say _ _ _ _ _ outcome);
       turns = rw p (tells_type_changes _ _ _ _ _ outcome);
-      status = refl;
     }
 
 has_left : (dry : Bool) (packed : PackedRefs) (g : Given) (before : State) (wants : List ObjectId) (r : Option Received) (s : State) (u : Updates) → taken before wants (brought dry r) ≡ Ok s
@@ -152,6 +160,7 @@ fetched_with answers old new known files left g trees before l r rest s u listed
       trees = trees;
       listed_trees = listed;
       judged = is_judged g trees before l r s u (takes before _ _ s took).refs judged;
+      written = is_written g trees before l r s u (takes before _ _ s took).refs judged;
       left = has_left g.options.dry_run (manner_in g).packed g before _ r s u took;
       kept = is_kept g files left l r u kept;
       safe = is_safe g before l.ref_map r s u took none;

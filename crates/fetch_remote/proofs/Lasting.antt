@@ -240,7 +240,7 @@ pub others_stay : (answers : Bool) (old new : Option Talk) (known : Option (List
 others_stay answers old new known files files_left g before after outcome h name none =
     let same = updates_are answers old new known files files_left g before after outcome h in
     let j = h.judged in
-    rw h.left.refs (kept_name g.options.dry_run (policy_at g h.trees before after) outcome.ref_map.refspecs outcome.ref_map.extra_refspecs outcome.ref_map.mappings j.updates name j.carried j.one_each (rw same at none))
+    rw h.left.refs (kept_name g.options.dry_run (policy_at g h.trees before after) outcome.ref_map.refspecs outcome.ref_map.extra_refspecs outcome.ref_map.mappings j.updates name h.written.carried j.one_each (rw same at none))
 
 pub new_ids_stay : (answers : Bool) (old new : Option Talk) (known : Option (List Worktree)) (files files_left : Option Tree) (g : Given) (before after : State) (outcome : Outcome) → IsFetched answers old new known files files_left g before after outcome
     → g.options.dry_run ≡ false → (e : RefEdit) (id : ObjectId) → Contains (updates_in outcome.status).edits e → gives e ≡ Some (targets.Object id) → finmap.get before.refs.names e.name ≢ Some (targets.Object id) → IsStored after.objects id

@@ -81,13 +81,17 @@ pub record IsJudged (g : Given) (trees : List Worktree) (before after : State) (
   pub guesses : g.options.dry_run ≡ true → GuessesExactly (policy_at g trees before after) outcome.ref_map.refspecs outcome.ref_map.extra_refspecs outcome.ref_map.mappings updates
   -- It tells a rejecting mode exactly where that mode's row holds.
   pub rejects : RejectsExactly (policy_at g trees before after) outcome.ref_map.refspecs outcome.ref_map.extra_refspecs outcome.ref_map.mappings updates
-  -- Each edit expects what was found, and writes what the remote has.
-  pub carried : EditsCarryOut (policy_at g trees before after) outcome.ref_map.mappings updates
-  -- What reflogs get to say of it is what its row says, and a change from symbolic to direct is told.
-  pub says : EditsSay (policy_at g trees before after) outcome.ref_map.refspecs outcome.ref_map.extra_refspecs outcome.ref_map.mappings updates
-  pub turns : TellsTypeChanges (policy_at g trees before after) updates
   -- The outcome tells the pack, the rounds and the updates.
   pub status : outcome.status ≡ status_of g.setup.settings.git_dir g.options.dry_run received updates
+
+-- What is written for the mappings.
+pub record IsWritten (g : Given) (trees : List Worktree) (before after : State) (outcome : Outcome) (updates : Updates) : Type 0 where
+  -- Each edit expects what was found, and writes what the remote has.
+  pub carried : EditsCarryOut (policy_at g trees before after) outcome.ref_map.mappings updates
+  -- What reflogs get to say of it is what its row says.
+  pub says : EditsSay (policy_at g trees before after) outcome.ref_map.refspecs outcome.ref_map.extra_refspecs outcome.ref_map.mappings updates
+  -- A change from symbolic to direct is told, and nothing else is.
+  pub turns : TellsTypeChanges (policy_at g trees before after) updates
 
 -- ---- what is left
 
@@ -155,6 +159,7 @@ pub record IsFetched (answers : Bool) (old new : Option Talk) (known : Option (L
   pub trees : List Worktree
   pub listed_trees : IsTold known trees
   pub judged : IsJudged g trees before after read.received outcome
+  pub written : IsWritten g trees before after outcome judged.updates
   pub left : IsLeft g.options.dry_run (manner_in g).packed g.setup before after read.received judged.updates
   pub kept : IsKept g files files_left read.received judged.updates outcome
   pub safe : IsSafe g before after outcome.ref_map

@@ -29,10 +29,10 @@ ghost use Rattle.fetch_remote.specs.Settling.{connected, pack_of};
 ghost use Rattle.fetch_remote.specs.Stages.{wants_in};
 ghost use Rattle.fetch_remote.specs.declared.outcome.Outcome.{Outcome};
 
-/// What a peer is sent is the first line, then the listing request, each once at most, then the fetch requests for what is
-/// wanted, one a round, and nothing else.
+/// What a peer is sent is the first line, the listing request, and then the fetch requests for what is wanted of what it
+/// listed, one a round, each exactly where nothing refuses it; and nothing else.
 pub fn a_fetch_asks_in_order()
-    ensures { (g : Given) (s : State) (stream : List ℕ) → AsksInOrder g s (requests_in g s stream) }
+    ensures { (g : Given) (s : State) (stream : List ℕ) → AsksInOrder g s stream (requests_in g s stream) }
 {}
 
 /// A pack that is honest for what a fetch wants and for the haves of all its rounds is never told as disconnected in a
