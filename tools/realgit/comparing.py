@@ -9,6 +9,7 @@ from realgit.realfetch import RealFetch, fetch, shortened
 from realgit.reasons import NOT_SENT, reason_for
 from realgit.report import Report
 from realgit.repository import Repository
+from realgit.scene import read_scene
 from realgit.server import Server
 
 NOTHING = "nothing"
@@ -38,11 +39,16 @@ class Difference:
 
 @dataclass
 class Fetched:
-    """A pair, and both fetches of it. `refusal` tells why the server refused the engine, if it did."""
+    """A pair, and both fetches of it.
+
+    `refusal` tells why the server refused the engine, if it did. `theirs` are the server's references, and `before` the
+    client's as they were.
+    """
 
     pair: Pair
     scene: bytes
     refusal: str | None
+    theirs: dict[str, str]
     before: dict[str, str]
     border_before: list[str]
     real: RealFetch
@@ -81,6 +87,15 @@ class Fetched:
         """The ids of the annotated tags."""
         return {each.id for each in self.pair.history.objects if each.kind == "tag"}
 
+    def stored_before(self):
+        """The ids of the objects that the client had."""
+        return {each.id for each in read_scene(self.scene).objects}
+
+    def id_of(self, mapping):
+        """The id that a mapping's source stands for at the server, or None where it has none."""
+        digits = self.theirs.get(mapping.source)
+        return self.theirs.get(digits[1:]) if digits is not None and digits.startswith("@") else digits
+
 
 def key_of(mapping):
     """The source and the destination of a mapping as Git tells them."""
@@ -111,6 +126,6 @@ def compare(pair, engine):
     server = Server(Repository(pair.server))
     converse(scene, server, engine)
     report = engine.fetch(scene.to_bytes())
-    client = Repository(pair.client)
+    client, theirs = Repository(pair.client), Repository(pair.server).references()
     before, border = client.references(), client.border()
-    return Fetched(pair, scene.to_bytes(), server.refusal, before, border, fetch(client, pair), report)
+    return Fetched(pair, scene.to_bytes(), server.refusal, theirs, before, border, fetch(client, pair), report)

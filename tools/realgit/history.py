@@ -56,3 +56,23 @@ class History:
         self.clock += 1
         head = f"object {target}\ntype commit\ntag {name}\ntagger {PERSON} {self.clock} +0000\n\n"
         return self.add("tag", f"{head}tag of {name}\n".encode())
+
+    def links(self):
+        """What each commit and each tag names directly: a commit its parents, and a tag its object."""
+        return {each.id: _named(each) for each in self.objects if each.kind in ("commit", "tag")}
+
+    def reached(self, ids):
+        """These ids with all commits and tags behind them."""
+        links, found, rest = self.links(), set(), list(ids)
+        while rest:
+            digits = rest.pop()
+            if digits not in found and digits is not None:
+                found.add(digits)
+                rest.extend(links.get(digits, []))
+        return found
+
+
+def _named(each):
+    head = each.data.decode().partition("\n\n")[0]
+    word = "parent" if each.kind == "commit" else "object"
+    return [line.partition(" ")[2] for line in head.split("\n") if line.startswith(f"{word} ")]

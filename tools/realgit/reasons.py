@@ -43,6 +43,51 @@ def _comes_by_itself(difference, fetched):
     return _is_implicit(mapping, fetched) and mapping.mode == NOT_SENT and fetched.real_mode(mapping) == NEW
 
 
+def _is_behind_rejection(difference, fetched):
+    """A tag that Git would ask for in a second request, which it doesn't make where a reference was rejected."""
+    mapping = fetched.mapping_of(difference)
+    if not _is_new_here_alone(mapping, fetched):
+        return False
+    is_rejected = any(mode.startswith("rejected") for mode in fetched.real.verdicts.values())
+    told = {fetched.id_of(each) for each in fetched.report.mappings if fetched.real_mode(each) is not None}
+    return is_rejected and not _target(mapping, fetched) & (fetched.stored_before() | told)
+
+
+def _is_behind_symbolic(difference, fetched):
+    """A tag that only the history of references brings that a star leads to symbolic destinations."""
+    mapping = fetched.mapping_of(difference)
+    if not _is_new_here_alone(mapping, fetched):
+        return False
+    written = [each for each in fetched.report.mappings if not _is_implicit(each, fetched)]
+    passed_over = [each for each in written if _names_another(each.destination, fetched) and not fetched.real_mode(each)]
+    others = [fetched.id_of(each) for each in written if each not in passed_over]
+    history, target = fetched.pair.history, _target(mapping, fetched)
+    behind = history.reached(fetched.id_of(each) for each in passed_over)
+    return bool(target & behind) and not target & (history.reached(others) | fetched.stored_before())
+
+
+def _is_new_here_alone(mapping, fetched):
+    """Whether a mapping is a tag by itself that is new here, and that Git doesn't tell."""
+    return _is_implicit(mapping, fetched) and mapping.mode == NEW and fetched.real_mode(mapping) is None
+
+
+def _target(mapping, fetched):
+    """The id of a tag, and what it peels to."""
+    digits = fetched.id_of(mapping)
+    return {digits, *fetched.pair.history.links()[digits]} if digits in fetched.tags() else {digits}
+
+
+def _names_another(name, fetched):
+    """Whether a reference of the client was symbolic."""
+    return fetched.before.get(name, "").startswith("@")
+
+
+def _is_endless(_, fetched):
+    """A symbolic destination whose names lead to no object, which refuses the whole fetch here alone."""
+    token, _, rest = (fetched.report.refused or "").partition(" ")
+    return token == "PeelToId" and _names_another(rest.partition(" ")[0], fetched) and fetched.real.refused is None
+
+
 def _is_implicit(mapping, fetched):
     """Whether a mapping is there since tags are included."""
     if mapping is None or fetched.pair.tags != "included":
@@ -71,7 +116,7 @@ def _is_nested(difference, fetched):
 def _is_symbolic(difference, fetched):
     """A destination that stands for a name, or the name that it stands for."""
     symbolic = {each.destination: fetched.before[each.destination][1:] for each in fetched.report.mappings
-                if fetched.before.get(each.destination, "").startswith("@")}
+                if _names_another(each.destination, fetched)}
     names = {*symbolic.keys(), *symbolic.values()}
     mapping = fetched.mapping_of(difference)
     return difference.key in names or mapping is not None and mapping.destination in names
@@ -126,9 +171,12 @@ REASONS = {
     "A checked-out branch": _is_checked_out,
     "A source that matches nothing": _has_no_source,
     "A border commit that isn't sent": _has_border_commit_unsent,
+    "A symbolic destination that leads nowhere": _is_endless,
     "Dry runs": _is_guessed,
     "Tags that are there, and refspecs without destination": _is_followed,
     "Tags that come in one request": _comes_by_itself,
+    "Tags beside a rejected reference": _is_behind_rejection,
+    "Tags behind a symbolic destination": _is_behind_symbolic,
     "An annotated tag outside `refs/tags/`": _is_tag_elsewhere,
     "A name and another below it": _is_nested,
     "A symbolic destination": _is_symbolic,
