@@ -192,8 +192,8 @@ conversation_asks g s stream =
     record {
       fetch = sent_behind (bound_of g) (receiving_stage g s) (map_refusal preparing found);
       are = sent_then (bound_of g) c (receiving_stage g s) stream
-        ∙ ap (λ (a : Result (ListedValue × List ℕ) FetchError). sent_in (bound_of g) c stream ++ sent_behind (bound_of g) (receiving_stage g s) a) told_found
-        ∙ ap (λ (l : List Line). l ++ sent_behind (bound_of g) (receiving_stage g s) (map_refusal preparing found)) (sent_as (bound_of g) preparing (listing_stage g) stream ∙ lists g stream);
+          ∙ ap (λ (a : Result (ListedValue × List ℕ) FetchError). sent_in (bound_of g) c stream ++ sent_behind (bound_of g) (receiving_stage g s) a) told_found
+          ∙ ap (λ (l : List Line). l ++ sent_behind (bound_of g) (receiving_stage g s) (map_refusal preparing found)) (sent_as (bound_of g) preparing (listing_stage g) stream ∙ lists g stream);
       are_fetch = behind_asks g s found;
     }
 
