@@ -6,7 +6,7 @@ ghost use Rattle.fetch_store.specs.Objects.{is_kind};
 ghost use Rattle.fetch_store.specs.declared.object_kind.ObjectKind.TheVariants as object_kinds;
 ghost use Rattle.fetch_update.specs.Dated.{IsCommit, HasDatedPath};
 
-use fetch_store::{Kind, NoMemory, Object, ObjectId, ObjectKind, Objects, Steps, Store};
+use fetch_store::{Kind, NoMemory, Object, ObjectId, ObjectKind, Objects, Parents, Steps, Store};
 use fetch_update::laws::is_dated_ancestor;
 use std::alloc::Global;
 use std::cell::Cell;
@@ -157,6 +157,10 @@ impl Objects for Counting {
 
     fn kind_of(&self, id: &ObjectId) -> Option<ObjectKind> {
         self.store.kind_of(id)
+    }
+
+    fn parents(&self, id: &ObjectId) -> Parents<'_> {
+        self.store.parents(id)
     }
 
     fn parent(&self, id: &ObjectId, index: usize) -> Option<ObjectId> {
