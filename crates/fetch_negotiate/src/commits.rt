@@ -136,11 +136,9 @@ fn parents<O: Objects>(alloc: Global, objects: &O, id: &ObjectId) -> Result<Vec<
     ensures { IfOk result (λ parents. parents.items ≡ parents_in (O.graph objects.now) id.now) }
 {
     let mut parents = Vec::new(alloc);
-    for index in 0..usize::MAX {
-        match objects.parent(id, index) {
-            Some(parent) => parents.push(parent)?,
-            None => return Ok(parents),
-        }
+    let mut left = objects.parents(id);
+    while let Some(parent) = left.next() {
+        parents.push(parent)?;
     }
-    Err(NoMemory)
+    Ok(parents)
 }

@@ -1,8 +1,19 @@
-use Rattle.std.proofs.Common.{◌∙◌}
-use Rattle.fetch_negotiate.proofs.Finding.{next_parent}
+use Rattle.std.proofs.Common.{List, ◌++◌, [], ◌∷◌, sym, ap, ◌∙◌, append_assoc}
+use Rattle.std.proofs.lemmas.List.{append-nil}
+use Rattle.fetch_store.specs.declared.id.ObjectId.{ObjectId}
+use Rattle.fetch_store.specs.References.{parents_left}
 use Rattle.fetch_negotiate.proofs.commits.parents.Goals as goal
 
-pub loop-index-preserved : goal.loop-index-preserved
-loop-index-preserved g c =
-    c.in_ok-push-in-Some.ensures.items
-    ∙ next_parent (g.O.Objects.graph c.args.objects.now) c.args.id.now c.loop-index.parents.items c.loop-index.index c.in-Some.parent c.loop-index.invariant c.in-Some.ensures
+pub loop-parent-preserved : goal.loop-parent-preserved
+loop-parent-preserved g c =
+    let rest = parents_left c.next.new.self in
+    ap (λ (ps : List ObjectId). ps ++ rest) c.in_ok-push.ensures.items
+    ∙ append_assoc c.loop-parent.parents.items (c.in-Some.parent ∷ []) rest
+    ∙ ap (λ (ps : List ObjectId). c.loop-parent.parents.items ++ ps) (sym c.in-Some.ensures.steps)
+    ∙ c.loop-parent.invariant
+
+pub returns : goal.returns
+returns g c =
+    sym (append-nil c.loop-parent.parents.items)
+    ∙ ap (λ (ps : List ObjectId). c.loop-parent.parents.items ++ ps) (sym c.in_default.ensures.steps.0)
+    ∙ c.loop-parent.invariant
