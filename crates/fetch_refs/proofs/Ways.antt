@@ -19,7 +19,8 @@ use Rattle.fetch_refs.specs.declared.error.RefError.{RefError}
 use Rattle.fetch_refs.specs.declared.error.RefError.TheVariants as errors
 use Rattle.fetch_refs.specs.declared.target.Target.{Target}
 use Rattle.fetch_refs.specs.declared.target.Target.TheVariants.{Symbolic}
-use Rattle.fetch_refs.specs.Answers.{Answers}
+use Rattle.fetch_store.specs.Answers.{AnswersUnless}
+use Rattle.fetch_refs.specs.Answers.{is_memory}
 use Rattle.fetch_refs.specs.Names.{Names}
 use Rattle.fetch_refs.specs.Peeled.{is_met, is_met_id, read, open_tag, follow, through, and_then, peeled}
 
@@ -148,7 +149,7 @@ peeled-symbolic names given graph name bytes next same also is =
     ∙ ap (λ (n : List ℕ). and_then (follow names 4 (n ∷ []) next) (through graph (finmap.len graph) [])) (sym also)
 
 -- a refusal of the first of two ways
-pub answers-first : (expected first : Result ObjectId RefError) (next : ObjectId → Result ObjectId RefError) (e : RefError) → expected ≡ and_then first next → Answers first (Err e) → Answers {X = ObjectId} expected (Err e)
+pub answers-first : (expected first : Result ObjectId RefError) (next : ObjectId → Result ObjectId RefError) (e : RefError) → expected ≡ and_then first next → AnswersUnless is_memory first (Err e) → AnswersUnless {A = ObjectId} is_memory expected (Err e)
 answers-first expected first next (errors.Expectation index found) same h = same ∙ ap (λ r. and_then r next) h
 answers-first expected first next (errors.Cycle name) same h = same ∙ ap (λ r. and_then r next) h
 answers-first expected first next (errors.Depth name) same h = same ∙ ap (λ r. and_then r next) h
@@ -158,5 +159,5 @@ answers-first expected first next (errors.TagCycle id) same h = same ∙ ap (λ 
 answers-first expected first next errors.NoMemory same h = tt
 
 -- an answer that is the same
-pub same_answer : (a b : Result ObjectId RefError) (found : Result ObjectId RefError) → b ≡ a → Answers a found → Answers b found
-same_answer a b found same h = subst (λ (e : Result ObjectId RefError). Answers e found) (sym same) h
+pub same_answer : (a b : Result ObjectId RefError) (found : Result ObjectId RefError) → b ≡ a → AnswersUnless is_memory a found → AnswersUnless is_memory b found
+same_answer a b found same h = subst (λ (e : Result ObjectId RefError). AnswersUnless is_memory e found) (sym same) h

@@ -8,7 +8,6 @@ ghost use Rattle.fetch_refs.specs.Packing.{line_if, same_option, keeps_packed};
 
 use crate::contents::Contents;
 use crate::slot::Slot;
-use crate::target::is_same_id;
 use crate::undo::Undo;
 use fetch_specs::FullName;
 use fetch_store::{NoMemory, ObjectId, Text};
@@ -69,11 +68,12 @@ fn keeps(contents: &Contents, change: &Undo) -> bool
     }
 }
 
+#[tactic(auto, using(fetch_store::proofs::Orders::eq_is))]
 fn is_same(id: Option<ObjectId>, other: Option<ObjectId>) -> bool
     ensures { result ≡ same_option id other }
 {
     match (id, other) {
-        (Some(id), Some(other)) => is_same_id(&id, &other),
+        (Some(id), Some(other)) => id == other,
         (None, None) => true,
         (None, Some(_)) => false,
         (Some(_), None) => false,

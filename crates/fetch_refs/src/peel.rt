@@ -4,7 +4,8 @@ ghost use Rattle.std.specs.Prelude.{◌≡◌, [], ◌∷◌, map, Err};
 ghost use Rattle.std.specs.List.{list_any};
 ghost use Rattle.std.specs.Str.{bytes_eq};
 ghost use Rattle.std.specs.FinMap as finmap;
-ghost use Rattle.fetch_refs.specs.Answers.{Answers};
+ghost use Rattle.fetch_store.specs.Answers.{AnswersUnless};
+ghost use Rattle.fetch_refs.specs.Answers.{is_memory};
 ghost use Rattle.fetch_refs.specs.declared.error.RefError.TheVariants as errors;
 ghost use Rattle.fetch_refs.specs.Peeled.{is_met, follow, resolved, through, peeled};
 ghost use Rattle.fetch_refs.specs.Targets.{seen};
@@ -22,7 +23,7 @@ impl Refs {
     /// leads to, with tags peeled.
     #[tactic(auto, unfolding(crate::specs::Peeled::peeled))]
     pub fn peel<O: Objects>(&self, objects: &O, name: &FullName) -> Result<ObjectId, RefError>
-        ensures { Answers (peeled self.now.names (O.graph objects.now) name.now) result }
+        ensures { AnswersUnless is_memory (peeled self.now.names (O.graph objects.now) name.now) result }
     {
         match self.find(name) {
             None => unborn(name),
@@ -36,7 +37,7 @@ impl Refs {
 
     /// The id that a reference of `iter` leads to by names, else `Unborn`, `Cycle` or `Depth`.
     pub fn resolve(&self, name: &[u8], target: TargetRef<'_>) -> Result<ObjectId, RefError>
-        ensures { Answers (resolved self.now.names name.now (seen target.entry)) result }
+        ensures { AnswersUnless is_memory (resolved self.now.names name.now (seen target.entry)) result }
     {
         match target {
             TargetRef::Object(id) => Ok(id),
@@ -46,7 +47,7 @@ impl Refs {
 }
 
 fn unborn(name: &FullName) -> Result<ObjectId, RefError>
-    ensures { Answers (Err (errors.Unborn name.now)) result }
+    ensures { AnswersUnless is_memory (Err (errors.Unborn name.now)) result }
 {
     Err(RefError::Unborn {
         name: name.try_clone()?,
@@ -55,7 +56,7 @@ fn unborn(name: &FullName) -> Result<ObjectId, RefError>
 
 /// The id at the end of a way of symbolic references, of which one was met.
 fn end_of_names(refs: &Refs, first: &[u8], next: &FullName) -> Result<ObjectId, RefError>
-    ensures { Answers (follow refs.now.names 4 (first.now ∷ []) next.now) result }
+    ensures { AnswersUnless is_memory (follow refs.now.names 4 (first.now ∷ []) next.now) result }
 {
     let mut met: Vec<&[u8]> = Vec::new(refs.allocator());
     met.push(first)?;
@@ -84,7 +85,7 @@ fn end_of_names(refs: &Refs, first: &[u8], next: &FullName) -> Result<ObjectId, 
 }
 
 fn cycle(name: &FullName) -> Result<ObjectId, RefError>
-    ensures { Answers (Err (errors.Cycle name.now)) result }
+    ensures { AnswersUnless is_memory (Err (errors.Cycle name.now)) result }
 {
     Err(RefError::Cycle {
         name: name.try_clone()?,
@@ -109,7 +110,7 @@ pub fn peel_tags<O: Objects>(
     objects: &O,
     first: ObjectId,
 ) -> Result<ObjectId, RefError>
-    ensures { Answers (through (O.graph objects.now) (finmap.len (O.graph objects.now)) [] first) result }
+    ensures { AnswersUnless is_memory (through (O.graph objects.now) (finmap.len (O.graph objects.now)) [] first) result }
 {
     let mut met: BTreeSet<ObjectId> = BTreeSet::new(alloc);
     let mut id = first;

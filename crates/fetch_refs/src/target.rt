@@ -1,14 +1,12 @@
 //! What a reference points to.
 
 ghost use Rattle.std.specs.Prelude.{◌≡◌, IfOk};
-ghost use Rattle.std.specs.Ordering.{eq_by_cmp};
-ghost use Rattle.fetch_store.specs.Stores.{id_cmp};
 ghost use Rattle.fetch_refs.specs.Packed.{direct_id};
 ghost use Rattle.fetch_refs.specs.Targets as spec;
 ghost use Rattle.fetch_refs.specs.Targets.{seen};
 
 use fetch_specs::FullName;
-use fetch_store::{NoMemory, ObjectId, same_id};
+use fetch_store::{NoMemory, ObjectId};
 
 /// An object, or the name of another reference.
 #[derive(Debug, PartialEq, Eq, Drop)]
@@ -72,20 +70,14 @@ impl TargetRef<'_> {
     }
 
     /// Whether it is that target.
+    #[tactic(auto, using(fetch_store::proofs::Orders::eq_is))]
     pub(crate) fn is_same(&self, other: &Target) -> bool
         ensures { result ≡ spec.is_same (seen self.now) other.now }
     {
         match (self, other) {
-            (TargetRef::Object(id), Target::Object(wanted)) => is_same_id(id, wanted),
+            (TargetRef::Object(id), Target::Object(wanted)) => *id == *wanted,
             (TargetRef::Symbolic(name), Target::Symbolic(wanted)) => **name == *wanted,
             _ => false,
         }
     }
-}
-
-/// Whether two ids are one.
-pub(crate) fn is_same_id(id: &ObjectId, other: &ObjectId) -> bool
-    ensures { result ≡ eq_by_cmp id_cmp id.now other.now }
-{
-    same_id(id, other)
 }
