@@ -12,7 +12,7 @@ use Rattle.std.proofs.lemmas.Option.{slice_get_within, get_or_from_slice_get}
 use Rattle.fetch_store.specs.declared.id.ObjectId.{ObjectId}
 use Rattle.fetch_store.specs.declared.object_kind.ObjectKind.{ObjectKind}
 use Rattle.fetch_store.specs.declared.object_kind.ObjectKind.TheVariants as objects
-use Rattle.fetch_store.specs.Graph.{Graph, Node}
+use Rattle.fetch_store.specs.Graph.{Graph, Node, is_commit_at}
 use Rattle.fetch_store.specs.Objects.{is_kind}
 use Rattle.fetch_store.specs.Stores.{id_cmp}
 use Rattle.std.specs.declared.cmp.Ordering.{Ordering}
@@ -23,18 +23,31 @@ use Rattle.fetch_negotiate.specs.declared.commits.Commit.{Commit}
 use Rattle.fetch_negotiate.specs.Commits.{commit_of, commit_in, parents_in}
 use Rattle.fetch_negotiate.specs.Reading.{Table, IsTold, Grows, read_in}
 
-none_is : (o : Option Node) (k : Option ObjectKind) → k ≡ option_map (λ (n : Node). n.kind) o → (b : Bool) → b ≡ option_map_or (λ (q : ObjectKind). is_kind q objects.Commit) k false → b ≡ is_some (option_and_then commit_in o)
-none_is None k is b tested = tested ∙ ap (λ q. option_map_or (λ (q : ObjectKind). is_kind q objects.Commit) q false) is
-none_is (Some n) k is b tested = tested ∙ ap (λ q. option_map_or (λ (q : ObjectKind). is_kind q objects.Commit) q false) is ∙ chosen (is_kind n.kind objects.Commit) _
+next_in : (xs items : List ObjectId) (i : ℕ) (p : ObjectId) → items ≡ take i xs → Some p ≡ slice_get xs i → items ++ p ∷ [] ≡ take (i + 1) xs
+next_in xs items i p so_far is =
+    let lt : i < length xs = slice_get_within xs i p (sym is) in
+    ap (λ ps. ps ++ p ∷ []) so_far ∙ ap (λ q. take i xs ++ q ∷ []) (sym (get_or_from_slice_get xs i p p (sym is))) ∙ sym (take_more xs i p lt)
+
+of_node : (o : Option Node) (i : ℕ) → option_and_then (λ (n : Node). slice_get n.parents i) o ≡ slice_get (option_map_or (λ (n : Node). n.parents) o []) i
+of_node None i = refl
+of_node (Some n) i = refl
+
+-- one more parent
+pub next_parent : (g : Graph) (id : ObjectId) (items : List ObjectId) (i : ℕ) (p : ObjectId) → items ≡ take i (parents_in g id) → Some p ≡ option_and_then (λ (n : Node). slice_get n.parents i) (map.get g id) → items ++ p ∷ [] ≡ take (i + 1) (parents_in g id)
+next_parent g id items i p so_far is = next_in (parents_in g id) items i p so_far (is ∙ of_node (map.get g id) i)
+
+by_node : (o : Option Node) → option_map_or (λ (n : Node). is_kind n.kind objects.Commit) o false ≡ is_some (option_and_then commit_in o)
+by_node None = refl
+by_node (Some n) = chosen (is_kind n.kind objects.Commit) _
   where
     chosen : (b : Bool) (c : Commit) → b ≡ is_some (cond b (Some c) None)
     chosen true c = refl
     chosen false c = refl
 
--- whether a kind tells a stored commit
-pub tells : (g : Graph) (id : ObjectId) (k : Option ObjectKind) → k ≡ option_map (λ (n : Node). n.kind) (map.get g id) → (b : Bool) → b ≡ option_map_or (λ (q : ObjectKind). is_kind q objects.Commit) k false → b ≡ is_some (commit_of g id)
+-- whether a commit stands at an id
+pub commit_test : (g : Graph) (id : ObjectId) → is_commit_at g id ≡ is_some (commit_of g id)
 unfolding commit_of
-tells g id k is b tested = none_is (map.get g id) k is b tested
+commit_test g id = by_node (map.get g id)
 
 no_commit : (o : Option Commit) → is_some o ≡ false → None ≡ o
 no_commit None e = refl

@@ -3,13 +3,11 @@
 ghost use Rattle.std.specs.Prelude.{◌≡◌, IfOk, OnOk, Some, is_some, option_map};
 ghost use Rattle.std.specs.BTreeMap.{insert_entry};
 ghost use Rattle.fetch_store.specs.declared.id.ObjectId.{ObjectId};
-ghost use Rattle.fetch_store.specs.declared.object_kind.ObjectKind.TheVariants as objects;
-ghost use Rattle.fetch_store.specs.Objects.{is_kind};
 ghost use Rattle.fetch_store.specs.Stores.{id_cmp};
 ghost use Rattle.fetch_negotiate.specs.Commits.{commit_of, parents_in};
 ghost use Rattle.fetch_negotiate.specs.Reading.{Grows, IsTold, read_in};
 
-use fetch_store::{List, NoMemory, ObjectId, ObjectKind, Objects};
+use fetch_store::{List, NoMemory, ObjectId, Objects};
 use std::alloc::Global;
 use std::collections::BTreeMap;
 
@@ -96,6 +94,7 @@ fn recall(table: &Table, id: &ObjectId) -> Option<bool>
     }
 }
 
+#[tactic(auto, using(crate::proofs::Finding::commit_test))]
 fn commit_read<O: Objects>(
     alloc: Global,
     objects: &O,
@@ -103,7 +102,7 @@ fn commit_read<O: Objects>(
 ) -> Result<Option<Commit>, NoMemory>
     ensures { IfOk result (λ found. found ≡ commit_of (O.graph objects.now) id.now) }
 {
-    if !is_commit(objects, id) {
+    if !objects.is_commit(id) {
         return Ok(None);
     }
     let parents = parents(alloc, objects, id)?;
@@ -112,24 +111,6 @@ fn commit_read<O: Objects>(
         seconds,
         parents: List::from(parents),
     }))
-}
-
-pub(crate) fn is_commit<O: Objects>(objects: &O, id: &ObjectId) -> bool
-    ensures { result ≡ is_some (commit_of (O.graph objects.now) id.now) }
-{
-    match objects.kind_of(id) {
-        Some(kind) => names_commits(kind),
-        None => false,
-    }
-}
-
-fn names_commits(kind: ObjectKind) -> bool
-    ensures { result ≡ is_kind kind objects.Commit }
-{
-    match kind {
-        ObjectKind::Commit => true,
-        ObjectKind::Tree | ObjectKind::Blob | ObjectKind::Tag => false,
-    }
 }
 
 fn parents<O: Objects>(alloc: Global, objects: &O, id: &ObjectId) -> Result<Vec<ObjectId>, NoMemory>

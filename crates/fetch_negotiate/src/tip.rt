@@ -5,14 +5,14 @@ ghost use Rattle.std.specs.FinMap as map;
 ghost use Rattle.std.specs.List.{filter_map};
 ghost use Rattle.fetch_store.specs.Borders.{ids_of, set_of};
 ghost use Rattle.fetch_store.specs.declared.id.ObjectId.{ObjectId};
-ghost use Rattle.fetch_refs.specs.Answers.{Answers};
+ghost use Rattle.fetch_store.specs.Answers.{AnswersUnless};
+ghost use Rattle.fetch_refs.specs.Answers.{is_memory};
 ghost use Rattle.fetch_refs.specs.declared.error.RefError.{RefError};
 ghost use Rattle.fetch_refs.specs.Peeled.{through};
 ghost use Rattle.fetch_refs.specs.Targets.{seen};
 ghost use Rattle.fetch_negotiate.specs.Commits.{commit_of};
 ghost use Rattle.fetch_negotiate.specs.Tips.{found, tip_of, tips_of, if_commit};
 
-use crate::commits::is_commit;
 use fetch_refs::{RefError, Refs, TargetRef, peel_tags};
 use fetch_store::{Border, NoMemory, ObjectId, Objects};
 use std::alloc::Global;
@@ -79,10 +79,11 @@ fn end_in_objects<O: Objects>(
     }
 }
 
+#[tactic(auto, using(crate::proofs::Finding::commit_test))]
 fn when_commit<O: Objects>(objects: &O, id: ObjectId) -> Option<ObjectId>
     ensures { result ≡ if_commit (O.graph objects.now) (Some id) }
 {
-    if is_commit(objects, &id) {
+    if objects.is_commit(&id) {
         return Some(id);
     }
     None
@@ -90,7 +91,7 @@ fn when_commit<O: Objects>(objects: &O, id: ObjectId) -> Option<ObjectId>
 
 /// The id, if there is one.
 fn if_found(answer: Result<ObjectId, RefError>) -> Result<Option<ObjectId>, NoMemory>
-    ensures { (expected : Result ObjectId RefError) → Answers expected answer → IfOk result (λ id. id ≡ found expected) }
+    ensures { (expected : Result ObjectId RefError) → AnswersUnless is_memory expected answer → IfOk result (λ id. id ≡ found expected) }
 {
     match answer {
         Ok(id) => Ok(Some(id)),
