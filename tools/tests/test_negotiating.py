@@ -1,0 +1,86 @@
+"""Checks of what is told of a repository, and of the tools around it."""
+
+import os
+import subprocess
+import sys
+import tempfile
+import unittest
+
+TOOLS = os.path.normpath(os.path.join(os.path.dirname(os.path.abspath(__file__)), ".."))
+sys.path.insert(0, TOOLS)
+
+from realgit.lines import Mark  # noqa: E402
+from realgit.negotiating import (Client, Skipping, commit, line_of, scene_of_line, tag, told, windows_of,  # noqa: E402
+                                 windows_traced)
+from realgit.scene import read_scene  # noqa: E402
+
+
+def tool(*words):
+    """The status and the output of a tool."""
+    ended = subprocess.run([os.path.join(TOOLS, words[0]), *words[1:]], capture_output=True)
+    return ended.returncode, ended.stdout.decode()
+
+
+class Lines(unittest.TestCase):
+    def setUp(self):
+        self.line = line_of(20)
+        self.ids = [each.id for each in self.line]
+
+    def test_what_is_told_of_a_line(self):
+        self.assertEqual(told(self.line, "noop"), [])
+        self.assertEqual(told(self.line, "consecutive"), self.ids[::-1])
+        self.assertEqual(told(self.line, "skipping"), [self.ids[place - 1] for place in (20, 18, 15, 10, 2, 1)])
+
+    def test_a_window_that_is_not_full_ends(self):
+        self.assertEqual(list(map(len, windows_of(self.ids))), [16, 4])
+        self.assertEqual(list(map(len, windows_of(self.ids[:16]))), [16, 0])
+        self.assertEqual(list(map(len, windows_of(list(range(5000))))), [16, 32, 64, 128, 256, 512, 1024, 1024, 1024, 920])
+
+    def test_the_walk_of_skipping_is_that_of_a_line(self):
+        client = Client(self.line, {"refs/heads/line": self.ids[-1]}, "skipping")
+        for as_git in (False, True):
+            self.assertEqual(Skipping(client, as_git).told(), told(self.line, "skipping"))
+
+    def test_git_queues_parents_without_their_time(self):
+        first, second = commit(10, []), commit(20, [])
+        early, late = commit(11, [first.id]), commit(30, [second.id])
+        noted = tag(late.id, "v1")
+        client = Client([first, second, early, late, noted], {"refs/heads/a": early.id, "refs/tags/v1": noted.id}, "skipping")
+        self.assertEqual(Skipping(client, False).told(), [late.id, second.id, early.id, first.id])
+        self.assertEqual(Skipping(client, True).told(), [late.id, early.id, second.id, first.id])
+
+    def test_the_scene_of_a_line(self):
+        client = Client(self.line, {"refs/heads/line": self.ids[-1]}, "consecutive")
+        with tempfile.TemporaryDirectory() as folder:
+            path = os.path.join(folder, "scene")
+            self.assertEqual(tool("long-line", "20", "-o", path), (0, ""))
+            with open(path, "rb") as file:
+                data = file.read()
+        self.assertEqual(data, scene_of_line(client, windows_of(self.ids[::-1])).to_bytes())
+        scene = read_scene(data)
+        self.assertEqual(b"".join(scene.server).count(b"0008NAK\n"), 1)
+        self.assertEqual(scene.objects[1:], self.line)
+
+    def test_a_trace_is_read(self):
+        text = """12:00:00 pkt-line.c:80 packet:        fetch> command=ls-refs
+12:00:00 pkt-line.c:80 packet:        fetch> 0000
+12:00:00 pkt-line.c:80 packet:        fetch> have 11
+12:00:00 pkt-line.c:80 packet:  upload-pack< have 11
+12:00:00 pkt-line.c:80 packet:        fetch> 0000
+12:00:00 pkt-line.c:80 packet:        fetch> done
+12:00:00 pkt-line.c:80 packet:        fetch> 0000
+"""
+        self.assertEqual(windows_traced(text), [["11"], []])
+
+
+class Rows(unittest.TestCase):
+    def test_all_rows_are_shown(self):
+        status, out = tool("show-rows")
+        with open(os.path.join(TOOLS, "..", "crates", "scene_rows", "stdout"), "rb") as file:
+            count = file.read().count(b"\n== status ")
+        self.assertEqual((status, out.count("\n== status ")), (0, count))
+
+    def test_rows_are_found_by_words(self):
+        status, out = tool("show-rows", "single", "bytes")
+        self.assertEqual((status, out.count("\n== status ")), (0, 1))
+        self.assertIn(f"\n{Mark.DELIMITER.value.decode()}\n0\n0\n0\ne\nv\n", out)
