@@ -182,7 +182,8 @@ class Skipping:
         self.taken.add(digits)
         next_first = first if left else first * 3 // 2 + 1
         next_pair = (next_first, left - 1 if left else next_first)
-        stored = [] if digits in self.border else [each for each in parents_of(self.commits[digits]) if each in self.commits]
+        parents = [] if digits in self.border else parents_of(self.commits[digits])
+        stored = [each for each in parents if each in self.commits]
         waiting = [each for each in stored if each not in self.taken]
         for parent in waiting:
             self._put(parent)

@@ -59,7 +59,8 @@ def _is_behind_symbolic(difference, fetched):
     if not _is_new_here_alone(mapping, fetched):
         return False
     written = [each for each in fetched.report.mappings if not _is_implicit(each, fetched)]
-    passed_over = [each for each in written if _names_another(each.destination, fetched) and not fetched.real_mode(each)]
+    symbolic = [each for each in written if _names_another(each.destination, fetched)]
+    passed_over = [each for each in symbolic if not fetched.real_mode(each)]
     others = [fetched.id_of(each) for each in written if each not in passed_over]
     history, target = fetched.pair.history, _target(mapping, fetched)
     behind = history.reached(fetched.id_of(each) for each in passed_over)

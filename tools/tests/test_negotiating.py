@@ -34,7 +34,8 @@ class Lines(unittest.TestCase):
     def test_a_window_that_is_not_full_ends(self):
         self.assertEqual(list(map(len, windows_of(self.ids))), [16, 4])
         self.assertEqual(list(map(len, windows_of(self.ids[:16]))), [16, 0])
-        self.assertEqual(list(map(len, windows_of(list(range(5000))))), [16, 32, 64, 128, 256, 512, 1024, 1024, 1024, 920])
+        sizes = [16, 32, 64, 128, 256, 512, 1024, 1024, 1024, 920]
+        self.assertEqual(list(map(len, windows_of(list(range(5000))))), sizes)
 
     def test_the_walk_of_skipping_is_that_of_a_line(self):
         client = Client(self.line, {"refs/heads/line": self.ids[-1]}, "skipping")
@@ -45,7 +46,8 @@ class Lines(unittest.TestCase):
         first, second = commit(10, []), commit(20, [])
         early, late = commit(11, [first.id]), commit(30, [second.id])
         noted = tag(late.id, "v1")
-        client = Client([first, second, early, late, noted], {"refs/heads/a": early.id, "refs/tags/v1": noted.id}, "skipping")
+        references = {"refs/heads/a": early.id, "refs/tags/v1": noted.id}
+        client = Client([first, second, early, late, noted], references, "skipping")
         self.assertEqual(Skipping(client, False).told(), [late.id, second.id, early.id, first.id])
         self.assertEqual(Skipping(client, True).told(), [late.id, early.id, second.id, first.id])
 
