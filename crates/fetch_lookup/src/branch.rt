@@ -1,5 +1,7 @@
 //! Why the name that a branch has on a remote isn't told.
 
+ghost use Rattle.std.specs.Prelude.{◌≡◌, IfOk};
+
 use fetch_store::{NoMemory, Text};
 use thiserror::Error as ThisError;
 
@@ -21,6 +23,21 @@ pub enum Error {
     /// Memory ran out.
     #[error("out of memory")]
     NoMemory,
+}
+
+impl Error {
+    /// An equal error.
+    pub fn try_clone(&self) -> Result<Error, NoMemory>
+        ensures { IfOk result (λ copy. copy ≡ self.now) }
+    {
+        match self {
+            Error::Name { place } => Ok(Error::Name { place: *place }),
+            Error::PushDefault { value } => Ok(Error::PushDefault {
+                value: value.try_clone()?,
+            }),
+            Error::NoMemory => Ok(Error::NoMemory),
+        }
+    }
 }
 
 impl From<NoMemory> for Error {

@@ -1,5 +1,7 @@
 //! Why a remote is refused that is looked for.
 
+ghost use Rattle.std.specs.Prelude.{◌≡◌, IfOk};
+
 use crate::direction::Direction;
 use fetch_specs::SpecError;
 use fetch_store::{NoMemory, Text};
@@ -36,6 +38,33 @@ pub enum Error {
     /// Memory ran out.
     #[error("out of memory")]
     NoMemory,
+}
+
+impl Error {
+    /// An equal error.
+    pub fn try_clone(&self) -> Result<Error, NoMemory>
+        ensures { IfOk result (λ copy. copy ≡ self.now) }
+    {
+        match self {
+            Error::TagOpt { value } => Ok(Error::TagOpt {
+                value: value.try_clone()?,
+            }),
+            Error::Url { kind, remote_name } => Ok(Error::Url {
+                kind: *kind,
+                remote_name: remote_name.try_clone()?,
+            }),
+            Error::RefSpec {
+                kind,
+                remote_name,
+                source,
+            } => Ok(Error::RefSpec {
+                kind: *kind,
+                remote_name: remote_name.try_clone()?,
+                source: *source,
+            }),
+            Error::NoMemory => Ok(Error::NoMemory),
+        }
+    }
 }
 
 impl From<NoMemory> for Error {

@@ -1,7 +1,8 @@
 //! Names of remotes.
 
-ghost use Rattle.std.specs.Prelude.{◌≡◌, IfOk, OnOk, IfErr, None, option_map, MatchResult, Some};
+ghost use Rattle.std.specs.Prelude.{◌≡◌, IfOk, OnOk, IfErr, IsOkUnless, None, option_map, MatchResult, Some};
 ghost use Rattle.fetch_lookup.specs.Names as spec;
+ghost use Rattle.fetch_lookup.specs.declared.name.Error.TheVariants as errors;
 
 use crate::utf8::{characters, ill_formed_place, is_utf8};
 use fetch_specs::{Operation, SpecError, parse};
@@ -112,6 +113,21 @@ pub enum Error {
     NoMemory,
 }
 
+impl Error {
+    /// An equal error.
+    pub fn try_clone(&self) -> Result<Error, NoMemory>
+        ensures { IfOk result (λ copy. copy ≡ self.now) }
+    {
+        match self {
+            Error::Invalid { source, name } => Ok(Error::Invalid {
+                source: *source,
+                name: name.try_clone()?,
+            }),
+            Error::NoMemory => Ok(Error::NoMemory),
+        }
+    }
+}
+
 impl From<NoMemory> for Error {
     ghost use Rattle.std.specs.Prelude.{◌≡◌};
     ghost use Rattle.fetch_lookup.specs.declared.name.Error.TheVariants as errors;
@@ -129,6 +145,7 @@ pub fn validated(alloc: Global, name: &[u8]) -> Result<Text, Error>
     ensures ok { IfOk result (λ text. text ≡ name.now) }
     ensures accepted { OnOk result (spec.name_refusal name.now ≡ None) }
     ensures refused { IfErr result (spec.IsNameRefusal name.now) }
+    ensures memory { spec.name_refusal name.now ≡ None → IsOkUnless result errors.NoMemory }
 {
     match refusal_of(alloc, name)? {
         Some(source) => Err(Error::Invalid {

@@ -1,6 +1,6 @@
 //! What is pushed where no refspec says it.
 
-ghost use Rattle.std.specs.Prelude.{◌≡◌};
+ghost use Rattle.std.specs.Prelude.{◌≡◌, IfOk};
 ghost use Rattle.fetch_store.specs.Answers.{AnswersUnless};
 ghost use Rattle.fetch_lookup.specs.Branches as spec;
 
@@ -47,6 +47,20 @@ pub enum Error {
     /// Memory ran out.
     #[error("out of memory")]
     NoMemory,
+}
+
+impl Error {
+    /// An equal error.
+    pub fn try_clone(&self) -> Result<Error, NoMemory>
+        ensures { IfOk result (λ copy. copy ≡ self.now) }
+    {
+        match self {
+            Error::Unknown { value } => Ok(Error::Unknown {
+                value: value.try_clone()?,
+            }),
+            Error::NoMemory => Ok(Error::NoMemory),
+        }
+    }
 }
 
 impl From<NoMemory> for Error {

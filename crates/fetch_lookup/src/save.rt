@@ -1,5 +1,7 @@
 //! Why a remote isn't saved.
 
+ghost use Rattle.std.specs.Prelude.{◌≡◌, IfOk};
+
 use crate::name::Error as NameError;
 use fetch_store::{NoMemory, Text};
 use std::alloc::{AllocError, AllocFailed};
@@ -24,6 +26,21 @@ pub enum Error {
     /// Memory ran out.
     #[error("out of memory")]
     NoMemory,
+}
+
+impl Error {
+    /// An equal error.
+    pub fn try_clone(&self) -> Result<Error, NoMemory>
+        ensures { IfOk result (λ copy. copy ≡ self.now) }
+    {
+        match self {
+            Error::NameMissing { url } => Ok(Error::NameMissing {
+                url: url.try_clone()?,
+            }),
+            Error::Value { place } => Ok(Error::Value { place: *place }),
+            Error::NoMemory => Ok(Error::NoMemory),
+        }
+    }
 }
 
 impl From<NoMemory> for Error {
@@ -71,4 +88,17 @@ pub enum AsError {
     /// Memory ran out.
     #[error("out of memory")]
     NoMemory,
+}
+
+impl AsError {
+    /// An equal error.
+    pub fn try_clone(&self) -> Result<AsError, NoMemory>
+        ensures { IfOk result (λ copy. copy ≡ self.now) }
+    {
+        match self {
+            AsError::Save(source) => Ok(AsError::Save(source.try_clone()?)),
+            AsError::Name(source) => Ok(AsError::Name(source.try_clone()?)),
+            AsError::NoMemory => Ok(AsError::NoMemory),
+        }
+    }
 }

@@ -1,5 +1,7 @@
 //! Why the branch isn't told that a tracking branch follows.
 
+ghost use Rattle.std.specs.Prelude.{◌≡◌, IfOk};
+
 use crate::find;
 use fetch_specs::FullName;
 use fetch_store::{List, NoMemory, Text};
@@ -33,6 +35,27 @@ pub enum Error {
     /// Memory ran out.
     #[error("out of memory")]
     NoMemory,
+}
+
+impl Error {
+    /// An equal error.
+    pub fn try_clone(&self) -> Result<Error, NoMemory>
+        ensures { IfOk result (λ copy. copy ≡ self.now) }
+    {
+        match self {
+            Error::BranchCategory { full_name } => Ok(Error::BranchCategory {
+                full_name: full_name.try_clone()?,
+            }),
+            Error::FindRemote(source) => Ok(Error::FindRemote(source.try_clone()?)),
+            Error::AmbiguousRemotes { remotes } => Ok(Error::AmbiguousRemotes {
+                remotes: remotes.try_clone_with(Text::try_clone)?,
+            }),
+            Error::ValidateUpstreamBranch { place } => {
+                Ok(Error::ValidateUpstreamBranch { place: *place })
+            }
+            Error::NoMemory => Ok(Error::NoMemory),
+        }
+    }
 }
 
 impl From<NoMemory> for Error {
