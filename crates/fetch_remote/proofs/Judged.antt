@@ -1,10 +1,11 @@
 -- What judging answers, over a list of worktrees.
 use Rattle.std.proofs.Common.{◌≡◌, true, false, List, Result, Ok, Err, refl, sym, ap, subst, ◌∙◌}
+use Rattle.fetch_store.specs.Answers.{AnswersUnless}
 use Rattle.fetch_specs.specs.Specs.{Spec}
 use Rattle.fetch_wire.specs.declared.mapping.Mapping.{Mapping}
 use Rattle.fetch_wire.specs.declared.mapping.RefMap.{RefMap}
 use Rattle.fetch_update.specs.Outcomes.{outcome_of}
-use Rattle.fetch_update.specs.Policy.{Policy, Answers}
+use Rattle.fetch_update.specs.Policy.{Policy, is_memory}
 use Rattle.fetch_update.specs.Refusing.{Refuses}
 use Rattle.fetch_update.specs.declared.update.Error.{Error as UpdateError}
 use Rattle.fetch_update.specs.declared.update.Error.TheVariants as update
@@ -39,7 +40,7 @@ unfolding judged_of
 judged_yes p m o is = rw is refl
 
 -- a refusal of the policy is told as it is
-pub told_refusal : (p : Policy) (m : RefMap) (e : UpdateError) → Answers {X = Outcome} (outcome_of p m.refspecs m.extra_refspecs m.mappings) (Err e) → AnswersBy {X = Outcome} (judged_of p m) (Err (fetch_of_update e))
+pub told_refusal : (p : Policy) (m : RefMap) (e : UpdateError) → AnswersUnless {A = Outcome} is_memory (outcome_of p m.refspecs m.extra_refspecs m.mappings) (Err e) → AnswersBy {X = Outcome} (judged_of p m) (Err (fetch_of_update e))
 told_refusal p m update.NoMemory h = λ sure. absurd (cc)
 told_refusal p m (update.FindReference name) h = λ _. judged_err p m (update.FindReference name) h
 told_refusal p m (update.InvalidRefName name) h = λ _. judged_err p m (update.InvalidRefName name) h
@@ -59,7 +60,7 @@ isnt_fault p m e fault is faulty same =
     cc
 
 -- what the policy answers is told as no fault of the worktrees
-pub tells_no_fault : (p : Policy) (m : RefMap) (e fault : UpdateError) → Answers {X = Outcome} (outcome_of p m.refspecs m.extra_refspecs m.mappings) (Err e) → is_worktree_fault fault ≡ true → fetch_of_update e ≡ errors.UpdateRefs fault → ⊥
+pub tells_no_fault : (p : Policy) (m : RefMap) (e fault : UpdateError) → AnswersUnless {A = Outcome} is_memory (outcome_of p m.refspecs m.extra_refspecs m.mappings) (Err e) → is_worktree_fault fault ≡ true → fetch_of_update e ≡ errors.UpdateRefs fault → ⊥
 tells_no_fault p m update.NoMemory fault h faulty is = absurd (cc)
 tells_no_fault p m (update.FindReference name) fault h faulty is = isnt_fault p m (update.FindReference name) fault h faulty is
 tells_no_fault p m (update.InvalidRefName name) fault h faulty is = isnt_fault p m (update.InvalidRefName name) fault h faulty is
@@ -77,7 +78,7 @@ same_told r e y x is told same =
 
 -- the same answer, over what the slices of the code hold
 pub at_slices : (p : List Worktree → Policy) (m : RefMap) (trees held : List Worktree) (mappings : List Mapping) (specs extra : List Spec) (r : Result Outcome UpdateError) → held ≡ trees → mappings ≡ m.mappings → specs ≡ m.refspecs
-    → extra ≡ m.extra_refspecs → Answers {X = Outcome} (outcome_of (p held) specs extra mappings) r → Answers {X = Outcome} (outcome_of (p trees) m.refspecs m.extra_refspecs m.mappings) r
+    → extra ≡ m.extra_refspecs → AnswersUnless {A = Outcome} is_memory (outcome_of (p held) specs extra mappings) r → AnswersUnless {A = Outcome} is_memory (outcome_of (p trees) m.refspecs m.extra_refspecs m.mappings) r
 at_slices p m trees held mappings specs extra r same a b c h =
     let is : outcome_of (p held) specs extra mappings ≡ outcome_of (p trees) m.refspecs m.extra_refspecs m.mappings = rw (same, a, b, c) refl in
-    subst (λ (x : Result Outcome UpdateError). Answers {X = Outcome} x r) is h
+    subst (λ (x : Result Outcome UpdateError). AnswersUnless {A = Outcome} is_memory x r) is h

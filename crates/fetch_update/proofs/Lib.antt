@@ -3,7 +3,7 @@ pub mod Visits
 pub mod Expansions
 pub mod Paths
 pub mod Aheads
-pub mod Sames
+pub mod CommitTests
 pub mod Joined
 pub mod Lists
 pub mod Written

@@ -1,5 +1,5 @@
 -- The update policy: what becomes of the destination of one mapping. The first row that holds decides.
-use Rattle.std.specs.Prelude.{◌≡◌, ⊤, ℕ, Bool, true, false, ◌&&◌, ◌||◌, List, [], ◌∷◌, ◌++◌, codes, Option, Some, None, is_some, Result, Ok, Err, if◌then◌else◌}
+use Rattle.std.specs.Prelude.{ℕ, Bool, true, false, ◌&&◌, ◌||◌, List, [], ◌∷◌, ◌++◌, codes, Option, Some, None, is_some, Result, Ok, Err, if◌then◌else◌}
 use Rattle.std.specs.FinMap as finmap
 use Rattle.std.specs.Ordering.{eq_by_cmp}
 use Rattle.std.specs.Option.{option_copied}
@@ -262,11 +262,10 @@ unless_unsent p s (Some id) otherwise = Ok (nothing (unsent_mode p.tags s id))
 unfoldable pub verdict_of : Policy → Spec → Mapping → Result Verdict Error
 verdict_of p s m = unless_unsent p s (unsent p (value_of m.remote)) (at_destination p s m m.local)
 
--- what was answered is this, unless memory ran out
-abbrev pub Answers : {X : Type 0} → Result X Error → Result X Error → Type 0
-Answers expects (Ok found) = expects ≡ Ok found
-Answers expects (Err errors.NoMemory) = ⊤
-Answers expects (Err found) = expects ≡ Err found
+-- want of memory
+abbrev pub is_memory : Error → Bool
+is_memory errors.NoMemory = true
+is_memory _ = false
 
 -- what a judge of the code judges by
 abbrev pub policy_of : Graph → Judge → Policy
@@ -280,12 +279,6 @@ value_in_code (wanted.Name name) = targets.Symbolic name.now
 -- a place of the code
 abbrev pub place_in_code : PlaceInCode → Place
 place_in_code c = record { name = c.name; found = seen c.found; value = value_in_code c.wanted; target = option_copied c.target; plus = c.is_forced }
-
--- the same, of what a view shows
-abbrev pub IsGivenAs : {X Y : Type 0} → (X → Y) → Result Y Error → Result X Error → Type 0
-IsGivenAs view expects (Ok found) = expects ≡ Ok (view found)
-IsGivenAs view expects (Err errors.NoMemory) = ⊤
-IsGivenAs view expects (Err found) = expects ≡ Err found
 
 -- the policy over references, objects and worktrees
 abbrev pub policy_over : Names → Graph → RefLogMessage → Tags → Bool → List Worktree → Policy

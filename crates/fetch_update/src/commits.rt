@@ -3,22 +3,10 @@
 ghost use Rattle.std.specs.Prelude.{◌≡◌, ◌+◌, MatchOption};
 ghost use Rattle.std.specs.List.{slice_get};
 ghost use Rattle.std.specs.Option.{option_map};
-ghost use Rattle.fetch_store.specs.declared.object_kind.ObjectKind.TheVariants as kinds;
-ghost use Rattle.fetch_store.specs.Objects.{is_kind};
 ghost use Rattle.fetch_update.specs.Dated.{IsCommit, commit_at, parents_at, seconds_in};
 
-use fetch_store::{ObjectId, ObjectKind, Objects, Steps};
+use fetch_store::{ObjectId, Objects, Steps};
 use std::sync::ledger::Ledger;
-
-/// Whether objects of this kind are commits.
-pub(crate) fn names_commits(kind: ObjectKind) -> bool
-    ensures { result ≡ is_kind kind kinds.Commit }
-{
-    match kind {
-        ObjectKind::Commit => true,
-        ObjectKind::Tree | ObjectKind::Blob | ObjectKind::Tag => false,
-    }
-}
 
 /// A commit's seconds. A commit that is read is one step.
 pub fn read_commit<O: Objects, L: Ledger>(
@@ -30,7 +18,7 @@ pub fn read_commit<O: Objects, L: Ledger>(
     ensures step { MatchOption result (steps.new ≡ steps.old) (λ _. steps.new ≡ steps.old + 1) }
 {
     match objects.kind_of(id) {
-        Some(kind) if names_commits(kind) => {
+        Some(kind) if kind.is_commit() => {
             steps.tick();
             Some(objects.seconds(id).unwrap_or(0))
         }

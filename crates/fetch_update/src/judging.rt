@@ -3,16 +3,17 @@
 ghost use Rattle.std.specs.Prelude.{◌≡◌, IfOk, MatchOption, true, false, Err};
 ghost use Rattle.std.specs.Option.{option_copied};
 ghost use Rattle.std.specs.FinMap as map;
+ghost use Rattle.fetch_store.specs.Answers.{AnswersUnless};
 ghost use Rattle.fetch_refs.specs.Peeled.{peeled};
 ghost use Rattle.fetch_refs.specs.Targets.{seen};
 ghost use Rattle.fetch_specs.specs.Names.{is_full_name};
 ghost use Rattle.fetch_update.specs.Policy as spec;
-ghost use Rattle.fetch_update.specs.Policy.{Answers, policy_of, place_in_code, value_in_code, value_of};
+ghost use Rattle.fetch_update.specs.Policy.{is_memory, policy_of, place_in_code, value_in_code, value_of};
 ghost use Rattle.fetch_update.specs.declared.update.Error.TheVariants as errors;
 
 use crate::judge::{Judge, Place, Wanted};
 use crate::mode::Mode;
-use crate::stored::{are_commits, is_ahead, is_same_id, is_stored};
+use crate::stored::{are_commits, is_ahead, is_stored};
 use crate::trees::directories_at;
 use crate::update::Error;
 use crate::verdict::Verdict;
@@ -50,7 +51,7 @@ pub(crate) fn judge_mapping<O: Objects>(
     refspec: &RefSpec,
     mapping: &Mapping,
 ) -> Result<Verdict, Error>
-    ensures { Answers (spec.verdict_of (policy_of (O.graph objects.now) judge.now) refspec.now mapping.now) result }
+    ensures { AnswersUnless is_memory (spec.verdict_of (policy_of (O.graph objects.now) judge.now) refspec.now mapping.now) result }
 {
     match unsent(judge, objects, wanted_of(&mapping.remote)) {
         Some(id) => Ok(Verdict::nothing(unsent_mode(judge, refspec, id))),
@@ -111,7 +112,7 @@ fn at_destination<O: Objects>(
     refspec: &RefSpec,
     mapping: &Mapping,
 ) -> Result<Verdict, Error>
-    ensures { Answers (spec.at_destination (policy_of (O.graph objects.now) judge.now) refspec.now mapping.now mapping.now.local) result }
+    ensures { AnswersUnless is_memory (spec.at_destination (policy_of (O.graph objects.now) judge.now) refspec.now mapping.now mapping.now.local) result }
 {
     let Some(text) = &mapping.local else {
         return Ok(Verdict::nothing(Mode::NoChangeNeeded));
@@ -123,7 +124,7 @@ fn at_destination<O: Objects>(
 }
 
 fn no_name(text: &Text) -> Result<Verdict, Error>
-    ensures { Answers (Err (errors.FindReference text.now)) result }
+    ensures { AnswersUnless is_memory (Err (errors.FindReference text.now)) result }
 {
     Err(Error::FindReference {
         name: text.try_clone()?,
@@ -149,7 +150,7 @@ fn at_name<O: Objects>(
     mapping: &Mapping,
     name: FullName,
 ) -> Result<Verdict, Error>
-    ensures { Answers (spec.at_name (policy_of (O.graph objects.now) judge.now) refspec.now mapping.now name (map.get judge.now.refs.now.names name)) result }
+    ensures { AnswersUnless is_memory (spec.at_name (policy_of (O.graph objects.now) judge.now) refspec.now mapping.now name (map.get judge.now.refs.now.names name)) result }
 {
     let wanted = wanted_of(&mapping.remote);
     let Some(found) = judge.refs.find(&name) else {
@@ -167,7 +168,7 @@ fn at_name<O: Objects>(
 
 #[tactic(auto, unfolding(crate::specs::Policy::at_place))]
 fn at_place<O: Objects>(judge: &Judge<'_>, objects: &O, place: Place<'_>) -> Result<Verdict, Error>
-    ensures { Answers (spec.at_place (policy_of (O.graph objects.now) judge.now) (place_in_code place.entry)) result }
+    ensures { AnswersUnless is_memory (spec.at_place (policy_of (O.graph objects.now) judge.now) (place_in_code place.entry)) result }
 {
     match directories_at(judge.alloc, judge.worktrees, judge.directories, &place.name)? {
         Some(worktree_dirs) => Ok(Verdict::nothing(Mode::RejectedCurrentlyCheckedOut {
@@ -179,7 +180,7 @@ fn at_place<O: Objects>(judge: &Judge<'_>, objects: &O, place: Place<'_>) -> Res
 
 #[tactic(auto, unfolding(crate::specs::Policy::at_local))]
 fn at_local<O: Objects>(judge: &Judge<'_>, objects: &O, place: Place<'_>) -> Result<Verdict, Error>
-    ensures { Answers (spec.at_local (policy_of (O.graph objects.now) judge.now) (place_in_code place.entry) (peeled judge.now.refs.now.names (O.graph objects.now) place.entry.name)) result }
+    ensures { AnswersUnless is_memory (spec.at_local (policy_of (O.graph objects.now) judge.now) (place_in_code place.entry) (peeled judge.now.refs.now.names (O.graph objects.now) place.entry.name)) result }
 {
     match judge.refs.peel(objects, &place.name) {
         Ok(id) => at_id(judge, objects, place, id),
@@ -195,7 +196,7 @@ fn at_local<O: Objects>(judge: &Judge<'_>, objects: &O, place: Place<'_>) -> Res
 /// A symbolic reference whose way ends at an absent name.
 #[tactic(auto, unfolding(crate::specs::Policy::change_unborn))]
 fn at_unborn(judge: &Judge<'_>, place: Place<'_>) -> Result<Verdict, Error>
-    ensures { Answers (spec.if_valid (value_in_code place.entry.wanted) (spec.written judge.now.message.now (place_in_code place.entry) (spec.unborn_mode (seen place.entry.found) (option_copied place.entry.target)) spec.change_unborn)) result }
+    ensures { AnswersUnless is_memory (spec.if_valid (value_in_code place.entry.wanted) (spec.written judge.now.message.now (place_in_code place.entry) (spec.unborn_mode (seen place.entry.found) (option_copied place.entry.target)) spec.change_unborn)) result }
 {
     let mode = unborn_mode(place.found, place.target);
     write(judge, place, mode, b"change unborn ref")
@@ -218,19 +219,19 @@ fn unborn_mode(found: TargetRef<'_>, target: Option<&[u8]>) -> Mode
 }
 
 /// A reference that stands for an id.
-#[tactic(auto, unfolding(crate::specs::Policy::at_id, crate::specs::Policy::at_stored, crate::specs::Policy::no_update, crate::specs::Policy::updating_tag, crate::specs::Policy::guessed, crate::specs::Policy::fast_forward, crate::specs::Policy::forced_update))]
+#[tactic(auto, using(fetch_store::proofs::Orders::eq_is), unfolding(crate::specs::Policy::at_id, crate::specs::Policy::at_stored, crate::specs::Policy::no_update, crate::specs::Policy::updating_tag, crate::specs::Policy::guessed, crate::specs::Policy::fast_forward, crate::specs::Policy::forced_update))]
 fn at_id<O: Objects>(
     judge: &Judge<'_>,
     objects: &O,
     place: Place<'_>,
     local: ObjectId,
 ) -> Result<Verdict, Error>
-    ensures { Answers (spec.at_id (policy_of (O.graph objects.now) judge.now) (place_in_code place.entry) local (value_in_code place.entry.wanted)) result }
+    ensures { AnswersUnless is_memory (spec.at_id (policy_of (O.graph objects.now) judge.now) (place_in_code place.entry) local (value_in_code place.entry.wanted)) result }
 {
     let Wanted::Id(remote) = place.wanted else {
         return Ok(Verdict::nothing(Mode::RejectedToReplaceWithUnborn));
     };
-    if is_same_id(&local, &remote) {
+    if local == remote {
         let happened = b"no update will be performed";
         return write(judge, place, Mode::NoChangeNeeded, happened);
     }

@@ -2,6 +2,7 @@
 
 ghost use Rattle.std.specs.Prelude.{◌≡◌, ◌≢◌, ◌↔◌, ℕ, List, Some, None, Ok, Err, IfOk, IsTrue, Contains, true, false};
 ghost use Rattle.std.specs.FinMap.{get};
+ghost use Rattle.fetch_store.specs.Answers.{AnswersUnless};
 ghost use Rattle.fetch_store.specs.Graph.{Graph};
 ghost use Rattle.fetch_store.specs.declared.id.ObjectId.{ObjectId};
 ghost use Rattle.fetch_specs.specs.Specs.{Spec};
@@ -14,7 +15,7 @@ ghost use Rattle.fetch_update.specs.Accepting.{is_accepting, Accepts, HasDryRow,
 ghost use Rattle.fetch_update.specs.Ahead.{is_ahead};
 ghost use Rattle.fetch_update.specs.Dated.{HasDatedPath};
 ghost use Rattle.fetch_update.specs.Outcomes.{outcome_of};
-ghost use Rattle.fetch_update.specs.Policy.{Policy, Answers, policy_over, verdict_of, value_of, nothing, is_stored};
+ghost use Rattle.fetch_update.specs.Policy.{Policy, is_memory, policy_over, verdict_of, value_of, nothing, is_stored};
 ghost use Rattle.fetch_update.specs.Refusing.{Refuses, IsRefusedWith};
 ghost use Rattle.fetch_update.specs.Rejecting.{Rejects, IsCheckedOut};
 ghost use Rattle.fetch_update.specs.Telling.{EditsSay, TellsTypeChanges};
@@ -54,7 +55,7 @@ pub fn update<O: Objects>(
     dry_run: bool,
     worktrees: &[Worktree],
 ) -> Result<Outcome, Error>
-    ensures { Answers (outcome_of (policy_over refs.now.names (O.graph objects.now) message.now tags dry_run worktrees.now) refspecs.now extra_refspecs.now mappings.now) result }
+    ensures { AnswersUnless is_memory (outcome_of (policy_over refs.now.names (O.graph objects.now) message.now tags dry_run worktrees.now) refspecs.now extra_refspecs.now mappings.now) result }
 {
     let directories = index_of(alloc, worktrees)?;
     let judge = Judge {

@@ -1,15 +1,12 @@
 //! What objects say of an update.
 
 ghost use Rattle.std.specs.Prelude.{◌≡◌, ◌&&◌, IfOk};
-ghost use Rattle.std.specs.Ordering.{eq_by_cmp};
-ghost use Rattle.fetch_store.specs.Stores.{id_cmp};
 ghost use Rattle.fetch_update.specs.Ahead as ahead;
 ghost use Rattle.fetch_update.specs.Dated.{IsCommit};
 ghost use Rattle.fetch_update.specs.Policy as spec;
 
-use crate::commits::names_commits;
 use crate::dated::has_dated_path;
-use fetch_store::{NoMemory, ObjectId, Objects, same_id};
+use fetch_store::{NoMemory, ObjectId, Objects};
 use std::alloc::Global;
 
 pub(crate) fn is_stored<O: Objects>(objects: &O, id: &ObjectId) -> bool
@@ -18,28 +15,14 @@ pub(crate) fn is_stored<O: Objects>(objects: &O, id: &ObjectId) -> bool
     objects.kind_of(id).is_some()
 }
 
-fn is_commit<O: Objects>(objects: &O, id: &ObjectId) -> bool
-    ensures { result ≡ spec.is_commit (O.graph objects.now) id.now }
-{
-    match objects.kind_of(id) {
-        Some(kind) => names_commits(kind),
-        None => false,
-    }
-}
-
+#[tactic(auto, using(crate::proofs::CommitTests::commit_test))]
 pub(crate) fn are_commits<O: Objects>(objects: &O, id: &ObjectId, other: &ObjectId) -> bool
     ensures { result ≡ (spec.is_commit (O.graph objects.now) id.now && spec.is_commit (O.graph objects.now) other.now) }
 {
-    if !is_commit(objects, id) {
+    if !objects.is_commit(id) {
         return false;
     }
-    is_commit(objects, other)
-}
-
-pub(crate) fn is_same_id(id: &ObjectId, other: &ObjectId) -> bool
-    ensures { result ≡ eq_by_cmp id_cmp id.now other.now }
-{
-    same_id(id, other)
+    objects.is_commit(other)
 }
 
 /// Whether a dated path leads from one commit to another.

@@ -1,8 +1,9 @@
 //! What becomes of each mapping.
 
 ghost use Rattle.std.specs.Prelude.{◌≡◌};
+ghost use Rattle.fetch_store.specs.Answers.{AnswersBy};
 ghost use Rattle.fetch_update.specs.Outcomes.{verdicts_from};
-ghost use Rattle.fetch_update.specs.Policy.{IsGivenAs, policy_of};
+ghost use Rattle.fetch_update.specs.Policy.{is_memory, policy_of};
 
 use crate::judge::Judge;
 use crate::judging::judge_mapping;
@@ -21,7 +22,7 @@ pub(crate) fn verdicts<O: Objects>(
     refspecs: &[RefSpec],
     extra_refspecs: &[RefSpec],
 ) -> Result<Vec<(usize, Verdict)>, Error>
-    ensures { IsGivenAs (λ v. v.items) (verdicts_from (policy_of (O.graph objects.now) judge.now) refspecs.now extra_refspecs.now 0 mappings.now) result }
+    ensures { AnswersBy (λ v. v.items) is_memory (verdicts_from (policy_of (O.graph objects.now) judge.now) refspecs.now extra_refspecs.now 0 mappings.now) result }
 {
     let mut verdicts = Vec::new(judge.alloc);
     'mappings: for (index, mapping) in mappings.iter().enumerate() {

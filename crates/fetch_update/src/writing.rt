@@ -1,9 +1,10 @@
 //! Edits of references.
 
 ghost use Rattle.std.specs.Prelude.{◌≡◌, IfOk, Ok, Err};
+ghost use Rattle.fetch_store.specs.Answers.{AnswersUnless};
 ghost use Rattle.fetch_refs.specs.Targets.{seen};
 ghost use Rattle.fetch_update.specs.Policy as spec;
-ghost use Rattle.fetch_update.specs.Policy.{Answers, place_in_code, value_in_code};
+ghost use Rattle.fetch_update.specs.Policy.{is_memory, place_in_code, value_in_code};
 ghost use Rattle.fetch_update.specs.declared.update.Error.TheVariants as errors;
 
 use crate::judge::{Judge, Place, Wanted};
@@ -22,7 +23,7 @@ pub(crate) fn create(
     wanted: Wanted<'_>,
     name: FullName,
 ) -> Result<Verdict, Error>
-    ensures { Answers (spec.if_valid (value_in_code wanted.entry) (spec.created judge.now.message.now name (value_in_code wanted.entry))) result }
+    ensures { AnswersUnless is_memory (spec.if_valid (value_in_code wanted.entry) (spec.created judge.now.message.now name (value_in_code wanted.entry))) result }
 {
     let value = target_of(judge.alloc, wanted)?;
     let happened = storing(&name);
@@ -42,7 +43,7 @@ pub(crate) fn write(
     mode: Mode,
     happened: &[u8],
 ) -> Result<Verdict, Error>
-    ensures { Answers (spec.if_valid (value_in_code place.entry.wanted) (spec.written judge.now.message.now (place_in_code place.entry) mode happened.now)) result }
+    ensures { AnswersUnless is_memory (spec.if_valid (value_in_code place.entry.wanted) (spec.written judge.now.message.now (place_in_code place.entry) mode happened.now)) result }
 {
     let value = target_of(judge.alloc, place.wanted)?;
     let type_change = type_change_of(place.found, &value);
@@ -91,7 +92,7 @@ fn edit(
 
 /// The value that is wanted, if its name is one.
 fn target_of(alloc: Global, wanted: Wanted<'_>) -> Result<Target, Error>
-    ensures { Answers (spec.checked (value_in_code wanted.entry)) result }
+    ensures { AnswersUnless is_memory (spec.checked (value_in_code wanted.entry)) result }
 {
     match wanted {
         Wanted::Id(id) => Ok(Target::Object(id)),
@@ -103,7 +104,7 @@ fn target_of(alloc: Global, wanted: Wanted<'_>) -> Result<Target, Error>
 }
 
 fn invalid(alloc: Global, text: &[u8]) -> Result<Target, Error>
-    ensures { Answers (Err (errors.InvalidRefName text.now)) result }
+    ensures { AnswersUnless is_memory (Err (errors.InvalidRefName text.now)) result }
 {
     Err(Error::InvalidRefName {
         name: Text::new(alloc, text)?,
