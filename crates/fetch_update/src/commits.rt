@@ -1,11 +1,14 @@
 //! Commits as they are read, and how many reads there were.
 
 ghost use Rattle.std.specs.Prelude.{◌≡◌, ◌+◌, MatchOption};
-ghost use Rattle.std.specs.List.{slice_get};
+ghost use Rattle.std.specs.Iterator.{YieldsFirst};
 ghost use Rattle.std.specs.Option.{option_map};
-ghost use Rattle.fetch_update.specs.Dated.{IsCommit, commit_at, parents_at, seconds_in};
+ghost use Rattle.fetch_store.specs.declared.object_kind.ObjectKind.TheVariants as kinds;
+ghost use Rattle.fetch_store.specs.Objects.{is_kind};
+ghost use Rattle.fetch_store.specs.References.{parents_left};
+ghost use Rattle.fetch_update.specs.Dated.{commit_at, seconds_in};
 
-use fetch_store::{ObjectId, Objects, Steps};
+use fetch_store::{ObjectId, ObjectKind, Objects, Parents, Steps};
 use std::sync::ledger::Ledger;
 
 /// A commit's seconds. A commit that is read is one step.
@@ -26,18 +29,12 @@ pub fn read_commit<O: Objects, L: Ledger>(
     }
 }
 
-/// A commit's parent at an index. A parent link that is read is one step.
-pub fn read_parent<O: Objects, L: Ledger>(
-    objects: &O,
-    id: &ObjectId,
-    index: usize,
-    steps: &mut Steps<L>,
-) -> Option<ObjectId>
-    requires { IsCommit (O.graph objects.now) id.now }
-    ensures parent { result ≡ slice_get (parents_at (O.graph objects.now) id.now) index }
+/// The next of a commit's parents. A parent link that is read is one step.
+pub fn read_parent<L: Ledger>(parents: &mut Parents<'_>, steps: &mut Steps<L>) -> Option<ObjectId>
+    ensures parent { YieldsFirst parents_left parents.old result parents.new }
     ensures step { MatchOption result (steps.new ≡ steps.old) (λ _. steps.new ≡ steps.old + 1) }
 {
-    match objects.parent(id, index) {
+    match parents.next() {
         Some(link) => {
             steps.tick();
             Some(link)

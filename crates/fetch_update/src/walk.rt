@@ -100,18 +100,13 @@ impl Walk {
         ensures work { OnOk result (work (O.graph objects.now) (state self.new) ≤ work (O.graph objects.now) (state self.old)) }
         ensures rises { steps.old ≤ steps.new }
     {
-        for index in 0..usize::MAX {
-            match read_parent(objects, id, index, steps) {
-                Some(parent) => {
-                    if same_id(&parent, to) {
-                        return Ok(true);
-                    }
-                    self.discover(objects, parent, steps)?;
-                }
-                None => return Ok(false),
+        let mut parents = objects.parents(id);
+        while let Some(parent) = read_parent(&mut parents, steps) {
+            if same_id(&parent, to) {
+                return Ok(true);
             }
+            self.discover(objects, parent, steps)?;
         }
-        // No memory holds so many parents.
-        Err(NoMemory)
+        Ok(false)
     }
 }

@@ -160,15 +160,14 @@ impl Objects for Counting {
     }
 
     fn parents(&self, id: &ObjectId) -> Parents<'_> {
+        for _parent in self.store.parents(id) {
+            self.links.set(self.links.get().wrapping_add(1));
+        }
         self.store.parents(id)
     }
 
     fn parent(&self, id: &ObjectId, index: usize) -> Option<ObjectId> {
-        let parent = self.store.parent(id, index);
-        if parent.is_some() {
-            self.links.set(self.links.get().wrapping_add(1));
-        }
-        parent
+        self.store.parent(id, index)
     }
 
     fn seconds(&self, id: &ObjectId) -> Option<u64> {
