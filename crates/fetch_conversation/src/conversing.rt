@@ -2,6 +2,7 @@
 
 ghost use Rattle.std.specs.Prelude.{◌≡◌, IfErr, IfOk, IfSome, OnOk, IsErrOf};
 ghost use Rattle.fetch_store.specs.Faults.{Rose, Counts};
+ghost use Rattle.fetch_store.specs.Collisions.{HasDistinctIds};
 ghost use Rattle.fetch_store.specs.Stores.{AreOf};
 ghost use Rattle.fetch_conversation.specs.Conversation.{Converses};
 ghost use Rattle.fetch_conversation.specs.ConverseStage.{converse_stage};
@@ -120,6 +121,7 @@ pub fn converse<R: Threads + Sync, P: Peer, I: Interrupt, Q: Progress, O: Object
     ensures held { Converses is_free_receiving P.answers listed.old.session.intake.bound (P.told peer.old) (P.told peer.new) (pending_of listed.old) (pending_of listed.new)
         (converse_stage listed.old.session.intake.bound (O.graph objects.now) (terms_told (shown listed.old) terms.now)) result }
     ensures of_kind { IfOk result (λ found. IfSome found (λ r. AreOf listed.old.handshake.object_hash r.objects)) }
+    ensures distinct { IfOk result (λ found. IfSome found (λ r. HasDistinctIds r.objects)) }
     ensures kept { shown listed.new ≡ shown listed.old }
     ensures counts { Counts (P.faults peer.old) (P.faults peer.new) }
     ensures client { IsErrOf result errors.Client → Rose (P.faults peer.old) (P.faults peer.new) }

@@ -1,6 +1,7 @@
 //! What the reply to a fetch request brings.
 
 ghost use Rattle.std.specs.Prelude.{◌≡◌, false, Some, Ok, Err, IfOk, IfErr};
+ghost use Rattle.fetch_store.specs.Collisions.{HasDistinctIds};
 ghost use Rattle.fetch_store.specs.Stores.{AreOf};
 ghost use Rattle.fetch_conversation.specs.ConverseStage as spec;
 ghost use Rattle.fetch_conversation.specs.ConverseStage.{rejected, without_pack, read_of};
@@ -106,6 +107,7 @@ fn unpack<R: Threads + Sync>(
     ensures received { IfOk result (λ r. read_of kind terms.now.dry_run (record { rounds = negotiate.rounds; reply = reply.now }) ≡ Ok (Some r)) }
     ensures refused { IfErr result (λ e. is_free_receiving e ≡ false → read_of kind terms.now.dry_run (record { rounds = negotiate.rounds; reply = reply.now }) ≡ Err e) }
     ensures of_kind { IfOk result (λ r. AreOf kind r.objects) }
+    ensures distinct { IfOk result (λ r. HasDistinctIds r.objects) }
     ensures own { IfErr result (λ e. IsOwn e) }
 {
     let mut received = unpacked(alloc, negotiate, reply)?;
@@ -134,6 +136,7 @@ pub(crate) fn received<R: Threads + Sync>(
     ensures received { IfOk result (λ r. spec.received (terms_told (shown listed.now) terms.now) (record { rounds = negotiate.rounds; reply = reply.now }) ≡ Ok (Some r)) }
     ensures refused { IfErr result (λ e. is_free_receiving e ≡ false → spec.received (terms_told (shown listed.now) terms.now) (record { rounds = negotiate.rounds; reply = reply.now }) ≡ Err e) }
     ensures of_kind { IfOk result (λ r. AreOf listed.now.handshake.object_hash r.objects) }
+    ensures distinct { IfOk result (λ r. HasDistinctIds r.objects) }
     ensures own { IfErr result (λ e. IsOwn e) }
 {
     refuse_border(terms, reply)?;

@@ -2,6 +2,7 @@
 
 ghost use Rattle.std.specs.Prelude.{◌≡◌, [], IfOk, IfSome, OnOk, IsErrOf};
 ghost use Rattle.fetch_store.specs.Faults.{Rose, Counts};
+ghost use Rattle.fetch_store.specs.Collisions.{HasDistinctIds};
 ghost use Rattle.fetch_store.specs.Stores.{AreOf};
 ghost use Rattle.fetch_conversation.specs.Conversation.{Converses};
 ghost use Rattle.fetch_conversation.specs.ConverseStage.{converse_stage};
@@ -83,6 +84,7 @@ pub fn converse<R: Threads + Sync, P: Peer, I: Interrupt, Q: Progress, O: Object
           dry_run = dry_run;
         })) result }
     ensures of_kind { IfOk result (λ found. IfSome found (λ r. AreOf listed.old.handshake.object_hash r.objects)) }
+    ensures distinct { IfOk result (λ found. IfSome found (λ r. HasDistinctIds r.objects)) }
     ensures kept { shown listed.new ≡ shown listed.old }
     ensures counts { Counts (P.faults peer.old) (P.faults peer.new) }
     ensures client { IsErrOf result receive_errors.Client → Rose (P.faults peer.old) (P.faults peer.new) }

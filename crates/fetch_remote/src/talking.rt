@@ -2,6 +2,7 @@
 
 ghost use Rattle.std.specs.Prelude.{◌≡◌, IfOk, IfSome, OnOk, IsErrOf};
 ghost use Rattle.fetch_store.specs.Faults.{Rose, Counts};
+ghost use Rattle.fetch_store.specs.Collisions.{HasDistinctIds};
 ghost use Rattle.fetch_store.specs.Stores.{AreOf};
 ghost use Rattle.fetch_conversation.specs.declared.fetch.Error.TheVariants as receive_errors;
 ghost use Rattle.fetch_conversation.specs.declared.prepare.Error.TheVariants as prepare_errors;
@@ -44,6 +45,7 @@ pub(crate) fn talk<R: Threads + Sync, P: Peer, I: Interrupt>(
 ) -> Result<Talked, FetchError>
     ensures held { HasTalked P.answers (P.told peer.old) (P.told peer.new) (record { remote = remote.now; options = options; setup = setup_of repo.now }) (state_of repo.now) result }
     ensures of_kind { IfOk result (λ t. IfSome t.received (λ r. AreOf (state_of repo.now).hash r.objects)) }
+    ensures distinct { IfOk result (λ t. IfSome t.received (λ r. HasDistinctIds r.objects)) }
     ensures counts { Counts (P.faults peer.old) (P.faults peer.new) }
     ensures transport { IsErrOf result (errors.Prepare (prepare_errors.RefMap ref_map_errors.Transport)) → Rose (P.faults peer.old) (P.faults peer.new) }
     ensures client { IsErrOf result (errors.Receive receive_errors.Client) → Rose (P.faults peer.old) (P.faults peer.new) }

@@ -86,12 +86,13 @@ pub(crate) fn add(
     objects: Vec<(ObjectId, Object)>,
     border: Border,
 ) -> Result<(), NoMemory>
-    requires { AreOf repo.old.state.hash objects.items }
+    requires of_hash { AreOf repo.old.state.hash objects.items }
+    requires no_collision { collision repo.old.state.objects objects.items ≡ None }
     ensures state { OnOk result (repo.new.state ≡ with_pack repo.old.state objects.items border) }
     ensures setup { repo.new.setup ≡ repo.old.setup }
     ensures err { OnErr result (repo.new ≡ repo.old) }
 {
-    match repo.take_pack(objects, border) {
+    match repo.take_reserved(objects, border) {
         Ok(()) => Ok(()),
         Err(_) => Err(NoMemory),
     }
