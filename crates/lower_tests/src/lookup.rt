@@ -1,5 +1,5 @@
-//! Remotes and branches of a configuration. The answers of Git 2.39.5 are those of `git remote` and of
-//! `git config --get-all` on the same text (docs/TESTING.md).
+//! Remotes and branches of a configuration. The answers of Git 2.39.5 are those of `git remote` and of `git config` on
+//! the same text (docs/TESTING.md).
 
 use fetch_config::{ConfigError, File, Meta, Origin};
 use fetch_lookup::find::Error;
@@ -79,6 +79,25 @@ fn is_text(text: &Option<Text>, wanted: &[u8]) -> bool {
     }
 }
 
+/// The value of a key of the branch `main`, where there is one.
+fn of_main<'a>(file: &'a File, key: &[u8]) -> Option<&'a [u8]> {
+    file.string(b"branch", Some(b"main"), key, false)
+}
+
+/// What `git config --get-regexp '^branch\.'` prints for the text: `branch.main.remote origin` and
+/// `branch.main.merge refs/heads/main`. `git config --get-all branch.main.merge` prints the second value alone.
+#[test]
+fn values_of_a_branch_as_git_config_tells_them(rt: HostRuntime) -> Result<(), Fail> {
+    let alloc = rt.alloc();
+    let file = read(alloc, ONE, true)?;
+    assert!(rt; of_main(&file, b"remote") == Some(b"origin".as_slice()));
+    assert!(rt; of_main(&file, b"merge") == Some(b"refs/heads/main".as_slice()));
+    assert!(rt; of_main(&file, b"pushRemote").is_none());
+    let merges = file.strings(alloc, b"branch", Some(b"main"), b"merge", false)?;
+    assert!(rt; merges.len() == 1);
+    Ok(())
+}
+
 fn found(alloc: Global, text: &[u8], name: &[u8]) -> Result<Option<RemoteParts>, Error> {
     match read(alloc, text, true) {
         Ok(file) => match find_remote(alloc, &file, name) {
@@ -145,6 +164,21 @@ fn names_of_two_remotes(rt: HostRuntime) -> Result<(), Fail> {
             "origin"
         )
     );
+    Ok(())
+}
+
+/// Symbols come before places, and each of them byte by byte.
+#[test]
+fn names_of_remotes_are_ordered(rt: HostRuntime) -> Result<(), Fail> {
+    let alloc = rt.alloc();
+    let b = Name::Symbol(Text::new(alloc, b"b")?);
+    let ba = Name::Symbol(Text::new(alloc, b"ba")?);
+    let place = Name::Url(Text::new(alloc, b"./a")?);
+    let root = Name::Url(Text::new(alloc, b"/")?);
+    assert!(rt; b < ba);
+    assert!(rt; ba < place);
+    assert!(rt; place < root);
+    assert!(rt; b == b.try_clone()?);
     Ok(())
 }
 
@@ -356,5 +390,14 @@ fn what_is_pushed_by_default(rt: HostRuntime) -> Result<(), Fail> {
     let unknown = read(alloc, b"[push]\ndefault = most\n", true)?;
     assert!(rt; push::default_choice(alloc, &unknown, true)? == push::Default::Simple);
     assert!(rt; push::default_choice(alloc, &unknown, false).is_err());
+    Ok(())
+}
+
+#[test]
+fn choices_of_what_is_pushed_are_ordered(rt: HostRuntime) -> Result<(), Fail> {
+    assert!(rt; push::Default::Nothing < push::Default::Current);
+    assert!(rt; push::Default::Current < push::Default::Upstream);
+    assert!(rt; push::Default::Upstream < push::Default::Simple);
+    assert!(rt; push::Default::Simple < push::Default::Matching);
     Ok(())
 }
