@@ -1,13 +1,15 @@
 -- The references that a server lists.
-use Rattle.std.specs.Prelude.{◌≡◌, ℕ, List, [], ◌∷◌, Bool, Option, Some, None, if◌then◌else◌, codes}
+use Rattle.std.specs.Prelude.{◌≡◌, ℕ, List, [], ◌∷◌, Bool, true, Option, Some, None, if◌then◌else◌, codes}
 use Rattle.std.specs.List.{list_any}
 use Rattle.std.specs.Option.{option_map, option_and_then}
-use Rattle.std.specs.Ordering.{nat_cmp, is_eq}
-use Rattle.std.specs.Cmp.Lexicographic.{slice_cmp}
+use Rattle.std.specs.BTreeSet.{BTreeSet, contains}
 use Rattle.std.specs.Str.{bytes_eq}
 use Rattle.fetch_store.specs.Scan.{split_first, after}
 use Rattle.fetch_store.specs.Id.{id_in_hex}
+use Rattle.fetch_store.specs.Hashing.{digest}
+use Rattle.fetch_store.specs.Stores.{id_cmp}
 use Rattle.fetch_store.specs.declared.id.Kind.{Kind}
+use Rattle.fetch_store.specs.declared.id.Kind.TheVariants.{Sha256}
 use Rattle.fetch_store.specs.declared.id.ObjectId.{ObjectId}
 use Rattle.fetch_wire.specs.declared.reference.Ref.{Ref}
 use Rattle.fetch_wire.specs.declared.reference.Ref.TheVariants.{Direct, Symbolic, Peeled, Unborn}
@@ -73,6 +75,6 @@ is_listed before reference = list_any (λ r. bytes_eq (name_in r) (name_in refer
 abbrev pub if_new : List Ref → Ref → Option Ref
 if_new before reference = if is_listed before reference then None else Some reference
 
--- a set has the names of these references
-abbrev pub HasNames : List Ref → List (List ℕ) → Type 0
-HasNames refs names = (name : List ℕ) → list_any (λ n. is_eq (slice_cmp nat_cmp name n)) names ≡ list_any (λ r. bytes_eq (name_in r) name) refs
+-- a set has the digest of the name of each of these references
+abbrev pub HasDigests : List Ref → BTreeSet ObjectId → Type 0
+HasDigests refs digests = (name : List ℕ) → list_any (λ r. bytes_eq (name_in r) name) refs ≡ true → contains id_cmp digests (digest Sha256 name) ≡ true

@@ -151,7 +151,7 @@ fn add_named(
     }
     let target = target_among(name, handshake.capabilities.as_slice());
     match make_ref(alloc, name, Some(id), (target, None))? {
-        Some(reference) => listed.add(alloc, reference),
+        Some(reference) => listed.add(reference),
         None => Ok(false),
     }
 }

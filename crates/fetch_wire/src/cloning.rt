@@ -23,6 +23,12 @@ impl Copies for ObjectId {
     }
 }
 
+impl<T: Copies> Copies for List<T> {
+    fn copy(&self) -> Result<List<T>, NoMemory> {
+        copy_list(self)
+    }
+}
+
 /// A list of copies.
 pub(crate) fn copy_list<T: Copies>(list: &List<T>) -> Result<List<T>, NoMemory>
     ensures { IfOk result (λ copy. copy ≡ list.now) }
@@ -34,12 +40,12 @@ pub(crate) fn copy_list<T: Copies>(list: &List<T>) -> Result<List<T>, NoMemory>
     Ok(List::from(items))
 }
 
-/// A copy of the text, if there is one.
-pub(crate) fn copy_option(text: &Option<Text>) -> Result<Option<Text>, NoMemory>
-    ensures { IfOk result (λ copy. copy ≡ text.now) }
+/// A copy of the value, if there is one.
+pub(crate) fn copy_option<T: Copies>(value: &Option<T>) -> Result<Option<T>, NoMemory>
+    ensures { IfOk result (λ copy. copy ≡ value.now) }
 {
-    match text {
-        Some(text) => Ok(Some(text.try_clone()?)),
+    match value {
+        Some(value) => Ok(Some(value.copy()?)),
         None => Ok(None),
     }
 }

@@ -2,7 +2,7 @@
 
 use crate::awaited::{AskedReply, Await, Fault, Told};
 use crate::bound::ReplyBound;
-use crate::cloning::{copy_list, copy_slice};
+use crate::cloning::{copy_list, copy_option, copy_slice};
 use crate::error::WireError;
 use crate::handshake::Handshake;
 use crate::intake::{Found, Intake};
@@ -101,6 +101,24 @@ impl Session {
             reply: None,
             trouble: None,
             refused: false,
+        })
+    }
+
+    /// An equal session, which goes on apart from this one.
+    pub fn try_clone(&self) -> Result<Session, NoMemory>
+        ensures { IfOk result (λ copy. copy ≡ self.now) }
+    {
+        Ok(Session {
+            agent: self.agent.try_clone()?,
+            prefixes: copy_list(&self.prefixes)?,
+            outgoing: Vec::from_slice(self.prefixes.allocator(), self.outgoing())?,
+            sent: 0,
+            intake: self.intake.try_clone()?,
+            handshake: copy_option(&self.handshake)?,
+            refs: copy_option(&self.refs)?,
+            reply: copy_option(&self.reply)?,
+            trouble: copy_option(&self.trouble)?,
+            refused: self.refused,
         })
     }
 
@@ -313,21 +331,37 @@ impl Session {
         self.refused = true;
     }
 
+    /// Answers what stands of a refusal. Where memory runs out, that stands from then on.
+    fn settle(&mut self) -> Result<(), WireError>
+        ensures answers { spec.Answers (spec.refusal_of self.old) result }
+        ensures stands { IfErr result (λ e. spec.refusal_of self.new ≡ Some e) }
+        ensures kept { result ≢ Err errors.NoMemory → self.new ≡ self.old }
+    {
+        match self.answer() {
+            Ok(()) => Ok(()),
+            Err(WireError::NoMemory) => {
+                self.lose();
+                Err(WireError::NoMemory)
+            }
+            Err(trouble) => Err(trouble),
+        }
+    }
+
     /// Takes the next bytes of the peer, and reads on as far as replies are whole. A refusal stands where all is sent
     /// and the awaited reply breaks its grammar, passes the bound or is the server's own refusal, where a greeting lists
     /// nothing, or where the listing request doesn't fit; each later call answers it again. Want of memory is such a
-    /// refusal too.
+    /// refusal too: what this call answers first is what stands.
     pub fn feed(&mut self, piece: &[u8]) -> Result<(), WireError>
         ensures fed { result ≢ Err errors.NoMemory → spec.IsAlike self.new (spec.fed self.old piece.now) }
         ensures answers { spec.AnswersOrLacks (spec.refusal_of (spec.fed self.old piece.now)) result }
         ensures unchanged { spec.refusal_of self.old ≢ None → self.new ≡ self.old }
-        ensures memory { result ≡ Err errors.NoMemory → spec.refusal_of self.new ≢ None }
+        ensures stands { spec.refusal_of self.old ≡ None → IfErr result (λ e. spec.refusal_of self.new ≡ Some e) }
     {
         self.answer()?;
         if self.trouble.is_none() && self.take_in(piece).is_err() {
             self.lose();
         }
-        self.answer()
+        self.settle()
     }
 
     /// The peer's bytes end. A reply that is awaited isn't whole: it is malformed at the line that isn't. Where none is

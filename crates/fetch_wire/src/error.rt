@@ -2,6 +2,7 @@
 
 ghost use Rattle.std.specs.Prelude.{◌≡◌, IfOk};
 
+use crate::cloning::Copies;
 use fetch_store::{NoMemory, Text};
 use std::alloc::{AllocError, AllocFailed};
 use thiserror::Error;
@@ -9,21 +10,28 @@ use thiserror::Error;
 /// Why a line, a reply or a request was refused.
 #[derive(Debug, Drop, PartialEq, Eq, Error)]
 pub enum WireError {
-    /// The line that begins at this place of the reply breaks the grammar or isn't whole.
+    /// The line that begins at byte `place` of the reply, counted from 0, breaks the grammar, or the peer's bytes end
+    /// before it is whole.
     #[error("malformed line at byte {place} of the reply")]
     Malformed { place: usize },
+    /// The server says that it fails. The text is what stands behind `ERR `, without a line feed at its end, or all
+    /// bytes of band 3.
     #[error("the server says {text:?}")]
     ServerError { text: Text },
-    /// The digits of a line announce more bytes of one reply than may come.
+    /// The digits of a line announce that the reply has more than `bound` bytes.
     #[error("the reply is longer than {bound} bytes")]
     ReplyTooLong { bound: u32 },
+    /// The server doesn't offer the feature of this name, which a request needs.
     #[error("the server lacks the feature {name:?}")]
     MissingFeature { name: Text },
-    /// A payload of so many bytes doesn't fit a line.
+    /// A payload of `length` bytes doesn't fit a line, which holds 65,516. It is the first such payload.
     #[error("a payload of {length} bytes is too long for a line")]
     LineTooLong { length: usize },
+    /// The address, a parameter as `name=value` or the agent can't be sent: a NUL or a line feed stands at byte `place`
+    /// of this text, counted from 0.
     #[error("the parameter {text:?} can't be sent, for its byte {place}")]
     BadParameter { text: Text, place: usize },
+    /// There was not enough memory.
     #[error("out of memory")]
     NoMemory,
 }
@@ -49,6 +57,12 @@ impl WireError {
             }),
             WireError::NoMemory => Ok(WireError::NoMemory),
         }
+    }
+}
+
+impl Copies for WireError {
+    fn copy(&self) -> Result<WireError, NoMemory> {
+        self.try_clone()
     }
 }
 

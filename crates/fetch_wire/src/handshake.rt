@@ -58,6 +58,12 @@ pub struct Handshake {
     pub object_hash: Kind,
 }
 
+impl Copies for Handshake {
+    fn copy(&self) -> Result<Handshake, NoMemory> {
+        self.try_clone()
+    }
+}
+
 impl Handshake {
     ghost use Rattle.fetch_wire.specs.Greetings.{last_named, offers, value_of, has_word};
 

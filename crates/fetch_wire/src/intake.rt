@@ -2,6 +2,7 @@
 
 use crate::awaited::{Await, Fault, Told};
 use crate::bound::ReplyBound;
+use crate::cloning::copy_option;
 use crate::error::WireError;
 use crate::progress::{Progress, read_on};
 use crate::reader::LineReader;
@@ -96,6 +97,16 @@ impl Intake {
         Ok(Intake {
             lines,
             reading: None,
+        })
+    }
+
+    /// An equal intake.
+    pub(crate) fn try_clone(&self) -> Result<Intake, NoMemory>
+        ensures { IfOk result (λ copy. copy ≡ self.now) }
+    {
+        Ok(Intake {
+            lines: self.lines.try_clone()?,
+            reading: copy_option(&self.reading)?,
         })
     }
 

@@ -1,15 +1,16 @@
 //! The references that a server lists.
 
-ghost use Rattle.std.specs.Prelude.{◌≡◌, ◌<◌, ◌++◌, ◌∷◌, [], if◌then◌else◌, not, Some, None, IfOk, OnOk, option_and_then, vec_len, vec_capacity};
+ghost use Rattle.std.specs.Prelude.{◌≡◌, ◌<◌, ◌++◌, ◌∷◌, ◌||◌, [], if◌then◌else◌, not, Some, None, IfOk, OnOk, option_and_then, vec_len, vec_capacity};
 ghost use Rattle.std.specs.Option.{option_copied, option_map};
 ghost use Rattle.fetch_wire.specs.Words.{words, words_in};
 ghost use Rattle.fetch_wire.specs.Advertisements.{with_peel, peeled_to};
 ghost use Rattle.fetch_wire.specs.Listings.{no_attributes, with_attribute, with_attributes, ref_with, id_or_unborn, named_by, ref_in, if_new, is_listed};
 
 use crate::advertisement::peeled_to;
+use crate::cloning::copy_slice;
 use crate::reference::Ref;
 use crate::words::next_word;
-use fetch_store::{Kind, NoMemory, ObjectId, Text, after, split_first};
+use fetch_store::{Kind, NoMemory, ObjectId, Text, after, digest, split_first};
 use std::alloc::Global;
 use std::collections::BTreeSet;
 use std::marker::Model;
@@ -145,23 +146,40 @@ fn read_ref(alloc: Global, kind: Kind, text: &[u8]) -> Result<Option<Ref>, NoMem
     }
 }
 
-/// The references listed so far, and their names, by which a repeated one is known.
+/// Whether a reference has the name of one of these.
+fn is_listed(before: &[Ref], reference: &Ref) -> bool
+    ensures { result ≡ is_listed before.now reference.now }
+{
+    let name = reference.unpack().0;
+    before.iter().any(|other| other.unpack().0 == name)
+}
+
+/// Whether a reference is new. Where its name's digest is, its name is too, so the list is walked for a name that is
+/// repeated alone.
+fn is_new(is_new_digest: bool, before: &[Ref], reference: &Ref) -> bool
+    ensures { result ≡ (is_new_digest || not (is_listed before.now reference.now)) }
+{
+    is_new_digest || !is_listed(before, reference)
+}
+
+/// The references listed so far, and digests of their names, by which a repeated one is known: the bytes of a name are
+/// stored once.
 #[derive(Drop)]
 pub(crate) struct Listed {
     refs: Vec<Ref>,
-    names: BTreeSet<Text>,
+    digests: BTreeSet<ObjectId>,
 }
 
 impl Model for Listed {
     ghost use Rattle.std.specs.Prelude.{List};
-    ghost use Rattle.fetch_wire.specs.Listings.{HasNames};
+    ghost use Rattle.fetch_wire.specs.Listings.{HasDigests};
     ghost use Rattle.fetch_wire.specs.declared.reference.Ref.{Ref};
 
     ghost Value = { List Ref };
 
     ghost view = { λ listed. listed.refs.items };
 
-    ghost invariant = { λ listed. HasNames listed.refs.items listed.names.keys };
+    ghost invariant = { λ listed. HasDigests listed.refs.items listed.digests };
 }
 
 impl Listed {
@@ -171,18 +189,19 @@ impl Listed {
     {
         Listed {
             refs: Vec::new(alloc),
-            names: BTreeSet::new(alloc),
+            digests: BTreeSet::new(alloc),
         }
     }
 
     /// Adds a reference, unless its name is listed, and says whether it was added.
-    pub(crate) fn add(&mut self, alloc: Global, reference: Ref) -> Result<bool, NoMemory>
+    pub(crate) fn add(&mut self, reference: Ref) -> Result<bool, NoMemory>
         ensures new { IfOk result (λ is_new. is_new ≡ not (is_listed self.old reference)) }
         ensures added { OnOk result (self.new ≡ if is_listed self.old reference then self.old else self.old ++ reference ∷ []) }
     {
-        let name = Text::new(alloc, reference.unpack().0)?;
         self.refs.reserve(1)?;
-        let is_new = self.names.insert(name)?;
+        let digest = digest(Kind::Sha256, reference.unpack().0);
+        let is_new_digest = self.digests.insert(digest)?;
+        let is_new = is_new(is_new_digest, self.refs.as_slice(), &reference);
         push_if(is_new, &mut self.refs, reference);
         Ok(is_new)
     }
@@ -197,6 +216,17 @@ impl Listed {
         let is_last = last.unpack().0 == name;
         self.refs.push_reserved(peel_if(is_last, id, last));
         is_last
+    }
+
+    /// An equal listing.
+    pub(crate) fn try_clone(&self) -> Result<Listed, NoMemory>
+        ensures { IfOk result (λ copy. copy ≡ self.now) }
+    {
+        let alloc = *self.refs.allocator();
+        Ok(Listed {
+            refs: copy_slice(alloc, self.refs.as_slice())?.into_vec(),
+            digests: self.digests.clone()?,
+        })
     }
 
     /// The references.
@@ -236,7 +266,7 @@ pub(crate) fn add_text(
     ensures { IfOk result (λ is_new. (if is_new then Some listed.new else None) ≡ option_map (λ reference. listed.old ++ reference ∷ []) (option_and_then (if_new listed.old) (ref_in kind text.now))) }
 {
     match read_ref(alloc, kind, text)? {
-        Some(reference) => listed.add(alloc, reference),
+        Some(reference) => listed.add(reference),
         None => Ok(false),
     }
 }

@@ -5,6 +5,7 @@ ghost use Rattle.fetch_wire.specs.Progressing.{Goes, GoesOn};
 ghost use Rattle.fetch_wire.specs.Stepping.{fault_of};
 
 use crate::awaited::{Fault, Told};
+use crate::cloning::Copies;
 use crate::reader::{LineReader, Need};
 use crate::reading::{Read, Reading};
 use crate::section::Trouble;
@@ -20,6 +21,16 @@ pub(crate) enum Progress {
     Whole(Told),
     /// It can't become whole, however the bytes go on.
     Refused(Fault),
+}
+
+impl Copies for Progress {
+    fn copy(&self) -> Result<Progress, NoMemory> {
+        match self {
+            Progress::On(reading) => Ok(Progress::On(reading.try_clone()?)),
+            Progress::Whole(told) => Ok(Progress::Whole(told.try_clone()?)),
+            Progress::Refused(fault) => Ok(Progress::Refused(fault.try_clone()?)),
+        }
+    }
 }
 
 /// Why a line can't be read is why the reply can't.

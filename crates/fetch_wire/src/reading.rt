@@ -8,6 +8,7 @@ ghost use Rattle.fetch_wire.specs.Stepping.{says};
 
 use crate::advertisement::{read_advertised, read_first};
 use crate::awaited::{AskedReply, Await, Told};
+use crate::cloning::{Copies, copy_list};
 use crate::fetch_reply::read_reply;
 use crate::handshake::{Capability, Handshake};
 use crate::line::LineRef;
@@ -99,6 +100,28 @@ impl Reading {
         }
     }
 
+    /// An equal reading.
+    pub(crate) fn try_clone(&self) -> Result<Reading, NoMemory>
+        ensures { IfOk result (λ copy. copy ≡ self.now) }
+    {
+        match self {
+            Reading::Greeting => Ok(Reading::Greeting),
+            Reading::Capabilities(found) => Ok(Reading::Capabilities(copy_list(found)?)),
+            Reading::Version => Ok(Reading::Version),
+            Reading::Advertisement(handshake, listed, allowed) => Ok(Reading::Advertisement(
+                handshake.try_clone()?,
+                listed.try_clone()?,
+                *allowed,
+            )),
+            Reading::Listing(kind, listed) => Ok(Reading::Listing(*kind, listed.try_clone()?)),
+            Reading::Reply(asked, part, reply) => Ok(Reading::Reply(
+                asked.try_clone()?,
+                *part,
+                reply.try_clone()?,
+            )),
+        }
+    }
+
     /// Reads the next line.
     #[tactic(auto, unfolding(crate::specs::Awaited::step_of))]
     pub(crate) fn line(self, alloc: Global, line: LineRef<'_>) -> Result<Read, NoMemory>
@@ -114,5 +137,11 @@ impl Reading {
             Reading::Listing(kind, listed) => read_listed(alloc, kind, listed, said_by(line)),
             Reading::Reply(asked, part, reply) => read_reply(alloc, asked, part, reply, line),
         }
+    }
+}
+
+impl Copies for Reading {
+    fn copy(&self) -> Result<Reading, NoMemory> {
+        self.try_clone()
     }
 }

@@ -3,7 +3,7 @@
 ghost use Rattle.std.specs.Prelude.{◌≡◌, IfOk};
 ghost use Rattle.fetch_wire.specs.FetchReplies.{no_reply};
 
-use crate::cloning::{copy_list, copy_option};
+use crate::cloning::{Copies, copy_list, copy_option};
 use fetch_store::{List, NoMemory, ObjectId, Text};
 use std::alloc::Global;
 
@@ -72,5 +72,11 @@ impl FetchReply {
             progress: copy_list(&self.progress)?,
             last: self.last,
         })
+    }
+}
+
+impl Copies for FetchReply {
+    fn copy(&self) -> Result<FetchReply, NoMemory> {
+        self.try_clone()
     }
 }

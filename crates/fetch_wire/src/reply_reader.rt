@@ -2,10 +2,12 @@
 
 use crate::awaited::{Await, Fault, Told};
 use crate::bound::ReplyBound;
+use crate::cloning::copy_option;
 use crate::error::WireError;
 use crate::progress::{Progress, go_on};
 use crate::reader::LineReader;
 use crate::reading::Reading;
+use fetch_store::NoMemory;
 use std::alloc::Global;
 use std::marker::Model;
 
@@ -29,7 +31,7 @@ impl Model for ReplyReader {
 }
 
 impl ReplyReader {
-    ghost use Rattle.std.specs.Prelude.{◌≡◌, ◌++◌, [], List, ℕ, Some, None, Ok, Err, OnOk, OnErr, IfErr, IsErr};
+    ghost use Rattle.std.specs.Prelude.{◌≡◌, ◌++◌, [], List, ℕ, Some, None, Ok, Err, IfOk, OnOk, OnErr, IfErr, IsErr};
     ghost use Rattle.std.specs.Option.{option_copied};
     ghost use Rattle.fetch_wire.specs.Awaited.{told_at};
     ghost use Rattle.fetch_wire.specs.Progressing.{tells, whole_in, refusal_in};
@@ -45,6 +47,16 @@ impl ReplyReader {
             lines: LineReader::new(alloc, bound),
             progress: Some(Progress::On(Reading::start(alloc, awaited))),
         }
+    }
+
+    /// An equal reader, which goes on apart from this one.
+    pub fn try_clone(&self) -> Result<ReplyReader, NoMemory>
+        ensures { IfOk result (λ copy. copy ≡ self.now) }
+    {
+        Ok(ReplyReader {
+            lines: self.lines.try_clone()?,
+            progress: copy_option(&self.progress)?,
+        })
     }
 
     /// Takes the next bytes, and reads on as far as lines are whole. Want of memory alone is an error: nothing is known
