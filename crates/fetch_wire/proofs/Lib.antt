@@ -17,3 +17,4 @@ pub mod GreetingLines
 pub mod ListingLines
 pub mod ReplyLines
 pub mod AdvertisementLines
+pub mod ReadBack

@@ -18,13 +18,9 @@ use Rattle.fetch_wire.specs.Requests.{sent, text_line}
 use Rattle.fetch_wire.specs.Stepping.{Step, goes, ends, breaks}
 use Rattle.fetch_wire.specs.Steps.{by_line}
 use Rattle.fetch_wire.specs.Texts.{without_lf, is_error}
+pub use Rattle.fetch_wire.specs.Bounds.{Moves}
 use Rattle.fetch_wire.specs.Written.{line_text, lines_text, too_long_in, first_too_long}
 use Rattle.fetch_wire.specs.WrittenLaws.{written-is}
-
--- from one state to another, and none of them ends it
-abbrev pub Moves : {S T : Type 0} → (S → Line → Step S T) → S → List Line → S → Type 0
-Moves step s [] u = s ≡ u
-Moves step s (line ∷ lines) u = (t : _) × (step s line ≡ goes t) × Moves step t lines u
 
 pub first_tells : {S T : Type 0} (step : S → Line → Step S T) (s t : S) (line : Line) (lines : List Line) (x : T) → step s line ≡ goes t → Tells step t lines x → Tells step s (line ∷ lines) x
 first_tells step s t line [] x goes_on tells = absurd tells

@@ -26,6 +26,7 @@ pub mod Feeding
 pub mod FeedingLends
 pub mod WrittenLaws
 pub mod LinesTold
+pub mod Bounds
 pub mod FeedingLaws
 pub mod Bands
 pub mod Progressing

@@ -12,7 +12,7 @@ use Rattle.fetch_wire.specs.Lines.{line_counted, announced, number_in, line_at, 
 use Rattle.fetch_wire.specs.LineLaws.{IsLine}
 use Rattle.fetch_wire.specs.Written.{four_digits, count_of, payload_of, line_text, too_long_in}
 
-digits_four : (bound place : ℕ) (digits bytes : List ℕ) → length digits ≡ 4 → line_at bound place (digits ++ bytes) ≡ announced bound place (number_in digits) bytes
+pub digits_four : (bound place : ℕ) (digits bytes : List ℕ) → length digits ≡ 4 → line_at bound place (digits ++ bytes) ≡ announced bound place (number_in digits) bytes
 unfolding line_at
 digits_four bound place (a ∷ b ∷ c ∷ d ∷ []) bytes four = refl
 digits_four bound place [] bytes four = absurd (omega arith)

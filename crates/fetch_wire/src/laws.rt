@@ -41,6 +41,9 @@ ghost use Rattle.fetch_store.specs.declared.id.ObjectId.{ObjectId};
 ghost use Rattle.fetch_wire.specs.declared.awaited.Await.TheVariants as await;
 ghost use Rattle.std.specs.Prelude.{All, Option, Some, IfSome, false, sum_by, codes, ◌∷◌};
 ghost use Rattle.std.specs.Prelude.{true};
+ghost use Rattle.std.specs.Prelude.{◌↔◌, Err};
+ghost use Rattle.fetch_wire.specs.Bounds.{IsTooLong};
+ghost use Rattle.fetch_wire.specs.declared.awaited.Fault.TheVariants as fault;
 ghost use Rattle.fetch_wire.specs.declared.awaited.AskedReply.{AskedReply};
 ghost use Rattle.fetch_wire.specs.declared.awaited.Await.TheVariants.{Reply};
 ghost use Rattle.fetch_wire.specs.declared.awaited.Told.TheVariants as told;
@@ -213,4 +216,15 @@ pub fn ready_replies_are_read_back()
     ensures { (asked : AskedReply) (ids : List ObjectId) (change : Option BorderChange) (bands : List Band) → asked.done ≡ false → asked.read_pack ≡ true
         → All (IsIdOf asked.kind) ids → All (λ id. has_id id asked.haves ≡ true) ids → IfSome change (IsChangeOf asked.kind)
         → Tells step_of (start_of (Reply asked)) (ready_lines ids change bands) (told.Reply (record (at_last change bands) { acknowledged = ids })) }
+{}
+
+/// What bytes tell of a reply is told by lines, which they write with digits of either case before what is behind them.
+pub fn replies_that_are_read_are_lines()
+    ensures { (bound : ℕ) (awaited : Await) (bytes rest : List ℕ) (told : Told) → told_at bound awaited bytes ≡ Ok (told, rest)
+        → (lines : List Line) × Writes bound 0 lines rest bytes × Tells step_of (start_of awaited) lines told }
+{}
+
+/// A reply is too long exactly where its first lines go on, and the digits of the line behind them pass the bound.
+pub fn replies_that_are_too_long()
+    ensures { (bound : ℕ) (awaited : Await) (bytes : List ℕ) → (told_at bound awaited bytes ≡ Err fault.TooLong) ↔ IsTooLong step_of bound (start_of awaited) bytes }
 {}
