@@ -12,7 +12,7 @@ ghost use Rattle.fetch_specs.specs.declared.operation.Mode.TheVariants as modes;
 use crate::error::SpecError;
 use crate::operation::{Mode, Operation};
 use crate::reading::{Parts, parts_of};
-use fetch_store::{NoMemory, Text};
+use fetch_store::{NoMemory, Text, TryClone};
 use std::alloc::{AllocError, Global};
 use std::marker::Model;
 
@@ -130,6 +130,12 @@ impl RefSpec {
             source: copied(&self.source)?,
             destination: copied(&self.destination)?,
         })
+    }
+}
+
+impl TryClone for RefSpec {
+    fn try_clone(&self) -> Result<RefSpec, NoMemory> {
+        self.try_clone()
     }
 }
 

@@ -2,11 +2,10 @@
 
 ghost use Rattle.std.specs.Prelude.{◌≡◌, IfOk};
 
-use crate::cloning::copy_list;
 use crate::handshake::Handshake;
 use crate::records::FetchReply;
 use crate::reference::Ref;
-use fetch_store::{Kind, List, NoMemory, ObjectId, Text};
+use fetch_store::{Kind, List, NoMemory, ObjectId, Text, TryClone};
 
 /// What the reply to a fetch request depends on.
 #[derive(Debug, Drop)]
@@ -28,7 +27,7 @@ impl AskedReply {
     {
         Ok(AskedReply {
             kind: self.kind,
-            haves: copy_list(&self.haves)?,
+            haves: self.haves.try_clone()?,
             done: self.done,
             read_pack: self.read_pack,
         })
@@ -81,9 +80,9 @@ impl Told {
             Told::Greeting(handshake) => Ok(Told::Greeting(handshake.try_clone()?)),
             Told::Advertisement(handshake, refs) => Ok(Told::Advertisement(
                 handshake.try_clone()?,
-                copy_list(refs)?,
+                refs.try_clone()?,
             )),
-            Told::Listing(refs) => Ok(Told::Listing(copy_list(refs)?)),
+            Told::Listing(refs) => Ok(Told::Listing(refs.try_clone()?)),
             Told::Reply(reply) => Ok(Told::Reply(reply.try_clone()?)),
         }
     }

@@ -2,8 +2,7 @@
 
 ghost use Rattle.std.specs.Prelude.{◌≡◌, IfOk};
 
-use crate::cloning::Copies;
-use fetch_store::{NoMemory, Text};
+use fetch_store::{NoMemory, Text, TryClone};
 use std::alloc::{AllocError, AllocFailed};
 use thiserror::Error;
 
@@ -60,8 +59,8 @@ impl WireError {
     }
 }
 
-impl Copies for WireError {
-    fn copy(&self) -> Result<WireError, NoMemory> {
+impl TryClone for WireError {
+    fn try_clone(&self) -> Result<WireError, NoMemory> {
         self.try_clone()
     }
 }
