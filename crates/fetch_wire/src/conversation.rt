@@ -358,10 +358,16 @@ impl Session {
         ensures stands { spec.refusal_of self.old ≡ None → IfErr result (λ e. spec.refusal_of self.new ≡ Some e) }
     {
         self.answer()?;
-        if self.trouble.is_none() && self.take_in(piece).is_err() {
-            self.lose();
+        if self.trouble.is_some() {
+            return Ok(());
         }
-        self.settle()
+        match self.take_in(piece) {
+            Ok(()) => self.settle(),
+            Err(_) => {
+                self.lose();
+                Err(WireError::NoMemory)
+            }
+        }
     }
 
     /// The peer's bytes end. A reply that is awaited isn't whole: it is malformed at the line that isn't. Where none is
