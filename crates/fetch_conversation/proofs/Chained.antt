@@ -1,15 +1,16 @@
 -- One conversation after another, and refusals told in another type.
-use Rattle.std.proofs.Common.{◌≡◌, ℕ, Bool, false, List, [], ◌++◌, Option, Result, Ok, Err, refl, sym, ap, subst, ◌∙◌, append_assoc, inl, inr}
+use Rattle.std.proofs.Common.{◌≡◌, ◌≢◌, ℕ, Bool, true, false, List, [], ◌∷◌, ◌++◌, Option, Result, Ok, Err, refl, sym, ap, subst, ◌∙◌, append_assoc, inl, inr}
 use Rattle.std.proofs.lemmas.List.{append-nil}
 use Rattle.std.proofs.lemmas.List.Concat.{flat_map-append}
 use Rattle.fetch_wire.specs.Talks.{Talk, IsFront}
 use Rattle.fetch_wire.specs.Talks.{Talks-then}
 use Rattle.fetch_wire.specs.declared.awaited.Fault.{Fault}
+use Rattle.fetch_wire.specs.declared.awaited.Fault.TheVariants as faults
 use Rattle.fetch_wire.specs.declared.awaited.Told.{Told}
 use Rattle.fetch_wire.specs.declared.line.Line.{Line}
 use Rattle.fetch_wire.specs.Awaited.{told_at}
 use Rattle.fetch_wire.specs.Written.{line_text, lines_text}
-use Rattle.fetch_conversation.specs.Conversation.{Conversation, ends, asks, sent_in, answer_in, after_reply, after_answer, and_then, map_refusal, told_as, beside, Concludes, RefusesWith, IsRefusedBy, Breaks}
+use Rattle.fetch_conversation.specs.Conversation.{Conversation, ends, asks, sent_in, answer_in, ends_in, awaits_more, IsAwaited, after_reply, after_answer, and_then, map_refusal, told_as, beside, Concludes, RefusesWith, IsRefusedBy, Breaks}
 
 abbrev pub sent_behind : {X Y E : Type 0} → ℕ → (X → Conversation Y E) → Result (X × List ℕ) E → List Line
 sent_behind bound f (Ok x) = sent_in bound (f x.0) x.1
@@ -62,6 +63,67 @@ front_then bound c f stream heard front =
     let behind = sent_behind bound f (answer_in bound c stream) in
     (front.0 ++ lines_text behind, ap lines_text (sent_then bound c f stream) ∙ flat_map-append line_text (sent_in bound c stream) behind ∙ ap (λ (l : List ℕ). l ++ lines_text behind) front.1 ∙ append_assoc heard front.0 (lines_text behind))
 
+-- ---- what is awaited
+
+-- by what the first is answered: where it isn't, it awaits, or the second does
+abbrev pub awaits_behind : {X Y E : Type 0} → ℕ → (X → Conversation Y E) → Result (X × List ℕ) E → Bool
+awaits_behind bound f (Ok x) = awaits_more bound (f x.0) x.1
+awaits_behind bound f (Err e) = false
+
+awaits_at_end : {X Y E : Type 0} (bound : ℕ) (f : X → Conversation Y E) (answer : Result X E) (stream : List ℕ) → awaits_more bound (after_answer f answer) stream ≡ awaits_behind bound f (beside stream answer)
+unfolding awaits_more
+awaits_at_end bound f (Ok x) stream = refl
+awaits_at_end bound f (Err e) stream = refl
+
+awaits_asking : {X Y E : Type 0} (bound : ℕ) (f : X → Conversation Y E) (failed : Fault → E) (next : Told → Conversation X E) (reading : Result (Told × List ℕ) Fault) (x : X) (rest : List ℕ)
+    → ((told : Told) (left : List ℕ) → answer_in bound (next told) left ≡ Ok (x, rest) → awaits_more bound (and_then (next told) f) left ≡ awaits_more bound (f x) rest)
+    → after_reply (λ fault. Err (failed fault)) (λ told left. answer_in bound (next told) left) reading ≡ Ok (x, rest) → ends_in (λ told left. awaits_more bound (and_then (next told) f) left) reading ≡ awaits_more bound (f x) rest
+awaits_asking bound f failed next (Err fault) x rest again is = absurd (cc)
+awaits_asking bound f failed next (Ok y) x rest again is = again y.0 y.1 is
+
+-- behind the first's end the second awaits
+pub awaits_late : {X Y E : Type 0} (bound : ℕ) (c : Conversation X E) (f : X → Conversation Y E) (stream : List ℕ) (x : X) (rest : List ℕ) → answer_in bound c stream ≡ Ok (x, rest) → awaits_more bound (and_then c f) stream ≡ awaits_more bound (f x) rest
+unfolding answer_in awaits_more and_then
+awaits_late bound (ends answer) f stream x rest is = awaits_at_end bound f answer stream ∙ ap (awaits_behind bound f) is
+awaits_late bound (asks lines awaited failed next) f stream x rest is =
+    awaits_asking bound f failed next (told_at bound awaited stream) x rest (λ told left same. awaits_late bound (next told) f left x rest same) is
+
+ends_asking : (go go' : Told → List ℕ → Bool) (reading : Result (Told × List ℕ) Fault) → ((told : Told) (left : List ℕ) → go told left ≡ true → go' told left ≡ true) → ends_in go reading ≡ true → ends_in go' reading ≡ true
+ends_asking go go' (Ok x) again is = again x.0 x.1 is
+ends_asking go go' (Err (faults.Short place)) again is = refl
+ends_asking go go' (Err (faults.Broken place)) again is = is
+ends_asking go go' (Err faults.TooLong) again is = is
+ends_asking go go' (Err (faults.Said text)) again is = is
+
+-- what the first awaits, both do
+pub awaits_early : {X Y E : Type 0} (bound : ℕ) (c : Conversation X E) (f : X → Conversation Y E) (stream : List ℕ) → awaits_more bound c stream ≡ true → awaits_more bound (and_then c f) stream ≡ true
+unfolding awaits_more and_then
+awaits_early bound (ends answer) f stream is = absurd (cc)
+awaits_early bound (asks lines awaited failed next) f stream is = ends_asking _ _ (told_at bound awaited stream) (λ told left more. awaits_early bound (next told) f left more) is
+
+pub awaits_as : {X E F : Type 0} (bound : ℕ) (g : E → F) (c : Conversation X E) (stream : List ℕ) → awaits_more bound c stream ≡ true → awaits_more bound (told_as g c) stream ≡ true
+unfolding awaits_more told_as
+awaits_as bound g (ends answer) stream is = absurd (cc)
+awaits_as bound g (asks lines awaited failed next) stream is = ends_asking _ _ (told_at bound awaited stream) (λ told left more. awaits_as bound g (next told) left more) is
+
+awaited_early : {X Y E : Type 0} (bound : ℕ) (c : Conversation X E) (f : X → Conversation Y E) (pending said : List ℕ) → IsAwaited bound c pending said → IsAwaited bound (and_then c f) pending said
+awaited_early bound c f pending said h = record { before = h.before; last = h.last; all = h.all; at_once = h.at_once; awaited = λ isnt. awaits_early bound c f (pending ++ h.before) (h.awaited isnt) }
+
+awaited_as : {X E F : Type 0} (bound : ℕ) (g : E → F) (c : Conversation X E) (pending said : List ℕ) → IsAwaited bound c pending said → IsAwaited bound (told_as g c) pending said
+awaited_as bound g c pending said h = record { before = h.before; last = h.last; all = h.all; at_once = h.at_once; awaited = λ isnt. awaits_as bound g c (pending ++ h.before) (h.awaited isnt) }
+
+-- what the second was said comes behind what the first was
+awaited_then : {X Y E : Type 0} (bound : ℕ) (pending rest said said' : List ℕ) (c : Conversation X E) (f : X → Conversation Y E) (x : X) → ((more : List ℕ) → answer_in bound c (pending ++ (said ++ more)) ≡ Ok (x, rest ++ more))
+    → IsAwaited bound c pending said → IsAwaited bound (f x) rest said' → IsAwaited bound (and_then c f) pending (said ++ said')
+awaited_then bound pending rest said [] c f x answered h k = subst (IsAwaited bound (and_then c f) pending) (sym (append-nil said)) (awaited_early bound c f pending said h)
+awaited_then bound pending rest said (b ∷ bytes) c f x answered h k = record {
+  before = said ++ k.before;
+  last = k.last;
+  all = ap (λ (l : List ℕ). said ++ l) k.all ∙ sym (append_assoc said k.before k.last);
+  at_once = k.at_once;
+  awaited = λ isnt. awaits_late bound c f (pending ++ (said ++ k.before)) x (rest ++ k.before) (answered k.before) ∙ k.awaited (λ none. absurd (cc));
+}
+
 -- both to their ends
 pub concludes_then : {X Y E : Type 0} (answers : Bool) (bound : ℕ) (old mid new : Option Talk) (pending rest left : List ℕ) (c : Conversation X E) (f : X → Conversation Y E) (x : X) (y : Y)
     → Concludes answers bound old mid pending c x rest → Concludes answers bound mid new rest (f x) y left → Concludes answers bound old new pending (and_then c f) y left
@@ -69,6 +131,7 @@ concludes_then answers bound old mid new pending rest left c f x y h k = record 
   said = h.said ++ k.said;
   heard = h.heard ++ k.heard;
   passed = Talks-then answers old mid new h.heard h.said k.heard k.said h.passed k.passed;
+  needed = awaited_then bound pending rest h.said k.said c f x h.answered h.needed k.needed;
   asked = λ more. rw append_assoc (text_then bound c f _ _ x (h.answered (k.said ++ more)) ∙ ap (λ (l : List ℕ). l ++ _) (h.asked (k.said ++ more)) ∙ ap (λ (l : List ℕ). h.heard ++ l) (k.asked more));
   answered = λ more. rw append_assoc (answer_then bound c f _ ∙ ap (answer_behind bound f) (h.answered (k.said ++ more)) ∙ k.answered more);
 }
@@ -97,6 +160,7 @@ breaks_late free answers bound old mid new pending rest c f x e h k = record {
   said = h.said ++ k.said;
   heard = h.heard ++ k.heard;
   passed = Talks-then answers old mid new h.heard h.said k.heard k.said h.passed k.passed;
+  needed = awaited_then bound pending rest h.said k.said c f x h.answered h.needed k.needed;
   front = (k.front.0, text_then bound c f _ _ x (h.answered k.said) ∙ ap (λ (l : List ℕ). l ++ _) (h.asked k.said) ∙ ap (λ (l : List ℕ). h.heard ++ l) k.front.1 ∙ sym (append_assoc h.heard k.heard k.front.0));
   why = λ bound_to. late_by bound new pending rest h.said h.heard k.said k.heard c f x e h.asked h.answered (k.why bound_to);
 }
@@ -118,6 +182,7 @@ breaks_early free answers bound old new pending c f e h = record {
   said = h.said;
   heard = h.heard;
   passed = h.passed;
+  needed = awaited_early bound c f pending h.said h.needed;
   front = front_then bound c f _ h.heard h.front;
   why = λ bound_to. early_by bound new _ h.heard c f e (h.why bound_to);
 }
@@ -154,6 +219,7 @@ concludes_as answers bound old new pending rest g c x h = record {
   said = h.said;
   heard = h.heard;
   passed = h.passed;
+  needed = awaited_as bound g c pending h.said h.needed;
   asked = λ more. ap lines_text (sent_as bound g c _) ∙ h.asked more;
   answered = λ more. answer_as bound g c _ ∙ ap (map_refusal g) (h.answered more);
 }
@@ -174,6 +240,7 @@ breaks_as free free' answers bound old new pending g c e same h = record {
   said = h.said;
   heard = h.heard;
   passed = h.passed;
+  needed = awaited_as bound g c pending h.said h.needed;
   front = (h.front.0, ap lines_text (sent_as bound g c _) ∙ h.front.1);
   why = λ bound_to. as_by bound new _ h.heard g c e (h.why (same bound_to));
 }

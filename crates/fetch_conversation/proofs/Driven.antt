@@ -1,5 +1,5 @@
 -- A session goes on, step by step.
-use Rattle.std.proofs.Common.{◌≡◌, ◌≢◌, ℕ, Bool, true, false, List, [], ◌++◌, length, Option, Some, None, Result, Ok, Err, refl, sym, ap, ◌∙◌, subst, append_assoc, inl, inr}
+use Rattle.std.proofs.Common.{◌≡◌, ◌≢◌, ◌≤◌, ℕ, Bool, true, false, List, [], ◌++◌, length, Option, Some, None, Result, Ok, Err, refl, sym, ap, ◌∙◌, subst, append_assoc, arith, inl, inr}
 use Rattle.std.specs.Prelude.{is_some, ◌⊎◌, ◌||◌, ◌==◌}
 use Rattle.std.proofs.lemmas.Bool.{eqb-true}
 use Rattle.std.proofs.lemmas.List.{append-nil, nil_from_length}
@@ -23,7 +23,8 @@ use Rattle.fetch_wire.specs.Written.{first_too_long}
 use Rattle.fetch_wire.proofs.Conversing.{same, fed_is}
 use Rattle.fetch_wire.proofs.SessionAlike.{stays_alike}
 use Rattle.fetch_wire.proofs.SessionPieces.{pieces, stuck}
-use Rattle.fetch_conversation.specs.Drives.{IsDrivable, with_heard, GoesOn, Finishes, Refuses, Explains, Stops, IsUnsent, Takes}
+use Rattle.fetch_conversation.specs.Drives.{IsDrivable, IsWaiting, IsFed, with_heard, GoesOn, Finishes, Refuses, Explains, Stops, IsUnsent, Takes}
+use Rattle.fetch_conversation.specs.Receiving.{most_at_once}
 use Rattle.fetch_conversation.specs.declared.drive.Stop.{Stop}
 use Rattle.fetch_conversation.specs.declared.drive.Stop.TheVariants as stops
 use Rattle.fetch_conversation.proofs.Sending.{heard_stays}
@@ -148,6 +149,23 @@ fed_refused s piece = refused_by s piece s.trouble refl
 pub taken_refused : (s now : SessionState) (piece : List ℕ) → IsAlike now (fed s piece) → now.refused ≡ s.refused
 taken_refused s now piece h = same_refused now (fed s piece) h ∙ fed_refused s piece
 
+-- ---- what is awaited
+
+-- nothing was fed
+fed_none : (s : SessionState) → IsFed s []
+fed_none s = record { before = []; last = []; all = refl; at_once = omega arith; awaited = λ isnt. absurd (isnt refl) }
+
+-- one piece more was fed, while a reply was awaited
+fed_more : (s : SessionState) (said piece : List ℕ) → length piece ≤ most_at_once → IsWaiting (fed s said) → IsFed s (said ++ piece)
+fed_more s said piece few waits = record { before = said; last = piece; all = refl; at_once = few; awaited = λ _. waits }
+
+pub waits_alike : (a b : SessionState) → IsAlike a b → IsWaiting a → IsWaiting b
+waits_alike a b h w = record { well = sym (same_trouble a b h) ∙ w.well; short = (w.short.0, sym (h.intake.told []) ∙ w.short.1) }
+
+-- what is to be sent doesn't matter
+waits_behind : (heard : List ℕ) (a b : SessionState) → IsAlike (with_heard heard a) b → IsWaiting a → IsWaiting b
+waits_behind heard a b h w = waits_alike (with_heard heard a) b h (record { well = w.well; short = w.short })
+
 -- ---- steps
 
 pub goes_none : (answers : Bool) (old : Option Talk) (s : SessionState) → IsDrivable s → GoesOn answers old old s s
@@ -155,6 +173,7 @@ goes_none answers old s h = record {
   heard = [];
   said = [];
   passed = Talks-none answers old;
+  awaited = fed_none s;
   is = h.read;
 }
 
@@ -164,6 +183,7 @@ goes_sent answers old mid new s now h talk = record {
   heard = h.heard ++ now.outgoing;
   said = h.said;
   passed = subst (Talks answers old new (h.heard ++ now.outgoing)) (append-nil h.said) (Talks-then answers old mid new h.heard h.said now.outgoing [] h.passed talk);
+  awaited = h.awaited;
   is = subst (λ (l : List ℕ). IsAlike (record now { outgoing = l }) (fed s h.said)) (sym (append-nil (h.heard ++ now.outgoing))) h.is;
 }
 
@@ -174,11 +194,12 @@ heard_fed s now next heard said piece h is =
     subst (λ (x : SessionState). IsAlike (with_heard heard next) x) (pieces s said piece s.trouble refl) (alike_then (with_heard heard next) (fed (with_heard heard now) piece) (fed (fed s said) piece) first second)
 
 -- a piece was fed
-pub goes_fed : (answers : Bool) (old mid new : Option Talk) (s now next : SessionState) (piece : List ℕ) → GoesOn answers old mid s now → Talks false mid new [] piece → IsAlike next (fed now piece) → GoesOn answers old new s next
-goes_fed answers old mid new s now next piece h talk is = record {
+pub goes_fed : (answers : Bool) (old mid new : Option Talk) (s now next : SessionState) (piece : List ℕ) → GoesOn answers old mid s now → IsWaiting now → length piece ≤ most_at_once → Talks false mid new [] piece → IsAlike next (fed now piece) → GoesOn answers old new s next
+goes_fed answers old mid new s now next piece h waits few talk is = record {
   heard = h.heard;
   said = h.said ++ piece;
   passed = subst (λ (l : List ℕ). Talks answers old new l (h.said ++ piece)) (append-nil h.heard) (Talks-then answers old mid new h.heard h.said [] piece h.passed (Talks-stay answers mid new [] piece talk));
+  awaited = fed_more s h.said piece few (waits_behind h.heard now (fed s h.said) h.is waits);
   is = heard_fed s now next h.heard h.said piece h.is is;
 }
 
@@ -195,6 +216,7 @@ stops_sending answers old mid new s now front e h is talk free = record {
   heard = h.heard ++ front;
   said = h.said;
   passed = subst (Talks answers old new (h.heard ++ front)) (append-nil h.said) (Talks-then answers old mid new h.heard h.said front [] h.passed talk);
+  awaited = h.awaited;
   front = (is.0, sym (same_outgoing (with_heard h.heard now) (fed s h.said) h.is) ∙ ap (λ (l : List ℕ). h.heard ++ l) is.1 ∙ sym (append_assoc h.heard front is.0));
   why = unsent_explains new (h.heard ++ front) (fed s h.said) e free;
 }
@@ -214,27 +236,28 @@ explains_behind now heard a b (stops.Refused w) h why = λ isnt.
 explains_behind now heard a b stops.Failed h why = tt
 explains_behind now heard a b stops.Interrupted h why = tt
 
-stops_at : (answers : Bool) (old new : Option Talk) (s a : SessionState) (heard said : List ℕ) (e : Stop) → Talks answers old new heard said → IsAlike (with_heard heard a) (fed s said) → Explains new [] a e → Stops answers old new s e
-stops_at answers old new s a heard said e talk h why = record {
+stops_at : (answers : Bool) (old new : Option Talk) (s a : SessionState) (heard said : List ℕ) (e : Stop) → Talks answers old new heard said → IsFed s said → IsAlike (with_heard heard a) (fed s said) → Explains new [] a e → Stops answers old new s e
+stops_at answers old new s a heard said e talk awaited h why = record {
   heard = heard;
   said = said;
   passed = talk;
+  awaited = awaited;
   front = (a.outgoing, sym (same_outgoing (with_heard heard a) (fed s said) h));
   why = explains_behind new heard a (fed s said) e h why;
 }
 
-stops_said : (answers : Bool) (old mid new : Option Talk) (s now : SessionState) (piece : List ℕ) (e : Stop) → GoesOn answers old mid s now → Talks false mid new [] piece → (Explains new [] (fed now piece) e ⊎ ((piece ≡ []) × Explains new [] now e)) → Stops answers old new s e
-stops_said answers old mid new s now piece e h talk (inl why) =
-    let next : GoesOn answers old new s (fed now piece) = goes_fed answers old mid new s now (fed now piece) piece h talk (same (fed now piece)) in
-    stops_at answers old new s (fed now piece) next.heard next.said e next.passed next.is why
-stops_said answers old mid new s now piece e h talk (inr x) =
+stops_said : (answers : Bool) (old mid new : Option Talk) (s now : SessionState) (piece : List ℕ) (e : Stop) → GoesOn answers old mid s now → IsWaiting now → length piece ≤ most_at_once → Talks false mid new [] piece → (Explains new [] (fed now piece) e ⊎ ((piece ≡ []) × Explains new [] now e)) → Stops answers old new s e
+stops_said answers old mid new s now piece e h waits few talk (inl why) =
+    let next : GoesOn answers old new s (fed now piece) = goes_fed answers old mid new s now (fed now piece) piece h waits few talk (same (fed now piece)) in
+    stops_at answers old new s (fed now piece) next.heard next.said e next.passed next.awaited next.is why
+stops_said answers old mid new s now piece e h waits few talk (inr x) =
     let passed : Talks answers old new (h.heard ++ []) (h.said ++ piece) = Talks-then answers old mid new h.heard h.said [] piece h.passed (Talks-stay answers mid new [] piece talk) in
     let same_said : h.said ++ piece ≡ h.said = ap (λ (l : List ℕ). h.said ++ l) x.0 ∙ append-nil h.said in
-    stops_at answers old new s now h.heard h.said e (subst (λ (l : List ℕ). Talks answers old new l h.said) (append-nil h.heard) (subst (Talks answers old new (h.heard ++ [])) same_said passed)) h.is x.1
+    stops_at answers old new s now h.heard h.said e (subst (λ (l : List ℕ). Talks answers old new l h.said) (append-nil h.heard) (subst (Talks answers old new (h.heard ++ [])) same_said passed)) h.awaited h.is x.1
 
 -- what came is refused, or a receive is
-pub stops_receiving : (T : Type 0) (answers : Bool) (old mid new : Option Talk) (s now next : SessionState) (e : Stop) → GoesOn answers old mid s now → Takes {T = T} mid new now next (Err e) → Stops answers old new s e
-stops_receiving T answers old mid new s now next e h x = stops_said answers old mid new s now x.0 e h x.1 x.2
+pub stops_receiving : (T : Type 0) (answers : Bool) (old mid new : Option Talk) (s now next : SessionState) (e : Stop) → GoesOn answers old mid s now → IsWaiting now → Takes {T = T} mid new now next (Err e) → Stops answers old new s e
+stops_receiving T answers old mid new s now next e h waits x = stops_said answers old mid new s now x.0 e h waits x.1 x.2 x.3
 
 -- ---- turns
 
@@ -279,6 +302,10 @@ well_by s None true false is sent reads = (λ t. absurd (cc), λ t. record { sen
 
 receiving : (s : SessionState) → turn_of s ≡ turns.Receive → IsWell s true
 receiving s is = (well_by s (refusal_of s) (is_all_sent s) (is_some s.intake.reading) refl refl refl).0 is
+
+-- a reply is awaited that isn't whole yet
+pub waiting : (s : SessionState) → turn_of s ≡ turns.Receive → IsAwaiting s → IsWaiting s
+waiting s turn short = record { well = (receiving s turn).trouble; short = short }
 
 pub resting : (s : SessionState) → turn_of s ≡ turns.Idle → IsWell s false
 resting s is = (well_by s (refusal_of s) (is_all_sent s) (is_some s.intake.reading) refl refl refl).1 is
@@ -341,7 +368,7 @@ refused_answers s isnt turn h =
 
 -- a refusal that stood
 pub stops_refused : (answers : Bool) (old new : Option Talk) (s now : SessionState) (f : WireError) → GoesOn answers old new s now → now.refused ≡ false → turn_of now ≡ turns.Failed → Answers (refusal_of (ended now)) (Err f) → Stops answers old new s (stops.Refused f)
-stops_refused answers old new s now f h isnt turn answer = stops_at answers old new s now h.heard h.said (stops.Refused f) h.passed h.is (refused_stands new now f isnt turn answer)
+stops_refused answers old new s now f h isnt turn answer = stops_at answers old new s now h.heard h.said (stops.Refused f) h.passed h.awaited h.is (refused_stands new now f isnt turn answer)
 
 -- no refusal was answered
 pub finished_unrefused : (answers : Bool) (old new : Option Talk) (s now : SessionState) → s.refused ≡ false → Finishes answers old new s now → now.refused ≡ false

@@ -20,25 +20,27 @@ use Rattle.fetch_wire.specs.Intakes.{resting, told_with}
 use Rattle.fetch_wire.specs.Requests.{listing_lines}
 use Rattle.fetch_wire.specs.SessionStates.{SessionState, fed, opened, after_told, read_one, rests, asks, listing_by, listing_feature}
 use Rattle.fetch_wire.specs.Written.{line_text, lines_text, first_too_long}
-use Rattle.fetch_conversation.specs.Conversation.{Conversation, ends, sent_in, answer_in, after_reply, asks_unless}
+use Rattle.fetch_conversation.specs.Conversation.{Conversation, ends, sent_in, answer_in, ends_in, awaits_more, after_reply, asks_unless}
 use Rattle.fetch_conversation.specs.Conversation as tree
+use Rattle.fetch_conversation.specs.Drives.{IsWaiting}
 use Rattle.fetch_conversation.specs.ListStage.{InquiryValue, ListedValue, prefixes_asked, handshaking, too_long, failed, unless, listed, listing, greeted}
 use Rattle.fetch_conversation.specs.Listing.{found_in}
 use Rattle.fetch_conversation.specs.declared.prepare.Error.{Error}
 use Rattle.fetch_conversation.proofs.AwaitedTold.{TellsRefs, listing_tells}
-use Rattle.fetch_conversation.proofs.Tied.{answer_of, answer_by, IsTied}
+use Rattle.fetch_conversation.proofs.Tied.{answer_of, answer_by, rests_by, fails_by, IsTied}
 
 abbrev pub finding : InquiryValue → Option Handshake → Option (List Ref) → Option FetchReply → Result ListedValue Error
 finding q h refs reply = found_in q h refs
 
 -- A session sends this, and is answered so.
-record Shows (q : InquiryValue) (bound : ℕ) (s : SessionState) (lines : List Line) (answer : Result (ListedValue × List ℕ) Error) : Type 0 where
+record Shows (q : InquiryValue) (bound : ℕ) (s : SessionState) (lines : List Line) (answer : Result (ListedValue × List ℕ) Error) (more : Bool) : Type 0 where
   sent : lines_text lines ≡ s.outgoing
   answered : answer ≡ answer_of handshaking (finding q) s
   bounded : s.intake.bound ≡ bound
+  awaited : IsWaiting s → more ≡ true
 
-shows_as : (q : InquiryValue) (bound : ℕ) (lines : List Line) (answer : Result (ListedValue × List ℕ) Error) (s t : SessionState) → t ≡ s → Shows q bound s lines answer → Shows q bound t lines answer
-shows_as q bound lines answer s t is h = subst (λ (x : SessionState). Shows q bound x lines answer) (sym is) h
+shows_as : (q : InquiryValue) (bound : ℕ) (lines : List Line) (answer : Result (ListedValue × List ℕ) Error) (more : Bool) (s t : SessionState) → t ≡ s → Shows q bound s lines answer more → Shows q bound t lines answer more
+shows_as q bound lines answer more s t is h = subst (λ (x : SessionState). Shows q bound x lines answer more) (sym is) h
 
 -- a session that awaits the references, behind the first line and the listing request
 abbrev listing_state : InquiryValue → ℕ → Line → Handshake → List Line → List ℕ → SessionState
@@ -60,26 +62,27 @@ both_lines first lines = ap (λ (l : List Line). lines_text (first ∷ l)) (appe
 -- by what the listing tells
 by_listing : (q : InquiryValue) (bound : ℕ) (first : Line) (h : Handshake) (lines : List Line) (rest : List ℕ) (found : Result (Told × List ℕ) Fault) → TellsRefs found → told_with (listing_state q bound first h lines rest).intake [] ≡ Some found
     → Shows q bound (read_one rests (listing_state q bound first h lines rest)) (first ∷ [] ++ (lines ++ after_reply (λ _. []) (λ t left. sent_in bound (listed q h t) left) found)) (after_reply (λ fault. Err (failed bound fault)) (λ t left. answer_in bound (listed q h t) left) found)
-unfolding sent_in answer_in
+    (ends_in (λ t left. awaits_more bound (listed q h t) left) found)
+unfolding sent_in answer_in awaits_more
 by_listing q bound first h lines rest (Ok (told.Greeting other, left)) tells is = absurd tells
 by_listing q bound first h lines rest (Ok (told.Advertisement other refs, left)) tells is = absurd tells
 by_listing q bound first h lines rest (Ok (told.Reply reply, left)) tells is = absurd tells
 by_listing q bound first h lines rest (Ok (told.Listing refs, left)) tells is =
     let s : SessionState = listing_state q bound first h lines rest in
-    shows_as q bound _ _ _ (read_one rests s) (ap (after_told rests s) is) (record { sent = both_lines first lines; answered = refl; bounded = refl })
+    shows_as q bound _ _ _ _ (read_one rests s) (ap (after_told rests s) is) (record { sent = both_lines first lines; answered = refl; bounded = refl; awaited = λ w. rests_by _ _ refl w })
 by_listing q bound first h lines rest (Err (faults.Short place)) tells is =
     let s : SessionState = listing_state q bound first h lines rest in
-    shows_as q bound _ _ s (read_one rests s) (ap (after_told rests s) is)
-    (record { sent = both_lines first lines; answered = sym (ap (answer_by handshaking bound rest (found_in q (Some h) None) None) is); bounded = refl })
+    shows_as q bound _ _ _ s (read_one rests s) (ap (after_told rests s) is)
+    (record { sent = both_lines first lines; answered = sym (ap (answer_by handshaking bound rest (found_in q (Some h) None) None) is); bounded = refl; awaited = λ _. refl })
 by_listing q bound first h lines rest (Err (faults.Broken place)) tells is =
     let s : SessionState = listing_state q bound first h lines rest in
-    shows_as q bound _ _ _ (read_one rests s) (ap (after_told rests s) is) (record { sent = both_lines first lines; answered = refl; bounded = refl })
+    shows_as q bound _ _ _ _ (read_one rests s) (ap (after_told rests s) is) (record { sent = both_lines first lines; answered = refl; bounded = refl; awaited = λ w. fails_by _ _ _ refl w })
 by_listing q bound first h lines rest (Err faults.TooLong) tells is =
     let s : SessionState = listing_state q bound first h lines rest in
-    shows_as q bound _ _ _ (read_one rests s) (ap (after_told rests s) is) (record { sent = both_lines first lines; answered = refl; bounded = refl })
+    shows_as q bound _ _ _ _ (read_one rests s) (ap (after_told rests s) is) (record { sent = both_lines first lines; answered = refl; bounded = refl; awaited = λ w. fails_by _ _ _ refl w })
 by_listing q bound first h lines rest (Err (faults.Said text)) tells is =
     let s : SessionState = listing_state q bound first h lines rest in
-    shows_as q bound _ _ _ (read_one rests s) (ap (after_told rests s) is) (record { sent = both_lines first lines; answered = refl; bounded = refl })
+    shows_as q bound _ _ _ _ (read_one rests s) (ap (after_told rests s) is) (record { sent = both_lines first lines; answered = refl; bounded = refl; awaited = λ w. fails_by _ _ _ refl w })
 
 -- a session that awaits the greeting, and this came
 abbrev greeting_state : InquiryValue → ℕ → Line → List ℕ → SessionState
@@ -92,10 +95,10 @@ asked_listing bound q h lines long offered =
 
 by_offer : (q : InquiryValue) (bound : ℕ) (first : Line) (stream : List ℕ) (h : Handshake) (lines : List Line) (rest : List ℕ) (long : Option ℕ) (offered : Bool)
     → Shows q bound (read_one rests (listing_by long offered h lines (record (greeting_state q bound first stream) { intake = resting rest (greeting_state q bound first stream).intake; handshake = Some h })))
-    (first ∷ [] ++ sent_in bound (asked_listing bound q h lines long offered) rest) (answer_in bound (asked_listing bound q h lines long offered) rest)
-unfolding sent_in answer_in
-by_offer q bound first stream h lines rest (Some n) offered = record { sent = refl; answered = refl; bounded = refl }
-by_offer q bound first stream h lines rest None false = record { sent = refl; answered = refl; bounded = refl }
+    (first ∷ [] ++ sent_in bound (asked_listing bound q h lines long offered) rest) (answer_in bound (asked_listing bound q h lines long offered) rest) (awaits_more bound (asked_listing bound q h lines long offered) rest)
+unfolding sent_in answer_in awaits_more
+by_offer q bound first stream h lines rest (Some n) offered = record { sent = refl; answered = refl; bounded = refl; awaited = λ w. fails_by _ _ _ refl w }
+by_offer q bound first stream h lines rest None false = record { sent = refl; answered = refl; bounded = refl; awaited = λ w. fails_by _ _ _ refl w }
 by_offer q bound first stream h lines rest None true =
     by_listing q bound first h lines rest (told_at bound (awaits.Listing h.object_hash) rest) (listing_tells bound h.object_hash rest) (ap (λ (l : List ℕ). Some (told_from bound (reading.Listing h.object_hash []) 0 l)) (append-nil rest))
 
@@ -103,36 +106,38 @@ by_offer q bound first stream h lines rest None true =
 by_greeting : (q : InquiryValue) (bound : ℕ) (first : Line) (stream : List ℕ) (found : Result (Told × List ℕ) Fault) → told_with (greeting_state q bound first stream).intake [] ≡ Some found
     → Shows q bound (read_one rests (after_told asks (greeting_state q bound first stream) (Some found)))
     (first ∷ [] ++ after_reply (λ _. []) (λ t left. sent_in bound (greeted bound q t) left) found) (after_reply (λ fault. Err (failed bound fault)) (λ t left. answer_in bound (greeted bound q t) left) found)
-unfolding sent_in answer_in listing
+    (ends_in (λ t left. awaits_more bound (greeted bound q t) left) found)
+unfolding sent_in answer_in awaits_more listing
 by_greeting q bound first stream (Ok (told.Greeting h, left)) is =
     let lines : List Line = listing_lines h q.agent (prefixes_asked q) in
     by_offer q bound first stream h lines left (first_too_long lines) (offers listing_feature h.capabilities)
-by_greeting q bound first stream (Ok (told.Advertisement h refs, left)) is = record { sent = refl; answered = refl; bounded = refl }
-by_greeting q bound first stream (Ok (told.Listing refs, left)) is = record { sent = refl; answered = refl; bounded = refl }
-by_greeting q bound first stream (Ok (told.Reply reply, left)) is = record { sent = refl; answered = refl; bounded = refl }
+by_greeting q bound first stream (Ok (told.Advertisement h refs, left)) is = record { sent = refl; answered = refl; bounded = refl; awaited = λ w. rests_by _ _ refl w }
+by_greeting q bound first stream (Ok (told.Listing refs, left)) is = record { sent = refl; answered = refl; bounded = refl; awaited = λ w. rests_by _ _ refl w }
+by_greeting q bound first stream (Ok (told.Reply reply, left)) is = record { sent = refl; answered = refl; bounded = refl; awaited = λ w. rests_by _ _ refl w }
 by_greeting q bound first stream (Err (faults.Short place)) is =
     let s : SessionState = greeting_state q bound first stream in
-    shows_as q bound _ _ s (read_one rests s) (ap (after_told rests s) is)
-    (record { sent = refl; answered = sym (ap (answer_by handshaking bound ([] ++ stream) (found_in q None None) None) is); bounded = refl })
-by_greeting q bound first stream (Err (faults.Broken place)) is = record { sent = refl; answered = refl; bounded = refl }
-by_greeting q bound first stream (Err faults.TooLong) is = record { sent = refl; answered = refl; bounded = refl }
-by_greeting q bound first stream (Err (faults.Said text)) is = record { sent = refl; answered = refl; bounded = refl }
+    shows_as q bound _ _ _ s (read_one rests s) (ap (after_told rests s) is)
+    (record { sent = refl; answered = sym (ap (answer_by handshaking bound ([] ++ stream) (found_in q None None) None) is); bounded = refl; awaited = λ _. refl })
+by_greeting q bound first stream (Err (faults.Broken place)) is = record { sent = refl; answered = refl; bounded = refl; awaited = λ w. fails_by _ _ _ refl w }
+by_greeting q bound first stream (Err faults.TooLong) is = record { sent = refl; answered = refl; bounded = refl; awaited = λ w. fails_by _ _ _ refl w }
+by_greeting q bound first stream (Err (faults.Said text)) is = record { sent = refl; answered = refl; bounded = refl; awaited = λ w. fails_by _ _ _ refl w }
 
 -- the inquiry, where its first line fits and nothing of it is refused
 abbrev pub inquiring : ℕ → InquiryValue → Line → Conversation ListedValue Error
 inquiring bound q first = tree.asks (first ∷ []) awaits.Greeting (failed bound) (λ t. greeted bound q t)
 
-shows : (q : InquiryValue) (bound : ℕ) (first : Line) (stream : List ℕ) → Shows q bound (fed (opened bound q.agent (prefixes_asked q) first) stream) (sent_in bound (inquiring bound q first) ([] ++ stream)) (answer_in bound (inquiring bound q first) ([] ++ stream))
-unfolding sent_in answer_in
+shows : (q : InquiryValue) (bound : ℕ) (first : Line) (stream : List ℕ) → Shows q bound (fed (opened bound q.agent (prefixes_asked q) first) stream) (sent_in bound (inquiring bound q first) ([] ++ stream)) (answer_in bound (inquiring bound q first) ([] ++ stream)) (awaits_more bound (inquiring bound q first) ([] ++ stream))
+unfolding sent_in answer_in awaits_more
 shows q bound first stream =
     let found : Result (Told × List ℕ) Fault = told_at bound awaits.Greeting stream in
     let is : told_with (greeting_state q bound first stream).intake [] ≡ Some found = ap (λ (l : List ℕ). Some (told_from bound reading.Greeting 0 l)) (append-nil stream) in
     let s : SessionState = greeting_state q bound first stream in
-    shows_as q bound _ _ _ (fed (opened bound q.agent (prefixes_asked q) first) stream) (ap (λ (f : Option (Result (Told × List ℕ) Fault)). read_one rests (after_told asks s f)) is) (by_greeting q bound first stream found is)
+    shows_as q bound _ _ _ _ (fed (opened bound q.agent (prefixes_asked q) first) stream) (ap (λ (f : Option (Result (Told × List ℕ) Fault)). read_one rests (after_told asks s f)) is) (by_greeting q bound first stream found is)
 
 pub tied : (q : InquiryValue) (bound : ℕ) (first : Line) → IsTied handshaking (finding q) bound (opened bound q.agent (prefixes_asked q) first) (inquiring bound q first) []
 tied q bound first = record {
   sent = λ stream. (shows q bound first stream).sent;
   answered = λ stream. (shows q bound first stream).answered;
   bounded = λ stream. (shows q bound first stream).bounded;
+  awaited = λ stream w. (shows q bound first stream).awaited w;
 }

@@ -11,8 +11,10 @@ pub mod Replied
 pub mod Listings
 pub mod Requests
 pub mod Exchanged
+pub mod Heeded
 pub mod Held
 pub mod Told
 pub mod Ending
 pub mod Fetches
 pub mod Turns
+pub mod Writing

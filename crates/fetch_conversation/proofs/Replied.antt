@@ -1,5 +1,5 @@
 -- A session to which a request was given is that of a question.
-use Rattle.std.proofs.Common.{◌≡◌, ℕ, Bool, List, [], ◌++◌, Option, Some, None, Result, Ok, Err, refl, sym, ap, ◌∙◌, subst}
+use Rattle.std.proofs.Common.{◌≡◌, ℕ, Bool, true, List, [], ◌++◌, Option, Some, None, Result, Ok, Err, refl, sym, ap, ◌∙◌, subst}
 use Rattle.std.proofs.lemmas.List.{append-nil}
 use Rattle.fetch_wire.specs.declared.awaited.AskedReply.{AskedReply}
 use Rattle.fetch_wire.specs.declared.awaited.Await.TheVariants as awaits
@@ -24,13 +24,14 @@ use Rattle.fetch_wire.specs.SessionStates.{SessionState, fed, requested, asked_b
 use Rattle.fetch_wire.specs.StepLaws.{IsSettled, with_more, read_by-more}
 use Rattle.fetch_wire.specs.Written.{lines_text}
 use Rattle.fetch_wire.proofs.Conversing.{fed_is}
-use Rattle.fetch_conversation.specs.Conversation.{Conversation, ends, sent_in, answer_in, after_reply, beside}
+use Rattle.fetch_conversation.specs.Conversation.{Conversation, ends, sent_in, answer_in, ends_in, awaits_more, after_reply, beside}
 use Rattle.fetch_conversation.specs.Conversation as tree
 use Rattle.fetch_conversation.specs.Conversing.{found_in}
+use Rattle.fetch_conversation.specs.Drives.{IsWaiting}
 use Rattle.fetch_conversation.specs.declared.fetch.Error.{Error}
 use Rattle.fetch_conversation.specs.declared.fetch.Error.TheVariants as errors
 use Rattle.fetch_conversation.proofs.AwaitedTold.{TellsReply, reply_tells}
-use Rattle.fetch_conversation.proofs.Tied.{answer_of, answer_by, at_rest, IsTied}
+use Rattle.fetch_conversation.proofs.Tied.{answer_of, answer_by, at_rest, rests_by, fails_by, IsTied}
 
 -- a session that awaits the reply, and this came of it
 abbrev pub reply_state : SessionState → ℕ → AskedReply → List ℕ → SessionState
@@ -98,13 +99,14 @@ requested_read s r read_pack well =
 abbrev pub finding : {X : Type 0} → (FetchReply → Result X Error) → Option Handshake → Option (List Ref) → Option FetchReply → Result X Error
 finding f h refs reply = found_in f reply
 
-record Shows {X : Type 0} (f : FetchReply → Result X Error) (next : Told → Conversation X Error) (bound : ℕ) (s : SessionState) (lines : List Line) (answer : Result (X × List ℕ) Error) : Type 0 where
+record Shows {X : Type 0} (f : FetchReply → Result X Error) (next : Told → Conversation X Error) (bound : ℕ) (s : SessionState) (lines : List Line) (answer : Result (X × List ℕ) Error) (more : Bool) : Type 0 where
   sent : lines_text lines ≡ s.outgoing
   answered : answer ≡ answer_of errors.Fetch (finding f) s
   bounded : s.intake.bound ≡ bound
+  awaited : IsWaiting s → more ≡ true
 
-shows_as : {X : Type 0} (f : FetchReply → Result X Error) (next : Told → Conversation X Error) (bound : ℕ) (lines : List Line) (answer : Result (X × List ℕ) Error) (s t : SessionState) → t ≡ s → Shows f next bound s lines answer → Shows f next bound t lines answer
-shows_as f next bound lines answer s t is h = subst (λ (x : SessionState). Shows f next bound x lines answer) (sym is) h
+shows_as : {X : Type 0} (f : FetchReply → Result X Error) (next : Told → Conversation X Error) (bound : ℕ) (lines : List Line) (answer : Result (X × List ℕ) Error) (more : Bool) (s t : SessionState) → t ≡ s → Shows f next bound s lines answer more → Shows f next bound t lines answer more
+shows_as f next bound lines answer more s t is h = subst (λ (x : SessionState). Shows f next bound x lines answer more) (sym is) h
 
 sent_lines : (lines : List Line) (out : List ℕ) → lines_text lines ≡ out → lines_text (lines ++ []) ≡ out
 sent_lines lines out is = ap lines_text (append-nil lines) ∙ is
@@ -112,8 +114,8 @@ sent_lines lines out is = ap lines_text (append-nil lines) ∙ is
 by_reply : {X : Type 0} (f : FetchReply → Result X Error) (next : Told → Conversation X Error) (s : SessionState) (bound : ℕ) (asked : AskedReply) (lines : List Line) (bytes : List ℕ) (found : Result (Told × List ℕ) Fault) → ((reply : FetchReply) → next (told.Reply reply) ≡ ends (f reply)) → s.trouble ≡ None
     → lines_text lines ≡ s.outgoing → TellsReply found → told_with (reply_state s bound asked bytes).intake [] ≡ Some found
     → Shows f next bound (after_told rests (reply_state s bound asked bytes) (Some found)) (lines ++ after_reply (λ _. []) (λ t left. sent_in bound (next t) left) found)
-    (after_reply (λ fault. Err (errors.Fetch (error_of bound fault))) (λ t left. answer_in bound (next t) left) found)
-unfolding sent_in answer_in
+    (after_reply (λ fault. Err (errors.Fetch (error_of bound fault))) (λ t left. answer_in bound (next t) left) found) (ends_in (λ t left. awaits_more bound (next t) left) found)
+unfolding sent_in answer_in awaits_more
 by_reply f next s bound asked lines bytes (Ok (told.Greeting h, left)) nexts well out tells is = absurd tells
 by_reply f next s bound asked lines bytes (Ok (told.Advertisement h refs, left)) nexts well out tells is = absurd tells
 by_reply f next s bound asked lines bytes (Ok (told.Listing refs, left)) nexts well out tells is = absurd tells
@@ -122,15 +124,17 @@ by_reply {X} f next s bound asked lines bytes (Ok (told.Reply reply, left)) next
       sent = ap (λ (c : Conversation X Error). lines_text (lines ++ sent_in bound c left)) (nexts reply) ∙ sent_lines lines s.outgoing out;
       answered = ap (λ (c : Conversation X Error). answer_in bound c left) (nexts reply) ∙ sym (ap (λ (t : Option WireError). answer_by errors.Fetch bound left (f reply) t None) well);
       bounded = refl;
+      awaited = λ w. rests_by _ _ refl w;
     }
 by_reply f next s bound asked lines bytes (Err (faults.Short place)) nexts well out tells is = record {
   sent = sent_lines lines s.outgoing out;
   answered = sym (ap (λ (t : Option WireError). answer_by errors.Fetch bound bytes (found_in f s.reply) t (told_with (reply_state s bound asked bytes).intake [])) well ∙ ap (answer_by errors.Fetch bound bytes (found_in f s.reply) None) is);
   bounded = refl;
+  awaited = λ _. refl;
 }
-by_reply f next s bound asked lines bytes (Err (faults.Broken place)) nexts well out tells is = record { sent = sent_lines lines s.outgoing out; answered = refl; bounded = refl }
-by_reply f next s bound asked lines bytes (Err faults.TooLong) nexts well out tells is = record { sent = sent_lines lines s.outgoing out; answered = refl; bounded = refl }
-by_reply f next s bound asked lines bytes (Err (faults.Said text)) nexts well out tells is = record { sent = sent_lines lines s.outgoing out; answered = refl; bounded = refl }
+by_reply f next s bound asked lines bytes (Err (faults.Broken place)) nexts well out tells is = record { sent = sent_lines lines s.outgoing out; answered = refl; bounded = refl; awaited = λ w. fails_by _ _ _ refl w }
+by_reply f next s bound asked lines bytes (Err faults.TooLong) nexts well out tells is = record { sent = sent_lines lines s.outgoing out; answered = refl; bounded = refl; awaited = λ w. fails_by _ _ _ refl w }
+by_reply f next s bound asked lines bytes (Err (faults.Said text)) nexts well out tells is = record { sent = sent_lines lines s.outgoing out; answered = refl; bounded = refl; awaited = λ w. fails_by _ _ _ refl w }
 
 -- the question
 abbrev pub question : {X : Type 0} → (Told → Conversation X Error) → ℕ → List Line → AskedReply → Conversation X Error
@@ -139,7 +143,8 @@ question next bound lines asked = tree.asks lines (awaits.Reply asked) (λ fault
 shows : {X : Type 0} (f : FetchReply → Result X Error) (next : Told → Conversation X Error) (s : SessionState) (r : Request) (read_pack : Bool) (lines : List Line) (stream : List ℕ) → ((reply : FetchReply) → next (told.Reply reply) ≡ ends (f reply)) → s.trouble ≡ None → lines_text lines ≡ lines_text (request_lines r)
     → Shows f next s.intake.bound (fed (requested s r read_pack) stream) (sent_in s.intake.bound (question next s.intake.bound lines (asked_by s r read_pack)) (s.intake.pending ++ stream))
     (answer_in s.intake.bound (question next s.intake.bound lines (asked_by s r read_pack)) (s.intake.pending ++ stream))
-unfolding sent_in answer_in
+    (awaits_more s.intake.bound (question next s.intake.bound lines (asked_by s r read_pack)) (s.intake.pending ++ stream))
+unfolding sent_in answer_in awaits_more
 shows f next s r read_pack lines stream nexts well out =
     let bound : ℕ = s.intake.bound in
     let asked : AskedReply = asked_by s r read_pack in
@@ -147,7 +152,7 @@ shows f next s r read_pack lines stream nexts well out =
     let now : SessionState = reply_state (asking_state s r) bound asked bytes in
     let found : Result (Told × List ℕ) Fault = told_at bound (awaits.Reply asked) bytes in
     let is : told_with now.intake [] ≡ Some found = ap (λ (l : List ℕ). Some (told_from bound (reading.Reply asked parts.Beginning no_reply) 0 l)) (append-nil bytes) in
-    shows_as f next bound _ _ _ (fed (requested s r read_pack) stream) (fed_requested s r read_pack stream well ∙ ap (after_told rests now) is)
+    shows_as f next bound _ _ _ _ (fed (requested s r read_pack) stream) (fed_requested s r read_pack stream well ∙ ap (after_told rests now) is)
     (by_reply f next (asking_state s r) bound asked lines bytes found nexts well out (reply_tells bound asked bytes) is)
 
 pub tied : {X : Type 0} (f : FetchReply → Result X Error) (next : Told → Conversation X Error) (s : SessionState) (r : Request) (read_pack : Bool) (lines : List Line) → ((reply : FetchReply) → next (told.Reply reply) ≡ ends (f reply)) → s.trouble ≡ None → lines_text lines ≡ lines_text (request_lines r)
@@ -156,4 +161,5 @@ tied f next s r read_pack lines nexts well out = record {
   sent = λ stream. (shows f next s r read_pack lines stream nexts well out).sent;
   answered = λ stream. (shows f next s r read_pack lines stream nexts well out).answered;
   bounded = λ stream. (shows f next s r read_pack lines stream nexts well out).bounded;
+  awaited = λ stream w. (shows f next s r read_pack lines stream nexts well out).awaited w;
 }

@@ -1,8 +1,9 @@
 -- A conversation that is a session's: both send the same, and end the same.
-use Rattle.std.proofs.Common.{◌≡◌, ◌≢◌, ℕ, Bool, true, false, List, [], ◌++◌, Option, Some, None, Result, Ok, Err, refl, sym, ap, ◌∙◌, subst, append_assoc, inl, inr}
+use Rattle.std.proofs.Common.{◌≡◌, ◌≢◌, ℕ, Bool, true, false, List, [], ◌++◌, Option, Some, None, Result, Ok, Err, refl, sym, ap, ◌∙◌, subst, append_assoc, arith, inl, inr}
 use Rattle.std.specs.Prelude.{is_some}
 use Rattle.std.proofs.lemmas.List.{append-nil}
 use Rattle.fetch_wire.specs.declared.awaited.Fault.{Fault}
+use Rattle.fetch_wire.specs.declared.awaited.Fault.TheVariants as faults
 use Rattle.fetch_wire.specs.declared.awaited.Told.{Told}
 use Rattle.fetch_wire.specs.declared.error.WireError.{WireError}
 use Rattle.fetch_wire.specs.declared.error.WireError.TheVariants as wire
@@ -18,11 +19,11 @@ use Rattle.fetch_wire.specs.Written.{lines_text}
 use Rattle.fetch_wire.proofs.Conversing.{fed_is}
 use Rattle.fetch_wire.proofs.SessionAlike.{stays_alike}
 use Rattle.fetch_wire.proofs.SessionPieces.{pieces, stuck}
-use Rattle.fetch_conversation.specs.Conversation.{Conversation, sent_in, answer_in, beside, Concludes, RefusesWith, IsRefusedBy, Breaks}
-use Rattle.fetch_conversation.specs.Drives.{with_heard, Finishes, Refuses, Stops}
+use Rattle.fetch_conversation.specs.Conversation.{Conversation, sent_in, answer_in, awaits_more, IsAwaited, beside, Concludes, RefusesWith, IsRefusedBy, Breaks}
+use Rattle.fetch_conversation.specs.Drives.{IsWaiting, IsFed, with_heard, Finishes, Refuses, Stops}
 use Rattle.fetch_conversation.specs.declared.drive.Stop.{Stop}
 use Rattle.fetch_conversation.specs.declared.drive.Stop.TheVariants as stops
-use Rattle.fetch_conversation.proofs.Driven.{resting, end_is, trouble_at_end, same_outgoing}
+use Rattle.fetch_conversation.proofs.Driven.{waits_alike, resting, end_is, trouble_at_end, same_outgoing}
 
 -- what is found by what was told
 abbrev pub Finding : (X E : Type 0) → Type 0
@@ -43,6 +44,7 @@ pub record IsTied {X E : Type 0} (refused : WireError → E) (finding : Finding 
   pub sent : (stream : List ℕ) → lines_text (sent_in bound c (pending ++ stream)) ≡ (fed s stream).outgoing
   pub answered : (stream : List ℕ) → answer_in bound c (pending ++ stream) ≡ answer_of refused finding (fed s stream)
   pub bounded : (stream : List ℕ) → (fed s stream).intake.bound ≡ bound
+  pub awaited : (stream : List ℕ) → IsWaiting (fed s stream) → awaits_more bound c (pending ++ stream) ≡ true
 
 none_by : (i : Intake) (reading : Option Reading) → i.reading ≡ reading → told_with i [] ≡ None → i.reading ≡ None
 none_by i None is none = is
@@ -73,7 +75,36 @@ tied_alike refused finding bound a b c pending h tied = record {
   sent = λ stream. tied.sent stream ∙ sym (same_outgoing (fed a stream) (fed b stream) (stays_alike a b stream h));
   answered = λ stream. tied.answered stream ∙ sym (same_answers refused finding (fed a stream) (fed b stream) (stays_alike a b stream h));
   bounded = λ stream. (stays_alike a b stream h).intake.bound ∙ tied.bounded stream;
+  awaited = λ stream w. tied.awaited stream (waits_alike (fed a stream) (fed b stream) (stays_alike a b stream h) w);
 }
+
+-- What it was fed while a reply was awaited is what the conversation awaits.
+awaited_by : {X E : Type 0} (refused : WireError → E) (finding : Finding X E) (bound : ℕ) (s : SessionState) (c : Conversation X E) (pending said : List ℕ) → IsTied refused finding bound s c pending → IsFed s said → IsAwaited bound c pending said
+awaited_by refused finding bound s c pending said tied h = record {
+  before = h.before;
+  last = h.last;
+  all = h.all;
+  at_once = h.at_once;
+  awaited = λ isnt. tied.awaited h.before (h.awaited isnt);
+}
+
+-- nothing was said
+pub awaited_first : {X E : Type 0} (bound : ℕ) (c : Conversation X E) (pending : List ℕ) → IsAwaited bound c pending []
+awaited_first bound c pending = record { before = []; last = []; all = refl; at_once = omega arith; awaited = λ isnt. absurd (isnt refl) }
+
+-- ---- nothing is awaited, or something is wrong
+
+not_short : (found : Option (Result (Told × List ℕ) Fault)) (place : ℕ) → found ≡ None → found ≡ Some (Err (faults.Short place)) → ⊥
+not_short found place none short = absurd (cc)
+
+pub rests_by : (s : SessionState) (more : Bool) → told_with s.intake [] ≡ None → IsWaiting s → more ≡ true
+rests_by s more none w = absurd (not_short (told_with s.intake []) w.short.0 none w.short.1)
+
+not_well : (trouble : Option WireError) (e : WireError) → trouble ≡ Some e → trouble ≡ None → ⊥
+not_well trouble e some none = absurd (cc)
+
+pub fails_by : (s : SessionState) (more : Bool) (e : WireError) → s.trouble ≡ Some e → IsWaiting s → more ≡ true
+fails_by s more e is w = absurd (not_well s.trouble e is w.well)
 
 -- ---- a session that is at rest
 
@@ -95,6 +126,7 @@ record Rests (answers : Bool) (old new : Option Talk) (s now : SessionState) : T
   heard : List ℕ
   said : List ℕ
   passed : Talks answers old new heard said
+  fed_so : IsFed s said
   after : (more : List ℕ) → fed s (said ++ more) ≡ record now { outgoing = heard; intake = taking more now.intake }
   well : now.trouble ≡ None
   none : now.intake.reading ≡ None
@@ -110,6 +142,7 @@ rests_after answers old new s now h =
       heard = h.went.heard;
       said = h.went.said;
       passed = h.went.passed;
+      fed_so = h.went.awaited;
       after = λ more. sym (pieces s h.went.said more s.trouble refl) ∙ ap (λ (t : SessionState). fed t more) (sym same) ∙ at_rest g more well.trouble none
           ∙ ap (λ (l : List ℕ). record now { outgoing = l; intake = taking more now.intake }) out;
       well = well.trouble;
@@ -136,6 +169,7 @@ concluded refused finding answers bound old new s now c pending x tied h found =
       said = r.said;
       heard = r.heard;
       passed = r.passed;
+      needed = awaited_by refused finding bound s c pending r.said tied r.fed_so;
       asked = λ more. tied.sent (r.said ++ more) ∙ ap (λ (t : SessionState). t.outgoing) (r.after more);
       answered = λ more. rest_answers refused finding bound s now c pending r.said r.heard more tied (r.after more) r.well r.none ∙ ap (beside (now.intake.pending ++ more)) found;
     }
@@ -150,6 +184,7 @@ refused_at_end refused finding free answers bound old new s now c pending e tied
       said = r.said;
       heard = r.heard;
       passed = r.passed;
+      needed = awaited_by refused finding bound s c pending r.said tied r.fed_so;
       front = ([], ap (λ (l : List ℕ). lines_text (sent_in bound c (pending ++ l))) (sym (append-nil r.said)) ∙ front ∙ sym (append-nil r.heard));
       why = λ isnt. inl (λ more. subst (λ (l : List ℕ). RefusesWith bound c l r.heard e) (sym (append_assoc pending r.said more)) (record {
         answer = rest_answers refused finding bound s now c pending r.said r.heard more tied (r.after more) r.well r.none ∙ ap (beside (now.intake.pending ++ more)) (found isnt);
@@ -211,6 +246,7 @@ broken refused finding free answers bound old new s c pending stop e tied h word
   said = h.said;
   heard = h.heard;
   passed = h.passed;
+  needed = awaited_by refused finding bound s c pending h.said tied h.awaited;
   front = (h.front.0, tied.sent h.said ∙ h.front.1);
   why = stop_why refused finding free answers bound old new s c pending stop e tied h word;
 }
@@ -223,6 +259,7 @@ broken_free free answers bound old pending c e is = record {
   said = [];
   heard = [];
   passed = Talks-none answers old;
+  needed = awaited_first bound c pending;
   front = (lines_text (sent_in bound c (pending ++ [])), refl);
   why = λ isnt. absurd (cc);
 }
@@ -233,6 +270,7 @@ broken_first free answers bound old pending c e is = record {
   said = [];
   heard = [];
   passed = Talks-none answers old;
+  needed = awaited_first bound c pending;
   front = (lines_text (sent_in bound c (pending ++ [])), refl);
   why = λ isnt. inl (λ more. is isnt ((pending ++ []) ++ more));
 }
@@ -243,6 +281,7 @@ concluded_first answers bound old pending c x is nothing = record {
   said = [];
   heard = [];
   passed = Talks-none answers old;
+  needed = awaited_first bound c pending;
   asked = λ more. nothing (pending ++ more);
   answered = λ more. is (pending ++ more);
 }

@@ -1,12 +1,14 @@
 -- A conversation: lines that are sent, what the reply tells, and how it goes on by that.
-use Rattle.std.specs.Prelude.{◌≡◌, ◌⊎◌, ℕ, Bool, false, List, [], ◌++◌, Option, Some, None, Result, Ok, Err}
+use Rattle.std.specs.Prelude.{◌≡◌, ◌≢◌, ◌≤◌, ◌⊎◌, ℕ, Bool, true, false, List, [], ◌++◌, length, Option, Some, None, Result, Ok, Err}
 use Rattle.fetch_wire.specs.Awaited.{told_at}
 use Rattle.fetch_wire.specs.Talks.{Talk, Talks, IsDrained, IsFront}
 use Rattle.fetch_wire.specs.Written.{lines_text, first_too_long}
 use Rattle.fetch_wire.specs.declared.awaited.Await.{Await}
 use Rattle.fetch_wire.specs.declared.awaited.Fault.{Fault}
+use Rattle.fetch_wire.specs.declared.awaited.Fault.TheVariants as faults
 use Rattle.fetch_wire.specs.declared.awaited.Told.{Told}
 use Rattle.fetch_wire.specs.declared.line.Line.{Line}
+use Rattle.fetch_conversation.specs.Receiving.{most_at_once}
 
 -- It ends with an answer, or it asks: it sends lines, awaits a reply, and goes on by what the reply tells. Where the
 -- bytes of the peer hold no such reply, it ends with a refusal by what is wrong with them.
@@ -42,6 +44,27 @@ answer_in bound (ends answer) stream = beside stream answer
 answer_in bound (asks lines awaited failed next) stream =
     after_reply (λ fault. Err (failed fault)) (λ told rest. answer_in bound (next told) rest) (told_at bound awaited stream)
 
+-- Whether the bytes end in a reply, with nothing wrong in it, or go on behind whole ones.
+abbrev pub ends_in : (Told → List ℕ → Bool) → Result (Told × List ℕ) Fault → Bool
+ends_in go (Ok x) = go x.0 x.1
+ends_in go (Err (faults.Short place)) = true
+ends_in go (Err (faults.Broken place)) = false
+ends_in go (Err faults.TooLong) = false
+ends_in go (Err (faults.Said text)) = false
+
+-- whether a reply is awaited of a peer that said this: one that isn't whole yet, and of which nothing is wrong
+unfoldable pub awaits_more : {X E : Type 0} → ℕ → Conversation X E → List ℕ → Bool
+awaits_more bound (ends answer) stream = false
+awaits_more bound (asks lines awaited failed next) stream = ends_in (λ told rest. awaits_more bound (next told) rest) (told_at bound awaited stream)
+
+-- Nothing was received but while a reply was awaited: one is, where the last piece isn't there that came.
+pub record IsAwaited {X E : Type 0} (bound : ℕ) (c : Conversation X E) (pending said : List ℕ) : Type 0 where
+  pub before : List ℕ
+  pub last : List ℕ
+  pub all : said ≡ before ++ last
+  pub at_once : length last ≤ most_at_once
+  pub awaited : said ≢ [] → awaits_more bound c (pending ++ before) ≡ true
+
 -- one conversation after another
 abbrev pub after_answer : {X Y E : Type 0} → (X → Conversation Y E) → Result X E → Conversation Y E
 after_answer f (Ok x) = f x
@@ -60,11 +83,13 @@ unfoldable pub told_as : {X E F : Type 0} → (E → F) → Conversation X E →
 told_as g (ends answer) = ends (map_refusal g answer)
 told_as g (asks lines awaited failed next) = asks lines awaited (λ fault. g (failed fault)) (λ told. told_as g (next told))
 
--- The conversation was held to its end: the peer heard its lines, and this is its answer, whatever comes after.
+-- The conversation was held to its end: the peer heard its lines, and this is its answer, whatever comes after. Nothing
+-- was received behind its last reply.
 pub record Concludes {X E : Type 0} (answers : Bool) (bound : ℕ) (old new : Option Talk) (pending : List ℕ) (c : Conversation X E) (x : X) (rest : List ℕ) : Type 0 where
   pub said : List ℕ
   pub heard : List ℕ
   pub passed : Talks answers old new heard said
+  pub needed : IsAwaited bound c pending said
   pub asked : (more : List ℕ) → lines_text (sent_in bound c (pending ++ (said ++ more))) ≡ heard
   pub answered : (more : List ℕ) → answer_in bound c (pending ++ (said ++ more)) ≡ Ok (x, rest ++ more)
 
@@ -78,12 +103,13 @@ abbrev pub IsRefusedBy : {X E : Type 0} → ℕ → Option Talk → Conversation
 IsRefusedBy bound now c stream heard e =
     ((more : List ℕ) → RefusesWith bound c (stream ++ more) heard e) ⊎ (IsDrained now × RefusesWith bound c stream heard e)
 
--- It broke off: the peer heard a prefix of its lines. Unless the refusal is a free one, as want of memory and a counted
+-- It broke off: the peer heard a prefix of its lines, and nothing was received but while a reply was awaited. Unless the refusal is a free one, as want of memory and a counted
 -- fault are, it is the one of this conversation with this peer, which heard all lines up to it.
 pub record Breaks {X E : Type 0} (free : E → Bool) (answers : Bool) (bound : ℕ) (old new : Option Talk) (pending : List ℕ) (c : Conversation X E) (e : E) : Type 0 where
   pub said : List ℕ
   pub heard : List ℕ
   pub passed : Talks answers old new heard said
+  pub needed : IsAwaited bound c pending said
   pub front : IsFront heard (lines_text (sent_in bound c (pending ++ said)))
   pub why : free e ≡ false → IsRefusedBy bound new c (pending ++ said) heard e
 

@@ -8,6 +8,8 @@ pub mod ListStage
 pub mod Listing
 pub mod Mapped
 pub mod ReadSettings
+pub mod Receiving
 pub mod Requested
 pub mod Rounds
 pub mod Served
+pub mod Writing

@@ -50,7 +50,7 @@ TellsConflicts found ref_map.Interrupted = ⊥
 TellsConflicts found (ref_map.InitRefMap conflicts) = (found ≡ conflicts) × (is_nil conflicts ≡ false)
 TellsConflicts found ref_map.NoMemory = ⊤
 
--- What a session was told is mapped, or refused.
+-- What a session was told is mapped, or refused. It hands its references over.
 abbrev pub Answers : InquiryValue → SessionState → Result Listed Error → Type 0
-Answers q s (Ok l) = (found_in q s.handshake s.refs ≡ Ok (shown l)) × (l.session ≡ s)
+Answers q s (Ok l) = (found_in q s.handshake s.refs ≡ Ok (shown l)) × (l.session ≡ record s { refs = None })
 Answers q s (Err e) = is_free_listing e ≡ false → found_in q s.handshake s.refs ≡ Err e

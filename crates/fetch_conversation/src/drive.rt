@@ -1,8 +1,9 @@
 //! A session is driven: what it has to send is sent, and what its peer says is fed to it.
 
-ghost use Rattle.std.specs.Prelude.{◌≡◌, ◌<◌, [], false, length, IfErr, OnOk, IsErrOf};
+ghost use Rattle.std.specs.Prelude.{◌≡◌, [], false, length, IfErr, OnOk, IsErrOf};
 ghost use Rattle.fetch_store.specs.Faults.{Rose, Counts};
 ghost use Rattle.fetch_conversation.specs.Drives.{IsDrivable, Drives, IsDriven, IsUnsent, Takes};
+ghost use Rattle.fetch_conversation.specs.Receiving.{IsHeeded, most_at_once};
 ghost use Rattle.fetch_wire.specs.SessionStates.{turn_of, IsAwaiting};
 ghost use Rattle.fetch_wire.specs.Talks.{Sends};
 ghost use Rattle.fetch_wire.specs.declared.turn.Turn.TheVariants as turns;
@@ -75,13 +76,14 @@ fn receive<P: Peer, I: Interrupt>(
     requires turn { turn_of session.old ≡ turns.Receive }
     requires awaits { IsAwaiting session.old }
     requires unrefused { session.old.refused ≡ false }
-    requires room { 0 < length buffer.old }
+    requires room { length buffer.old ≡ most_at_once }
     ensures taken { Takes (P.told peer.old) (P.told peer.new) session.old session.new result }
     ensures counts { Counts (P.faults peer.old) (P.faults peer.new) }
     ensures failed { IsErrOf result Stop.Failed → Rose (P.faults peer.old) (P.faults peer.new) }
     ensures asked { Counts (I.yes interrupt.old) (I.yes interrupt.new) }
     ensures interrupted { IsErrOf result Stop.Interrupted → Rose (I.yes interrupt.old) (I.yes interrupt.new) }
     ensures uninterrupted { OnOk result ((I.yes interrupt.new).count ≡ (I.yes interrupt.old).count) }
+    ensures questions { IsHeeded (I.will_stop interrupt.old) (I.will_stop interrupt.new) (P.told peer.old) (P.told peer.new) result }
 {
     if interrupt.asked() {
         return Err(Stop::Interrupted);
@@ -106,8 +108,8 @@ fn take_turns<P: Peer, I: Interrupt>(
     buffer: &mut [u8],
 ) -> Result<(), Stop>
     requires drivable { IsDrivable session.old }
-    requires room { 0 < length buffer.old }
-    ensures { IsDriven P.answers (P.told peer.old) (P.told peer.new) session.old session.new (P.faults peer.old) (P.faults peer.new) (I.yes interrupt.old) (I.yes interrupt.new) result }
+    requires room { length buffer.old ≡ most_at_once }
+    ensures { IsDriven P.answers (P.told peer.old) (P.told peer.new) session.old session.new (P.faults peer.old) (P.faults peer.new) (I.yes interrupt.old) (I.yes interrupt.new) (I.will_stop interrupt.old) (I.will_stop interrupt.new) result }
 {
     'turns: for _ in 0..u64::MAX {
         match session.poll() {
@@ -134,6 +136,7 @@ pub(crate) fn drive<P: Peer, I: Interrupt>(
     ensures asked { Counts (I.yes interrupt.old) (I.yes interrupt.new) }
     ensures interrupted { IsErrOf result Stop.Interrupted → Rose (I.yes interrupt.old) (I.yes interrupt.new) }
     ensures uninterrupted { OnOk result ((I.yes interrupt.new).count ≡ (I.yes interrupt.old).count) }
+    ensures questions { IsHeeded (I.will_stop interrupt.old) (I.will_stop interrupt.new) (P.told peer.old) (P.told peer.new) result }
 {
     let mut buffer = vec![in alloc; 0u8; PIECE]?;
     take_turns(session, peer, interrupt, &mut buffer)

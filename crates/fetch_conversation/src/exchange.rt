@@ -8,6 +8,7 @@ ghost use Rattle.fetch_conversation.specs.Errors.{is_free_receiving};
 ghost use Rattle.fetch_conversation.specs.Exchange as spec;
 ghost use Rattle.fetch_conversation.specs.Exchange.{asked_by, haves_told};
 ghost use Rattle.fetch_conversation.specs.ListStage.{IsReady, shown, pending_of};
+ghost use Rattle.fetch_conversation.specs.Receiving.{IsHeeded};
 ghost use Rattle.fetch_conversation.specs.declared.fetch.Error.TheVariants as errors;
 ghost use Rattle.fetch_negotiate.specs.Requests.{fetch_request};
 ghost use Rattle.fetch_wire.specs.Written.{first_too_long, TellsTooLong};
@@ -71,6 +72,7 @@ pub(crate) fn exchange<P: Peer, I: Interrupt>(
     ensures asked { Counts (I.yes interrupt.old) (I.yes interrupt.new) }
     ensures interrupted { IsErrOf result errors.Interrupted → Rose (I.yes interrupt.old) (I.yes interrupt.new) }
     ensures uninterrupted { OnOk result ((I.yes interrupt.new).count ≡ (I.yes interrupt.old).count) }
+    ensures questions { IsHeeded (I.will_stop interrupt.old) (I.will_stop interrupt.new) (P.told peer.old) (P.told peer.new) result }
 {
     let alloc = round.haves.allocator();
     ask(alloc, listed, terms, shared, round)?;

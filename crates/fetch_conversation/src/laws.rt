@@ -1,20 +1,26 @@
 //! What holds of every conversation.
 
-ghost use Rattle.std.specs.Prelude.{◌≡◌, ℕ, suc, ◌+◌, Bool, false, List, [], Option, Some, Result, Ok, Err};
+ghost use Rattle.std.specs.Prelude.{◌≡◌, ℕ, suc, ◌+◌, ◌++◌, Bool, false, List, [], Option, Some, Result, Ok, Err};
 ghost use Rattle.std.specs.FinMap as map;
 ghost use Rattle.fetch_wire.specs.Talks.{Talk};
 ghost use Rattle.fetch_wire.specs.declared.line.Line.{Line};
 ghost use Rattle.fetch_store.specs.Graph.{Graph};
 ghost use Rattle.fetch_negotiate.specs.declared.algorithm.Algorithm.{Algorithm};
 ghost use Rattle.fetch_negotiate.specs.declared.algorithm.Round.{Round};
+ghost use Rattle.fetch_pack.specs.Reading.{Contents};
+ghost use Rattle.fetch_wire.specs.Greetings.{handshake_of};
+ghost use Rattle.fetch_wire.specs.declared.handshake.Capability.{Capability};
+ghost use Rattle.fetch_wire.specs.declared.reference.Ref.{Ref};
 ghost use Rattle.fetch_conversation.specs.Conversation.{Conversation, Concludes, Breaks, sent_in, answer_in};
-ghost use Rattle.fetch_conversation.specs.ConverseStage.{converse_stage};
+ghost use Rattle.fetch_conversation.specs.ConverseStage.{converse_stage, with_pack};
 ghost use Rattle.fetch_conversation.specs.Exchange.{TermsValue};
+ghost use Rattle.fetch_conversation.specs.ListStage.{InquiryValue, list_stage, map_of};
 ghost use Rattle.fetch_conversation.specs.Requested.{TellsRounds};
 ghost use Rattle.fetch_conversation.specs.Rounds.{first_course, negotiating};
 ghost use Rattle.fetch_conversation.specs.declared.conversing.Received.{Received};
 ghost use Rattle.fetch_conversation.specs.declared.conversing.View.{View};
 ghost use Rattle.fetch_conversation.specs.Served.{answer_with, AsksOnly, Serves, IsAnswered, IsFresh, Follows};
+ghost use Rattle.fetch_conversation.specs.Writing.{Answer, IsAskable, IsListing, listing_text, IsPacking, negotiated_in, answers_text};
 
 /// A conversation that was held to its end with a peer that answers request by request has the answer that these
 /// replies give; and one that broke off, but for a free refusal, has their refusal.
@@ -43,4 +49,13 @@ pub fn rounds_are_never_used_up()
         → sent_in bound (negotiating (suc (map.len g) + more) bound t g algorithm (first_course algorithm view)) stream ≡ sent_in bound (negotiating (suc (map.len g)) bound t g algorithm (first_course algorithm view)) stream }
     ensures answered { (bound more : ℕ) (t : TermsValue) (g : Graph) (algorithm : Algorithm) (view : View) (stream : List ℕ)
         → answer_in bound (negotiating (suc (map.len g) + more) bound t g algorithm (first_course algorithm view)) stream ≡ answer_in bound (negotiating (suc (map.len g)) bound t g algorithm (first_course algorithm view)) stream }
+{}
+
+/// What a server writes is heard to its end: its greeting and its references are listed, and its answers to the requests
+/// bring the pack, whatever comes behind.
+pub fn what_a_server_writes_is_heard()
+    ensures listed { (bound : ℕ) (q : InquiryValue) (capabilities : List Capability) (refs : List Ref) (rest : List ℕ) → IsAskable q (handshake_of capabilities) → IsListing bound q capabilities refs
+        → answer_in bound (list_stage bound q) (listing_text capabilities refs ++ rest) ≡ Ok (record { ref_map = map_of q (handshake_of capabilities) refs; handshake = handshake_of capabilities }, rest) }
+    ensures received { (bound : ℕ) (g : Graph) (t : TermsValue) (a : Answer) (answers : List Answer) (contents : Contents) (rest : List ℕ) → IsPacking bound t g a answers contents
+        → answer_in bound (converse_stage bound g t) (answers_text a answers ++ rest) ≡ Ok (Some (with_pack (negotiated_in t g a answers) contents), rest) }
 {}

@@ -1,11 +1,12 @@
 //! Listing the references of a remote, and mapping them.
 
-ghost use Rattle.std.specs.Prelude.{◌≡◌, [], true, false, ◌&&◌, ◌++◌, IfOk, IfErr, OnOk, IsErrOf};
+ghost use Rattle.std.specs.Prelude.{◌≡◌, [], true, false, None, ◌&&◌, ◌++◌, IfOk, IfErr, OnOk, IsErrOf};
 ghost use Rattle.fetch_store.specs.Faults.{Rose, Counts};
 ghost use Rattle.fetch_conversation.specs.Conversation.{Converses};
 ghost use Rattle.fetch_conversation.specs.Errors.{is_free_listing, is_transport, is_interrupted};
 ghost use Rattle.fetch_conversation.specs.ListStage.{InquiryValue, list_stage, answer_shown, left_by, IsReady, all_specs, with_tags, is_nil};
 ghost use Rattle.fetch_conversation.specs.Listing.{IsOpened, TellsUnopened, TellsUntold, Answers};
+ghost use Rattle.fetch_conversation.specs.Receiving.{IsHeeded};
 ghost use Rattle.fetch_wire.specs.SessionStates.{turn_of};
 ghost use Rattle.fetch_wire.specs.declared.turn.Turn.TheVariants as turns;
 ghost use Rattle.fetch_conversation.specs.declared.prepare.Error.TheVariants as errors;
@@ -17,7 +18,7 @@ use crate::mapped::map_refs;
 use crate::prepare;
 use crate::ref_map::Options;
 use fetch_specs::{RefSpec, Tags};
-use fetch_store::{List, NoMemory};
+use fetch_store::List;
 use fetch_wire::{Handshake, Interrupt, Peer, Ref, RefMap, Session, WireError};
 use std::alloc::Global;
 
@@ -65,24 +66,15 @@ fn open(
     )
 }
 
-/// Copies of these references.
-fn copied_refs(alloc: Global, refs: &[Ref]) -> Result<List<Ref>, NoMemory>
-    ensures { IfOk result (λ copies. copies ≡ refs.now) }
+/// What the greeting and the listing told. The session hands the references over.
+fn told(session: &mut Session) -> Result<(Handshake, List<Ref>), WireError>
+    ensures told { IfOk result (λ x. (session.old.handshake ≡ Some x.0) × (session.old.refs ≡ Some x.1)) }
+    ensures refused { IfErr result (λ e. TellsUntold session.old.handshake session.old.refs e) }
+    ensures left { session.new ≡ record session.old { refs = None } }
 {
-    let mut copies = Vec::with_capacity(alloc, refs.len())?;
-    for reference in refs {
-        copies.push(reference.try_clone()?)?;
-    }
-    Ok(List::from(copies))
-}
-
-/// What the greeting and the listing told.
-fn told(alloc: Global, session: &Session) -> Result<(Handshake, List<Ref>), WireError>
-    ensures told { IfOk result (λ x. (session.now.handshake ≡ Some x.0) × (session.now.refs ≡ Some x.1)) }
-    ensures refused { IfErr result (λ e. TellsUntold session.now.handshake session.now.refs e) }
-{
-    match (session.handshake(), session.refs()) {
-        (Some(handshake), Some(refs)) => Ok((handshake.try_clone()?, copied_refs(alloc, refs)?)),
+    let refs = session.take_refs();
+    match (session.handshake(), refs) {
+        (Some(handshake), Some(refs)) => Ok((handshake.try_clone()?, refs)),
         _ => Err(WireError::Malformed { place: 0 }),
     }
 }
@@ -105,7 +97,8 @@ fn map_listed(
     ensures heard { IfErr result (λ e. is_transport e ≡ false) }
     ensures uninterrupted { IfErr result (λ e. is_interrupted e ≡ false) }
 {
-    let (handshake, refs) = told(alloc, &session)?;
+    let mut session = session;
+    let (handshake, refs) = told(&mut session)?;
     let own = inquiry.specs;
     let object_hash = handshake.object_hash;
     let mappings = map_refs(alloc, own.len(), specs, object_hash, refs.as_slice())?;
@@ -153,6 +146,7 @@ pub fn list<P: Peer, I: Interrupt>(
     ensures asked { Counts (I.yes interrupt.old) (I.yes interrupt.new) }
     ensures interrupted { IsErrOf result (errors.RefMap ref_map_errors.Interrupted) → Rose (I.yes interrupt.old) (I.yes interrupt.new) }
     ensures uninterrupted { OnOk result ((I.yes interrupt.new).count ≡ (I.yes interrupt.old).count) }
+    ensures questions { IsHeeded (I.will_stop interrupt.old) (I.will_stop interrupt.new) (P.told peer.old) (P.told peer.new) result }
 {
     if names_none(inquiry, &options) {
         return Err(prepare::Error::MissingRefSpecs);

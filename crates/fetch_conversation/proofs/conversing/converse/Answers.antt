@@ -11,6 +11,7 @@ use Rattle.fetch_conversation.specs.declared.conversing.Received.{Received}
 use Rattle.fetch_conversation.specs.declared.fetch.Error.{Error}
 use Rattle.fetch_conversation.proofs.Fetches.{FindsIn, holds_refusal, holds_nothing, holds_broken, holds_found}
 use Rattle.fetch_conversation.proofs.Nil.{nil_by, nil_is}
+use Rattle.fetch_conversation.proofs.Heeded.{heeded_still, heeded_as, heeded_err}
 use Rattle.fetch_conversation.proofs.conversing.converse.Goals as goal
 
 -- ---- what the rounds bring
@@ -76,3 +77,27 @@ returns-clause-held g c =
     let received_so = subst (λ (l : ListedValue). received (terms_told l c.args.terms.now) (record { rounds = n.rounds; reply = c.in-Some.reply.now }) ≡ Ok (Some x)) c.in_ok-negotiate.ensures.kept c.in_ok-received.ensures.received in
     holds_found g.P.Peer.answers c.args.listed.now.session.intake.bound (g.P.Peer.told c.args.peer.now) (g.P.Peer.told c.negotiate.new.peer) _ _ (g.O.Objects.graph c.args.objects.now) t n c.negotiate.new.listed.session.reply (Ok (Some x)) c.in_ok-refuse.ensures.clear some
     c.in_ok-negotiate.ensures.held.held (finds_received t n.rounds c.negotiate.new.listed.session.reply c.in-Some.reply.now x told received_so)
+
+pub returns-in_err-refuse-clause-questions : goal.returns-in_err-refuse-clause-questions
+returns-in_err-refuse-clause-questions g c =
+    let p = err_from_is_err_and c.from_residual.result c.from_residual.ensures.1 in
+    rw (p.1, p.2) (heeded_still _ _ _)
+
+pub returns-then-is_empty-clause-questions : goal.returns-then-is_empty-clause-questions
+returns-then-is_empty-clause-questions g c = heeded_still _ _ _
+
+pub returns-in_err-negotiate-clause-questions : goal.returns-in_err-negotiate-clause-questions
+returns-in_err-negotiate-clause-questions g c =
+    let p = err_from_is_err_and c.from_residual-in_err-negotiate.result c.from_residual-in_err-negotiate.ensures.1 in
+    rw (p.1, p.2) (heeded_err _ _ _ _ _ _ c.in_err-negotiate.ensures.questions)
+
+pub returns-in_default-clause-questions : goal.returns-in_default-clause-questions
+returns-in_default-clause-questions g c = heeded_as _ _ _ _ _ _ c.in_ok-negotiate.ensures.questions
+
+pub returns-in_err-received-clause-questions : goal.returns-in_err-received-clause-questions
+returns-in_err-received-clause-questions g c =
+    let p = err_from_is_err_and c.from_residual-in_err-received.result c.from_residual-in_err-received.ensures.1 in
+    rw (p.1, p.2) (heeded_as _ _ _ _ _ _ c.in_ok-negotiate.ensures.questions)
+
+pub returns-clause-questions : goal.returns-clause-questions
+returns-clause-questions g c = heeded_as _ _ _ _ _ _ c.in_ok-negotiate.ensures.questions

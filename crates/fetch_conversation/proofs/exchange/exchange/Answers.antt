@@ -6,6 +6,7 @@ use Rattle.fetch_conversation.specs.Exchange.{TermsValue, haves_told}
 use Rattle.fetch_conversation.specs.ListStage.{shown}
 use Rattle.fetch_conversation.specs.declared.listing.Listed.{Listed}
 use Rattle.fetch_conversation.proofs.Exchanged.{Exchanges, asked_drivable, exchange_long, exchange_stopped, exchange_found, ready_again, bound_again}
+use Rattle.fetch_conversation.proofs.Heeded.{heeded_still, heeded_as, heeded_err}
 use Rattle.fetch_conversation.proofs.exchange.exchange.Goals as goal
 
 pub returns-in_err-ask-clause-held : goal.returns-in_err-ask-clause-held
@@ -47,3 +48,19 @@ returns-in-None-clause-held g c =
     let none : c.drive.new.session.reply ≡ None = grind arith in
     subst (λ (o : Option FetchReply). Exchanges g.P.Peer.answers c.args.listed.now.session.intake.bound (g.P.Peer.told c.args.peer.now) (g.P.Peer.told c.drive.new.peer) c.args.listed.now.session.intake.pending c.drive.new.session.intake.pending t (haves_told c.args.shared.now c.args.round.now.haves) c.args.round.now.done (found_in (λ (r : FetchReply). Ok r) o)) none
     (exchange_found g.P.Peer.answers c.args.listed.now.session.intake.bound (g.P.Peer.told c.args.peer.now) (g.P.Peer.told c.drive.new.peer) t (haves_told c.args.shared.now c.args.round.now.haves) c.args.round.now.done c.args.listed.now.session c.ask.new.listed.session c.drive.new.session c.requires.turn refl c.in_ok-ask.ensures.asked c.in_ok-drive.ensures.driven)
+
+pub returns-in_err-ask-clause-questions : goal.returns-in_err-ask-clause-questions
+returns-in_err-ask-clause-questions g c =
+    let p = err_from_is_err_and c.from_residual.result c.from_residual.ensures.1 in
+    rw (p.1, p.2) (heeded_still _ _ _)
+
+pub returns-in_err-drive-clause-questions : goal.returns-in_err-drive-clause-questions
+returns-in_err-drive-clause-questions g c =
+    let p = err_from_is_err_and c.from_residual-in_err-drive.result c.from_residual-in_err-drive.ensures.1 in
+    rw (p.1, p.2) (heeded_err _ _ _ _ _ _ c.in_err-drive.ensures.questions)
+
+pub returns-in-Some-clause-questions : goal.returns-in-Some-clause-questions
+returns-in-Some-clause-questions g c = heeded_as _ _ _ _ _ _ c.in_ok-drive.ensures.questions
+
+pub returns-in-None-clause-questions : goal.returns-in-None-clause-questions
+returns-in-None-clause-questions g c = heeded_as _ _ _ _ _ _ c.in_ok-drive.ensures.questions

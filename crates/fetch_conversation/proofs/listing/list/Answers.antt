@@ -9,7 +9,9 @@ use Rattle.fetch_conversation.specs.declared.listing.Listed.{Listed}
 use Rattle.fetch_conversation.specs.declared.prepare.Error.{Error}
 use Rattle.fetch_conversation.specs.declared.prepare.Error.TheVariants as errors
 use Rattle.fetch_conversation.specs.declared.ref_map.Error.TheVariants as ref_map
-use Rattle.fetch_conversation.proofs.Listings.{lists_missing, lists_free, lists_unopened, lists_stopped, lists_found, listed_bound}
+use Rattle.fetch_conversation.proofs.Driven.{finished_unrefused}
+use Rattle.fetch_conversation.proofs.Listings.{lists_missing, lists_free, lists_unopened, lists_stopped, lists_found, listed_bound, opened_drivable}
+use Rattle.fetch_conversation.proofs.Heeded.{heeded_still, heeded_as, heeded_err}
 use Rattle.fetch_conversation.proofs.listing.list.Goals as goal
 
 none_named : (q : InquiryValue) (b : Bool) → b ≡ (is_nil q.specs && is_nil q.options.extra_refspecs) → b ≡ true → no_specs q ≡ Some errors.MissingRefSpecs
@@ -79,3 +81,34 @@ returns-clause-transport g c = λ is. absurd (not_transport c.map_listed.result 
 
 pub returns-clause-interrupted : goal.returns-clause-interrupted
 returns-clause-interrupted g c = λ is. absurd (not_interrupted c.map_listed.result c.map_listed.ensures.uninterrupted is)
+
+pub returns-then-names_none-clause-questions : goal.returns-then-names_none-clause-questions
+returns-then-names_none-clause-questions g c = heeded_still _ _ _
+
+pub returns-in_err-extra-clause-questions : goal.returns-in_err-extra-clause-questions
+returns-in_err-extra-clause-questions g c =
+    let p = err_from_is_err_and c.from_residual.result c.from_residual.ensures.1 in
+    rw (p.1, p.2) (heeded_still _ _ _)
+
+pub returns-in_err-specs-clause-questions : goal.returns-in_err-specs-clause-questions
+returns-in_err-specs-clause-questions g c =
+    let p = err_from_is_err_and c.from_residual-in_err-specs.result c.from_residual-in_err-specs.ensures.1 in
+    rw (p.1, p.2) (heeded_still _ _ _)
+
+pub returns-in_err-session-clause-questions : goal.returns-in_err-session-clause-questions
+returns-in_err-session-clause-questions g c =
+    let p = err_from_is_err_and c.from_residual-in_err-session.result c.from_residual-in_err-session.ensures.1 in
+    rw (p.1, p.2) (heeded_still _ _ _)
+
+pub returns-in_err-drive-clause-questions : goal.returns-in_err-drive-clause-questions
+returns-in_err-drive-clause-questions g c =
+    let p = err_from_is_err_and c.from_residual-in_err-drive.result c.from_residual-in_err-drive.ensures.1 in
+    rw (p.1, p.2) (heeded_err _ _ _ _ _ _ c.in_err-drive.ensures.questions)
+
+pub returns-clause-questions : goal.returns-clause-questions
+returns-clause-questions g c = heeded_as _ _ _ _ _ _ c.in_ok-drive.ensures.questions
+
+pub map_listed-requires-clause-unrefused : goal.map_listed-requires-clause-unrefused
+map_listed-requires-clause-unrefused g c =
+    let q : InquiryValue = record { address = c.args.inquiry.now.address.now; agent = c.args.inquiry.now.agent.now; specs = c.args.inquiry.now.specs.now; tags = c.args.inquiry.now.tags; options = c.args.options } in
+    finished_unrefused g.P.Peer.answers (g.P.Peer.told c.args.peer.now) (g.P.Peer.told c.drive.new.peer) c.in_ok-session.session c.drive.new.session (opened_drivable q c.in_ok-session.session c.in_ok-session.ensures.opened).unrefused c.in_ok-drive.ensures.driven

@@ -108,5 +108,5 @@ returns-clause-answer c =
     let n = rw c.as_slice.ensures at c.in_ok-mappings.ensures.clear in (
       found_by q c.args.session c.in_ok-handshake.handshake c.in_ok-handshake.refs c.args.specs.now c.from-2.result c.from-3.result c.from.result c.in_ok-handshake.ensures.told all n
           (c.from.ensures ∙ m) (c.from-2.ensures ∙ c.in_ok-copied_specs.ensures) (c.from-3.ensures ∙ c.requires.extra),
-      refl,
+      c.told.ensures.left,
     )

@@ -1,4 +1,4 @@
-use Rattle.std.proofs.Common.{◌≡◌, suc}
+use Rattle.std.proofs.Common.{◌≡◌, suc, Ok}
 use Rattle.std.specs.FinMap as map
 use Rattle.fetch_store.specs.Faults.{Counts}
 use Rattle.fetch_negotiate.specs.Any.{algorithm_of, known_by}
@@ -6,7 +6,9 @@ use Rattle.fetch_negotiate.specs.Reading.{IsTold}
 use Rattle.fetch_conversation.specs.ConverseStage.{algorithm_in}
 use Rattle.fetch_conversation.specs.Conversing.{course_of, terms_told}
 use Rattle.fetch_conversation.specs.ListStage.{IsReady, shown, pending_of}
+use Rattle.fetch_conversation.specs.Receiving.{IsHeeded}
 use Rattle.fetch_conversation.specs.Rounds.{first_course}
+use Rattle.fetch_conversation.specs.declared.fetch.Error.{Error}
 use Rattle.fetch_conversation.proofs.Held.{Goes}
 use Rattle.fetch_conversation.proofs.rounds.negotiate.Given as goal
 
@@ -22,4 +24,5 @@ invariant-loop g l = record {
   counts : Counts (g.P.Peer.faults l.fn.peer) (g.P.Peer.faults l.peer);
   asked : Counts (g.I.Interrupt.yes l.fn.interrupt) (g.I.Interrupt.yes l.interrupt);
   quiet : (g.I.Interrupt.yes l.interrupt).count ≡ (g.I.Interrupt.yes l.fn.interrupt).count;
+  questions : IsHeeded {T = Unit {0}} {E = Error} (g.I.Interrupt.will_stop l.fn.interrupt) (g.I.Interrupt.will_stop l.interrupt) (g.P.Peer.told l.fn.peer) (g.P.Peer.told l.peer) (Ok tt);
 }
