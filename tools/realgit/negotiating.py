@@ -88,18 +88,18 @@ def words_of(line):
     return [""] if isinstance(line, Mark) else text_of(line).split(" ")
 
 
-def asked_by_engine(client, engine):
-    """The windows that the engine asks for."""
+def asked_by_engine(client, engine, server=None):
+    """The windows that the engine asks a server for, or the stranger."""
     scene = client.scene()
-    converse(scene, Stranger(), engine)
+    converse(scene, server or Stranger(), engine)
     return asked_of(engine.fetch(scene.to_bytes()))
 
 
-def asked_by_git(folder, client):
-    """The windows that real Git asks for, over version 2."""
+def asked_by_git(folder, client, commits=(OTHER,)):
+    """The windows that real Git asks for, over version 2. The server has these commits, its branch at the last one."""
     ours, theirs = (os.path.join(folder, name) for name in ("client.git", "server.git"))
     made(ours, client.objects, client.references)
-    made(theirs, [OTHER], {"refs/heads/main": OTHER.id})
+    made(theirs, commits, {"refs/heads/main": commits[-1].id})
     if client.border:
         write_file(os.path.join(ours, "shallow"), "".join(f"{digits}\n" for digits in client.border).encode())
     words = ["-C", ours, "-c", f"fetch.negotiationAlgorithm={client.algorithm}", "fetch", "-q",
@@ -126,6 +126,15 @@ def windows_traced(messages):
         elif line != "done":
             window.append(line[5:])
     return windows[1:]
+
+
+def told_first(windows):
+    """The windows without what was told before. Those that have nothing else are left out."""
+    known, found = set(), []
+    for window in windows:
+        found.append([digits for digits in window if digits not in known])
+        known.update(window)
+    return list(filter(None, found))
 
 
 # What `skipping` tells.

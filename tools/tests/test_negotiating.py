@@ -10,8 +10,8 @@ TOOLS = os.path.normpath(os.path.join(os.path.dirname(os.path.abspath(__file__))
 sys.path.insert(0, TOOLS)
 
 from realgit.lines import Mark  # noqa: E402
-from realgit.negotiating import (Client, Skipping, commit, line_of, scene_of_line, tag, told, windows_of,  # noqa: E402
-                                 windows_traced)
+from realgit.negotiating import (Client, Skipping, commit, line_of, scene_of_line, tag, told, told_first,  # noqa: E402
+                                 windows_of, windows_traced)
 from realgit.scene import read_scene  # noqa: E402
 
 
@@ -73,6 +73,9 @@ class Lines(unittest.TestCase):
 12:00:00 pkt-line.c:80 packet:        fetch> 0000
 """
         self.assertEqual(windows_traced(text), [["11"], []])
+
+    def test_what_is_told_again_is_left_out(self):
+        self.assertEqual(told_first([["1", "2"], ["1", "3"], ["3"]]), [["1", "2"], ["3"]])
 
 
 class Rows(unittest.TestCase):
