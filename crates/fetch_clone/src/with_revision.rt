@@ -14,7 +14,7 @@ use thiserror::Error as ThisError;
 #[derive(Clone, Copy, Debug, PartialEq, Eq, ThisError)]
 pub enum Error {
     /// It is no refspec to fetch by.
-    #[error("{0}")]
+    #[error(transparent)]
     Parse(SpecError),
     /// It isn't one source alone, or that is neither `HEAD`, an id, nor a name under `refs/`.
     #[error("no revision of a remote")]

@@ -47,7 +47,7 @@ pub enum Error {
         value: Text,
     },
     /// What was to be sent doesn't fit, or the server breaks the protocol, refuses, or lacks a feature.
-    #[error("{0}")]
+    #[error(transparent)]
     Fetch(WireError),
     /// The peer failed.
     #[error("the server failed")]
@@ -61,7 +61,7 @@ pub enum Error {
         id: ObjectId,
     },
     /// The pack isn't one.
-    #[error("{0}")]
+    #[error(transparent)]
     Pack(PackError),
     /// An object of the pack has the id of another object, of the pack or of the repository.
     #[error("an id has two objects")]
@@ -74,7 +74,7 @@ pub enum Error {
         path: Text,
     },
     /// The mapped references couldn't be judged.
-    #[error("{0}")]
+    #[error(transparent)]
     UpdateRefs(update::Error),
     /// The references have moved, and the file that keeps the pack couldn't be removed.
     #[error("the keep file {path:?} couldn't be removed")]

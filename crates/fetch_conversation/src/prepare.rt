@@ -13,7 +13,7 @@ pub enum Error {
     #[error("there is no refspec to fetch by")]
     MissingRefSpecs,
     /// The references weren't listed and mapped.
-    #[error("{0}")]
+    #[error(transparent)]
     RefMap(ref_map::Error),
     /// Memory ran out.
     #[error("out of memory")]

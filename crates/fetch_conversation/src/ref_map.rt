@@ -56,7 +56,7 @@ impl Options {
 #[derive(Debug, Drop, Error)]
 pub enum Error {
     /// What was to be sent doesn't fit, the server breaks the protocol, refuses, or doesn't list.
-    #[error("{0}")]
+    #[error(transparent)]
     Handshake(WireError),
     /// The peer failed.
     #[error("the server failed")]

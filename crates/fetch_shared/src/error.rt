@@ -36,7 +36,7 @@ pub enum SharedError {
         found: Option<Target>,
     },
     /// A fetch was refused.
-    #[error("{0}")]
+    #[error(transparent)]
     Fetch(FetchError),
     /// Memory ran out.
     #[error("out of memory")]

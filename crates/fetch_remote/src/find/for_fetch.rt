@@ -8,10 +8,10 @@ use thiserror::Error as ThisError;
 #[derive(Debug, Drop, PartialEq, Eq, ThisError)]
 pub enum Error {
     /// The remote that is meant isn't found, or is refused.
-    #[error("{0}")]
+    #[error(transparent)]
     FindExisting(existing::Error),
     /// The text names no remote, and is no address.
-    #[error("{0}")]
+    #[error(transparent)]
     Init(init::Error),
     /// No remote is named, and none is meant.
     #[error("no remote to fetch from")]
