@@ -1,11 +1,12 @@
 -- What the program writes, and its status.
-use Rattle.std.specs.Prelude.{◌≡◌, ℕ, Bool, true, false, List, Option, Result, Ok, Err}
+use Rattle.std.specs.Prelude.{◌≡◌, ◌⊎◌, ℕ, Bool, true, false, List, Option, Some, Result, Ok, Err}
 use Rattle.std.specs.Io.KnownBytes.{Appends}
+use Rattle.fetch_remote.specs.Valid.{IsValidInput}
 use Rattle.fetch_cli.specs.declared.scene.Scene.{Scene}
 use Rattle.fetch_cli.specs.declared.program.words.Command.{Command}
 use Rattle.fetch_cli.specs.declared.program.words.Command.TheVariants.{Fetch, Help, Version}
 use Rattle.fetch_cli.specs.Ends.{IsFront, IsAll}
-use Rattle.fetch_cli.specs.Report.{IsReport}
+use Rattle.fetch_cli.specs.Report.{given_of, found_of, stream_of, IsReport}
 use Rattle.fetch_cli.specs.ReportLines.{malformed_line, malformed_word_line}
 use Rattle.fetch_cli.specs.Scene.{scene_of}
 use Rattle.fetch_cli.specs.Words.{command_of, help_text, version_text}
@@ -59,3 +60,16 @@ pub record WritesFront (words : List (List ℕ)) (input old new : Option (List �
   pub front : List ℕ
   pub is_front : IsFront front text
   pub wrote : Appends old new front
+
+-- This status, but where the source or the sink failed or memory ran out.
+abbrev pub IsUnlessFailed : ℕ → ℕ → Type 0
+IsUnlessFailed result status = (result ≡ status) ⊎ ((result ≡ 2) ⊎ ((result ≡ 3) ⊎ (result ≡ 5)))
+
+-- The words ask for a fetch, and the source tells a scene whose input is valid.
+pub record HasValidScene (words : List (List ℕ)) (input : Option (List ℕ)) : Type 0 where
+  pub bytes : List ℕ
+  pub scene : Scene
+  pub asks : command_of words ≡ Ok Fetch
+  pub told : input ≡ Some bytes
+  pub is : scene_of bytes ≡ Ok scene
+  pub valid : IsValidInput (given_of scene) scene.worktrees (found_of scene) (stream_of scene)

@@ -1,12 +1,12 @@
 //! The program: it reads a scene, fetches, and writes a report.
 
-ghost use Rattle.std.specs.Prelude.{◌≡◌, ◌≢◌, ◌≤◌, ◌⊎◌, map, false, IfOk, OnOk, IsErrOf};
-ghost use Rattle.std.specs.Io.KnownBytes.{Appends};
+ghost use Rattle.std.specs.Prelude.{◌≡◌, ◌≢◌, ◌≤◌, ◌⊎◌, ℕ, List, Some, map, true, false, IfOk, OnOk, IsErrOf};
+ghost use Rattle.std.specs.Io.KnownBytes.{Appends, IsAtEnd};
 ghost use Rattle.fetch_store.specs.Faults.{Rose, Counts};
 ghost use Rattle.fetch_store.specs.Stores.{AreOf};
 ghost use Rattle.fetch_cli.specs.Report.{IsReport};
 ghost use Rattle.fetch_cli.specs.ReportLines.{malformed_line, malformed_word_line};
-ghost use Rattle.fetch_cli.specs.Run.{Are, IsInputAnswer, IsAnswer, Writes, WritesFront, asks_fetch};
+ghost use Rattle.fetch_cli.specs.Run.{Are, IsInputAnswer, IsAnswer, IsUnlessFailed, HasValidScene, Writes, WritesFront, asks_fetch};
 ghost use Rattle.fetch_cli.specs.Words.{help_text, version_text};
 
 use crate::program::ends::{Sink, Source};
@@ -89,6 +89,7 @@ fn answer_to_input<R: Threads + Sync, S: Source>(
     source: &mut S,
 ) -> Result<Answer, Silence>
     ensures answer { IfOk result (λ x. IsInputAnswer (S.left source.old) x.0 x.1.items) }
+    ensures end { IfOk result (λ x. x.0 ≢ 4 → IsAtEnd (S.left source.new)) }
     ensures unread { IsErrOf result Silence.Unread → Rose (S.faults source.old) (S.faults source.new) }
     ensures counts { Counts (S.faults source.old) (S.faults source.new) }
     ensures quiet { ¬ IsErrOf result Silence.Unread → (S.faults source.new).count ≡ (S.faults source.old).count }
@@ -114,6 +115,7 @@ fn answer<R: Threads + Sync, S: Source>(
     source: &mut S,
 ) -> Result<Answer, Silence>
     ensures answer { IfOk result (λ x. IsAnswer (map (λ word. word.items) words.now) (S.left source.old) x.0 x.1.items) }
+    ensures end { IfOk result (λ x. asks_fetch (map (λ word. word.items) words.now) ≡ true → x.0 ≢ 4 → IsAtEnd (S.left source.new)) }
     ensures unread { IsErrOf result Silence.Unread → Rose (S.faults source.old) (S.faults source.new) }
     ensures counts { Counts (S.faults source.old) (S.faults source.new) }
     ensures quiet { ¬ IsErrOf result Silence.Unread → (S.faults source.new).count ≡ (S.faults source.old).count }
@@ -150,9 +152,14 @@ pub fn run<R: Threads + Sync, S: Source, K: Sink>(
     ensures front { result ≡ 3 → WritesFront (map (λ word. word.items) words.now) (S.left source.old) (K.taken sink.old) (K.taken sink.new) }
     ensures malformed { result ≡ 4 → Writes (map (λ word. word.items) words.now) (S.left source.old) (K.taken sink.old) (K.taken sink.new) 4 }
     ensures memory { result ≡ 5 → (sink.new ≡ sink.old) ⊎ WritesFront (map (λ word. word.items) words.now) (S.left source.old) (K.taken sink.old) (K.taken sink.new) }
+    // Where a fetch was done or refused, the source was read to its end.
+    ensures end { asks_fetch (map (λ word. word.items) words.now) ≡ true → result ≤ 1 → IsAtEnd (S.left source.new) }
     // Words are tested before the source is read.
     ensures words { asks_fetch (map (λ word. word.items) words.now) ≡ false → source.new ≡ source.old }
     ensures known { result ≤ 5 }
+    // Where the source tells what is in it, the status is that of the one answer.
+    ensures exact { (bytes : List ℕ) (status : ℕ) (text : List ℕ) → S.left source.old ≡ Some bytes → IsAnswer (map (λ word. word.items) words.now) (Some bytes) status text → IsUnlessFailed result status }
+    ensures complete { HasValidScene (map (λ word. word.items) words.now) (S.left source.old) → IsUnlessFailed result 0 }
 {
     match answer(rt, alloc, words, source) {
         Ok((status, text)) => match sink.write_all(&text) {
