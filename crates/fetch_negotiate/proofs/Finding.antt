@@ -20,19 +20,6 @@ use Rattle.fetch_negotiate.specs.declared.commits.Commit.{Commit}
 use Rattle.fetch_negotiate.specs.Commits.{commit_of, commit_in, parents_in}
 use Rattle.fetch_negotiate.specs.Reading.{Table, IsTold, Grows, read_in}
 
-next_in : (xs items : List ObjectId) (i : ℕ) (p : ObjectId) → items ≡ take i xs → Some p ≡ slice_get xs i → items ++ p ∷ [] ≡ take (i + 1) xs
-next_in xs items i p so_far is =
-    let lt : i < length xs = slice_get_within xs i p (sym is) in
-    ap (λ ps. ps ++ p ∷ []) so_far ∙ ap (λ q. take i xs ++ q ∷ []) (sym (get_or_from_slice_get xs i p p (sym is))) ∙ sym (take_more xs i p lt)
-
-of_node : (o : Option Node) (i : ℕ) → option_and_then (λ (n : Node). slice_get n.parents i) o ≡ slice_get (option_map_or (λ (n : Node). n.parents) o []) i
-of_node None i = refl
-of_node (Some n) i = refl
-
--- one more parent
-pub next_parent : (g : Graph) (id : ObjectId) (items : List ObjectId) (i : ℕ) (p : ObjectId) → items ≡ take i (parents_in g id) → Some p ≡ option_and_then (λ (n : Node). slice_get n.parents i) (map.get g id) → items ++ p ∷ [] ≡ take (i + 1) (parents_in g id)
-next_parent g id items i p so_far is = next_in (parents_in g id) items i p so_far (is ∙ of_node (map.get g id) i)
-
 by_node : (o : Option Node) → option_map_or (λ (n : Node). is_kind n.kind objects.Commit) o false ≡ is_some (option_and_then commit_in o)
 by_node None = refl
 by_node (Some n) = chosen (is_kind n.kind objects.Commit) _

@@ -3,12 +3,10 @@
 ghost use Rattle.std.specs.Prelude.{◌≡◌, ◌+◌, MatchOption};
 ghost use Rattle.std.specs.Iterator.{YieldsFirst};
 ghost use Rattle.std.specs.Option.{option_map};
-ghost use Rattle.fetch_store.specs.declared.object_kind.ObjectKind.TheVariants as kinds;
-ghost use Rattle.fetch_store.specs.Objects.{is_kind};
 ghost use Rattle.fetch_store.specs.References.{parents_left};
 ghost use Rattle.fetch_update.specs.Dated.{commit_at, seconds_in};
 
-use fetch_store::{ObjectId, ObjectKind, Objects, Parents, Steps};
+use fetch_store::{ObjectId, Objects, Parents, Steps};
 use std::sync::ledger::Ledger;
 
 /// A commit's seconds. A commit that is read is one step.
