@@ -222,7 +222,7 @@ class Histories(unittest.TestCase):
 class Help(unittest.TestCase):
     def test_each_tool_tells_its_words(self):
         for tool in ("scene-from-git", "apply-report", "compare-with-git", "compare-haves", "long-line", "cut-scene",
-                     "show-rows"):
+                     "refuse-allocations", "show-rows"):
             status, out, messages = run(tool, "--help")
             self.assertEqual((status, messages), (0, ""))
             self.assertIn(b"statuses:", out)
