@@ -106,14 +106,14 @@ unfolding awaits_more told_as
 awaits_as bound g (ends answer) stream is = absurd (cc)
 awaits_as bound g (asks lines awaited failed next) stream is = ends_asking _ _ (told_at bound awaited stream) (λ told left more. awaits_as bound g (next told) left more) is
 
-awaited_early : {X Y E : Type 0} (bound : ℕ) (c : Conversation X E) (f : X → Conversation Y E) (pending said : List ℕ) → IsAwaited bound c pending said → IsAwaited bound (and_then c f) pending said
+pub awaited_early : {X Y E : Type 0} (bound : ℕ) (c : Conversation X E) (f : X → Conversation Y E) (pending said : List ℕ) → IsAwaited bound c pending said → IsAwaited bound (and_then c f) pending said
 awaited_early bound c f pending said h = record { before = h.before; last = h.last; all = h.all; at_once = h.at_once; awaited = λ isnt. awaits_early bound c f (pending ++ h.before) (h.awaited isnt) }
 
-awaited_as : {X E F : Type 0} (bound : ℕ) (g : E → F) (c : Conversation X E) (pending said : List ℕ) → IsAwaited bound c pending said → IsAwaited bound (told_as g c) pending said
+pub awaited_as : {X E F : Type 0} (bound : ℕ) (g : E → F) (c : Conversation X E) (pending said : List ℕ) → IsAwaited bound c pending said → IsAwaited bound (told_as g c) pending said
 awaited_as bound g c pending said h = record { before = h.before; last = h.last; all = h.all; at_once = h.at_once; awaited = λ isnt. awaits_as bound g c (pending ++ h.before) (h.awaited isnt) }
 
 -- what the second was said comes behind what the first was
-awaited_then : {X Y E : Type 0} (bound : ℕ) (pending rest said said' : List ℕ) (c : Conversation X E) (f : X → Conversation Y E) (x : X) → ((more : List ℕ) → answer_in bound c (pending ++ (said ++ more)) ≡ Ok (x, rest ++ more))
+pub awaited_then : {X Y E : Type 0} (bound : ℕ) (pending rest said said' : List ℕ) (c : Conversation X E) (f : X → Conversation Y E) (x : X) → ((more : List ℕ) → answer_in bound c (pending ++ (said ++ more)) ≡ Ok (x, rest ++ more))
     → IsAwaited bound c pending said → IsAwaited bound (f x) rest said' → IsAwaited bound (and_then c f) pending (said ++ said')
 awaited_then bound pending rest said [] c f x answered h k = subst (IsAwaited bound (and_then c f) pending) (sym (append-nil said)) (awaited_early bound c f pending said h)
 awaited_then bound pending rest said (b ∷ bytes) c f x answered h k = record {

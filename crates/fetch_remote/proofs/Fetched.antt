@@ -63,7 +63,7 @@ has_heard answers old new g before l r rest told =
     let said = said_in answers old new g before l r rest told in
     let heard : (more : List ℕ) → lines_text (requests_in g before (said ++ more)) ≡ heard_in answers old new g before l r rest told = λ more. rw (in_form g before (said ++ more)) (k.asked more) in
     let same : lines_text (requests_in g before said) ≡ heard_in answers old new g before l r rest told = rw append-nil at (heard []) in
-    record { passed = rw same k.passed; same_requests = λ more. heard more ∙ sym same }
+    record { passed = rw same k.passed; same_requests = λ more. heard more ∙ sym same; needed = k.needed }
 
 abbrev at_outcome : Given → ListedValue → Option Received → Updates → Outcome
 at_outcome g l r u = outcome_in g.setup.settings.git_dir (manner_in g) l r u

@@ -6,8 +6,9 @@ use Rattle.fetch_update.specs.declared.update.Error.{Error as UpdateError}
 use Rattle.fetch_update.specs.declared.worktrees.Worktree.{Worktree}
 use Rattle.fetch_wire.specs.Talks.{Talk, Talks, IsFront, Talks-none, Talks-then}
 use Rattle.fetch_wire.specs.Written.{lines_text}
-use Rattle.fetch_conversation.specs.Conversation.{answer_in, Breaks}
+use Rattle.fetch_conversation.specs.Conversation.{answer_in, IsAwaited, Breaks}
 use Rattle.fetch_conversation.specs.Conversation as held
+use Rattle.fetch_conversation.proofs.Tied.{awaited_first}
 use Rattle.fetch_conversation.specs.Errors.{is_free_listing, is_worktree_fault}
 use Rattle.fetch_conversation.specs.ListStage.{ListedValue}
 use Rattle.fetch_conversation.specs.declared.conversing.Received.{Received}
@@ -33,7 +34,7 @@ use Rattle.fetch_remote.proofs.Broken.{whole_listing, whole_receiving, front_lis
 use Rattle.fetch_remote.proofs.Fetched.{in_form, fetched_is}
 use Rattle.fetch_remote.proofs.Keeping.{same_files}
 use Rattle.fetch_remote.proofs.Settled.{takes, list_of, list_told}
-use Rattle.fetch_remote.proofs.Spoken.{said_in, heard_in, told_spoken}
+use Rattle.fetch_remote.proofs.Spoken.{said_in, heard_in, told_spoken, needed_listing, needed_receiving}
 use Rattle.fetch_remote.proofs.Unjudged.{refusal_is, receives_no_other}
 
 left_is : (g : Given) (before : State) (stream : List ℕ) (answer : Result (Told × List ℕ) FetchError) → answer_in (bound_of g) (conversation g before) stream ≡ answer
@@ -84,6 +85,7 @@ forgot answers now known files g before = record {
   heard = [];
   passed = Talks-none answers now;
   front = (lines_text (requests_in g before []), refl);
+  needed = awaited_first (bound_of g) (conversation g before) [];
   trees = list_of known;
   listed_trees = list_told known;
   why = λ sure. absurd (cc);
@@ -113,6 +115,7 @@ broken_for answers old new known files g before e sure h = record {
   heard = h.heard;
   passed = h.passed;
   front = rw (in_form g before h.said) h.front;
+  needed = h.needed;
   trees = list_of known;
   listed_trees = list_told known;
   why = λ bound_to. early_by new g (list_of known) before files h.said h.heard e (h.why bound_to);
@@ -122,12 +125,13 @@ broken_for answers old new known files g before e sure h = record {
 
 -- one that is free
 broken_free : (answers : Bool) (old new : Option Talk) (known : Option (List Worktree)) (files : Option Tree) (g : Given) (before : State) (said heard : List ℕ) (e : FetchError) → is_free e ≡ true → Talks answers old new heard said
-    → IsFront heard (lines_text (held.sent_in (bound_of g) (conversation g before) said)) → IsCounted g (list_of known) before before files files said heard e → IsRefused answers old new known files files g before before e
-broken_free answers old new known files g before said heard e free passed front counted = record {
+    → IsFront heard (lines_text (held.sent_in (bound_of g) (conversation g before) said)) → IsAwaited (bound_of g) (conversation g before) [] said → IsCounted g (list_of known) before before files files said heard e → IsRefused answers old new known files files g before before e
+broken_free answers old new known files g before said heard e free passed front needed counted = record {
   said = said;
   heard = heard;
   passed = passed;
   front = rw (in_form g before said) front;
+  needed = needed;
   trees = list_of known;
   listed_trees = list_told known;
   why = λ sure. absurd (cc (free, sure));
@@ -164,7 +168,7 @@ listing_by : (answers : Bool) (old new : Option Talk) (known : Option (List Work
 listing_by answers old new known files g before e h false sure = broken_for answers old new known files g before (preparing e) sure (whole_listing answers old new g before e h)
 listing_by answers old new known files g before e h true free =
     let cut : IsCutListing g before before files files h.said h.heard = record { front = h.front; found = found before files } in
-    broken_free answers old new known files g before h.said h.heard (preparing e) free h.passed (front_listing g before h.said h.heard h.front) (record {
+    broken_free answers old new known files g before h.said h.heard (preparing e) free h.passed (front_listing g before h.said h.heard h.front) (needed_listing g before h.said h.needed) (record {
       transport = λ _. cut;
       interrupted = λ _. cut;
       client = λ is. absurd (no_pack_listing e _ is);
@@ -196,7 +200,7 @@ receiving_by answers old new known files g before e h true free =
       found = found before files;
     } in
     broken_free answers old new known files g before said heard (receiving h.cause) free (Talks-then answers old h.between new h.list.heard h.list.said h.broke.heard h.broke.said h.list.passed h.broke.passed)
-    (front_receiving g before h.listed said behind h.list.heard h.broke.heard later) (record {
+    (front_receiving g before h.listed said behind h.list.heard h.broke.heard later) (needed_receiving g before h.listed h.behind h.list.said h.broke.said h.list.answered h.list.needed h.broke.needed) (record {
       transport = λ is. absurd (no_listing_pack h.cause _ is);
       interrupted = λ is. absurd (no_listing_pack h.cause _ is);
       client = λ _. cut;
@@ -286,6 +290,7 @@ not_settled answers old new known files left g before after l r rest e told u =
       heard = heard;
       passed = h.passed;
       front = front_all g before said heard h.asked;
+      needed = h.needed;
       trees = u.trees;
       listed_trees = u.listed_trees;
       why = λ sure.

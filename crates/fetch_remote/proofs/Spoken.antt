@@ -2,8 +2,9 @@
 use Rattle.std.proofs.Common.{◌≡◌, ℕ, Bool, List, [], ◌++◌, Option, Ok, refl, ap, ◌∙◌, append_assoc}
 use Rattle.fetch_wire.specs.Talks.{Talk, Talks, Talks-then, Talks-none}
 use Rattle.fetch_wire.specs.Written.{lines_text}
-use Rattle.fetch_conversation.specs.Conversation.{Conversation, ends, sent_in, answer_in, and_then, map_refusal, told_as, Concludes}
-use Rattle.fetch_conversation.proofs.Chained.{text_then, answer_then, answer_behind, sent_as, answer_as}
+use Rattle.fetch_conversation.specs.Conversation.{Conversation, ends, sent_in, answer_in, and_then, map_refusal, told_as, IsAwaited, Concludes}
+use Rattle.fetch_conversation.proofs.Chained.{text_then, answer_then, answer_behind, sent_as, answer_as, awaited_early, awaited_as, awaited_then}
+use Rattle.fetch_conversation.proofs.Tied.{awaited_first}
 use Rattle.fetch_conversation.specs.ListStage.{ListedValue}
 use Rattle.fetch_conversation.specs.declared.conversing.Received.{Received}
 use Rattle.fetch_remote.specs.Errors.{preparing, receiving}
@@ -16,14 +17,15 @@ pub record Spoke {X E : Type 0} (answers : Bool) (bound : ℕ) (old new : Option
   pub passed : Talks answers old new heard said
   pub asked : (more : List ℕ) → lines_text (sent_in bound c (pending ++ (said ++ more))) ≡ heard
   pub answered : (more : List ℕ) → answer_in bound c (pending ++ (said ++ more)) ≡ Ok (x, rest ++ more)
+  pub needed : IsAwaited bound c pending said
 
 pub spoke : {X E : Type 0} (answers : Bool) (bound : ℕ) (old new : Option Talk) (pending rest : List ℕ) (c : Conversation X E) (x : X) → (h : Concludes answers bound old new pending c x rest)
     → Spoke answers bound old new pending c x rest h.said h.heard
-spoke answers bound old new pending rest c x h = record { passed = h.passed; asked = h.asked; answered = h.answered }
+spoke answers bound old new pending rest c x h = record { passed = h.passed; asked = h.asked; answered = h.answered; needed = h.needed }
 
 spoke_end : {X E : Type 0} (answers : Bool) (bound : ℕ) (now : Option Talk) (pending : List ℕ) (x : X) → Spoke {X = X} {E = E} answers bound now now pending (ends (Ok x)) x pending [] []
 unfolding sent_in answer_in
-spoke_end answers bound now pending x = record { passed = Talks-none answers now; asked = λ more. refl; answered = λ more. refl }
+spoke_end answers bound now pending x = record { passed = Talks-none answers now; asked = λ more. refl; answered = λ more. refl; needed = awaited_first bound (ends (Ok x)) pending }
 
 spoke_as : {X E F : Type 0} (answers : Bool) (bound : ℕ) (old new : Option Talk) (pending rest said heard : List ℕ) (g : E → F) (c : Conversation X E) (x : X)
     → Spoke answers bound old new pending c x rest said heard → Spoke answers bound old new pending (told_as g c) x rest said heard
@@ -31,6 +33,7 @@ spoke_as answers bound old new pending rest said heard g c x h = record {
   passed = h.passed;
   asked = λ more. ap lines_text (sent_as bound g c _) ∙ h.asked more;
   answered = λ more. answer_as bound g c _ ∙ ap (map_refusal g) (h.answered more);
+  needed = awaited_as bound g c pending said h.needed;
 }
 
 spoke_then : {X Y E : Type 0} (answers : Bool) (bound : ℕ) (old mid new : Option Talk) (pending rest left said heard said' heard' : List ℕ) (c : Conversation X E) (f : X → Conversation Y E) (x : X) (y : Y)
@@ -39,6 +42,7 @@ spoke_then answers bound old mid new pending rest left said heard said' heard' c
   passed = Talks-then answers old mid new heard said heard' said' h.passed k.passed;
   asked = λ more. rw append_assoc (text_then bound c f _ _ x (h.answered (said' ++ more)) ∙ ap (λ (l : List ℕ). l ++ lines_text (sent_in bound (f x) (rest ++ (said' ++ more)))) (h.asked (said' ++ more)) ∙ ap (λ (l : List ℕ). heard ++ l) (k.asked more));
   answered = λ more. rw append_assoc (answer_then bound c f _ ∙ ap (answer_behind bound f) (h.answered (said' ++ more)) ∙ k.answered more);
+  needed = awaited_then bound pending rest said said' c f x h.answered h.needed k.needed;
 }
 
 -- ---- the two stages as one
@@ -62,3 +66,19 @@ unfolding conversation
 told_spoken answers old new g s l r rest h =
     spoke_then answers (bound_of g) old h.between new [] h.behind rest h.list.said h.list.heard (h.pack.said ++ []) (h.pack.heard ++ []) (told_as preparing (listing_stage g)) (receiving_stage g s) l _
     (spoke_as answers (bound_of g) old h.between [] h.behind h.list.said h.list.heard preparing _ l (spoke answers (bound_of g) old h.between [] h.behind _ l h.list)) (received_as answers h.between new g s l r h.behind rest h.pack)
+
+-- ---- what was received was awaited
+
+-- what the listing awaits, all of it does
+pub needed_listing : (g : Given) (s : State) (said : List ℕ) → IsAwaited (bound_of g) (listing_stage g) [] said → IsAwaited (bound_of g) (conversation g s) [] said
+unfolding conversation
+needed_listing g s said h = awaited_early (bound_of g) (told_as preparing (listing_stage g)) (receiving_stage g s) [] said (awaited_as (bound_of g) preparing (listing_stage g) [] said h)
+
+-- and what the pack does, behind the listing
+pub needed_receiving : (g : Given) (s : State) (l : ListedValue) (behind said said' : List ℕ) → ((more : List ℕ) → answer_in (bound_of g) (listing_stage g) (said ++ more) ≡ Ok (l, behind ++ more)) → IsAwaited (bound_of g) (listing_stage g) [] said
+    → IsAwaited (bound_of g) (pack_stage g s l) behind said' → IsAwaited (bound_of g) (conversation g s) [] (said ++ said')
+unfolding conversation receiving_stage
+needed_receiving g s l behind said said' answered h k =
+    awaited_then (bound_of g) [] behind said said' (told_as preparing (listing_stage g)) (receiving_stage g s) l (λ more. answer_as (bound_of g) preparing (listing_stage g) _ ∙ ap (map_refusal preparing) (answered more))
+    (awaited_as (bound_of g) preparing (listing_stage g) [] said h)
+    (awaited_early (bound_of g) (told_as receiving (pack_stage g s l)) _ behind said' (awaited_as (bound_of g) receiving (pack_stage g s l) behind said' k))

@@ -25,7 +25,7 @@ use Rattle.fetch_wire.specs.Written.{lines_text}
 use Rattle.fetch_wire.specs.References.{source_id}
 use Rattle.fetch_wire.specs.declared.mapping.Mapping.{Mapping}
 use Rattle.fetch_wire.specs.declared.mapping.RefMap.{RefMap}
-use Rattle.fetch_conversation.specs.Conversation.{answer_in}
+use Rattle.fetch_conversation.specs.Conversation.{answer_in, IsAwaited}
 use Rattle.fetch_conversation.specs.ListStage.{ListedValue, all_specs, extra_specs}
 use Rattle.fetch_conversation.specs.Mapped.{ref_mappings}
 use Rattle.fetch_conversation.specs.declared.conversing.Received.{Received}
@@ -36,7 +36,7 @@ use Rattle.fetch_remote.specs.Negotiated.{AreHeld}
 use Rattle.fetch_remote.specs.Keeping.{AreFiles, kept, keep_in, left_tree}
 use Rattle.fetch_remote.specs.Repositories.{State, Setup, held}
 use Rattle.fetch_remote.specs.Settling.{brought, pack_read, policy_in, status_of}
-use Rattle.fetch_remote.specs.Stages.{bound_of, wants_in, inquiry_in, listing_stage, pack_stage}
+use Rattle.fetch_remote.specs.Stages.{bound_of, wants_in, inquiry_in, listing_stage, pack_stage, conversation}
 use Rattle.fetch_remote.specs.declared.outcome.Outcome.{Outcome}
 
 -- what the outcome tells of the listing
@@ -49,6 +49,8 @@ listed_in outcome = record { ref_map = outcome.ref_map; handshake = outcome.hand
 pub record HasHeard (answers : Bool) (old new : Option Talk) (g : Given) (before : State) (said : List ℕ) : Type 0 where
   pub passed : Talks answers old new (lines_text (requests_in g before said)) said
   pub same_requests : (more : List ℕ) → lines_text (requests_in g before (said ++ more)) ≡ lines_text (requests_in g before said)
+  -- Nothing was received but while a reply was awaited.
+  pub needed : IsAwaited (bound_of g) (conversation g before) [] said
 
 -- ---- what was read
 

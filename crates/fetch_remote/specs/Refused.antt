@@ -1,11 +1,11 @@
 -- A fetch that was refused.
-use Rattle.std.specs.Prelude.{◌≡◌, ◌⊎◌, ℕ, Bool, true, false, List, ◌++◌, Option, Some, Ok, Err, is_some}
+use Rattle.std.specs.Prelude.{◌≡◌, ◌⊎◌, ℕ, Bool, true, false, List, [], ◌++◌, Option, Some, Ok, Err, is_some}
 use Rattle.fetch_store.specs.Trees.{Tree}
 use Rattle.fetch_update.specs.declared.update.Error.{Error as UpdateError}
 use Rattle.fetch_update.specs.declared.worktrees.Worktree.{Worktree}
 use Rattle.fetch_wire.specs.Talks.{Talk, Talks, IsFront, IsDrained}
 use Rattle.fetch_wire.specs.Written.{lines_text}
-use Rattle.fetch_conversation.specs.Conversation.{sent_in, answer_in}
+use Rattle.fetch_conversation.specs.Conversation.{sent_in, answer_in, IsAwaited}
 use Rattle.fetch_conversation.specs.Errors.{is_worktree_fault}
 use Rattle.fetch_conversation.specs.ListStage.{ListedValue}
 use Rattle.fetch_conversation.specs.declared.fetch.Error.TheVariants as receive
@@ -141,11 +141,13 @@ pub record IsCounted (g : Given) (trees : List Worktree) (before after : State) 
 -- ---- the refusal
 
 pub record IsRefused (answers : Bool) (old new : Option Talk) (known : Option (List Worktree)) (files files_left : Option Tree) (g : Given) (before after : State) (e : FetchError) : Type 0 where
-  -- What the peer gave in the call is what it said, and it heard a front of the requests for that.
+  -- What the peer gave in the call is what it said, and it heard a front of the requests for that. Nothing was received
+  -- but while a reply was awaited.
   pub said : List ℕ
   pub heard : List ℕ
   pub passed : Talks answers old new heard said
   pub front : IsFront heard (lines_text (requests_in g before said))
+  pub needed : IsAwaited (bound_of g) (conversation g before) [] said
   -- The worktrees' list is the one that is told.
   pub trees : List Worktree
   pub listed_trees : IsTold known trees
