@@ -4,6 +4,7 @@ ghost use Rattle.std.specs.Prelude.{◌≡◌, IfOk, IfSome, OnOk, IsErrOf};
 ghost use Rattle.fetch_store.specs.Faults.{Rose, Counts};
 ghost use Rattle.fetch_store.specs.Collisions.{HasDistinctIds};
 ghost use Rattle.fetch_store.specs.Stores.{AreOf};
+ghost use Rattle.fetch_conversation.specs.Receiving.{IsHeeded};
 ghost use Rattle.fetch_conversation.specs.declared.fetch.Error.TheVariants as receive_errors;
 ghost use Rattle.fetch_conversation.specs.declared.prepare.Error.TheVariants as prepare_errors;
 ghost use Rattle.fetch_conversation.specs.declared.ref_map.Error.TheVariants as ref_map_errors;
@@ -53,6 +54,7 @@ pub(crate) fn talk<R: Threads + Sync, P: Peer, I: Interrupt>(
     ensures interrupted { IsErrOf result (errors.Prepare (prepare_errors.RefMap ref_map_errors.Interrupted)) → Rose (I.yes interrupt.old) (I.yes interrupt.new) }
     ensures stopped { IsErrOf result (errors.Receive receive_errors.Interrupted) → Rose (I.yes interrupt.old) (I.yes interrupt.new) }
     ensures uninterrupted { OnOk result ((I.yes interrupt.new).count ≡ (I.yes interrupt.old).count) }
+    ensures questions { IsHeeded (I.will_stop interrupt.old) (I.will_stop interrupt.new) (P.told peer.old) (P.told peer.new) result }
 {
     let FetchOptions {
         map,

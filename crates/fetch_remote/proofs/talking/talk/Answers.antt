@@ -1,6 +1,7 @@
 use Rattle.std.proofs.Common.{refl}
 use Rattle.std.proofs.lemmas.Result.{err_from_is_err_and}
 use Rattle.fetch_remote.proofs.Talked.{stops_listing, stops_between, stops_receiving, ends_both, kind_received, client_is, stopped_is, no_listing, told_same}
+use Rattle.fetch_conversation.proofs.Heeded.{heeded_then, heeded_as, heeded_err}
 use Rattle.fetch_store.specs.Faults.{Rose-earlier}
 use Rattle.fetch_conversation.specs.declared.fetch.Error.TheVariants as receive
 use Rattle.fetch_conversation.specs.declared.prepare.Error.TheVariants as prepare
@@ -67,3 +68,21 @@ returns-in_err-received-clause-stopped g c is =
     let p = err_from_is_err_and c.from_residual-in_err-received.result c.from_residual-in_err-received.ensures.1 in
     let told = told_same c.from_residual-in_err-received.result c.in_err-received.field-0.0 p.0 (errors.Receive receive.Interrupted) p.1 p.2 is in
     Rose-earlier (g.I.Interrupt.yes c.args.interrupt.now) (g.I.Interrupt.yes c.list.new.interrupt) (g.I.Interrupt.yes c.converse.new.interrupt) c.in_ok-listed.ensures.asked (c.in_err-received.ensures.interrupted (rw (stopped_is c.in_err-received.field-0.0 told) refl))
+
+pub returns-in_err-listed-clause-questions : goal.returns-in_err-listed-clause-questions
+returns-in_err-listed-clause-questions g c =
+    let p = err_from_is_err_and c.from_residual.result c.from_residual.ensures.1 in
+    rw (p.1, p.2) (heeded_err _ _ _ _ _ _ c.in_err-listed.ensures.questions)
+
+pub returns-in_err-view-clause-questions : goal.returns-in_err-view-clause-questions
+returns-in_err-view-clause-questions g c =
+    let p = err_from_is_err_and c.from_residual-in_err-view.result c.from_residual-in_err-view.ensures.1 in
+    rw (p.1, p.2) (heeded_as _ _ _ _ _ _ c.in_ok-listed.ensures.questions)
+
+pub returns-in_err-received-clause-questions : goal.returns-in_err-received-clause-questions
+returns-in_err-received-clause-questions g c =
+    let p = err_from_is_err_and c.from_residual-in_err-received.result c.from_residual-in_err-received.ensures.1 in
+    rw (p.1, p.2) (heeded_err _ _ _ _ _ _ (heeded_then _ _ _ _ _ _ _ _ c.in_ok-listed.ensures.questions c.in_err-received.ensures.questions))
+
+pub returns-clause-questions : goal.returns-clause-questions
+returns-clause-questions g c = heeded_as _ _ _ _ _ _ (heeded_then _ _ _ _ _ _ _ _ c.in_ok-listed.ensures.questions c.in_ok-received.ensures.questions)

@@ -2,6 +2,7 @@ use Rattle.std.proofs.Common.{refl, sym, ◌∙◌}
 use Rattle.fetch_update.specs.declared.update.Error.TheVariants as update
 use Rattle.fetch_conversation.specs.declared.fetch.Error.TheVariants as receive
 use Rattle.std.proofs.lemmas.Result.{err_from_is_err_and}
+use Rattle.fetch_conversation.proofs.Heeded.{heeded_still, heeded_as, heeded_err}
 use Rattle.fetch_conversation.specs.ListStage.{shown}
 use Rattle.fetch_remote.specs.Repositories.{state_of}
 use Rattle.fetch_remote.specs.declared.fetch_error.FetchError.TheVariants as errors
@@ -131,3 +132,21 @@ returns-in_err-outcome-clause-complete g c =
     let u = rw (c.in_ok-how.ensures, c.fetch_tags.ensures, t.wants) at c.in_err-outcome.ensures.refused in
     let told = g.W.Worktrees.told c.args.worktrees.now in
     rw (p.1, p.2) (λ v. complete _ _ _ told _ _ _ _ _ _ (not_settled _ _ _ told _ _ _ (state_of c.args.repo.now) (state_of c.settle.new.repo) (shown c.in_ok-talked.talked.listed) c.in_ok-talked.talked.received _ c.in_err-outcome.field-0.0 t.told u) v)
+
+pub returns-in_err-how-clause-questions : goal.returns-in_err-how-clause-questions
+returns-in_err-how-clause-questions g c =
+    let p = err_from_is_err_and c.from_residual.result c.from_residual.ensures.1 in
+    rw (p.1, p.2) (heeded_still _ _ _)
+
+pub returns-in_err-talked-clause-questions : goal.returns-in_err-talked-clause-questions
+returns-in_err-talked-clause-questions g c =
+    let p = err_from_is_err_and c.from_residual-in_err-talked.result c.from_residual-in_err-talked.ensures.1 in
+    rw (p.1, p.2) (heeded_err _ _ _ _ _ _ c.in_err-talked.ensures.questions)
+
+pub returns-in_err-outcome-clause-questions : goal.returns-in_err-outcome-clause-questions
+returns-in_err-outcome-clause-questions g c =
+    let p = err_from_is_err_and c.from_residual-in_err-outcome.result c.from_residual-in_err-outcome.ensures.1 in
+    rw (p.1, p.2) (heeded_as _ _ _ _ _ _ c.in_ok-talked.ensures.questions)
+
+pub returns-clause-questions : goal.returns-clause-questions
+returns-clause-questions g c = heeded_as _ _ _ _ _ _ c.in_ok-talked.ensures.questions
