@@ -1,30 +1,42 @@
--- The number that digits write.
-use Rattle.std.proofs.Common.{◌≡◌, ◌<◌, ◌^◌, ℕ, Bool, true, false, List, [], ◌∷◌, Option, Some, None, refl, sym, ap, ◌∙◌, arith}
-use Rattle.std.specs.Prelude.{◌&&◌, ◌==◌, not, IsTrue, SomeIff, if◌then◌else◌}
+-- The number that digits write, digit by digit.
+use Rattle.std.proofs.Common.{◌≡◌, ℕ, ◌+◌, ◌-◌, ◌*◌, ◌<◌, ◌≤◌, List, length, take, get_or, true, None, Some, ◌∙◌, ap, arith}
+use Rattle.std.specs.Int.{IsInRange}
+use Rattle.std.specs.Char.{digit_value}
 use Rattle.std.specs.Str.{all_ascii_digits}
 use Rattle.std.specs.Str.Parse.{digits_value}
+use Rattle.std.proofs.lemmas.List.{take_all}
+use Rattle.std.proofs.lemmas.Grind.{common_steps}
 use Rattle.std.proofs.lemmas.Bool.Decides.{nat_tests}
-use Rattle.fetch_store.specs.Scan.{is_decimal}
-use Rattle.fetch_cli.specs.Numbers.{if_below, is_number, number_in}
+use Rattle.std.proofs.lemmas.Int.Digits.{digits_value_more}
+use Rattle.std.proofs.lemmas.Str.Parse.{IsNumeralModel, numerals_by_value, tells_all_ascii_digits, digit_at, digits_value-take-le}
+use Rattle.fetch_cli.specs.Numbers.{if_below}
 
-within : (r : Option ℕ) (P : Type 0) (bound n : ℕ) → P → SomeIff r (P × (n < bound)) n → r ≡ if_below bound n
-within None P bound n holds none = let no : (n < bound) → ⊥ = λ lt. none (holds, lt) in grind (arith, nat_tests, no)
-within (Some x) P bound n holds ((p, lt), is) = grind (arith, nat_tests, lt, is)
+own : IsNumeralModel (λ ds. all_ascii_digits ds ≡ true) (digits_value 10)
+own = numerals_by_value _ tells_all_ascii_digits
 
-second : (a b : Bool) → (a && b) ≡ true → b ≡ true
-second true b h = h
-second false b h = absurd cc
+value_of_digit : (c : ℕ) → IsInRange 48 57 c → digit_value c ≡ c - 48
+value_of_digit c h = grind (arith, common_steps)
 
-are_digits : (text : List ℕ) → is_number text ≡ true → IsTrue (is_decimal text)
-are_digits [] h = absurd cc
-are_digits (c ∷ []) h = h
-are_digits (c ∷ d ∷ cs) h = second (not (c == 48)) (all_ascii_digits (c ∷ d ∷ cs)) h
+pub record Reads (ds : List ℕ) (i : ℕ) : Type 0 where
+  pub digit : 48 ≤ get_or ds i 0
+  pub low : get_or ds i 0 ≤ 57
+  pub next : digits_value 10 (take (i + 1) ds) ≡ digits_value 10 (take i ds) * 10 + (get_or ds i 0 - 48)
+  pub within : digits_value 10 (take (i + 1) ds) ≤ digits_value 10 ds
 
-pub number_is : (text : List ℕ) (r : Option ℕ) → is_number text ≡ true → SomeIff r (IsTrue (is_decimal text) × (digits_value 10 text < 2 ^ 64)) (digits_value 10 text) → r ≡ number_in text
-unfolding number_in
-number_is text r h found =
-    within r (IsTrue (is_decimal text)) (2 ^ 64) (digits_value 10 text) (are_digits text h) found ∙ sym (ap (λ b. if b then if_below (2 ^ 64) (digits_value 10 text) else None) h)
+pub reads : (ds : List ℕ) (i : ℕ) → all_ascii_digits ds ≡ true → i < length ds → Reads ds i
+reads ds i all lt =
+    let in_range = digit_at ds i (own.to ds all) lt in record {
+      digit = in_range.0;
+      low = in_range.1;
+      next = digits_value_more 10 ds i lt ∙ ap (λ d. digits_value 10 (take i ds) * 10 + d) (value_of_digit (get_or ds i 0) in_range);
+      within = digits_value-take-le 10 ds (i + 1) (omega arith);
+    }
 
-pub no_number : (text : List ℕ) → is_number text ≡ false → None ≡ number_in text
-unfolding number_in
-no_number text h = sym (ap (λ b. if b then if_below (2 ^ 64) (digits_value 10 text) else None) h)
+pub not_below : (bound n : ℕ) → bound ≤ n → if_below bound n ≡ None
+not_below bound n le = grind (arith, nat_tests)
+
+pub below_bound : (bound n : ℕ) → n < bound → Some n ≡ if_below bound n
+below_bound bound n lt = grind (arith, nat_tests)
+
+pub ends_at : (ds : List ℕ) (i n : ℕ) → length ds ≤ i → n ≡ digits_value 10 (take i ds) → n ≡ digits_value 10 ds
+ends_at ds i n le is = is ∙ ap (digits_value 10) (take_all i ds le)

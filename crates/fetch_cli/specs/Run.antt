@@ -1,12 +1,12 @@
 -- What the program writes, and its status.
-use Rattle.std.specs.Prelude.{◌≡◌, ◌⊎◌, ℕ, Bool, true, false, List, Option, Some, Result, Ok, Err}
+use Rattle.std.specs.Prelude.{◌≡◌, ℕ, Bool, true, false, List, Option, Result, Ok, Err}
 use Rattle.std.specs.Io.KnownBytes.{Appends}
-use Rattle.fetch_remote.specs.Valid.{IsValidInput}
 use Rattle.fetch_cli.specs.declared.scene.Scene.{Scene}
 use Rattle.fetch_cli.specs.declared.program.words.Command.{Command}
-use Rattle.fetch_cli.specs.declared.program.words.Command.TheVariants.{Fetch, Help, Version}
+use Rattle.fetch_cli.specs.declared.program.words.Command.TheVariants.{Fetch, Bench, Help, Version}
+use Rattle.fetch_cli.specs.Bench.{generated_scene, IsSummary}
 use Rattle.fetch_cli.specs.Ends.{IsFront, IsAll}
-use Rattle.fetch_cli.specs.Report.{given_of, found_of, stream_of, IsReport}
+use Rattle.fetch_cli.specs.Report.{IsReport}
 use Rattle.fetch_cli.specs.ReportLines.{malformed_line, malformed_word_line}
 use Rattle.fetch_cli.specs.Scene.{scene_of}
 use Rattle.fetch_cli.specs.Words.{command_of, help_text, version_text}
@@ -30,6 +30,7 @@ abbrev pub IsAnswerTo : Result Command ℕ → Option (List ℕ) → ℕ → Lis
 IsAnswerTo (Err number) input status text = Are 4 (malformed_word_line number) status text
 IsAnswerTo (Ok Help) input status text = Are 0 help_text status text
 IsAnswerTo (Ok Version) input status text = Are 0 version_text status text
+IsAnswerTo (Ok (Bench count)) input status text = IsSummary count (generated_scene count) status text
 IsAnswerTo (Ok Fetch) input status text = IsInputAnswer input status text
 
 -- what these words are answered, with this input
@@ -39,6 +40,7 @@ pub record IsAnswer (words : List (List ℕ)) (input : Option (List ℕ)) (statu
 -- whether the words ask for a fetch; others leave the source alone
 abbrev pub is_fetch : Result Command ℕ → Bool
 is_fetch (Ok Fetch) = true
+is_fetch (Ok (Bench count)) = false
 is_fetch (Ok Help) = false
 is_fetch (Ok Version) = false
 is_fetch (Err number) = false
@@ -60,16 +62,3 @@ pub record WritesFront (words : List (List ℕ)) (input old new : Option (List �
   pub front : List ℕ
   pub is_front : IsFront front text
   pub wrote : Appends old new front
-
--- This status, but where the source or the sink failed or memory ran out.
-abbrev pub IsUnlessFailed : ℕ → ℕ → Type 0
-IsUnlessFailed result status = (result ≡ status) ⊎ ((result ≡ 2) ⊎ ((result ≡ 3) ⊎ (result ≡ 5)))
-
--- The words ask for a fetch, and the source tells a scene whose input is valid.
-pub record HasValidScene (words : List (List ℕ)) (input : Option (List ℕ)) : Type 0 where
-  pub bytes : List ℕ
-  pub scene : Scene
-  pub asks : command_of words ≡ Ok Fetch
-  pub told : input ≡ Some bytes
-  pub is : scene_of bytes ≡ Ok scene
-  pub valid : IsValidInput (given_of scene) scene.worktrees (found_of scene) (stream_of scene)

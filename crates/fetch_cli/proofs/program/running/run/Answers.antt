@@ -1,5 +1,4 @@
-use Rattle.std.proofs.Common.{inl}
-use Rattle.fetch_cli.proofs.Answering.{known, one, valid_answered}
+use Rattle.fetch_cli.proofs.Answering.{known}
 use Rattle.fetch_cli.proofs.program.running.run.Goals as goal
 
 pub returns-in-Ok-write_all-clause-read : goal.returns-in-Ok-write_all-clause-read
@@ -13,9 +12,3 @@ returns-in-Ok-write_all-clause-write g c = λ e. absurd ((known _ _ _ _ c.in-Ok.
 
 pub returns-in-Ok-write_all-clause-known : goal.returns-in-Ok-write_all-clause-known
 returns-in-Ok-write_all-clause-known g c = (known _ _ _ _ c.in-Ok.ensures.answer).3
-
-pub returns-in-Ok-write_all-clause-exact : goal.returns-in-Ok-write_all-clause-exact
-returns-in-Ok-write_all-clause-exact g c = λ bytes status text told is. inl (one _ _ bytes _ status _ text told c.in-Ok.ensures.answer is)
-
-pub returns-in-Ok-write_all-clause-complete : goal.returns-in-Ok-write_all-clause-complete
-returns-in-Ok-write_all-clause-complete g c = λ v. inl (valid_answered _ _ _ _ v c.in-Ok.ensures.answer)
