@@ -1,2 +1,5 @@
 pub mod Appended
 pub mod Steps
+pub mod Opened
+pub mod Meanings
+pub mod Prepared

@@ -6,3 +6,9 @@ pub mod Branches
 pub mod Revisions
 pub mod Tracking
 pub mod Choices
+pub mod Initial
+pub mod Drafts
+pub mod Meant
+pub mod Aims
+pub mod Upstreams
+pub mod Heading

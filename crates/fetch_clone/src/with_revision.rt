@@ -14,7 +14,7 @@ use thiserror::Error as ThisError;
 #[derive(Clone, Copy, Debug, PartialEq, Eq, ThisError)]
 pub enum Error {
     /// It is no refspec to fetch by.
-    #[error(transparent)]
+    #[error("{0}")]
     Parse(SpecError),
     /// It isn't one source alone, or that is neither `HEAD`, an id, nor a name under `refs/`.
     #[error("no revision of a remote")]

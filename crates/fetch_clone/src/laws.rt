@@ -1,0 +1,3 @@
+//! The steps of a clone that change a repository.
+
+pub use crate::heading::update_head;
