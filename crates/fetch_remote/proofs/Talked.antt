@@ -7,7 +7,6 @@ use Rattle.fetch_wire.specs.Written.{lines_text}
 use Rattle.fetch_conversation.specs.Conversation.{Conversation, sent_in, Converses, Breaks}
 use Rattle.fetch_conversation.specs.Errors.{is_free_listing, is_free_receiving}
 use Rattle.fetch_conversation.specs.ListStage.{ListedValue, shown, pending_of}
-use Rattle.fetch_conversation.proofs.Tied.{awaited_first}
 use Rattle.fetch_conversation.specs.declared.conversing.Received.{Received}
 use Rattle.fetch_conversation.specs.declared.fetch.Error.{Error as ReceiveError}
 use Rattle.fetch_conversation.specs.declared.fetch.Error.TheVariants as receive
@@ -23,7 +22,7 @@ use Rattle.fetch_remote.specs.declared.fetch_error.FetchError.TheVariants as err
 use Rattle.fetch_remote.proofs.Received.{is_received}
 
 gives_up : {X E : Type 0} (free : E → Bool) (answers : Bool) (bound : ℕ) (now : Option Talk) (pending : List ℕ) (c : Conversation X E) (e : E) → free e ≡ true → Breaks free answers bound now now pending c e
-gives_up free answers bound now pending c e is = record { said = []; heard = []; passed = Talks-none answers now; needed = awaited_first bound c pending; front = (lines_text (sent_in bound c (pending ++ [])), refl); why = λ sure. absurd (cc (is, sure)) }
+gives_up free answers bound now pending c e is = record { said = []; heard = []; passed = Talks-none answers now; front = (lines_text (sent_in bound c (pending ++ [])), refl); why = λ sure. absurd (cc (is, sure)) }
 
 -- the first stage is refused
 pub stops_listing : (answers : Bool) (old new : Option Talk) (g : Given) (s : State) (e : PrepareError) → Converses is_free_listing answers (bound_of g) old new [] [] (listing_stage g) (Err e) → HasTalked answers old new g s (Err (preparing e))

@@ -14,7 +14,7 @@ pub enum Error {
         place: usize,
     },
     /// The branch's remote is refused.
-    #[error(transparent)]
+    #[error("{0}")]
     Remote(existing::Error),
     /// `push.default` is none of the five.
     #[error("an unknown value of push.default")]

@@ -10,10 +10,10 @@ use thiserror::Error;
 #[derive(Debug, Drop, Error)]
 pub enum FetchError {
     /// Before a pack was asked for: the objects are as they were found.
-    #[error(transparent)]
+    #[error("{0}")]
     Prepare(prepare::Error),
     /// From the fetch request on.
-    #[error(transparent)]
+    #[error("{0}")]
     Receive(fetch::Error),
     #[error("out of memory")]
     NoMemory,

@@ -3,7 +3,6 @@
 ghost use Rattle.std.specs.Prelude.{◌≡◌, ℕ, true, false, List, Some, None, IfOk, IfErr, OnOk, IsErrOf};
 ghost use Rattle.fetch_store.specs.Faults.{Rose, Counts};
 ghost use Rattle.fetch_store.specs.FileCalls.{IsRefused as IsBlocked};
-ghost use Rattle.fetch_conversation.specs.Receiving.{IsHeeded};
 ghost use Rattle.fetch_conversation.specs.declared.fetch.Error.TheVariants as receive_errors;
 ghost use Rattle.fetch_conversation.specs.declared.prepare.Error.TheVariants as prepare_errors;
 ghost use Rattle.fetch_conversation.specs.declared.ref_map.Error.TheVariants as ref_map_errors;
@@ -66,8 +65,6 @@ impl Remote {
         ensures interrupted { IsErrOf result (errors.Prepare (prepare_errors.RefMap ref_map_errors.Interrupted)) → Rose (I.yes interrupt.old) (I.yes interrupt.new) }
         ensures stopped { IsErrOf result (errors.Receive receive_errors.Interrupted) → Rose (I.yes interrupt.old) (I.yes interrupt.new) }
         ensures uninterrupted { OnOk result ((I.yes interrupt.new).count ≡ (I.yes interrupt.old).count) }
-        // The interrupt is asked before each receive.
-        ensures questions { IsHeeded (I.will_stop interrupt.old) (I.will_stop interrupt.new) (P.told peer.old) (P.told peer.new) result }
         ensures dry { options.dry_run ≡ true → files.new ≡ files.old }
         ensures unread { IfOk result (λ outcome. made_in (setup_of repo.old).settings.git_dir outcome.status ≡ None → files.new ≡ files.old) }
         ensures early { IfErr result (λ e. is_early e ≡ true → files.new ≡ files.old) }
@@ -93,7 +90,7 @@ impl Remote {
 }
 
 /// How a fetch by these options is settled.
-fn manner(alloc: Global, tags: Tags, options: &FetchOptions) -> Result<Manner, NoMemory>
+pub(crate) fn manner(alloc: Global, tags: Tags, options: &FetchOptions) -> Result<Manner, NoMemory>
     ensures { IfOk result (λ how. how ≡ manner_of tags options.now) }
 {
     Ok(Manner {

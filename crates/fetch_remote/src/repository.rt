@@ -1,6 +1,6 @@
 //! Repositories.
 
-ghost use Rattle.std.specs.Prelude.{◌≡◌, ◌↔◌, IfOk, IfErr, IfSome, OnOk, OnErr, MatchOption, IsOkUnless, IsTrue, IsNone, Some, None, not, option_map};
+ghost use Rattle.std.specs.Prelude.{◌≡◌, ◌↔◌, IfOk, IfErr, IfSome, OnOk, OnErr, MatchOption, IsOkUnless, IsTrue, IsNone, Some, not, option_map};
 ghost use Rattle.std.specs.FinSet as set;
 ghost use Rattle.fetch_store.specs.Stores.{AreOf, collision};
 ghost use Rattle.fetch_remote.specs.declared.open_error.OpenError.TheVariants as errors;
@@ -350,27 +350,6 @@ impl Repository {
         ensures setup { setup_of self.new ≡ setup_of self.old }
     {
         self.store.add_all(objects)?;
-        self.border = border;
-        Ok(())
-    }
-
-    /// The same, where no id has another object in the list or in the repository: room is reserved, and nothing is looked
-    /// for again. Memory alone may refuse it.
-    pub fn take_reserved(
-        &mut self,
-        objects: Vec<(ObjectId, Object)>,
-        border: Border,
-    ) -> Result<(), NoMemory>
-        requires of_hash { AreOf (state_of self.old).hash objects.items }
-        requires no_collision { collision (state_of self.old).objects objects.items ≡ None }
-        ensures ok { OnOk result (state_of self.new ≡ spec.with_pack (state_of self.old) objects.items border) }
-        ensures err { OnErr result (state_of self.new ≡ state_of self.old) }
-        ensures setup { setup_of self.new ≡ setup_of self.old }
-    {
-        if self.store.reserve(objects.as_slice()).is_err() {
-            return Err(NoMemory);
-        }
-        self.store.add_reserved(objects);
         self.border = border;
         Ok(())
     }

@@ -4,7 +4,6 @@ ghost use Rattle.std.specs.Prelude.{◌≡◌, ℕ, true, false, is_some, IfOk, 
 ghost use Rattle.std.specs.Option.{option_map};
 ghost use Rattle.fetch_store.specs.Faults.{Rose, Counts};
 ghost use Rattle.fetch_store.specs.FileCalls.{IsRefused};
-ghost use Rattle.fetch_store.specs.Collisions.{HasDistinctIds};
 ghost use Rattle.fetch_store.specs.Stores.{AreOf};
 ghost use Rattle.fetch_refs.specs.Expectations.{refusal_of};
 ghost use Rattle.fetch_update.specs.declared.update.Error.TheVariants as update_errors;
@@ -61,8 +60,7 @@ pub(crate) fn settle<F: Files, W: Worktrees>(
     files: &mut F,
     worktrees: &mut W,
 ) -> Result<Outcome, fetch::Error>
-    requires of_kind { IfSome talked.received (λ r. AreOf (state_of repo.old).hash r.objects) }
-    requires distinct { IfSome talked.received (λ r. HasDistinctIds r.objects) }
+    requires { IfSome talked.received (λ r. AreOf (state_of repo.old).hash r.objects) }
     ensures settled { IfOk result (λ outcome. IsSettled (W.told worktrees.old) (setup_of repo.old) how.now (state_of repo.old) talked.wants (shown talked.listed) talked.received outcome (state_of repo.new)) }
     ensures kept { IfOk result (λ outcome. AreFiles (F.told files.old) (F.told files.new) (left_tree (setup_of repo.old).settings.git_dir outcome.status)) }
     ensures refused { IfErr result (λ e. IsUnsettled (W.told worktrees.old) (F.told files.old) (F.told files.new) (setup_of repo.old) how.now (state_of repo.old) talked.wants (shown talked.listed) talked.received (state_of repo.new) e) }
@@ -117,8 +115,7 @@ fn bring<F: Files>(
     received: Option<Received>,
     files: &mut F,
 ) -> Result<Option<Taken>, fetch::Error>
-    requires of_kind { IfSome received (λ r. AreOf (state_of repo.old).hash r.objects) }
-    requires distinct { IfSome received (λ r. HasDistinctIds r.objects) }
+    requires { IfSome received (λ r. AreOf (state_of repo.old).hash r.objects) }
     ensures state { OnOk result (taken (state_of repo.old) wants.now (brought dry_run received) ≡ Ok (state_of repo.new)) }
     ensures told { IfOk result (λ t. t ≡ spec.told_of (setup_of repo.old).settings.git_dir dry_run received) }
     ensures made { OnOk result (AreFiles (F.told files.old) (F.told files.new) (with_keep (made (setup_of repo.old).settings.git_dir (pack_read dry_run received)))) }
@@ -154,8 +151,7 @@ fn take<F: Files>(
     received: Received,
     files: &mut F,
 ) -> Result<Taken, fetch::Error>
-    requires of_kind { AreOf (state_of repo.old).hash received.objects }
-    requires distinct { HasDistinctIds received.objects }
+    requires { AreOf (state_of repo.old).hash received.objects }
     ensures state { OnOk result (taken (state_of repo.old) wants.now (Some received) ≡ Ok (state_of repo.new)) }
     ensures told { IfOk result (λ t. t ≡ record { negotiate = received.negotiate; pack = option_map (spec.pack_kept (setup_of repo.old).settings.git_dir) received.pack }) }
     ensures made { OnOk result (AreFiles (F.told files.old) (F.told files.new) (with_keep (made (setup_of repo.old).settings.git_dir received.pack))) }
@@ -182,7 +178,6 @@ fn may_take(
     wants: &[ObjectId],
     received: &Received,
 ) -> Result<(), fetch::Error>
-    requires { HasDistinctIds received.now.objects }
     ensures ok { OnOk result (taken (state_of repo.now) wants.now (Some received.now) ≡ Ok (spec.after_take (state_of repo.now) (spec.pack_of received.now))) }
     ensures checked { OnOk result (spec.checked (state_of repo.now) (spec.pack_of received.now) ≡ Ok tt) }
     ensures refused { IfErr result (λ e. Fails (taken (state_of repo.now) wants.now (Some received.now)) e) }
@@ -191,12 +186,11 @@ fn may_take(
     check_links(alloc, repo, wants, received)
 }
 
-/// Whether no id has another object. Within the pack none comes twice, so only the repository can have another.
+/// Whether no id has another object, of the pack or of the repository.
 fn check(repo: &Repository, received: &Received) -> Result<(), fetch::Error>
-    requires { HasDistinctIds received.now.objects }
     ensures { result ≡ spec.checked (state_of repo.now) (spec.pack_of received.now) }
 {
-    match repo.store().check_distinct(received.objects.as_slice()) {
+    match repo.store().check(received.objects.as_slice()) {
         Ok(()) => Ok(()),
         Err(StoreError::Collision { id }) => Err(fetch::Error::Collision { id }),
         Err(_) => Err(fetch::Error::NoMemory),
@@ -249,7 +243,7 @@ fn add(alloc: Global, repo: &mut Repository, received: Received) -> Result<Negot
     else {
         return Err(fetch::Error::NoMemory);
     };
-    match repo.take_reserved(objects.into_vec(), border) {
+    match repo.take_pack(objects.into_vec(), border) {
         Ok(()) => Ok(negotiate),
         Err(_) => Err(fetch::Error::NoMemory),
     }

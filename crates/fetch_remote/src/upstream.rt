@@ -15,7 +15,7 @@ pub enum Error {
         full_name: FullName,
     },
     /// A remote is refused.
-    #[error(transparent)]
+    #[error("{0}")]
     FindRemote(existing::Error),
     /// Refspecs lead to the tracking branch from two branches or more.
     #[error("more than one branch")]

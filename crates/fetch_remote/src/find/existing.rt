@@ -8,7 +8,7 @@ use thiserror::Error as ThisError;
 #[derive(Debug, Drop, PartialEq, Eq, ThisError)]
 pub enum Error {
     /// What the configuration says of it is refused.
-    #[error(transparent)]
+    #[error("{0}")]
     Find(find::Error),
     /// No trusted section is of a remote with this name.
     #[error("no such remote")]

@@ -8,10 +8,10 @@ use thiserror::Error as ThisError;
 #[derive(Debug, Drop, PartialEq, Eq, ThisError)]
 pub enum Error {
     /// The remote that is meant isn't found, or is refused.
-    #[error(transparent)]
+    #[error("{0}")]
     FindExisting(existing::Error),
     /// The text names no remote, and is no address.
-    #[error(transparent)]
+    #[error("{0}")]
     Init(init::Error),
     /// No remote is named, and none is meant.
     #[error("no remote to fetch from")]

@@ -1,0 +1,36 @@
+use Rattle.std.proofs.Common.{refl}
+use Rattle.std.proofs.lemmas.Result.{err_from_is_err_and}
+use Rattle.fetch_remote.specs.Form.{Given}
+use Rattle.fetch_remote.specs.Repositories.{state_of, setup_of}
+use Rattle.fetch_remote.proofs.Steps.{stops_here, stops_on, ends_on, kind_on, is_spoken}
+use Rattle.fetch_remote.proofs.talking.talk_on.Goals as goal
+
+pub returns-in_err-view-clause-held : goal.returns-in_err-view-clause-held
+returns-in_err-view-clause-held g c =
+    let p = err_from_is_err_and c.from_residual.result c.from_residual.ensures.1 in
+    rw (p.1, p.2) (stops_here _ _ _ _ _)
+
+pub returns-in_err-received-clause-held : goal.returns-in_err-received-clause-held
+returns-in_err-received-clause-held g c =
+    let p = err_from_is_err_and c.from_residual-in_err-received.result c.from_residual-in_err-received.ensures.1 in
+    let k = rw (c.in_ok-view.ensures, c.fetch_tags-tags.ensures, c.settings.ensures.settings, c.store.ensures.objects, c.requires.bound) at c.in_err-received.ensures.held in
+    rw (p.1, p.2) (stops_on _ _ _ _ _ _ _ c.in_err-received.field-0.0 k)
+
+pub returns-in_err-received-clause-spoken : goal.returns-in_err-received-clause-spoken
+returns-in_err-received-clause-spoken g c =
+    let p = err_from_is_err_and c.from_residual-in_err-received.result c.from_residual-in_err-received.ensures.1 in
+    let given : Given = record { remote = c.args.remote.now; options = c.args.options.now; setup = setup_of c.args.repo.now } in
+    let k = rw (c.in_ok-view.ensures, c.fetch_tags-tags.ensures, c.settings.ensures.settings, c.store.ensures.objects, c.requires.bound) at c.in_err-received.ensures.held in
+    rw (p.1, p.2) (is_spoken _ _ _ given (state_of c.args.repo.now) c.args.listed _ c.in_err-received.field-0.0 k)
+
+pub returns-clause-held : goal.returns-clause-held
+returns-clause-held g c =
+    let k = rw (c.in_ok-view.ensures, c.fetch_tags-tags.ensures, c.settings.ensures.settings, c.store.ensures.objects, c.requires.bound) at c.in_ok-received.ensures.held in
+    ends_on _ _ _ _ _ _ _ _ c.in_ok-received.received c.in_ok-received.ensures.kept (rw (c.in_ok-view.ensures, c.fetch_tags-tags.ensures) refl) k
+
+pub returns-clause-of_kind : goal.returns-clause-of_kind
+returns-clause-of_kind g c =
+    let given : Given = record { remote = c.args.remote.now; options = c.args.options.now; setup = setup_of c.args.repo.now } in
+    let k = rw (c.in_ok-view.ensures, c.fetch_tags-tags.ensures, c.settings.ensures.settings, c.store.ensures.objects, c.requires.bound) at c.in_ok-received.ensures.held in
+    let same = rw c.settings.ensures.settings at c.settings.ensures.hash in
+    rw (kind_on _ _ _ given (state_of c.args.repo.now) c.args.listed _ c.in_ok-received.received same k) at c.in_ok-received.ensures.of_kind
