@@ -1,5 +1,5 @@
 -- Scripted objects: what they have still to do, and their calls.
-use Rattle.std.specs.Prelude.{ℕ, ◌+◌, ◌-◌, ◌^◌, ◌<◌, List, ◌++◌, ◌∷◌, [], take, drop, slice_index_or, None, Contains}
+use Rattle.std.specs.Prelude.{ℕ, List, ◌++◌, ◌∷◌, [], take, drop, slice_index_or, None}
 use Rattle.std.specs.List.{concat}
 use Rattle.fetch_store.specs.Calls.{CallList}
 use Rattle.fetch_wire.specs.Talks.{Talk}
@@ -20,10 +20,6 @@ talk_of s = record { heard = s.heard; given = s.given; to_come = concat s.pieces
 pub record Asking : Type 0 where
   pub calls : CallList
   pub said_yes : ℕ
-
--- The call is listed that comes so many calls after the next one.
-abbrev pub IsListed : CallList → ℕ → Type 0
-IsListed calls n = Contains calls.listed (calls.next + n) × (calls.next + n < 2 ^ 64 - 1)
 
 -- the pieces without the empty ones at their front
 abbrev pub from_first : List (List ℕ) → List (List ℕ)

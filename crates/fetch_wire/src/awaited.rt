@@ -2,10 +2,11 @@
 
 ghost use Rattle.std.specs.Prelude.{◌≡◌, IfOk};
 
+use crate::cloning::copy_list;
 use crate::handshake::Handshake;
 use crate::records::FetchReply;
 use crate::reference::Ref;
-use fetch_store::{Kind, List, NoMemory, ObjectId, Text, TryClone};
+use fetch_store::{Kind, List, NoMemory, ObjectId, Text};
 
 /// What the reply to a fetch request depends on.
 #[derive(Debug, Drop)]
@@ -27,7 +28,7 @@ impl AskedReply {
     {
         Ok(AskedReply {
             kind: self.kind,
-            haves: self.haves.try_clone()?,
+            haves: copy_list(&self.haves)?,
             done: self.done,
             read_pack: self.read_pack,
         })
@@ -80,9 +81,9 @@ impl Told {
             Told::Greeting(handshake) => Ok(Told::Greeting(handshake.try_clone()?)),
             Told::Advertisement(handshake, refs) => Ok(Told::Advertisement(
                 handshake.try_clone()?,
-                refs.try_clone()?,
+                copy_list(refs)?,
             )),
-            Told::Listing(refs) => Ok(Told::Listing(refs.try_clone()?)),
+            Told::Listing(refs) => Ok(Told::Listing(copy_list(refs)?)),
             Told::Reply(reply) => Ok(Told::Reply(reply.try_clone()?)),
         }
     }

@@ -2,7 +2,7 @@
 
 use crate::awaited::{AskedReply, Await, Fault, Told};
 use crate::bound::ReplyBound;
-use crate::cloning::copy_slice;
+use crate::cloning::{copy_list, copy_option, copy_slice};
 use crate::error::WireError;
 use crate::handshake::Handshake;
 use crate::intake::{Found, Intake};
@@ -12,7 +12,7 @@ use crate::reference::Ref;
 use crate::requests::{first_line, listing_request};
 use crate::turn::Turn;
 use crate::write::{write_line, write_lines};
-use fetch_store::{Kind, List, NoMemory, Text, TryClone};
+use fetch_store::{Kind, List, NoMemory, Text};
 use std::alloc::Global;
 use std::marker::Model;
 
@@ -110,14 +110,14 @@ impl Session {
     {
         Ok(Session {
             agent: self.agent.try_clone()?,
-            prefixes: self.prefixes.try_clone()?,
+            prefixes: copy_list(&self.prefixes)?,
             outgoing: Vec::from_slice(self.prefixes.allocator(), self.outgoing())?,
             sent: 0,
             intake: self.intake.try_clone()?,
-            handshake: self.handshake.try_clone()?,
-            refs: self.refs.try_clone()?,
-            reply: self.reply.try_clone()?,
-            trouble: self.trouble.try_clone()?,
+            handshake: copy_option(&self.handshake)?,
+            refs: copy_option(&self.refs)?,
+            reply: copy_option(&self.reply)?,
+            trouble: copy_option(&self.trouble)?,
             refused: self.refused,
         })
     }
@@ -402,7 +402,7 @@ impl Session {
     {
         Ok(AskedReply {
             kind: self.kind(),
-            haves: request.haves.try_clone()?,
+            haves: copy_list(&request.haves)?,
             done: request.done,
             read_pack,
         })

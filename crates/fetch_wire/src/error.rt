@@ -2,7 +2,8 @@
 
 ghost use Rattle.std.specs.Prelude.{◌≡◌, IfOk};
 
-use fetch_store::{NoMemory, Text, TryClone};
+use crate::cloning::Copies;
+use fetch_store::{NoMemory, Text};
 use std::alloc::{AllocError, AllocFailed};
 use thiserror::Error;
 
@@ -59,8 +60,8 @@ impl WireError {
     }
 }
 
-impl TryClone for WireError {
-    fn try_clone(&self) -> Result<WireError, NoMemory> {
+impl Copies for WireError {
+    fn copy(&self) -> Result<WireError, NoMemory> {
         self.try_clone()
     }
 }

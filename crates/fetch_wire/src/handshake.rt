@@ -3,9 +3,10 @@
 ghost use Rattle.std.specs.Prelude.{◌≡◌, IfOk};
 ghost use Rattle.std.specs.Option.{option_copied};
 
+use crate::cloning::{Copies, copy_list, copy_option};
 use crate::greeting::last_named;
 use crate::words::contains_word;
-use fetch_store::{Kind, List, NoMemory, Text, TryClone};
+use fetch_store::{Kind, List, NoMemory, Text};
 
 /// The protocol that a server speaks.
 #[derive(Clone, Copy, Debug, PartialEq, Eq)]
@@ -38,13 +39,13 @@ impl Capability {
     {
         Ok(Capability {
             name: self.name.try_clone()?,
-            value: self.value.try_clone()?,
+            value: copy_option(&self.value)?,
         })
     }
 }
 
-impl TryClone for Capability {
-    fn try_clone(&self) -> Result<Capability, NoMemory> {
+impl Copies for Capability {
+    fn copy(&self) -> Result<Capability, NoMemory> {
         self.try_clone()
     }
 }
@@ -57,8 +58,8 @@ pub struct Handshake {
     pub object_hash: Kind,
 }
 
-impl TryClone for Handshake {
-    fn try_clone(&self) -> Result<Handshake, NoMemory> {
+impl Copies for Handshake {
+    fn copy(&self) -> Result<Handshake, NoMemory> {
         self.try_clone()
     }
 }
@@ -72,7 +73,7 @@ impl Handshake {
     {
         Ok(Handshake {
             version: self.version,
-            capabilities: self.capabilities.try_clone()?,
+            capabilities: copy_list(&self.capabilities)?,
             object_hash: self.object_hash,
         })
     }

@@ -2,11 +2,12 @@
 
 use crate::awaited::{Await, Fault, Told};
 use crate::bound::ReplyBound;
+use crate::cloning::copy_option;
 use crate::error::WireError;
 use crate::progress::{Progress, read_on};
 use crate::reader::LineReader;
 use crate::reading::Reading;
-use fetch_store::{NoMemory, TryClone};
+use fetch_store::NoMemory;
 use std::alloc::Global;
 use std::marker::Model;
 
@@ -105,7 +106,7 @@ impl Intake {
     {
         Ok(Intake {
             lines: self.lines.try_clone()?,
-            reading: self.reading.try_clone()?,
+            reading: copy_option(&self.reading)?,
         })
     }
 

@@ -4,9 +4,10 @@ ghost use Rattle.std.specs.Prelude.{◌≡◌, IfOk};
 ghost use Rattle.std.specs.Option.{option_copied};
 ghost use Rattle.fetch_wire.specs.Mappings.{spec_at};
 
+use crate::cloning::{Copies, copy_list, copy_option};
 use crate::reference::{Ref, Source};
 use fetch_specs::RefSpec;
-use fetch_store::{Kind, List, NoMemory, Text, TryClone};
+use fetch_store::{Kind, List, NoMemory, Text};
 
 /// Which refspec made a mapping: one of the remote's, or one of the extra ones.
 #[derive(Clone, Copy, Debug, PartialEq, Eq)]
@@ -46,14 +47,20 @@ impl Mapping {
     {
         Ok(Mapping {
             remote: self.remote.try_clone()?,
-            local: self.local.try_clone()?,
+            local: copy_option(&self.local)?,
             spec_index: self.spec_index,
         })
     }
 }
 
-impl TryClone for Mapping {
-    fn try_clone(&self) -> Result<Mapping, NoMemory> {
+impl Copies for Mapping {
+    fn copy(&self) -> Result<Mapping, NoMemory> {
+        self.try_clone()
+    }
+}
+
+impl Copies for RefSpec {
+    fn copy(&self) -> Result<RefSpec, NoMemory> {
         self.try_clone()
     }
 }
@@ -74,10 +81,10 @@ impl RefMap {
         ensures { IfOk result (λ copy. copy ≡ self.now) }
     {
         Ok(RefMap {
-            mappings: self.mappings.try_clone()?,
-            refspecs: self.refspecs.try_clone()?,
-            extra_refspecs: self.extra_refspecs.try_clone()?,
-            remote_refs: self.remote_refs.try_clone()?,
+            mappings: copy_list(&self.mappings)?,
+            refspecs: copy_list(&self.refspecs)?,
+            extra_refspecs: copy_list(&self.extra_refspecs)?,
+            remote_refs: copy_list(&self.remote_refs)?,
             object_hash: self.object_hash,
         })
     }

@@ -1,6 +1,6 @@
 //! The one that is fetched from, and the one that may stop the fetch.
 
-ghost use Rattle.std.specs.Prelude.{◌≡◌, ◌≤◌, ℕ, suc, Bool, false, length, IfOk, OnErr, IsErrOf, IsTrue, Option};
+ghost use Rattle.std.specs.Prelude.{◌≡◌, ◌≤◌, ℕ, Bool, false, length, IfOk, OnErr, IsErrOf, IsTrue, Option};
 ghost use Rattle.fetch_store.specs.Faults.{Faults, Rose, Counts};
 ghost use Rattle.fetch_wire.specs.Talks.{Talk, Sends, Receives};
 
@@ -45,14 +45,9 @@ pub trait Interrupt {
     /// The count of yes answers.
     ghost yes: { Self → Faults };
 
-    /// That it will say yes to the question of this number, where it tells so. The next question is 0.
-    ghost will_stop: { Self → ℕ → Type 0 };
-
     /// Whether to stop. A yes is counted.
     fn asked(&mut self) -> bool
         ensures counts { Counts (yes self.old) (yes self.new) }
         ensures counted { IsTrue result → Rose (yes self.old) (yes self.new) }
-        ensures left { result ≡ false → (yes self.new).count ≡ (yes self.old).count }
-        ensures now { will_stop self.old 0 → IsTrue result }
-        ensures later { (n : ℕ) → will_stop self.old (suc n) → will_stop self.new n };
+        ensures left { result ≡ false → (yes self.new).count ≡ (yes self.old).count };
 }

@@ -5,10 +5,11 @@ ghost use Rattle.fetch_wire.specs.Progressing.{Goes, GoesOn};
 ghost use Rattle.fetch_wire.specs.Stepping.{fault_of};
 
 use crate::awaited::{Fault, Told};
+use crate::cloning::Copies;
 use crate::reader::{LineReader, Need};
 use crate::reading::{Read, Reading};
 use crate::section::Trouble;
-use fetch_store::{NoMemory, TryClone};
+use fetch_store::NoMemory;
 use std::alloc::Global;
 
 /// How far a reply was read.
@@ -22,8 +23,8 @@ pub(crate) enum Progress {
     Refused(Fault),
 }
 
-impl TryClone for Progress {
-    fn try_clone(&self) -> Result<Progress, NoMemory> {
+impl Copies for Progress {
+    fn copy(&self) -> Result<Progress, NoMemory> {
         match self {
             Progress::On(reading) => Ok(Progress::On(reading.try_clone()?)),
             Progress::Whole(told) => Ok(Progress::Whole(told.try_clone()?)),

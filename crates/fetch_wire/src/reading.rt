@@ -8,6 +8,7 @@ ghost use Rattle.fetch_wire.specs.Stepping.{says};
 
 use crate::advertisement::{read_advertised, read_first};
 use crate::awaited::{AskedReply, Await, Told};
+use crate::cloning::{Copies, copy_list};
 use crate::fetch_reply::read_reply;
 use crate::handshake::{Capability, Handshake};
 use crate::line::LineRef;
@@ -15,7 +16,7 @@ use crate::listing::Listed;
 use crate::opening::{read_capability, read_greeting, read_listed};
 use crate::records::FetchReply;
 use crate::saying::said_by;
-use fetch_store::{Kind, List, NoMemory, Text, TryClone};
+use fetch_store::{Kind, List, NoMemory, Text};
 use std::alloc::Global;
 
 /// What may come next in an advertisement of version 1.
@@ -105,7 +106,7 @@ impl Reading {
     {
         match self {
             Reading::Greeting => Ok(Reading::Greeting),
-            Reading::Capabilities(found) => Ok(Reading::Capabilities(found.try_clone()?)),
+            Reading::Capabilities(found) => Ok(Reading::Capabilities(copy_list(found)?)),
             Reading::Version => Ok(Reading::Version),
             Reading::Advertisement(handshake, listed, allowed) => Ok(Reading::Advertisement(
                 handshake.try_clone()?,
@@ -139,8 +140,8 @@ impl Reading {
     }
 }
 
-impl TryClone for Reading {
-    fn try_clone(&self) -> Result<Reading, NoMemory> {
+impl Copies for Reading {
+    fn copy(&self) -> Result<Reading, NoMemory> {
         self.try_clone()
     }
 }

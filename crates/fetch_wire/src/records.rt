@@ -3,7 +3,8 @@
 ghost use Rattle.std.specs.Prelude.{◌≡◌, IfOk};
 ghost use Rattle.fetch_wire.specs.FetchReplies.{no_reply};
 
-use fetch_store::{List, NoMemory, ObjectId, Text, TryClone};
+use crate::cloning::{Copies, copy_list, copy_option};
+use fetch_store::{List, NoMemory, ObjectId, Text};
 use std::alloc::Global;
 
 /// What one round asks: text lines without their line feeds, the haves, and whether the rounds end.
@@ -20,8 +21,8 @@ impl Request {
         ensures { IfOk result (λ copy. copy ≡ self.now) }
     {
         Ok(Request {
-            lines: self.lines.try_clone()?,
-            haves: self.haves.try_clone()?,
+            lines: copy_list(&self.lines)?,
+            haves: copy_list(&self.haves)?,
             done: self.done,
         })
     }
@@ -64,18 +65,18 @@ impl FetchReply {
         ensures { IfOk result (λ copy. copy ≡ self.now) }
     {
         Ok(FetchReply {
-            acknowledged: self.acknowledged.try_clone()?,
-            shallow: self.shallow.try_clone()?,
-            unshallow: self.unshallow.try_clone()?,
-            pack: self.pack.try_clone()?,
-            progress: self.progress.try_clone()?,
+            acknowledged: copy_list(&self.acknowledged)?,
+            shallow: copy_list(&self.shallow)?,
+            unshallow: copy_list(&self.unshallow)?,
+            pack: copy_option(&self.pack)?,
+            progress: copy_list(&self.progress)?,
             last: self.last,
         })
     }
 }
 
-impl TryClone for FetchReply {
-    fn try_clone(&self) -> Result<FetchReply, NoMemory> {
+impl Copies for FetchReply {
+    fn copy(&self) -> Result<FetchReply, NoMemory> {
         self.try_clone()
     }
 }

@@ -4,7 +4,8 @@ ghost use Rattle.std.specs.Prelude.{◌≡◌, IfOk};
 ghost use Rattle.std.specs.Option.{option_copied};
 ghost use Rattle.fetch_wire.specs.References.{name_in, id_in, peeled_in, target_in, source_id, source_peeled, source_name, source_target};
 
-use fetch_store::{NoMemory, ObjectId, Text, TryClone};
+use crate::cloning::Copies;
+use fetch_store::{NoMemory, ObjectId, Text};
 
 /// A reference that a server lists.
 #[derive(Debug, Drop, PartialEq, Eq)]
@@ -124,8 +125,8 @@ impl Ref {
     }
 }
 
-impl TryClone for Ref {
-    fn try_clone(&self) -> Result<Ref, NoMemory> {
+impl Copies for Ref {
+    fn copy(&self) -> Result<Ref, NoMemory> {
         self.try_clone()
     }
 }

@@ -2,11 +2,12 @@
 
 use crate::awaited::{Await, Fault, Told};
 use crate::bound::ReplyBound;
+use crate::cloning::copy_option;
 use crate::error::WireError;
 use crate::progress::{Progress, go_on};
 use crate::reader::LineReader;
 use crate::reading::Reading;
-use fetch_store::{NoMemory, TryClone};
+use fetch_store::NoMemory;
 use std::alloc::Global;
 use std::marker::Model;
 
@@ -54,7 +55,7 @@ impl ReplyReader {
     {
         Ok(ReplyReader {
             lines: self.lines.try_clone()?,
-            progress: self.progress.try_clone()?,
+            progress: copy_option(&self.progress)?,
         })
     }
 

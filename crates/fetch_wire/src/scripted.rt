@@ -1,11 +1,11 @@
 //! A peer and an interrupt that follow a script.
 
-ghost use Rattle.std.specs.Prelude.{◌≡◌, ◌≤◌, ◌↔◌, ◌+◌, ◌-◌, ◌++◌, ℕ, suc, [], nat_lt, min, length, drop, take, Some, None, IsErr, IsOk, IsErrOf, IsTrue, OnErr, IfOk, Contains, false, slice_index_or};
+ghost use Rattle.std.specs.Prelude.{◌≡◌, ◌≤◌, ◌↔◌, ◌+◌, ◌-◌, ◌++◌, ℕ, [], nat_lt, min, length, drop, take, Some, None, IsErr, IsOk, IsErrOf, IsTrue, OnErr, IfOk, Contains, false, slice_index_or};
 ghost use Rattle.std.specs.List.{concat};
 ghost use Rattle.fetch_store.specs.Faults.{Faults, Rose, Counts};
 ghost use Rattle.fetch_wire.specs.Talks.{Talk, Sends, Receives};
 ghost use Rattle.fetch_store.specs.Calls.{one_more, faults_of};
-ghost use Rattle.fetch_wire.specs.Scripts.{given_of, pieces_from, from_first, first_of, without, talk_of, IsListed};
+ghost use Rattle.fetch_wire.specs.Scripts.{given_of, pieces_from, from_first, first_of, without, talk_of};
 
 use crate::cloning::copy_slice;
 use crate::peer::{Interrupt, Peer, SendFault};
@@ -213,14 +213,10 @@ impl ScriptedInterrupt {
 impl Interrupt for ScriptedInterrupt {
     ghost yes = { λ i. faults_of i.calls i.said_yes };
 
-    ghost will_stop = { λ i n. IsListed i.calls n };
-
     fn asked(&mut self) -> bool
         ensures counts { Counts (faults_of self.old.calls self.old.said_yes) (faults_of self.new.calls self.new.said_yes) }
         ensures counted { IsTrue result → Rose (faults_of self.old.calls self.old.said_yes) (faults_of self.new.calls self.new.said_yes) }
         ensures left { result ≡ false → self.new.said_yes ≡ self.old.said_yes }
-        ensures now { IsListed self.old.calls 0 → IsTrue result }
-        ensures later { (n : ℕ) → IsListed self.old.calls (suc n) → IsListed self.new.calls n }
         ensures says { IsTrue result ↔ Contains self.old.calls.listed self.old.calls.next }
         ensures next { self.new.calls.next ≡ one_more self.old.calls.next }
         ensures listed { self.new.calls.listed ≡ self.old.calls.listed }
