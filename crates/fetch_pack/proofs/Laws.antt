@@ -25,7 +25,8 @@ use Rattle.fetch_pack.specs.declared.reading.Pack.{Pack}
 use Rattle.fetch_pack.specs.declared.version.PackVersion.{PackVersion}
 use Rattle.fetch_pack.specs.declared.version.PackVersion.TheVariants.{V1, V2}
 use Rattle.fetch_pack.specs.Records.{Payload, Written, Records, Fits, IsRecord, AreRecords, record_text, mark, version_text, id_text, id_len, limit_of, head_of, body_of, text_of, under_its_id, under_their_ids, body, number_at, records}
-use Rattle.fetch_pack.specs.Reading.{◌>>=◌, Gives, Frame, ended, counted, version_at, versioned, structure, is_id, with_digest, record_len, stored, parsed, all_parsed, ids_of, compared, with_ids, paired, once_from, Contents, unless, distinct, read}
+use Rattle.fetch_store.specs.Answers.{AnswersBy}
+use Rattle.fetch_pack.specs.Reading.{◌>>=◌, is_memory, Frame, ended, counted, version_at, versioned, structure, is_id, with_digest, record_len, stored, parsed, all_parsed, ids_of, compared, with_ids, paired, once_from, Contents, unless, distinct, read}
 use Rattle.fetch_pack.specs.Views.{contents}
 use Rattle.fetch_pack.specs.Packs.{entry, entries, IsPack, contents_of}
 use Rattle.fetch_pack.proofs.Fields.{IsBytes, IsBytes-drop, Takes, Takes-then, number_takes, number_again, records_take, records_again}
@@ -331,6 +332,6 @@ read_again v hash bytes ps is =
     ∙ ap (λ (b : Bool). cond b (Ok f) (Err (PackDigest d d)) >>= λ x. checked hash x) (ties d d refl)
     ∙ checked_again v hash bytes ps is
 
-pub is_found : (hash : Kind) (bytes : List ℕ) (r : Result Pack PackError) → IsBytes bytes → Gives contents r (read hash bytes) → IfOk r (λ p. (v : PackVersion) × (ps : List Payload) × IsPack v hash bytes ps × (contents p ≡ contents_of v hash ps))
+pub is_found : (hash : Kind) (bytes : List ℕ) (r : Result Pack PackError) → IsBytes bytes → AnswersBy contents is_memory (read hash bytes) r → IfOk r (λ p. (v : PackVersion) × (ps : List Payload) × IsPack v hash bytes ps × (contents p ≡ contents_of v hash ps))
 is_found hash bytes (Ok p) fits given = read_found hash bytes (contents p) fits given
 is_found hash bytes (Err e) fits given = tt

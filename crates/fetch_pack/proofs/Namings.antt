@@ -7,7 +7,8 @@ use Rattle.fetch_pack.specs.declared.error.PackError.{PackError}
 use Rattle.fetch_pack.specs.declared.error.PackError.TheVariants.{Malformed, PackDigest, IdMismatch, Collision, NoMemory}
 use Rattle.fetch_pack.specs.declared.version.PackVersion.{PackVersion}
 use Rattle.fetch_pack.specs.Records.{Written, Records, records, record_at}
-use Rattle.fetch_pack.specs.Reading.{◌>>=◌, Fails, record_len, parsed, all_parsed}
+use Rattle.fetch_store.specs.Answers.{AnswersUnless}
+use Rattle.fetch_pack.specs.Reading.{◌>>=◌, is_memory, record_len, parsed, all_parsed}
 use Rattle.fetch_pack.proofs.Steps.{record_is, records_step, records_end}
 
 abbrev pub Parsed : Type 0
@@ -45,7 +46,7 @@ goes_on front v hash pack_len count i bytes x o total fits lt is ok so_far =
     ap (with_front front) (next_payloads v hash pack_len count i bytes x fits lt is ∙ ap (λ r. one_more r rest) ok) ∙ regroup front o rest in
     sym one ∙ so_far
 
-fails_on : (e : PackError) (front : List Stored) (r : Result Stored PackError) (rest : Parsed) → Fails e r → Fails e (with_front front (one_more r rest))
+fails_on : (e : PackError) (front : List Stored) (r : Result Stored PackError) (rest : Parsed) → AnswersUnless is_memory r (Err e) → AnswersUnless is_memory (with_front front (one_more r rest)) (Err e)
 fails_on (Malformed place) front r rest is = ap (λ s. with_front front (one_more s rest)) is
 fails_on (PackDigest found computed) front r rest is = ap (λ s. with_front front (one_more s rest)) is
 fails_on (IdMismatch written computed) front r rest is = ap (λ s. with_front front (one_more s rest)) is
@@ -53,11 +54,11 @@ fails_on (Collision id) front r rest is = ap (λ s. with_front front (one_more s
 fails_on NoMemory front r rest is = tt
 
 pub ends : (e : PackError) (front : List Stored) (v : PackVersion) (hash : Kind) (pack_len count i : ℕ) (bytes : List ℕ) (x : Written × List ℕ) (total : Parsed)
-    → length bytes ≤ pack_len → i < count → record_at v hash bytes ≡ Some x → Fails e (parsed hash (pack_len - length bytes) x.0.payload)
-    → with_front front (parsed_from v hash pack_len (count - i) bytes) ≡ total → Fails e total
+    → length bytes ≤ pack_len → i < count → record_at v hash bytes ≡ Some x → AnswersUnless is_memory (parsed hash (pack_len - length bytes) x.0.payload) (Err e)
+    → with_front front (parsed_from v hash pack_len (count - i) bytes) ≡ total → AnswersUnless is_memory total (Err e)
 ends e front v hash pack_len count i bytes x total fits lt is bad so_far =
     let rest = parsed_from v hash pack_len (count - (i + 1)) x.1 in
-    subst (Fails e) (sym (ap (with_front front) (next_payloads v hash pack_len count i bytes x fits lt is)) ∙ so_far) (fails_on e front (parsed hash (pack_len - length bytes) x.0.payload) rest bad)
+    subst (λ r. AnswersUnless is_memory r (Err e)) (sym (ap (with_front front) (next_payloads v hash pack_len count i bytes x fits lt is)) ∙ so_far) (fails_on e front (parsed hash (pack_len - length bytes) x.0.payload) rest bad)
 
 nothing_more : (front : List Stored) (v : PackVersion) (hash : Kind) (place : ℕ) (r : Records) (total : Parsed) → r.written ≡ [] → with_front front (all_parsed v hash place r.written) ≡ total → total ≡ Ok front
 nothing_more front v hash place r total none so_far =

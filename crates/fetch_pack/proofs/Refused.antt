@@ -22,7 +22,8 @@ use Rattle.fetch_pack.specs.declared.reading.Pack.{Pack}
 use Rattle.fetch_pack.specs.declared.version.PackVersion.{PackVersion}
 use Rattle.fetch_pack.specs.declared.version.PackVersion.TheVariants.{V1, V2}
 use Rattle.fetch_pack.specs.Records.{Payload, Written, AreRecords, onto, record_text, mark, version_text, head_of, body_of, text_of, under_its_id, under_their_ids, number_at, record_at, records}
-use Rattle.fetch_pack.specs.Reading.{◌>>=◌, Fails, Gives, Frame, ended, counted, version_at, versioned, structure, is_id, with_digest, record_len, stored, parsed, all_parsed, ids_of, compared, with_ids, paired, once_from, unless, distinct, read}
+use Rattle.fetch_store.specs.Answers.{AnswersBy, AnswersUnless}
+use Rattle.fetch_pack.specs.Reading.{◌>>=◌, is_memory, Frame, ended, counted, version_at, versioned, structure, is_id, with_digest, record_len, stored, parsed, all_parsed, ids_of, compared, with_ids, paired, once_from, unless, distinct, read}
 use Rattle.fetch_pack.specs.Views.{contents}
 use Rattle.fetch_pack.specs.Packs.{entries}
 use Rattle.fetch_pack.specs.Refusals.{StartsNoRecord, StopsAfter, HasNoObject, IsMalformed, no_mark, no_version, no_count, no_record, no_digest, no_object, HasOtherDigest, HasOtherId, HasCollision, IsRefused}
@@ -265,13 +266,13 @@ read_refused hash bytes e fits is =
           ]
     ]
 
-refused_as : (hash : Kind) (bytes : List ℕ) (e : PackError) → IsBytes bytes → Fails e (read hash bytes) → IsRefused hash bytes e
+refused_as : (hash : Kind) (bytes : List ℕ) (e : PackError) → IsBytes bytes → AnswersUnless is_memory (read hash bytes) (Err e) → IsRefused hash bytes e
 refused_as hash bytes (Malformed place) fits is = read_refused hash bytes (Malformed place) fits is
 refused_as hash bytes (PackDigest found computed) fits is = read_refused hash bytes (PackDigest found computed) fits is
 refused_as hash bytes (IdMismatch written computed) fits is = read_refused hash bytes (IdMismatch written computed) fits is
 refused_as hash bytes (Collision id) fits is = read_refused hash bytes (Collision id) fits is
 refused_as hash bytes NoMemory fits is = tt
 
-pub is_refused : (hash : Kind) (bytes : List ℕ) (r : Result Pack PackError) → IsBytes bytes → Gives contents r (read hash bytes) → IfErr r (λ e. IsRefused hash bytes e)
+pub is_refused : (hash : Kind) (bytes : List ℕ) (r : Result Pack PackError) → IsBytes bytes → AnswersBy contents is_memory (read hash bytes) r → IfErr r (λ e. IsRefused hash bytes e)
 is_refused hash bytes (Ok p) fits given = tt
 is_refused hash bytes (Err e) fits given = refused_as hash bytes e fits given

@@ -1,5 +1,5 @@
 -- What reading a pack answers: structure first, then the digest, the grammar of objects, the ids written, and collisions.
-use Rattle.std.specs.Prelude.{◌≡◌, ℕ, ◌+◌, ◌-◌, Bool, not, ◌&&◌, ◌==◌, nat_eq, if◌then◌else◌, List, [], ◌∷◌, ◌++◌, length, map, take, drop, Option, Some, None, Result, Ok, Err}
+use Rattle.std.specs.Prelude.{◌≡◌, ℕ, ◌+◌, ◌-◌, Bool, true, false, not, ◌&&◌, ◌==◌, nat_eq, if◌then◌else◌, List, [], ◌∷◌, ◌++◌, length, map, take, drop, Option, Some, None, Result, Ok, Err}
 use Rattle.std.specs.List.{starts_with, list_any}
 use Rattle.std.specs.Ordering.{eq_by_cmp}
 use Rattle.std.specs.FinMap as finmap
@@ -20,14 +20,10 @@ abbrev pub ◌>>=◌ : {A B : Type 0} → Result A PackError → (A → Result B
 (Ok x) >>= f = f x
 (Err e) >>= f = Err e
 
--- what a function returned, seen by view, is this answer, unless memory ran out
-abbrev pub Fails : {Y : Type 0} → PackError → Result Y PackError → Type 0
-Fails NoMemory answer = Unit {0}
-Fails e answer = answer ≡ Err e
-
-abbrev pub Gives : {X Y : Type 0} → (X → Y) → Result X PackError → Result Y PackError → Type 0
-Gives view (Ok x) answer = answer ≡ Ok (view x)
-Gives view (Err e) answer = Fails e answer
+-- want of memory
+abbrev pub is_memory : PackError → Bool
+is_memory NoMemory = true
+is_memory _ = false
 
 -- ---- structure
 

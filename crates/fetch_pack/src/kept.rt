@@ -8,7 +8,8 @@ ghost use Rattle.fetch_store.specs.declared.id.ObjectId.{ObjectId as Id};
 ghost use Rattle.fetch_store.specs.Objects.{Stored};
 ghost use Rattle.fetch_store.specs.Stores.{id_cmp};
 ghost use Rattle.fetch_pack.specs.Reading as spec;
-ghost use Rattle.fetch_pack.specs.Reading.{Gives};
+ghost use Rattle.fetch_store.specs.Answers.{AnswersBy};
+ghost use Rattle.fetch_pack.specs.Reading.{is_memory};
 ghost use Rattle.fetch_pack.specs.Places.{ArePlaces};
 
 use crate::error::PackError;
@@ -23,7 +24,7 @@ pub(crate) fn distinct(
     objects: Vec<Object>,
 ) -> Result<Vec<(ObjectId, Object)>, PackError>
     requires { length ids.now ≡ vec_len objects }
-    ensures { Gives (λ v. v.items) result (spec.distinct (spec.paired ids.now objects.items)) }
+    ensures { AnswersBy (λ v. v.items) is_memory (spec.distinct (spec.paired ids.now objects.items)) result }
 {
     let mut kept = Vec::new(alloc);
     let mut places = BTreeMap::new(alloc);

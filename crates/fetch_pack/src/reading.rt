@@ -4,7 +4,8 @@ ghost use Rattle.std.specs.Prelude.{◌≡◌, ◌↔◌, ◌+◌, ◌-◌, ◌�
 ghost use Rattle.fetch_store.specs.Collisions.{HasDistinctIds};
 ghost use Rattle.fetch_store.specs.Stores.{AreOf, Entries};
 ghost use Rattle.fetch_pack.specs.Reading as spec;
-ghost use Rattle.fetch_pack.specs.Reading.{Gives};
+ghost use Rattle.fetch_store.specs.Answers.{AnswersBy};
+ghost use Rattle.fetch_pack.specs.Reading.{is_memory};
 ghost use Rattle.fetch_pack.specs.Records.{Payload, records};
 ghost use Rattle.fetch_pack.specs.Packs.{IsPack, contents_of};
 ghost use Rattle.fetch_pack.specs.Views.{frame, contents};
@@ -61,7 +62,7 @@ pub struct Framed<'a> {
 }
 
 fn structure(hash: Kind, bytes: &[u8]) -> Result<Framed<'_>, PackError>
-    ensures frame { Gives (frame hash) result (spec.structure hash bytes.now) }
+    ensures frame { AnswersBy (frame hash) is_memory (spec.structure hash bytes.now) result }
     ensures start { IfOk result (λ f. length f.records.now + 12 ≡ length bytes.now) }
 {
     if !bytes.starts_with(b"PLNP") {
@@ -97,7 +98,7 @@ fn ended<'a>(
     after: &'a [u8],
 ) -> Result<Framed<'a>, PackError>
     requires { length after.now ≤ length bytes.now }
-    ensures frame { Gives (frame hash) result (spec.ended version hash bytes.now count (records version hash count after.now)) }
+    ensures frame { AnswersBy (frame hash) is_memory (spec.ended version hash bytes.now count (records version hash count after.now)) result }
     ensures start { IfOk result (λ f. f.records.now ≡ after.now) }
 {
     let (whole, rest) = skip_records(version, hash, count, after);
@@ -116,7 +117,7 @@ fn ended<'a>(
 }
 
 fn check_digest(hash: Kind, framed: &Framed<'_>) -> Result<(), PackError>
-    ensures { Gives (λ _. frame hash framed.now) result (spec.with_digest hash (frame hash framed.now)) }
+    ensures { AnswersBy (λ _. frame hash framed.now) is_memory (spec.with_digest hash (frame hash framed.now)) result }
 {
     let computed = digest(hash, framed.body);
     if is_same(&framed.digest, &computed) {
@@ -142,7 +143,7 @@ fn parsed(
     kind: ObjectKind,
     bytes: &[u8],
 ) -> Result<Object, PackError>
-    ensures { Gives (λ o. o) result (spec.parsed hash place (record { kind = kind; bytes = bytes.now })) }
+    ensures { AnswersBy (λ o. o) is_memory (spec.parsed hash place (record { kind = kind; bytes = bytes.now })) result }
 {
     match Object::parse(hash, kind, Vec::from_slice(alloc, bytes)?) {
         Ok(object) => Ok(object),
@@ -158,7 +159,7 @@ fn all_parsed(
     framed: &Framed<'_>,
 ) -> Result<Vec<Object>, PackError>
     requires { length framed.now.records.now ≤ pack_len }
-    ensures { Gives (λ v. v.items) result (spec.all_parsed framed.now.version hash (pack_len - length framed.now.records.now) (records framed.now.version hash framed.now.count framed.now.records.now).written) }
+    ensures { AnswersBy (λ v. v.items) is_memory (spec.all_parsed framed.now.version hash (pack_len - length framed.now.records.now) (records framed.now.version hash framed.now.count framed.now.records.now).written) result }
 {
     let version = framed.version;
     let mut objects = Vec::new(alloc);
@@ -179,7 +180,7 @@ fn all_parsed(
 
 /// Compares the ids that are written before the payloads of version 2.
 fn compared(hash: Kind, bytes: &[u8], ids: &[ObjectId]) -> Result<(), PackError>
-    ensures { Gives (λ _. tt) result (spec.compared hash (records V2 hash (length ids.now) bytes.now).written ids.now) }
+    ensures { AnswersBy (λ _. tt) is_memory (spec.compared hash (records V2 hash (length ids.now) bytes.now).written ids.now) result }
 {
     let mut rest = bytes;
     for id in ids {
@@ -203,7 +204,7 @@ fn compared(hash: Kind, bytes: &[u8], ids: &[ObjectId]) -> Result<(), PackError>
 
 fn check_ids(hash: Kind, framed: &Framed<'_>, ids: &[ObjectId]) -> Result<(), PackError>
     requires { length ids.now ≡ framed.now.count }
-    ensures { Gives (λ _. tt) result (spec.with_ids framed.now.version hash (frame hash framed.now).written ids.now) }
+    ensures { AnswersBy (λ _. tt) is_memory (spec.with_ids framed.now.version hash (frame hash framed.now).written ids.now) result }
 {
     match framed.version {
         PackVersion::V1 => Ok(()),
@@ -222,7 +223,7 @@ pub fn read_pack<R: Threads + Sync>(
     // What is read is a pack.
     ensures found { IfOk result (λ p. (v : Version) × (ps : Items Payload) × IsPack v kind bytes.now ps × (contents p ≡ contents_of v kind ps)) }
     // A pack is read, unless memory runs out.
-    ensures only { (v : Version) (ps : Items Payload) → IsPack v kind bytes.now ps → Gives contents result (Ok (contents_of v kind ps)) }
+    ensures only { (v : Version) (ps : Items Payload) → IsPack v kind bytes.now ps → AnswersBy contents is_memory (Ok (contents_of v kind ps)) result }
     // The objects are of the kind that was asked for, and their ids are their hashes.
     ensures of_kind { IfOk result (λ p. AreOf kind p.objects) }
     ensures ids { IfOk result (λ p. AreNamed p.objects) }
@@ -230,7 +231,7 @@ pub fn read_pack<R: Threads + Sync>(
     ensures distinct { IfOk result (λ p. HasDistinctIds p.objects) }
     // Why it is refused, and which refusal it is.
     ensures refused { IfErr result (λ e. IsRefused kind bytes.now e) }
-    ensures exact { Gives contents result (spec.read kind bytes.now) }
+    ensures exact { AnswersBy contents is_memory (spec.read kind bytes.now) result }
 {
     read_pack_gated(rt, alloc, kind, bytes, threads, &OpenGate)
 }
@@ -248,7 +249,7 @@ pub fn read_pack_gated<R: Threads + Sync, G: Gate + Sync>(
     // What is read is a pack.
     ensures found { IfOk result (λ p. (v : Version) × (ps : Items Payload) × IsPack v kind bytes.now ps × (contents p ≡ contents_of v kind ps)) }
     // A pack is read, unless memory runs out.
-    ensures only { (v : Version) (ps : Items Payload) → IsPack v kind bytes.now ps → Gives contents result (Ok (contents_of v kind ps)) }
+    ensures only { (v : Version) (ps : Items Payload) → IsPack v kind bytes.now ps → AnswersBy contents is_memory (Ok (contents_of v kind ps)) result }
     // The objects are of the kind that was asked for, and their ids are their hashes.
     ensures of_kind { IfOk result (λ p. AreOf kind p.objects) }
     ensures ids { IfOk result (λ p. AreNamed p.objects) }
@@ -256,7 +257,7 @@ pub fn read_pack_gated<R: Threads + Sync, G: Gate + Sync>(
     ensures distinct { IfOk result (λ p. HasDistinctIds p.objects) }
     // Why it is refused, and which refusal it is.
     ensures refused { IfErr result (λ e. IsRefused kind bytes.now e) }
-    ensures exact { Gives contents result (spec.read kind bytes.now) }
+    ensures exact { AnswersBy contents is_memory (spec.read kind bytes.now) result }
 {
     exactly(rt, alloc, kind, bytes, threads, gate)
 }
@@ -269,7 +270,7 @@ fn exactly<R: Threads + Sync, G: Gate + Sync>(
     threads: usize,
     gate: &G,
 ) -> Result<Pack, PackError>
-    ensures { Gives contents result (spec.read hash bytes.now) }
+    ensures { AnswersBy contents is_memory (spec.read hash bytes.now) result }
 {
     let framed = structure(hash, bytes)?;
     check_digest(hash, &framed)?;
