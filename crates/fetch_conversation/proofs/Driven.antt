@@ -17,7 +17,8 @@ use Rattle.fetch_wire.specs.Greetings.{offers}
 use Rattle.fetch_wire.specs.Intakes.{Intake, told_with, taking}
 use Rattle.fetch_wire.specs.Intakes as intakes
 use Rattle.fetch_wire.specs.Requests.{listing_lines}
-use Rattle.fetch_wire.specs.SessionStates.{SessionState, IsAlike, fed, ended, after_end, error_of, refusal_of, if_told, is_all_sent, turn_of, turn_by, IsAwaiting, Answers, AnswersOrLacks, after_told, rests, asks, listing_by, listing_feature}
+use Rattle.fetch_store.specs.Answers.{RefusesUnless}
+use Rattle.fetch_wire.specs.SessionStates.{SessionState, IsAlike, fed, ended, after_end, error_of, refusal_of, if_told, is_all_sent, turn_of, turn_by, IsAwaiting, is_memory, after_told, rests, asks, listing_by, listing_feature}
 use Rattle.fetch_wire.specs.Talks.{Talk, Talks, IsDrained, IsFront, Talks-then, Talks-none, Talks-stay}
 use Rattle.fetch_wire.specs.Written.{first_too_long}
 use Rattle.fetch_wire.proofs.Conversing.{same, fed_is}
@@ -312,38 +313,42 @@ resting s is = (well_by s (refusal_of s) (is_all_sent s) (is_some s.intake.readi
 
 -- ---- what a call answers
 
-answers_stands : (s : SessionState) (f : WireError) (refusal : Option WireError) → s.refused ≡ false → refusal_of s ≡ refusal → AnswersOrLacks refusal (Err f) → f ≢ wire.NoMemory → Stands s f
-answers_stands s f None isnt is h other = absurd (other h)
-answers_stands s f (Some e) isnt is h other = stands s f isnt (is ∙ ap (λ (x : WireError). Some x) (sym (h other)))
+-- an error but want of memory is the refusal
+refuses_with : {X : Type 0} (refusal : Option WireError) (f : WireError) → RefusesUnless {X = X} is_memory refusal (Err f) → f ≢ wire.NoMemory → refusal ≡ Some f
+refuses_with refusal (wire.Malformed place) h other = h
+refuses_with refusal (wire.ServerError text) h other = h
+refuses_with refusal (wire.ReplyTooLong bound) h other = h
+refuses_with refusal (wire.LineTooLong n) h other = h
+refuses_with refusal (wire.MissingFeature name) h other = h
+refuses_with refusal (wire.BadParameter text place) h other = h
+refuses_with refusal wire.NoMemory h other = absurd (other refl)
 
 -- what came was refused
-pub takes_refusal : (now : Option Talk) (s : SessionState) (piece : List ℕ) (f : WireError) → s.refused ≡ false → AnswersOrLacks (refusal_of (fed s piece)) (Err f) → Explains now [] (fed s piece) (stops.Refused f)
+pub takes_refusal : (now : Option Talk) (s : SessionState) (piece : List ℕ) (f : WireError) → s.refused ≡ false → RefusesUnless {X = Unit {0}} is_memory (refusal_of (fed s piece)) (Err f) → Explains now [] (fed s piece) (stops.Refused f)
 takes_refusal now s piece f isnt h = λ other.
-    let x = answers_stands (fed s piece) f (refusal_of (fed s piece)) (fed_refused s piece ∙ isnt) refl h other in
+    let x = stands (fed s piece) f (fed_refused s piece ∙ isnt) (refuses_with (refusal_of (fed s piece)) f h other) in
     (sym x.sent, inl x.trouble)
 
 end_at : (s : SessionState) (place : ℕ) (trouble : Option WireError) (found : Option (Result (Told × List ℕ) Fault)) → trouble ≡ None → found ≡ Some (Err (faults.Short place))
     → (refusal_of (after_end s trouble found) ≡ Some (wire.Malformed place)) × ((after_end s trouble found).trouble ≡ Some (wire.Malformed place))
 end_at s place trouble found none is = rw (none, is) (refl, refl)
 
-refuses_f : (e f : WireError) (refusal : Option WireError) → refusal ≡ Some e → Answers refusal (Err f) → f ≢ wire.NoMemory → f ≡ e
-refuses_f e f (Some g) is h isnt = h isnt ∙ cc
-refuses_f e f None is h isnt = absurd (cc)
+refuses_f : (e f : WireError) (refusal : Option WireError) → refusal ≡ Some e → RefusesUnless {X = Unit {0}} is_memory refusal (Err f) → f ≢ wire.NoMemory → f ≡ e
+refuses_f e f refusal is h isnt = let told = refuses_with refusal f h isnt in cc
 
 -- the peer's bytes end in a reply
-pub takes_end : (now : Option Talk) (s : SessionState) (f : WireError) → turn_of s ≡ turns.Receive → IsAwaiting s → IsDrained now → Answers (refusal_of (ended s)) (Err f) → Explains now [] s (stops.Refused f)
+pub takes_end : (now : Option Talk) (s : SessionState) (f : WireError) → turn_of s ≡ turns.Receive → IsAwaiting s → IsDrained now → RefusesUnless {X = Unit {0}} is_memory (refusal_of (ended s)) (Err f) → Explains now [] s (stops.Refused f)
 takes_end now s f turn short drained h = λ other.
     let well = receiving s turn in
     let end = end_at s short.0 s.trouble (told_with s.intake []) well.trouble short.1 in
     let is = refuses_f (wire.Malformed short.0) f (refusal_of (ended s)) end.0 h other in
     (sym well.sent, inr (drained, well.trouble, end.1 ∙ ap (λ (e : WireError). Some e) (sym is)))
 
-no_answer : (e : WireError) (refusal : Option WireError) → refusal ≡ Some e → Answers refusal (Ok tt) → ⊥
-no_answer e (Some g) is h = h
-no_answer e None is h = absurd (cc)
+no_answer : (e : WireError) (refusal : Option WireError) → refusal ≡ Some e → refusal ≡ None → ⊥
+no_answer e refusal is none = absurd (cc)
 
 -- which is a refusal
-pub end_refuses : (s : SessionState) → turn_of s ≡ turns.Receive → IsAwaiting s → Answers (refusal_of (ended s)) (Ok tt) → ⊥
+pub end_refuses : (s : SessionState) → turn_of s ≡ turns.Receive → IsAwaiting s → RefusesUnless is_memory (refusal_of (ended s)) (Ok tt) → ⊥
 end_refuses s turn short h =
     let well = receiving s turn in
     let end = end_at s short.0 s.trouble (told_with s.intake []) well.trouble short.1 in
@@ -353,21 +358,21 @@ stuck_end : (s : SessionState) (e : WireError) (trouble : Option WireError) (fou
 stuck_end s e trouble found is also = rw is also
 
 -- a refusal stands, and the peer heard all
-pub refused_stands : (now : Option Talk) (s : SessionState) (f : WireError) → s.refused ≡ false → turn_of s ≡ turns.Failed → Answers (refusal_of (ended s)) (Err f) → Explains now [] s (stops.Refused f)
+pub refused_stands : (now : Option Talk) (s : SessionState) (f : WireError) → s.refused ≡ false → turn_of s ≡ turns.Failed → RefusesUnless {X = Unit {0}} is_memory (refusal_of (ended s)) (Err f) → Explains now [] s (stops.Refused f)
 refused_stands now s f isnt turn h = λ other.
     let failed = failed_by (refusal_of s) (is_all_sent s) (is_some s.intake.reading) turn in
     let x = stands s failed.0 isnt failed.1 in
     let is = refuses_f failed.0 f (refusal_of (ended s)) (stuck_end s failed.0 s.trouble (told_with s.intake []) x.trouble x.trouble) h other in
     (sym x.sent, inl (x.trouble ∙ ap (λ (e : WireError). Some e) (sym is)))
 
-pub refused_answers : (s : SessionState) → s.refused ≡ false → turn_of s ≡ turns.Failed → Answers (refusal_of (ended s)) (Ok tt) → ⊥
+pub refused_answers : (s : SessionState) → s.refused ≡ false → turn_of s ≡ turns.Failed → RefusesUnless is_memory (refusal_of (ended s)) (Ok tt) → ⊥
 refused_answers s isnt turn h =
     let failed = failed_by (refusal_of s) (is_all_sent s) (is_some s.intake.reading) turn in
     let x = stands s failed.0 isnt failed.1 in
     no_answer failed.0 (refusal_of (ended s)) (stuck_end s failed.0 s.trouble (told_with s.intake []) x.trouble x.trouble) h
 
 -- a refusal that stood
-pub stops_refused : (answers : Bool) (old new : Option Talk) (s now : SessionState) (f : WireError) → GoesOn answers old new s now → now.refused ≡ false → turn_of now ≡ turns.Failed → Answers (refusal_of (ended now)) (Err f) → Stops answers old new s (stops.Refused f)
+pub stops_refused : (answers : Bool) (old new : Option Talk) (s now : SessionState) (f : WireError) → GoesOn answers old new s now → now.refused ≡ false → turn_of now ≡ turns.Failed → RefusesUnless {X = Unit {0}} is_memory (refusal_of (ended now)) (Err f) → Stops answers old new s (stops.Refused f)
 stops_refused answers old new s now f h isnt turn answer = stops_at answers old new s now h.heard h.said (stops.Refused f) h.passed h.awaited h.is (refused_stands new now f isnt turn answer)
 
 -- no refusal was answered

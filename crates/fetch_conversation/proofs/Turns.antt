@@ -2,7 +2,8 @@
 use Rattle.std.proofs.Common.{◌≡◌, ◌≤◌, ℕ, Bool, false, List, [], length, Option, Result, Ok, Err, refl, ◌∙◌}
 use Rattle.std.specs.Prelude.{IsErrOf}
 use Rattle.fetch_store.specs.Faults.{Faults, Rose, Counts, Counts-none, Counts-then, Rose-earlier}
-use Rattle.fetch_wire.specs.SessionStates.{SessionState, IsAlike, IsAwaiting, fed, ended, refusal_of, turn_of, Answers}
+use Rattle.fetch_store.specs.Answers.{RefusesUnless}
+use Rattle.fetch_wire.specs.SessionStates.{SessionState, IsAlike, IsAwaiting, fed, ended, refusal_of, turn_of, is_memory}
 use Rattle.fetch_wire.specs.Talks.{Talk, Talks, IsFront}
 use Rattle.fetch_wire.specs.declared.error.WireError.{WireError}
 use Rattle.fetch_wire.specs.declared.error.WireError.TheVariants as wire
@@ -99,7 +100,7 @@ rests answers old now s a f f' y y' will will' x h idle = record {
 }
 
 pub refused_end : {T : Type 0} (answers : Bool) (old now : Option Talk) (s a b : SessionState) (f f' y y' : Faults) (will will' : ℕ → Type 0) (w : WireError) → Holds answers old now s a f f' y y' will will'
-    → turn_of a ≡ turns.Failed → Answers (refusal_of (ended a)) (Err w) → IsDriven {T = T} answers old now s b f f' y y' will will' (Err (stops.Refused w))
+    → turn_of a ≡ turns.Failed → RefusesUnless {X = Unit {0}} is_memory (refusal_of (ended a)) (Err w) → IsDriven {T = T} answers old now s b f f' y y' will will' (Err (stops.Refused w))
 refused_end answers old now s a b f f' y y' will will' w h turn answer = record {
   driven = stops_refused answers old now s a w h.went h.unrefused turn answer;
   counts = h.counts;

@@ -1,5 +1,5 @@
 -- A session takes bytes, and reads on.
-use Rattle.std.proofs.Common.{◌≡◌, ℕ, Bool, true, List, [], ◌++◌, Option, Some, None, Result, Ok, Err, refl, sym, ap, subst}
+use Rattle.std.proofs.Common.{◌≡◌, ℕ, Bool, true, false, List, [], ◌++◌, Option, Some, None, Result, Ok, Err, refl, sym, ap, ◌∙◌, subst}
 use Rattle.fetch_wire.specs.declared.awaited.AskedReply.{AskedReply}
 use Rattle.fetch_wire.specs.declared.awaited.Await.TheVariants as awaits
 use Rattle.fetch_wire.specs.declared.awaited.Fault.{Fault}
@@ -14,7 +14,7 @@ use Rattle.fetch_wire.specs.Greetings.{offers}
 use Rattle.fetch_wire.specs.Intakes.{Intake, told_with, awaiting, taking, Finds, ReadsOn}
 use Rattle.fetch_wire.specs.RequestLines.{request_lines}
 use Rattle.fetch_wire.specs.Requests.{listing_lines}
-use Rattle.fetch_wire.specs.SessionStates.{SessionState, IsAlike, stored, Takes, after_told, read_one, rests, asks, asks_listing, keeps, listing_feature, fed, fed_by, read_on, requested, asked_by, refusal_of, Answers}
+use Rattle.fetch_wire.specs.SessionStates.{SessionState, IsAlike, stored, Takes, after_told, read_one, rests, asks, asks_listing, keeps, listing_feature, fed, fed_by, read_on, requested, asked_by, refusal_of, if_told}
 use Rattle.fetch_wire.specs.Written.{lines_text, first_too_long}
 
 pub same : (s : SessionState) → IsAlike s s
@@ -59,15 +59,22 @@ pub fed_is : (s : SessionState) (piece : List ℕ) (trouble : Option WireError) 
 fed_is s piece None h = refl
 fed_is s piece (Some e) h = absurd (cc)
 
+none_told : (b : Bool) → if_told b None ≡ None
+none_told true = refl
+none_told false = refl
+
+-- behind a trouble none is read
+pub unread : (s : SessionState) (piece : List ℕ) → (refusal_of s ≡ None → ⊥) → IsAlike s (fed s piece)
+unread s piece refuses = by_trouble s.trouble refl
+  where
+    by_trouble : (trouble : Option WireError) → s.trouble ≡ trouble → IsAlike s (fed_by trouble s piece)
+    by_trouble None is = absurd (refuses (ap (if_told _) is ∙ none_told _))
+    by_trouble (Some e) is = same s
+
 -- bytes were taken
 pub taken_is : (s : SessionState) (piece : List ℕ) (i : Intake) (what : Found) (now : SessionState) → s.trouble ≡ None → ReadsOn (taking piece s.intake) i what → Takes what (record s { intake = i }) now → IsAlike now (fed s piece)
 taken_is s piece i what now well reads takes =
     subst (IsAlike now) (sym (fed_is s piece s.trouble well)) (taken_by s (taking piece s.intake) i what now (told_with (taking piece s.intake) []) refl reads takes)
-
--- no refusal stands where none is answered
-pub none_stands : (refusal : Option WireError) → Answers refusal (Ok tt) → refusal ≡ None
-none_stands None h = refl
-none_stands (Some e) h = absurd h
 
 pub same_refusal : (a b : SessionState) → IsAlike a b → refusal_of a ≡ refusal_of b
 same_refusal a b h = ap refusal_of h.others

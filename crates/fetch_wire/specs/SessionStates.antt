@@ -1,5 +1,5 @@
 -- A session: what it sends, what it takes in, and what it was told.
-use Rattle.std.specs.Prelude.{◌≡◌, ◌≢◌, ℕ, Bool, true, false, List, [], ◌∷◌, ◌++◌, Option, Some, None, Result, Ok, Err, codes, is_some, length, ◌==◌, ◌||◌, ⊤}
+use Rattle.std.specs.Prelude.{◌≡◌, ℕ, Bool, true, false, List, [], ◌∷◌, ◌++◌, Option, Some, None, Result, Ok, Err, codes, is_some, length, ◌==◌, ◌||◌, ⊤}
 use Rattle.fetch_store.specs.declared.id.Kind.{Kind}
 use Rattle.fetch_store.specs.declared.id.Kind.TheVariants.{Sha1}
 use Rattle.fetch_wire.specs.declared.awaited.AskedReply.{AskedReply}
@@ -162,18 +162,10 @@ turn_of s = turn_by (refusal_of s) (is_all_sent s) (is_some s.intake.reading)
 abbrev pub IsAwaiting : SessionState → Type 0
 IsAwaiting s = (place : ℕ) × (told_with s.intake [] ≡ Some (Err (faults.Short place)))
 
--- A refusal is answered, or want of memory in its place.
-abbrev pub Answers : Option WireError → Result (Unit {0}) WireError → Type 0
-Answers None result = result ≡ Ok tt
-Answers (Some e) (Ok x) = ⊥
-Answers (Some e) (Err f) = f ≢ errors.NoMemory → f ≡ e
-
--- The same, where want of memory may come in any case.
-abbrev pub AnswersOrLacks : Option WireError → Result (Unit {0}) WireError → Type 0
-AnswersOrLacks None (Ok x) = ⊤
-AnswersOrLacks None (Err f) = f ≡ errors.NoMemory
-AnswersOrLacks (Some e) (Ok x) = ⊥
-AnswersOrLacks (Some e) (Err f) = f ≢ errors.NoMemory → f ≡ e
+-- want of memory
+abbrev pub is_memory : WireError → Bool
+is_memory errors.NoMemory = true
+is_memory _ = false
 
 -- ---- calls
 

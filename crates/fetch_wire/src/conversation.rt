@@ -54,8 +54,9 @@ impl Model for Session {
 }
 
 impl Session {
-    ghost use Rattle.std.specs.Prelude.{◌≡◌, ◌≢◌, ◌≤◌, ◌⊎◌, ◌∷◌, [], true, None, Some, is_some, Err, length, drop, IfOk, IfErr, IfSome, OnOk, IsErr};
+    ghost use Rattle.std.specs.Prelude.{◌≡◌, ◌≢◌, ◌≤◌, ◌⊎◌, ◌∷◌, [], true, None, Some, is_some, Ok, Err, length, drop, IfOk, IfErr, IfSome, OnOk, IsErr};
     ghost use Rattle.std.specs.Option.{option_copied};
+    ghost use Rattle.fetch_store.specs.Answers.{RefusesUnless};
     ghost use Rattle.fetch_wire.specs.declared.awaited.Await.TheVariants as awaits;
     ghost use Rattle.fetch_wire.specs.declared.awaited.Told.TheVariants as told;
     ghost use Rattle.fetch_wire.specs.Intakes as intakes;
@@ -201,7 +202,8 @@ impl Session {
 
     /// What stands of a refusal, or want of memory in its place.
     fn answer(&self) -> Result<(), WireError>
-        ensures { spec.Answers (spec.refusal_of self.now) result }
+        ensures refusal { RefusesUnless spec.is_memory (spec.refusal_of self.now) result }
+        ensures ok { spec.refusal_of self.now ≡ None → result ≡ Ok tt }
     {
         match &self.trouble {
             Some(trouble) if self.is_refused() => Err(trouble.try_clone()?),
@@ -333,7 +335,8 @@ impl Session {
 
     /// Answers what stands of a refusal. Where memory runs out, that stands from then on.
     fn settle(&mut self) -> Result<(), WireError>
-        ensures answers { spec.Answers (spec.refusal_of self.old) result }
+        ensures answers { RefusesUnless spec.is_memory (spec.refusal_of self.old) result }
+        ensures ok { spec.refusal_of self.old ≡ None → result ≡ Ok tt }
         ensures stands { IfErr result (λ e. spec.refusal_of self.new ≡ Some e) }
         ensures kept { result ≢ Err errors.NoMemory → self.new ≡ self.old }
     {
@@ -353,7 +356,7 @@ impl Session {
     /// refusal too: what this call answers first is what stands.
     pub fn feed(&mut self, piece: &[u8]) -> Result<(), WireError>
         ensures fed { result ≢ Err errors.NoMemory → spec.IsAlike self.new (spec.fed self.old piece.now) }
-        ensures answers { spec.AnswersOrLacks (spec.refusal_of (spec.fed self.old piece.now)) result }
+        ensures answers { RefusesUnless spec.is_memory (spec.refusal_of (spec.fed self.old piece.now)) result }
         ensures unchanged { spec.refusal_of self.old ≢ None → self.new ≡ self.old }
         ensures stands { spec.refusal_of self.old ≡ None → IfErr result (λ e. spec.refusal_of self.new ≡ Some e) }
     {
@@ -374,7 +377,8 @@ impl Session {
     /// awaited, this is no refusal.
     pub fn end(&mut self) -> Result<(), WireError>
         ensures ended { self.new ≡ spec.ended self.old }
-        ensures answers { spec.Answers (spec.refusal_of (spec.ended self.old)) result }
+        ensures answers { RefusesUnless spec.is_memory (spec.refusal_of (spec.ended self.old)) result }
+        ensures ok { spec.refusal_of (spec.ended self.old) ≡ None → result ≡ Ok tt }
     {
         if self.trouble.is_some() {
             self.refused = true;
@@ -424,7 +428,7 @@ impl Session {
         requires { (spec.turn_of self.old ≡ turns.Idle) ⊎ (spec.turn_of self.old ≡ turns.Failed) }
         ensures requested { OnOk result (spec.IsAlike self.new (spec.requested self.old request.now read_pack)) }
         ensures fits { OnOk result (first_too_long (request_lines request.now) ≡ None) }
-        ensures again { IfSome (spec.refusal_of self.old) (λ e. spec.Answers (Some e) result) }
+        ensures again { IfSome (spec.refusal_of self.old) (λ e. RefusesUnless spec.is_memory (Some e) result) }
         ensures too_long { spec.refusal_of self.old ≡ None → IfErr result (λ e. TellsTooLong (first_too_long (request_lines request.now)) e) }
         ensures unchanged { IsErr result → self.new ≡ self.old }
     {

@@ -1,7 +1,7 @@
 use Rattle.std.proofs.Common.{ap, ◌∙◌}
 use Rattle.fetch_wire.specs.contracts.conversation.Session.{the_view}
 use Rattle.fetch_wire.specs.Written.{lines_text}
-use Rattle.fetch_wire.proofs.Conversing.{requested_is, none_stands}
+use Rattle.fetch_wire.proofs.Conversing.{requested_is}
 use Rattle.fetch_wire.proofs.conversation.Session.request.Goals as goal
 
 pub returns-clause-requested : goal.returns-clause-requested
@@ -14,4 +14,4 @@ returns-clause-requested c =
     (requested_is (the_view self) c.args.request.now c.args.read_pack c.in_ok-text.text.items c.in_ok-asked.asked c.in_ok-intake.intake c.in_ok-intake.found text asked reads)
 
 pub returns-clause-again : goal.returns-clause-again
-returns-clause-again c = rw (none_stands _ c.in_ok-answer.ensures) tt
+returns-clause-again c = rw c.in_ok-answer.ensures.refusal tt
