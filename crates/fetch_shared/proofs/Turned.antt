@@ -2,6 +2,7 @@
 use Rattle.std.proofs.Common.{◌≡◌, ◌≢◌, ℕ, List, [], ◌∷◌, ◌++◌, length, None, Some, refl, sym, ap, ◌∙◌, subst}
 use Rattle.std.specs.Prelude.{Result, Ok, Err, IfErr, IfOk, slice_get}
 use Rattle.atomic_table.specs.Seated.{TableId}
+use Rattle.fetch_store.specs.Answers.{RefusesUnless}
 use Rattle.fetch_shared.specs.declared.entry.Entry.{Entry}
 use Rattle.fetch_shared.specs.declared.error.SharedError.{SharedError}
 use Rattle.fetch_shared.specs.declared.error.SharedError.TheVariants as errors
@@ -10,15 +11,15 @@ use Rattle.fetch_shared.specs.declared.view.Stage.TheVariants.{Resting}
 use Rattle.fetch_shared.specs.Journals.{Begins, entries_of, pass_of}
 use Rattle.fetch_shared.specs.Machine.{Event, refusal}
 use Rattle.fetch_shared.specs.Numbers.{Holds}
-use Rattle.fetch_shared.specs.Shared.{SharedValue, Answers, IsKept, done, state_of}
+use Rattle.fetch_shared.specs.Shared.{SharedValue, is_memory, IsKept, done, state_of}
 use Rattle.fetch_shared.specs.Turns.{own, turning, resting, Finds}
 use Rattle.fetch_shared.proofs.Held.{holds_own}
 use Rattle.fetch_shared.specs.Passes.{Holder, holder_of, IsBack, IsTurn}
 use Rattle.fetch_shared.proofs.Back.{comes_back, begins_entered, others_entered, own_entered, last_entered}
 
-only_memory : {X : Type 0} (answer : Result X SharedError) → IfErr answer (λ e. e ≡ errors.NoMemory) → Answers None answer
+only_memory : {X : Type 0} (answer : Result X SharedError) → IfErr answer (λ e. e ≡ errors.NoMemory) → RefusesUnless is_memory None answer
 only_memory (Ok x) is = refl
-only_memory {X} (Err e) is = subst (λ (x : SharedError). Answers {X = X} None (Err x)) (sym is) tt
+only_memory {X} (Err e) is = subst (λ (x : SharedError). RefusesUnless {X = X} is_memory None (Err x)) (sym is) tt
 
 if_ok : {X : Type 0} (P : Type 0) (answer : Result X SharedError) → P → IfOk answer (λ _. P)
 if_ok P (Ok x) p = p
@@ -49,7 +50,7 @@ module _ (table table' : TableId) (v w : View) (found : SharedValue) (rests : v.
       kept = kept;
       begins = finds.sees.begins;
       same = finds.sees.complete;
-      answers = subst (λ cause. Answers cause answer) (sym allowed) (only_memory answer memory);
+      answers = subst (λ cause. RefusesUnless is_memory cause answer) (sym allowed) (only_memory answer memory);
       tells = tells;
       entered = if_ok (w.front ≡ (done found event).journal) answer (front ∙ ap (λ (s : SharedValue). s.journal) (sym nothing));
       leaves = if_ok (IsKept (done found event)) answer (subst IsKept (sym nothing) kept);
@@ -57,7 +58,7 @@ module _ (table table' : TableId) (v w : View) (found : SharedValue) (rests : v.
     }
 
     -- an event that was refused
-    pub turn_refused : {X : Type 0} (event : Event) (told : SharedValue → X) (e : SharedError) → Answers {X = X} (refusal (state_of found) event) (Err e) → IsTurn (holder_of table v) (holder_of table' w) event told (Err e)
+    pub turn_refused : {X : Type 0} (event : Event) (told : SharedValue → X) (e : SharedError) → RefusesUnless {X = X} is_memory (refusal (state_of found) event) (Err e) → IsTurn (holder_of table v) (holder_of table' w) event told (Err e)
     turn_refused event told e answers = record {
       found = found;
       opening = opening;
@@ -133,10 +134,10 @@ module _ {X : Type 0} (event : ℕ → Event) (told : ℕ → SharedValue → X)
         placed = placed table table' v w found rests same opening finds kept (event n) now (entry n) me is' (grown n) (own_number n);
       })
 
-  pub refused : (e : SharedError) → w ≡ resting (turning v found.journal) → Answers {X = X} (refusal (state_of found) (event number)) (Err e) → Refused p (holder_of table' w) (event p.number) (told p.number) e
+  pub refused : (e : SharedError) → w ≡ resting (turning v found.journal) → RefusesUnless {X = X} is_memory (refusal (state_of found) (event number)) (Err e) → Refused p (holder_of table' w) (event p.number) (told p.number) e
   refused e me answers =
       let n : ℕ = v.number in
-      let answers' : Answers {X = X} (refusal (state_of found) (event n)) (Err e) = subst (λ (k : ℕ). Answers {X = X} (refusal (state_of found) (event k)) (Err e)) (sym number_is) answers in
+      let answers' : RefusesUnless {X = X} is_memory (refusal (state_of found) (event n)) (Err e) = subst (λ (k : ℕ). RefusesUnless {X = X} is_memory (refusal (state_of found) (event k)) (Err e)) (sym number_is) answers in
       let P : Holder → Type 0 = λ q. Refused q (holder_of table' w) (event q.number) (told q.number) e in
       subst P seen (record {
         back = back_found table table' v w found rests same opening finds kept me;

@@ -2,6 +2,7 @@
 use Rattle.std.proofs.Common.{◌≡◌, ℕ, List, Option, None, Some, option_map, ⊎_elim, refl, sym, ap, subst, ◌∙◌}
 use Rattle.std.specs.Prelude.{position, slice_get, MatchOption, Err}
 use Rattle.std.specs.FinMap as fin
+use Rattle.fetch_store.specs.Answers.{RefusesUnless}
 use Rattle.fetch_refs.specs.declared.edit.RefEdit.{RefEdit}
 use Rattle.fetch_refs.specs.declared.error.RefError.{RefError}
 use Rattle.fetch_refs.specs.declared.error.RefError.TheVariants as causes
@@ -13,7 +14,7 @@ use Rattle.fetch_shared.specs.declared.error.SharedError.{SharedError}
 use Rattle.fetch_shared.specs.declared.error.SharedError.TheVariants.{EditReferences, NoMemory}
 use Rattle.fetch_shared.specs.declared.error.SharedError.TheVariants as errors
 use Rattle.fetch_shared.specs.Machine.{commit_refusal}
-use Rattle.fetch_shared.specs.Shared.{Answers}
+use Rattle.fetch_shared.specs.Shared.{is_memory}
 use Rattle.fetch_shared.specs.Unmet.{IsTold}
 use Rattle.fetch_shared.proofs.Refusals.{met_commit, find_at_place}
 
@@ -52,10 +53,10 @@ named : (names : Names) (o : Option RefEdit) (found : Option Target) → found �
 named names None found is = refl
 named names (Some e) found is = ap (λ f. Some (EditReferences e.name f)) (sym is)
 
-no_memory : (cause : Option SharedError) (e : SharedError) → e ≡ NoMemory → Answers {X = Unit {0}} cause (Err e)
-no_memory cause e is = subst (λ x. Answers {X = Unit {0}} cause (Err x)) (sym is) tt
+no_memory : (cause : Option SharedError) (e : SharedError) → e ≡ NoMemory → RefusesUnless {X = Unit {0}} is_memory cause (Err e)
+no_memory cause e is = subst (λ x. RefusesUnless {X = Unit {0}} is_memory cause (Err x)) (sym is) tt
 
-refused : (cause : Option SharedError) (e : SharedError) → cause ≡ Some e → Answers {X = Unit {0}} cause (Err e)
+refused : (cause : Option SharedError) (e : SharedError) → cause ≡ Some e → RefusesUnless {X = Unit {0}} is_memory cause (Err e)
 refused cause (errors.NotClosed link) is = is
 refused cause (errors.Disconnected link) is = is
 refused cause (errors.Collision id) is = is
@@ -63,7 +64,7 @@ refused cause (errors.EditReferences name found) is = is
 refused cause (errors.Fetch e) is = is
 refused cause errors.NoMemory is = tt
 
-pub answered : (names : Names) (edits : List RefEdit) (cause : RefError) (e : SharedError) → IsCause names edits cause → IsTold edits cause e → Answers {X = Unit {0}} (commit_refusal names edits) (Err e)
+pub answered : (names : Names) (edits : List RefEdit) (cause : RefError) (e : SharedError) → IsCause names edits cause → IsTold edits cause e → RefusesUnless {X = Unit {0}} is_memory (commit_refusal names edits) (Err e)
 answered names edits (causes.Expectation i found) e is told =
     ⊎_elim (λ none. no_memory (commit_refusal names edits) e none)
     (λ tells.

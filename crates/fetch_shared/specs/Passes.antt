@@ -2,6 +2,7 @@
 use Rattle.std.specs.Prelude.{◌≡◌, ◌≢◌, ℕ, ◌≤◌, List, [], Option, Result, IfOk, IfErr}
 use Rattle.atomic_table.specs.Seated.{TableId}
 use Rattle.atomic_table.specs.Table.{Me}
+use Rattle.fetch_store.specs.Answers.{RefusesUnless}
 use Rattle.fetch_shared.specs.declared.entry.Entry.{Entry}
 use Rattle.fetch_shared.specs.declared.view.Span.{Span}
 use Rattle.fetch_shared.specs.declared.view.View.{View}
@@ -11,7 +12,7 @@ use Rattle.fetch_shared.specs.Numbers.{Holds}
 use Rattle.fetch_shared.specs.Turns.{own}
 use Rattle.fetch_conversation.specs.declared.settings.Settings.{Settings}
 use Rattle.fetch_remote.specs.RepositoryValues.{RepositoryValue}
-use Rattle.fetch_shared.specs.Shared.{SharedValue, IsKept, done, state_of, Answers}
+use Rattle.fetch_shared.specs.Shared.{SharedValue, IsKept, done, state_of, is_memory}
 use Rattle.fetch_shared.specs.declared.error.SharedError.{SharedError}
 use Rattle.fetch_shared.specs.Machine.{Event, refusal}
 
@@ -65,7 +66,7 @@ pub record IsTurn {X : Type 0} (before after : Holder) (event : Event) (told : S
   pub kept : IsKept found
   pub begins : Begins before.front found.journal
   pub same : (n : ℕ) → Holds before.held n → entries_of n found.journal ≡ entries_of n before.front
-  pub answers : Answers (refusal (state_of found) event) answer
+  pub answers : RefusesUnless is_memory (refusal (state_of found) event) answer
   pub tells : IfOk answer (λ x. x ≡ told found)
   pub entered : IfOk answer (λ _. after.front ≡ (done found event).journal)
   pub leaves : IfOk answer (λ _. IsKept (done found event))

@@ -1,5 +1,5 @@
 -- What a shared repository shows: what it opened as, what it is now, and its journal.
-use Rattle.std.specs.Prelude.{◌≡◌, List, [], length, Option, None, Some, Result, Ok, Err, ⊤}
+use Rattle.std.specs.Prelude.{◌≡◌, Bool, true, false, List, [], length}
 use Rattle.fetch_store.specs.Graph.{graph_of}
 use Rattle.fetch_remote.specs.RepositoryValues.{RepositoryValue}
 use Rattle.fetch_shared.specs.declared.entry.Entry.{Entry}
@@ -50,8 +50,7 @@ pub record IsKept (v : SharedValue) : Type 0 where
   pub state : IsStateOf v.opening v.journal v.repository
   pub met : AllMet (outline v.opening) v.journal
 
--- Ok where there is no cause to refuse, and else this cause, or want of memory
-abbrev pub Answers : {X : Type 0} → Option SharedError → Result X SharedError → Type 0
-Answers cause (Ok x) = cause ≡ None
-Answers cause (Err errors.NoMemory) = ⊤
-Answers cause (Err e) = cause ≡ Some e
+-- want of memory
+abbrev pub is_memory : SharedError → Bool
+is_memory errors.NoMemory = true
+is_memory _ = false

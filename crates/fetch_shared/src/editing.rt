@@ -1,11 +1,12 @@
 //! Edits and deletions of a repository's references.
 
 ghost use Rattle.std.specs.Prelude.{◌≡◌, ◌⊎◌, OnOk, OnErr, IfOk, map};
+ghost use Rattle.fetch_store.specs.Answers.{RefusesUnless};
 ghost use Rattle.fetch_shared.specs.Deletions.{without};
 ghost use Rattle.fetch_shared.specs.Deletions as deletions;
 ghost use Rattle.fetch_shared.specs.Unmet as spec;
 ghost use Rattle.fetch_shared.specs.Machine.{commit_refusal, edited, with_refs};
-ghost use Rattle.fetch_shared.specs.Shared.{Answers};
+ghost use Rattle.fetch_shared.specs.Shared.{is_memory};
 ghost use Rattle.fetch_shared.specs.declared.error.SharedError.TheVariants as errors;
 
 use crate::error::SharedError;
@@ -23,7 +24,7 @@ pub(crate) fn edit(
 ) -> Result<(), SharedError>
     ensures ok { OnOk result (repo.new ≡ with_refs repo.old (edited repo.old.setup.logging repo.old.state.refs edits.now committer.now)) }
     ensures err { OnErr result (repo.new ≡ repo.old) }
-    ensures refusal { Answers (commit_refusal repo.old.state.refs.names edits.now) result }
+    ensures refusal { RefusesUnless is_memory (commit_refusal repo.old.state.refs.names edits.now) result }
 {
     match repo.edit_refs(edits, committer, PackedRefs::Never) {
         Ok(()) => Ok(()),

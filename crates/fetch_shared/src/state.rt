@@ -1,13 +1,14 @@
 //! The state that is shared.
 
 ghost use Rattle.std.specs.Prelude.{◌≡◌, IfOk, IfErr, IsOk, OnOk, OnErr, MatchOption, Err, length, slice_get};
+ghost use Rattle.fetch_store.specs.Answers.{RefusesUnless};
 ghost use Rattle.fetch_store.specs.Graph as spec;
 ghost use Rattle.fetch_store.specs.Missing.{unclosed};
 ghost use Rattle.fetch_store.specs.Stores.{AreOf};
 ghost use Rattle.fetch_pack.specs.Once.{AreNamed};
 ghost use Rattle.fetch_shared.specs.Machine.{held, refusal};
 ghost use Rattle.fetch_shared.specs.Machine.Event.{Take, Commit, Delete};
-ghost use Rattle.fetch_shared.specs.Shared.{Answers, IsKept, done, opened, plan_of, snapshot_of, state_of};
+ghost use Rattle.fetch_shared.specs.Shared.{is_memory, IsKept, done, opened, plan_of, snapshot_of, state_of};
 ghost use Rattle.fetch_shared.specs.declared.error.SharedError.TheVariants as errors;
 
 use crate::editing::{delete, edit};
@@ -109,7 +110,7 @@ impl SharedState {
         requires named { AreNamed objects.items }
         ensures ok { OnOk result (self.new ≡ done self.old (Take pass wants.now (record { objects = objects.items; shallow = shallow.now; unshallow = unshallow.now }))) }
         ensures taken { IfOk result (λ taken. taken ≡ snapshot_of self.new) }
-        ensures refusal { Answers (refusal (state_of self.old) (Take pass wants.now (record { objects = objects.items; shallow = shallow.now; unshallow = unshallow.now }))) result }
+        ensures refusal { RefusesUnless is_memory (refusal (state_of self.old) (Take pass wants.now (record { objects = objects.items; shallow = shallow.now; unshallow = unshallow.now }))) result }
         ensures err { OnErr result (self.new ≡ self.old) }
     {
         let take = fetch_store::Take {
@@ -143,7 +144,7 @@ impl SharedState {
     ) -> Result<u64, SharedError>
         ensures ok { OnOk result (self.new ≡ done self.old (Commit pass edits.items committer)) }
         ensures place { IfOk result (λ place. place ≡ length self.old.journal) }
-        ensures refusal { Answers (refusal (state_of self.old) (Commit pass edits.items committer)) result }
+        ensures refusal { RefusesUnless is_memory (refusal (state_of self.old) (Commit pass edits.items committer)) result }
         ensures err { OnErr result (self.new ≡ self.old) }
     {
         self.entries.reserve(1)?;
@@ -167,7 +168,7 @@ impl SharedState {
     ) -> Result<u64, SharedError>
         ensures ok { OnOk result (self.new ≡ done self.old (Delete pass names.now)) }
         ensures place { IfOk result (λ place. place ≡ length self.old.journal) }
-        ensures refusal { Answers (refusal (state_of self.old) (Delete pass names.now)) result }
+        ensures refusal { RefusesUnless is_memory (refusal (state_of self.old) (Delete pass names.now)) result }
         ensures err { OnErr result (self.new ≡ self.old) }
     {
         let entry = Entry::Delete {

@@ -1,6 +1,7 @@
 //! Packs that are about to be taken.
 
 ghost use Rattle.std.specs.Prelude.{◌≡◌, IfOk, None, OnErr, OnOk, map};
+ghost use Rattle.fetch_store.specs.Answers.{RefusesUnless};
 ghost use Rattle.fetch_store.specs.Borders as borders;
 ghost use Rattle.fetch_store.specs.Closed.{holding};
 ghost use Rattle.fetch_store.specs.Graph.{graph_of};
@@ -8,7 +9,7 @@ ghost use Rattle.fetch_store.specs.References.{pack_of};
 ghost use Rattle.fetch_store.specs.Stores.{AreOf, add_all, collision};
 ghost use Rattle.fetch_remote.specs.Repositories.{with_pack};
 ghost use Rattle.fetch_shared.specs.Machine.{take_refusal};
-ghost use Rattle.fetch_shared.specs.Shared.{Answers};
+ghost use Rattle.fetch_shared.specs.Shared.{is_memory};
 ghost use Rattle.fetch_shared.specs.declared.entry.Entry.TheVariants as entries;
 
 use crate::entry::Entry;
@@ -26,7 +27,7 @@ pub(crate) fn judge(
     border: &Border,
     take: &Take<'_>,
 ) -> Result<(), SharedError>
-    ensures { Answers (take_refusal (holding store.now.objects border.now) take.now.wants.now (pack_of take.now)) result }
+    ensures { RefusesUnless is_memory (take_refusal (holding store.now.objects border.now) take.now.wants.now (pack_of take.now)) result }
 {
     if let Err(StoreError::Collision { id }) = store.check(take.objects) {
         return Err(SharedError::Collision { id });
