@@ -7,10 +7,12 @@ use Rattle.std.specs.Ordering.{eq_by_cmp}
 use Rattle.std.specs.Cmp.{eq_by_cmp_equiv}
 use Rattle.std.specs.declared.cmp.Ordering.{Ordering}
 use Rattle.std.proofs.lemmas.List.{take_more}
+use Rattle.std.specs.Cmp.{Equal-is}
 use Rattle.fetch_store.specs.declared.id.ObjectId.{ObjectId}
 use Rattle.fetch_store.specs.contracts.id.ObjectIdOrd.TheImpl as order
+use Rattle.fetch_store.specs.Distinct.{with_distinct}
 use Rattle.fetch_store.specs.Stores.{id_cmp}
-use Rattle.fetch_store.proofs.Ids.{id_cmp_total}
+use Rattle.fetch_store.proofs.Ids.{id_cmp_total, id_cmp_exact}
 use Rattle.fetch_store.proofs.Orders.{cmp_is}
 use Rattle.fetch_negotiate.specs.Commits.{has}
 use Rattle.fetch_negotiate.specs.Lists.{firsts}
@@ -49,9 +51,9 @@ has_push (x ∷ ids) id q = ap (λ b. eq_by_cmp id_cmp q x || b) (has_push ids i
     swapped true false c = refl
     swapped false b c = refl
 
--- the ids so far, the set of them, and each of them once
-pub record IsOnce (ids : List ObjectId) (seen : Ids) (once : List ObjectId) : Type 0 where
-  pub members : (q : ObjectId) → in_set seen q ≡ has ids q
+-- each of the ids once
+pub record IsOnce (ids once : List ObjectId) : Type 0 where
+  pub members : (q : ObjectId) → has once q ≡ has ids q
   pub list : once ≡ firsts ids
 
 firsts_push : (ids : List ObjectId) (id : ObjectId) → firsts (ids ++ id ∷ []) ≡ cond (has ids id) (firsts ids) (firsts ids ++ id ∷ [])
@@ -84,24 +86,22 @@ firsts_push (x ∷ ids) id =
 pub grown : (ids : List ObjectId) (i : ℕ) (d id : ObjectId) → i < length ids → id ≡ get_or ids i d → take (i + 1) ids ≡ take i ids ++ id ∷ []
 grown ids i d id lt is = take_more ids i d lt ∙ ap (λ x. take i ids ++ x ∷ []) (sym is)
 
-is_new : (b : Bool) → true ≡ not b → b ≡ false
-is_new true e = absurd cc
-is_new false e = refl
+same_id : (a b : ObjectId) → eq_by_cmp id_cmp a b ≡ true → a ≡ b
+same_id a b is = id_cmp_exact a b ((Equal-is (id_cmp a b)).0 is)
 
-is_known : (b : Bool) → false ≡ not b → b ≡ true
-is_known true e = refl
-is_known false e = absurd cc
+one_more : (ids once : List ObjectId) (id : ObjectId) → IsOnce ids once → IsOnce (ids ++ id ∷ []) (cond (has once id) once (once ++ id ∷ []))
+one_more ids once id h = record {
+  members = λ q. by (has once id) refl q (eq_by_cmp id_cmp q id) refl ∙ ap (λ b. eq_by_cmp id_cmp q id || b) (h.members q) ∙ sym (has_push ids id q);
+  list = ap (λ b. cond b once (once ++ id ∷ [])) (h.members id) ∙ ap (λ l. cond (has ids id) l (l ++ id ∷ [])) h.list ∙ sym (firsts_push ids id);
+}
+  where
+    by : (c : Bool) → has once id ≡ c → (q : ObjectId) (e : Bool) → eq_by_cmp id_cmp q id ≡ e → has (cond c once (once ++ id ∷ [])) q ≡ (eq_by_cmp id_cmp q id || has once q)
+    by false new q e is = has_push once id q
+    by true known q true is = ap (has once) (same_id q id is) ∙ known ∙ sym (ap (λ b. b || has once q) is)
+    by true known q false is = sym (ap (λ b. b || has once q) is)
 
-pub once_new : (ids : List ObjectId) (i : ℕ) (d id : ObjectId) (seen more : Ids) (once : List ObjectId) → i < length ids → id ≡ get_or ids i d → IsOnce (take i ids) seen once → Adds seen more id → true ≡ not (in_set seen id) → IsOnce (take (i + 1) ids) more (once ++ id ∷ [])
-once_new ids i d id seen more once lt is so_far adds new =
-    rw (grown ids i d id lt is) (record {
-      members = λ q. adds.elsewhere q ∙ ap (λ b. eq_by_cmp id_cmp q id || b) (so_far.members q) ∙ sym (has_push (take i ids) id q);
-      list = ap (λ l. l ++ id ∷ []) so_far.list ∙ sym (firsts_push (take i ids) id ∙ ap (λ b. cond b (firsts (take i ids)) (firsts (take i ids) ++ id ∷ [])) (sym (so_far.members id) ∙ is_new (in_set seen id) new));
-    })
-
-pub once_known : (ids : List ObjectId) (i : ℕ) (d id : ObjectId) (seen more : Ids) (once : List ObjectId) → i < length ids → id ≡ get_or ids i d → IsOnce (take i ids) seen once → Adds seen more id → false ≡ not (in_set seen id) → IsOnce (take (i + 1) ids) more once
-once_known ids i d id seen more once lt is so_far adds known =
-    rw (grown ids i d id lt is) (record {
-      members = λ q. adds.elsewhere q ∙ ap (λ b. eq_by_cmp id_cmp q id || b) (so_far.members q) ∙ sym (has_push (take i ids) id q);
-      list = so_far.list ∙ sym (firsts_push (take i ids) id ∙ ap (λ b. cond b (firsts (take i ids)) (firsts (take i ids) ++ id ∷ [])) (sym (so_far.members id) ∙ is_known (in_set seen id) known));
-    })
+-- the id at the place was added
+pub once_added : (cmp : ObjectId → ObjectId → Ordering) (ids : List ObjectId) (i : ℕ) (d : ObjectId) (once now : List ObjectId) → i < length ids → cmp ≡ id_cmp → IsOnce (take i ids) once
+    → now ≡ with_distinct cmp (λ (key : ObjectId). key) once (get_or ids i d) → IsOnce (take (i + 1) ids) now
+once_added cmp ids i d once now lt same h added =
+    rw (grown ids i d (get_or ids i d) lt refl, added, same) (one_more (take i ids) once (get_or ids i d) h)

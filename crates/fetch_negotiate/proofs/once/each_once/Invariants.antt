@@ -3,4 +3,4 @@ use Rattle.fetch_negotiate.proofs.Onces.{IsOnce}
 use Rattle.fetch_negotiate.proofs.once.each_once.Given as goal
 
 abbrev pub invariant-loop-id : goal.invariant-loop-id
-invariant-loop-id l = IsOnce (take l.id-index l.ids) l.seen l.once.items
+invariant-loop-id l = IsOnce (take l.id-index l.ids) l.once
