@@ -2,8 +2,6 @@ ghost use Rattle.std.specs.Prelude.{◌≡◌, ◌↔◌, ◌<◌, IsTrue, IfOk,
 ghost use Rattle.fetch_store.specs.declared.id.Kind.TheVariants as kinds;
 ghost use Rattle.fetch_store.specs.Graph.{graph_of};
 ghost use Rattle.fetch_store.specs.Id.{kind_of};
-ghost use Rattle.fetch_store.specs.Objects.{is_kind};
-ghost use Rattle.fetch_store.specs.declared.object_kind.ObjectKind.TheVariants as object_kinds;
 ghost use Rattle.fetch_update.specs.Dated.{IsCommit, HasDatedPath};
 
 use fetch_store::{Kind, NoMemory, Object, ObjectId, ObjectKind, Objects, Parents, Steps, Store};
@@ -51,25 +49,6 @@ pub fn add(
     Ok(())
 }
 
-/// Whether a commit is stored under this id.
-fn is_commit<O: Objects>(objects: &O, id: &ObjectId) -> bool
-    ensures { IsTrue result ↔ IsCommit (O.graph objects.now) id.now }
-{
-    match objects.kind_of(id) {
-        Some(kind) => names_commits(kind),
-        None => false,
-    }
-}
-
-fn names_commits(kind: ObjectKind) -> bool
-    ensures { result ≡ is_kind kind object_kinds.Commit }
-{
-    match kind {
-        ObjectKind::Commit => true,
-        ObjectKind::Tree | ObjectKind::Blob | ObjectKind::Tag => false,
-    }
-}
-
 /// Whether a dated path leads from one stored commit to another.
 fn has_dated_path<O: Objects>(
     alloc: Global,
@@ -103,6 +82,7 @@ fn counted<O: Objects, L: Ledger>(
 }
 
 /// None where one of the two is no commit.
+#[tactic(auto, using(fetch_update::proofs::CommitTests::commit_test))]
 pub fn answer<O: Objects>(
     alloc: Global,
     objects: &O,
@@ -111,10 +91,10 @@ pub fn answer<O: Objects>(
 ) -> Result<Option<bool>, Fail> {
     let from = id(from);
     let to = id(to);
-    if !is_commit(objects, &from) {
+    if !objects.is_commit(&from) {
         return Ok(None);
     }
-    if !is_commit(objects, &to) {
+    if !objects.is_commit(&to) {
         return Ok(None);
     }
     Ok(Some(has_dated_path(alloc, objects, &from, &to)?))
