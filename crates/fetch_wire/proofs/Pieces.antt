@@ -2,7 +2,7 @@
 use Rattle.std.proofs.Common.{◌≡◌, Bool, ℕ, None, ◌+◌, ◌-◌, ◌<◌, ◌≤◌, List, [], ◌∷◌, ◌++◌, length, get_or, take, drop, refl, sym, ap, ◌∙◌, arith, append_assoc, take-append-drop, length-take, length-drop}
 use Rattle.std.proofs.lemmas.List.{take_at, append_cancel_right, drop-drop, append-nil, drop_more, take_more, take_all, drop_all}
 use Rattle.std.specs.List.{concat}
-use Rattle.fetch_wire.specs.Talks.{Passes}
+use Rattle.fetch_wire.specs.Talks.{Receive, Passes}
 use Rattle.fetch_wire.specs.Scripts.{given_of, pieces_from, from_first, first_of, without}
 
 -- what a copy of the next n bytes leaves
@@ -80,9 +80,9 @@ pub step_given : (pieces : List (List ℕ)) (piece offset piece' offset' : ℕ) 
 step_given pieces piece offset piece' offset' lt is so_far = given_next pieces piece' lt ∙ ap (λ (n : ℕ). given_of pieces piece' n) (sym is) ∙ so_far
 
 -- a call that took these bytes
-pub hears : (answers : Bool) (heard given to_come heard' bytes : List ℕ) → heard' ≡ heard ++ bytes
-    → Passes answers (record { heard = heard; given = given; to_come = to_come; rule = None }) (record { heard = heard'; given = given; to_come = to_come; rule = None }) bytes []
-hears answers heard given to_come heard' bytes more = record {
+pub hears : (answers : Bool) (heard given to_come heard' bytes : List ℕ) (before now : List Receive) → heard' ≡ heard ++ bytes
+    → Passes answers (record { heard = heard; given = given; to_come = to_come; receives = before; rule = None }) (record { heard = heard'; given = given; to_come = to_come; receives = now; rule = None }) bytes []
+hears answers heard given to_come heard' bytes before now more = record {
   heard_more = more;
   gave_more = sym (append-nil given);
   added = [];
@@ -92,26 +92,27 @@ hears answers heard given to_come heard' bytes more = record {
 }
 
 -- a call that took nothing, and gave nothing where nothing is left but empty pieces
-pub nothing_passes : (answers : Bool) (heard given given' to_come to_come' heard' : List ℕ) → heard' ≡ heard → given' ≡ given → to_come' ≡ to_come
-    → Passes answers (record { heard = heard; given = given; to_come = to_come; rule = None }) (record { heard = heard'; given = given'; to_come = to_come'; rule = None }) [] []
-nothing_passes answers heard given given' to_come to_come' heard' same same' same'' = rw (same, same', same'') (hears answers heard given to_come heard [] (sym (append-nil heard)))
+pub nothing_passes : (answers : Bool) (heard given given' to_come to_come' heard' : List ℕ) (before now : List Receive) → heard' ≡ heard → given' ≡ given → to_come' ≡ to_come
+    → Passes answers (record { heard = heard; given = given; to_come = to_come; receives = before; rule = None }) (record { heard = heard'; given = given'; to_come = to_come'; receives = now; rule = None }) [] []
+nothing_passes answers heard given given' to_come to_come' heard' before now same same' same'' = rw (same, same', same'') (hears answers heard given to_come heard [] before now (sym (append-nil heard)))
 
 -- the next n bytes of a piece were given
-pub gives : (answers : Bool) (pieces left : List (List ℕ)) (piece offset n : ℕ) (heard given got : List ℕ) → piece < length pieces
+pub gives : (answers : Bool) (pieces left : List (List ℕ)) (piece offset n : ℕ) (heard given got : List ℕ) (before now : List Receive) → piece < length pieces
     → drop offset (get_or pieces piece []) ≡ got ++ drop (offset + n) (get_or pieces piece [])
     → given_of pieces piece offset ≡ given → pieces_from pieces piece offset ≡ from_first left
-    → Passes answers (record { heard = heard; given = given; to_come = concat left; rule = None }) (record { heard = heard; given = given_of pieces piece (offset + n); to_come = concat (pieces_from pieces piece (offset + n)); rule = None }) [] got
-gives answers pieces left piece offset n heard given got lt is same_given same_left =
+    → Passes answers (record { heard = heard; given = given; to_come = concat left; receives = before; rule = None })
+    (record { heard = heard; given = given_of pieces piece (offset + n); to_come = concat (pieces_from pieces piece (offset + n)); receives = now; rule = None }) [] got
+gives answers pieces left piece offset n heard given got before now lt is same_given same_left =
     let text = get_or pieces piece [] in
     let whole : take (offset + n) text ++ drop (offset + n) text ≡ (take offset text ++ got) ++ drop (offset + n) text =
     take-append-drop (offset + n) text ∙ sym (take-append-drop offset text) ∙ ap (λ (l : List ℕ). take offset text ++ l) is ∙ sym (append_assoc (take offset text) got (drop (offset + n) text)) in
     let front : take (offset + n) text ≡ take offset text ++ got = append_cancel_right _ _ (drop (offset + n) text) whole in
-    let before : concat left ≡ drop offset text ++ concat (drop (piece + 1) pieces) = sym (concat-from_first left) ∙ ap concat (sym same_left ∙ pieces_at pieces piece offset lt) in
+    let all_left : concat left ≡ drop offset text ++ concat (drop (piece + 1) pieces) = sym (concat-from_first left) ∙ ap concat (sym same_left ∙ pieces_at pieces piece offset lt) in
     record {
       heard_more = sym (append-nil heard);
       gave_more = ap (λ (l : List ℕ). concat (take piece pieces) ++ l) front ∙ sym (append_assoc (concat (take piece pieces)) (take offset text) got) ∙ ap (λ (l : List ℕ). l ++ got) same_given;
       added = [];
-      in_order = append-nil (concat left) ∙ before ∙ ap (λ (l : List ℕ). l ++ concat (drop (piece + 1) pieces)) is ∙ append_assoc got (drop (offset + n) text) (concat (drop (piece + 1) pieces))
+      in_order = append-nil (concat left) ∙ all_left ∙ ap (λ (l : List ℕ). l ++ concat (drop (piece + 1) pieces)) is ∙ append_assoc got (drop (offset + n) text) (concat (drop (piece + 1) pieces))
           ∙ ap (λ (l : List ℕ). got ++ l) (sym (ap concat (pieces_at pieces piece (offset + n) lt)));
       fixed = λ _. refl;
       same_rule = refl;

@@ -2,19 +2,21 @@
 use Rattle.std.specs.Prelude.{ℕ, ◌+◌, ◌-◌, ◌^◌, ◌<◌, List, ◌++◌, ◌∷◌, [], take, drop, slice_index_or, None, Contains}
 use Rattle.std.specs.List.{concat}
 use Rattle.fetch_store.specs.Calls.{CallList}
-use Rattle.fetch_wire.specs.Talks.{Talk}
+use Rattle.fetch_wire.specs.Talks.{Talk, Receive}
 
--- a scripted peer: what it heard and gave, the pieces that it has still to give, the calls that fail, and how many failed
+-- a scripted peer: what it heard and gave, the pieces that it has still to give, its receives, the calls that fail, and
+-- how many failed
 pub record Script : Type 0 where
   pub heard : List ℕ
   pub given : List ℕ
   pub pieces : List (List ℕ)
+  pub receives : List Receive
   pub calls : CallList
   pub failed : ℕ
 
 -- A script's talk. It gives by no rule: its pieces stand, whatever it hears.
 abbrev pub talk_of : Script → Talk
-talk_of s = record { heard = s.heard; given = s.given; to_come = concat s.pieces; rule = None }
+talk_of s = record { heard = s.heard; given = s.given; to_come = concat s.pieces; receives = s.receives; rule = None }
 
 -- a scripted interrupt: the calls that are answered yes, and how many were
 pub record Asking : Type 0 where

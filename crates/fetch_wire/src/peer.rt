@@ -1,8 +1,8 @@
 //! The one that is fetched from, and the one that may stop the fetch.
 
-ghost use Rattle.std.specs.Prelude.{◌≡◌, ◌≤◌, ℕ, suc, Bool, false, length, IfOk, OnErr, IsErrOf, IsTrue, Option};
+ghost use Rattle.std.specs.Prelude.{◌≡◌, ◌≤◌, ◌∷◌, [], ℕ, suc, Bool, false, length, IfOk, OnErr, IsErrOf, IsTrue, Option};
 ghost use Rattle.fetch_store.specs.Faults.{Faults, Rose, Counts};
-ghost use Rattle.fetch_wire.specs.Talks.{Talk, Sends, Receives};
+ghost use Rattle.fetch_wire.specs.Talks.{Talk, Sends, Receives, Makes, at_once};
 
 use fetch_store::Failed;
 use thiserror::Error;
@@ -18,7 +18,8 @@ pub enum SendFault {
 
 /// The other end of a conversation.
 pub trait Peer {
-    /// What it heard, what it gave and what it has still to give, where it tells them.
+    /// What it heard, what it gave and what it has still to give, and each receive that was made of it, where it tells
+    /// them.
     ghost told: { Self → Option Talk };
 
     ghost faults: { Self → Faults };
@@ -29,13 +30,16 @@ pub trait Peer {
     /// At a refusal a front of the bytes may have been heard.
     fn send(&mut self, bytes: &[u8]) -> Result<(), SendFault>
         ensures talk { Sends answers (told self.old) (told self.new) result bytes.now }
+        ensures receives { Makes (told self.old) (told self.new) [] }
         ensures counts { Counts (faults self.old) (faults self.new) }
         ensures cause { IsErrOf result SendFault.Failed → Rose (faults self.old) (faults self.new) };
 
     /// Fills the front of `into` and answers how many bytes came. 0 is the end. What is to come grows in no such call.
+    /// It is one receive, at a refusal too.
     fn receive(&mut self, into: &mut [u8]) -> Result<usize, Failed>
         ensures bound { IfOk result (λ count. count ≤ length into.new) }
         ensures talk { Receives (told self.old) (told self.new) result into.new }
+        ensures receives { Makes (told self.old) (told self.new) (at_once ∷ []) }
         ensures counts { Counts (faults self.old) (faults self.new) }
         ensures cause { OnErr result (Rose (faults self.old) (faults self.new)) };
 }

@@ -1,62 +1,76 @@
 //! A peer and an interrupt that follow a script.
 
-ghost use Rattle.std.specs.Prelude.{◌≡◌, ◌≤◌, ◌↔◌, ◌+◌, ◌-◌, ◌++◌, ℕ, suc, [], nat_lt, min, length, drop, take, Some, None, IsErr, IsOk, IsErrOf, IsTrue, OnErr, IfOk, Contains, false, slice_index_or};
+ghost use Rattle.std.specs.Prelude.{◌≡◌, ◌≤◌, ◌↔◌, ◌+◌, ◌-◌, ◌∷◌, ◌++◌, ℕ, suc, [], nat_lt, min, length, drop, take, Some, None, IsErr, IsOk, IsErrOf, IsTrue, OnErr, IfOk, Contains, false, slice_index_or};
 ghost use Rattle.std.specs.List.{concat};
 ghost use Rattle.fetch_store.specs.Faults.{Faults, Rose, Counts};
-ghost use Rattle.fetch_wire.specs.Talks.{Talk, Sends, Receives};
+ghost use Rattle.fetch_wire.specs.Talks.{Talk, Sends, Receives, Makes, at_once};
 ghost use Rattle.fetch_store.specs.Calls.{one_more, faults_of};
 ghost use Rattle.fetch_wire.specs.Scripts.{given_of, pieces_from, from_first, first_of, without, talk_of, IsListed};
 
 use crate::cloning::copy_slice;
 use crate::peer::{Interrupt, Peer, SendFault};
 use fetch_store::{Calls, Failed, NoMemory, Text};
+use opening_value::Openings;
 use std::alloc::Global;
 use std::marker::Model;
 
-/// A peer that gives these pieces, whatever it hears, one piece at most for each `receive`. The calls whose numbers
-/// are listed fail, where numbers count its calls of both kinds from 0. Contracts see what it heard and gave, the pieces
-/// still to be given, and its calls.
+/// What a scripted peer heard, and how far it gave its pieces: up to an offset in one of them.
 #[derive(Debug, Drop)]
-pub struct ScriptedPeer {
+struct Said {
     pieces: Vec<Text>,
     piece: usize,
     offset: usize,
     heard: Vec<u8>,
+}
+
+/// A peer that gives these pieces, whatever it hears, one piece at most for each `receive`. The calls whose numbers
+/// are listed fail, where numbers count its calls of both kinds from 0. Contracts see what it heard and gave, the pieces
+/// still to be given, its receives, and its calls.
+#[derive(Debug, Drop)]
+pub struct ScriptedPeer {
+    said: Said,
+    /// What was said before each receive.
+    receives: Openings<Said>,
     calls: Calls,
     failed: u64,
 }
 
 impl Model for ScriptedPeer {
-    ghost use Rattle.std.specs.Prelude.{◌≤◌, length, slice_index_or, []};
+    ghost use Rattle.std.specs.Prelude.{◌≤◌, length, slice_index_or, [], map};
     ghost use Rattle.fetch_wire.specs.Scripts.{Script, given_of, pieces_from};
 
     ghost Value = { Script };
 
     ghost view = { λ p. record {
-      heard = p.heard.items;
-      given = given_of p.pieces.items p.piece p.offset;
-      pieces = pieces_from p.pieces.items p.piece p.offset;
+      heard = p.said.heard.items;
+      given = given_of p.said.pieces.items p.said.piece p.said.offset;
+      pieces = pieces_from p.said.pieces.items p.said.piece p.said.offset;
+      receives = map (λ s. record { heard = s.heard.items; given = given_of s.pieces.items s.piece s.offset }) p.receives.values;
       calls = p.calls;
       failed = p.failed;
     } };
 
-    ghost invariant = { λ p. (p.piece ≤ length p.pieces.items) × (p.offset ≤ length (slice_index_or p.pieces.items p.piece [])) };
+    ghost invariant = { λ p. (p.said.piece ≤ length p.said.pieces.items) × (p.said.offset ≤ length (slice_index_or p.said.pieces.items p.said.piece [])) };
 }
 
 impl ScriptedPeer {
     /// A peer that gives these pieces in order and fails at the calls with these numbers, in any order.
     pub fn new(alloc: Global, pieces: Vec<Text>, failing: Vec<u64>) -> ScriptedPeer
-        ensures told { ⟦<ScriptedPeer as Peer>⟧.told result ≡ Some (record { heard = []; given = []; to_come = concat pieces.items; rule = None }) }
+        ensures told { ⟦<ScriptedPeer as Peer>⟧.told result ≡ Some (record { heard = []; given = []; to_come = concat pieces.items; receives = []; rule = None }) }
         ensures faults { ⟦<ScriptedPeer as Peer>⟧.faults result ≡ record { count = 0; possible = nat_lt 0 (length failing.items) } }
         ensures pieces { result.pieces ≡ pieces.items }
         ensures failing { (n : ℕ) → Contains result.calls.listed n ↔ Contains failing.items n }
         ensures first { result.calls.next ≡ 0 }
     {
-        ScriptedPeer {
+        let said = Said {
             pieces,
             piece: 0,
             offset: 0,
             heard: Vec::new(alloc),
+        };
+        ScriptedPeer {
+            said,
+            receives: Openings::new(),
             calls: Calls::new(failing),
             failed: 0,
         }
@@ -66,11 +80,15 @@ impl ScriptedPeer {
     pub fn try_clone(&self) -> Result<ScriptedPeer, NoMemory>
         ensures { IfOk result (λ copy. copy ≡ self.now) }
     {
+        let said = &self.said;
         Ok(ScriptedPeer {
-            pieces: copy_slice(*self.pieces.allocator(), &self.pieces)?.into_vec(),
-            piece: self.piece,
-            offset: self.offset,
-            heard: self.heard.clone()?,
+            said: Said {
+                pieces: copy_slice(*said.pieces.allocator(), &said.pieces)?.into_vec(),
+                piece: said.piece,
+                offset: said.offset,
+                heard: said.heard.clone()?,
+            },
+            receives: self.receives.again(),
             calls: self.calls.try_clone()?,
             failed: self.failed,
         })
@@ -80,7 +98,7 @@ impl ScriptedPeer {
     pub fn heard(&self) -> &[u8]
         ensures { result.now ≡ self.now.heard }
     {
-        &self.heard
+        &self.said.heard
     }
 }
 
@@ -123,6 +141,7 @@ impl Peer for ScriptedPeer {
     /// Hears the bytes, or fails where this call is listed.
     fn send(&mut self, bytes: &[u8]) -> Result<(), SendFault>
         ensures talk { Sends false (Some (talk_of self.old)) (Some (talk_of self.new)) result bytes.now }
+        ensures receives { Makes (Some (talk_of self.old)) (Some (talk_of self.new)) [] }
         ensures counts { Counts (faults_of self.old.calls self.old.failed) (faults_of self.new.calls self.new.failed) }
         ensures cause { IsErrOf result SendFault.Failed → Rose (faults_of self.old.calls self.old.failed) (faults_of self.new.calls self.new.failed) }
         ensures fails { IsErrOf result SendFault.Failed ↔ Contains self.old.calls.listed self.old.calls.next }
@@ -135,7 +154,7 @@ impl Peer for ScriptedPeer {
             self.failed = self.failed.saturating_add(1);
             return Err(SendFault::Failed);
         }
-        match self.heard.extend_from_slice(bytes) {
+        match self.said.heard.extend_from_slice(bytes) {
             Ok(()) => Ok(()),
             Err(_) => Err(SendFault::NoMemory),
         }
@@ -146,6 +165,7 @@ impl Peer for ScriptedPeer {
     fn receive(&mut self, into: &mut [u8]) -> Result<usize, Failed>
         ensures bound { IfOk result (λ count. count ≤ length into.new) }
         ensures talk { Receives (Some (talk_of self.old)) (Some (talk_of self.new)) result into.new }
+        ensures receives { Makes (Some (talk_of self.old)) (Some (talk_of self.new)) (at_once ∷ []) }
         ensures fits { IfOk result (λ count. count ≡ min (length into.new) (length (first_of (from_first self.old.pieces)))) }
         ensures left { IfOk result (λ count. self.new.pieces ≡ without count (from_first self.old.pieces)) }
         ensures kept { OnErr result (self.new.pieces ≡ self.old.pieces) }
@@ -155,18 +175,20 @@ impl Peer for ScriptedPeer {
         ensures next { self.new.calls.next ≡ one_more self.old.calls.next }
         ensures listed { self.new.calls.listed ≡ self.old.calls.listed }
     {
+        self.receives = self.receives.and(&self.said);
         if self.calls.count() {
             self.failed = self.failed.saturating_add(1);
             return Err(Failed);
         }
-        let (piece, offset) = next_place(&self.pieces, self.piece, self.offset);
-        self.piece = piece;
-        self.offset = offset;
-        if piece >= self.pieces.len() {
+        let said = &mut self.said;
+        let (piece, offset) = next_place(&said.pieces, said.piece, said.offset);
+        said.piece = piece;
+        said.offset = offset;
+        if piece >= said.pieces.len() {
             return Ok(0);
         }
-        let count = copy_from(self.pieces[piece].as_bytes(), offset, into);
-        self.offset = offset + count;
+        let count = copy_from(said.pieces[piece].as_bytes(), offset, into);
+        said.offset = offset + count;
         Ok(count)
     }
 }
