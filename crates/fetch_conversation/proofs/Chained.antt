@@ -1,16 +1,18 @@
 -- One conversation after another, and refusals told in another type.
-use Rattle.std.proofs.Common.{◌≡◌, ◌≢◌, ℕ, Bool, true, false, List, [], ◌∷◌, ◌++◌, Option, Result, Ok, Err, refl, sym, ap, subst, ◌∙◌, append_assoc, inl, inr}
+use Rattle.std.proofs.Common.{◌≡◌, ℕ, Bool, true, false, List, [], ◌++◌, Option, Result, Ok, Err, refl, sym, ap, subst, ◌∙◌, append_assoc, inl, inr}
 use Rattle.std.proofs.lemmas.List.{append-nil}
 use Rattle.std.proofs.lemmas.List.Concat.{flat_map-append}
-use Rattle.fetch_wire.specs.Talks.{Talk, IsFront}
-use Rattle.fetch_wire.specs.Talks.{Talks-then}
+use Rattle.std.specs.Prelude.{map}
+use Rattle.fetch_wire.specs.Talks.{Talk, Talks, Receive, behind, IsFront}
+use Rattle.fetch_wire.specs.Talks.{Talks-then, Makes-then}
 use Rattle.fetch_wire.specs.declared.awaited.Fault.{Fault}
 use Rattle.fetch_wire.specs.declared.awaited.Fault.TheVariants as faults
 use Rattle.fetch_wire.specs.declared.awaited.Told.{Told}
 use Rattle.fetch_wire.specs.declared.line.Line.{Line}
 use Rattle.fetch_wire.specs.Awaited.{told_at}
 use Rattle.fetch_wire.specs.Written.{line_text, lines_text}
-use Rattle.fetch_conversation.specs.Conversation.{Conversation, ends, asks, sent_in, answer_in, ends_in, awaits_more, IsAwaited, after_reply, after_answer, and_then, map_refusal, told_as, beside, Concludes, RefusesWith, IsRefusedBy, Breaks}
+use Rattle.fetch_conversation.specs.Conversation.{Conversation, ends, asks, sent_in, answer_in, ends_in, awaits_more, IsDue, IsAwaited, after_reply, after_answer, and_then, map_refusal, told_as, beside, Concludes, RefusesWith, IsRefusedBy, Breaks}
+use Rattle.fetch_conversation.proofs.Due.{all_both, all_as, all_behind}
 
 abbrev pub sent_behind : {X Y E : Type 0} → ℕ → (X → Conversation Y E) → Result (X × List ℕ) E → List Line
 sent_behind bound f (Ok x) = sent_in bound (f x.0) x.1
@@ -106,22 +108,46 @@ unfolding awaits_more told_as
 awaits_as bound g (ends answer) stream is = absurd (cc)
 awaits_as bound g (asks lines awaited failed next) stream is = ends_asking _ _ (told_at bound awaited stream) (λ told left more. awaits_as bound g (next told) left more) is
 
-pub awaited_early : {X Y E : Type 0} (bound : ℕ) (c : Conversation X E) (f : X → Conversation Y E) (pending said : List ℕ) → IsAwaited bound c pending said → IsAwaited bound (and_then c f) pending said
-awaited_early bound c f pending said h = record { before = h.before; last = h.last; all = h.all; at_once = h.at_once; awaited = λ isnt. awaits_early bound c f (pending ++ h.before) (h.awaited isnt) }
+-- while the first awaits, nothing of the second is sent
+nothing_behind : {X Y E : Type 0} (bound : ℕ) (f : X → Conversation Y E) (failed : Fault → E) (next : Told → Conversation X E) (reading : Result (Told × List ℕ) Fault)
+    → ((told : Told) (left : List ℕ) → awaits_more bound (next told) left ≡ true → sent_behind bound f (answer_in bound (next told) left) ≡ [])
+    → ends_in (λ told left. awaits_more bound (next told) left) reading ≡ true → sent_behind bound f (after_reply (λ fault. Err (failed fault)) (λ told left. answer_in bound (next told) left) reading) ≡ []
+nothing_behind bound f failed next (Ok x) again is = again x.0 x.1 is
+nothing_behind bound f failed next (Err fault) again is = refl
 
-pub awaited_as : {X E F : Type 0} (bound : ℕ) (g : E → F) (c : Conversation X E) (pending said : List ℕ) → IsAwaited bound c pending said → IsAwaited bound (told_as g c) pending said
-awaited_as bound g c pending said h = record { before = h.before; last = h.last; all = h.all; at_once = h.at_once; awaited = λ isnt. awaits_as bound g c (pending ++ h.before) (h.awaited isnt) }
+not_answered : {X Y E : Type 0} (bound : ℕ) (c : Conversation X E) (f : X → Conversation Y E) (stream : List ℕ) → awaits_more bound c stream ≡ true → sent_behind bound f (answer_in bound c stream) ≡ []
+unfolding answer_in awaits_more
+not_answered bound (ends answer) f stream is = absurd (cc)
+not_answered bound (asks lines awaited failed next) f stream is = nothing_behind bound f failed next (told_at bound awaited stream) (λ told left more. not_answered bound (next told) f left more) is
 
--- what the second was said comes behind what the first was
-pub awaited_then : {X Y E : Type 0} (bound : ℕ) (pending rest said said' : List ℕ) (c : Conversation X E) (f : X → Conversation Y E) (x : X) → ((more : List ℕ) → answer_in bound c (pending ++ (said ++ more)) ≡ Ok (x, rest ++ more))
-    → IsAwaited bound c pending said → IsAwaited bound (f x) rest said' → IsAwaited bound (and_then c f) pending (said ++ said')
-awaited_then bound pending rest said [] c f x answered h k = subst (IsAwaited bound (and_then c f) pending) (sym (append-nil said)) (awaited_early bound c f pending said h)
-awaited_then bound pending rest said (b ∷ bytes) c f x answered h k = record {
-  before = said ++ k.before;
-  last = k.last;
-  all = ap (λ (l : List ℕ). said ++ l) k.all ∙ sym (append_assoc said k.before k.last);
-  at_once = k.at_once;
-  awaited = λ isnt. awaits_late bound c f (pending ++ (said ++ k.before)) x (rest ++ k.before) (answered k.before) ∙ k.awaited (λ none. absurd (cc));
+sent_early : {X Y E : Type 0} (bound : ℕ) (c : Conversation X E) (f : X → Conversation Y E) (stream : List ℕ) → awaits_more bound c stream ≡ true → sent_in bound (and_then c f) stream ≡ sent_in bound c stream
+sent_early bound c f stream is = sent_then bound c f stream ∙ ap (λ (l : List Line). sent_in bound c stream ++ l) (not_answered bound c f stream is) ∙ append-nil (sent_in bound c stream)
+
+due_early : {X Y E : Type 0} (bound : ℕ) (c : Conversation X E) (f : X → Conversation Y E) (pending : List ℕ) (r : Receive) → IsDue bound c pending r → IsDue bound (and_then c f) pending r
+due_early bound c f pending r h = record {
+  heard = h.heard ∙ ap lines_text (sym (sent_early bound c f (pending ++ r.given) h.awaited));
+  awaited = awaits_early bound c f (pending ++ r.given) h.awaited;
+}
+
+pub awaited_early : {X Y E : Type 0} (bound : ℕ) (old new : Option Talk) (pending : List ℕ) (c : Conversation X E) (f : X → Conversation Y E) → IsAwaited bound old new pending c → IsAwaited bound old new pending (and_then c f)
+awaited_early bound old new pending c f h = record { receives = h.receives; made = h.made; due = all_as (IsDue bound c pending) (IsDue bound (and_then c f) pending) h.receives (due_early bound c f pending) h.due }
+
+-- A receive of the second comes behind all that the first was said and heard.
+due_late : {X Y E : Type 0} (bound : ℕ) (pending rest said heard : List ℕ) (c : Conversation X E) (f : X → Conversation Y E) (x : X) → ((more : List ℕ) → lines_text (sent_in bound c (pending ++ (said ++ more))) ≡ heard)
+    → ((more : List ℕ) → answer_in bound c (pending ++ (said ++ more)) ≡ Ok (x, rest ++ more)) → (r : Receive) → IsDue bound (f x) rest r → IsDue bound (and_then c f) pending (behind heard said r)
+due_late bound pending rest said heard c f x asked answered r h = record {
+  heard = ap (λ (l : List ℕ). l ++ r.heard) (sym (asked r.given)) ∙ ap (λ (l : List ℕ). lines_text (sent_in bound c (pending ++ (said ++ r.given))) ++ l) h.heard ∙ sym (text_then bound c f (pending ++ (said ++ r.given)) (rest ++ r.given) x (answered r.given));
+  awaited = awaits_late bound c f (pending ++ (said ++ r.given)) x (rest ++ r.given) (answered r.given) ∙ h.awaited;
+}
+
+pub awaited_then : {X Y E : Type 0} (answers : Bool) (bound : ℕ) (old mid new : Option Talk) (pending rest said heard : List ℕ) (c : Conversation X E) (f : X → Conversation Y E) (x : X) → Talks answers old mid heard said
+    → ((more : List ℕ) → lines_text (sent_in bound c (pending ++ (said ++ more))) ≡ heard) → ((more : List ℕ) → answer_in bound c (pending ++ (said ++ more)) ≡ Ok (x, rest ++ more))
+    → IsAwaited bound old mid pending c → IsAwaited bound mid new rest (f x) → IsAwaited bound old new pending (and_then c f)
+awaited_then answers bound old mid new pending rest said heard c f x passed asked answered h k = record {
+  receives = h.receives ++ map (behind heard said) k.receives;
+  made = Makes-then answers old mid new heard said h.receives k.receives passed h.made k.made;
+  due = all_both (IsDue bound (and_then c f) pending) h.receives (map (behind heard said) k.receives) (all_as (IsDue bound c pending) (IsDue bound (and_then c f) pending) h.receives (due_early bound c f pending) h.due)
+      (all_behind (IsDue bound (f x) rest) (IsDue bound (and_then c f) pending) heard said k.receives (due_late bound pending rest said heard c f x asked answered) k.due);
 }
 
 -- both to their ends
@@ -131,7 +157,7 @@ concludes_then answers bound old mid new pending rest left c f x y h k = record 
   said = h.said ++ k.said;
   heard = h.heard ++ k.heard;
   passed = Talks-then answers old mid new h.heard h.said k.heard k.said h.passed k.passed;
-  needed = awaited_then bound pending rest h.said k.said c f x h.answered h.needed k.needed;
+  needed = awaited_then answers bound old mid new pending rest h.said h.heard c f x h.passed h.asked h.answered h.needed k.needed;
   asked = λ more. rw append_assoc (text_then bound c f _ _ x (h.answered (k.said ++ more)) ∙ ap (λ (l : List ℕ). l ++ _) (h.asked (k.said ++ more)) ∙ ap (λ (l : List ℕ). h.heard ++ l) (k.asked more));
   answered = λ more. rw append_assoc (answer_then bound c f _ ∙ ap (answer_behind bound f) (h.answered (k.said ++ more)) ∙ k.answered more);
 }
@@ -160,7 +186,7 @@ breaks_late free answers bound old mid new pending rest c f x e h k = record {
   said = h.said ++ k.said;
   heard = h.heard ++ k.heard;
   passed = Talks-then answers old mid new h.heard h.said k.heard k.said h.passed k.passed;
-  needed = awaited_then bound pending rest h.said k.said c f x h.answered h.needed k.needed;
+  needed = awaited_then answers bound old mid new pending rest h.said h.heard c f x h.passed h.asked h.answered h.needed k.needed;
   front = (k.front.0, text_then bound c f _ _ x (h.answered k.said) ∙ ap (λ (l : List ℕ). l ++ _) (h.asked k.said) ∙ ap (λ (l : List ℕ). h.heard ++ l) k.front.1 ∙ sym (append_assoc h.heard k.heard k.front.0));
   why = λ bound_to. late_by bound new pending rest h.said h.heard k.said k.heard c f x e h.asked h.answered (k.why bound_to);
 }
@@ -182,7 +208,7 @@ breaks_early free answers bound old new pending c f e h = record {
   said = h.said;
   heard = h.heard;
   passed = h.passed;
-  needed = awaited_early bound c f pending h.said h.needed;
+  needed = awaited_early bound old new pending c f h.needed;
   front = front_then bound c f _ h.heard h.front;
   why = λ bound_to. early_by bound new _ h.heard c f e (h.why bound_to);
 }
@@ -197,6 +223,12 @@ pub sent_as : {X E F : Type 0} (bound : ℕ) (g : E → F) (c : Conversation X E
 unfolding sent_in told_as
 sent_as bound g (ends answer) stream = refl
 sent_as bound g (asks lines awaited failed next) stream = ap (λ (l : List Line). lines ++ l) (sent_asking_as bound g next (told_at bound awaited stream) (λ told rest. sent_as bound g (next told) rest))
+
+due_as : {X E F : Type 0} (bound : ℕ) (g : E → F) (c : Conversation X E) (pending : List ℕ) (r : Receive) → IsDue bound c pending r → IsDue bound (told_as g c) pending r
+due_as bound g c pending r h = record { heard = h.heard ∙ ap lines_text (sym (sent_as bound g c (pending ++ r.given))); awaited = awaits_as bound g c (pending ++ r.given) h.awaited }
+
+pub awaited_as : {X E F : Type 0} (bound : ℕ) (old new : Option Talk) (pending : List ℕ) (g : E → F) (c : Conversation X E) → IsAwaited bound old new pending c → IsAwaited bound old new pending (told_as g c)
+awaited_as bound old new pending g c h = record { receives = h.receives; made = h.made; due = all_as (IsDue bound c pending) (IsDue bound (told_as g c) pending) h.receives (due_as bound g c pending) h.due }
 
 end_as : {X E F : Type 0} (g : E → F) (answer : Result X E) (stream : List ℕ) → beside stream (map_refusal g answer) ≡ map_refusal g (beside stream answer)
 end_as g (Ok x) stream = refl
@@ -219,7 +251,7 @@ concludes_as answers bound old new pending rest g c x h = record {
   said = h.said;
   heard = h.heard;
   passed = h.passed;
-  needed = awaited_as bound g c pending h.said h.needed;
+  needed = awaited_as bound old new pending g c h.needed;
   asked = λ more. ap lines_text (sent_as bound g c _) ∙ h.asked more;
   answered = λ more. answer_as bound g c _ ∙ ap (map_refusal g) (h.answered more);
 }
@@ -240,7 +272,7 @@ breaks_as free free' answers bound old new pending g c e same h = record {
   said = h.said;
   heard = h.heard;
   passed = h.passed;
-  needed = awaited_as bound g c pending h.said h.needed;
+  needed = awaited_as bound old new pending g c h.needed;
   front = (h.front.0, ap lines_text (sent_as bound g c _) ∙ h.front.1);
   why = λ bound_to. as_by bound new _ h.heard g c e (h.why (same bound_to));
 }

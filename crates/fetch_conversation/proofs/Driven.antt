@@ -1,6 +1,7 @@
 -- A session goes on, step by step.
-use Rattle.std.proofs.Common.{◌≡◌, ◌≢◌, ◌≤◌, ℕ, Bool, true, false, List, [], ◌++◌, length, Option, Some, None, Result, Ok, Err, refl, sym, ap, ◌∙◌, subst, append_assoc, arith, inl, inr}
-use Rattle.std.specs.Prelude.{is_some, ◌⊎◌, ◌||◌, ◌==◌}
+use Rattle.std.proofs.Common.{◌≡◌, ◌≢◌, ℕ, Bool, true, false, List, [], ◌∷◌, ◌++◌, length, Option, Some, None, Result, Ok, Err, refl, sym, ap, ◌∙◌, subst, append_assoc, inl, inr}
+use Rattle.std.specs.Prelude.{is_some, map, ◌⊎◌, ◌||◌, ◌==◌}
+use Rattle.std.specs.List.{AllByRecursion}
 use Rattle.std.proofs.lemmas.Bool.{eqb-true}
 use Rattle.std.proofs.lemmas.List.{append-nil, nil_from_length}
 use Rattle.fetch_wire.specs.declared.awaited.Fault.{Fault}
@@ -17,17 +18,16 @@ use Rattle.fetch_wire.specs.Greetings.{offers}
 use Rattle.fetch_wire.specs.Intakes.{Intake, told_with, taking}
 use Rattle.fetch_wire.specs.Intakes as intakes
 use Rattle.fetch_wire.specs.Requests.{listing_lines}
-use Rattle.fetch_store.specs.Answers.{RefusesUnless}
-use Rattle.fetch_wire.specs.SessionStates.{SessionState, IsAlike, fed, ended, after_end, error_of, refusal_of, if_told, is_all_sent, turn_of, turn_by, IsAwaiting, is_memory, after_told, rests, asks, listing_by, listing_feature}
-use Rattle.fetch_wire.specs.Talks.{Talk, Talks, IsDrained, IsFront, Talks-then, Talks-none, Talks-stay}
+use Rattle.fetch_wire.specs.SessionStates.{SessionState, IsAlike, fed, ended, after_end, error_of, refusal_of, if_told, is_all_sent, turn_of, turn_by, IsAwaiting, Answers, AnswersOrLacks, after_told, rests, asks, listing_by, listing_feature}
+use Rattle.fetch_wire.specs.Talks.{Talk, Talks, Receive, Makes, behind, at_once, IsDrained, IsFront, Talks-then, Talks-none, Talks-stay, Makes-none, Makes-then}
 use Rattle.fetch_wire.specs.Written.{first_too_long}
 use Rattle.fetch_wire.proofs.Conversing.{same, fed_is}
 use Rattle.fetch_wire.proofs.SessionAlike.{stays_alike}
 use Rattle.fetch_wire.proofs.SessionPieces.{pieces, stuck}
-use Rattle.fetch_conversation.specs.Drives.{IsDrivable, IsWaiting, IsFed, with_heard, GoesOn, Finishes, Refuses, Explains, Stops, IsUnsent, Takes}
-use Rattle.fetch_conversation.specs.Receiving.{most_at_once}
+use Rattle.fetch_conversation.specs.Drives.{IsDrivable, IsWaiting, IsItsTurn, IsFed, with_heard, GoesOn, Finishes, Refuses, Explains, Stops, IsUnsent, Takes, made_by}
 use Rattle.fetch_conversation.specs.declared.drive.Stop.{Stop}
 use Rattle.fetch_conversation.specs.declared.drive.Stop.TheVariants as stops
+use Rattle.fetch_conversation.proofs.Due.{all_both}
 use Rattle.fetch_conversation.proofs.Sending.{heard_stays}
 
 -- ---- sessions that are alike
@@ -152,20 +152,38 @@ taken_refused s now piece h = same_refused now (fed s piece) h ∙ fed_refused s
 
 -- ---- what is awaited
 
--- nothing was fed
-fed_none : (s : SessionState) → IsFed s []
-fed_none s = record { before = []; last = []; all = refl; at_once = omega arith; awaited = λ isnt. absurd (isnt refl) }
-
--- one piece more was fed, while a reply was awaited
-fed_more : (s : SessionState) (said piece : List ℕ) → length piece ≤ most_at_once → IsWaiting (fed s said) → IsFed s (said ++ piece)
-fed_more s said piece few waits = record { before = said; last = piece; all = refl; at_once = few; awaited = λ _. waits }
-
 pub waits_alike : (a b : SessionState) → IsAlike a b → IsWaiting a → IsWaiting b
 waits_alike a b h w = record { well = sym (same_trouble a b h) ∙ w.well; short = (w.short.0, sym (h.intake.told []) ∙ w.short.1) }
 
 -- what is to be sent doesn't matter
 waits_behind : (heard : List ℕ) (a b : SessionState) → IsAlike (with_heard heard a) b → IsWaiting a → IsWaiting b
 waits_behind heard a b h w = waits_alike (with_heard heard a) b h (record { well = w.well; short = w.short })
+
+-- ---- receives
+
+-- none was made
+fed_none : (old : Option Talk) (s : SessionState) → IsFed old old s
+fed_none old s = record { receives = []; made = Makes-none old; turns = tt }
+
+-- these more were made
+fed_then : (answers : Bool) (old mid new : Option Talk) (s : SessionState) (heard said : List ℕ) (receives : List Receive) → Talks answers old mid heard said → IsFed old mid s → Makes mid new receives
+    → AllByRecursion (IsItsTurn s) (map (behind heard said) receives) → IsFed old new s
+fed_then answers old mid new s heard said receives talk h made turns = record {
+  receives = h.receives ++ map (behind heard said) receives;
+  made = Makes-then answers old mid new heard said h.receives receives talk h.made made;
+  turns = all_both (IsItsTurn s) h.receives (map (behind heard said) receives) h.turns turns;
+}
+
+-- none more
+fed_still : (answers : Bool) (old mid new : Option Talk) (s now : SessionState) → GoesOn answers old mid s now → Makes mid new [] → IsFed old new s
+fed_still answers old mid new s now h made = fed_then answers old mid new s h.heard h.said [] h.passed h.awaited made tt
+
+-- one more, where all was sent and a reply is awaited
+fed_more : (answers : Bool) (old mid new : Option Talk) (s now : SessionState) → GoesOn answers old mid s now → now.outgoing ≡ [] → IsWaiting now → Makes mid new (at_once ∷ []) → IsFed old new s
+fed_more answers old mid new s now h sent waits made =
+    let heard : h.heard ++ [] ≡ (fed s h.said).outgoing = ap (λ (l : List ℕ). h.heard ++ l) (sym sent) ∙ same_outgoing (with_heard h.heard now) (fed s h.said) h.is in
+    let turn : IsItsTurn s (behind h.heard h.said at_once) = subst (λ (l : List ℕ). IsItsTurn s (record { heard = h.heard ++ []; given = l })) (sym (append-nil h.said)) (record { heard = heard; waits = waits_behind h.heard now (fed s h.said) h.is waits }) in
+    fed_then answers old mid new s h.heard h.said (at_once ∷ []) h.passed h.awaited made (turn, tt)
 
 -- ---- steps
 
@@ -174,17 +192,17 @@ goes_none answers old s h = record {
   heard = [];
   said = [];
   passed = Talks-none answers old;
-  awaited = fed_none s;
+  awaited = fed_none old s;
   is = h.read;
 }
 
 -- what was to be sent was sent
-pub goes_sent : (answers : Bool) (old mid new : Option Talk) (s now : SessionState) → GoesOn answers old mid s now → Talks answers mid new now.outgoing [] → GoesOn answers old new s (record now { outgoing = [] })
-goes_sent answers old mid new s now h talk = record {
+pub goes_sent : (answers : Bool) (old mid new : Option Talk) (s now : SessionState) → GoesOn answers old mid s now → Talks answers mid new now.outgoing [] → Makes mid new [] → GoesOn answers old new s (record now { outgoing = [] })
+goes_sent answers old mid new s now h talk made = record {
   heard = h.heard ++ now.outgoing;
   said = h.said;
   passed = subst (Talks answers old new (h.heard ++ now.outgoing)) (append-nil h.said) (Talks-then answers old mid new h.heard h.said now.outgoing [] h.passed talk);
-  awaited = h.awaited;
+  awaited = fed_still answers old mid new s now h made;
   is = subst (λ (l : List ℕ). IsAlike (record now { outgoing = l }) (fed s h.said)) (sym (append-nil (h.heard ++ now.outgoing))) h.is;
 }
 
@@ -195,12 +213,12 @@ heard_fed s now next heard said piece h is =
     subst (λ (x : SessionState). IsAlike (with_heard heard next) x) (pieces s said piece s.trouble refl) (alike_then (with_heard heard next) (fed (with_heard heard now) piece) (fed (fed s said) piece) first second)
 
 -- a piece was fed
-pub goes_fed : (answers : Bool) (old mid new : Option Talk) (s now next : SessionState) (piece : List ℕ) → GoesOn answers old mid s now → IsWaiting now → length piece ≤ most_at_once → Talks false mid new [] piece → IsAlike next (fed now piece) → GoesOn answers old new s next
-goes_fed answers old mid new s now next piece h waits few talk is = record {
+goes_fed : (answers : Bool) (old mid new : Option Talk) (s now next : SessionState) (piece : List ℕ) → GoesOn answers old mid s now → IsFed old new s → Talks false mid new [] piece → IsAlike next (fed now piece) → GoesOn answers old new s next
+goes_fed answers old mid new s now next piece h awaited talk is = record {
   heard = h.heard;
   said = h.said ++ piece;
   passed = subst (λ (l : List ℕ). Talks answers old new l (h.said ++ piece)) (append-nil h.heard) (Talks-then answers old mid new h.heard h.said [] piece h.passed (Talks-stay answers mid new [] piece talk));
-  awaited = fed_more s h.said piece few (waits_behind h.heard now (fed s h.said) h.is waits);
+  awaited = awaited;
   is = heard_fed s now next h.heard h.said piece h.is is;
 }
 
@@ -212,19 +230,19 @@ unsent_explains now heard s stops.Failed is = tt
 unsent_explains now heard s stops.Interrupted is = absurd is
 
 -- a front of what was to be sent was heard
-pub stops_sending : (answers : Bool) (old mid new : Option Talk) (s now : SessionState) (front : List ℕ) (e : Stop) → GoesOn answers old mid s now → IsFront front now.outgoing → Talks answers mid new front [] → IsUnsent e → Stops answers old new s e
-stops_sending answers old mid new s now front e h is talk free = record {
+pub stops_sending : (answers : Bool) (old mid new : Option Talk) (s now : SessionState) (front : List ℕ) (e : Stop) → GoesOn answers old mid s now → IsFront front now.outgoing → Talks answers mid new front [] → Makes mid new [] → IsUnsent e → Stops answers old new s e
+stops_sending answers old mid new s now front e h is talk made free = record {
   heard = h.heard ++ front;
   said = h.said;
   passed = subst (Talks answers old new (h.heard ++ front)) (append-nil h.said) (Talks-then answers old mid new h.heard h.said front [] h.passed talk);
-  awaited = h.awaited;
+  awaited = fed_still answers old mid new s now h made;
   front = (is.0, sym (same_outgoing (with_heard h.heard now) (fed s h.said) h.is) ∙ ap (λ (l : List ℕ). h.heard ++ l) is.1 ∙ sym (append_assoc h.heard front is.0));
   why = unsent_explains new (h.heard ++ front) (fed s h.said) e free;
 }
 
 -- no call
 pub stops_free : (answers : Bool) (old new : Option Talk) (s now : SessionState) (e : Stop) → GoesOn answers old new s now → IsUnsent e → Stops answers old new s e
-stops_free answers old new s now e h free = stops_sending answers old new new s now [] e h (now.outgoing, refl) (Talks-none answers new) free
+stops_free answers old new s now e h free = stops_sending answers old new new s now [] e h (now.outgoing, refl) (Talks-none answers new) (Makes-none new) free
 
 behind_refuses : (now : Option Talk) (heard : List ℕ) (a : SessionState) (e : WireError) → Refuses now a e → Refuses now (with_heard heard a) e
 behind_refuses now heard a e (inl is) = inl is
@@ -237,7 +255,7 @@ explains_behind now heard a b (stops.Refused w) h why = λ isnt.
 explains_behind now heard a b stops.Failed h why = tt
 explains_behind now heard a b stops.Interrupted h why = tt
 
-stops_at : (answers : Bool) (old new : Option Talk) (s a : SessionState) (heard said : List ℕ) (e : Stop) → Talks answers old new heard said → IsFed s said → IsAlike (with_heard heard a) (fed s said) → Explains new [] a e → Stops answers old new s e
+stops_at : (answers : Bool) (old new : Option Talk) (s a : SessionState) (heard said : List ℕ) (e : Stop) → Talks answers old new heard said → IsFed old new s → IsAlike (with_heard heard a) (fed s said) → Explains new [] a e → Stops answers old new s e
 stops_at answers old new s a heard said e talk awaited h why = record {
   heard = heard;
   said = said;
@@ -247,18 +265,18 @@ stops_at answers old new s a heard said e talk awaited h why = record {
   why = explains_behind new heard a (fed s said) e h why;
 }
 
-stops_said : (answers : Bool) (old mid new : Option Talk) (s now : SessionState) (piece : List ℕ) (e : Stop) → GoesOn answers old mid s now → IsWaiting now → length piece ≤ most_at_once → Talks false mid new [] piece → (Explains new [] (fed now piece) e ⊎ ((piece ≡ []) × Explains new [] now e)) → Stops answers old new s e
-stops_said answers old mid new s now piece e h waits few talk (inl why) =
-    let next : GoesOn answers old new s (fed now piece) = goes_fed answers old mid new s now (fed now piece) piece h waits few talk (same (fed now piece)) in
+stops_said : (answers : Bool) (old mid new : Option Talk) (s now : SessionState) (piece : List ℕ) (e : Stop) → GoesOn answers old mid s now → IsFed old new s → Talks false mid new [] piece → (Explains new [] (fed now piece) e ⊎ ((piece ≡ []) × Explains new [] now e)) → Stops answers old new s e
+stops_said answers old mid new s now piece e h awaited talk (inl why) =
+    let next : GoesOn answers old new s (fed now piece) = goes_fed answers old mid new s now (fed now piece) piece h awaited talk (same (fed now piece)) in
     stops_at answers old new s (fed now piece) next.heard next.said e next.passed next.awaited next.is why
-stops_said answers old mid new s now piece e h waits few talk (inr x) =
+stops_said answers old mid new s now piece e h awaited talk (inr x) =
     let passed : Talks answers old new (h.heard ++ []) (h.said ++ piece) = Talks-then answers old mid new h.heard h.said [] piece h.passed (Talks-stay answers mid new [] piece talk) in
     let same_said : h.said ++ piece ≡ h.said = ap (λ (l : List ℕ). h.said ++ l) x.0 ∙ append-nil h.said in
-    stops_at answers old new s now h.heard h.said e (subst (λ (l : List ℕ). Talks answers old new l h.said) (append-nil h.heard) (subst (Talks answers old new (h.heard ++ [])) same_said passed)) h.awaited h.is x.1
+    stops_at answers old new s now h.heard h.said e (subst (λ (l : List ℕ). Talks answers old new l h.said) (append-nil h.heard) (subst (Talks answers old new (h.heard ++ [])) same_said passed)) awaited h.is x.1
 
 -- what came is refused, or a receive is
-pub stops_receiving : (T : Type 0) (answers : Bool) (old mid new : Option Talk) (s now next : SessionState) (e : Stop) → GoesOn answers old mid s now → IsWaiting now → Takes {T = T} mid new now next (Err e) → Stops answers old new s e
-stops_receiving T answers old mid new s now next e h waits x = stops_said answers old mid new s now x.0 e h waits x.1 x.2 x.3
+stops_receiving : (T : Type 0) (answers : Bool) (old mid new : Option Talk) (s now next : SessionState) (e : Stop) → GoesOn answers old mid s now → IsFed old new s → Takes {T = T} mid new now next (Err e) → Stops answers old new s e
+stops_receiving T answers old mid new s now next e h awaited x = stops_said answers old mid new s now x.0 e h awaited x.1 x.2
 
 -- ---- turns
 
@@ -305,8 +323,23 @@ receiving : (s : SessionState) → turn_of s ≡ turns.Receive → IsWell s true
 receiving s is = (well_by s (refusal_of s) (is_all_sent s) (is_some s.intake.reading) refl refl refl).0 is
 
 -- a reply is awaited that isn't whole yet
-pub waiting : (s : SessionState) → turn_of s ≡ turns.Receive → IsAwaiting s → IsWaiting s
+waiting : (s : SessionState) → turn_of s ≡ turns.Receive → IsAwaiting s → IsWaiting s
 waiting s turn short = record { well = (receiving s turn).trouble; short = short }
+
+-- a piece was received in its turn
+pub goes_received : (answers : Bool) (old mid new : Option Talk) (s now next : SessionState) → GoesOn answers old mid s now → turn_of now ≡ turns.Receive → IsAwaiting now → ((piece : List ℕ) × Talks false mid new [] piece × IsAlike next (fed now piece)) → Makes mid new (at_once ∷ [])
+    → GoesOn answers old new s next
+goes_received answers old mid new s now next h turn short took made = goes_fed answers old mid new s now next took.0 h (fed_more answers old mid new s now h (receiving now turn).sent (waiting now turn short) made) took.1 took.2
+
+fed_by_stop : (T : Type 0) (answers : Bool) (old mid new : Option Talk) (s now : SessionState) (e : Stop) → GoesOn answers old mid s now → turn_of now ≡ turns.Receive → IsAwaiting now → Makes mid new (made_by {T = T} (Err e)) → IsFed old new s
+fed_by_stop T answers old mid new s now (stops.Refused e) h turn short made = fed_more answers old mid new s now h (receiving now turn).sent (waiting now turn short) made
+fed_by_stop T answers old mid new s now stops.Failed h turn short made = fed_more answers old mid new s now h (receiving now turn).sent (waiting now turn short) made
+fed_by_stop T answers old mid new s now stops.Interrupted h turn short made = fed_still answers old mid new s now h made
+
+-- what came is refused, or the receive is, or the interrupt says yes before it
+pub stops_in_turn : (T : Type 0) (answers : Bool) (old mid new : Option Talk) (s now next : SessionState) (e : Stop) → GoesOn answers old mid s now → turn_of now ≡ turns.Receive → IsAwaiting now → Takes {T = T} mid new now next (Err e) → Makes mid new (made_by {T = T} (Err e))
+    → Stops answers old new s e
+stops_in_turn T answers old mid new s now next e h turn short took made = stops_receiving T answers old mid new s now next e h (fed_by_stop T answers old mid new s now e h turn short made) took
 
 pub resting : (s : SessionState) → turn_of s ≡ turns.Idle → IsWell s false
 resting s is = (well_by s (refusal_of s) (is_all_sent s) (is_some s.intake.reading) refl refl refl).1 is

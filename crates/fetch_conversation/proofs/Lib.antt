@@ -1,4 +1,5 @@
 pub mod Nil
+pub mod Due
 pub mod Chained
 pub mod Mappings
 pub mod Served

@@ -106,7 +106,7 @@ served_at_first bound is_request rule serve s c stream only answered is = served
 -- what a fresh peer gave and has still to give, by what it heard
 given_by : (rule : List ℕ → List ℕ) (answers : Bool) (old : Option Talk) (new : Talk) (heard said : List ℕ) → IsFresh rule old → Follows rule new → Talks answers old (Some new) heard said → rule heard ≡ said ++ new.to_come
 given_by rule answers old new heard said fresh follows passed =
-    let p : Passes answers (record { heard = []; given = []; to_come = []; rule = Some rule }) new heard said = rw fresh at passed in
+    let p : Passes answers (record { heard = []; given = []; to_come = []; receives = []; rule = Some rule }) new heard said = rw fresh at passed in
     ap rule (sym p.heard_more) ∙ sym follows.followed ∙ ap (λ (l : List ℕ). l ++ new.to_come) p.gave_more
 
 answer_is : {X E : Type 0} (bound : ℕ) (serve : List Line → List ℕ) (c : Conversation X E) (stream : List ℕ) (found : Result (X × List ℕ) E) → without_rest (answer_in bound c stream) ≡ answer_with bound serve c

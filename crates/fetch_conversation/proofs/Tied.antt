@@ -1,5 +1,5 @@
 -- A conversation that is a session's: both send the same, and end the same.
-use Rattle.std.proofs.Common.{◌≡◌, ◌≢◌, ℕ, Bool, true, false, List, [], ◌++◌, Option, Some, None, Result, Ok, Err, refl, sym, ap, ◌∙◌, subst, append_assoc, arith, inl, inr}
+use Rattle.std.proofs.Common.{◌≡◌, ◌≢◌, ℕ, Bool, true, false, List, [], ◌++◌, Option, Some, None, Result, Ok, Err, refl, sym, ap, ◌∙◌, subst, append_assoc, inl, inr}
 use Rattle.std.specs.Prelude.{is_some}
 use Rattle.std.proofs.lemmas.List.{append-nil}
 use Rattle.fetch_wire.specs.declared.awaited.Fault.{Fault}
@@ -14,15 +14,16 @@ use Rattle.fetch_wire.specs.declared.reference.Ref.{Ref}
 use Rattle.fetch_wire.specs.Intakes.{Intake, told_with, taking}
 use Rattle.fetch_wire.specs.Intakes as intakes
 use Rattle.fetch_wire.specs.SessionStates.{SessionState, IsAlike, fed, error_of, after_told, read_one, rests, asks}
-use Rattle.fetch_wire.specs.Talks.{Talk, Talks, Talks-none}
+use Rattle.fetch_wire.specs.Talks.{Talk, Talks, Receive, Talks-none, Makes-none}
 use Rattle.fetch_wire.specs.Written.{lines_text}
 use Rattle.fetch_wire.proofs.Conversing.{fed_is}
 use Rattle.fetch_wire.proofs.SessionAlike.{stays_alike}
 use Rattle.fetch_wire.proofs.SessionPieces.{pieces, stuck}
-use Rattle.fetch_conversation.specs.Conversation.{Conversation, sent_in, answer_in, awaits_more, IsAwaited, beside, Concludes, RefusesWith, IsRefusedBy, Breaks}
-use Rattle.fetch_conversation.specs.Drives.{IsWaiting, IsFed, with_heard, Finishes, Refuses, Stops}
+use Rattle.fetch_conversation.specs.Conversation.{Conversation, sent_in, answer_in, awaits_more, IsDue, IsAwaited, beside, Concludes, RefusesWith, IsRefusedBy, Breaks}
+use Rattle.fetch_conversation.specs.Drives.{IsWaiting, IsItsTurn, IsFed, with_heard, Finishes, Refuses, Stops}
 use Rattle.fetch_conversation.specs.declared.drive.Stop.{Stop}
 use Rattle.fetch_conversation.specs.declared.drive.Stop.TheVariants as stops
+use Rattle.fetch_conversation.proofs.Due.{all_as}
 use Rattle.fetch_conversation.proofs.Driven.{waits_alike, resting, end_is, trouble_at_end, same_outgoing}
 
 -- what is found by what was told
@@ -78,19 +79,20 @@ tied_alike refused finding bound a b c pending h tied = record {
   awaited = λ stream w. tied.awaited stream (waits_alike (fed a stream) (fed b stream) (stays_alike a b stream h) w);
 }
 
--- What it was fed while a reply was awaited is what the conversation awaits.
-awaited_by : {X E : Type 0} (refused : WireError → E) (finding : Finding X E) (bound : ℕ) (s : SessionState) (c : Conversation X E) (pending said : List ℕ) → IsTied refused finding bound s c pending → IsFed s said → IsAwaited bound c pending said
-awaited_by refused finding bound s c pending said tied h = record {
-  before = h.before;
-  last = h.last;
-  all = h.all;
-  at_once = h.at_once;
-  awaited = λ isnt. tied.awaited h.before (h.awaited isnt);
+-- Where it was the session's turn to receive, a receive was due.
+due_by : {X E : Type 0} (refused : WireError → E) (finding : Finding X E) (bound : ℕ) (s : SessionState) (c : Conversation X E) (pending : List ℕ) → IsTied refused finding bound s c pending → (r : Receive) → IsItsTurn s r → IsDue bound c pending r
+due_by refused finding bound s c pending tied r h = record { heard = h.heard ∙ sym (tied.sent r.given); awaited = tied.awaited r.given h.waits }
+
+awaited_by : {X E : Type 0} (refused : WireError → E) (finding : Finding X E) (bound : ℕ) (old new : Option Talk) (s : SessionState) (c : Conversation X E) (pending : List ℕ) → IsTied refused finding bound s c pending → IsFed old new s → IsAwaited bound old new pending c
+awaited_by refused finding bound old new s c pending tied h = record {
+  receives = h.receives;
+  made = h.made;
+  due = all_as (IsItsTurn s) (IsDue bound c pending) h.receives (due_by refused finding bound s c pending tied) h.turns;
 }
 
--- nothing was said
-pub awaited_first : {X E : Type 0} (bound : ℕ) (c : Conversation X E) (pending : List ℕ) → IsAwaited bound c pending []
-awaited_first bound c pending = record { before = []; last = []; all = refl; at_once = omega arith; awaited = λ isnt. absurd (isnt refl) }
+-- no receive was made
+pub awaited_first : {X E : Type 0} (bound : ℕ) (old : Option Talk) (pending : List ℕ) (c : Conversation X E) → IsAwaited bound old old pending c
+awaited_first bound old pending c = record { receives = []; made = Makes-none old; due = tt }
 
 -- ---- nothing is awaited, or something is wrong
 
@@ -126,7 +128,7 @@ record Rests (answers : Bool) (old new : Option Talk) (s now : SessionState) : T
   heard : List ℕ
   said : List ℕ
   passed : Talks answers old new heard said
-  fed_so : IsFed s said
+  fed_so : IsFed old new s
   after : (more : List ℕ) → fed s (said ++ more) ≡ record now { outgoing = heard; intake = taking more now.intake }
   well : now.trouble ≡ None
   none : now.intake.reading ≡ None
@@ -169,7 +171,7 @@ concluded refused finding answers bound old new s now c pending x tied h found =
       said = r.said;
       heard = r.heard;
       passed = r.passed;
-      needed = awaited_by refused finding bound s c pending r.said tied r.fed_so;
+      needed = awaited_by refused finding bound old new s c pending tied r.fed_so;
       asked = λ more. tied.sent (r.said ++ more) ∙ ap (λ (t : SessionState). t.outgoing) (r.after more);
       answered = λ more. rest_answers refused finding bound s now c pending r.said r.heard more tied (r.after more) r.well r.none ∙ ap (beside (now.intake.pending ++ more)) found;
     }
@@ -184,7 +186,7 @@ refused_at_end refused finding free answers bound old new s now c pending e tied
       said = r.said;
       heard = r.heard;
       passed = r.passed;
-      needed = awaited_by refused finding bound s c pending r.said tied r.fed_so;
+      needed = awaited_by refused finding bound old new s c pending tied r.fed_so;
       front = ([], ap (λ (l : List ℕ). lines_text (sent_in bound c (pending ++ l))) (sym (append-nil r.said)) ∙ front ∙ sym (append-nil r.heard));
       why = λ isnt. inl (λ more. subst (λ (l : List ℕ). RefusesWith bound c l r.heard e) (sym (append_assoc pending r.said more)) (record {
         answer = rest_answers refused finding bound s now c pending r.said r.heard more tied (r.after more) r.well r.none ∙ ap (beside (now.intake.pending ++ more)) (found isnt);
@@ -246,7 +248,7 @@ broken refused finding free answers bound old new s c pending stop e tied h word
   said = h.said;
   heard = h.heard;
   passed = h.passed;
-  needed = awaited_by refused finding bound s c pending h.said tied h.awaited;
+  needed = awaited_by refused finding bound old new s c pending tied h.awaited;
   front = (h.front.0, tied.sent h.said ∙ h.front.1);
   why = stop_why refused finding free answers bound old new s c pending stop e tied h word;
 }
@@ -259,7 +261,7 @@ broken_free free answers bound old pending c e is = record {
   said = [];
   heard = [];
   passed = Talks-none answers old;
-  needed = awaited_first bound c pending;
+  needed = awaited_first bound old pending c;
   front = (lines_text (sent_in bound c (pending ++ [])), refl);
   why = λ isnt. absurd (cc);
 }
@@ -270,7 +272,7 @@ broken_first free answers bound old pending c e is = record {
   said = [];
   heard = [];
   passed = Talks-none answers old;
-  needed = awaited_first bound c pending;
+  needed = awaited_first bound old pending c;
   front = (lines_text (sent_in bound c (pending ++ [])), refl);
   why = λ isnt. inl (λ more. is isnt ((pending ++ []) ++ more));
 }
@@ -281,7 +283,7 @@ concluded_first answers bound old pending c x is nothing = record {
   said = [];
   heard = [];
   passed = Talks-none answers old;
-  needed = awaited_first bound c pending;
+  needed = awaited_first bound old pending c;
   asked = λ more. nothing (pending ++ more);
   answered = λ more. is (pending ++ more);
 }

@@ -1,14 +1,14 @@
 -- A conversation: lines that are sent, what the reply tells, and how it goes on by that.
-use Rattle.std.specs.Prelude.{◌≡◌, ◌≢◌, ◌≤◌, ◌⊎◌, ℕ, Bool, true, false, List, [], ◌++◌, length, Option, Some, None, Result, Ok, Err}
+use Rattle.std.specs.Prelude.{◌≡◌, ◌⊎◌, ℕ, Bool, true, false, List, [], ◌++◌, Option, Some, None, Result, Ok, Err}
+use Rattle.std.specs.List.{AllByRecursion}
 use Rattle.fetch_wire.specs.Awaited.{told_at}
-use Rattle.fetch_wire.specs.Talks.{Talk, Talks, IsDrained, IsFront}
+use Rattle.fetch_wire.specs.Talks.{Talk, Talks, Receive, Makes, IsDrained, IsFront}
 use Rattle.fetch_wire.specs.Written.{lines_text, first_too_long}
 use Rattle.fetch_wire.specs.declared.awaited.Await.{Await}
 use Rattle.fetch_wire.specs.declared.awaited.Fault.{Fault}
 use Rattle.fetch_wire.specs.declared.awaited.Fault.TheVariants as faults
 use Rattle.fetch_wire.specs.declared.awaited.Told.{Told}
 use Rattle.fetch_wire.specs.declared.line.Line.{Line}
-use Rattle.fetch_conversation.specs.Receiving.{most_at_once}
 
 -- It ends with an answer, or it asks: it sends lines, awaits a reply, and goes on by what the reply tells. Where the
 -- bytes of the peer hold no such reply, it ends with a refusal by what is wrong with them.
@@ -57,13 +57,16 @@ unfoldable pub awaits_more : {X E : Type 0} → ℕ → Conversation X E → Lis
 awaits_more bound (ends answer) stream = false
 awaits_more bound (asks lines awaited failed next) stream = ends_in (λ told rest. awaits_more bound (next told) rest) (told_at bound awaited stream)
 
--- Nothing was received but while a reply was awaited: one is, where the last piece isn't there that came.
-pub record IsAwaited {X E : Type 0} (bound : ℕ) (c : Conversation X E) (pending said : List ℕ) : Type 0 where
-  pub before : List ℕ
-  pub last : List ℕ
-  pub all : said ≡ before ++ last
-  pub at_once : length last ≤ most_at_once
-  pub awaited : said ≢ [] → awaits_more bound c (pending ++ before) ≡ true
+-- A receive was due: all that was to be sent so far had been heard, and a reply was still awaited.
+pub record IsDue {X E : Type 0} (bound : ℕ) (c : Conversation X E) (pending : List ℕ) (receive : Receive) : Type 0 where
+  pub heard : receive.heard ≡ lines_text (sent_in bound c (pending ++ receive.given))
+  pub awaited : awaits_more bound c (pending ++ receive.given) ≡ true
+
+-- Each receive that was made was due.
+pub record IsAwaited {X E : Type 0} (bound : ℕ) (old new : Option Talk) (pending : List ℕ) (c : Conversation X E) : Type 0 where
+  pub receives : List Receive
+  pub made : Makes old new receives
+  pub due : AllByRecursion (IsDue bound c pending) receives
 
 -- one conversation after another
 abbrev pub after_answer : {X Y E : Type 0} → (X → Conversation Y E) → Result X E → Conversation Y E
@@ -83,13 +86,13 @@ unfoldable pub told_as : {X E F : Type 0} → (E → F) → Conversation X E →
 told_as g (ends answer) = ends (map_refusal g answer)
 told_as g (asks lines awaited failed next) = asks lines awaited (λ fault. g (failed fault)) (λ told. told_as g (next told))
 
--- The conversation was held to its end: the peer heard its lines, and this is its answer, whatever comes after. Nothing
--- was received behind its last reply.
+-- The conversation was held to its end: the peer heard its lines, and this is its answer, whatever comes after. No
+-- receive was made before all that was to be sent so far had been heard, and none behind a reply that was whole.
 pub record Concludes {X E : Type 0} (answers : Bool) (bound : ℕ) (old new : Option Talk) (pending : List ℕ) (c : Conversation X E) (x : X) (rest : List ℕ) : Type 0 where
   pub said : List ℕ
   pub heard : List ℕ
   pub passed : Talks answers old new heard said
-  pub needed : IsAwaited bound c pending said
+  pub needed : IsAwaited bound old new pending c
   pub asked : (more : List ℕ) → lines_text (sent_in bound c (pending ++ (said ++ more))) ≡ heard
   pub answered : (more : List ℕ) → answer_in bound c (pending ++ (said ++ more)) ≡ Ok (x, rest ++ more)
 
@@ -103,13 +106,13 @@ abbrev pub IsRefusedBy : {X E : Type 0} → ℕ → Option Talk → Conversation
 IsRefusedBy bound now c stream heard e =
     ((more : List ℕ) → RefusesWith bound c (stream ++ more) heard e) ⊎ (IsDrained now × RefusesWith bound c stream heard e)
 
--- It broke off: the peer heard a prefix of its lines, and nothing was received but while a reply was awaited. Unless the refusal is a free one, as want of memory and a counted
--- fault are, it is the one of this conversation with this peer, which heard all lines up to it.
+-- It broke off: the peer heard a prefix of its lines, and each receive was due. Unless the refusal is a free one, as want
+-- of memory and a counted fault are, it is the one of this conversation with this peer, which heard all lines up to it.
 pub record Breaks {X E : Type 0} (free : E → Bool) (answers : Bool) (bound : ℕ) (old new : Option Talk) (pending : List ℕ) (c : Conversation X E) (e : E) : Type 0 where
   pub said : List ℕ
   pub heard : List ℕ
   pub passed : Talks answers old new heard said
-  pub needed : IsAwaited bound c pending said
+  pub needed : IsAwaited bound old new pending c
   pub front : IsFront heard (lines_text (sent_in bound c (pending ++ said)))
   pub why : free e ≡ false → IsRefusedBy bound new c (pending ++ said) heard e
 

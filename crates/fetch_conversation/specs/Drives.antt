@@ -1,12 +1,14 @@
 -- A session that is driven: what is to be sent is sent, and bytes are received while a reply is awaited.
-use Rattle.std.specs.Prelude.{◌≡◌, ◌≢◌, ◌≤◌, ◌⊎◌, ℕ, Bool, false, List, [], ◌++◌, length, Option, Some, None, Result, Ok, Err, OnOk, IsErrOf, ⊤}
+use Rattle.std.specs.Prelude.{◌≡◌, ◌≢◌, ◌⊎◌, ℕ, Bool, false, List, [], ◌∷◌, ◌++◌, Option, Some, None, Result, Ok, Err, OnOk, IsErrOf, ⊤}
+use Rattle.std.specs.List.{AllByRecursion}
 use Rattle.fetch_store.specs.Faults.{Faults, Rose, Counts}
 use Rattle.fetch_wire.specs.SessionStates.{SessionState, IsAlike, IsAwaiting, fed, ended, turn_of}
-use Rattle.fetch_wire.specs.Talks.{Talk, Talks, IsDrained, IsFront}
+use Rattle.fetch_wire.specs.Talks.{Talk, Talks, Receive, Makes, at_once, IsDrained, IsFront}
 use Rattle.fetch_wire.specs.declared.error.WireError.{WireError}
 use Rattle.fetch_wire.specs.declared.error.WireError.TheVariants as wire
 use Rattle.fetch_wire.specs.declared.turn.Turn.TheVariants as turns
-use Rattle.fetch_conversation.specs.Receiving.{most_at_once, IsHeeded}
+use Rattle.fetch_conversation.specs.Errors.{is_yes}
+use Rattle.fetch_conversation.specs.Receiving.{IsHeeded}
 use Rattle.fetch_conversation.specs.declared.drive.Stop.{Stop}
 use Rattle.fetch_conversation.specs.declared.drive.Stop.TheVariants as stops
 
@@ -20,13 +22,16 @@ pub record IsWaiting (s : SessionState) : Type 0 where
   pub well : s.trouble ≡ None
   pub short : IsAwaiting s
 
--- Nothing was fed but while a reply was awaited: one is, where the last piece isn't there that came.
-pub record IsFed (s : SessionState) (said : List ℕ) : Type 0 where
-  pub before : List ℕ
-  pub last : List ℕ
-  pub all : said ≡ before ++ last
-  pub at_once : length last ≤ most_at_once
-  pub awaited : said ≢ [] → IsWaiting (fed s before)
+-- A receive was the session's turn: all that was to be sent so far had been heard, and a reply was awaited.
+pub record IsItsTurn (s : SessionState) (receive : Receive) : Type 0 where
+  pub heard : receive.heard ≡ (fed s receive.given).outgoing
+  pub waits : IsWaiting (fed s receive.given)
+
+-- Each receive that was made was the session's turn.
+pub record IsFed (old new : Option Talk) (s : SessionState) : Type 0 where
+  pub receives : List Receive
+  pub made : Makes old new receives
+  pub turns : AllByRecursion (IsItsTurn s) receives
 
 -- with these bytes before what is to be sent
 abbrev pub with_heard : List ℕ → SessionState → SessionState
@@ -37,7 +42,7 @@ pub record GoesOn (answers : Bool) (old new : Option Talk) (s now : SessionState
   pub heard : List ℕ
   pub said : List ℕ
   pub passed : Talks answers old new heard said
-  pub awaited : IsFed s said
+  pub awaited : IsFed old new s
   pub is : IsAlike (with_heard heard now) (fed s said)
 
 -- It went on until nothing is to be sent and no reply is awaited.
@@ -60,7 +65,7 @@ pub record Stops (answers : Bool) (old new : Option Talk) (s : SessionState) (e 
   pub heard : List ℕ
   pub said : List ℕ
   pub passed : Talks answers old new heard said
-  pub awaited : IsFed s said
+  pub awaited : IsFed old new s
   pub front : IsFront heard (fed s said).outgoing
   pub why : Explains new heard (fed s said) e
 
@@ -69,7 +74,7 @@ Drives answers old new s now (Ok x) = Finishes answers old new s now
 Drives answers old new s now (Err e) = Stops answers old new s e
 
 -- The same, with the peer's count of faults and the interrupt's of yes answers: neither falls, each rose where its stop
--- is told, and no Ok follows a yes. The interrupt was asked before each receive.
+-- is told, and no Ok follows a yes. The interrupt was asked once before each receive.
 pub record IsDriven {T : Type 0} (answers : Bool) (old new : Option Talk) (s now : SessionState) (faults faults' yes yes' : Faults) (will will' : ℕ → Type 0) (result : Result T Stop) : Type 0 where
   pub driven : Drives answers old new s now result
   pub counts : Counts faults faults'
@@ -77,7 +82,7 @@ pub record IsDriven {T : Type 0} (answers : Bool) (old new : Option Talk) (s now
   pub asked : Counts yes yes'
   pub interrupted : IsErrOf result stops.Interrupted → Rose yes yes'
   pub uninterrupted : OnOk result (yes'.count ≡ yes.count)
-  pub questions : IsHeeded will will' old new result
+  pub questions : IsHeeded is_yes will will' old new result
 
 -- ---- one step
 
@@ -89,5 +94,12 @@ IsUnsent stops.Interrupted = ⊥
 
 -- A piece came, and was fed; or it is refused, or the end of the peer's bytes is.
 abbrev pub Takes : {T : Type 0} → Option Talk → Option Talk → SessionState → SessionState → Result T Stop → Type 0
-Takes old new s now (Ok x) = (piece : List ℕ) × (length piece ≤ most_at_once) × Talks false old new [] piece × IsAlike now (fed s piece)
-Takes old new s now (Err e) = (piece : List ℕ) × (length piece ≤ most_at_once) × Talks false old new [] piece × (Explains new [] (fed s piece) e ⊎ ((piece ≡ []) × Explains new [] s e))
+Takes old new s now (Ok x) = (piece : List ℕ) × Talks false old new [] piece × IsAlike now (fed s piece)
+Takes old new s now (Err e) = (piece : List ℕ) × Talks false old new [] piece × (Explains new [] (fed s piece) e ⊎ ((piece ≡ []) × Explains new [] s e))
+
+-- one receive is made, and none where the interrupt says yes
+abbrev pub made_by : {T : Type 0} → Result T Stop → List Receive
+made_by (Ok x) = at_once ∷ []
+made_by (Err (stops.Refused e)) = at_once ∷ []
+made_by (Err stops.Failed) = at_once ∷ []
+made_by (Err stops.Interrupted) = []

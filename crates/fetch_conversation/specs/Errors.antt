@@ -51,6 +51,12 @@ fetch_of_stop (stops.Refused e) = fetch_of_wire e
 fetch_of_stop stops.Failed = fetch.Client
 fetch_of_stop stops.Interrupted = fetch.Interrupted
 
+-- a yes of the interrupt
+abbrev pub is_yes : Stop → Bool
+is_yes (stops.Refused e) = false
+is_yes stops.Failed = false
+is_yes stops.Interrupted = true
+
 -- ---- while the references are listed
 
 -- the peer's fault

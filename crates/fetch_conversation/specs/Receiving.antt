@@ -1,21 +1,22 @@
--- What is received, and what is asked before.
-use Rattle.std.specs.Prelude.{ℕ, ◌+◌, ◌*◌, ◌<◌, ◌≤◌, length, Option, Some, None, Result, OnOk, ⊤}
+-- How often was received, and what was asked before.
+use Rattle.std.specs.Prelude.{◌≡◌, ℕ, ◌+◌, ◌<◌, Bool, length, Option, Some, None, Result, Ok, Err, ⊤, if◌then◌else◌}
 use Rattle.fetch_wire.specs.Talks.{Talk}
 
--- so many bytes are received at once, at most
-abbrev pub most_at_once : ℕ
-most_at_once = 65536
+-- so many receives were made, where it is told
+abbrev pub HasReceived : ℕ → Option Talk → Option Talk → Type 0
+HasReceived n None now = ⊤
+HasReceived n (Some a) None = ⊥
+HasReceived n (Some a) (Some b) = length b.receives ≡ length a.receives + n
 
--- so many bytes were given, at most, where it is told
-abbrev pub GaveWithin : ℕ → Option Talk → Option Talk → Type 0
-GaveWithin n None now = ⊤
-GaveWithin n (Some a) None = ⊥
-GaveWithin n (Some a) (Some b) = length b.given ≤ length a.given + n
+-- one question more, where a yes is told
+abbrev pub last_question : {T E : Type 0} → (E → Bool) → Result T E → ℕ
+last_question is_yes (Ok x) = 0
+last_question is_yes (Err e) = if is_yes e then 1 else 0
 
--- The interrupt said no so often, and each time one piece was received at most. No yes was passed over that it was to say,
--- and it has still to say the later ones.
-pub record IsHeeded {T E : Type 0} (will will' : ℕ → Type 0) (old new : Option Talk) (result : Result T E) : Type 0 where
-  pub times : ℕ
-  pub no_yes : (n : ℕ) → n < times → will n → ⊥
-  pub received : GaveWithin (times * most_at_once) old new
-  pub later : OnOk result ((n : ℕ) → will (times + n) → will' n)
+-- The interrupt was asked once before each receive, and said no; and, where a yes is told, once more. No yes was passed
+-- over that it was to say, and all later ones it has still to say, so it was asked no oftener.
+pub record IsHeeded {T E : Type 0} (is_yes : E → Bool) (will will' : ℕ → Type 0) (old new : Option Talk) (result : Result T E) : Type 0 where
+  pub receives : ℕ
+  pub made : HasReceived receives old new
+  pub no_yes : (n : ℕ) → n < receives → will n → ⊥
+  pub later : (n : ℕ) → will ((receives + last_question is_yes result) + n) → will' n

@@ -54,9 +54,9 @@ abbrev pub without_rest : {X E : Type 0} → Result (X × List ℕ) E → Result
 without_rest (Ok x) = Ok x.0
 without_rest (Err e) = Err e
 
--- a peer with this rule that heard and gave nothing yet
+-- a peer with this rule that heard and gave nothing yet, and of which nothing was received
 abbrev pub IsFresh : (List ℕ → List ℕ) → Option Talk → Type 0
-IsFresh rule talk = talk ≡ Some (record { heard = []; given = []; to_come = []; rule = Some rule })
+IsFresh rule talk = talk ≡ Some (record { heard = []; given = []; to_come = []; receives = []; rule = Some rule })
 
 -- what it gave and has still to give is what its rule says of what it heard
 pub record Follows (rule : List ℕ → List ℕ) (talk : Talk) : Type 0 where

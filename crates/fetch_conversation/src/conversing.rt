@@ -7,7 +7,7 @@ ghost use Rattle.fetch_store.specs.Stores.{AreOf};
 ghost use Rattle.fetch_conversation.specs.Conversation.{Converses};
 ghost use Rattle.fetch_conversation.specs.ConverseStage.{converse_stage};
 ghost use Rattle.fetch_conversation.specs.Conversing.{IsClear, IsRefusal, IsOwn, terms_told};
-ghost use Rattle.fetch_conversation.specs.Errors.{is_free_receiving};
+ghost use Rattle.fetch_conversation.specs.Errors.{is_free_receiving, is_stopped};
 ghost use Rattle.fetch_conversation.specs.ListStage.{IsReady, shown, pending_of};
 ghost use Rattle.fetch_conversation.specs.Receiving.{IsHeeded};
 ghost use Rattle.fetch_conversation.specs.declared.fetch.Error.TheVariants as errors;
@@ -107,7 +107,7 @@ fn refuse(alloc: Global, listed: &Listed, terms: &Terms<'_>) -> Result<(), fetch
 }
 
 /// Asks for the pack of what is wanted, in rounds that tell which commits are there, and reads it. Where nothing is
-/// wanted, nothing is sent. The interrupt is asked before each receive.
+/// wanted, nothing is sent. The interrupt is asked once before each receive.
 pub fn converse<R: Threads + Sync, P: Peer, I: Interrupt, Q: Progress, O: Objects>(
     rt: &R,
     alloc: Global,
@@ -129,7 +129,7 @@ pub fn converse<R: Threads + Sync, P: Peer, I: Interrupt, Q: Progress, O: Object
     ensures asked { Counts (I.yes interrupt.old) (I.yes interrupt.new) }
     ensures interrupted { IsErrOf result errors.Interrupted → Rose (I.yes interrupt.old) (I.yes interrupt.new) }
     ensures uninterrupted { OnOk result ((I.yes interrupt.new).count ≡ (I.yes interrupt.old).count) }
-    ensures questions { IsHeeded (I.will_stop interrupt.old) (I.will_stop interrupt.new) (P.told peer.old) (P.told peer.new) result }
+    ensures questions { IsHeeded is_stopped (I.will_stop interrupt.old) (I.will_stop interrupt.new) (P.told peer.old) (P.told peer.new) result }
 {
     refuse(alloc, listed, terms)?;
     if terms.view.wants.is_empty() {

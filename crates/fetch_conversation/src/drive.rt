@@ -1,11 +1,12 @@
 //! A session is driven: what it has to send is sent, and what its peer says is fed to it.
 
-ghost use Rattle.std.specs.Prelude.{◌≡◌, [], false, length, IfErr, OnOk, IsErrOf};
+ghost use Rattle.std.specs.Prelude.{◌≡◌, ◌<◌, [], false, length, IfErr, OnOk, IsErrOf};
 ghost use Rattle.fetch_store.specs.Faults.{Rose, Counts};
-ghost use Rattle.fetch_conversation.specs.Drives.{IsDrivable, Drives, IsDriven, IsUnsent, Takes};
-ghost use Rattle.fetch_conversation.specs.Receiving.{IsHeeded, most_at_once};
+ghost use Rattle.fetch_conversation.specs.Drives.{IsDrivable, Drives, IsDriven, IsUnsent, Takes, made_by};
+ghost use Rattle.fetch_conversation.specs.Errors.{is_yes};
+ghost use Rattle.fetch_conversation.specs.Receiving.{IsHeeded};
 ghost use Rattle.fetch_wire.specs.SessionStates.{turn_of, IsAwaiting};
-ghost use Rattle.fetch_wire.specs.Talks.{Sends};
+ghost use Rattle.fetch_wire.specs.Talks.{Sends, Makes};
 ghost use Rattle.fetch_wire.specs.declared.turn.Turn.TheVariants as turns;
 
 use fetch_wire::{Interrupt, Peer, SendFault, Session, Turn, WireError};
@@ -52,6 +53,7 @@ impl From<AllocError> for Stop {
 fn send<P: Peer>(session: &mut Session, peer: &mut P) -> Result<(), Stop>
     ensures session { OnOk result (session.new ≡ record session.old { outgoing = [] }) }
     ensures talk { Sends P.answers (P.told peer.old) (P.told peer.new) result session.old.outgoing }
+    ensures receives { Makes (P.told peer.old) (P.told peer.new) [] }
     ensures cause { IfErr result (λ e. IsUnsent e) }
     ensures counts { Counts (P.faults peer.old) (P.faults peer.new) }
     ensures failed { IsErrOf result Stop.Failed → Rose (P.faults peer.old) (P.faults peer.new) }
@@ -66,7 +68,7 @@ fn send<P: Peer>(session: &mut Session, peer: &mut P) -> Result<(), Stop>
     }
 }
 
-/// Receives what comes next, and feeds it. The interrupt is asked before.
+/// Receives what comes next, and feeds it. The interrupt is asked before, once.
 fn receive<P: Peer, I: Interrupt>(
     session: &mut Session,
     peer: &mut P,
@@ -76,14 +78,15 @@ fn receive<P: Peer, I: Interrupt>(
     requires turn { turn_of session.old ≡ turns.Receive }
     requires awaits { IsAwaiting session.old }
     requires unrefused { session.old.refused ≡ false }
-    requires room { length buffer.old ≡ most_at_once }
+    requires room { 0 < length buffer.old }
     ensures taken { Takes (P.told peer.old) (P.told peer.new) session.old session.new result }
+    ensures receives { Makes (P.told peer.old) (P.told peer.new) (made_by result) }
     ensures counts { Counts (P.faults peer.old) (P.faults peer.new) }
     ensures failed { IsErrOf result Stop.Failed → Rose (P.faults peer.old) (P.faults peer.new) }
     ensures asked { Counts (I.yes interrupt.old) (I.yes interrupt.new) }
     ensures interrupted { IsErrOf result Stop.Interrupted → Rose (I.yes interrupt.old) (I.yes interrupt.new) }
     ensures uninterrupted { OnOk result ((I.yes interrupt.new).count ≡ (I.yes interrupt.old).count) }
-    ensures questions { IsHeeded (I.will_stop interrupt.old) (I.will_stop interrupt.new) (P.told peer.old) (P.told peer.new) result }
+    ensures questions { IsHeeded is_yes (I.will_stop interrupt.old) (I.will_stop interrupt.new) (P.told peer.old) (P.told peer.new) result }
 {
     if interrupt.asked() {
         return Err(Stop::Interrupted);
@@ -99,8 +102,8 @@ fn receive<P: Peer, I: Interrupt>(
     Ok(())
 }
 
-/// Sends and receives by this buffer until nothing is to be sent and no reply is awaited. The interrupt is asked before
-/// each receive.
+/// Sends and receives by this buffer until nothing is to be sent and no reply is awaited. The interrupt is asked once
+/// before each receive.
 fn take_turns<P: Peer, I: Interrupt>(
     session: &mut Session,
     peer: &mut P,
@@ -108,7 +111,7 @@ fn take_turns<P: Peer, I: Interrupt>(
     buffer: &mut [u8],
 ) -> Result<(), Stop>
     requires drivable { IsDrivable session.old }
-    requires room { length buffer.old ≡ most_at_once }
+    requires room { 0 < length buffer.old }
     ensures { IsDriven P.answers (P.told peer.old) (P.told peer.new) session.old session.new (P.faults peer.old) (P.faults peer.new) (I.yes interrupt.old) (I.yes interrupt.new) (I.will_stop interrupt.old) (I.will_stop interrupt.new) result }
 {
     'turns: for _ in 0..u64::MAX {
@@ -122,7 +125,8 @@ fn take_turns<P: Peer, I: Interrupt>(
     Err(Stop::Refused(WireError::NoMemory))
 }
 
-/// Sends and receives until nothing is to be sent and no reply is awaited. The interrupt is asked before each receive.
+/// Sends and receives until nothing is to be sent and no reply is awaited. The interrupt is asked once before each
+/// receive.
 pub(crate) fn drive<P: Peer, I: Interrupt>(
     alloc: Global,
     session: &mut Session,
@@ -136,7 +140,7 @@ pub(crate) fn drive<P: Peer, I: Interrupt>(
     ensures asked { Counts (I.yes interrupt.old) (I.yes interrupt.new) }
     ensures interrupted { IsErrOf result Stop.Interrupted → Rose (I.yes interrupt.old) (I.yes interrupt.new) }
     ensures uninterrupted { OnOk result ((I.yes interrupt.new).count ≡ (I.yes interrupt.old).count) }
-    ensures questions { IsHeeded (I.will_stop interrupt.old) (I.will_stop interrupt.new) (P.told peer.old) (P.told peer.new) result }
+    ensures questions { IsHeeded is_yes (I.will_stop interrupt.old) (I.will_stop interrupt.new) (P.told peer.old) (P.told peer.new) result }
 {
     let mut buffer = vec![in alloc; 0u8; PIECE]?;
     take_turns(session, peer, interrupt, &mut buffer)

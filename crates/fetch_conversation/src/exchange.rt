@@ -4,7 +4,7 @@ ghost use Rattle.std.specs.Prelude.{◌≡◌, IfErr, OnOk, IsErrOf};
 ghost use Rattle.fetch_store.specs.Faults.{Rose, Counts};
 ghost use Rattle.fetch_conversation.specs.Conversation.{Converses};
 ghost use Rattle.fetch_conversation.specs.Conversing.{IsAsked, reply_of, terms_told};
-ghost use Rattle.fetch_conversation.specs.Errors.{is_free_receiving};
+ghost use Rattle.fetch_conversation.specs.Errors.{is_free_receiving, is_stopped};
 ghost use Rattle.fetch_conversation.specs.Exchange as spec;
 ghost use Rattle.fetch_conversation.specs.Exchange.{asked_by, haves_told};
 ghost use Rattle.fetch_conversation.specs.ListStage.{IsReady, shown, pending_of};
@@ -51,8 +51,8 @@ fn ask(
     listed.session.request(&request, !terms.dry_run)
 }
 
-/// Asks for the pack in a round, and reads the reply, which the session keeps. The interrupt is asked before each
-/// receive.
+/// Asks for the pack in a round, and reads the reply, which the session keeps. The interrupt is asked once before
+/// each receive.
 pub(crate) fn exchange<P: Peer, I: Interrupt>(
     listed: &mut Listed,
     terms: &Terms<'_>,
@@ -72,7 +72,7 @@ pub(crate) fn exchange<P: Peer, I: Interrupt>(
     ensures asked { Counts (I.yes interrupt.old) (I.yes interrupt.new) }
     ensures interrupted { IsErrOf result errors.Interrupted → Rose (I.yes interrupt.old) (I.yes interrupt.new) }
     ensures uninterrupted { OnOk result ((I.yes interrupt.new).count ≡ (I.yes interrupt.old).count) }
-    ensures questions { IsHeeded (I.will_stop interrupt.old) (I.will_stop interrupt.new) (P.told peer.old) (P.told peer.new) result }
+    ensures questions { IsHeeded is_stopped (I.will_stop interrupt.old) (I.will_stop interrupt.new) (P.told peer.old) (P.told peer.new) result }
 {
     let alloc = round.haves.allocator();
     ask(alloc, listed, terms, shared, round)?;

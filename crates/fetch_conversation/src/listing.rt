@@ -129,7 +129,8 @@ fn names_none(inquiry: &Inquiry<'_>, options: &Options) -> bool
     are_none(inquiry.specs) && are_none(options.extra_refspecs.as_slice())
 }
 
-/// Asks for the greeting, then for the listing, and maps what is listed. The interrupt is asked before each receive.
+/// Asks for the greeting, then for the listing, and maps what is listed. The interrupt is asked once before each
+/// receive.
 pub fn list<P: Peer, I: Interrupt>(
     alloc: Global,
     inquiry: &Inquiry<'_>,
@@ -146,7 +147,7 @@ pub fn list<P: Peer, I: Interrupt>(
     ensures asked { Counts (I.yes interrupt.old) (I.yes interrupt.new) }
     ensures interrupted { IsErrOf result (errors.RefMap ref_map_errors.Interrupted) → Rose (I.yes interrupt.old) (I.yes interrupt.new) }
     ensures uninterrupted { OnOk result ((I.yes interrupt.new).count ≡ (I.yes interrupt.old).count) }
-    ensures questions { IsHeeded (I.will_stop interrupt.old) (I.will_stop interrupt.new) (P.told peer.old) (P.told peer.new) result }
+    ensures questions { IsHeeded is_interrupted (I.will_stop interrupt.old) (I.will_stop interrupt.new) (P.told peer.old) (P.told peer.new) result }
 {
     if names_none(inquiry, &options) {
         return Err(prepare::Error::MissingRefSpecs);

@@ -2,9 +2,8 @@
 
 ghost use Rattle.std.specs.Prelude.{◌≡◌, [], true, IfOk};
 
-use crate::copies::copy_option;
 use fetch_specs::{Conflict, RefSpec};
-use fetch_store::{List, NoMemory, Text};
+use fetch_store::{List, NoMemory, Text, TryClone};
 use fetch_wire::{ReplyBound, WireError};
 use std::alloc::Global;
 use thiserror::Error;
@@ -39,13 +38,9 @@ impl Options {
     pub fn try_clone(&self) -> Result<Options, NoMemory>
         ensures { IfOk result (λ copy. copy ≡ self.now) }
     {
-        let parameters = self.handshake_parameters.try_clone_with(|(name, value)| Ok((
-            name.try_clone()?,
-            copy_option(value)?,
-        )))?;
         Ok(Options {
             prefix_from_spec_as_filter_on_remote: self.prefix_from_spec_as_filter_on_remote,
-            handshake_parameters: parameters,
+            handshake_parameters: self.handshake_parameters.try_clone()?,
             extra_refspecs: self.extra_refspecs.try_clone_with(RefSpec::try_clone)?,
             max_reply_bytes: self.max_reply_bytes,
         })

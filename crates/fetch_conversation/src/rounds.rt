@@ -11,7 +11,7 @@ ghost use Rattle.fetch_negotiate.specs.Windows.{next_size};
 ghost use Rattle.fetch_conversation.specs.Conversation.{Converses};
 ghost use Rattle.fetch_conversation.specs.ConverseStage.{algorithm_in};
 ghost use Rattle.fetch_conversation.specs.Conversing.{Holds, course_of, negotiated_of, terms_told};
-ghost use Rattle.fetch_conversation.specs.Errors.{is_free_receiving};
+ghost use Rattle.fetch_conversation.specs.Errors.{is_free_receiving, is_stopped};
 ghost use Rattle.fetch_conversation.specs.ListStage.{IsReady, shown, pending_of};
 ghost use Rattle.fetch_conversation.specs.Receiving.{IsHeeded};
 ghost use Rattle.fetch_conversation.specs.Rounds as spec;
@@ -195,7 +195,7 @@ fn hold_round<P: Peer, I: Interrupt, O: Objects>(
     ensures asked { Counts (I.yes interrupt.old) (I.yes interrupt.new) }
     ensures interrupted { IsErrOf result errors.Interrupted → Rose (I.yes interrupt.old) (I.yes interrupt.new) }
     ensures uninterrupted { OnOk result ((I.yes interrupt.new).count ≡ (I.yes interrupt.old).count) }
-    ensures questions { IsHeeded (I.will_stop interrupt.old) (I.will_stop interrupt.new) (P.told peer.old) (P.told peer.new) result }
+    ensures questions { IsHeeded is_stopped (I.will_stop interrupt.old) (I.will_stop interrupt.new) (P.told peer.old) (P.told peer.new) result }
 {
     let round = course.next(objects)?;
     exchange(
@@ -223,8 +223,8 @@ fn most_rounds<O: Objects>(objects: &O) -> Result<usize, NoMemory>
     }
 }
 
-/// Holds the rounds until one of them ends them. The session keeps the last reply. The interrupt is asked before each
-/// receive.
+/// Holds the rounds until one of them ends them. The session keeps the last reply. The interrupt is asked once before
+/// each receive.
 pub(crate) fn negotiate<P: Peer, I: Interrupt, O: Objects>(
     alloc: Global,
     listed: &mut Listed,
@@ -243,7 +243,7 @@ pub(crate) fn negotiate<P: Peer, I: Interrupt, O: Objects>(
     ensures asked { Counts (I.yes interrupt.old) (I.yes interrupt.new) }
     ensures interrupted { IsErrOf result errors.Interrupted → Rose (I.yes interrupt.old) (I.yes interrupt.new) }
     ensures uninterrupted { OnOk result ((I.yes interrupt.new).count ≡ (I.yes interrupt.old).count) }
-    ensures questions { IsHeeded (I.will_stop interrupt.old) (I.will_stop interrupt.new) (P.told peer.old) (P.told peer.new) result }
+    ensures questions { IsHeeded is_stopped (I.will_stop interrupt.old) (I.will_stop interrupt.new) (P.told peer.old) (P.told peer.new) result }
 {
     let most = most_rounds(objects)?;
     let mut course = Course::new(alloc, terms)?;

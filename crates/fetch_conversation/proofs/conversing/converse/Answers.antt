@@ -4,14 +4,14 @@ use Rattle.fetch_wire.specs.declared.records.FetchReply.{FetchReply}
 use Rattle.fetch_negotiate.specs.declared.algorithm.Round.{Round}
 use Rattle.fetch_conversation.specs.Conversing.{terms_told}
 use Rattle.fetch_conversation.specs.ConverseStage.{received}
-use Rattle.fetch_conversation.specs.Errors.{is_free_receiving}
+use Rattle.fetch_conversation.specs.Errors.{is_free_receiving, is_stopped}
 use Rattle.fetch_conversation.specs.Exchange.{TermsValue, other_reply}
 use Rattle.fetch_conversation.specs.ListStage.{ListedValue, shown, is_nil}
 use Rattle.fetch_conversation.specs.declared.conversing.Received.{Received}
 use Rattle.fetch_conversation.specs.declared.fetch.Error.{Error}
 use Rattle.fetch_conversation.proofs.Fetches.{FindsIn, holds_refusal, holds_nothing, holds_broken, holds_found}
 use Rattle.fetch_conversation.proofs.Nil.{nil_by, nil_is}
-use Rattle.fetch_conversation.proofs.Heeded.{heeded_still, heeded_as, heeded_err}
+use Rattle.fetch_conversation.proofs.Heeded.{heeded_still, heeded_as, no_question}
 use Rattle.fetch_conversation.proofs.conversing.converse.Goals as goal
 
 -- ---- what the rounds bring
@@ -81,23 +81,23 @@ returns-clause-held g c =
 pub returns-in_err-refuse-clause-questions : goal.returns-in_err-refuse-clause-questions
 returns-in_err-refuse-clause-questions g c =
     let p = err_from_is_err_and c.from_residual.result c.from_residual.ensures.1 in
-    rw (p.1, p.2) (heeded_still _ _ _)
+    rw (p.1, p.2) (heeded_still _ _ _ _ (no_question (Unit {0}) is_stopped c.in_err-refuse.field-0.0 c.in_err-refuse.ensures.own.1))
 
 pub returns-then-is_empty-clause-questions : goal.returns-then-is_empty-clause-questions
-returns-then-is_empty-clause-questions g c = heeded_still _ _ _
+returns-then-is_empty-clause-questions g c = heeded_still _ _ _ _ refl
 
 pub returns-in_err-negotiate-clause-questions : goal.returns-in_err-negotiate-clause-questions
 returns-in_err-negotiate-clause-questions g c =
     let p = err_from_is_err_and c.from_residual-in_err-negotiate.result c.from_residual-in_err-negotiate.ensures.1 in
-    rw (p.1, p.2) (heeded_err _ _ _ _ _ _ c.in_err-negotiate.ensures.questions)
+    rw (p.1, p.2) (heeded_as _ _ _ _ _ _ _ _ refl c.in_err-negotiate.ensures.questions)
 
 pub returns-in_default-clause-questions : goal.returns-in_default-clause-questions
-returns-in_default-clause-questions g c = heeded_as _ _ _ _ _ _ c.in_ok-negotiate.ensures.questions
+returns-in_default-clause-questions g c = heeded_as _ _ _ _ _ _ _ _ refl c.in_ok-negotiate.ensures.questions
 
 pub returns-in_err-received-clause-questions : goal.returns-in_err-received-clause-questions
 returns-in_err-received-clause-questions g c =
     let p = err_from_is_err_and c.from_residual-in_err-received.result c.from_residual-in_err-received.ensures.1 in
-    rw (p.1, p.2) (heeded_as _ _ _ _ _ _ c.in_ok-negotiate.ensures.questions)
+    rw (p.1, p.2) (heeded_as _ _ _ _ _ _ _ _ (sym (no_question (Unit {0}) is_stopped c.in_err-received.field-0.0 c.in_err-received.ensures.own.1)) c.in_ok-negotiate.ensures.questions)
 
 pub returns-clause-questions : goal.returns-clause-questions
-returns-clause-questions g c = heeded_as _ _ _ _ _ _ c.in_ok-negotiate.ensures.questions
+returns-clause-questions g c = heeded_as _ _ _ _ _ _ _ _ refl c.in_ok-negotiate.ensures.questions

@@ -6,7 +6,7 @@ use Rattle.fetch_conversation.specs.Exchange.{TermsValue, haves_told}
 use Rattle.fetch_conversation.specs.ListStage.{shown}
 use Rattle.fetch_conversation.specs.declared.listing.Listed.{Listed}
 use Rattle.fetch_conversation.proofs.Exchanged.{Exchanges, asked_drivable, exchange_long, exchange_stopped, exchange_found, ready_again, bound_again}
-use Rattle.fetch_conversation.proofs.Heeded.{heeded_still, heeded_as, heeded_err}
+use Rattle.fetch_conversation.proofs.Heeded.{heeded_still, heeded_as, fetch_asks, stop_fetched}
 use Rattle.fetch_conversation.proofs.exchange.exchange.Goals as goal
 
 pub returns-in_err-ask-clause-held : goal.returns-in_err-ask-clause-held
@@ -52,15 +52,15 @@ returns-in-None-clause-held g c =
 pub returns-in_err-ask-clause-questions : goal.returns-in_err-ask-clause-questions
 returns-in_err-ask-clause-questions g c =
     let p = err_from_is_err_and c.from_residual.result c.from_residual.ensures.1 in
-    rw (p.1, p.2) (heeded_still _ _ _)
+    rw (p.1, p.2) (heeded_still _ _ _ _ (fetch_asks (Unit {0}) c.in_err-ask.field-0.0))
 
 pub returns-in_err-drive-clause-questions : goal.returns-in_err-drive-clause-questions
 returns-in_err-drive-clause-questions g c =
     let p = err_from_is_err_and c.from_residual-in_err-drive.result c.from_residual-in_err-drive.ensures.1 in
-    rw (p.1, p.2) (heeded_err _ _ _ _ _ _ c.in_err-drive.ensures.questions)
+    rw (p.1, p.2) (heeded_as _ _ _ _ _ _ _ _ (stop_fetched (Unit {0}) (Unit {0}) c.in_err-drive.field-0.0) c.in_err-drive.ensures.questions)
 
 pub returns-in-Some-clause-questions : goal.returns-in-Some-clause-questions
-returns-in-Some-clause-questions g c = heeded_as _ _ _ _ _ _ c.in_ok-drive.ensures.questions
+returns-in-Some-clause-questions g c = heeded_as _ _ _ _ _ _ _ _ refl c.in_ok-drive.ensures.questions
 
 pub returns-in-None-clause-questions : goal.returns-in-None-clause-questions
-returns-in-None-clause-questions g c = heeded_as _ _ _ _ _ _ c.in_ok-drive.ensures.questions
+returns-in-None-clause-questions g c = heeded_as _ _ _ _ _ _ _ _ refl c.in_ok-drive.ensures.questions

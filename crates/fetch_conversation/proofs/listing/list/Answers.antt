@@ -11,7 +11,7 @@ use Rattle.fetch_conversation.specs.declared.prepare.Error.TheVariants as errors
 use Rattle.fetch_conversation.specs.declared.ref_map.Error.TheVariants as ref_map
 use Rattle.fetch_conversation.proofs.Driven.{finished_unrefused}
 use Rattle.fetch_conversation.proofs.Listings.{lists_missing, lists_free, lists_unopened, lists_stopped, lists_found, listed_bound, opened_drivable}
-use Rattle.fetch_conversation.proofs.Heeded.{heeded_still, heeded_as, heeded_err}
+use Rattle.fetch_conversation.proofs.Heeded.{heeded_still, heeded_as, none_asked, prepare_asks, stop_prepared}
 use Rattle.fetch_conversation.proofs.listing.list.Goals as goal
 
 none_named : (q : InquiryValue) (b : Bool) → b ≡ (is_nil q.specs && is_nil q.options.extra_refspecs) → b ≡ true → no_specs q ≡ Some errors.MissingRefSpecs
@@ -83,30 +83,30 @@ pub returns-clause-interrupted : goal.returns-clause-interrupted
 returns-clause-interrupted g c = λ is. absurd (not_interrupted c.map_listed.result c.map_listed.ensures.uninterrupted is)
 
 pub returns-then-names_none-clause-questions : goal.returns-then-names_none-clause-questions
-returns-then-names_none-clause-questions g c = heeded_still _ _ _
+returns-then-names_none-clause-questions g c = heeded_still _ _ _ _ refl
 
 pub returns-in_err-extra-clause-questions : goal.returns-in_err-extra-clause-questions
 returns-in_err-extra-clause-questions g c =
     let p = err_from_is_err_and c.from_residual.result c.from_residual.ensures.1 in
-    rw (p.1, p.2) (heeded_still _ _ _)
+    rw (p.1, p.2) (heeded_still _ _ _ _ refl)
 
 pub returns-in_err-specs-clause-questions : goal.returns-in_err-specs-clause-questions
 returns-in_err-specs-clause-questions g c =
     let p = err_from_is_err_and c.from_residual-in_err-specs.result c.from_residual-in_err-specs.ensures.1 in
-    rw (p.1, p.2) (heeded_still _ _ _)
+    rw (p.1, p.2) (heeded_still _ _ _ _ refl)
 
 pub returns-in_err-session-clause-questions : goal.returns-in_err-session-clause-questions
 returns-in_err-session-clause-questions g c =
     let p = err_from_is_err_and c.from_residual-in_err-session.result c.from_residual-in_err-session.ensures.1 in
-    rw (p.1, p.2) (heeded_still _ _ _)
+    rw (p.1, p.2) (heeded_still _ _ _ _ (prepare_asks (Unit {0}) c.in_err-session.field-0.0))
 
 pub returns-in_err-drive-clause-questions : goal.returns-in_err-drive-clause-questions
 returns-in_err-drive-clause-questions g c =
     let p = err_from_is_err_and c.from_residual-in_err-drive.result c.from_residual-in_err-drive.ensures.1 in
-    rw (p.1, p.2) (heeded_err _ _ _ _ _ _ c.in_err-drive.ensures.questions)
+    rw (p.1, p.2) (heeded_as _ _ _ _ _ _ _ _ (stop_prepared (Unit {0}) (Unit {0}) c.in_err-drive.field-0.0) c.in_err-drive.ensures.questions)
 
 pub returns-clause-questions : goal.returns-clause-questions
-returns-clause-questions g c = heeded_as _ _ _ _ _ _ c.in_ok-drive.ensures.questions
+returns-clause-questions g c = heeded_as _ _ _ _ _ _ _ _ (none_asked is_interrupted c.map_listed.result c.map_listed.ensures.uninterrupted) c.in_ok-drive.ensures.questions
 
 pub map_listed-requires-clause-unrefused : goal.map_listed-requires-clause-unrefused
 map_listed-requires-clause-unrefused g c =

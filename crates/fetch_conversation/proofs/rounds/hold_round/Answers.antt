@@ -9,7 +9,7 @@ use Rattle.fetch_conversation.specs.ListStage.{shown, pending_of}
 use Rattle.fetch_conversation.specs.Rounds.{CourseValue}
 use Rattle.fetch_conversation.specs.declared.fetch.Error.TheVariants as errors
 use Rattle.fetch_conversation.proofs.Held.{IsNext, Exchanged, unanswered, untold, unwindowed}
-use Rattle.fetch_conversation.proofs.Heeded.{heeded_still, heeded_as, heeded_err}
+use Rattle.fetch_conversation.proofs.Heeded.{heeded_still, heeded_as}
 use Rattle.fetch_conversation.proofs.rounds.hold_round.Goals as goal
 
 pub returns-in_err-round-clause-held : goal.returns-in_err-round-clause-held
@@ -68,17 +68,17 @@ returns-in-None-clause-held g c =
 pub returns-in_err-round-clause-questions : goal.returns-in_err-round-clause-questions
 returns-in_err-round-clause-questions g c =
     let p = err_from_is_err_and c.from_residual.result c.from_residual.ensures.1 in
-    rw (p.1, p.2) (heeded_still _ _ _)
+    rw (p.1, p.2) (heeded_still _ _ _ _ refl)
 
 pub returns-in_err-exchange-clause-questions : goal.returns-in_err-exchange-clause-questions
 returns-in_err-exchange-clause-questions g c =
     let p = err_from_is_err_and c.from_residual-in_err-exchange.result c.from_residual-in_err-exchange.ensures.1 in
-    rw (p.1, p.2) (heeded_err _ _ _ _ _ _ c.in_err-exchange.ensures.questions)
+    rw (p.1, p.2) (heeded_as _ _ _ _ _ _ _ _ refl c.in_err-exchange.ensures.questions)
 
 pub returns-in_err-take_in-in-Some-clause-questions : goal.returns-in_err-take_in-in-Some-clause-questions
 returns-in_err-take_in-in-Some-clause-questions g c =
     let p = err_from_is_err_and c.from_residual-in_err-take_in-in-Some.result c.from_residual-in_err-take_in-in-Some.ensures.1 in
-    rw (p.1, p.2) (heeded_as _ _ _ _ _ _ c.in_ok-exchange.ensures.questions)
+    rw (p.1, p.2) (heeded_as _ _ _ _ _ _ _ _ refl c.in_ok-exchange.ensures.questions)
 
 pub returns-in-None-clause-questions : goal.returns-in-None-clause-questions
-returns-in-None-clause-questions g c = heeded_as _ _ _ _ _ _ c.in_ok-exchange.ensures.questions
+returns-in-None-clause-questions g c = heeded_as _ _ _ _ _ _ _ _ refl c.in_ok-exchange.ensures.questions

@@ -9,13 +9,14 @@ use Rattle.fetch_negotiate.specs.Any.{algorithm_of}
 use Rattle.fetch_negotiate.specs.declared.algorithm.Algorithm.{Algorithm}
 use Rattle.fetch_conversation.specs.ConverseStage.{algorithm_in}
 use Rattle.fetch_conversation.specs.Conversing.{Holds, course_of, terms_told}
+use Rattle.fetch_conversation.specs.Errors.{is_stopped}
 use Rattle.fetch_conversation.specs.Exchange.{TermsValue}
 use Rattle.fetch_conversation.specs.ListStage.{ListedValue, shown, pending_of}
 use Rattle.fetch_conversation.specs.Rounds.{CourseValue, first_course}
 use Rattle.fetch_conversation.specs.declared.conversing.Terms.{Terms}
 use Rattle.fetch_conversation.specs.declared.fetch.Error.{Error}
 use Rattle.fetch_conversation.specs.declared.fetch.Error.TheVariants as errors
-use Rattle.fetch_conversation.proofs.Heeded.{heeded_still, heeded_then, heeded_as, heeded_err}
+use Rattle.fetch_conversation.proofs.Heeded.{heeded_still, heeded_then, heeded_as}
 use Rattle.fetch_conversation.proofs.Held.{goes_again, goes_to_end, goes_off, goes_out, goes_nowhere}
 use Rattle.fetch_conversation.proofs.rounds.negotiate.Goals as goal
 
@@ -88,7 +89,7 @@ loop-preserved g c =
       counts = Counts-then (g.P.Peer.faults c.args.peer.now) (g.P.Peer.faults c.loop.peer) (g.P.Peer.faults c.hold_round.new.peer) i.counts e.counts;
       asked = Counts-then (g.I.Interrupt.yes c.args.interrupt.now) (g.I.Interrupt.yes c.loop.interrupt) (g.I.Interrupt.yes c.hold_round.new.interrupt) i.asked e.asked;
       quiet = e.uninterrupted ∙ i.quiet;
-      questions = heeded_then _ _ _ _ _ _ tt (Ok tt) i.questions (heeded_as _ _ _ _ _ (Ok tt) e.questions);
+      questions = heeded_then is_stopped is_stopped _ _ _ _ _ _ (Ok tt) (Ok tt) refl i.questions (heeded_as _ is_stopped _ _ _ _ _ (Ok tt) refl e.questions);
     }
 
 pub returns-clause-held : goal.returns-clause-held
@@ -103,20 +104,20 @@ returns-clause-held g c =
 pub returns-in_err-most-clause-questions : goal.returns-in_err-most-clause-questions
 returns-in_err-most-clause-questions g c =
     let p = err_from_is_err_and c.from_residual.result c.from_residual.ensures.1 in
-    rw (p.1, p.2) (heeded_still _ _ _)
+    rw (p.1, p.2) (heeded_still _ _ _ _ refl)
 
 pub returns-in_err-course-clause-questions : goal.returns-in_err-course-clause-questions
 returns-in_err-course-clause-questions g c =
     let p = err_from_is_err_and c.from_residual-in_err-course.result c.from_residual-in_err-course.ensures.1 in
-    rw (p.1, p.2) (heeded_still _ _ _)
+    rw (p.1, p.2) (heeded_still _ _ _ _ refl)
 
 pub returns-in_err-hold_round-clause-questions : goal.returns-in_err-hold_round-clause-questions
 returns-in_err-hold_round-clause-questions g c =
     let p = err_from_is_err_and c.from_residual-in_err-hold_round.result c.from_residual-in_err-hold_round.ensures.1 in
-    rw (p.1, p.2) (heeded_then _ _ _ _ _ _ tt _ c.loop.invariant.questions (heeded_err _ _ _ _ _ _ c.in_err-hold_round.ensures.questions))
+    rw (p.1, p.2) (heeded_then _ _ _ _ _ _ _ _ _ _ refl c.loop.invariant.questions (heeded_as _ _ _ _ _ _ _ _ refl c.in_err-hold_round.ensures.questions))
 
 pub returns-then-branch-clause-questions : goal.returns-then-branch-clause-questions
-returns-then-branch-clause-questions g c = heeded_then _ _ _ _ _ _ tt _ c.loop.invariant.questions (heeded_as _ _ _ _ _ _ c.in_ok-hold_round.ensures.questions)
+returns-then-branch-clause-questions g c = heeded_then _ _ _ _ _ _ _ _ _ _ refl c.loop.invariant.questions (heeded_as _ _ _ _ _ _ _ _ refl c.in_ok-hold_round.ensures.questions)
 
 pub returns-clause-questions : goal.returns-clause-questions
-returns-clause-questions g c = heeded_as _ _ _ _ _ _ c.loop.invariant.questions
+returns-clause-questions g c = heeded_as _ _ _ _ _ _ _ _ refl c.loop.invariant.questions

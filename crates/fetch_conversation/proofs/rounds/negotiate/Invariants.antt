@@ -5,6 +5,7 @@ use Rattle.fetch_negotiate.specs.Any.{algorithm_of, known_by}
 use Rattle.fetch_negotiate.specs.Reading.{IsTold}
 use Rattle.fetch_conversation.specs.ConverseStage.{algorithm_in}
 use Rattle.fetch_conversation.specs.Conversing.{course_of, terms_told}
+use Rattle.fetch_conversation.specs.Errors.{is_stopped}
 use Rattle.fetch_conversation.specs.ListStage.{IsReady, shown, pending_of}
 use Rattle.fetch_conversation.specs.Receiving.{IsHeeded}
 use Rattle.fetch_conversation.specs.Rounds.{first_course}
@@ -24,5 +25,5 @@ invariant-loop g l = record {
   counts : Counts (g.P.Peer.faults l.fn.peer) (g.P.Peer.faults l.peer);
   asked : Counts (g.I.Interrupt.yes l.fn.interrupt) (g.I.Interrupt.yes l.interrupt);
   quiet : (g.I.Interrupt.yes l.interrupt).count ≡ (g.I.Interrupt.yes l.fn.interrupt).count;
-  questions : IsHeeded {T = Unit {0}} {E = Error} (g.I.Interrupt.will_stop l.fn.interrupt) (g.I.Interrupt.will_stop l.interrupt) (g.P.Peer.told l.fn.peer) (g.P.Peer.told l.peer) (Ok tt);
+  questions : IsHeeded {T = Unit {0}} {E = Error} is_stopped (g.I.Interrupt.will_stop l.fn.interrupt) (g.I.Interrupt.will_stop l.interrupt) (g.P.Peer.told l.fn.peer) (g.P.Peer.told l.peer) (Ok tt);
 }
