@@ -347,7 +347,7 @@ resting s is = (well_by s (refusal_of s) (is_all_sent s) (is_some s.intake.readi
 -- ---- what a call answers
 
 -- an error but want of memory is the refusal
-refuses_with : {X : Type 0} (refusal : Option WireError) (f : WireError) → RefusesUnless {X = X} is_memory refusal (Err f) → f ≢ wire.NoMemory → refusal ≡ Some f
+refuses_with : (refusal : Option WireError) (f : WireError) → RefusesUnless {X = Unit {0}} is_memory refusal (Err f) → f ≢ wire.NoMemory → refusal ≡ Some f
 refuses_with refusal (wire.Malformed place) h other = h
 refuses_with refusal (wire.ServerError text) h other = h
 refuses_with refusal (wire.ReplyTooLong bound) h other = h
@@ -381,7 +381,7 @@ no_answer : (e : WireError) (refusal : Option WireError) → refusal ≡ Some e 
 no_answer e refusal is none = absurd (cc)
 
 -- which is a refusal
-pub end_refuses : (s : SessionState) → turn_of s ≡ turns.Receive → IsAwaiting s → RefusesUnless is_memory (refusal_of (ended s)) (Ok tt) → ⊥
+pub end_refuses : (s : SessionState) → turn_of s ≡ turns.Receive → IsAwaiting s → RefusesUnless {X = Unit {0}} is_memory (refusal_of (ended s)) (Ok tt) → ⊥
 end_refuses s turn short h =
     let well = receiving s turn in
     let end = end_at s short.0 s.trouble (told_with s.intake []) well.trouble short.1 in
@@ -398,7 +398,7 @@ refused_stands now s f isnt turn h = λ other.
     let is = refuses_f failed.0 f (refusal_of (ended s)) (stuck_end s failed.0 s.trouble (told_with s.intake []) x.trouble x.trouble) h other in
     (sym x.sent, inl (x.trouble ∙ ap (λ (e : WireError). Some e) (sym is)))
 
-pub refused_answers : (s : SessionState) → s.refused ≡ false → turn_of s ≡ turns.Failed → RefusesUnless is_memory (refusal_of (ended s)) (Ok tt) → ⊥
+pub refused_answers : (s : SessionState) → s.refused ≡ false → turn_of s ≡ turns.Failed → RefusesUnless {X = Unit {0}} is_memory (refusal_of (ended s)) (Ok tt) → ⊥
 refused_answers s isnt turn h =
     let failed = failed_by (refusal_of s) (is_all_sent s) (is_some s.intake.reading) turn in
     let x = stands s failed.0 isnt failed.1 in
