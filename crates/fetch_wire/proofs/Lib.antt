@@ -18,3 +18,6 @@ pub mod ListingLines
 pub mod ReplyLines
 pub mod AdvertisementLines
 pub mod ReadBack
+pub mod Spelled
+pub mod SpelledListing
+pub mod SpelledReply

@@ -36,3 +36,4 @@ pub mod SessionStates
 pub mod NamesTold
 pub mod ServerLines
 pub mod AdvertisementLines
+pub mod Spellings

@@ -50,6 +50,9 @@ ghost use Rattle.fetch_wire.specs.declared.awaited.Told.TheVariants as told;
 ghost use Rattle.fetch_wire.specs.Bands.{Band, pack_lines, packed};
 ghost use Rattle.fetch_wire.specs.Lines.{line_len};
 ghost use Rattle.fetch_wire.specs.Written.{line_text, too_long_in};
+ghost use Rattle.fetch_wire.specs.Spellings.{IsGreeting, IsListing, IsReply};
+ghost use Rattle.fetch_wire.specs.declared.handshake.Handshake.{Handshake};
+ghost use Rattle.fetch_wire.specs.declared.records.FetchReply.{FetchReply};
 
 /// A line that was read is four digits of either case that write its number, and its payload, within the bound.
 pub fn lines_are_read_as_written()
@@ -227,4 +230,22 @@ pub fn replies_that_are_read_are_lines()
 /// A reply is too long exactly where its first lines go on, and the digits of the line behind them pass the bound.
 pub fn replies_that_are_too_long()
     ensures { (bound : ℕ) (awaited : Await) (bytes : List ℕ) → (told_at bound awaited bytes ≡ Err fault.TooLong) ↔ IsTooLong step_of bound (start_of awaited) bytes }
+{}
+
+/// A greeting of version 2 that was read is one, as its grammar writes it.
+pub fn greetings_that_are_read_are_greetings()
+    ensures { (bound : ℕ) (bytes rest : List ℕ) (handshake : Handshake) → told_at bound await.Greeting bytes ≡ Ok (told.Greeting handshake, rest)
+        → (lines : List Line) × Writes bound 0 lines rest bytes × IsGreeting handshake lines }
+{}
+
+/// A listing that was read is one, as its grammar writes it.
+pub fn listings_that_are_read_are_listings()
+    ensures { (bound : ℕ) (kind : Kind) (bytes rest : List ℕ) (refs : List Ref) → told_at bound (await.Listing kind) bytes ≡ Ok (told.Listing refs, rest)
+        → (lines : List Line) × Writes bound 0 lines rest bytes × IsListing kind refs lines }
+{}
+
+/// A reply to a fetch request that was read is one, as its grammar writes it.
+pub fn replies_that_are_read_are_replies()
+    ensures { (bound : ℕ) (asked : AskedReply) (bytes rest : List ℕ) (reply : FetchReply) → told_at bound (Reply asked) bytes ≡ Ok (told.Reply reply, rest)
+        → (lines : List Line) × Writes bound 0 lines rest bytes × IsReply asked reply lines }
 {}

@@ -1,0 +1,11 @@
+use Rattle.fetch_wire.specs.Awaited.{step_of}
+use Rattle.fetch_wire.specs.declared.awaited.Told.TheVariants as tolds
+use Rattle.fetch_wire.specs.declared.reading.Reading.TheVariants as reading
+use Rattle.fetch_wire.proofs.ReadBack.{told_were}
+use Rattle.fetch_wire.proofs.Spelled.{greeted}
+use Rattle.fetch_wire.proofs.laws.greetings_that_are_read_are_greetings.Goals as goal
+
+pub returns : goal.returns
+returns c = λ bound bytes rest h is.
+    let w = told_were step_of bound 0 reading.Greeting bytes rest (tolds.Greeting h) is in
+    (w.0, w.1, greeted w.0 h w.2)

@@ -1,0 +1,14 @@
+use Rattle.std.proofs.Common.{[]}
+use Rattle.fetch_wire.specs.Awaited.{step_of}
+use Rattle.fetch_wire.specs.declared.awaited.Await.TheVariants as awaits
+use Rattle.fetch_wire.specs.declared.awaited.Told.TheVariants as tolds
+use Rattle.fetch_wire.specs.declared.reading.Reading.TheVariants as reading
+use Rattle.fetch_wire.proofs.ReadBack.{told_were}
+use Rattle.fetch_wire.proofs.NamedOnce.{names_once}
+use Rattle.fetch_wire.proofs.SpelledListing.{listing_told}
+use Rattle.fetch_wire.proofs.laws.listings_that_are_read_are_listings.Goals as goal
+
+pub returns : goal.returns
+returns c = λ bound kind bytes rest refs is.
+    let w = told_were step_of bound 0 (reading.Listing kind []) bytes rest (tolds.Listing refs) is in
+    (w.0, w.1, listing_told kind refs w.0 w.2 (names_once bound (awaits.Listing kind) bytes rest (tolds.Listing refs) is))
