@@ -21,3 +21,4 @@ pub mod ReadBack
 pub mod Spelled
 pub mod SpelledListing
 pub mod SpelledReply
+pub mod SpelledAdvertisement

@@ -292,7 +292,6 @@ no_version_greets (line ∷ next ∷ lines) h (t, goes_on, tells) =
 
 -- ---- the whole
 
-
 pub greeting_never_ends : (text : List ℕ) (x : Told) → at_greeting text ≢ ends x
 greeting_never_ends text x = λ is. by_version (is_version_2 text) (is_version_1 text) is
   where

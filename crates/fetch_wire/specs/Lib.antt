@@ -37,3 +37,4 @@ pub mod NamesTold
 pub mod ServerLines
 pub mod AdvertisementLines
 pub mod Spellings
+pub mod AdvertisementSpellings

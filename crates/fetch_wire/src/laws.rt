@@ -50,6 +50,7 @@ ghost use Rattle.fetch_wire.specs.declared.awaited.Told.TheVariants as told;
 ghost use Rattle.fetch_wire.specs.Bands.{Band, pack_lines, packed};
 ghost use Rattle.fetch_wire.specs.Lines.{line_len};
 ghost use Rattle.fetch_wire.specs.Written.{line_text, too_long_in};
+ghost use Rattle.fetch_wire.specs.AdvertisementSpellings.{IsAdvertisement};
 ghost use Rattle.fetch_wire.specs.Spellings.{IsGreeting, IsListing, IsReply};
 ghost use Rattle.fetch_wire.specs.declared.handshake.Handshake.{Handshake};
 ghost use Rattle.fetch_wire.specs.declared.records.FetchReply.{FetchReply};
@@ -236,6 +237,12 @@ pub fn replies_that_are_too_long()
 pub fn greetings_that_are_read_are_greetings()
     ensures { (bound : ℕ) (bytes rest : List ℕ) (handshake : Handshake) → told_at bound await.Greeting bytes ≡ Ok (told.Greeting handshake, rest)
         → (lines : List Line) × Writes bound 0 lines rest bytes × IsGreeting handshake lines }
+{}
+
+/// An advertisement of version 1 that was read is one, as its grammar writes it.
+pub fn advertisements_that_are_read_are_advertisements()
+    ensures { (bound : ℕ) (bytes rest : List ℕ) (handshake : Handshake) (refs : List Ref) → told_at bound await.Greeting bytes ≡ Ok (told.Advertisement handshake refs, rest)
+        → (lines : List Line) × Writes bound 0 lines rest bytes × IsAdvertisement handshake refs lines }
 {}
 
 /// A listing that was read is one, as its grammar writes it.
