@@ -107,6 +107,11 @@ pub record BorderChange : Type 0 where
   pub shallow : List ObjectId
   pub unshallow : List ObjectId
 
+-- the change that lists of these ids are: those that come, and those that leave
+abbrev pub change_of : Option (List ObjectId × List ObjectId) → Option BorderChange
+change_of None = None
+change_of (Some (shallow, unshallow)) = Some (record { shallow = shallow; unshallow = unshallow })
+
 -- its ids are of this kind
 pub record IsChangeOf (kind : Kind) (change : BorderChange) : Type 0 where
   pub shallow : All (IsIdOf kind) change.shallow

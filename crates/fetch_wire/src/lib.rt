@@ -2,6 +2,7 @@
 #![tactic(auto)]
 
 mod advertisement;
+mod advertising;
 mod awaited;
 mod bound;
 mod cloning;
@@ -24,6 +25,7 @@ mod reader;
 mod reading;
 mod records;
 mod reference;
+mod reply_lines;
 mod reply_reader;
 mod request_lines;
 mod requests;
@@ -35,6 +37,7 @@ mod turn;
 mod words;
 mod write;
 
+pub use advertising::advertisement_lines;
 pub use awaited::{AskedReply, Await, Fault, Told};
 pub use bound::ReplyBound;
 pub use conversation::Session;
@@ -47,6 +50,7 @@ pub use peer::{Interrupt, Peer, SendFault};
 pub use reader::{LineReader, Need};
 pub use records::{FetchReply, Request};
 pub use reference::{Ref, Source};
+pub use reply_lines::{last_lines, ready_lines};
 pub use reply_reader::ReplyReader;
 pub use requests::{agent_text, append_head, append_when, first_line, joined, listing_request};
 pub use scripted::{ScriptedInterrupt, ScriptedPeer};

@@ -29,7 +29,7 @@ fn capability_text(alloc: Global, capability: &Capability) -> Result<Text, NoMem
     Ok(Text::from(text))
 }
 
-fn append_capabilities(
+pub(crate) fn append_capabilities(
     alloc: Global,
     texts: &mut Vec<Text>,
     capabilities: &[Capability],
@@ -43,7 +43,7 @@ fn append_capabilities(
 }
 
 /// A line for each text, and the flush.
-fn flushed(alloc: Global, texts: &[Text]) -> Result<Vec<Line>, NoMemory>
+pub(crate) fn flushed(alloc: Global, texts: &[Text]) -> Result<Vec<Line>, NoMemory>
     ensures { IfOk result (λ found. found.items ≡ sent texts.now ++ lines.Flush ∷ []) }
 {
     let mut lines = Vec::new(alloc);
@@ -63,7 +63,7 @@ pub fn greeting_lines(alloc: Global, capabilities: &[Capability]) -> Result<Vec<
 }
 
 /// `unborn`, or an id.
-fn id_text(alloc: Global, id: Option<&ObjectId>) -> Result<Text, NoMemory>
+pub(crate) fn id_text(alloc: Global, id: Option<&ObjectId>) -> Result<Text, NoMemory>
     ensures { IfOk result (λ text. text ≡ id_text (option_copied id.entry)) }
 {
     match id {
@@ -76,7 +76,7 @@ fn id_text(alloc: Global, id: Option<&ObjectId>) -> Result<Text, NoMemory>
 }
 
 /// Appends a space, a word and what is behind it.
-fn append_word(out: &mut Vec<u8>, word: &[u8], rest: &[u8]) -> Result<(), NoMemory>
+pub(crate) fn append_word(out: &mut Vec<u8>, word: &[u8], rest: &[u8]) -> Result<(), NoMemory>
     ensures { OnOk result (out.new.items ≡ out.old.items ++ 32 ∷ (word.now ++ rest.now)) }
 {
     out.extend_from_slice(b" ")?;
@@ -138,25 +138,31 @@ pub fn listing_lines(alloc: Global, refs: &[Ref]) -> Result<Vec<Line>, NoMemory>
     flushed(alloc, &texts)
 }
 
-/// `ACK <id>`.
-fn ack_text(alloc: Global, id: &ObjectId) -> Result<Text, NoMemory>
-    ensures { IfOk result (λ text. text ≡ codes "ACK " ++ encode_lower (bytes_of id.now)) }
+/// A word and an id.
+fn worded_id(alloc: Global, word: &[u8], id: &ObjectId) -> Result<Text, NoMemory>
+    ensures { IfOk result (λ text. text ≡ word.now ++ encode_lower (bytes_of id.now)) }
 {
     let digits = hex::encode(alloc, id.as_bytes())?;
-    joined(alloc, b"ACK ", digits.as_bytes())
+    joined(alloc, word, digits.as_bytes())
 }
 
-fn append_acks(alloc: Global, texts: &mut Vec<Text>, ids: &[ObjectId]) -> Result<(), NoMemory>
-    ensures { OnOk result (texts.new.items ≡ texts.old.items ++ id_lines (codes "ACK ") ids.now) }
+/// Appends a word and an id, for each id.
+pub(crate) fn append_ids(
+    alloc: Global,
+    texts: &mut Vec<Text>,
+    word: &[u8],
+    ids: &[ObjectId],
+) -> Result<(), NoMemory>
+    ensures { OnOk result (texts.new.items ≡ texts.old.items ++ id_lines word.now ids.now) }
 {
     for id in ids {
-        texts.push(ack_text(alloc, id)?)?;
+        texts.push(worded_id(alloc, word, id)?)?;
     }
     Ok(())
 }
 
 /// `ACK <id>` for each id, or `NAK` where there is none.
-fn append_acknowledged(
+pub(crate) fn append_acknowledged(
     alloc: Global,
     texts: &mut Vec<Text>,
     ids: &[ObjectId],
@@ -168,7 +174,7 @@ fn append_acknowledged(
             texts.push(Text::new(alloc, b"NAK")?)?;
             Ok(())
         }
-        [_, ..] => append_acks(alloc, texts, ids),
+        [_, ..] => append_ids(alloc, texts, b"ACK ", ids),
     }
 }
 
