@@ -1,5 +1,5 @@
 -- Lines that were read are texts, and what they say.
-use Rattle.std.proofs.Common.{◌≡◌, ◌≢◌, ◌⊎◌, inl, inr, ℕ, ◌+◌, ◌-◌, Bool, true, false, not, ◌&&◌, List, [], ◌∷◌, ◌++◌, map, length, take, get_or, slice_index_or, Option, Some, None, refl, sym, ap, ◌∙◌, subst, append_assoc, arith, All, codes, bytes_eq, ◌==◌}
+use Rattle.std.proofs.Common.{◌≡◌, ◌≢◌, ◌⊎◌, inl, inr, ℕ, ◌+◌, ◌-◌, Bool, true, false, not, ◌&&◌, List, [], ◌∷◌, ◌++◌, map, length, take, get_or, slice_index_or, Option, Some, None, refl, sym, ap, ◌∙◌, subst, append_assoc, arith, All, codes, ◌==◌}
 use Rattle.std.specs.Prelude.{nat_eq, ⊤, if◌then◌else◌}
 use Rattle.std.specs.List.{starts_with, list_all}
 use Rattle.std.specs.Option.{option_map, option_and_then, option_or}
@@ -23,14 +23,14 @@ use Rattle.fetch_wire.specs.declared.reading.Reading.{Reading}
 use Rattle.fetch_wire.specs.declared.reading.Reading.TheVariants as reading
 use Rattle.fetch_wire.specs.declared.reference.Ref.{Ref}
 use Rattle.fetch_wire.specs.Advertisements.{is_version_1, with_words, handshake_1, id_and_name, before_peel, is_no_name, is_null, advertised, with_peel, at_name, at_reference, at_advertised, first_named, at_first}
-use Rattle.fetch_wire.specs.Awaited.{step_of, start_of, at_capability, at_greeting}
+use Rattle.fetch_wire.specs.Awaited.{step_of, at_capability, at_greeting}
 use Rattle.fetch_wire.specs.FetchReplies.{shallow_in}
 use Rattle.fetch_wire.specs.Greetings.{capability_in, key_and_value, if_key, if_known, is_known, handshake_of, is_version_2}
 use Rattle.fetch_wire.specs.LinesTold.{Tells}
 use Rattle.fetch_wire.specs.ServerLines.{with_value, capability_text, IsTellable}
-use Rattle.fetch_wire.specs.Spellings.{IsText, AreTexts, AreFlushed, IsGreeting}
+use Rattle.fetch_wire.specs.Spellings.{IsText, AreFlushed, IsGreeting}
 use Rattle.fetch_wire.specs.Stepping.{Step, goes, ends, breaks, says, or_breaks}
-use Rattle.fetch_wire.specs.Steps.{by_line, by_payload, error_text}
+use Rattle.fetch_wire.specs.Steps.{by_line, error_text}
 use Rattle.fetch_wire.specs.Texts.{is_error, without_lf}
 use Rattle.fetch_wire.specs.Words.{words}
 

@@ -1,11 +1,11 @@
 -- Lines that were read as an advertisement of version 1, and what they say.
 use Rattle.std.proofs.Common.{◌≡◌, ◌≢◌, ◌⊎◌, inl, inr, ℕ, ◌-◌, Bool, true, false, not, ◌&&◌, List, [], ◌∷◌, ◌++◌, map, length, take, drop, Option, Some, None, refl, sym, ap, ap₂, ◌∙◌, subst, append_assoc, take-append-drop, All, codes, bytes_eq, ◌==◌}
-use Rattle.std.specs.Prelude.{nat_eq, ⊤, if◌then◌else◌}
-use Rattle.std.specs.List.{list_all, starts_with}
+use Rattle.std.specs.Prelude.{if◌then◌else◌}
+use Rattle.std.specs.List.{list_all}
 use Rattle.std.specs.Option.{option_map, option_and_then, option_or}
 use Rattle.std.proofs.lemmas.Bool.{eqb-true}
 use Rattle.std.proofs.lemmas.List.{append-nil}
-use Rattle.std.proofs.lemmas.List.Elements.{All-nil, All-cons, All-head, All-tail, All-append}
+use Rattle.std.proofs.lemmas.List.Elements.{All-nil, All-cons, All-head, All-tail}
 use Rattle.std.proofs.lemmas.Slice.Eq.{bytes_eq-Decides}
 use Rattle.fetch_store.specs.Id.{id_in_hex}
 use Rattle.fetch_store.specs.Lines.{IsWithout}
@@ -26,8 +26,7 @@ use Rattle.fetch_wire.specs.declared.reading.Reading.{Reading}
 use Rattle.fetch_wire.specs.declared.reading.Reading.TheVariants as reading
 use Rattle.fetch_wire.specs.declared.reference.Ref.{Ref}
 use Rattle.fetch_wire.specs.declared.reference.Ref.TheVariants.{Direct, Symbolic, Peeled, Unborn}
-use Rattle.fetch_wire.specs.AdvertisementSpellings.{some_words, AreWords, IsNamed, ArePeels, IsAdvertised, AreAdvertised, AreReferences, AreShallow, IsAdvertisement}
-use Rattle.fetch_wire.specs.AdvertisementLines.{joined}
+use Rattle.fetch_wire.specs.AdvertisementSpellings.{some_words, AreWords, IsNamed, ArePeels, AreAdvertised, AreReferences, AreShallow, IsAdvertisement}
 use Rattle.fetch_wire.specs.Advertisements.{is_version_1, with_word, with_words, handshake_1, target_among, id_and_name, before_peel, is_no_name, is_null, advertised, peeled_to, with_peel, at_name, at_reference, at_advertised, first_named, at_first}
 use Rattle.fetch_wire.specs.Awaited.{step_of, at_greeting}
 use Rattle.fetch_wire.specs.FetchReplies.{shallow_in}
@@ -36,14 +35,14 @@ use Rattle.fetch_wire.specs.LinesTold.{Tells}
 use Rattle.fetch_wire.specs.Listings.{is_listed, ref_with}
 use Rattle.fetch_wire.specs.NamesTold.{AreNamedOnce}
 use Rattle.fetch_wire.specs.References.{name_in, id_in, peeled_in, target_in}
-use Rattle.fetch_wire.specs.ServerLines.{capability_text, spaced, IsTellable}
-use Rattle.fetch_wire.specs.Spellings.{IsText, AreTexts, AreFlushed, Spells}
-use Rattle.fetch_wire.specs.Stepping.{Step, goes, ends, breaks, or_breaks}
+use Rattle.fetch_wire.specs.ServerLines.{capability_text, IsTellable}
+use Rattle.fetch_wire.specs.Spellings.{IsText, AreFlushed, Spells}
+use Rattle.fetch_wire.specs.Stepping.{goes, ends, breaks, or_breaks}
 use Rattle.fetch_wire.specs.Texts.{is_error}
 use Rattle.fetch_wire.specs.Words.{words}
 use Rattle.fetch_wire.proofs.Peeling.{peel_front}
-use Rattle.fetch_wire.proofs.Spelled.{if_step, text_goes, text_ends, flush_ends, never_ends, flushed_more, flushed_none, WasTold, capability_told, chosen, greeting_never_ends, no_capabilities}
-use Rattle.fetch_wire.proofs.SpelledListing.{Worded, Wording, wording, Made, made}
+use Rattle.fetch_wire.proofs.Spelled.{if_step, text_goes, text_ends, flush_ends, never_ends, flushed_more, flushed_none, capability_told, chosen, greeting_never_ends, no_capabilities}
+use Rattle.fetch_wire.proofs.SpelledListing.{wording, made}
 
 exactly : (a b : List ℕ) → bytes_eq a b ≡ true → a ≡ b
 exactly a b is = (bytes_eq-Decides a b).0 is

@@ -1,5 +1,5 @@
 -- Lines that were read as a listing, and the references that they are.
-use Rattle.std.proofs.Common.{◌≡◌, ◌≢◌, ℕ, Bool, true, false, not, List, [], ◌∷◌, ◌++◌, map, Option, Some, None, IfSome, refl, sym, ap, ◌∙◌, subst, ap₂, append_assoc, All, codes, bytes_eq, ◌==◌}
+use Rattle.std.proofs.Common.{◌≡◌, ℕ, Bool, true, false, List, [], ◌∷◌, ◌++◌, map, Option, Some, None, IfSome, refl, sym, ap, ◌∙◌, subst, ap₂, append_assoc, All, codes, bytes_eq, ◌==◌}
 use Rattle.std.specs.Prelude.{if◌then◌else◌}
 use Rattle.std.specs.Option.{option_map, option_and_then, option_or}
 use Rattle.std.proofs.lemmas.Bool.{eqb-true}
@@ -27,8 +27,8 @@ use Rattle.fetch_wire.specs.Listings.{Attributes, no_attributes, with_target, wi
 use Rattle.fetch_wire.specs.NamesTold.{AreNamedOnce}
 use Rattle.fetch_wire.specs.References.{name_in, id_in, peeled_in, target_in}
 use Rattle.fetch_wire.specs.ServerLines.{spaced, IsWord}
-use Rattle.fetch_wire.specs.Spellings.{IsText, AreFlushed, Spells, Attribute, Target, Peels, Other, attribute_text, IsAttribute, last_target, last_peeled, SpellsBorn, IsRef, AreRefs, IsListing}
-use Rattle.fetch_wire.specs.Stepping.{Step, goes, ends, breaks, or_breaks}
+use Rattle.fetch_wire.specs.Spellings.{AreFlushed, Attribute, Target, Peels, Other, attribute_text, IsAttribute, last_target, last_peeled, SpellsBorn, IsRef, AreRefs, IsListing}
+use Rattle.fetch_wire.specs.Stepping.{ends, breaks}
 use Rattle.fetch_wire.specs.Words.{words, before_first}
 use Rattle.fetch_wire.proofs.Spelled.{text_goes, flush_ends, some_goes, never_ends, flushed_more, flushed_none}
 

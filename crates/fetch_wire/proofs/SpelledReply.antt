@@ -17,16 +17,15 @@ use Rattle.fetch_wire.specs.declared.awaited.Told.{Told}
 use Rattle.fetch_wire.specs.declared.awaited.Told.TheVariants as tolds
 use Rattle.fetch_wire.specs.declared.line.Line.{Line}
 use Rattle.fetch_wire.specs.declared.line.Line.TheVariants.{Payload, Flush, Delim, End}
-use Rattle.fetch_wire.specs.declared.reading.Part.{Part}
 use Rattle.fetch_wire.specs.declared.reading.Part.TheVariants as parts
 use Rattle.fetch_wire.specs.declared.reading.Reading.{Reading}
 use Rattle.fetch_wire.specs.declared.reading.Reading.TheVariants as reading
 use Rattle.fetch_wire.specs.declared.records.FetchReply.{FetchReply}
 use Rattle.fetch_wire.specs.Awaited.{step_of}
 use Rattle.fetch_wire.specs.Bands.{Band, Piece, Progress, band_line, pieces_of, texts_of, behind}
-use Rattle.fetch_wire.specs.FetchReplies.{no_reply, is_acknowledgments, is_nak, is_ready, is_packfile, is_shallow_info, has_id, if_have, acknowledged_in, shallow_in, unshallow_in, at_packfile, at_rest, at_beginning, at_acknowledgment, at_change, by_band, with_bytes}
+use Rattle.fetch_wire.specs.FetchReplies.{no_reply, is_acknowledgments, is_nak, is_ready, is_packfile, is_shallow_info, has_id, if_have, acknowledged_in, shallow_in, unshallow_in, at_packfile, at_rest, at_beginning, at_acknowledgment, at_change, with_bytes}
 use Rattle.fetch_wire.specs.LinesTold.{Tells}
-use Rattle.fetch_wire.specs.Spellings.{IsText, AreTexts, Spells, Acknowledgment, Nak, Ack, acknowledgment_text, IsAcknowledgment, acknowledged_by, Move, Comes, Leaves, move_text, IsMove, coming, leaving, AreBands, IsPack, AreMoves, all_moves, pack_in, IsRest, AreAcknowledged, IsRound, IsReady, IsReplyTo, IsReply}
+use Rattle.fetch_wire.specs.Spellings.{IsText, AreTexts, Spells, Acknowledgment, Nak, Ack, acknowledgment_text, IsAcknowledgment, acknowledged_by, Move, Comes, Leaves, move_text, IsMove, coming, leaving, AreBands, IsPack, pack_in, IsRest, IsReplyTo, IsReply}
 use Rattle.fetch_wire.specs.Stepping.{Step, goes, ends, breaks, says, or_breaks}
 use Rattle.fetch_wire.proofs.Spelled.{if_step, text_goes, text_ends, flush_ends, some_goes, never_ends}
 
