@@ -20,5 +20,7 @@ pub mod AdvertisementLines
 pub mod ReadBack
 pub mod Spelled
 pub mod SpelledListing
+pub mod SpelledPack
 pub mod SpelledReply
+pub mod SpelledNames
 pub mod SpelledAdvertisement

@@ -1,12 +1,9 @@
 -- Lines that were read as the reply to a fetch request, and what they say.
-use Rattle.std.proofs.Common.{◌≡◌, ◌≢◌, ◌⊎◌, inl, inr, ℕ, Bool, true, false, List, [], ◌∷◌, ◌++◌, map, Option, Some, None, refl, sym, ap, ap₂, ◌∙◌, subst, append_assoc, All, codes, bytes_eq, ◌==◌}
+use Rattle.std.proofs.Common.{◌≡◌, ◌≢◌, ◌⊎◌, inl, inr, ℕ, Bool, true, false, List, [], ◌∷◌, ◌++◌, map, Option, Some, None, refl, sym, ap, ◌∙◌, subst, append_assoc, All, codes}
 use Rattle.std.specs.Prelude.{if◌then◌else◌}
-use Rattle.std.specs.List.{concat}
 use Rattle.std.specs.Option.{option_and_then}
-use Rattle.std.proofs.lemmas.Bool.{eqb-true}
 use Rattle.std.proofs.lemmas.List.{append-nil}
 use Rattle.std.proofs.lemmas.List.Elements.{All-nil, All-cons}
-use Rattle.std.proofs.lemmas.Slice.Eq.{bytes_eq-Decides}
 use Rattle.fetch_store.specs.Id.{id_in_hex}
 use Rattle.fetch_store.specs.Scan.{after}
 use Rattle.fetch_store.specs.declared.id.Kind.{Kind}
@@ -22,170 +19,12 @@ use Rattle.fetch_wire.specs.declared.reading.Reading.{Reading}
 use Rattle.fetch_wire.specs.declared.reading.Reading.TheVariants as reading
 use Rattle.fetch_wire.specs.declared.records.FetchReply.{FetchReply}
 use Rattle.fetch_wire.specs.Awaited.{step_of}
-use Rattle.fetch_wire.specs.Bands.{Band, Piece, Progress, band_line, pieces_of, texts_of, behind}
-use Rattle.fetch_wire.specs.FetchReplies.{no_reply, is_acknowledgments, is_nak, is_ready, is_packfile, is_shallow_info, has_id, if_have, acknowledged_in, shallow_in, unshallow_in, at_packfile, at_rest, at_beginning, at_acknowledgment, at_change, with_bytes}
+use Rattle.fetch_wire.specs.FetchReplies.{no_reply, is_acknowledgments, is_nak, is_ready, is_shallow_info, has_id, if_have, acknowledged_in, shallow_in, unshallow_in, at_packfile, at_rest, at_beginning, at_acknowledgment, at_change}
 use Rattle.fetch_wire.specs.LinesTold.{Tells}
-use Rattle.fetch_wire.specs.Spellings.{IsText, AreTexts, Spells, Acknowledgment, Nak, Ack, acknowledgment_text, IsAcknowledgment, acknowledged_by, Move, Comes, Leaves, move_text, IsMove, coming, leaving, AreBands, IsPack, pack_in, IsRest, IsReplyTo, IsReply}
-use Rattle.fetch_wire.specs.Stepping.{Step, goes, ends, breaks, says, or_breaks}
+use Rattle.fetch_wire.specs.Spellings.{IsText, AreTexts, Spells, Acknowledgment, Nak, Ack, acknowledgment_text, IsAcknowledgment, acknowledged_by, Move, Comes, Leaves, move_text, IsMove, coming, leaving, IsRest, IsReplyTo, IsReply}
+use Rattle.fetch_wire.specs.Stepping.{Step, goes, ends, breaks, or_breaks}
 use Rattle.fetch_wire.proofs.Spelled.{if_step, text_goes, text_ends, flush_ends, some_goes, never_ends}
-
-exactly : (a b : List ℕ) → bytes_eq a b ≡ true → a ≡ b
-exactly a b is = (bytes_eq-Decides a b).0 is
-
--- ---- bands
-
--- bands behind what was read of the pack
-record Banded (asked : AskedReply) (reply : FetchReply) (pack : List ℕ) (progress : List (List ℕ)) (lines : List Line) (x : Told) : Type 0 where
-  bands : List Band
-  is : lines ≡ map band_line bands ++ Flush ∷ []
-  told : x ≡ tolds.Reply (behind reply (pack ++ concat (pieces_of bands)) (progress ++ texts_of bands))
-
-band_ends : (asked : AskedReply) (reply : FetchReply) (pack : List ℕ) (progress : List (List ℕ)) (line : Line) (x : Told) → step_of (reading.Reply asked parts.Bands (behind reply pack progress)) line ≡ ends x → Banded asked reply pack progress (line ∷ []) x
-unfolding step_of
-band_ends asked reply pack progress (Payload []) x is = absurd cc
-band_ends asked reply pack progress (Payload (band ∷ bytes)) x is = by_one (band == 1) (band == 2) (band == 3) is
-  where
-    by_one : (a b c : Bool)
-        → if_step a (goes (reading.Reply asked parts.Bands (record (behind reply pack progress) { pack = with_bytes (Some pack) bytes })))
-        (if_step b (goes (reading.Reply asked parts.Bands (record (behind reply pack progress) { progress = progress ++ bytes ∷ [] }))) (if_step c (says bytes) breaks)) ≡ ends x → Banded asked reply pack progress (Payload (band ∷ bytes) ∷ []) x
-    by_one true b c h = absurd cc
-    by_one false true c h = absurd cc
-    by_one false false true h = absurd cc
-    by_one false false false h = absurd cc
-band_ends asked reply pack progress Flush x is = record { bands = []; is = refl; told = (let e : tolds.Reply (behind reply pack progress) ≡ x = cc in sym e) ∙ ap₂ (λ (p : List ℕ) (q : List (List ℕ)). tolds.Reply (behind reply p q)) (sym (append-nil pack)) (sym (append-nil progress)) }
-band_ends asked reply pack progress Delim x is = absurd cc
-band_ends asked reply pack progress End x is = absurd cc
-
--- the band that a line was
-record OneBand (asked : AskedReply) (reply : FetchReply) (pack : List ℕ) (progress : List (List ℕ)) (line : Line) (t : Reading) : Type 0 where
-  band : Band
-  is : line ≡ band_line band
-  goes_on : t ≡ reading.Reply asked parts.Bands (behind reply (pack ++ concat (pieces_of (band ∷ []))) (progress ++ texts_of (band ∷ [])))
-
-band_goes : (asked : AskedReply) (reply : FetchReply) (pack : List ℕ) (progress : List (List ℕ)) (line : Line) (t : Reading) → step_of (reading.Reply asked parts.Bands (behind reply pack progress)) line ≡ goes t → OneBand asked reply pack progress line t
-unfolding step_of
-band_goes asked reply pack progress (Payload []) t is = absurd cc
-band_goes asked reply pack progress (Payload (band ∷ bytes)) t is = by_one (band == 1) (band == 2) (band == 3) refl refl is
-  where
-    by_one : (a b c : Bool) → (band == 1) ≡ a → (band == 2) ≡ b
-        → if_step a (goes (reading.Reply asked parts.Bands (record (behind reply pack progress) { pack = with_bytes (Some pack) bytes })))
-        (if_step b (goes (reading.Reply asked parts.Bands (record (behind reply pack progress) { progress = progress ++ bytes ∷ [] }))) (if_step c (says bytes) breaks)) ≡ goes t → OneBand asked reply pack progress (Payload (band ∷ bytes)) t
-    by_one true b c e f h = record {
-      band = Piece bytes;
-      is = ap (λ (n : ℕ). Payload (n ∷ bytes)) (eqb-true _ _ e);
-      goes_on = (let s : reading.Reply asked parts.Bands (behind reply (pack ++ bytes) progress) ≡ t = cc in sym s)
-          ∙ ap₂ (λ (p : List ℕ) (q : List (List ℕ)). reading.Reply asked parts.Bands (behind reply (pack ++ p) q)) (sym (append-nil bytes)) (sym (append-nil progress));
-    }
-    by_one false true c e f h = record {
-      band = Progress bytes;
-      is = ap (λ (n : ℕ). Payload (n ∷ bytes)) (eqb-true _ _ f);
-      goes_on = (let s : reading.Reply asked parts.Bands (behind reply pack (progress ++ bytes ∷ [])) ≡ t = cc in sym s)
-          ∙ ap (λ (p : List ℕ). reading.Reply asked parts.Bands (behind reply p (progress ++ bytes ∷ []))) (sym (append-nil pack));
-    }
-    by_one false false true e f h = absurd cc
-    by_one false false false e f h = absurd cc
-band_goes asked reply pack progress Flush t is = absurd cc
-band_goes asked reply pack progress Delim t is = absurd cc
-band_goes asked reply pack progress End t is = absurd cc
-
-pieces_more : (band : Band) (bands : List Band) → concat (pieces_of (band ∷ [])) ++ concat (pieces_of bands) ≡ concat (pieces_of (band ∷ bands))
-pieces_more (Piece bytes) bands = append_assoc bytes [] (concat (pieces_of bands))
-pieces_more (Progress text) bands = refl
-
-texts_more : (band : Band) (bands : List Band) → texts_of (band ∷ []) ++ texts_of bands ≡ texts_of (band ∷ bands)
-texts_more (Piece bytes) bands = refl
-texts_more (Progress text) bands = refl
-
-banded : (asked : AskedReply) (reply : FetchReply) (pack : List ℕ) (progress : List (List ℕ)) (lines : List Line) (x : Told) → Tells step_of (reading.Reply asked parts.Bands (behind reply pack progress)) lines x → Banded asked reply pack progress lines x
-banded asked reply pack progress [] x h = absurd h
-banded asked reply pack progress (line ∷ []) x h = band_ends asked reply pack progress line x h
-banded asked reply pack progress (line ∷ next ∷ lines) x (t, goes_on, h) =
-    let one = band_goes asked reply pack progress line t goes_on in
-    let p = pack ++ concat (pieces_of (one.band ∷ [])) in
-    let q = progress ++ texts_of (one.band ∷ []) in
-    let more = banded asked reply p q (next ∷ lines) x (subst (λ (r : Reading). Tells step_of r (next ∷ lines) x) one.goes_on h) in
-    record {
-      bands = one.band ∷ more.bands;
-      is = ap₂ (λ (l : Line) (ls : List Line). l ∷ ls) one.is more.is;
-      told = more.told ∙ ap₂ (λ (a : List ℕ) (b : List (List ℕ)). tolds.Reply (behind reply a b))
-          (append_assoc pack (concat (pieces_of (one.band ∷ []))) (concat (pieces_of more.bands)) ∙ ap (λ (a : List ℕ). pack ++ a) (pieces_more one.band more.bands))
-          (append_assoc progress (texts_of (one.band ∷ [])) (texts_of more.bands) ∙ ap (λ (b : List (List ℕ)). progress ++ b) (texts_more one.band more.bands));
-    }
-
--- ---- the pack
-
--- a reply to which nothing of a pack was added yet
-abbrev bare : List ObjectId → List ObjectId → List ObjectId → FetchReply
-bare ids shallow unshallow = record { acknowledged = ids; shallow = shallow; unshallow = unshallow; pack = None; progress = []; last = true }
-
--- the reply with these bands
-abbrev packing : Bool → FetchReply → List Band → FetchReply
-packing reads reply bands = record reply { pack = pack_in reads bands; progress = texts_of bands }
-
-record Packed (asked : AskedReply) (ids shallow unshallow : List ObjectId) (lines : List Line) (x : Told) : Type 0 where
-  bands : List Band
-  is : IsPack asked bands lines
-  told : x ≡ tolds.Reply (packing asked.read_pack (bare ids shallow unshallow) bands)
-
--- the step that `packfile` makes
-record PackGoes (asked : AskedReply) (reply : FetchReply) (said : List ℕ) (t : Reading) : Type 0 where
-  text : said ≡ codes "packfile"
-  reads : asked.read_pack ≡ true
-  goes_on : reading.Reply asked parts.Bands (record reply { pack = Some [] }) ≡ t
-
-pack_goes : (asked : AskedReply) (reply : FetchReply) (said : List ℕ) (t : Reading) → at_packfile asked reply said ≡ goes t → PackGoes asked reply said t
-unfolding is_packfile
-pack_goes asked reply said t is = by_word (is_packfile said) asked.read_pack refl refl is
-  where
-    by_word : (a b : Bool) → is_packfile said ≡ a → asked.read_pack ≡ b
-        → if_step a (if_step b (goes (reading.Reply asked parts.Bands (record reply { pack = Some [] }))) (ends (tolds.Reply reply))) breaks ≡ goes t → PackGoes asked reply said t
-    by_word true true e f h = record { text = exactly said (codes "packfile") e; reads = f; goes_on = cc }
-    by_word true false e f h = absurd cc
-    by_word false b e f h = absurd cc
-
-record PackEnds (asked : AskedReply) (reply : FetchReply) (said : List ℕ) (x : Told) : Type 0 where
-  text : said ≡ codes "packfile"
-  unread : asked.read_pack ≡ false
-  told : tolds.Reply reply ≡ x
-
-pack_ends : (asked : AskedReply) (reply : FetchReply) (said : List ℕ) (x : Told) → at_packfile asked reply said ≡ ends x → PackEnds asked reply said x
-unfolding is_packfile
-pack_ends asked reply said x is = by_word (is_packfile said) asked.read_pack refl refl is
-  where
-    by_word : (a b : Bool) → is_packfile said ≡ a → asked.read_pack ≡ b
-        → if_step a (if_step b (goes (reading.Reply asked parts.Bands (record reply { pack = Some [] }))) (ends (tolds.Reply reply))) breaks ≡ ends x → PackEnds asked reply said x
-    by_word true true e f h = absurd cc
-    by_word true false e f h = record { text = exactly said (codes "packfile") e; unread = f; told = cc }
-    by_word false b e f h = absurd cc
-
-pack_ended : (asked : AskedReply) (ids shallow unshallow : List ObjectId) (said : List ℕ) (line : Line) (x : Told) → IsText said line → at_packfile asked (bare ids shallow unshallow) said ≡ ends x → Packed asked ids shallow unshallow (line ∷ []) x
-pack_ended asked ids shallow unshallow said line x is h =
-    let e = pack_ends asked (bare ids shallow unshallow) said x h in
-    record {
-      bands = [];
-      is = (subst (λ (t : List ℕ). IsText t line) e.text is, subst (λ (b : Bool). AreBands b [] []) (sym e.unread) (refl, refl));
-      told = sym e.told ∙ ap (λ (b : Bool). tolds.Reply (packing b (bare ids shallow unshallow) [])) (sym e.unread);
-    }
-
-pack_went : (asked : AskedReply) (ids shallow unshallow : List ObjectId) (said : List ℕ) (line next : Line) (lines : List Line) (t : Reading) (x : Told) → IsText said line → at_packfile asked (bare ids shallow unshallow) said ≡ goes t
-    → Tells step_of t (next ∷ lines) x → Packed asked ids shallow unshallow (line ∷ next ∷ lines) x
-pack_went asked ids shallow unshallow said line next lines t x is h tells =
-    let reply = bare ids shallow unshallow in
-    let g = pack_goes asked reply said t h in
-    let more = banded asked reply [] [] (next ∷ lines) x (subst (λ (r : Reading). Tells step_of r (next ∷ lines) x) (sym g.goes_on) tells) in
-    record {
-      bands = more.bands;
-      is = (subst (λ (s : List ℕ). IsText s line) g.text is, subst (λ (b : Bool). AreBands b more.bands (next ∷ lines)) (sym g.reads) more.is);
-      told = more.told ∙ ap (λ (b : Bool). tolds.Reply (packing b reply more.bands)) (sym g.reads);
-    }
-
-packed : (asked : AskedReply) (ids shallow unshallow : List ObjectId) (lines : List Line) (x : Told) → Tells step_of (reading.Reply asked parts.Packfile (bare ids shallow unshallow)) lines x → Packed asked ids shallow unshallow lines x
-unfolding step_of
-packed asked ids shallow unshallow [] x h = absurd h
-packed asked ids shallow unshallow (line ∷ []) x h =
-    let e = text_ends (at_packfile asked (bare ids shallow unshallow)) line x h in pack_ended asked ids shallow unshallow e.0 line x e.1 e.2
-packed asked ids shallow unshallow (line ∷ next ∷ lines) x (t, goes_on, h) =
-    let g = text_goes breaks breaks (at_packfile asked (bare ids shallow unshallow)) line t (λ e. cc) (λ e. cc) goes_on in pack_went asked ids shallow unshallow g.0 line next lines t x g.1 g.2 h
+use Rattle.fetch_wire.proofs.SpelledPack.{exactly, bare, packing, packed, pack_ended, pack_went, Packed}
 
 -- ---- the border
 
