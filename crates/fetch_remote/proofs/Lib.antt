@@ -11,6 +11,7 @@ pub mod Refused
 pub mod Ordered
 pub mod Kept
 pub mod Talked
+pub mod Asked
 pub mod Overrides
 pub mod Lost
 pub mod Judged

@@ -85,7 +85,7 @@ forgot answers now known files g before = record {
   heard = [];
   passed = Talks-none answers now;
   front = (lines_text (requests_in g before []), refl);
-  needed = awaited_first (bound_of g) (conversation g before) [];
+  needed = awaited_first (bound_of g) now [] (conversation g before);
   trees = list_of known;
   listed_trees = list_told known;
   why = λ sure. absurd (cc);
@@ -125,7 +125,7 @@ broken_for answers old new known files g before e sure h = record {
 
 -- one that is free
 broken_free : (answers : Bool) (old new : Option Talk) (known : Option (List Worktree)) (files : Option Tree) (g : Given) (before : State) (said heard : List ℕ) (e : FetchError) → is_free e ≡ true → Talks answers old new heard said
-    → IsFront heard (lines_text (held.sent_in (bound_of g) (conversation g before) said)) → IsAwaited (bound_of g) (conversation g before) [] said → IsCounted g (list_of known) before before files files said heard e → IsRefused answers old new known files files g before before e
+    → IsFront heard (lines_text (held.sent_in (bound_of g) (conversation g before) said)) → IsAwaited (bound_of g) old new [] (conversation g before) → IsCounted g (list_of known) before before files files said heard e → IsRefused answers old new known files files g before before e
 broken_free answers old new known files g before said heard e free passed front needed counted = record {
   said = said;
   heard = heard;
@@ -168,7 +168,7 @@ listing_by : (answers : Bool) (old new : Option Talk) (known : Option (List Work
 listing_by answers old new known files g before e h false sure = broken_for answers old new known files g before (preparing e) sure (whole_listing answers old new g before e h)
 listing_by answers old new known files g before e h true free =
     let cut : IsCutListing g before before files files h.said h.heard = record { front = h.front; found = found before files } in
-    broken_free answers old new known files g before h.said h.heard (preparing e) free h.passed (front_listing g before h.said h.heard h.front) (needed_listing g before h.said h.needed) (record {
+    broken_free answers old new known files g before h.said h.heard (preparing e) free h.passed (front_listing g before h.said h.heard h.front) (needed_listing g before old new h.needed) (record {
       transport = λ _. cut;
       interrupted = λ _. cut;
       client = λ is. absurd (no_pack_listing e _ is);
@@ -200,7 +200,7 @@ receiving_by answers old new known files g before e h true free =
       found = found before files;
     } in
     broken_free answers old new known files g before said heard (receiving h.cause) free (Talks-then answers old h.between new h.list.heard h.list.said h.broke.heard h.broke.said h.list.passed h.broke.passed)
-    (front_receiving g before h.listed said behind h.list.heard h.broke.heard later) (needed_receiving g before h.listed h.behind h.list.said h.broke.said h.list.answered h.list.needed h.broke.needed) (record {
+    (front_receiving g before h.listed said behind h.list.heard h.broke.heard later) (needed_receiving answers g before old h.between new h.listed h.behind h.list h.broke.needed) (record {
       transport = λ is. absurd (no_listing_pack h.cause _ is);
       interrupted = λ is. absurd (no_listing_pack h.cause _ is);
       client = λ _. cut;

@@ -17,7 +17,7 @@ pub record Spoke {X E : Type 0} (answers : Bool) (bound : ℕ) (old new : Option
   pub passed : Talks answers old new heard said
   pub asked : (more : List ℕ) → lines_text (sent_in bound c (pending ++ (said ++ more))) ≡ heard
   pub answered : (more : List ℕ) → answer_in bound c (pending ++ (said ++ more)) ≡ Ok (x, rest ++ more)
-  pub needed : IsAwaited bound c pending said
+  pub needed : IsAwaited bound old new pending c
 
 pub spoke : {X E : Type 0} (answers : Bool) (bound : ℕ) (old new : Option Talk) (pending rest : List ℕ) (c : Conversation X E) (x : X) → (h : Concludes answers bound old new pending c x rest)
     → Spoke answers bound old new pending c x rest h.said h.heard
@@ -25,7 +25,7 @@ spoke answers bound old new pending rest c x h = record { passed = h.passed; ask
 
 spoke_end : {X E : Type 0} (answers : Bool) (bound : ℕ) (now : Option Talk) (pending : List ℕ) (x : X) → Spoke {X = X} {E = E} answers bound now now pending (ends (Ok x)) x pending [] []
 unfolding sent_in answer_in
-spoke_end answers bound now pending x = record { passed = Talks-none answers now; asked = λ more. refl; answered = λ more. refl; needed = awaited_first bound (ends (Ok x)) pending }
+spoke_end answers bound now pending x = record { passed = Talks-none answers now; asked = λ more. refl; answered = λ more. refl; needed = awaited_first bound now pending (ends (Ok x)) }
 
 spoke_as : {X E F : Type 0} (answers : Bool) (bound : ℕ) (old new : Option Talk) (pending rest said heard : List ℕ) (g : E → F) (c : Conversation X E) (x : X)
     → Spoke answers bound old new pending c x rest said heard → Spoke answers bound old new pending (told_as g c) x rest said heard
@@ -33,7 +33,7 @@ spoke_as answers bound old new pending rest said heard g c x h = record {
   passed = h.passed;
   asked = λ more. ap lines_text (sent_as bound g c _) ∙ h.asked more;
   answered = λ more. answer_as bound g c _ ∙ ap (map_refusal g) (h.answered more);
-  needed = awaited_as bound g c pending said h.needed;
+  needed = awaited_as bound old new pending g c h.needed;
 }
 
 spoke_then : {X Y E : Type 0} (answers : Bool) (bound : ℕ) (old mid new : Option Talk) (pending rest left said heard said' heard' : List ℕ) (c : Conversation X E) (f : X → Conversation Y E) (x : X) (y : Y)
@@ -42,7 +42,7 @@ spoke_then answers bound old mid new pending rest left said heard said' heard' c
   passed = Talks-then answers old mid new heard said heard' said' h.passed k.passed;
   asked = λ more. rw append_assoc (text_then bound c f _ _ x (h.answered (said' ++ more)) ∙ ap (λ (l : List ℕ). l ++ lines_text (sent_in bound (f x) (rest ++ (said' ++ more)))) (h.asked (said' ++ more)) ∙ ap (λ (l : List ℕ). heard ++ l) (k.asked more));
   answered = λ more. rw append_assoc (answer_then bound c f _ ∙ ap (answer_behind bound f) (h.answered (said' ++ more)) ∙ k.answered more);
-  needed = awaited_then bound pending rest said said' c f x h.answered h.needed k.needed;
+  needed = awaited_then answers bound old mid new pending rest said heard c f x h.passed h.asked h.answered h.needed k.needed;
 }
 
 -- ---- the two stages as one
@@ -69,16 +69,16 @@ told_spoken answers old new g s l r rest h =
 
 -- ---- what was received was awaited
 
--- what the listing awaits, all of it does
-pub needed_listing : (g : Given) (s : State) (said : List ℕ) → IsAwaited (bound_of g) (listing_stage g) [] said → IsAwaited (bound_of g) (conversation g s) [] said
+-- what is due in the listing, is so in all of it
+pub needed_listing : (g : Given) (s : State) (old new : Option Talk) → IsAwaited (bound_of g) old new [] (listing_stage g) → IsAwaited (bound_of g) old new [] (conversation g s)
 unfolding conversation
-needed_listing g s said h = awaited_early (bound_of g) (told_as preparing (listing_stage g)) (receiving_stage g s) [] said (awaited_as (bound_of g) preparing (listing_stage g) [] said h)
+needed_listing g s old new h = awaited_early (bound_of g) old new [] (told_as preparing (listing_stage g)) (receiving_stage g s) (awaited_as (bound_of g) old new [] preparing (listing_stage g) h)
 
--- and what the pack does, behind the listing
-pub needed_receiving : (g : Given) (s : State) (l : ListedValue) (behind said said' : List ℕ) → ((more : List ℕ) → answer_in (bound_of g) (listing_stage g) (said ++ more) ≡ Ok (l, behind ++ more)) → IsAwaited (bound_of g) (listing_stage g) [] said
-    → IsAwaited (bound_of g) (pack_stage g s l) behind said' → IsAwaited (bound_of g) (conversation g s) [] (said ++ said')
+-- and what is due for the pack, behind the listing
+pub needed_receiving : (answers : Bool) (g : Given) (s : State) (old mid new : Option Talk) (l : ListedValue) (behind : List ℕ) → (h : Concludes answers (bound_of g) old mid [] (listing_stage g) l behind)
+    → IsAwaited (bound_of g) mid new behind (pack_stage g s l) → IsAwaited (bound_of g) old new [] (conversation g s)
 unfolding conversation receiving_stage
-needed_receiving g s l behind said said' answered h k =
-    awaited_then (bound_of g) [] behind said said' (told_as preparing (listing_stage g)) (receiving_stage g s) l (λ more. answer_as (bound_of g) preparing (listing_stage g) _ ∙ ap (map_refusal preparing) (answered more))
-    (awaited_as (bound_of g) preparing (listing_stage g) [] said h)
-    (awaited_early (bound_of g) (told_as receiving (pack_stage g s l)) _ behind said' (awaited_as (bound_of g) receiving (pack_stage g s l) behind said' k))
+needed_receiving answers g s old mid new l behind h k =
+    awaited_then answers (bound_of g) old mid new [] behind h.said h.heard (told_as preparing (listing_stage g)) (receiving_stage g s) l h.passed (λ more. ap lines_text (sent_as (bound_of g) preparing (listing_stage g) _) ∙ h.asked more)
+    (λ more. answer_as (bound_of g) preparing (listing_stage g) _ ∙ ap (map_refusal preparing) (h.answered more)) (awaited_as (bound_of g) old mid [] preparing (listing_stage g) h.needed)
+    (awaited_early (bound_of g) mid new behind (told_as receiving (pack_stage g s l)) _ (awaited_as (bound_of g) mid new behind receiving (pack_stage g s l) k))

@@ -23,7 +23,7 @@ use Rattle.fetch_remote.specs.declared.fetch_error.FetchError.TheVariants as err
 use Rattle.fetch_remote.proofs.Received.{is_received}
 
 gives_up : {X E : Type 0} (free : E → Bool) (answers : Bool) (bound : ℕ) (now : Option Talk) (pending : List ℕ) (c : Conversation X E) (e : E) → free e ≡ true → Breaks free answers bound now now pending c e
-gives_up free answers bound now pending c e is = record { said = []; heard = []; passed = Talks-none answers now; needed = awaited_first bound c pending; front = (lines_text (sent_in bound c (pending ++ [])), refl); why = λ sure. absurd (cc (is, sure)) }
+gives_up free answers bound now pending c e is = record { said = []; heard = []; passed = Talks-none answers now; needed = awaited_first bound now pending c; front = (lines_text (sent_in bound c (pending ++ [])), refl); why = λ sure. absurd (cc (is, sure)) }
 
 -- the first stage is refused
 pub stops_listing : (answers : Bool) (old new : Option Talk) (g : Given) (s : State) (e : PrepareError) → Converses is_free_listing answers (bound_of g) old new [] [] (listing_stage g) (Err e) → HasTalked answers old new g s (Err (preparing e))

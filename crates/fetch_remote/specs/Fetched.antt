@@ -49,8 +49,8 @@ listed_in outcome = record { ref_map = outcome.ref_map; handshake = outcome.hand
 pub record HasHeard (answers : Bool) (old new : Option Talk) (g : Given) (before : State) (said : List ℕ) : Type 0 where
   pub passed : Talks answers old new (lines_text (requests_in g before said)) said
   pub same_requests : (more : List ℕ) → lines_text (requests_in g before (said ++ more)) ≡ lines_text (requests_in g before said)
-  -- Nothing was received but while a reply was awaited.
-  pub needed : IsAwaited (bound_of g) (conversation g before) [] said
+  -- Each receive was made where it had heard all that was to be sent so far, and a reply was still awaited.
+  pub needed : IsAwaited (bound_of g) old new [] (conversation g before)
 
 -- ---- what was read
 

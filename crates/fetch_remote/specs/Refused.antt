@@ -141,13 +141,13 @@ pub record IsCounted (g : Given) (trees : List Worktree) (before after : State) 
 -- ---- the refusal
 
 pub record IsRefused (answers : Bool) (old new : Option Talk) (known : Option (List Worktree)) (files files_left : Option Tree) (g : Given) (before after : State) (e : FetchError) : Type 0 where
-  -- What the peer gave in the call is what it said, and it heard a front of the requests for that. Nothing was received
-  -- but while a reply was awaited.
+  -- What the peer gave in the call is what it said, and it heard a front of the requests for that. Each receive was
+  -- made where it had heard all that was to be sent so far, and a reply was still awaited.
   pub said : List ℕ
   pub heard : List ℕ
   pub passed : Talks answers old new heard said
   pub front : IsFront heard (lines_text (requests_in g before said))
-  pub needed : IsAwaited (bound_of g) (conversation g before) [] said
+  pub needed : IsAwaited (bound_of g) old new [] (conversation g before)
   -- The worktrees' list is the one that is told.
   pub trees : List Worktree
   pub listed_trees : IsTold known trees

@@ -8,7 +8,7 @@ ghost use Rattle.fetch_conversation.specs.declared.fetch.Error.TheVariants as re
 ghost use Rattle.fetch_conversation.specs.declared.prepare.Error.TheVariants as prepare_errors;
 ghost use Rattle.fetch_conversation.specs.declared.ref_map.Error.TheVariants as ref_map_errors;
 ghost use Rattle.fetch_update.specs.declared.update.Error.TheVariants as update_errors;
-ghost use Rattle.fetch_remote.specs.Errors.{is_free};
+ghost use Rattle.fetch_remote.specs.Errors.{is_free, is_yes};
 ghost use Rattle.fetch_remote.specs.Fetched.{IsFetched};
 ghost use Rattle.fetch_remote.specs.Fetching.{manner_of, message_of, places_of};
 ghost use Rattle.fetch_remote.specs.Keeping.{made_in, with_keep};
@@ -36,7 +36,7 @@ impl Remote {
     /// Fetches from the remote into a repository: lists its references, asks for what is wanted and isn't there, makes the
     /// keep file of the pack, takes the objects, asks where branches are checked out, and moves the references that the
     /// refspecs map. The keep file is removed then, but stays where no edit stands and the pack has objects. A dry run
-    /// changes nothing. The interrupt is asked before each receive.
+    /// changes nothing. The interrupt is asked once before each receive.
     ///
     /// After an error the references and their logs are as they were found, but for `RemovePackKeepFile`: then they have
     /// moved. Objects and border are as found, unless the error came behind the taking: then they are with all that was
@@ -66,8 +66,8 @@ impl Remote {
         ensures interrupted { IsErrOf result (errors.Prepare (prepare_errors.RefMap ref_map_errors.Interrupted)) → Rose (I.yes interrupt.old) (I.yes interrupt.new) }
         ensures stopped { IsErrOf result (errors.Receive receive_errors.Interrupted) → Rose (I.yes interrupt.old) (I.yes interrupt.new) }
         ensures uninterrupted { OnOk result ((I.yes interrupt.new).count ≡ (I.yes interrupt.old).count) }
-        // The interrupt is asked before each receive.
-        ensures questions { IsHeeded (I.will_stop interrupt.old) (I.will_stop interrupt.new) (P.told peer.old) (P.told peer.new) result }
+        // The interrupt is asked once before each receive, and no oftener.
+        ensures questions { IsHeeded is_yes (I.will_stop interrupt.old) (I.will_stop interrupt.new) (P.told peer.old) (P.told peer.new) result }
         ensures dry { options.dry_run ≡ true → files.new ≡ files.old }
         ensures unread { IfOk result (λ outcome. made_in (setup_of repo.old).settings.git_dir outcome.status ≡ None → files.new ≡ files.old) }
         ensures early { IfErr result (λ e. is_early e ≡ true → files.new ≡ files.old) }

@@ -4,7 +4,6 @@
 pub mod branch;
 mod changing;
 pub mod connect;
-mod copies;
 pub mod delete;
 mod deleting;
 mod direction;

@@ -2,9 +2,8 @@
 
 ghost use Rattle.std.specs.Prelude.{◌≡◌, IfOk};
 
-use crate::copies::copy_option;
 use fetch_conversation::Negotiate;
-use fetch_store::{NoMemory, ObjectId, Text};
+use fetch_store::{NoMemory, ObjectId, Text, TryClone};
 use fetch_update::update;
 use fetch_wire::{Handshake, RefMap};
 
@@ -26,7 +25,7 @@ impl PackOutcome {
         Ok(PackOutcome {
             num_objects: self.num_objects,
             digest: self.digest,
-            keep_path: copy_option(&self.keep_path)?,
+            keep_path: self.keep_path.try_clone()?,
         })
     }
 }

@@ -6,7 +6,7 @@ ghost use Rattle.fetch_store.specs.Collisions.{HasDistinctIds};
 ghost use Rattle.fetch_store.specs.Stores.{AreOf};
 ghost use Rattle.fetch_conversation.specs.Conversation.{Converses};
 ghost use Rattle.fetch_conversation.specs.ConverseStage.{converse_stage};
-ghost use Rattle.fetch_conversation.specs.Errors.{is_free_listing, is_free_receiving};
+ghost use Rattle.fetch_conversation.specs.Errors.{is_free_listing, is_free_receiving, is_interrupted, is_stopped};
 ghost use Rattle.fetch_conversation.specs.ListStage.{list_stage, answer_shown, left_by, IsReady, shown, pending_of};
 ghost use Rattle.fetch_conversation.specs.Receiving.{IsHeeded};
 ghost use Rattle.fetch_conversation.specs.declared.fetch.Error.TheVariants as receive_errors;
@@ -29,8 +29,8 @@ use fetch_wire::{Interrupt, Peer};
 use std::alloc::Global;
 use std::thread::Threads;
 
-/// Asks a remote for the greeting, then for the listing, and maps what is listed. The interrupt is asked before each
-/// receive.
+/// Asks a remote for the greeting, then for the listing, and maps what is listed. The interrupt is asked once before
+/// each receive.
 pub fn list<P: Peer, I: Interrupt>(
     alloc: Global,
     remote: &Remote,
@@ -48,7 +48,7 @@ pub fn list<P: Peer, I: Interrupt>(
     ensures asked { Counts (I.yes interrupt.old) (I.yes interrupt.new) }
     ensures interrupted { IsErrOf result (prepare_errors.RefMap ref_map_errors.Interrupted) → Rose (I.yes interrupt.old) (I.yes interrupt.new) }
     ensures uninterrupted { OnOk result ((I.yes interrupt.new).count ≡ (I.yes interrupt.old).count) }
-    ensures questions { IsHeeded (I.will_stop interrupt.old) (I.will_stop interrupt.new) (P.told peer.old) (P.told peer.new) result }
+    ensures questions { IsHeeded is_interrupted (I.will_stop interrupt.old) (I.will_stop interrupt.new) (P.told peer.old) (P.told peer.new) result }
 {
     let inquiry = Inquiry {
         address: remote.address(),
@@ -60,7 +60,7 @@ pub fn list<P: Peer, I: Interrupt>(
 }
 
 /// Asks for the pack of what is wanted, in rounds that tell which commits are there, and reads it. Where nothing is wanted,
-/// nothing is sent. The interrupt is asked before each receive. In a dry run the last reply is read up to the pack alone.
+/// nothing is sent. The interrupt is asked once before each receive. In a dry run the last reply is read up to the pack alone.
 pub fn converse<R: Threads + Sync, P: Peer, I: Interrupt, Q: Progress, O: Objects>(
     rt: &R,
     alloc: Global,
@@ -93,7 +93,7 @@ pub fn converse<R: Threads + Sync, P: Peer, I: Interrupt, Q: Progress, O: Object
     ensures asked { Counts (I.yes interrupt.old) (I.yes interrupt.new) }
     ensures interrupted { IsErrOf result receive_errors.Interrupted → Rose (I.yes interrupt.old) (I.yes interrupt.new) }
     ensures uninterrupted { OnOk result ((I.yes interrupt.new).count ≡ (I.yes interrupt.old).count) }
-    ensures questions { IsHeeded (I.will_stop interrupt.old) (I.will_stop interrupt.new) (P.told peer.old) (P.told peer.new) result }
+    ensures questions { IsHeeded is_stopped (I.will_stop interrupt.old) (I.will_stop interrupt.new) (P.told peer.old) (P.told peer.new) result }
 {
     let terms = Terms {
         settings,

@@ -8,14 +8,15 @@ ghost use Rattle.fetch_remote.specs.Paths.{shallow_file_of};
 ghost use Rattle.fetch_remote.specs.Repositories as spec;
 ghost use Rattle.fetch_remote.specs.Repositories.{state_of, setup_of};
 
-use crate::copies::copy_option;
 use crate::open_error::OpenError;
 use crate::paths;
 use crate::resolving::resolved;
 use crate::settings::Settings;
 use fetch_config::{File, Meta};
 use fetch_refs::{Refs, Signature};
-use fetch_store::{Border, Kind, List, NoMemory, Object, ObjectId, Store, StoreError, Text};
+use fetch_store::{
+    Border, Kind, List, NoMemory, Object, ObjectId, Store, StoreError, Text, TryClone,
+};
 use std::alloc::Global;
 use std::marker::Model;
 
@@ -72,7 +73,7 @@ impl Parts {
             local: self.local.try_clone(alloc)?,
             committer: self.committer.try_clone()?,
             git_dir: self.git_dir.try_clone()?,
-            workdir: copy_option(&self.workdir)?,
+            workdir: self.workdir.try_clone()?,
             options: self.options.try_clone(alloc)?,
         })
     }
@@ -169,7 +170,7 @@ impl Repository {
             base: self.base.try_clone(alloc)?,
             local: self.local.try_clone(alloc)?,
             overrides: self.overrides.try_clone_with(Text::try_clone)?,
-            workdir: copy_option(&self.workdir)?,
+            workdir: self.workdir.try_clone()?,
             settings: self.settings.try_clone(alloc)?,
         })
     }

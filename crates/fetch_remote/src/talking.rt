@@ -8,6 +8,7 @@ ghost use Rattle.fetch_conversation.specs.Receiving.{IsHeeded};
 ghost use Rattle.fetch_conversation.specs.declared.fetch.Error.TheVariants as receive_errors;
 ghost use Rattle.fetch_conversation.specs.declared.prepare.Error.TheVariants as prepare_errors;
 ghost use Rattle.fetch_conversation.specs.declared.ref_map.Error.TheVariants as ref_map_errors;
+ghost use Rattle.fetch_remote.specs.Errors.{is_yes};
 ghost use Rattle.fetch_remote.specs.Repositories.{state_of, setup_of};
 ghost use Rattle.fetch_remote.specs.Stages as spec;
 ghost use Rattle.fetch_remote.specs.Talking.{HasTalked};
@@ -54,7 +55,7 @@ pub(crate) fn talk<R: Threads + Sync, P: Peer, I: Interrupt>(
     ensures interrupted { IsErrOf result (errors.Prepare (prepare_errors.RefMap ref_map_errors.Interrupted)) → Rose (I.yes interrupt.old) (I.yes interrupt.new) }
     ensures stopped { IsErrOf result (errors.Receive receive_errors.Interrupted) → Rose (I.yes interrupt.old) (I.yes interrupt.new) }
     ensures uninterrupted { OnOk result ((I.yes interrupt.new).count ≡ (I.yes interrupt.old).count) }
-    ensures questions { IsHeeded (I.will_stop interrupt.old) (I.will_stop interrupt.new) (P.told peer.old) (P.told peer.new) result }
+    ensures questions { IsHeeded is_yes (I.will_stop interrupt.old) (I.will_stop interrupt.new) (P.told peer.old) (P.told peer.new) result }
 {
     let FetchOptions {
         map,

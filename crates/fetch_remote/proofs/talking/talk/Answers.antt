@@ -1,11 +1,14 @@
 use Rattle.std.proofs.Common.{refl}
 use Rattle.std.proofs.lemmas.Result.{err_from_is_err_and}
 use Rattle.fetch_remote.proofs.Talked.{stops_listing, stops_between, stops_receiving, ends_both, kind_received, client_is, stopped_is, no_listing, told_same}
-use Rattle.fetch_conversation.proofs.Heeded.{heeded_then, heeded_as, heeded_err}
+use Rattle.fetch_conversation.proofs.Heeded.{heeded_then, heeded_as, same_question}
 use Rattle.fetch_store.specs.Faults.{Rose-earlier}
 use Rattle.fetch_conversation.specs.declared.fetch.Error.TheVariants as receive
 use Rattle.fetch_conversation.specs.declared.prepare.Error.TheVariants as prepare
 use Rattle.fetch_conversation.specs.declared.ref_map.Error.TheVariants as ref_map
+use Rattle.fetch_conversation.specs.Errors.{is_interrupted, is_stopped}
+use Rattle.fetch_remote.specs.Errors.{preparing, receiving, is_yes}
+use Rattle.fetch_remote.proofs.Asked.{listing_yes, receiving_yes}
 use Rattle.fetch_remote.specs.Form.{Given}
 use Rattle.fetch_remote.specs.Repositories.{state_of, setup_of}
 use Rattle.fetch_remote.specs.declared.fetch_error.FetchError.TheVariants as errors
@@ -72,17 +75,17 @@ returns-in_err-received-clause-stopped g c is =
 pub returns-in_err-listed-clause-questions : goal.returns-in_err-listed-clause-questions
 returns-in_err-listed-clause-questions g c =
     let p = err_from_is_err_and c.from_residual.result c.from_residual.ensures.1 in
-    rw (p.1, p.2) (heeded_err _ _ _ _ _ _ c.in_err-listed.ensures.questions)
+    rw (p.1, p.2) (heeded_as _ _ _ _ _ _ _ _ (same_question (Unit {0}) (Unit {0}) is_interrupted is_yes c.in_err-listed.field-0.0 (preparing c.in_err-listed.field-0.0) (listing_yes c.in_err-listed.field-0.0)) c.in_err-listed.ensures.questions)
 
 pub returns-in_err-view-clause-questions : goal.returns-in_err-view-clause-questions
 returns-in_err-view-clause-questions g c =
     let p = err_from_is_err_and c.from_residual-in_err-view.result c.from_residual-in_err-view.ensures.1 in
-    rw (p.1, p.2) (heeded_as _ _ _ _ _ _ c.in_ok-listed.ensures.questions)
+    rw (p.1, p.2) (heeded_as _ _ _ _ _ _ _ _ refl c.in_ok-listed.ensures.questions)
 
 pub returns-in_err-received-clause-questions : goal.returns-in_err-received-clause-questions
 returns-in_err-received-clause-questions g c =
     let p = err_from_is_err_and c.from_residual-in_err-received.result c.from_residual-in_err-received.ensures.1 in
-    rw (p.1, p.2) (heeded_err _ _ _ _ _ _ (heeded_then _ _ _ _ _ _ _ _ c.in_ok-listed.ensures.questions c.in_err-received.ensures.questions))
+    rw (p.1, p.2) (heeded_as _ _ _ _ _ _ _ _ (same_question (Unit {0}) (Unit {0}) is_stopped is_yes c.in_err-received.field-0.0 (receiving c.in_err-received.field-0.0) (receiving_yes c.in_err-received.field-0.0)) (heeded_then _ _ _ _ _ _ _ _ _ _ refl c.in_ok-listed.ensures.questions c.in_err-received.ensures.questions))
 
 pub returns-clause-questions : goal.returns-clause-questions
-returns-clause-questions g c = heeded_as _ _ _ _ _ _ (heeded_then _ _ _ _ _ _ _ _ c.in_ok-listed.ensures.questions c.in_ok-received.ensures.questions)
+returns-clause-questions g c = heeded_as _ _ _ _ _ _ _ _ refl (heeded_then _ _ _ _ _ _ _ _ _ _ refl c.in_ok-listed.ensures.questions c.in_ok-received.ensures.questions)

@@ -2,10 +2,12 @@ use Rattle.std.proofs.Common.{refl, sym, ◌∙◌}
 use Rattle.fetch_update.specs.declared.update.Error.TheVariants as update
 use Rattle.fetch_conversation.specs.declared.fetch.Error.TheVariants as receive
 use Rattle.std.proofs.lemmas.Result.{err_from_is_err_and}
-use Rattle.fetch_conversation.proofs.Heeded.{heeded_still, heeded_as, heeded_err}
+use Rattle.fetch_conversation.proofs.Heeded.{heeded_still, heeded_as, no_question}
 use Rattle.fetch_conversation.specs.ListStage.{shown}
+use Rattle.fetch_remote.specs.Errors.{receiving, is_yes}
 use Rattle.fetch_remote.specs.Repositories.{state_of}
 use Rattle.fetch_remote.specs.declared.fetch_error.FetchError.TheVariants as errors
+use Rattle.fetch_remote.proofs.Asked.{settling_yes}
 use Rattle.fetch_remote.proofs.Complete.{complete}
 use Rattle.fetch_remote.proofs.Fetched.{is_fetched}
 use Rattle.fetch_remote.proofs.Talked.{told_same}
@@ -136,17 +138,18 @@ returns-in_err-outcome-clause-complete g c =
 pub returns-in_err-how-clause-questions : goal.returns-in_err-how-clause-questions
 returns-in_err-how-clause-questions g c =
     let p = err_from_is_err_and c.from_residual.result c.from_residual.ensures.1 in
-    rw (p.1, p.2) (heeded_still _ _ _)
+    rw (p.1, p.2) (heeded_still _ _ _ _ refl)
 
 pub returns-in_err-talked-clause-questions : goal.returns-in_err-talked-clause-questions
 returns-in_err-talked-clause-questions g c =
     let p = err_from_is_err_and c.from_residual-in_err-talked.result c.from_residual-in_err-talked.ensures.1 in
-    rw (p.1, p.2) (heeded_err _ _ _ _ _ _ c.in_err-talked.ensures.questions)
+    rw (p.1, p.2) (heeded_as _ _ _ _ _ _ _ _ refl c.in_err-talked.ensures.questions)
 
 pub returns-in_err-outcome-clause-questions : goal.returns-in_err-outcome-clause-questions
 returns-in_err-outcome-clause-questions g c =
     let p = err_from_is_err_and c.from_residual-in_err-outcome.result c.from_residual-in_err-outcome.ensures.1 in
-    rw (p.1, p.2) (heeded_as _ _ _ _ _ _ c.in_ok-talked.ensures.questions)
+    let e = c.in_err-outcome.field-0.0 in
+    rw (p.1, p.2) (heeded_as _ _ _ _ _ _ _ _ (sym (no_question (Unit {0}) is_yes (receiving e) (settling_yes e c.in_err-outcome.ensures.refused.by.unheard.1))) c.in_ok-talked.ensures.questions)
 
 pub returns-clause-questions : goal.returns-clause-questions
-returns-clause-questions g c = heeded_as _ _ _ _ _ _ c.in_ok-talked.ensures.questions
+returns-clause-questions g c = heeded_as _ _ _ _ _ _ _ _ refl c.in_ok-talked.ensures.questions
