@@ -18,6 +18,7 @@ pub mod Judged
 pub mod Unjudged
 pub mod Lasting
 pub mod Complete
+pub mod Serving
 pub mod Deletions
 pub mod Replaced
 pub mod SectionsBack

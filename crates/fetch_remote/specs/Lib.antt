@@ -20,6 +20,7 @@ pub mod Fetching
 pub mod Fetched
 pub mod Refused
 pub mod Valid
+pub mod Serving
 pub mod Requested
 pub mod Lasting
 pub mod Deleting

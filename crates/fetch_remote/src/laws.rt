@@ -1,8 +1,9 @@
 //! Laws: what holds of the definitions that the contract of a fetch speaks of. Each is the contract of a function
 //! without a body.
 
-ghost use Rattle.std.specs.Prelude.{◌≡◌, ◌≢◌, ℕ, Bool, List, Option, Some, None, Ok, true, false, Contains};
+ghost use Rattle.std.specs.Prelude.{◌≡◌, ◌≢◌, ℕ, Bool, List, ◌++◌, Option, Some, None, Ok, true, false, Contains, IfSome};
 ghost use Rattle.std.specs.FinMap as map;
+ghost use Rattle.fetch_pack.specs.Reading.{Contents};
 ghost use Rattle.fetch_store.specs.Closed.{IsClosed, IsStored, Grows};
 ghost use Rattle.fetch_store.specs.Honest.{IsHonest};
 ghost use Rattle.fetch_store.specs.Stores.{collision};
@@ -15,7 +16,10 @@ ghost use Rattle.fetch_update.specs.declared.mode.Mode.TheVariants as modes;
 ghost use Rattle.fetch_update.specs.declared.update.Update.{Update};
 ghost use Rattle.fetch_update.specs.declared.worktrees.Worktree.{Worktree};
 ghost use Rattle.fetch_wire.specs.Talks.{Talk};
+ghost use Rattle.fetch_wire.specs.declared.handshake.Capability.{Capability};
 ghost use Rattle.fetch_wire.specs.declared.mapping.RefMap.{RefMap};
+ghost use Rattle.fetch_wire.specs.declared.reference.Ref.{Ref};
+ghost use Rattle.fetch_conversation.specs.Writing.{Answer, listing_text, answers_text};
 ghost use Rattle.fetch_conversation.specs.declared.conversing.Received.{Received};
 ghost use Rattle.fetch_remote.specs.Deleting.{IsDeleted};
 ghost use Rattle.fetch_remote.specs.Fetched.{IsFetched, request_in};
@@ -25,8 +29,10 @@ ghost use Rattle.fetch_remote.specs.Form.{Given};
 ghost use Rattle.fetch_remote.specs.Lasting.{updates_in, AcceptsNone, AreAlike, with_packed};
 ghost use Rattle.fetch_remote.specs.Repositories.{RepositoryValue, State, held};
 ghost use Rattle.fetch_remote.specs.Requested.{AsksInOrder};
+ghost use Rattle.fetch_remote.specs.Serving.{listed_by, IsAllStored, IsServed, told_listed, told_served};
 ghost use Rattle.fetch_remote.specs.Settling.{connected, pack_of};
 ghost use Rattle.fetch_remote.specs.Stages.{wants_in};
+ghost use Rattle.fetch_remote.specs.Valid.{IsTakeable, AreJudgeable, policy_with, IsValidInput};
 ghost use Rattle.fetch_remote.specs.declared.outcome.Outcome.{Outcome};
 
 /// What a peer is sent is the first line, the listing request, and then the fetch requests for what is wanted of what it
@@ -40,6 +46,18 @@ pub fn a_fetch_asks_in_order()
 pub fn an_honest_pack_is_never_disconnected()
     ensures { (g : Given) (s : State) (m : RefMap) (r : Received) → IsClosed (held s) → collision s.objects r.objects ≡ None → IsHonest (request_in g s m (haves_in r.negotiate.rounds)) (pack_of r)
         → connected s (wants_in g s m) (pack_of r) ≡ Ok tt }
+{}
+
+/// What a server writes is valid input of a fetch, whatever comes behind: it lists references of which none is wanted, or it
+/// lists them and answers the requests up to a pack that may be taken. In both cases no mapping may be refused.
+pub fn what_a_server_serves_is_valid()
+    ensures listed { (g : Given) (trees : List Worktree) (s : State) (capabilities : List Capability) (refs : List Ref) (rest : List ℕ) → IsAllStored g s capabilities refs
+        → AreJudgeable (policy_with g trees s (told_listed g capabilities refs)) (listed_by g capabilities refs).ref_map
+        → IsValidInput g trees s (listing_text capabilities refs ++ rest) }
+    ensures served { (g : Given) (trees : List Worktree) (s : State) (capabilities : List Capability) (refs : List Ref) (a : Answer) (answers : List Answer) (contents : Contents) (rest : List ℕ) → IsServed g s capabilities refs a answers contents
+        → IfSome (told_served g s capabilities refs a answers contents).received (IsTakeable s (wants_in g s (listed_by g capabilities refs).ref_map))
+        → AreJudgeable (policy_with g trees s (told_served g s capabilities refs a answers contents)) (listed_by g capabilities refs).ref_map
+        → IsValidInput g trees s (listing_text capabilities refs ++ (answers_text a answers ++ rest)) }
 {}
 
 /// A fetch only adds to the objects, and a dry run changes nothing.

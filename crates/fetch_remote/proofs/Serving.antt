@@ -1,0 +1,99 @@
+-- What a server writes is valid input of a fetch.
+use Rattle.std.proofs.Common.{◌≡◌, Bool, true, false, List, [], ◌++◌, ℕ, Option, Some, None, Ok, refl, ap, ◌∙◌}
+use Rattle.std.specs.Prelude.{IfSome}
+use Rattle.fetch_pack.specs.Reading.{Contents}
+use Rattle.fetch_store.specs.Graph.{Graph, graph_of}
+use Rattle.fetch_store.specs.declared.id.ObjectId.{ObjectId}
+use Rattle.fetch_update.specs.declared.worktrees.Worktree.{Worktree}
+use Rattle.fetch_wire.specs.declared.handshake.Capability.{Capability}
+use Rattle.fetch_wire.specs.declared.reference.Ref.{Ref}
+use Rattle.fetch_conversation.specs.Conversation.{Conversation, ends, answer_in, and_then, map_refusal, told_as}
+use Rattle.fetch_conversation.specs.ConverseStage.{converse_stage, wanting, with_pack}
+use Rattle.fetch_conversation.specs.Conversing.{IsClear}
+use Rattle.fetch_conversation.specs.Exchange.{TermsValue}
+use Rattle.fetch_conversation.specs.ListStage.{ListedValue}
+use Rattle.fetch_conversation.specs.Writing.{Answer, listing_text, answers_text, negotiated_in}
+use Rattle.fetch_conversation.specs.declared.conversing.Received.{Received}
+use Rattle.fetch_conversation.specs.declared.fetch.Error.{Error as ReceiveError}
+use Rattle.fetch_conversation.specs.declared.prepare.Error.{Error as PrepareError}
+use Rattle.fetch_conversation.proofs.Chained.{answer_behind, answer_then, answer_as}
+use Rattle.fetch_conversation.proofs.Writing.{written_listing, written_pack}
+use Rattle.fetch_remote.specs.Errors.{preparing, receiving}
+use Rattle.fetch_remote.specs.Form.{Given}
+use Rattle.fetch_remote.specs.Repositories.{State}
+use Rattle.fetch_remote.specs.Serving.{listed_by, IsListed, IsAllStored, IsServed, told_listed, told_served}
+use Rattle.fetch_remote.specs.Settling.{brought}
+use Rattle.fetch_remote.specs.Stages.{Told, bound_of, wants_in, terms_in, listing_stage, pack_stage, receiving_stage, conversation}
+use Rattle.fetch_remote.specs.Valid.{IsTakeable, AreJudgeable, policy_with, IsValidInput}
+use Rattle.fetch_remote.specs.declared.fetch_error.FetchError.{FetchError}
+
+-- ---- one stage behind the other
+
+told_end : (bound : ℕ) (l : ListedValue) (r : Option Received) (rest : List ℕ) → answer_in {X = Told} {E = FetchError} bound (ends (Ok (record { listed = l; received = r }))) rest ≡ Ok (record { listed = l; received = r }, rest)
+unfolding answer_in
+told_end bound l r rest = refl
+
+receives : (g : Given) (s : State) (l : ListedValue) (r : Option Received) (stream rest : List ℕ) → answer_in (bound_of g) (pack_stage g s l) stream ≡ Ok (r, rest)
+    → answer_in (bound_of g) (receiving_stage g s l) stream ≡ Ok (record { listed = l; received = r }, rest)
+unfolding receiving_stage
+receives g s l r stream rest is =
+    let f : Option Received → Conversation Told FetchError = λ x. ends (Ok (record { listed = l; received = x })) in
+    answer_then (bound_of g) (told_as receiving (pack_stage g s l)) f stream
+    ∙ ap (answer_behind (bound_of g) f) (answer_as (bound_of g) receiving (pack_stage g s l) stream ∙ ap (map_refusal receiving) is)
+    ∙ told_end (bound_of g) l r rest
+
+both : (g : Given) (s : State) (l : ListedValue) (r : Option Received) (stream mid rest : List ℕ) → answer_in (bound_of g) (listing_stage g) stream ≡ Ok (l, mid) → answer_in (bound_of g) (pack_stage g s l) mid ≡ Ok (r, rest)
+    → answer_in (bound_of g) (conversation g s) stream ≡ Ok (record { listed = l; received = r }, rest)
+unfolding conversation
+both g s l r stream mid rest first second =
+    answer_then (bound_of g) (told_as preparing (listing_stage g)) (receiving_stage g s) stream
+    ∙ ap (answer_behind (bound_of g) (receiving_stage g s)) (answer_as (bound_of g) preparing (listing_stage g) stream ∙ ap (map_refusal preparing) first)
+    ∙ receives g s l r mid rest second
+
+-- ---- nothing is wanted
+
+nothing_asked : (bound : ℕ) (g : Graph) (t : TermsValue) (rest : List ℕ) → IsClear t → t.view.wants ≡ [] → answer_in bound (converse_stage bound g t) rest ≡ Ok (None, rest)
+unfolding converse_stage answer_in
+nothing_asked bound g t rest clear none = rw (clear.mapped, clear.alike, clear.fit, clear.offered, none) refl
+
+none_brought : (dry_run : Bool) (p : Received → Type 0) → IfSome (brought dry_run None) p
+none_brought dry_run p = by dry_run
+  where
+    by : (b : Bool) → IfSome (brought b None) p
+    by true = tt
+    by false = tt
+
+pub listed_is_valid : (g : Given) (trees : List Worktree) (s : State) (capabilities : List Capability) (refs : List Ref) (rest : List ℕ) → IsAllStored g s capabilities refs
+    → AreJudgeable (policy_with g trees s (told_listed g capabilities refs)) (listed_by g capabilities refs).ref_map
+    → IsValidInput g trees s (listing_text capabilities refs ++ rest)
+listed_is_valid g trees s capabilities refs rest h judged =
+    let l = listed_by g capabilities refs in
+    record {
+      told = told_listed g capabilities refs;
+      behind = rest;
+      replies = both g s l None (listing_text capabilities refs ++ rest) rest rest (written_listing (bound_of g) _ capabilities refs rest h.listed.askable h.listed.listing) (nothing_asked (bound_of g) (graph_of s.objects) (terms_in g s l) rest h.clear h.unwanted);
+      pack = none_brought g.options.dry_run (IsTakeable s (wants_in g s l.ref_map));
+      mappings = judged;
+    }
+
+-- ---- a pack comes
+
+is_brought : (dry_run : Bool) (r : Received) (p : Received → Type 0) → dry_run ≡ false → p r → IfSome (brought dry_run (Some r)) p
+is_brought dry_run r p kept x = rw kept x
+
+pub served_is_valid : (g : Given) (trees : List Worktree) (s : State) (capabilities : List Capability) (refs : List Ref) (a : Answer) (answers : List Answer) (contents : Contents) (rest : List ℕ) → IsServed g s capabilities refs a answers contents
+    → IfSome (told_served g s capabilities refs a answers contents).received (IsTakeable s (wants_in g s (listed_by g capabilities refs).ref_map))
+    → AreJudgeable (policy_with g trees s (told_served g s capabilities refs a answers contents)) (listed_by g capabilities refs).ref_map
+    → IsValidInput g trees s (listing_text capabilities refs ++ (answers_text a answers ++ rest))
+served_is_valid g trees s capabilities refs a answers contents rest h taken judged =
+    let l = listed_by g capabilities refs in
+    let t : TermsValue = terms_in g s l in
+    let r : Received = with_pack (negotiated_in t (graph_of s.objects) a answers) contents in
+    let answered : List ℕ = answers_text a answers ++ rest in
+    record {
+      told = told_served g s capabilities refs a answers contents;
+      behind = rest;
+      replies = both g s l (Some r) (listing_text capabilities refs ++ answered) answered rest (written_listing (bound_of g) _ capabilities refs answered h.listed.askable h.listed.listing) (written_pack (bound_of g) t (graph_of s.objects) a answers contents rest h.packed);
+      pack = is_brought g.options.dry_run r (IsTakeable s (wants_in g s l.ref_map)) h.packed.kept taken;
+      mappings = judged;
+    }
