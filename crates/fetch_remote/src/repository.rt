@@ -1,6 +1,8 @@
 //! Repositories.
 
-ghost use Rattle.std.specs.Prelude.{◌≡◌, ◌↔◌, IfOk, IfErr, IfSome, OnOk, OnErr, MatchOption, IsOkUnless, IsTrue, IsNone, Some, None, true, not, option_map};
+mod hash;
+
+ghost use Rattle.std.specs.Prelude.{◌≡◌, ◌↔◌, IfOk, IfErr, IfSome, OnOk, OnErr, MatchOption, IsOkUnless, IsTrue, IsNone, Some, None, not, option_map};
 ghost use Rattle.std.specs.FinSet as set;
 ghost use Rattle.fetch_store.specs.Stores.{AreOf, collision};
 ghost use Rattle.fetch_remote.specs.declared.open_error.OpenError.TheVariants as errors;
@@ -296,7 +298,7 @@ impl Repository {
     }
 
     /// The repository's own configuration.
-    pub(crate) fn local(&self) -> &File
+    pub fn local(&self) -> &File
         ensures { result.now ≡ (setup_of self.now).local }
     {
         &self.local
