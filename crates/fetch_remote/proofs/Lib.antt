@@ -16,6 +16,7 @@ pub mod Overrides
 pub mod Lost
 pub mod Judged
 pub mod Unjudged
+pub mod Steps
 pub mod Lasting
 pub mod Complete
 pub mod Serving

@@ -23,6 +23,7 @@ pub mod Refused
 pub mod Valid
 pub mod Serving
 pub mod Requested
+pub mod Steps
 pub mod Lasting
 pub mod Deleting
 pub mod DeletionSteps
