@@ -8,17 +8,18 @@ use Rattle.fetch_remote.specs.declared.fetch_error.FetchError.{FetchError}
 use Rattle.fetch_remote.specs.declared.fetch_error.FetchError.TheVariants as errors
 use Rattle.fetch_remote.specs.declared.outcome.Outcome.{Outcome}
 use Rattle.fetch_wire.specs.declared.line.Line.{Line}
+use Rattle.fetch_cli.specs.Bench.{generated_scene, summary_with, summary_of, IsSummary}
 use Rattle.fetch_cli.specs.Ends.{IsAll, IsLongerThan}
 use Rattle.fetch_cli.specs.Report.{report_with, report_of, given_of, found_of, stream_of, fetched_by, left_by, keep_left_by, IsReport}
 use Rattle.fetch_cli.specs.ReportLines.{malformed_line}
-use Rattle.fetch_cli.specs.Run.{Are, IsSceneAnswer, IsInputAnswer, IsAnswerTo, IsAnswer, IsUnlessFailed, HasValidScene}
+use Rattle.fetch_cli.specs.Run.{Are, IsSceneAnswer, IsInputAnswer, IsAnswerTo, IsAnswer, IsUnlessFailed, HasValidScene, AsksBench, WritesSummary, bench_status}
 use Rattle.fetch_cli.proofs.Reported.{valid_fetched}
 use Rattle.fetch_remote.specs.Valid.{IsValidInput}
 use Rattle.fetch_cli.specs.Scene.{limit, scene_of}
 use Rattle.fetch_cli.specs.Words.{command_of}
 use Rattle.fetch_cli.specs.declared.scene.Scene.{Scene}
 use Rattle.fetch_cli.specs.declared.program.words.Command.{Command}
-use Rattle.fetch_cli.specs.declared.program.words.Command.TheVariants.{Fetch, Help, Version}
+use Rattle.fetch_cli.specs.declared.program.words.Command.TheVariants.{Fetch, Bench, Help, Version}
 
 -- ---- a text that is longer than a scene may be
 
@@ -78,6 +79,17 @@ answered_report scene = answered_with (requests_in (given_of scene) (found_of sc
 known_report : (scene : Scene) (status : ℕ) (text : List ℕ) → IsReport scene status text → IsAnswered status
 known_report scene status text r = answered_by (report_of scene).0 status (sym (ap (λ (x : ℕ × List ℕ). x.0) r.whole)) (answered_report scene)
 
+summed_with : (n : ℕ) (result : Result (Outcome × State) FetchError) → IsAnswered (summary_with n result).0
+summed_with n (Ok x) = zero_answers
+summed_with n (Err e) = one_answers
+
+summed_scene : (n : ℕ) (scene : Scene) → IsAnswered (summary_of n scene).0
+unfolding summary_of
+summed_scene n scene = summed_with n (fetched_by scene)
+
+known_summary : (n : ℕ) (scene : Scene) (status : ℕ) (text : List ℕ) → IsSummary n scene status text → IsAnswered status
+known_summary n scene status text r = answered_by (summary_of n scene).0 status (sym (ap (λ (x : ℕ × List ℕ). x.0) r.whole)) (summed_scene n scene)
+
 known_scene : (found : Result Scene ℕ) (status : ℕ) (text : List ℕ) → IsSceneAnswer found status text → IsAnswered status
 known_scene (Ok scene) status text r = known_report scene status text r
 known_scene (Err place) status text r = answered_by 4 status r.0 four_answers
@@ -86,6 +98,7 @@ known_to : (command : Result Command ℕ) (input : Option (List ℕ)) (status : 
 known_to (Err number) input status text r = answered_by 4 status r.0 four_answers
 known_to (Ok Help) input status text r = answered_by 0 status r.0 zero_answers
 known_to (Ok Version) input status text r = answered_by 0 status r.0 zero_answers
+known_to (Ok (Bench count)) input status text r = known_summary count (generated_scene count) status text r
 known_to (Ok Fetch) input status text r = known_scene (scene_of r.bytes) status text r.answer
 
 pub known : (words : List (List ℕ)) (input : Option (List ℕ)) (status : ℕ) (text : List ℕ) → IsAnswer words input status text → IsAnswered status
@@ -97,6 +110,12 @@ one_report : (s : Scene) (status other : ℕ) (text another : List ℕ) → IsRe
 one_report s status other text another r t =
     let a : (report_of s).0 ≡ status = ap (λ (x : ℕ × List ℕ). x.0) r.whole in
     let b : (report_of s).0 ≡ other = ap (λ (x : ℕ × List ℕ). x.0) t.whole in
+    cc
+
+one_summary : (n : ℕ) (s : Scene) (status other : ℕ) (text another : List ℕ) → IsSummary n s status text → IsSummary n s other another → status ≡ other
+one_summary n s status other text another r t =
+    let a : (summary_of n s).0 ≡ status = ap (λ (x : ℕ × List ℕ). x.0) r.whole in
+    let b : (summary_of n s).0 ≡ other = ap (λ (x : ℕ × List ℕ). x.0) t.whole in
     cc
 
 one_scene : (found : Result Scene ℕ) (status other : ℕ) (text another : List ℕ) → IsSceneAnswer found status text → IsSceneAnswer found other another → status ≡ other
@@ -113,6 +132,7 @@ one_to : (command : Result Command ℕ) (bytes : List ℕ) (status other : ℕ) 
 one_to (Err number) bytes status other text another r t = let a = r.0 in let b = t.0 in cc
 one_to (Ok Help) bytes status other text another r t = let a = r.0 in let b = t.0 in cc
 one_to (Ok Version) bytes status other text another r t = let a = r.0 in let b = t.0 in cc
+one_to (Ok (Bench count)) bytes status other text another r t = one_summary count (generated_scene count) status other text another r t
 one_to (Ok Fetch) bytes status other text another r t = one_input bytes status other text another r t
 
 -- words and input have one status
@@ -120,6 +140,16 @@ pub one : (words : List (List ℕ)) (input : Option (List ℕ)) (bytes : List �
 one words input bytes status other text another told r t =
     let a : IsAnswer words (Some bytes) status text = rw (sym told) r in
     one_to (command_of words) bytes status other text another a.is t.is
+
+-- ---- the bench
+
+-- a bench is answered with its summary
+pub benched : (words : List (List ℕ)) (input : Option (List ℕ)) (count status : ℕ) (text : List ℕ) → AsksBench words count → IsAnswer words input status text → IsSummary count (generated_scene count) status text
+benched words input count status text asks r = rw asks at r.is
+
+-- and that has one status
+pub bench_answered : (words : List (List ℕ)) (input : Option (List ℕ)) (count status : ℕ) (text : List ℕ) → AsksBench words count → IsAnswer words input status text → status ≡ bench_status count
+bench_answered words input count status text asks r = sym (ap (λ (x : ℕ × List ℕ). x.0) (benched words input count status text asks r).whole)
 
 -- ---- valid input
 

@@ -11,6 +11,7 @@ pub mod KeepFiles
 pub mod Fetching
 pub mod HeardLines
 pub mod Reported
+pub mod Summed
 pub mod Answering
 pub mod Sent
 pub mod Requested

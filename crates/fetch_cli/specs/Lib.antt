@@ -18,4 +18,5 @@ pub mod KeepFiles
 pub mod Report
 pub mod Opened
 pub mod Fetched
+pub mod Bench
 pub mod Run

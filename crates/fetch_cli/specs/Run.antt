@@ -4,7 +4,8 @@ use Rattle.std.specs.Io.KnownBytes.{Appends}
 use Rattle.fetch_remote.specs.Valid.{IsValidInput}
 use Rattle.fetch_cli.specs.declared.scene.Scene.{Scene}
 use Rattle.fetch_cli.specs.declared.program.words.Command.{Command}
-use Rattle.fetch_cli.specs.declared.program.words.Command.TheVariants.{Fetch, Help, Version}
+use Rattle.fetch_cli.specs.declared.program.words.Command.TheVariants.{Fetch, Bench, Help, Version}
+use Rattle.fetch_cli.specs.Bench.{generated_scene, summary_of, IsSummary}
 use Rattle.fetch_cli.specs.Ends.{IsFront, IsAll}
 use Rattle.fetch_cli.specs.Report.{given_of, found_of, stream_of, IsReport}
 use Rattle.fetch_cli.specs.ReportLines.{malformed_line, malformed_word_line}
@@ -26,10 +27,12 @@ pub record IsInputAnswer (input : Option (List ℕ)) (status : ℕ) (text : List
   pub read : IsAll input bytes
   pub answer : IsSceneAnswer (scene_of bytes) status text
 
+-- the answer to each word; `bench` is answered the same whatever the input
 abbrev pub IsAnswerTo : Result Command ℕ → Option (List ℕ) → ℕ → List ℕ → Type 0
 IsAnswerTo (Err number) input status text = Are 4 (malformed_word_line number) status text
 IsAnswerTo (Ok Help) input status text = Are 0 help_text status text
 IsAnswerTo (Ok Version) input status text = Are 0 version_text status text
+IsAnswerTo (Ok (Bench count)) input status text = IsSummary count (generated_scene count) status text
 IsAnswerTo (Ok Fetch) input status text = IsInputAnswer input status text
 
 -- what these words are answered, with this input
@@ -39,12 +42,17 @@ pub record IsAnswer (words : List (List ℕ)) (input : Option (List ℕ)) (statu
 -- whether the words ask for a fetch; others leave the source alone
 abbrev pub is_fetch : Result Command ℕ → Bool
 is_fetch (Ok Fetch) = true
+is_fetch (Ok (Bench count)) = false
 is_fetch (Ok Help) = false
 is_fetch (Ok Version) = false
 is_fetch (Err number) = false
 
 abbrev pub asks_fetch : List (List ℕ) → Bool
 asks_fetch words = is_fetch (command_of words)
+
+-- the words are `bench <count>`
+abbrev pub AsksBench : List (List ℕ) → ℕ → Type 0
+AsksBench words count = command_of words ≡ Ok (Bench count)
 
 -- The answer, with this status, was written whole.
 pub record Writes (words : List (List ℕ)) (input old new : Option (List ℕ)) (status : ℕ) : Type 0 where
@@ -73,3 +81,13 @@ pub record HasValidScene (words : List (List ℕ)) (input : Option (List ℕ)) :
   pub told : input ≡ Some bytes
   pub is : scene_of bytes ≡ Ok scene
   pub valid : IsValidInput (given_of scene) scene.worktrees (found_of scene) (stream_of scene)
+
+-- The summary of the scene of so many commits was written whole, with its status.
+pub record WritesSummary (count : ℕ) (old new : Option (List ℕ)) (status : ℕ) : Type 0 where
+  pub text : List ℕ
+  pub summary : IsSummary count (generated_scene count) status text
+  pub wrote : Appends old new text
+
+-- the status of that summary, whatever the source says
+abbrev pub bench_status : ℕ → ℕ
+bench_status count = (summary_of count (generated_scene count)).0

@@ -1,9 +1,7 @@
 -- The references of a scene: no name comes twice.
-use Rattle.std.specs.Prelude.{◌≡◌, ℕ, List, [], ◌∷◌, ◌++◌, Bool, codes, Option, Some, None, Result, Ok, option_and_then, if◌then◌else◌}
+use Rattle.std.specs.Prelude.{ℕ, List, [], ◌∷◌, ◌++◌, Bool, codes, Option, Some, None, Result, Ok, option_and_then, if◌then◌else◌}
 use Rattle.std.specs.List.{list_any}
-use Rattle.std.specs.Cmp.Lexicographic.{slice_cmp}
 use Rattle.std.specs.Option.{ok_or}
-use Rattle.std.specs.Ordering.{nat_cmp, is_eq}
 use Rattle.std.specs.Str.{bytes_eq}
 use Rattle.fetch_store.specs.declared.id.Kind.{Kind}
 use Rattle.fetch_wire.specs.declared.line.Line.{Line}
@@ -14,11 +12,7 @@ use Rattle.fetch_cli.specs.SceneLines.{Placed, Lines, value_of, group_of, behind
 
 -- whether a reference before has the name
 abbrev pub has_name : List Reference → List ℕ → Bool
-has_name before name = list_any (λ (r : Reference). bytes_eq r.name name) before
-
--- a set has the names of these references
-abbrev pub HasNames : List Reference → List (List ℕ) → Type 0
-HasNames references names = (name : List ℕ) → list_any (λ n. is_eq (slice_cmp nat_cmp name n)) names ≡ has_name references name
+has_name before name = list_any (λ (r : Reference). bytes_eq name r.name) before
 
 abbrev pub if_new : List Reference → Reference → Option Reference
 if_new before r = if has_name before r.name then None else Some r

@@ -1,9 +1,9 @@
 -- The words of the command line.
-use Rattle.std.specs.Prelude.{ℕ, List, [], ◌∷◌, codes, Option, Some, None, Result, Err, if◌then◌else◌}
-use Rattle.std.specs.Option.{ok_or}
+use Rattle.std.specs.Prelude.{ℕ, ◌<◌, ◌≤◌, ◌&&◌, nat_lt, nat_le, List, [], ◌∷◌, codes, Option, Some, None, Result, Ok, Err, ⊤, option_and_then, option_map, if◌then◌else◌}
 use Rattle.std.specs.Str.{bytes_eq}
 use Rattle.fetch_cli.specs.declared.program.words.Command.{Command}
-use Rattle.fetch_cli.specs.declared.program.words.Command.TheVariants.{Fetch, Help, Version}
+use Rattle.fetch_cli.specs.declared.program.words.Command.TheVariants.{Fetch, Bench, Help, Version}
+use Rattle.fetch_cli.specs.Numbers.{number_in}
 
 unfoldable pub command_named : List ℕ → Option Command
 command_named word =
@@ -12,20 +12,45 @@ command_named word =
     else if bytes_eq word (codes "--version") then Some Version
     else None
 
--- what a first word asks for that has others behind it; the second is one too many
-abbrev pub with_others : Option Command → Result Command ℕ
-with_others (Some command) = Err 2
-with_others None = Err 1
+-- a word that stands alone; a second one is too many
+abbrev pub alone : Option Command → List (List ℕ) → Result Command ℕ
+alone None others = Err 1
+alone (Some command) [] = Ok command
+alone (Some command) (other ∷ others) = Err 2
 
--- what the words ask for, or the number of the first that is wrong, from 1 on
+-- from 1 to 100,000
+unfoldable pub if_few : ℕ → Option ℕ
+if_few n = if nat_lt 0 n && nat_le n 100000 then Some n else None
+
+-- how many commits a word asks for
+abbrev pub count_in : List ℕ → Option ℕ
+count_in word = option_and_then if_few (number_in word)
+
+-- how many commits the words behind `bench` ask for; a further word is too many
+abbrev pub bench_with : Option ℕ → List (List ℕ) → Result Command ℕ
+bench_with None others = Err 2
+bench_with (Some count) [] = Ok (Bench count)
+bench_with (Some count) (other ∷ others) = Err 3
+
+abbrev pub bench_of : List (List ℕ) → Result Command ℕ
+bench_of [] = Err 2
+bench_of (word ∷ others) = bench_with (count_in word) others
+
+-- what the words ask for, or the number of the first that is wrong or lacking, from 1 on
 unfoldable pub command_of : List (List ℕ) → Result Command ℕ
 command_of [] = Err 1
-command_of (word ∷ []) = ok_or (command_named word) 1
-command_of (word ∷ other ∷ others) = with_others (command_named word)
+command_of (word ∷ others) = if bytes_eq word (codes "bench") then bench_of others else alone (command_named word) others
+
+-- A bench has 1 to 100,000 commits.
+abbrev pub IsWithin : Command → Type 0
+IsWithin (Bench count) = (0 < count) × (count ≤ 100000)
+IsWithin Fetch = ⊤
+IsWithin Help = ⊤
+IsWithin Version = ⊤
 
 -- what `--help` writes
 unfoldable pub help_text : List ℕ
-help_text = codes "usage: bagjulen fetch < SCENE\n\nReads a scene from standard input: a repository, a remote and what its peer says.\nFetches, and writes a report: the lines sent, what became of each reference,\nand the repository as it then stands.\n\nstatus 0  the fetch was done\n       1  it was refused, and the report says why\n       2  the input could not be read\n       3  the output could not be written\n       4  the words or the scene are malformed\n       5  memory ran out\n"
+help_text = codes "usage: bagjulen fetch < SCENE\n       bagjulen bench N\n\nfetch reads a scene from standard input: a repository, a remote and what its peer says.\nIt fetches, and writes a report: the lines sent, what became of each reference,\nand the repository as it then stands.\n\nbench fetches the second half of a line of N commits, from 1 to 100000,\nfrom a server in memory, and writes a summary.\n\nstatus 0  the fetch was done\n       1  it was refused, and the report says why\n       2  the input could not be read\n       3  the output could not be written\n       4  the words or the scene are malformed\n       5  memory ran out\n"
 
 -- what `--version` writes
 unfoldable pub version_text : List ℕ

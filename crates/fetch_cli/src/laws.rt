@@ -7,7 +7,8 @@ ghost use Rattle.fetch_wire.specs.declared.line.Line.{Line};
 ghost use Rattle.fetch_cli.specs.Heard.{AreSent, lines_heard};
 ghost use Rattle.fetch_remote.specs.Fetching.{requests_in};
 ghost use Rattle.fetch_remote.specs.Valid.{IsValidInput};
-ghost use Rattle.fetch_cli.specs.Report.{given_of, found_of, stream_of, requests_of, IsReport};
+ghost use Rattle.fetch_cli.specs.Report.{given_of, found_of, stream_of, requests_of, report_of, IsReport};
+ghost use Rattle.fetch_cli.specs.Bench.{summary_of};
 ghost use Rattle.fetch_cli.specs.declared.scene.Scene.{Scene};
 ghost use Rattle.fetch_cli.specs.SceneConfig.{AreLines, IsOneOf, text_of, file_in};
 
@@ -35,4 +36,9 @@ pub fn a_report_tells_the_requests()
 /// The report of a scene with valid input tells a fetch that was done.
 pub fn a_valid_scene_is_fetched()
     ensures { (scene : Scene) (status : ℕ) (text : List ℕ) → IsValidInput (given_of scene) scene.worktrees (found_of scene) (stream_of scene) → IsReport scene status text → status ≡ 0 }
+{}
+
+/// A bench ends as the report of its scene does: both are done, or both name a refusal.
+pub fn a_summary_has_the_status_of_its_report()
+    ensures { (n : ℕ) (scene : Scene) → (summary_of n scene).0 ≡ (report_of scene).0 }
 {}

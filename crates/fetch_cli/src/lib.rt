@@ -1,27 +1,31 @@
 //! The program as a library: scenes, the report of a fetch, and the words of the command line.
 #![tactic(auto)]
 
+mod bench;
 mod laws;
 mod program;
 mod reporting;
 mod scene;
 
+pub use bench::generate;
 pub use laws::{
     a_configuration_has_the_lines_of_its_scene, a_configuration_is_broken_at_a_line_of_its_scene,
-    a_report_tells_the_requests, a_valid_scene_is_fetched, lines_are_heard_as_written,
+    a_report_tells_the_requests, a_summary_has_the_status_of_its_report, a_valid_scene_is_fetched,
+    lines_are_heard_as_written,
 };
 pub use program::ends::{Sink, Source};
 pub use program::input::{MAX_SCENE, ReadError, read_all};
 pub use program::memory::{MemorySink, MemorySource};
 pub use program::running::run;
 pub use program::standard::{StdSink, StdSource};
-pub use program::words::{Command, HELP, VERSION, read_command};
+pub use program::words::{Command, HELP, MAX_BENCH, VERSION, read_command};
 pub use reporting::lines::{
     append_border, append_hex, append_id, append_keep, append_log, append_malformed,
     append_malformed_word, append_ref, append_refused, append_sent,
 };
 pub use reporting::map_lines::append_map;
 pub use reporting::report;
+pub use reporting::summary::summary;
 pub use reporting::tokens::append_token;
 pub use scene::fault::SceneFault;
 pub use scene::options::SceneOptions;

@@ -6,6 +6,7 @@ pub mod lines;
 pub mod map_lines;
 pub mod setting;
 pub mod state_lines;
+pub mod summary;
 pub mod tokens;
 
 ghost use Rattle.std.specs.Prelude.{◌≡◌, ◌++◌, false, IfOk, OnOk};

@@ -4,16 +4,19 @@ ghost use Rattle.std.specs.Prelude.{◌≡◌, ◌≢◌, ◌≤◌, ◌⊎◌, 
 ghost use Rattle.std.specs.Io.KnownBytes.{Appends, IsAtEnd};
 ghost use Rattle.fetch_store.specs.Faults.{Rose, Counts};
 ghost use Rattle.fetch_store.specs.Stores.{AreOf};
+ghost use Rattle.fetch_cli.specs.Bench.{IsSummary, generated_scene};
 ghost use Rattle.fetch_cli.specs.Report.{IsReport};
 ghost use Rattle.fetch_cli.specs.ReportLines.{malformed_line, malformed_word_line};
-ghost use Rattle.fetch_cli.specs.Run.{Are, IsInputAnswer, IsAnswer, IsUnlessFailed, HasValidScene, Writes, WritesFront, asks_fetch};
-ghost use Rattle.fetch_cli.specs.Words.{help_text, version_text};
+ghost use Rattle.fetch_cli.specs.Run.{Are, IsInputAnswer, IsAnswer, IsUnlessFailed, HasValidScene, AsksBench, Writes, WritesFront, WritesSummary, asks_fetch, bench_status};
+ghost use Rattle.fetch_cli.specs.Words.{IsWithin, help_text, version_text};
 
+use crate::bench::generate;
 use crate::program::ends::{Sink, Source};
 use crate::program::input::{MAX_SCENE, ReadError, read_all};
 use crate::program::words::{Command, HELP, VERSION, read_command};
 use crate::reporting::lines::{append_malformed, append_malformed_word};
 use crate::reporting::report;
+use crate::reporting::summary::summary;
 use crate::scene::fault::SceneFault;
 use crate::scene::{Scene, read_scene};
 use fetch_store::NoMemory;
@@ -82,6 +85,15 @@ fn reported<R: Threads + Sync>(rt: &R, alloc: Global, scene: Scene) -> Result<An
     Ok((status, text))
 }
 
+/// What is told of the fetch of a bench.
+fn benched<R: Threads + Sync>(rt: &R, alloc: Global, count: usize) -> Result<Answer, NoMemory>
+    requires { IsWithin (Command.Bench count) }
+    ensures { IfOk result (λ x. IsSummary count (generated_scene count) x.0 x.1.items) }
+{
+    let scene = generate(alloc, count)?;
+    summary(rt, alloc, count, scene)
+}
+
 /// What is answered to the source's bytes.
 fn answer_to_input<R: Threads + Sync, S: Source>(
     rt: &R,
@@ -123,15 +135,16 @@ fn answer<R: Threads + Sync, S: Source>(
 {
     match read_command(words) {
         Ok(Command::Fetch) => answer_to_input(rt, alloc, source),
+        Ok(Command::Bench(count)) => Ok(benched(rt, alloc, count)?),
         Ok(Command::Help) => Ok(help(alloc)?),
         Ok(Command::Version) => Ok(version(alloc)?),
         Err(number) => Ok(malformed_word(alloc, number)?),
     }
 }
 
-/// Runs the program with the words behind its name, and answers its status: 0 where the fetch was done, or help or the
-/// version was asked for; 1 where the fetch was refused; 2 where the source failed, and 3 where the sink did; 4 where
-/// the words or the scene are malformed; 5 where memory ran out.
+/// Runs the program with the words behind its name, and answers its status: 0 where the fetch, or that of a bench, was
+/// done, or help or the version was asked for; 1 where it was refused; 2 where the source failed, and 3 where the sink
+/// did; 4 where the words or the scene are malformed; 5 where memory ran out.
 pub fn run<R: Threads + Sync, S: Source, K: Sink>(
     rt: &R,
     alloc: Global,
@@ -159,6 +172,9 @@ pub fn run<R: Threads + Sync, S: Source, K: Sink>(
     ensures known { result ≤ 5 }
     // Where the source tells what is in it, the status is that of the one answer.
     ensures exact { (bytes : List ℕ) (status : ℕ) (text : List ℕ) → S.left source.old ≡ Some bytes → IsAnswer (map (λ word. word.items) words.now) (Some bytes) status text → IsUnlessFailed result status }
+    // A bench writes the summary of its scene, with its status.
+    ensures bench { (count : ℕ) → AsksBench (map (λ word. word.items) words.now) count → result ≤ 1 → WritesSummary count (K.taken sink.old) (K.taken sink.new) result }
+    ensures bench_exact { (count : ℕ) → AsksBench (map (λ word. word.items) words.now) count → IsUnlessFailed result (bench_status count) }
     ensures complete { HasValidScene (map (λ word. word.items) words.now) (S.left source.old) → IsUnlessFailed result 0 }
 {
     match answer(rt, alloc, words, source) {

@@ -1,13 +1,20 @@
 //! The words of the command line.
 
-ghost use Rattle.std.specs.Prelude.{◌≡◌, map};
+ghost use Rattle.std.specs.Prelude.{◌≡◌, ◌<◌, ◌≤◌, map, IfOk, IfSome};
 ghost use Rattle.fetch_cli.specs.Words as spec;
+
+use crate::scene::numbers::number;
+
+/// The most commits of a bench.
+pub const MAX_BENCH: usize = 100_000;
 
 /// What the words ask for.
 #[derive(Clone, Copy, Debug, PartialEq, Eq)]
 pub enum Command {
     /// Fetch what the scene at standard input says, and report.
     Fetch,
+    /// Fetch the second half of a line of so many commits, from 1 to 100,000, and sum up.
+    Bench(usize),
     /// Tell how the program is used.
     Help,
     /// Tell which version it is.
@@ -16,14 +23,15 @@ pub enum Command {
 
 /// What `--help` writes.
 pub const HELP: &[u8] =
-    b"usage: bagjulen fetch < SCENE\n\nReads a scene from standard input: a repository, a remote and what its peer says.\nFetches, and writes a report: the lines sent, what became of each reference,\nand the repository as it then stands.\n\nstatus 0  the fetch was done\n       1  it was refused, and the report says why\n       2  the input could not be read\n       3  the output could not be written\n       4  the words or the scene are malformed\n       5  memory ran out\n";
+    b"usage: bagjulen fetch < SCENE\n       bagjulen bench N\n\nfetch reads a scene from standard input: a repository, a remote and what its peer says.\nIt fetches, and writes a report: the lines sent, what became of each reference,\nand the repository as it then stands.\n\nbench fetches the second half of a line of N commits, from 1 to 100000,\nfrom a server in memory, and writes a summary.\n\nstatus 0  the fetch was done\n       1  it was refused, and the report says why\n       2  the input could not be read\n       3  the output could not be written\n       4  the words or the scene are malformed\n       5  memory ran out\n";
 
 /// What `--version` writes.
 pub const VERSION: &[u8] = b"bagjulen 0.1.0\n";
 
 #[tactic(auto, unfolding(crate::specs::Words::command_named))]
 fn named(word: &[u8]) -> Option<Command>
-    ensures { result ≡ spec.command_named word.now }
+    ensures command { result ≡ spec.command_named word.now }
+    ensures within { IfSome result spec.IsWithin }
 {
     if word == b"fetch".as_slice() {
         Some(Command::Fetch)
@@ -36,21 +44,73 @@ fn named(word: &[u8]) -> Option<Command>
     }
 }
 
-/// What the words ask for, or the number of the first that is wrong, from 1 on. These are the words behind
+/// A word that stands alone. A second one is too many.
+fn alone(command: Option<Command>, others: &[Vec<u8>]) -> Result<Command, usize>
+    requires { IfSome command spec.IsWithin }
+    ensures command { result ≡ spec.alone command (map (λ word. word.items) others.now) }
+    ensures within { IfOk result spec.IsWithin }
+{
+    match command {
+        Some(command) => {
+            if others.is_empty() {
+                Ok(command)
+            } else {
+                Err(2)
+            }
+        }
+        None => Err(1),
+    }
+}
+
+/// How many commits a word asks for.
+#[tactic(auto, unfolding(crate::specs::Words::if_few))]
+fn count_in(word: &[u8]) -> Option<usize>
+    ensures count { result ≡ spec.count_in word.now }
+    ensures within { IfSome result (λ count. (0 < count) × (count ≤ MAX_BENCH)) }
+{
+    let count = number(word)?;
+    if 0 < count && count <= MAX_BENCH as u64 {
+        Some(count as usize)
+    } else {
+        None
+    }
+}
+
+/// What the words behind `bench` ask for.
+fn bench(words: &[Vec<u8>]) -> Result<Command, usize>
+    ensures command { result ≡ spec.bench_of (map (λ word. word.items) words.now) }
+    ensures within { IfOk result spec.IsWithin }
+{
+    match words {
+        [] => Err(2),
+        [word, others @ ..] => match count_in(word) {
+            Some(count) => {
+                if others.is_empty() {
+                    Ok(Command::Bench(count))
+                } else {
+                    Err(3)
+                }
+            }
+            None => Err(2),
+        },
+    }
+}
+
+/// What the words ask for, or the number of the first that is wrong or lacking, from 1 on. These are the words behind
 /// the program's name.
 #[tactic(auto, unfolding(crate::specs::Words::command_of))]
 pub fn read_command(words: &[Vec<u8>]) -> Result<Command, usize>
-    ensures { result ≡ spec.command_of (map (λ word. word.items) words.now) }
+    ensures command { result ≡ spec.command_of (map (λ word. word.items) words.now) }
+    ensures within { IfOk result spec.IsWithin }
 {
     match words {
         [] => Err(1),
-        [word] => match named(word) {
-            Some(command) => Ok(command),
-            None => Err(1),
-        },
-        [word, _, ..] => match named(word) {
-            Some(_) => Err(2),
-            None => Err(1),
-        },
+        [word, others @ ..] => {
+            if word.as_slice() == b"bench".as_slice() {
+                bench(others)
+            } else {
+                alone(named(word), others)
+            }
+        }
     }
 }

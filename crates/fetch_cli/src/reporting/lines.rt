@@ -2,7 +2,6 @@
 
 ghost use Rattle.std.specs.Prelude.{◌≡◌, ◌<◌, ◌++◌, decimal, OnOk};
 ghost use Rattle.std.specs.List.{flat_map};
-ghost use Rattle.hex.specs.Hex.{encode_lower};
 ghost use Rattle.fetch_wire.specs.LineViews.{line_of};
 ghost use Rattle.fetch_refs.specs.Targets.{seen};
 ghost use Rattle.fetch_cli.specs.ReportLines as spec;
@@ -67,19 +66,23 @@ pub fn append_sent(out: &mut Vec<u8>, line: LineRef<'_>) -> Result<(), NoMemory>
     Ok(())
 }
 
-fn append_hex_digits(out: &mut Vec<u8>, bytes: &[u8]) -> Result<(), NoMemory>
-    ensures { OnOk result (out.new.items ≡ out.old.items ++ encode_lower bytes.now) }
-{
-    let digits = hex::encode(*out.allocator(), bytes)?;
-    out.extend_from_slice(digits.as_bytes())?;
-    Ok(())
-}
-
 /// The digits of an id.
 pub fn append_hex(out: &mut Vec<u8>, id: &ObjectId) -> Result<(), NoMemory>
     ensures { OnOk result (out.new.items ≡ out.old.items ++ spec.hex_of id.now) }
 {
-    append_hex_digits(out, id.as_bytes())
+    match id {
+        ObjectId::Sha1(_) => {
+            let mut digits = [0; 40];
+            hex::encode_to_slice(id.as_bytes(), &mut digits).unwrap();
+            out.extend_from_slice(&digits)?;
+        }
+        ObjectId::Sha256(_) => {
+            let mut digits = [0; 64];
+            hex::encode_to_slice(id.as_bytes(), &mut digits).unwrap();
+            out.extend_from_slice(&digits)?;
+        }
+    }
+    Ok(())
 }
 
 pub(crate) fn append_number(out: &mut Vec<u8>, n: usize) -> Result<(), NoMemory>
@@ -186,7 +189,7 @@ pub fn append_refused(out: &mut Vec<u8>, token: &[u8]) -> Result<(), NoMemory>
 }
 
 #[tactic(auto, unfolding(crate::specs::ReportLines::counted_line))]
-fn append_counted(out: &mut Vec<u8>, word: &[u8], n: usize) -> Result<(), NoMemory>
+pub(crate) fn append_counted(out: &mut Vec<u8>, word: &[u8], n: usize) -> Result<(), NoMemory>
     ensures { OnOk result (out.new.items ≡ out.old.items ++ spec.counted_line word.now n) }
 {
     out.extend_from_slice(word)?;

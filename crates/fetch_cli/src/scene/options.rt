@@ -235,7 +235,8 @@ fn with_name(alloc: Global, shallow: Shallow, name: PartialName) -> Result<Shall
 }
 
 impl SceneOptions {
-    fn none(alloc: Global) -> SceneOptions
+    /// As where no option is told.
+    pub fn none(alloc: Global) -> SceneOptions
         ensures { result ≡ spec.no_options }
     {
         SceneOptions {

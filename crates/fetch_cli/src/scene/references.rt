@@ -1,6 +1,6 @@
 //! The references of a scene.
 
-ghost use Rattle.std.specs.Prelude.{◌≡◌, ◌<◌, ◌++◌, ◌∷◌, [], if◌then◌else◌, not, Some, None, IfOk, OnOk, vec_len, vec_capacity};
+ghost use Rattle.std.specs.Prelude.{◌≡◌, ◌++◌, ◌∷◌, [], if◌then◌else◌, not, Some, None, IfOk, OnOk};
 ghost use Rattle.std.specs.Option.{option_map};
 ghost use Rattle.fetch_cli.specs.Gives.{Gives};
 ghost use Rattle.fetch_cli.specs.LineKinds.{symbolic_in, object_in, target_in, reference_in, reference_of};
@@ -11,10 +11,8 @@ use crate::scene::lines::{Lines, Placed};
 use crate::scene::names::full_name;
 use fetch_refs::Target;
 use fetch_specs::FullName;
-use fetch_store::{Kind, List, NoMemory, ObjectId, split_first};
+use fetch_store::{Distinct, Keyed, Kind, List, NoMemory, ObjectId, split_first};
 use std::alloc::Global;
-use std::collections::BTreeSet;
-use std::marker::Model;
 
 /// A reference of a scene.
 #[derive(Debug, Drop)]
@@ -92,61 +90,24 @@ fn reference_at(alloc: Global, hash: Kind, line: &Placed<'_>) -> Result<Option<R
     }
 }
 
-/// The references read so far, and their names, by which a repeated one is known.
-#[derive(Drop)]
-struct Gathered {
-    references: Vec<Reference>,
-    names: BTreeSet<FullName>,
-}
+impl Keyed<FullName> for Reference {
+    ghost key_of = { λ r. r.name };
 
-impl Model for Gathered {
-    ghost use Rattle.std.specs.Prelude.{List};
-    ghost use Rattle.fetch_cli.specs.SceneRefs.{HasNames};
-    ghost use Rattle.fetch_cli.specs.declared.scene.references.Reference.{Reference};
-
-    ghost Value = { List Reference };
-
-    ghost view = { λ gathered. gathered.references.items };
-
-    ghost invariant = { λ gathered. HasNames gathered.references.items gathered.names.keys };
-}
-
-impl Gathered {
-    fn new(alloc: Global) -> Gathered
-        ensures { result ≡ [] }
-    {
-        Gathered {
-            references: Vec::new(alloc),
-            names: BTreeSet::new(alloc),
-        }
-    }
-
-    /// Adds a reference, unless its name came before, and says whether it was added.
-    fn add(&mut self, reference: Reference) -> Result<bool, NoMemory>
-        ensures new { IfOk result (λ is_new. is_new ≡ not (spec.has_name self.old reference.name)) }
-        ensures added { OnOk result (self.new ≡ if spec.has_name self.old reference.name then self.old else self.old ++ reference ∷ []) }
-    {
-        let name = reference.name.try_clone()?;
-        self.references.reserve(1)?;
-        let is_new = self.names.insert(name)?;
-        push_if(is_new, &mut self.references, reference);
-        Ok(is_new)
-    }
-
-    fn into_references(self) -> Vec<Reference>
-        ensures { result.items ≡ self }
-    {
-        self.references
+    fn key(&self) -> Result<FullName, NoMemory> {
+        self.name.try_clone()
     }
 }
 
-fn push_if(is_new: bool, references: &mut Vec<Reference>, reference: Reference)
-    requires { vec_len references.old < vec_capacity references.old }
-    ensures { references.new.items ≡ if is_new then references.old.items ++ reference ∷ [] else references.old.items }
+/// The references read so far, by whose names a repeated one is known.
+type Gathered = Distinct<FullName, Reference>;
+
+/// Adds a reference, unless its name came before, and says whether it was added.
+#[tactic(auto, using(crate::proofs::Gathered::has_key_is))]
+fn add(gathered: &mut Gathered, reference: Reference) -> Result<bool, NoMemory>
+    ensures new { IfOk result (λ is_new. is_new ≡ not (spec.has_name gathered.old reference.name)) }
+    ensures added { OnOk result (gathered.new ≡ if spec.has_name gathered.old reference.name then gathered.old else gathered.old ++ reference ∷ []) }
 {
-    if is_new {
-        references.push_reserved(reference);
-    }
+    gathered.add(reference)
 }
 
 /// Adds the reference of a line, and says whether it has one whose name is new.
@@ -160,7 +121,7 @@ fn add_line(
     ensures { IfOk result (λ is_new. (if is_new then Some gathered.new else None) ≡ option_map (λ r. gathered.old ++ r ∷ []) (spec.new_reference hash gathered.old line.now.line)) }
 {
     match reference_at(alloc, hash, line)? {
-        Some(reference) => gathered.add(reference),
+        Some(reference) => add(gathered, reference),
         None => Ok(false),
     }
 }
@@ -172,7 +133,7 @@ fn read_lines_of(
 ) -> Result<List<Reference>, SceneFault>
     ensures { Gives result (spec.references_behind hash [] lines.now) }
 {
-    let mut gathered = Gathered::new(alloc);
+    let mut gathered = Distinct::new(alloc);
     for line in lines {
         if !add_line(alloc, hash, &mut gathered, line)? {
             return Err(SceneFault::Malformed {
@@ -180,7 +141,7 @@ fn read_lines_of(
             });
         }
     }
-    Ok(List::from(gathered.into_references()))
+    Ok(List::from(gathered.into_vec()))
 }
 
 /// The references of a scene.

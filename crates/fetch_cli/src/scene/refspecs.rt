@@ -10,7 +10,7 @@ use fetch_store::NoMemory;
 use std::alloc::Global;
 
 /// The refspec that a text is.
-fn refspec(alloc: Global, text: &[u8]) -> Result<Option<RefSpec>, NoMemory>
+pub(crate) fn refspec(alloc: Global, text: &[u8]) -> Result<Option<RefSpec>, NoMemory>
     ensures { IfOk result (λ found. found ≡ refspec_in text.now) }
 {
     match parse(alloc, text, Operation::Fetch) {

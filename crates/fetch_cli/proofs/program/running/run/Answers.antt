@@ -1,5 +1,5 @@
 use Rattle.std.proofs.Common.{inl}
-use Rattle.fetch_cli.proofs.Answering.{known, one, valid_answered}
+use Rattle.fetch_cli.proofs.Answering.{known, one, valid_answered, benched, bench_answered}
 use Rattle.fetch_cli.proofs.program.running.run.Goals as goal
 
 pub returns-in-Ok-write_all-clause-read : goal.returns-in-Ok-write_all-clause-read
@@ -19,3 +19,9 @@ returns-in-Ok-write_all-clause-exact g c = λ bytes status text told is. inl (on
 
 pub returns-in-Ok-write_all-clause-complete : goal.returns-in-Ok-write_all-clause-complete
 returns-in-Ok-write_all-clause-complete g c = λ v. inl (valid_answered _ _ _ _ v c.in-Ok.ensures.answer)
+
+pub returns-in-Ok-write_all-clause-bench : goal.returns-in-Ok-write_all-clause-bench
+returns-in-Ok-write_all-clause-bench g c = λ count asks low. record { text = _; summary = benched _ _ count _ _ asks c.in-Ok.ensures.answer; wrote = c.in-Ok-write_all.ensures.ok }
+
+pub returns-in-Ok-write_all-clause-bench_exact : goal.returns-in-Ok-write_all-clause-bench_exact
+returns-in-Ok-write_all-clause-bench_exact g c = λ count asks. inl (bench_answered _ _ count _ _ asks c.in-Ok.ensures.answer)

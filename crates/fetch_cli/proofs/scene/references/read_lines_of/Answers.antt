@@ -12,4 +12,4 @@ returns-then-not-branch c =
     (stops c.args.hash c.loop-line.gathered c.args.lines.now c.loop-line.line-index c.line-item.result _ c.loop-line-test.true c.line-item.is (rw c.if-not-branch.true at c.in_ok-add_line.ensures) c.loop-line.invariant)
 
 pub returns : goal.returns
-returns c = rw (c.from.ensures ∙ c.into_references.ensures) (ends c.args.hash c.loop-line.gathered c.args.lines.now c.loop-line.line-index _ c.loop-line-test.false c.loop-line.invariant)
+returns c = rw (c.from.ensures ∙ c.into_vec.ensures) (ends c.args.hash c.loop-line.gathered c.args.lines.now c.loop-line.line-index _ c.loop-line-test.false c.loop-line.invariant)

@@ -1,0 +1,98 @@
+-- The scene of a bench, and what is told of its fetch.
+use Rattle.std.specs.Prelude.{◌≡◌, ◌≢◌, ℕ, false, List, [], ◌∷◌, ◌++◌, length, codes, Option, Some, Result, Ok, Err, option_to_list, option_map}
+use Rattle.std.specs.FinMap as map
+use Rattle.std.specs.FinSet as set
+use Rattle.fetch_store.specs.declared.id.Kind.TheVariants.{Sha1}
+use Rattle.fetch_store.specs.declared.id.ObjectId.{ObjectId}
+use Rattle.fetch_specs.specs.declared.tags.Tags.TheVariants as tags
+use Rattle.fetch_config.specs.Contents.{Contents}
+use Rattle.fetch_config.specs.Lines.{sections_of}
+use Rattle.fetch_refs.specs.declared.target.Target.TheVariants.{Object}
+use Rattle.fetch_remote.specs.Repositories.{State}
+use Rattle.fetch_remote.specs.declared.fetch_error.FetchError.{FetchError}
+use Rattle.fetch_remote.specs.declared.fetch_error.FetchError.TheVariants as errors
+use Rattle.fetch_remote.specs.declared.outcome.Outcome.{Outcome}
+use Rattle.fetch_bench.specs.Generated.{generated}
+use Rattle.fetch_bench.specs.declared.generated.Generated.{Generated}
+use Rattle.fetch_cli.specs.LineKinds.{refspec_in}
+use Rattle.fetch_cli.specs.Report.{beside, fetched_by, map_lines, updates_of}
+use Rattle.fetch_cli.specs.ReportLines.{counted_line, refused_line}
+use Rattle.fetch_cli.specs.SceneConfig.{own, text_of}
+use Rattle.fetch_cli.specs.SceneOptions.{no_options}
+use Rattle.fetch_cli.specs.Tokens.{token}
+use Rattle.fetch_cli.specs.declared.scene.references.Reference.{Reference}
+use Rattle.fetch_cli.specs.declared.scene.Scene.{Scene}
+
+-- ---- the scene
+
+-- no commit is told to the server as one that is there
+abbrev pub configuration : List ℕ
+configuration = text_of (codes "[fetch]" ∷ codes "negotiationAlgorithm = noop" ∷ [])
+
+unfoldable pub config : Contents
+config = record { meta = own; sections = sections_of own configuration }
+
+-- the reference that an earlier fetch left, where there was one
+abbrev pub tracking : ObjectId → Reference
+tracking id = record { name = codes "refs/remotes/origin/main"; target = Object id }
+
+-- the refspec by which each branch is fetched
+abbrev pub refspec : List ℕ
+refspec = codes "+refs/heads/*:refs/remotes/origin/*"
+
+unfoldable pub scene_with : Generated → Scene
+scene_with g = record {
+  hash = Sha1;
+  git_dir = codes "/b/.git";
+  workdir = Some (codes "/b");
+  lenient = false;
+  refs = option_to_list (option_map tracking g.tip);
+  border = set.empty;
+  config = config;
+  worktrees = [];
+  objects = g.objects;
+  address = codes "/b/s.git";
+  specs = option_to_list (refspec_in refspec);
+  tags = tags.None;
+  extra = [];
+  options = no_options;
+  pieces = g.pieces;
+}
+
+-- the scene of a line of n commits, of which the second half is fetched
+abbrev pub generated_scene : ℕ → Scene
+generated_scene n = scene_with (generated n)
+
+-- ---- the summary
+
+-- `bench <n>`
+abbrev pub bench_line : ℕ → List ℕ
+bench_line n = counted_line (codes "bench ") n
+
+-- how many objects and references there are: as many as the report has lines of ids and of references
+abbrev pub count_lines : State → List ℕ
+count_lines s = counted_line (codes "objects ") (length (map.keys s.objects)) ++ counted_line (codes "refs ") (length (map.entries s.refs.names))
+
+unfoldable pub done_summary : ℕ → Outcome → State → List ℕ
+done_summary n outcome after = bench_line n ++ map_lines outcome.ref_map.mappings (updates_of outcome.status).updates ++ count_lines after ++ codes "ok\n"
+
+unfoldable pub refused_summary : ℕ → FetchError → List ℕ
+refused_summary n e = bench_line n ++ refused_line (token e)
+
+-- the status, and the summary
+abbrev pub summary_with : ℕ → Result (Outcome × State) FetchError → ℕ × List ℕ
+summary_with n (Ok x) = (0, done_summary n x.0 x.1)
+summary_with n (Err e) = (1, refused_summary n e)
+
+-- the summary of the report of a scene: its lines of mappings, or of a refusal
+unfoldable pub summary_of : ℕ → Scene → ℕ × List ℕ
+summary_of n s = summary_with n (fetched_by s)
+
+-- the summary of a fetch that answered this and left this state
+pub record SumsUp (n : ℕ) (status : ℕ) (text : List ℕ) (result : Result Outcome FetchError) (left : State) : Type 0 where
+  pub is : summary_with n (beside left result) ≡ (status, text)
+  pub known : result ≢ Err errors.NoMemory
+
+-- The status and the text are the summary of the scene.
+pub record IsSummary (n : ℕ) (s : Scene) (status : ℕ) (text : List ℕ) : Type 0 where
+  pub whole : summary_of n s ≡ (status, text)
