@@ -1,5 +1,5 @@
 -- A fetch from a peer, over files that begin with nothing and with worktrees, none of which ever fail, seen from the whole of what it says.
-use Rattle.std.proofs.Common.{◌≡◌, ◌≢◌, ℕ, Bool, true, false, List, [], ◌++◌, Some, None, Result, Ok, Err, IfOk, IfErr, refl, sym, ap, ◌∙◌, arith, inl, inr}
+use Rattle.std.proofs.Common.{◌≡◌, ◌≢◌, ℕ, Bool, true, false, List, [], ◌++◌, Option, Some, None, Result, Ok, Err, IfOk, IfErr, refl, sym, ap, ◌∙◌, arith, inl, inr}
 use Rattle.std.proofs.lemmas.List.{append-nil}
 use Rattle.std.specs.FinMap as map
 use Rattle.fetch_store.specs.Faults.{Faults, Rose, Counts}
@@ -142,11 +142,18 @@ refused g trees before after files (errors.Prepare e) a b stream told c h = refu
 refused g trees before after files (errors.Receive e) a b stream told c h =
     refused_for g trees before after files (errors.Receive e) a b stream (same_talk a _ told) (sure_receiving e c (never_kept g trees before after files e a b c h)) h
 
-pub fetched : (g : Given) (trees : List Worktree) (before after : State) (files : Tree) (a b : Talk) (stream : List ℕ) (result : Result Outcome FetchError) → Some a ≡ Some (record { heard = []; given = []; to_come = stream; rule = None })
+fetched_told : (g : Given) (trees : List Worktree) (before after : State) (files : Tree) (a b : Talk) (stream : List ℕ) (result : Result Outcome FetchError) → Some a ≡ Some (record { heard = []; given = []; to_come = stream; rule = None })
     → IfOk result (λ outcome. IsFetched false (Some a) (Some b) (Some trees) (Some map.empty) (Some files) g before after outcome) → IfErr result (λ e. IsRefused false (Some a) (Some b) (Some trees) (Some map.empty) (Some files) g before after e)
     → IsCalm result → HasFetched g trees before stream result after files b.heard
-fetched g trees before after files a b stream (Ok outcome) told h r c = record { by = done g trees before after files outcome a b stream told h }
-fetched g trees before after files a b stream (Err e) told h r c = record { by = refused g trees before after files e a b stream told c r }
+fetched_told g trees before after files a b stream (Ok outcome) told h r c = record { by = done g trees before after files outcome a b stream told h }
+fetched_told g trees before after files a b stream (Err e) told h r c = record { by = refused g trees before after files e a b stream told c r }
+
+-- the same from what is told of the worktrees and the files before
+pub fetched : (g : Given) (trees : List Worktree) (before after : State) (files : Tree) (a b : Talk) (stream : List ℕ) (result : Result Outcome FetchError) (listed : Option (List Worktree)) (stood : Option Tree)
+    → Some a ≡ Some (record { heard = []; given = []; to_come = stream; rule = None }) → listed ≡ Some trees → stood ≡ Some map.empty
+    → IfOk result (λ outcome. IsFetched false (Some a) (Some b) listed stood (Some files) g before after outcome) → IfErr result (λ e. IsRefused false (Some a) (Some b) listed stood (Some files) g before after e)
+    → IsCalm result → HasFetched g trees before stream result after files b.heard
+fetched g trees before after files a b stream result listed stood told trees_are nothing h r c = fetched_told g trees before after files a b stream result told (rw (trees_are, nothing) at h) (rw (trees_are, nothing) at r) c
 
 -- a count that rose, where none is possible
 pub no_fault : (before now : Faults) → before ≡ record { count = 0; possible = false } → Counts before now → Rose before now → ⊥

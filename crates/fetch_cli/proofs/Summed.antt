@@ -1,5 +1,8 @@
 -- From a fetch to its summary.
-use Rattle.std.proofs.Common.{◌≡◌, ℕ, List, Option, Result, Ok, Err, IfOk, refl, sym, ap, ◌∙◌}
+use Rattle.std.proofs.Common.{◌≡◌, ℕ, List, ◌++◌, length, codes, Option, Result, Ok, Err, IfOk, OnOk, refl, sym, ap, ◌∙◌, append_assoc}
+use Rattle.std.proofs.lemmas.List.{length-map}
+use Rattle.std.specs.FinMap as map
+use Rattle.fetch_store.specs.Stores.{ObjectMap}
 use Rattle.fetch_store.specs.Trees.{Tree}
 use Rattle.fetch_update.specs.declared.worktrees.Worktree.{Worktree}
 use Rattle.fetch_wire.specs.declared.line.Line.{Line}
@@ -9,9 +12,10 @@ use Rattle.fetch_remote.specs.Repositories.{State}
 use Rattle.fetch_remote.specs.declared.fetch_error.FetchError.{FetchError}
 use Rattle.fetch_remote.specs.declared.fetch_error.FetchError.TheVariants as errors
 use Rattle.fetch_remote.specs.declared.outcome.Outcome.{Outcome}
-use Rattle.fetch_cli.specs.Bench.{summary_with, summary_of, SumsUp, IsSummary}
+use Rattle.fetch_cli.specs.Bench.{count_lines, summary_with, summary_of, SumsUp, IsSummary}
 use Rattle.fetch_cli.specs.Fetched.{HasFetchedBy, HasFetched}
 use Rattle.fetch_cli.specs.Report.{report_with, report_of, fetched_by, left_by, keep_left_by, given_of, found_of, stream_of}
+use Rattle.fetch_cli.specs.ReportLines.{counted_line}
 use Rattle.fetch_cli.specs.declared.scene.Scene.{Scene}
 
 sum_is : (n : ℕ) (scene : Scene) (status : ℕ) (text heard : List ℕ) (result : Result Outcome FetchError) (left : State) (files : Tree) → HasFetchedBy (given_of scene) scene.worktrees (found_of scene) (stream_of scene) result left files heard
@@ -33,6 +37,24 @@ pub sums_if : {V E : Type 0} (status : V → ℕ) (text : V → List ℕ) (answe
     → IfOk answer (λ x. SumsUp n (status x) (text x) result left) → IfOk answer (λ x. IsSummary n scene (status x) (text x))
 sums_if status text (Err e) n scene g trees found left files stream heard result given_is trees_is found_is stream_is h s = tt
 sums_if status text (Ok x) n scene g trees found left files stream heard result given_is trees_is found_is stream_is h s = sums n scene (status x) (text x) g trees found left files stream heard result given_is trees_is found_is stream_is h s
+
+-- ---- what is counted
+
+as_many_ids : (objects : ObjectMap) → map.len objects ≡ length (map.keys objects)
+as_many_ids objects = map.len-entries objects ∙ sym (length-map (map.entries objects) (λ e. e.0))
+
+added : (out one two : List ℕ) (s : State) (objects refs : ℕ) → objects ≡ map.len s.objects → refs ≡ length (map.entries s.refs.names)
+    → one ≡ out ++ counted_line (codes "objects ") objects → two ≡ one ++ counted_line (codes "refs ") refs → two ≡ out ++ count_lines s
+added out one two s objects refs objects_are refs_are first second =
+    let o : objects ≡ length (map.keys s.objects) = objects_are ∙ as_many_ids s.objects in
+    let both : two ≡ out ++ (counted_line (codes "objects ") objects ++ counted_line (codes "refs ") refs) =
+      second ∙ ap (λ (l : List ℕ). l ++ counted_line (codes "refs ") refs) first ∙ append_assoc out (counted_line (codes "objects ") objects) (counted_line (codes "refs ") refs) in
+    rw (o, refs_are) at both
+
+pub counts : {T E : Type 0} (result : Result T E) (out one two : List ℕ) (s : State) (objects refs : ℕ) → objects ≡ map.len s.objects → refs ≡ length (map.entries s.refs.names)
+    → one ≡ out ++ counted_line (codes "objects ") objects → OnOk result (two ≡ one ++ counted_line (codes "refs ") refs) → OnOk result (two ≡ out ++ count_lines s)
+counts (Err e) out one two s objects refs objects_are refs_are first second = tt
+counts (Ok x) out one two s objects refs objects_are refs_are first second = added out one two s objects refs objects_are refs_are first second
 
 -- ---- a summary and its report
 

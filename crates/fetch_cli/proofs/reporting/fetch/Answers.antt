@@ -12,7 +12,7 @@ returns-clause-fetched g c =
     let never = rw c.new-3.ensures.items at c.new-files.ensures.may_fail in
     let nothing = c.new-files.ensures.told in
     let f = c.fetch-result.ensures in
-    fetched _ c.args.setting.worktrees _ _ _ _ _ (concat c.args.setting.pieces) c.fetch-result.result told (rw (trees, nothing) at f.fetched) (rw (trees, nothing) at f.refused) (record {
+    fetched _ c.args.setting.worktrees _ _ _ _ _ (concat c.args.setting.pieces) c.fetch-result.result _ _ told trees nothing f.fetched f.refused (record {
       transport = λ e. no_fault _ _ sure f.counts (f.transport e);
       interrupted = λ e. no_fault _ _ calm f.asked (f.interrupted e);
       client = λ e. no_fault _ _ sure f.counts (f.client e);
@@ -26,3 +26,6 @@ returns-clause-fetched g c =
 
 pub returns-clause-calm : goal.returns-clause-calm
 returns-clause-calm g c = let never = rw c.new-3.ensures.items at c.new-files.ensures.may_fail in c.fetch-result.ensures.may_fail ∙ never
+
+pub returns-clause-setup : goal.returns-clause-setup
+returns-clause-setup g c = c.fetch-result.ensures.setup

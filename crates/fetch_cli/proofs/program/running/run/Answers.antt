@@ -21,7 +21,7 @@ pub returns-in-Ok-write_all-clause-complete : goal.returns-in-Ok-write_all-claus
 returns-in-Ok-write_all-clause-complete g c = λ v. inl (valid_answered _ _ _ _ v c.in-Ok.ensures.answer)
 
 pub returns-in-Ok-write_all-clause-bench : goal.returns-in-Ok-write_all-clause-bench
-returns-in-Ok-write_all-clause-bench g c = λ count asks low. record { text = _; summary = benched _ _ count _ _ asks c.in-Ok.ensures.answer; wrote = c.in-Ok-write_all.ensures.ok }
+returns-in-Ok-write_all-clause-bench g c = λ count asks low. record { text = _; summary = benched _ _ count _ _ asks c.in-Ok.ensures.answer; wrote = rw c.deref.ensures.value at c.in-Ok-write_all.ensures.bytes }
 
 pub returns-in-Ok-write_all-clause-bench_exact : goal.returns-in-Ok-write_all-clause-bench_exact
 returns-in-Ok-write_all-clause-bench_exact g c = λ count asks. inl (bench_answered _ _ count _ _ asks c.in-Ok.ensures.answer)

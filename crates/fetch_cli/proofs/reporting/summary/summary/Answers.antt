@@ -6,4 +6,4 @@ use Rattle.fetch_cli.proofs.reporting.summary.summary.Goals as goal
 pub returns : goal.returns
 returns g c =
     let setting = c.in_ok-setting.ensures in
-    sums_if (λ x. x.0) (λ x. x.1.items) c.sum_up.result c.args.count c.args.scene _ _ _ _ _ _ _ _ setting.given setting.worktrees setting.found (ap (λ (pieces : List (List ℕ)). concat pieces) setting.pieces) c.fetch.ensures.fetched c.sum_up.ensures
+    sums_if (λ x. x.0) (λ x. x.1.items) c.sum_up.result c.args.count c.args.scene _ _ _ _ _ _ _ _ setting.given setting.worktrees setting.found (ap (λ (pieces : List (List ℕ)). concat pieces) setting.pieces) c.fetch-fetched.ensures.fetched c.sum_up.ensures
