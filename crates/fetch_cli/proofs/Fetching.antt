@@ -30,14 +30,14 @@ use Rattle.fetch_cli.proofs.KeepFiles.{never_unmade}
 -- ---- all that the peer says
 
 -- what it gave and has still to give
-whole : (a b : Talk) (heard said stream : List ℕ) → a ≡ record { heard = []; given = []; to_come = stream; rule = None } → Passes false a b heard said → stream ≡ said ++ b.to_come
+whole : (a b : Talk) (heard said stream : List ℕ) → a ≡ record { heard = []; given = []; to_come = stream; receives = []; rule = None } → Passes false a b heard said → stream ≡ said ++ b.to_come
 whole a b heard said stream told p =
     let e : a.to_come ≡ stream = ap (λ (t : Talk). t.to_come) told in
     let none : p.added ≡ [] = p.fixed refl in
     sym e ∙ sym (append-nil a.to_come) ∙ (rw none at p.in_order)
 
 -- what it heard
-heard_is : (a b : Talk) (heard said stream : List ℕ) → a ≡ record { heard = []; given = []; to_come = stream; rule = None } → Passes false a b heard said → b.heard ≡ heard
+heard_is : (a b : Talk) (heard said stream : List ℕ) → a ≡ record { heard = []; given = []; to_come = stream; receives = []; rule = None } → Passes false a b heard said → b.heard ≡ heard
 heard_is a b heard said stream told p =
     let none : a.heard ≡ [] = ap (λ (t : Talk). t.heard) told in
     p.heard_more ∙ ap (λ (l : List ℕ). l ++ heard) none
@@ -45,7 +45,7 @@ heard_is a b heard said stream told p =
 same_talk : (a : Talk) (t : Talk) → Some a ≡ Some t → a ≡ t
 same_talk a t e = cc
 
-done : (g : Given) (trees : List Worktree) (before after : State) (files : Tree) (outcome : Outcome) (a b : Talk) (stream : List ℕ) → Some a ≡ Some (record { heard = []; given = []; to_come = stream; rule = None })
+done : (g : Given) (trees : List Worktree) (before after : State) (files : Tree) (outcome : Outcome) (a b : Talk) (stream : List ℕ) → Some a ≡ Some (record { heard = []; given = []; to_come = stream; receives = []; rule = None })
     → IsFetched false (Some a) (Some b) (Some trees) (Some map.empty) (Some files) g before after outcome → HasDone g trees before stream outcome after b.heard
 done g trees before after files outcome a b stream told h =
     let same = same_talk a _ told in
@@ -66,7 +66,7 @@ refused_by g trees before after files e b said heard stream all is (inr last) =
     let none : stream ≡ said = all ∙ ap (λ (l : List ℕ). said ++ l) last.0 ∙ append-nil said in
     rw none (refused_with g trees before after files e said heard b.heard is last.1)
 
-refused_for : (g : Given) (trees : List Worktree) (before after : State) (files : Tree) (e : FetchError) (a b : Talk) (stream : List ℕ) → a ≡ record { heard = []; given = []; to_come = stream; rule = None }
+refused_for : (g : Given) (trees : List Worktree) (before after : State) (files : Tree) (e : FetchError) (a b : Talk) (stream : List ℕ) → a ≡ record { heard = []; given = []; to_come = stream; receives = []; rule = None }
     → is_free e ≡ false → IsRefused false (Some a) (Some b) (Some trees) (Some map.empty) (Some files) g before after e → HasRefused g trees before stream e after files b.heard
 refused_for g trees before after files e a b stream same sure h =
     refused_by g trees before after files e b h.said h.heard stream (whole a b _ h.said stream same h.passed) (heard_is a b _ h.said stream same h.passed) (rw h.listed_trees at (h.why sure))
@@ -135,14 +135,14 @@ never_kept g trees before after files e a b c h path is =
     let m = h.counted.making path (ap (λ (x : ReceiveError). errors.Receive x) is) in
     never_unmade g m.told path m.keep (c.unmade path (ap (λ (x : ReceiveError). Err (errors.Receive x)) is))
 
-refused : (g : Given) (trees : List Worktree) (before after : State) (files : Tree) (e : FetchError) (a b : Talk) (stream : List ℕ) → Some a ≡ Some (record { heard = []; given = []; to_come = stream; rule = None }) → IsCalm (Err e)
+refused : (g : Given) (trees : List Worktree) (before after : State) (files : Tree) (e : FetchError) (a b : Talk) (stream : List ℕ) → Some a ≡ Some (record { heard = []; given = []; to_come = stream; receives = []; rule = None }) → IsCalm (Err e)
     → IsRefused false (Some a) (Some b) (Some trees) (Some map.empty) (Some files) g before after e → HasRefusedBy g trees before stream e after files b.heard
 refused g trees before after files errors.NoMemory a b stream told c h = tt
 refused g trees before after files (errors.Prepare e) a b stream told c h = refused_for g trees before after files (errors.Prepare e) a b stream (same_talk a _ told) (sure_listing e c) h
 refused g trees before after files (errors.Receive e) a b stream told c h =
     refused_for g trees before after files (errors.Receive e) a b stream (same_talk a _ told) (sure_receiving e c (never_kept g trees before after files e a b c h)) h
 
-fetched_told : (g : Given) (trees : List Worktree) (before after : State) (files : Tree) (a b : Talk) (stream : List ℕ) (result : Result Outcome FetchError) → Some a ≡ Some (record { heard = []; given = []; to_come = stream; rule = None })
+pub fetched : (g : Given) (trees : List Worktree) (before after : State) (files : Tree) (a b : Talk) (stream : List ℕ) (result : Result Outcome FetchError) → Some a ≡ Some (record { heard = []; given = []; to_come = stream; receives = []; rule = None })
     → IfOk result (λ outcome. IsFetched false (Some a) (Some b) (Some trees) (Some map.empty) (Some files) g before after outcome) → IfErr result (λ e. IsRefused false (Some a) (Some b) (Some trees) (Some map.empty) (Some files) g before after e)
     → IsCalm result → HasFetched g trees before stream result after files b.heard
 fetched_told g trees before after files a b stream (Ok outcome) told h r c = record { by = done g trees before after files outcome a b stream told h }
