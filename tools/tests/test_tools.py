@@ -219,10 +219,21 @@ class Histories(unittest.TestCase):
                 self.assertEqual(each.id, object_id(maker.hash_name, each.kind, each.data))
 
 
+class LargeScenes(unittest.TestCase):
+    def test_each_kind_is_a_scene(self):
+        for kind, count, objects in (("commits", 3, 4), ("references", 5, 2), ("blob", 70_000, 1)):
+            with tempfile.TemporaryDirectory() as folder:
+                path = os.path.join(folder, "scene")
+                self.assertEqual(run("large-scene", kind, str(count), "-o", path), (0, b"", ""))
+                with open(path, "rb") as file:
+                    scene = read_scene(file.read())
+            self.assertEqual((scene.objects, len(scene.received())), ([], objects))
+
+
 class Help(unittest.TestCase):
     def test_each_tool_tells_its_words(self):
-        for tool in ("scene-from-git", "apply-report", "compare-with-git", "compare-haves", "long-line", "cut-scene",
-                     "refuse-allocations", "show-rows"):
+        for tool in ("scene-from-git", "apply-report", "compare-with-git", "compare-haves", "long-line", "large-scene",
+                     "cut-scene", "refuse-allocations", "show-rows"):
             status, out, messages = run(tool, "--help")
             self.assertEqual((status, messages), (0, ""))
             self.assertIn(b"statuses:", out)
