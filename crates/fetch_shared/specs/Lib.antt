@@ -12,3 +12,6 @@ pub mod Turns
 pub mod Passes
 pub mod PassCodes
 pub mod Received
+pub mod Errors
+pub mod Receipts
+pub mod Deleting

@@ -1,12 +1,14 @@
 //! A repository that several use: its events, and the journal that tells what became of it.
 #![tactic(auto)]
 
+mod deleting;
 mod editing;
 mod entry;
 mod error;
 pub mod laws;
 mod pass;
 mod plan;
+mod receipt;
 mod shared;
 mod state;
 mod taking;
@@ -15,10 +17,12 @@ mod turning;
 mod turns;
 mod view;
 
+pub use deleting::delete_shared;
 pub use entry::Entry;
 pub use error::SharedError;
 pub use pass::Pass;
 pub use plan::{Plan, Taken};
+pub use receipt::Receipt;
 pub use shared::SharedRepository;
 pub use state::SharedState;
 pub use turns::ReceivedPack;
