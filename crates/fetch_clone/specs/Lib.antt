@@ -6,3 +6,4 @@ pub mod Branches
 pub mod Revisions
 pub mod Tracking
 pub mod Choices
+pub mod Initial

@@ -6,7 +6,9 @@ mod choices;
 mod configuration;
 pub mod create;
 mod host_files;
+pub mod init;
 mod making;
+mod opening;
 mod plan;
 mod step;
 mod tracking;
@@ -14,6 +16,7 @@ pub mod with_revision;
 
 pub use choices::{Choices, Wanted};
 pub use host_files::HostFiles;
+pub use init::init_opts;
 
 /// The short name of the branch that `HEAD` of a new repository leads to, where the configuration names none.
 pub const DEFAULT_BRANCH_NAME: &str = "main";
