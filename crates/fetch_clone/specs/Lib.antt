@@ -7,3 +7,4 @@ pub mod Revisions
 pub mod Tracking
 pub mod Choices
 pub mod Initial
+pub mod Drafts

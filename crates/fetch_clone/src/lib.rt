@@ -3,13 +3,16 @@
 
 mod branches;
 mod choices;
+pub mod clone;
 mod configuration;
 pub mod create;
+mod draft;
 mod host_files;
 pub mod init;
 mod making;
 mod opening;
 mod plan;
+mod prepare_fetch;
 mod step;
 mod tracking;
 pub mod with_revision;
@@ -17,6 +20,7 @@ pub mod with_revision;
 pub use choices::{Choices, Wanted};
 pub use host_files::HostFiles;
 pub use init::init_opts;
+pub use prepare_fetch::{ConfigureFault, PrepareFetch};
 
 /// The short name of the branch that `HEAD` of a new repository leads to, where the configuration names none.
 pub const DEFAULT_BRANCH_NAME: &str = "main";
