@@ -1,4 +1,5 @@
 pub mod Appended
 pub mod Steps
+pub mod Replaced
 pub mod Opened
 pub mod Prepared

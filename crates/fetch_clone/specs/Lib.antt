@@ -6,5 +6,6 @@ pub mod Branches
 pub mod Revisions
 pub mod Tracking
 pub mod Choices
+pub mod Replacing
 pub mod Initial
 pub mod Drafts

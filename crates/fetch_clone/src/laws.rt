@@ -1,0 +1,3 @@
+//! The steps of a clone that change a repository.
+
+pub use crate::mirror_remote::append_config_to_repo_config;
