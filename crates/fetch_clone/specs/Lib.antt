@@ -6,6 +6,10 @@ pub mod Branches
 pub mod Revisions
 pub mod Tracking
 pub mod Choices
+pub mod Meant
+pub mod Aims
+pub mod Upstreams
 pub mod Replacing
 pub mod Initial
 pub mod Drafts
+pub mod Heading

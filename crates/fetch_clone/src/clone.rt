@@ -1,4 +1,6 @@
-//! Why a clone isn't prepared.
+//! Why a clone isn't prepared, and why a repository isn't fetched into.
+
+pub mod fetch;
 
 use crate::init;
 use fetch_store::NoMemory;

@@ -1,16 +1,19 @@
 //! Repositories that are created, and what a clone is asked for.
 #![tactic(auto)]
 
+mod aim;
 mod branches;
 mod choices;
 pub mod clone;
 mod configuration;
 pub mod create;
 mod draft;
+mod heading;
 mod host_files;
 pub mod init;
 pub mod laws;
 mod making;
+mod meant;
 mod mirror_remote;
 mod opening;
 mod plan;
@@ -18,6 +21,7 @@ mod prepare_fetch;
 mod replacing;
 mod step;
 mod tracking;
+mod upstream;
 pub mod with_revision;
 
 pub use choices::{Choices, Wanted};
