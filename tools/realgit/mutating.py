@@ -1,7 +1,7 @@
 """Scenes that are changed at random: their bytes, lines, lengths, counts and order.
 
-A change is made in one of four places: anywhere in a scene, in what its server says, in the server's pack, and in the
-pack of the repository. What is around the place is written anew, so that the program reads up to the change.
+A change is made anywhere in a scene, in one of its ids, in what its server says, in the server's pack, or in the pack of
+the repository. What is around the place is written anew, so that the program reads up to the change.
 """
 
 import hashlib
@@ -11,7 +11,7 @@ from random import Random
 
 from realgit.lines import MAX_PAYLOAD, Mark, encoded, pieces
 
-HOW_MANY = (1, 1, 1, 1, 2, 2, 3, 5, 8)
+HOW_MANY = (1, 1, 1, 1, 1, 1, 2, 2, 3, 6)
 BYTES = (0, 1, 4, 9, 10, 13, 32, 47, 48, 58, 64, 94, 127, 128, 255)
 DIGITS = (b"0000", b"0001", b"0002", b"0003", b"0004", b"0005", b"fff0", b"fff1", b"ffff", b"000G", b"FFF0", b"    ")
 NUMBERS = (0, 1, 2, 3, 15, 16, 255, 2**31 - 1, 2**31, 2**32 - 1, 2**32, 2**63 - 1, 2**63, 2**64 - 1, 2**64, 10**30)
@@ -319,4 +319,5 @@ def in_sent_pack(random, scene, other):
     return _with_server(random, front, b"".join((*said[:head], *bands, *said[end:])))
 
 
-PLACES = (in_bytes, in_lines, in_lines, in_server, in_server, in_server, in_sent_pack, in_sent_pack, in_own_pack)
+PLACES = (in_bytes, in_lines, _id, _id, in_server, in_server, in_server, in_server, in_sent_pack, in_sent_pack, in_sent_pack,
+          in_own_pack)
