@@ -13,12 +13,14 @@ NO_MEMORY = 5
 MALFORMED = 4
 LINE = rb'> (?:0000|0001|"(?:[ !#-\[\]-~]|\\[n"\\]|\\x[0-9a-f]{2})*")\n'
 ANY_ID = rb"(?:[0-9a-f]{40}|[0-9a-f]{64})"
-STATE = rb"(?:ref (?:@[^\n]+|%(id)s) [^\n]+\n)*(?:log [^\n]+ %(id)s %(id)s [^\n]*\n)*(?:border %(id)s\n)*(?:id %(id)s\n)*"
-STATE = STATE % {b"id": ANY_ID} + rb"(?:keep [^\n]+\n)?"
-# What may be written with each status. A text that a refusal keeps stands as it is, line feeds too.
+# Texts that the caller gives, or that a refusal keeps, stand as they are, line feeds too.
+TEXT = rb"(?s:.*?)"
+STATE = (rb"(?:ref (?:@[^\n]+|%(id)s) [^\n]+\n)*(?:log [^\n]+ %(id)s %(id)s %(text)s\n)*(?:border %(id)s\n)*"
+         rb"(?:id %(id)s\n)*(?:keep %(text)s\n)?") % {b"id": ANY_ID, b"text": TEXT}
+# What may be written with each status.
 REPORTS = {
-    0: re.compile(rb"(?:%s)+(?:map \d+ [^\n]+ -> [^\n]+: [^\n]+\n)*%sok\n" % (LINE, STATE)),
-    1: re.compile(rb"(?:%s)*refused ([A-Za-z]+)(?: (?s:.*?))?\n%s" % (LINE, STATE)),
+    0: re.compile(rb"(?:%s)+(?:map \d+ [^\n]+ -> [^\n]+: %s\n)*%sok\n" % (LINE, TEXT, STATE)),
+    1: re.compile(rb"(?:%s)*refused ([A-Za-z]+)(?: %s)?\n%s" % (LINE, TEXT, STATE)),
     MALFORMED: re.compile(rb"malformed (\d+)\n"),
 }
 
