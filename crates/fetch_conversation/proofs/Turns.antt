@@ -2,7 +2,8 @@
 use Rattle.std.proofs.Common.{◌≡◌, ℕ, Bool, false, List, [], ◌∷◌, Option, Ok, Err, refl, ◌∙◌}
 use Rattle.std.specs.Prelude.{IsErrOf}
 use Rattle.fetch_store.specs.Faults.{Faults, Rose, Counts, Counts-none, Counts-then, Rose-earlier}
-use Rattle.fetch_wire.specs.SessionStates.{SessionState, IsAlike, IsAwaiting, fed, ended, refusal_of, turn_of, Answers}
+use Rattle.fetch_store.specs.Answers.{RefusesUnless}
+use Rattle.fetch_wire.specs.SessionStates.{SessionState, IsAlike, IsAwaiting, fed, ended, refusal_of, turn_of, is_memory}
 use Rattle.fetch_wire.specs.Talks.{Talk, Talks, Makes, at_once, IsFront}
 use Rattle.fetch_wire.specs.declared.error.WireError.{WireError}
 use Rattle.fetch_wire.specs.declared.error.WireError.TheVariants as wire

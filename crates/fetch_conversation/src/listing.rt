@@ -130,7 +130,7 @@ fn names_none(inquiry: &Inquiry<'_>, options: &Options) -> bool
 }
 
 /// Asks for the greeting, then for the listing, and maps what is listed, also where no refspec is named. The interrupt is
-/// asked before each receive.
+/// asked once before each receive.
 pub fn inquire<P: Peer, I: Interrupt>(
     alloc: Global,
     inquiry: &Inquiry<'_>,
@@ -147,7 +147,7 @@ pub fn inquire<P: Peer, I: Interrupt>(
     ensures asked { Counts (I.yes interrupt.old) (I.yes interrupt.new) }
     ensures interrupted { IsErrOf result (errors.RefMap ref_map_errors.Interrupted) → Rose (I.yes interrupt.old) (I.yes interrupt.new) }
     ensures uninterrupted { OnOk result ((I.yes interrupt.new).count ≡ (I.yes interrupt.old).count) }
-    ensures questions { IsHeeded (I.will_stop interrupt.old) (I.will_stop interrupt.new) (P.told peer.old) (P.told peer.new) result }
+    ensures questions { IsHeeded is_interrupted (I.will_stop interrupt.old) (I.will_stop interrupt.new) (P.told peer.old) (P.told peer.new) result }
 {
     let extra = specs_with_tags(alloc, inquiry.tags, options.extra_refspecs.as_slice())?;
     let specs = joined_specs(alloc, inquiry.specs, &extra)?;

@@ -1,11 +1,10 @@
-use Rattle.std.proofs.Common.{◌≡◌, ◌≤◌, ◌<◌, false, [], length, take, inl, inr, refl, subst, arith}
+use Rattle.std.proofs.Common.{◌≡◌, ◌<◌, false, [], length, take, inl, inr, refl, subst, arith}
 use Rattle.std.proofs.lemmas.Grind.{common_steps}
-use Rattle.std.proofs.lemmas.List.{length-take-le}
 use Rattle.std.proofs.lemmas.Result.{err_from_is_err_and}
-use Rattle.fetch_conversation.specs.Receiving.{most_at_once}
 use Rattle.fetch_wire.specs.Talks.{Talks}
+use Rattle.fetch_conversation.specs.Errors.{is_yes}
 use Rattle.fetch_conversation.proofs.Driven.{takes_end, takes_refusal}
-use Rattle.fetch_conversation.proofs.Heeded.{gave_piece, heeded_once, never_by}
+use Rattle.fetch_conversation.proofs.Heeded.{heeded_once, never_by}
 use Rattle.fetch_conversation.proofs.drive.receive.Goals as goal
 
 pub returns-in_err-end-clause-taken : goal.returns-in_err-end-clause-taken
@@ -14,8 +13,7 @@ returns-in_err-end-clause-taken g c =
     let none : c.in-Ok.count ≡ 0 = (let e = c.if-count-eq0.true in grind (arith, common_steps)) in
     let room : 0 < length c.receive.new.into = grind (arith, common_steps) in
     let talk = subst (λ n. Talks false (g.P.Peer.told c.args.peer.now) (g.P.Peer.told c.receive.new.self) [] (take n c.receive.new.into)) none c.in-Ok.ensures.talk.0 in
-    let few : 0 ≤ most_at_once = omega arith in
-    rw (p.1, p.2) ([], few, talk, inr (refl, takes_end (g.P.Peer.told c.receive.new.self) c.args.session.now _ c.requires.turn c.requires.awaits (c.in-Ok.ensures.talk.1 none room) c.in_err-end.ensures.answers))
+    rw (p.1, p.2) ([], talk, inr (refl, takes_end (g.P.Peer.told c.receive.new.self) c.args.session.now _ c.requires.turn c.requires.awaits (c.in-Ok.ensures.talk.1 none room) c.in_err-end.ensures.answers))
 
 pub returns-in_err-feed-clause-taken : goal.returns-in_err-feed-clause-taken
 returns-in_err-feed-clause-taken g c =

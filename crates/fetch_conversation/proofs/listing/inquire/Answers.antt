@@ -10,7 +10,7 @@ use Rattle.fetch_conversation.specs.declared.prepare.Error.TheVariants as errors
 use Rattle.fetch_conversation.specs.declared.ref_map.Error.TheVariants as ref_map
 use Rattle.fetch_conversation.proofs.Driven.{finished_unrefused}
 use Rattle.fetch_conversation.proofs.Listings.{inquires_free, inquires_unopened, inquires_stopped, inquires_found, inquired_bound, opened_drivable}
-use Rattle.fetch_conversation.proofs.Heeded.{heeded_still, heeded_as, heeded_err}
+use Rattle.fetch_conversation.proofs.Heeded.{heeded_still, heeded_as, none_asked, prepare_asks, stop_prepared}
 use Rattle.fetch_conversation.proofs.listing.inquire.Goals as goal
 
 bound_by : (q : InquiryValue) (s : SessionState) (result : Result Listed Error) (n : ℕ) → Answers q s result → s.intake.bound ≡ n → IfOk result (λ l. l.session.intake.bound ≡ n)
@@ -71,25 +71,25 @@ returns-clause-interrupted g c = λ is. absurd (not_interrupted c.map_listed.res
 pub returns-in_err-extra-clause-questions : goal.returns-in_err-extra-clause-questions
 returns-in_err-extra-clause-questions g c =
     let p = err_from_is_err_and c.from_residual.result c.from_residual.ensures.1 in
-    rw (p.1, p.2) (heeded_still _ _ _)
+    rw (p.1, p.2) (heeded_still _ _ _ _ refl)
 
 pub returns-in_err-specs-clause-questions : goal.returns-in_err-specs-clause-questions
 returns-in_err-specs-clause-questions g c =
     let p = err_from_is_err_and c.from_residual-in_err-specs.result c.from_residual-in_err-specs.ensures.1 in
-    rw (p.1, p.2) (heeded_still _ _ _)
+    rw (p.1, p.2) (heeded_still _ _ _ _ refl)
 
 pub returns-in_err-session-clause-questions : goal.returns-in_err-session-clause-questions
 returns-in_err-session-clause-questions g c =
     let p = err_from_is_err_and c.from_residual-in_err-session.result c.from_residual-in_err-session.ensures.1 in
-    rw (p.1, p.2) (heeded_still _ _ _)
+    rw (p.1, p.2) (heeded_still _ _ _ _ (prepare_asks (Unit {0}) c.in_err-session.field-0.0))
 
 pub returns-in_err-drive-clause-questions : goal.returns-in_err-drive-clause-questions
 returns-in_err-drive-clause-questions g c =
     let p = err_from_is_err_and c.from_residual-in_err-drive.result c.from_residual-in_err-drive.ensures.1 in
-    rw (p.1, p.2) (heeded_err _ _ _ _ _ _ c.in_err-drive.ensures.questions)
+    rw (p.1, p.2) (heeded_as _ _ _ _ _ _ _ _ (stop_prepared (Unit {0}) (Unit {0}) c.in_err-drive.field-0.0) c.in_err-drive.ensures.questions)
 
 pub returns-clause-questions : goal.returns-clause-questions
-returns-clause-questions g c = heeded_as _ _ _ _ _ _ c.in_ok-drive.ensures.questions
+returns-clause-questions g c = heeded_as _ _ _ _ _ _ _ _ (none_asked is_interrupted c.map_listed.result c.map_listed.ensures.uninterrupted) c.in_ok-drive.ensures.questions
 
 pub map_listed-requires-clause-unrefused : goal.map_listed-requires-clause-unrefused
 map_listed-requires-clause-unrefused g c =

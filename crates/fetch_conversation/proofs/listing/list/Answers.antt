@@ -23,4 +23,4 @@ returns-clause-held g c =
     lists_named g.P.Peer.answers (g.P.Peer.told c.args.peer.now) (g.P.Peer.told c.inquire.new.peer) q c.inquire.result (some_named q c.names_none.result c.names_none.ensures c.if-names_none.false) c.inquire.ensures.held
 
 pub returns-then-names_none-clause-questions : goal.returns-then-names_none-clause-questions
-returns-then-names_none-clause-questions g c = heeded_still _ _ _
+returns-then-names_none-clause-questions g c = heeded_still _ _ _ _ refl
