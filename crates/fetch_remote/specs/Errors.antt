@@ -35,6 +35,12 @@ is_free (errors.Prepare e) = is_transport e || is_interrupted e
 is_free (errors.Receive e) = is_client e || (is_stopped e || (is_unkept e || is_unlisted e))
 is_free errors.NoMemory = true
 
+-- a yes of the interrupt, while listing or behind it
+abbrev pub is_yes : FetchError → Bool
+is_yes (errors.Prepare e) = is_interrupted e
+is_yes (errors.Receive e) = is_stopped e
+is_yes errors.NoMemory = false
+
 -- the peer's fault
 abbrev pub is_of_peer : FetchError → Bool
 is_of_peer (errors.Prepare e) = is_transport e

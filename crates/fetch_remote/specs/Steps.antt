@@ -8,7 +8,7 @@ use Rattle.fetch_store.specs.Trees.{Tree}
 use Rattle.fetch_update.specs.declared.worktrees.Worktree.{Worktree}
 use Rattle.fetch_wire.specs.Talks.{Talk}
 use Rattle.fetch_conversation.specs.Conversation.{Concludes, Breaks}
-use Rattle.fetch_conversation.specs.Errors.{is_free_listing, is_free_receiving, prepare_of}
+use Rattle.fetch_conversation.specs.Errors.{is_free_listing, is_free_receiving, is_interrupted, prepare_of}
 use Rattle.fetch_conversation.specs.ListStage.{InquiryValue, ListedValue, list_stage, inquiry_stage, shown, pending_of}
 use Rattle.fetch_conversation.specs.Receiving.{IsHeeded}
 use Rattle.fetch_conversation.specs.declared.conversing.Received.{Received}
@@ -90,12 +90,12 @@ pub record BreaksOff (answers : Bool) (old now : Option Talk) (q : InquiryValue)
   pub broke : Breaks is_free_listing answers q.options.max_reply_bytes old now [] (list_stage q.options.max_reply_bytes q) e
 
 -- The listing broke off, with the peer left so. The peer's fault is told only where its count rose, and the interrupt was
--- asked before each receive.
+-- asked once before each receive.
 pub record IsUnlisted {P : Type 0} (told : P → Option Talk) (faults : P → Faults) (answers : Bool) (will will' : ℕ → Type 0) (q : InquiryValue) (before last : P) (e : PrepareError) : Type 0 where
   pub off : BreaksOff answers (told before) (told last) q e
   pub counts : Counts (faults before) (faults last)
   pub transport : e ≡ prepare.RefMap ref_map.Transport → Rose (faults before) (faults last)
-  pub questions : IsHeeded {T = Listed} will will' (told before) (told last) (Err e)
+  pub questions : IsHeeded {T = Listed} is_interrupted will will' (told before) (told last) (Err e)
 
 -- ---- the first stage by itself
 

@@ -3,6 +3,7 @@
 ghost use Rattle.std.specs.Prelude.{◌≡◌, false, IfOk, IfErr, OnOk, IsErrOf};
 ghost use Rattle.std.specs.Borrow.{sem};
 ghost use Rattle.fetch_store.specs.Faults.{Rose, Counts};
+ghost use Rattle.fetch_conversation.specs.Errors.{is_interrupted, is_interrupted_map};
 ghost use Rattle.fetch_conversation.specs.Receiving.{IsHeeded};
 ghost use Rattle.fetch_conversation.specs.declared.prepare.Error.TheVariants as prepare_errors;
 ghost use Rattle.fetch_conversation.specs.declared.ref_map.Error.TheVariants as ref_map_errors;
@@ -59,7 +60,7 @@ impl<'a, P: Peer> Connection<'a, P> {
     }
 
     /// Asks for the greeting, then for the listing, and maps what is listed, also where no refspec is named. The interrupt is
-    /// asked before each receive. The peer is left behind what was heard and given.
+    /// asked once before each receive. The peer is left behind what was heard and given.
     pub fn ref_map<I: Interrupt>(
         self,
         alloc: Global,
@@ -76,13 +77,13 @@ impl<'a, P: Peer> Connection<'a, P> {
         ensures asked { Counts (I.yes interrupt.old) (I.yes interrupt.new) }
         ensures interrupted { IsErrOf result ref_map_errors.Interrupted → Rose (I.yes interrupt.old) (I.yes interrupt.new) }
         ensures uninterrupted { OnOk result ((I.yes interrupt.new).count ≡ (I.yes interrupt.old).count) }
-        ensures questions { IsHeeded (I.will_stop interrupt.old) (I.will_stop interrupt.new) (P.told (peer_of self.entry).now) (P.told self.exit.1.0.now) result }
+        ensures questions { IsHeeded is_interrupted_map (I.will_stop interrupt.old) (I.will_stop interrupt.new) (P.told (peer_of self.entry).now) (P.told self.exit.1.0.now) result }
     {
         let Connection { remote, peer } = self;
         inquired(alloc, remote, repo, peer, interrupt, options)
     }
 
-    /// Asks for the greeting, then for the listing, and maps what is listed, to fetch it. The interrupt is asked before each
+    /// Asks for the greeting, then for the listing, and maps what is listed, to fetch it. The interrupt is asked once before each
     /// receive. The fetch is no dry run, writes loose references and the usual message, and doesn't change the depth, until
     /// that is chosen. After an error the peer is left behind what was heard and given.
     pub fn prepare_fetch<I: Interrupt>(
@@ -103,7 +104,7 @@ impl<'a, P: Peer> Connection<'a, P> {
         ensures asked { Counts (I.yes interrupt.old) (I.yes interrupt.new) }
         ensures interrupted { IsErrOf result (prepare_errors.RefMap ref_map_errors.Interrupted) → Rose (I.yes interrupt.old) (I.yes interrupt.new) }
         ensures uninterrupted { OnOk result ((I.yes interrupt.new).count ≡ (I.yes interrupt.old).count) }
-        ensures questions { IfOk result (λ p. IsHeeded (I.will_stop interrupt.old) (I.will_stop interrupt.new) (P.told (peer_of self.entry).now) (P.told (lent p).now) result) }
+        ensures questions { IfOk result (λ p. IsHeeded is_interrupted (I.will_stop interrupt.old) (I.will_stop interrupt.new) (P.told (peer_of self.entry).now) (P.told (lent p).now) result) }
     {
         let Connection { remote, peer } = self;
         match listed_for(alloc, remote, repo, peer, interrupt, options) {
@@ -133,7 +134,7 @@ fn inquired<P: Peer, I: Interrupt>(
     ensures asked { Counts (I.yes interrupt.old) (I.yes interrupt.new) }
     ensures interrupted { IsErrOf result ref_map_errors.Interrupted → Rose (I.yes interrupt.old) (I.yes interrupt.new) }
     ensures uninterrupted { OnOk result ((I.yes interrupt.new).count ≡ (I.yes interrupt.old).count) }
-    ensures questions { IsHeeded (I.will_stop interrupt.old) (I.will_stop interrupt.new) (P.told peer.old) (P.told peer.new) result }
+    ensures questions { IsHeeded is_interrupted_map (I.will_stop interrupt.old) (I.will_stop interrupt.new) (P.told peer.old) (P.told peer.new) result }
 {
     let inquiry = Inquiry {
         address: remote.address(),
@@ -176,7 +177,7 @@ fn listed_for<P: Peer, I: Interrupt>(
     ensures asked { Counts (I.yes interrupt.old) (I.yes interrupt.new) }
     ensures interrupted { IsErrOf result (prepare_errors.RefMap ref_map_errors.Interrupted) → Rose (I.yes interrupt.old) (I.yes interrupt.new) }
     ensures uninterrupted { OnOk result ((I.yes interrupt.new).count ≡ (I.yes interrupt.old).count) }
-    ensures questions { IsHeeded (I.will_stop interrupt.old) (I.will_stop interrupt.new) (P.told peer.old) (P.told peer.new) result }
+    ensures questions { IsHeeded is_interrupted (I.will_stop interrupt.old) (I.will_stop interrupt.new) (P.told peer.old) (P.told peer.new) result }
 {
     let map = options.try_clone()?;
     let listed = list(alloc, remote, repo.settings(), peer, interrupt, options)?;

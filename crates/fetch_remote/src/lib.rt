@@ -5,7 +5,6 @@ pub mod branch;
 mod changing;
 pub mod connect;
 mod connection;
-mod copies;
 pub mod delete;
 mod deleting;
 mod deletion;
@@ -41,6 +40,7 @@ mod undeletable;
 pub mod upstream;
 
 pub use connection::Connection;
+pub use deletion::deletable;
 pub use direction::Direction;
 pub use fetch_conversation::{
     Negotiate, agent, algorithm, fetch, prepare, ref_map, rejects_shallow,

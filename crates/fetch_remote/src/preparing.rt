@@ -4,6 +4,7 @@ ghost use Rattle.std.specs.Prelude.{◌≡◌, ℕ, None, true, false, List, Opt
 ghost use Rattle.fetch_store.specs.Faults.{Rose, Counts};
 ghost use Rattle.fetch_store.specs.FileCalls.{IsRefused as IsBlocked};
 ghost use Rattle.fetch_wire.specs.Talks.{Talk};
+ghost use Rattle.fetch_conversation.specs.Errors.{is_stopped};
 ghost use Rattle.fetch_conversation.specs.Receiving.{IsHeeded};
 ghost use Rattle.fetch_conversation.specs.declared.fetch.Error.TheVariants as receive_errors;
 ghost use Rattle.fetch_update.specs.declared.update.Error.TheVariants as update_errors;
@@ -140,7 +141,7 @@ impl<'a, P: Peer> Prepare<'a, P> {
         ensures asked { Counts (I.yes interrupt.old) (I.yes interrupt.new) }
         ensures stopped { IsErrOf result receive_errors.Interrupted → Rose (I.yes interrupt.old) (I.yes interrupt.new) }
         ensures uninterrupted { OnOk result ((I.yes interrupt.new).count ≡ (I.yes interrupt.old).count) }
-        ensures questions { IsHeeded (I.will_stop interrupt.old) (I.will_stop interrupt.new) (P.told (lent self.entry).now) (P.told self.exit.1.0.now) result }
+        ensures questions { IsHeeded is_stopped (I.will_stop interrupt.old) (I.will_stop interrupt.new) (P.told (lent self.entry).now) (P.told self.exit.1.0.now) result }
         ensures dry { (prepared_of self.entry).options.dry_run ≡ true → files.new ≡ files.old }
         ensures unread { IfOk result (λ outcome. made_in (setup_of repo.old).settings.git_dir outcome.status ≡ None → files.new ≡ files.old) }
         ensures early { IfErr result (λ e. is_early e ≡ true → files.new ≡ files.old) }
@@ -198,7 +199,7 @@ fn fetch_on<R: Threads + Sync, P: Peer, Q: Progress, I: Interrupt, F: Files, W: 
     ensures asked { Counts (I.yes interrupt.old) (I.yes interrupt.new) }
     ensures stopped { IsErrOf result receive_errors.Interrupted → Rose (I.yes interrupt.old) (I.yes interrupt.new) }
     ensures uninterrupted { OnOk result ((I.yes interrupt.new).count ≡ (I.yes interrupt.old).count) }
-    ensures questions { IsHeeded (I.will_stop interrupt.old) (I.will_stop interrupt.new) (P.told peer.old) (P.told peer.new) result }
+    ensures questions { IsHeeded is_stopped (I.will_stop interrupt.old) (I.will_stop interrupt.new) (P.told peer.old) (P.told peer.new) result }
     ensures dry { prepared.options.dry_run ≡ true → files.new ≡ files.old }
     ensures unread { IfOk result (λ outcome. made_in (setup_of repo.old).settings.git_dir outcome.status ≡ None → files.new ≡ files.old) }
     ensures early { IfErr result (λ e. is_early e ≡ true → files.new ≡ files.old) }

@@ -5,6 +5,7 @@ ghost use Rattle.fetch_store.specs.Faults.{Rose, Counts};
 ghost use Rattle.fetch_store.specs.Collisions.{HasDistinctIds};
 ghost use Rattle.fetch_store.specs.Stores.{AreOf};
 ghost use Rattle.fetch_conversation.specs.ListStage.{IsReady};
+ghost use Rattle.fetch_conversation.specs.Errors.{is_stopped};
 ghost use Rattle.fetch_conversation.specs.Receiving.{IsHeeded};
 ghost use Rattle.fetch_conversation.specs.declared.fetch.Error.TheVariants as receive_errors;
 ghost use Rattle.fetch_conversation.specs.declared.prepare.Error.TheVariants as prepare_errors;
@@ -112,7 +113,7 @@ pub(crate) fn talk_on<R: Threads + Sync, P: Peer, Q: Progress, I: Interrupt>(
     ensures asked { Counts (I.yes interrupt.old) (I.yes interrupt.new) }
     ensures stopped { IsErrOf result receive_errors.Interrupted → Rose (I.yes interrupt.old) (I.yes interrupt.new) }
     ensures uninterrupted { OnOk result ((I.yes interrupt.new).count ≡ (I.yes interrupt.old).count) }
-    ensures questions { IsHeeded (I.will_stop interrupt.old) (I.will_stop interrupt.new) (P.told peer.old) (P.told peer.new) result }
+    ensures questions { IsHeeded is_stopped (I.will_stop interrupt.old) (I.will_stop interrupt.new) (P.told peer.old) (P.told peer.new) result }
 {
     let mut listed = listed;
     let tags = remote.fetch_tags();

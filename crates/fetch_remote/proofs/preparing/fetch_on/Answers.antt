@@ -1,18 +1,25 @@
-use Rattle.std.proofs.Common.{refl, IfOk, IfErr, Result, Ok, Err}
+use Rattle.std.proofs.Common.{◌≡◌, ◌≢◌, false, refl, ◌∙◌, IfOk, IfErr, Result, Ok, Err}
 use Rattle.std.proofs.lemmas.Result.{err_from_is_err_and}
 use Rattle.fetch_update.specs.declared.update.Error.TheVariants as update
+use Rattle.fetch_conversation.specs.Errors.{is_stopped}
 use Rattle.fetch_conversation.specs.ListStage.{shown}
 use Rattle.fetch_conversation.specs.declared.fetch.Error.{Error}
 use Rattle.fetch_conversation.specs.declared.fetch.Error.TheVariants as receive
-use Rattle.fetch_conversation.proofs.Heeded.{heeded_still, heeded_as, heeded_err}
+use Rattle.fetch_conversation.proofs.Heeded.{heeded_still, heeded_as, none_asked}
 use Rattle.fetch_remote.specs.Errors.{receiving}
 use Rattle.fetch_remote.specs.Form.{Given}
 use Rattle.fetch_remote.specs.Repositories.{state_of, setup_of}
+use Rattle.fetch_remote.proofs.Asked.{receiving_yes, settling_yes}
 use Rattle.fetch_remote.proofs.Complete.{complete}
 use Rattle.fetch_remote.proofs.Fetched.{is_fetched}
 use Rattle.fetch_remote.proofs.Refused.{broken_off, not_settled}
 use Rattle.fetch_remote.proofs.Steps.{has_received, talked_on, breaks_on, forgot_on, is_spoken, same_error, of_ok, of_err}
 use Rattle.fetch_remote.proofs.preparing.fetch_on.Goals as goal
+
+-- the settling tells no yes of the interrupt
+unstopped : {T : Type 0} (p : Error → Type 0) (result : Result T Error) → IfErr result p → ((e : Error) → p e → e ≢ receive.Interrupted) → IfErr result (λ e. is_stopped e ≡ false)
+unstopped p (Ok x) h isnt = tt
+unstopped p (Err e) h isnt = receiving_yes e ∙ settling_yes e (isnt e h)
 
 -- ---- memory runs out before anything is asked
 
@@ -29,7 +36,7 @@ returns-in_err-how-clause-complete g c =
 pub returns-in_err-how-clause-questions : goal.returns-in_err-how-clause-questions
 returns-in_err-how-clause-questions g c =
     let p = err_from_is_err_and c.from_residual.result c.from_residual.ensures.1 in
-    rw (p.1, p.2) (heeded_still _ _ _)
+    rw (p.1, p.2) (heeded_still _ _ _ _ refl)
 
 -- ---- the conversation breaks off
 
@@ -48,7 +55,7 @@ returns-in_err-talked-clause-complete g c =
 pub returns-in_err-talked-clause-questions : goal.returns-in_err-talked-clause-questions
 returns-in_err-talked-clause-questions g c =
     let p = err_from_is_err_and c.from_residual-in_err-talked.result c.from_residual-in_err-talked.ensures.1 in
-    rw (p.1, p.2) (heeded_err _ _ _ _ _ _ c.in_err-talked.ensures.questions)
+    rw (p.1, p.2) (heeded_as _ _ _ _ _ _ _ _ refl c.in_err-talked.ensures.questions)
 
 pub returns-in_err-talked-clause-listing : goal.returns-in_err-talked-clause-listing
 returns-in_err-talked-clause-listing g c is =
@@ -124,4 +131,4 @@ returns-clause-complete g c =
     c.settle.ensures.refused
 
 pub returns-clause-questions : goal.returns-clause-questions
-returns-clause-questions g c = heeded_as _ _ _ _ _ _ c.in_ok-talked.ensures.questions
+returns-clause-questions g c = heeded_as _ _ _ _ _ _ _ _ (none_asked is_stopped c.settle.result (unstopped _ c.settle.result c.settle.ensures.refused (λ e u. u.by.unheard.1))) c.in_ok-talked.ensures.questions
