@@ -142,7 +142,7 @@ refused g trees before after files (errors.Prepare e) a b stream told c h = refu
 refused g trees before after files (errors.Receive e) a b stream told c h =
     refused_for g trees before after files (errors.Receive e) a b stream (same_talk a _ told) (sure_receiving e c (never_kept g trees before after files e a b c h)) h
 
-pub fetched : (g : Given) (trees : List Worktree) (before after : State) (files : Tree) (a b : Talk) (stream : List ℕ) (result : Result Outcome FetchError) → Some a ≡ Some (record { heard = []; given = []; to_come = stream; receives = []; rule = None })
+fetched_told : (g : Given) (trees : List Worktree) (before after : State) (files : Tree) (a b : Talk) (stream : List ℕ) (result : Result Outcome FetchError) → Some a ≡ Some (record { heard = []; given = []; to_come = stream; receives = []; rule = None })
     → IfOk result (λ outcome. IsFetched false (Some a) (Some b) (Some trees) (Some map.empty) (Some files) g before after outcome) → IfErr result (λ e. IsRefused false (Some a) (Some b) (Some trees) (Some map.empty) (Some files) g before after e)
     → IsCalm result → HasFetched g trees before stream result after files b.heard
 fetched_told g trees before after files a b stream (Ok outcome) told h r c = record { by = done g trees before after files outcome a b stream told h }
@@ -150,7 +150,7 @@ fetched_told g trees before after files a b stream (Err e) told h r c = record {
 
 -- the same from what is told of the worktrees and the files before
 pub fetched : (g : Given) (trees : List Worktree) (before after : State) (files : Tree) (a b : Talk) (stream : List ℕ) (result : Result Outcome FetchError) (listed : Option (List Worktree)) (stood : Option Tree)
-    → Some a ≡ Some (record { heard = []; given = []; to_come = stream; rule = None }) → listed ≡ Some trees → stood ≡ Some map.empty
+    → Some a ≡ Some (record { heard = []; given = []; to_come = stream; receives = []; rule = None }) → listed ≡ Some trees → stood ≡ Some map.empty
     → IfOk result (λ outcome. IsFetched false (Some a) (Some b) listed stood (Some files) g before after outcome) → IfErr result (λ e. IsRefused false (Some a) (Some b) listed stood (Some files) g before after e)
     → IsCalm result → HasFetched g trees before stream result after files b.heard
 fetched g trees before after files a b stream result listed stood told trees_are nothing h r c = fetched_told g trees before after files a b stream result told (rw (trees_are, nothing) at h) (rw (trees_are, nothing) at r) c

@@ -48,7 +48,7 @@ added : (out one two : List ℕ) (s : State) (objects refs : ℕ) → objects �
 added out one two s objects refs objects_are refs_are first second =
     let o : objects ≡ length (map.keys s.objects) = objects_are ∙ as_many_ids s.objects in
     let both : two ≡ out ++ (counted_line (codes "objects ") objects ++ counted_line (codes "refs ") refs) =
-      second ∙ ap (λ (l : List ℕ). l ++ counted_line (codes "refs ") refs) first ∙ append_assoc out (counted_line (codes "objects ") objects) (counted_line (codes "refs ") refs) in
+    second ∙ ap (λ (l : List ℕ). l ++ counted_line (codes "refs ") refs) first ∙ append_assoc out (counted_line (codes "objects ") objects) (counted_line (codes "refs ") refs) in
     rw (o, refs_are) at both
 
 pub counts : {T E : Type 0} (result : Result T E) (out one two : List ℕ) (s : State) (objects refs : ℕ) → objects ≡ map.len s.objects → refs ≡ length (map.entries s.refs.names)
