@@ -48,7 +48,7 @@ pub settled_from : (g : Given) (trees : List Worktree) (before : State) (l : Lis
 unfolding settled
 settled_from g trees before l r s u took judged = rw (took, judged) refl
 
-listed_in_all : {X : Type 0} (read : List ℕ → X) (found : List ℕ → X) (first second behind more : List ℕ) → read (first ++ (second ++ more)) ≡ found (behind ++ (second ++ more))
+pub listed_in_all : {X : Type 0} (read : List ℕ → X) (found : List ℕ → X) (first second behind more : List ℕ) → read (first ++ (second ++ more)) ≡ found (behind ++ (second ++ more))
     → read ((first ++ (second ++ [])) ++ more) ≡ found ((behind ++ second) ++ more)
 listed_in_all read found first second behind more is =
     let a : (first ++ (second ++ [])) ++ more ≡ first ++ (second ++ more) = rw append-nil (append_assoc first second more) in
@@ -56,7 +56,7 @@ listed_in_all read found first second behind more is =
 
 -- ---- its parts
 
-has_heard : (answers : Bool) (old new : Option Talk) (g : Given) (before : State) (l : ListedValue) (r : Option Received) (rest : List ℕ) → (told : HasTold answers old new g before l r rest)
+pub has_heard : (answers : Bool) (old new : Option Talk) (g : Given) (before : State) (l : ListedValue) (r : Option Received) (rest : List ℕ) → (told : HasTold answers old new g before l r rest)
     → HasHeard answers old new g before (said_in answers old new g before l r rest told)
 has_heard answers old new g before l r rest told =
     let k = told_spoken answers old new g before l r rest told in
@@ -68,7 +68,7 @@ has_heard answers old new g before l r rest told =
 abbrev at_outcome : Given → ListedValue → Option Received → Updates → Outcome
 at_outcome g l r u = outcome_in g.setup.settings.git_dir (manner_in g) l r u
 
-has_read : (answers : Bool) (old new : Option Talk) (g : Given) (before : State) (l : ListedValue) (r : Option Received) (rest : List ℕ) (u : Updates) → (told : HasTold answers old new g before l r rest)
+unfoldable pub has_read : (answers : Bool) (old new : Option Talk) (g : Given) (before : State) (l : ListedValue) (r : Option Received) (rest : List ℕ) (u : Updates) → (told : HasTold answers old new g before l r rest)
     → HasRead g before (said_in answers old new g before l r rest told) (at_outcome g l r u)
 has_read answers old new g before l r rest u told =
     let m = (is_mapped (bound_of g) (inquiry_in g) _ l _ (told.list.answered [])).map in

@@ -56,11 +56,11 @@ gives_answer p bound (ends (Err e)) stream x rest h is = absurd (cc)
 gives_answer p bound (asks lines awaited failed next) stream x rest h is =
     gives_after p bound failed next (told_at bound awaited stream) x rest (λ t s. gives_answer p bound (next t) s x rest (h t)) is
 
-gives_ok : {X : Type 0} (E : Type 0) (p : X → Type 0) (x : X) → p x → Gives {E = E} p (ends (Ok x))
+pub gives_ok : {X : Type 0} (E : Type 0) (p : X → Type 0) (x : X) → p x → Gives {E = E} p (ends (Ok x))
 unfolding Gives
 gives_ok E p x h = h
 
-gives_err : {X E : Type 0} (p : X → Type 0) (e : E) → Gives p (ends (Err e))
+pub gives_err : {X E : Type 0} (p : X → Type 0) (e : E) → Gives p (ends (Err e))
 unfolding Gives
 gives_err p e = tt
 
@@ -75,7 +75,7 @@ gives_long p (Some n) long c h = gives_err p (long n)
 gives_asking : {X E : Type 0} (p : X → Type 0) (long : ℕ → E) (lines : List Line) (awaited : Await) (failed : Fault → E) (next : Told → Conversation X E) → ((t : Told) → Gives p (next t)) → Gives p (asking long lines awaited failed next)
 gives_asking p long lines awaited failed next h = gives_long p (first_too_long lines) long _ (gives_asks p lines awaited failed next h)
 
-gives_unless : {X E : Type 0} (p : X → Type 0) (o : Option E) (c : Conversation X E) → Gives p c → Gives p (unless o c)
+pub gives_unless : {X E : Type 0} (p : X → Type 0) (o : Option E) (c : Conversation X E) → Gives p c → Gives p (unless o c)
 gives_unless p None c h = h
 gives_unless p (Some e) c h = gives_err p e
 
@@ -132,11 +132,11 @@ either_gives : {X E A B : Type 0} (p : X → Type 0) (f : Result A B → Result 
 either_gives p f ok err (Ok a) = ok a
 either_gives p f ok err (Err b) = err b
 
-dry_or_gives : {X E : Type 0} (p : X → Type 0) (dry : Bool) (x : X) (r : Result X E) → p x → Gives p (ends r) → Gives p (ends (if dry then Ok x else r))
+pub dry_or_gives : {X E : Type 0} (p : X → Type 0) (dry : Bool) (x : X) (r : Result X E) → p x → Gives p (ends r) → Gives p (ends (if dry then Ok x else r))
 dry_or_gives p true x r h k = gives_ok _ p x h
 dry_or_gives p false x r h k = k
 
-unless_gives : {X E : Type 0} (p : X → Type 0) (o : Option E) (r : Result X E) → Gives p (ends r) → Gives p (ends (result_unless o r))
+pub unless_gives : {X E : Type 0} (p : X → Type 0) (o : Option E) (r : Result X E) → Gives p (ends r) → Gives p (ends (result_unless o r))
 unless_gives p None r h = h
 unless_gives p (Some e) r h = gives_err p e
 
@@ -148,7 +148,7 @@ received_gives t n same =
     (either_gives (IsReceived t) (unpacked n) (λ c. gives_ok _ (IsReceived t) (Some (with_pack n c)) (some_received t (with_pack n c) same)) (λ e. gives_err (IsReceived t) _) _))
 
 -- one conversation after another gives what the other gives
-gives_then : {X Y E : Type 0} (p : Y → Type 0) (c : Conversation X E) (f : X → Conversation Y E) → ((x : X) → Gives p (f x)) → Gives p (and_then c f)
+pub gives_then : {X Y E : Type 0} (p : Y → Type 0) (c : Conversation X E) (f : X → Conversation Y E) → ((x : X) → Gives p (f x)) → Gives p (and_then c f)
 unfolding Gives and_then
 gives_then p (ends (Ok x)) f h = h x
 gives_then p (ends (Err e)) f h = tt

@@ -34,3 +34,9 @@ abbrev pub is_free : FetchError → Bool
 is_free (errors.Prepare e) = is_transport e || is_interrupted e
 is_free (errors.Receive e) = is_client e || (is_stopped e || (is_unkept e || is_unlisted e))
 is_free errors.NoMemory = true
+
+-- the peer's fault
+abbrev pub is_of_peer : FetchError → Bool
+is_of_peer (errors.Prepare e) = is_transport e
+is_of_peer (errors.Receive e) = is_client e
+is_of_peer errors.NoMemory = false

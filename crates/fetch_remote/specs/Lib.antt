@@ -24,3 +24,4 @@ pub mod Requested
 pub mod Lasting
 pub mod Deleting
 pub mod DeletionSteps
+pub mod Undeletable

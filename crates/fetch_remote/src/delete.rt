@@ -1,5 +1,7 @@
 //! Why branches weren't deleted, or what is left to clean up behind them.
 
+ghost use Rattle.std.specs.Prelude.{◌≡◌, IfOk};
+
 use crate::open_error::OpenError;
 use fetch_specs::FullName;
 use fetch_store::{List, NoMemory, Text};
@@ -59,6 +61,37 @@ pub enum Error {
     /// Memory ran out.
     #[error("out of memory")]
     NoMemory,
+}
+
+impl Error {
+    /// An equal error.
+    pub fn try_clone(&self) -> Result<Error, NoMemory>
+        ensures { IfOk result (λ copy. copy ≡ self.now) }
+    {
+        match self {
+            Error::NotLocal { name } => Ok(Error::NotLocal {
+                name: name.try_clone()?,
+            }),
+            Error::WorktreeListing => Ok(Error::WorktreeListing),
+            Error::OpenWorktreeRepo => Ok(Error::OpenWorktreeRepo),
+            Error::FollowSymref => Ok(Error::FollowSymref),
+            Error::CheckedOut {
+                name,
+                worktree_dirs,
+            } => Ok(Error::CheckedOut {
+                name: name.try_clone()?,
+                worktree_dirs: worktree_dirs.try_clone_with(Text::try_clone)?,
+            }),
+            Error::ConfigRead { cause } => Ok(Error::ConfigRead {
+                cause: cause.try_clone()?,
+            }),
+            Error::Cleanup { references, source } => Ok(Error::Cleanup {
+                references: references.try_clone_with(FullName::try_clone)?,
+                source: *source,
+            }),
+            Error::NoMemory => Ok(Error::NoMemory),
+        }
+    }
 }
 
 impl From<NoMemory> for Error {

@@ -147,7 +147,7 @@ impl Repository {
 }
 
 /// Names in ascending order, each once.
-fn in_order(alloc: Global, names: &[FullName]) -> Result<List<FullName>, NoMemory>
+pub(crate) fn in_order(alloc: Global, names: &[FullName]) -> Result<List<FullName>, NoMemory>
     ensures { IfOk result (λ list. list ≡ spec.in_order names.now) }
 {
     let mut set = BTreeSet::new(alloc);

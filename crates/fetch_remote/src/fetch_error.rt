@@ -1,6 +1,7 @@
 //! Why a fetch was refused.
 
 ghost use Rattle.std.specs.Prelude.{◌≡◌, IfOk};
+ghost use Rattle.fetch_remote.specs.Errors.{is_of_peer};
 
 use crate::{fetch, prepare};
 use fetch_store::NoMemory;
@@ -20,6 +21,17 @@ pub enum FetchError {
 }
 
 impl FetchError {
+    /// Whether it is the peer's fault.
+    pub fn is_spurious(&self) -> bool
+        ensures { result ≡ is_of_peer self.now }
+    {
+        match self {
+            FetchError::Prepare(e) => e.is_spurious(),
+            FetchError::Receive(e) => e.is_spurious(),
+            FetchError::NoMemory => false,
+        }
+    }
+
     /// An equal error.
     pub fn try_clone(&self) -> Result<FetchError, NoMemory>
         ensures { IfOk result (λ copy. copy ≡ self.now) }

@@ -22,10 +22,12 @@ use std::alloc::Global;
 
 /// A pack whose keep file was made.
 #[derive(Drop)]
-pub(crate) struct Kept {
-    pub(crate) num_objects: u32,
-    pub(crate) digest: ObjectId,
-    pub(crate) path: Text,
+pub struct Kept {
+    /// How many objects it has, each as often as it comes.
+    pub num_objects: u32,
+    pub digest: ObjectId,
+    /// Where the keep file stands.
+    pub path: Text,
 }
 
 /// Makes the file that keeps the pack of a digest, `<git dir>/objects/pack/pack-<digest>.keep`, and answers its path. The
@@ -69,7 +71,7 @@ pub fn remove_keep<F: Files>(files: &mut F, path: Text) -> Result<(), fetch::Err
 }
 
 /// Makes the keep file of a pack, where one was read.
-pub(crate) fn keep<F: Files>(
+pub fn keep<F: Files>(
     alloc: Global,
     files: &mut F,
     settings: &Settings,

@@ -7,6 +7,7 @@ pub mod connect;
 mod copies;
 pub mod delete;
 mod deleting;
+mod deletion;
 mod direction;
 mod editing;
 mod fetch_error;
@@ -36,6 +37,7 @@ mod threads;
 mod undeletable;
 pub mod upstream;
 
+pub use deletion::deletable;
 pub use direction::Direction;
 pub use fetch_conversation::{
     Negotiate, agent, algorithm, fetch, prepare, ref_map, rejects_shallow,

@@ -32,23 +32,23 @@ use std::alloc::Global;
 
 /// How a fetch is to be settled.
 #[derive(Debug, Drop)]
-pub(crate) struct Manner {
+pub struct Manner {
     /// What is done with tags.
-    pub(crate) tags: Tags,
+    pub tags: Tags,
     /// Whether nothing is changed.
-    pub(crate) dry_run: bool,
+    pub dry_run: bool,
     /// Where references are written.
-    pub(crate) packed: PackedRefs,
+    pub packed: PackedRefs,
     /// What reflogs say.
-    pub(crate) message: RefLogMessage,
+    pub message: RefLogMessage,
 }
 
 /// What the outcome tells of what was received.
 #[derive(Drop)]
-struct Taken {
-    negotiate: Negotiate,
+pub struct Taken {
+    pub negotiate: Negotiate,
     /// With the keep file that was made.
-    pack: Option<Kept>,
+    pub pack: Option<Kept>,
 }
 
 /// Makes the keep file, takes what was received, judges the mapped references, moves them, and removes the keep file
@@ -299,7 +299,7 @@ fn move_refs(repo: &mut Repository, how: &Manner, edits: &[RefEdit]) -> Result<(
 }
 
 /// Whether a pack came, and what became of the mappings. The keep file is removed, unless it stays. Takes no memory.
-fn status<F: Files>(
+pub fn status<F: Files>(
     files: &mut F,
     dry_run: bool,
     taken: Option<Taken>,

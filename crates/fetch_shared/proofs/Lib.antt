@@ -14,3 +14,10 @@ pub mod SeatSteps
 pub mod Back
 pub mod Turned
 pub mod Starts
+pub mod Saw
+pub mod Named
+pub mod Spoken
+pub mod Brought
+pub mod Settled
+pub mod Fetched
+pub mod Places

@@ -61,6 +61,7 @@ refused cause (errors.Disconnected link) is = is
 refused cause (errors.Collision id) is = is
 refused cause (errors.EditReferences name found) is = is
 refused cause (errors.Fetch e) is = is
+refused cause (errors.Delete e) is = is
 refused cause errors.NoMemory is = tt
 
 pub answered : (names : Names) (edits : List RefEdit) (cause : RefError) (e : SharedError) → IsCause names edits cause → IsTold edits cause e → Answers {X = Unit {0}} (commit_refusal names edits) (Err e)

@@ -12,3 +12,11 @@ pub mod Turns
 pub mod Passes
 pub mod PassCodes
 pub mod Received
+pub mod Errors
+pub mod Receipts
+pub mod Deleting
+pub mod Seen
+pub mod Talking
+pub mod Bringing
+pub mod Settling
+pub mod Fetching

@@ -20,11 +20,12 @@ pub record Which : Type 0 where
   pub table : TableId
   pub opening : RepositoryValue
 
--- the lock's parts: two words and one slot, and what never changes beside them
+-- the lock's parts: two words and one slot, and what never changes beside them, which is of the repository's hash
 pub record IsShared (table : TableId) (opening : RepositoryValue) (settings : Settings) : Type 0 where
   pub words : table.words ≡ 2
   pub slots : table.slots ≡ 1
   pub settings_are : settings ≡ opening.setup.settings
+  pub same_hash : settings.kind ≡ opening.state.hash
 
 -- which shared repository it is of, its number, its unused numbers, the ranges of the numbers that it holds, and its front: what it
 -- has seen of the journal

@@ -1,15 +1,17 @@
 //! Why a shared repository refuses.
 
 ghost use Rattle.std.specs.Prelude.{◌≡◌, IfOk};
+ghost use Rattle.fetch_shared.specs.Errors.{is_of_peer};
 
 use fetch_refs::Target;
-use fetch_remote::FetchError;
+use fetch_remote::{FetchError, delete};
 use fetch_specs::FullName;
 use fetch_store::{Missing, NoMemory, ObjectId};
 use std::alloc::AllocError;
 use thiserror::Error;
 
-/// Why an event of a shared repository isn't allowed, or why a repository can't be shared.
+/// Why an event of a shared repository isn't allowed, why a fetch or a deletion that makes such events is refused, or why a
+/// repository can't be shared.
 #[derive(Debug, Drop, Error)]
 pub enum SharedError {
     /// The repository isn't closed: this is its first missing link.
@@ -38,12 +40,25 @@ pub enum SharedError {
     /// A fetch was refused.
     #[error(transparent)]
     Fetch(FetchError),
+    /// Branches weren't deleted.
+    #[error(transparent)]
+    Delete(delete::Error),
     /// Memory ran out.
     #[error("out of memory")]
     NoMemory,
 }
 
 impl SharedError {
+    /// Whether it is the peer's fault.
+    pub fn is_spurious(&self) -> bool
+        ensures { result ≡ is_of_peer self.now }
+    {
+        match self {
+            SharedError::Fetch(cause) => cause.is_spurious(),
+            _ => false,
+        }
+    }
+
     /// A copy of the error.
     pub fn try_clone(&self) -> Result<SharedError, NoMemory>
         ensures { IfOk result (λ copy. copy ≡ self.now) }
@@ -57,6 +72,7 @@ impl SharedError {
                 found: copy_of(found)?,
             }),
             SharedError::Fetch(cause) => Ok(SharedError::Fetch(cause.try_clone()?)),
+            SharedError::Delete(cause) => Ok(SharedError::Delete(cause.try_clone()?)),
             SharedError::NoMemory => Ok(SharedError::NoMemory),
         }
     }
@@ -68,6 +84,36 @@ fn copy_of(found: &Option<Target>) -> Result<Option<Target>, NoMemory>
     match found {
         Some(target) => Ok(Some(target.try_clone()?)),
         None => Ok(None),
+    }
+}
+
+/// Want of memory stays want of memory.
+impl From<FetchError> for SharedError {
+    ghost use Rattle.std.specs.Prelude.{◌≡◌};
+    ghost use Rattle.fetch_shared.specs.Errors.{fetching};
+
+    ghost from_gives = { λ e f. f ≡ fetching e };
+
+    fn from(e: FetchError) -> SharedError {
+        match e {
+            FetchError::NoMemory => SharedError::NoMemory,
+            e => SharedError::Fetch(e),
+        }
+    }
+}
+
+/// Want of memory stays want of memory.
+impl From<delete::Error> for SharedError {
+    ghost use Rattle.std.specs.Prelude.{◌≡◌};
+    ghost use Rattle.fetch_shared.specs.Errors.{deleting};
+
+    ghost from_gives = { λ e f. f ≡ deleting e };
+
+    fn from(e: delete::Error) -> SharedError {
+        match e {
+            delete::Error::NoMemory => SharedError::NoMemory,
+            e => SharedError::Delete(e),
+        }
     }
 }
 

@@ -81,7 +81,8 @@ impl SharedRepository {
 
     /// Configuration, leniency, git directory, hash and committer. They never change.
     pub fn settings(&self) -> &Settings
-        ensures { result.now ≡ self.now.opening.setup.settings }
+        ensures settings { result.now ≡ self.now.opening.setup.settings }
+        ensures hash { result.now.kind ≡ self.now.opening.state.hash }
     {
         &self.settings
     }

@@ -197,7 +197,8 @@ impl SharedState {
 
     /// Configuration, leniency, git directory, hash and committer of the repository.
     pub(crate) fn settings(&self) -> &Settings
-        ensures { result.now ≡ self.now.repository.setup.settings }
+        ensures settings { result.now ≡ self.now.repository.setup.settings }
+        ensures hash { result.now.kind ≡ self.now.repository.state.hash }
     {
         self.repo.settings()
     }

@@ -1,0 +1,23 @@
+-- How an inner refusal is told, and which refusals are the peer's fault.
+use Rattle.std.specs.Prelude.{Bool, false}
+use Rattle.fetch_remote.specs.Errors as remote
+use Rattle.fetch_remote.specs.declared.delete.Error.{Error as DeleteError}
+use Rattle.fetch_remote.specs.declared.delete.Error.TheVariants as delete
+use Rattle.fetch_remote.specs.declared.fetch_error.FetchError.{FetchError}
+use Rattle.fetch_remote.specs.declared.fetch_error.FetchError.TheVariants as fetch
+use Rattle.fetch_shared.specs.declared.error.SharedError.{SharedError}
+use Rattle.fetch_shared.specs.declared.error.SharedError.TheVariants as errors
+
+-- want of memory stays what it is
+abbrev pub fetching : FetchError → SharedError
+fetching fetch.NoMemory = errors.NoMemory
+fetching e = errors.Fetch e
+
+abbrev pub deleting : DeleteError → SharedError
+deleting delete.NoMemory = errors.NoMemory
+deleting e = errors.Delete e
+
+-- the peer's fault
+abbrev pub is_of_peer : SharedError → Bool
+is_of_peer (errors.Fetch e) = remote.is_of_peer e
+is_of_peer e = false

@@ -1,0 +1,9 @@
+//! Tests of shared repositories, of what no clause says. They use public calls alone.
+#![tactic(auto)]
+
+#[cfg(test)]
+mod fixture;
+#[cfg(test)]
+mod passes;
+#[cfg(test)]
+mod sharing;
