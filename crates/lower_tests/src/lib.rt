@@ -28,6 +28,8 @@ mod packed_references;
 #[cfg(test)]
 mod packs;
 #[cfg(test)]
+mod passed_over;
+#[cfg(test)]
 mod policy;
 #[cfg(test)]
 mod pushed_branches;

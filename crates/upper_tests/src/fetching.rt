@@ -176,13 +176,18 @@ fn a_peer_that_fails(rt: HostRuntime) -> Result<(), Fail> {
     Ok(())
 }
 
-/// The interrupt is asked before each of three receives.
+/// The interrupt is asked before each of three receives, and that receive, which would fail, isn't made.
 #[test]
 fn an_interrupt_that_says_yes(rt: HostRuntime) -> Result<(), Fail> {
     let alloc = rt.alloc();
     for call in 0..3 {
         let yes = [call];
-        let asked = Asked { yes: &yes, ..WHOLE };
+        let failing = [2 * call + 1];
+        let asked = Asked {
+            yes: &yes,
+            failing: &failing,
+            ..WHOLE
+        };
         let told = match refusal(&rt, alloc, &asked)? {
             Some(FetchError::Prepare(prepare::Error::RefMap(ref_map::Error::Interrupted))) => call
                 < 2,
