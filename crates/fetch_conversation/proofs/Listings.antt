@@ -36,44 +36,36 @@ use Rattle.fetch_conversation.proofs.Tied.{IsTied, IsWord, concluded, refused_at
 abbrev bound_of : InquiryValue → ℕ
 bound_of q = q.options.max_reply_bytes
 
-abbrev Lists : Bool → Option Talk → Option Talk → InquiryValue → Result Listed Error → Type 0
-Lists answers old new q result = Converses is_free_listing answers (bound_of q) old new [] (left_by result) (list_stage (bound_of q) q) (answer_shown result)
+abbrev Inquires : Bool → Option Talk → Option Talk → InquiryValue → Result Listed Error → Type 0
+Inquires answers old new q result = Converses is_free_listing answers (bound_of q) old new [] (left_by result) (inquiry_stage (bound_of q) q) (answer_shown result)
 
 refusing : {X E : Type 0} (bound : ℕ) (c : Conversation X E) (e : E) (stream : List ℕ) → c ≡ ends (Err e) → RefusesWith bound c stream [] e
 unfolding sent_in answer_in
 refusing bound c e stream is = rw is (record { answer = refl; asked = refl })
 
-pub lists_free : (answers : Bool) (old : Option Talk) (q : InquiryValue) (e : Error) → is_free_listing e ≡ true → Lists answers old old q (Err e)
-lists_free answers old q e free = record { held = broken_free is_free_listing answers (bound_of q) old [] (list_stage (bound_of q) q) e free }
+pub inquires_free : (answers : Bool) (old : Option Talk) (q : InquiryValue) (e : Error) → is_free_listing e ≡ true → Inquires answers old old q (Err e)
+inquires_free answers old q e free = record { held = broken_free is_free_listing answers (bound_of q) old [] (inquiry_stage (bound_of q) q) e free }
 
-lists_refusal : (answers : Bool) (old : Option Talk) (q : InquiryValue) (e : Error) → list_stage (bound_of q) q ≡ ends (Err e) → Lists answers old old q (Err e)
-lists_refusal answers old q e is = record { held = broken_first is_free_listing answers (bound_of q) old [] (list_stage (bound_of q) q) e (λ isnt stream. refusing (bound_of q) (list_stage (bound_of q) q) e stream is) }
+inquires_refusal : (answers : Bool) (old : Option Talk) (q : InquiryValue) (e : Error) → inquiry_stage (bound_of q) q ≡ ends (Err e) → Inquires answers old old q (Err e)
+inquires_refusal answers old q e is = record { held = broken_first is_free_listing answers (bound_of q) old [] (inquiry_stage (bound_of q) q) e (λ isnt stream. refusing (bound_of q) (inquiry_stage (bound_of q) q) e stream is) }
 
-missing_stage : (bound : ℕ) (q : InquiryValue) → no_specs q ≡ Some errors.MissingRefSpecs → list_stage bound q ≡ ends (Err errors.MissingRefSpecs)
-unfolding list_stage
-missing_stage bound q is = rw is refl
+bad_stage : (bound : ℕ) (q : InquiryValue) (text : List ℕ) (place : ℕ) → first_bad (texts_told q.address q.options.handshake_parameters q.agent) ≡ Some (text, place) → inquiry_stage bound q ≡ ends (Err (handshaking (wire.BadParameter text place)))
+unfolding inquiry_stage
+bad_stage bound q text place is = rw is refl
 
--- no refspec
-pub lists_missing : (answers : Bool) (old : Option Talk) (q : InquiryValue) → no_specs q ≡ Some errors.MissingRefSpecs → Lists answers old old q (Err errors.MissingRefSpecs)
-lists_missing answers old q is = lists_refusal answers old q errors.MissingRefSpecs (missing_stage (bound_of q) q is)
-
-bad_stage : (bound : ℕ) (q : InquiryValue) (text : List ℕ) (place : ℕ) → no_specs q ≡ None → first_bad (texts_told q.address q.options.handshake_parameters q.agent) ≡ Some (text, place) → list_stage bound q ≡ ends (Err (handshaking (wire.BadParameter text place)))
-unfolding list_stage inquiry_stage
-bad_stage bound q text place some is = rw (some, is) refl
-
-long_stage : (bound : ℕ) (q : InquiryValue) (n : ℕ) → no_specs q ≡ None → first_bad (texts_told q.address q.options.handshake_parameters q.agent) ≡ None → first_too_long (first_of q ∷ []) ≡ Some n → list_stage bound q ≡ ends (Err (too_long n))
-unfolding list_stage inquiry_stage
-long_stage bound q n some good is = rw (some, good, is) refl
+long_stage : (bound : ℕ) (q : InquiryValue) (n : ℕ) → first_bad (texts_told q.address q.options.handshake_parameters q.agent) ≡ None → first_too_long (first_of q ∷ []) ≡ Some n → inquiry_stage bound q ≡ ends (Err (too_long n))
+unfolding inquiry_stage
+long_stage bound q n good is = rw (good, is) refl
 
 -- what can't be sent
-pub lists_unopened : (answers : Bool) (old : Option Talk) (q : InquiryValue) (e : WireError) → no_specs q ≡ None → TellsUnopened q e → Lists answers old old q (Err (prepare_of_wire e))
-lists_unopened answers old q wire.NoMemory some h = lists_free answers old q errors.NoMemory refl
-lists_unopened answers old q (wire.BadParameter text place) some h = lists_refusal answers old q (handshaking (wire.BadParameter text place)) (bad_stage (bound_of q) q text place some h)
-lists_unopened answers old q (wire.LineTooLong n) some h = lists_refusal answers old q (too_long n) (long_stage (bound_of q) q n some h.0 h.1)
-lists_unopened answers old q (wire.Malformed place) some h = absurd h
-lists_unopened answers old q (wire.ServerError text) some h = absurd h
-lists_unopened answers old q (wire.ReplyTooLong bound) some h = absurd h
-lists_unopened answers old q (wire.MissingFeature name) some h = absurd h
+pub inquires_unopened : (answers : Bool) (old : Option Talk) (q : InquiryValue) (e : WireError) → TellsUnopened q e → Inquires answers old old q (Err (prepare_of_wire e))
+inquires_unopened answers old q wire.NoMemory h = inquires_free answers old q errors.NoMemory refl
+inquires_unopened answers old q (wire.BadParameter text place) h = inquires_refusal answers old q (handshaking (wire.BadParameter text place)) (bad_stage (bound_of q) q text place h)
+inquires_unopened answers old q (wire.LineTooLong n) h = inquires_refusal answers old q (too_long n) (long_stage (bound_of q) q n h.0 h.1)
+inquires_unopened answers old q (wire.Malformed place) h = absurd h
+inquires_unopened answers old q (wire.ServerError text) h = absurd h
+inquires_unopened answers old q (wire.ReplyTooLong bound) h = absurd h
+inquires_unopened answers old q (wire.MissingFeature name) h = absurd h
 
 -- ---- a session that is opened
 
@@ -89,14 +81,14 @@ opened_drivable q s h =
       unrefused = refl;
     })
 
-stage_is : (q : InquiryValue) (s : SessionState) → no_specs q ≡ None → IsOpened q s → list_stage (bound_of q) q ≡ inquiring (bound_of q) q (first_of q)
-unfolding list_stage inquiry_stage
-stage_is q s some h = rw (some, h.sendable, h.fits) refl
+stage_is : (q : InquiryValue) (s : SessionState) → IsOpened q s → inquiry_stage (bound_of q) q ≡ inquiring (bound_of q) q (first_of q)
+unfolding inquiry_stage
+stage_is q s h = rw (h.sendable, h.fits) refl
 
-stage_tied : (q : InquiryValue) (s : SessionState) → no_specs q ≡ None → IsOpened q s → IsTied handshaking (finding q) (bound_of q) s (list_stage (bound_of q) q) []
-stage_tied q s some h =
-    subst (λ (t : SessionState). IsTied handshaking (finding q) (bound_of q) t (list_stage (bound_of q) q) []) (sym h.is)
-    (subst (λ (c : Conversation ListedValue Error). IsTied handshaking (finding q) (bound_of q) (opened (bound_of q) q.agent (prefixes_asked q) (first_of q)) c []) (sym (stage_is q s some h)) (tied q (bound_of q) (first_of q)))
+stage_tied : (q : InquiryValue) (s : SessionState) → IsOpened q s → IsTied handshaking (finding q) (bound_of q) s (inquiry_stage (bound_of q) q) []
+stage_tied q s h =
+    subst (λ (t : SessionState). IsTied handshaking (finding q) (bound_of q) t (inquiry_stage (bound_of q) q) []) (sym h.is)
+    (subst (λ (c : Conversation ListedValue Error). IsTied handshaking (finding q) (bound_of q) (opened (bound_of q) q.agent (prefixes_asked q) (first_of q)) c []) (sym (stage_is q s h)) (tied q (bound_of q) (first_of q)))
 
 -- ---- a session that was stopped
 
@@ -114,25 +106,49 @@ word_is (stops.Refused e) = word_by e
 word_is stops.Failed = refl
 word_is stops.Interrupted = refl
 
-pub lists_stopped : (answers : Bool) (old new : Option Talk) (q : InquiryValue) (s : SessionState) (stop : Stop) → no_specs q ≡ None → IsOpened q s → Stops answers old new s stop → Lists answers old new q (Err (prepare_of_stop stop))
-lists_stopped answers old new q s stop some h stopped = record {
-  held = broken handshaking (finding q) is_free_listing answers (bound_of q) old new s (list_stage (bound_of q) q) [] stop (prepare_of_stop stop) (stage_tied q s some h) stopped (word_is stop);
+pub inquires_stopped : (answers : Bool) (old new : Option Talk) (q : InquiryValue) (s : SessionState) (stop : Stop) → IsOpened q s → Stops answers old new s stop → Inquires answers old new q (Err (prepare_of_stop stop))
+inquires_stopped answers old new q s stop h stopped = record {
+  held = broken handshaking (finding q) is_free_listing answers (bound_of q) old new s (inquiry_stage (bound_of q) q) [] stop (prepare_of_stop stop) (stage_tied q s h) stopped (word_is stop);
 }
 
 -- ---- a session that was driven to its end
 
-pub lists_found : (answers : Bool) (old new : Option Talk) (q : InquiryValue) (s now : SessionState) (result : Result Listed Error) → no_specs q ≡ None → IsOpened q s → Finishes answers old new s now → Answers q now result → Lists answers old new q result
-lists_found answers old new q s now (Ok l) some h finished a = record {
-  held = subst (λ (t : SessionState). Concludes answers (bound_of q) old new [] (list_stage (bound_of q) q) (shown l) t.intake.pending) (sym a.1)
-      (concluded handshaking (finding q) answers (bound_of q) old new s now (list_stage (bound_of q) q) [] (shown l) (stage_tied q s some h) finished a.0);
+pub inquires_found : (answers : Bool) (old new : Option Talk) (q : InquiryValue) (s now : SessionState) (result : Result Listed Error) → IsOpened q s → Finishes answers old new s now → Answers q now result → Inquires answers old new q result
+inquires_found answers old new q s now (Ok l) h finished a = record {
+  held = subst (λ (t : SessionState). Concludes answers (bound_of q) old new [] (inquiry_stage (bound_of q) q) (shown l) t.intake.pending) (sym a.1)
+      (concluded handshaking (finding q) answers (bound_of q) old new s now (inquiry_stage (bound_of q) q) [] (shown l) (stage_tied q s h) finished a.0);
 }
-lists_found answers old new q s now (Err e) some h finished a = record {
-  held = refused_at_end handshaking (finding q) is_free_listing answers (bound_of q) old new s now (list_stage (bound_of q) q) [] e (stage_tied q s some h) finished a;
+inquires_found answers old new q s now (Err e) h finished a = record {
+  held = refused_at_end handshaking (finding q) is_free_listing answers (bound_of q) old new s now (inquiry_stage (bound_of q) q) [] e (stage_tied q s h) finished a;
 }
 
 -- the bound stays
-pub listed_bound : (answers : Bool) (old new : Option Talk) (q : InquiryValue) (s now : SessionState) → no_specs q ≡ None → IsOpened q s → Finishes answers old new s now → now.intake.bound ≡ bound_of q
-listed_bound answers old new q s now some h finished = finished.went.is.intake.bound ∙ (stage_tied q s some h).bounded finished.went.said
+pub inquired_bound : (answers : Bool) (old new : Option Talk) (q : InquiryValue) (s now : SessionState) → IsOpened q s → Finishes answers old new s now → now.intake.bound ≡ bound_of q
+inquired_bound answers old new q s now h finished = finished.went.is.intake.bound ∙ (stage_tied q s h).bounded finished.went.said
+
+-- ---- with a refspec, and without one
+
+abbrev Lists : Bool → Option Talk → Option Talk → InquiryValue → Result Listed Error → Type 0
+Lists answers old new q result = Converses is_free_listing answers (bound_of q) old new [] (left_by result) (list_stage (bound_of q) q) (answer_shown result)
+
+missing_stage : (bound : ℕ) (q : InquiryValue) → no_specs q ≡ Some errors.MissingRefSpecs → list_stage bound q ≡ ends (Err errors.MissingRefSpecs)
+unfolding list_stage
+missing_stage bound q is = rw is refl
+
+-- no refspec
+pub lists_missing : (answers : Bool) (old : Option Talk) (q : InquiryValue) → no_specs q ≡ Some errors.MissingRefSpecs → Lists answers old old q (Err errors.MissingRefSpecs)
+lists_missing answers old q is = record {
+  held = broken_first is_free_listing answers (bound_of q) old [] (list_stage (bound_of q) q) errors.MissingRefSpecs (λ isnt stream. refusing (bound_of q) (list_stage (bound_of q) q) errors.MissingRefSpecs stream (missing_stage (bound_of q) q is));
+}
+
+named_stage : (bound : ℕ) (q : InquiryValue) → no_specs q ≡ None → inquiry_stage bound q ≡ list_stage bound q
+unfolding list_stage
+named_stage bound q is = rw is refl
+
+-- some refspec
+pub lists_named : (answers : Bool) (old new : Option Talk) (q : InquiryValue) (result : Result Listed Error) → no_specs q ≡ None → Inquires answers old new q result → Lists answers old new q result
+lists_named answers old new q result is h =
+    subst (λ (c : Conversation ListedValue Error). Converses is_free_listing answers (bound_of q) old new [] (left_by result) c (answer_shown result)) (named_stage (bound_of q) q is) h
 
 -- ---- what was listed
 

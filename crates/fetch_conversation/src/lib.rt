@@ -22,7 +22,7 @@ mod rounds;
 mod settings;
 
 pub use conversing::{Received, Terms, View, converse};
-pub use listing::{Inquiry, Listed, list};
+pub use listing::{Inquiry, Listed, inquire, list};
 pub use negotiate::Negotiate;
 pub use progress::{NoProgress, Progress};
 pub use reading_settings::{agent, algorithm, rejects_shallow, threads};

@@ -4,7 +4,7 @@ ghost use Rattle.std.specs.Prelude.{◌≡◌, [], true, false, None, ◌&&◌, 
 ghost use Rattle.fetch_store.specs.Faults.{Rose, Counts};
 ghost use Rattle.fetch_conversation.specs.Conversation.{Converses};
 ghost use Rattle.fetch_conversation.specs.Errors.{is_free_listing, is_transport, is_interrupted};
-ghost use Rattle.fetch_conversation.specs.ListStage.{InquiryValue, list_stage, answer_shown, left_by, IsReady, all_specs, with_tags, is_nil};
+ghost use Rattle.fetch_conversation.specs.ListStage.{InquiryValue, inquiry_stage, list_stage, answer_shown, left_by, IsReady, all_specs, with_tags, is_nil};
 ghost use Rattle.fetch_conversation.specs.Listing.{IsOpened, TellsUnopened, TellsUntold, Answers};
 ghost use Rattle.fetch_conversation.specs.Receiving.{IsHeeded};
 ghost use Rattle.fetch_wire.specs.SessionStates.{turn_of};
@@ -129,7 +129,34 @@ fn names_none(inquiry: &Inquiry<'_>, options: &Options) -> bool
     are_none(inquiry.specs) && are_none(options.extra_refspecs.as_slice())
 }
 
-/// Asks for the greeting, then for the listing, and maps what is listed. The interrupt is asked before each receive.
+/// Asks for the greeting, then for the listing, and maps what is listed, also where no refspec is named. The interrupt is
+/// asked before each receive.
+pub fn inquire<P: Peer, I: Interrupt>(
+    alloc: Global,
+    inquiry: &Inquiry<'_>,
+    peer: &mut P,
+    interrupt: &mut I,
+    options: Options,
+) -> Result<Listed, prepare::Error>
+    ensures held { Converses is_free_listing P.answers options.max_reply_bytes (P.told peer.old) (P.told peer.new) [] (left_by result)
+        (inquiry_stage options.max_reply_bytes (record { address = inquiry.now.address.now; agent = inquiry.now.agent.now; specs = inquiry.now.specs.now; tags = inquiry.now.tags; options = options })) (answer_shown result) }
+    ensures ready { IfOk result (λ l. IsReady l) }
+    ensures bound { IfOk result (λ l. l.session.intake.bound ≡ options.max_reply_bytes) }
+    ensures counts { Counts (P.faults peer.old) (P.faults peer.new) }
+    ensures transport { IsErrOf result (errors.RefMap ref_map_errors.Transport) → Rose (P.faults peer.old) (P.faults peer.new) }
+    ensures asked { Counts (I.yes interrupt.old) (I.yes interrupt.new) }
+    ensures interrupted { IsErrOf result (errors.RefMap ref_map_errors.Interrupted) → Rose (I.yes interrupt.old) (I.yes interrupt.new) }
+    ensures uninterrupted { OnOk result ((I.yes interrupt.new).count ≡ (I.yes interrupt.old).count) }
+    ensures questions { IsHeeded (I.will_stop interrupt.old) (I.will_stop interrupt.new) (P.told peer.old) (P.told peer.new) result }
+{
+    let extra = specs_with_tags(alloc, inquiry.tags, options.extra_refspecs.as_slice())?;
+    let specs = joined_specs(alloc, inquiry.specs, &extra)?;
+    let mut session = open(alloc, inquiry, &options, &specs)?;
+    drive(alloc, &mut session, peer, interrupt)?;
+    map_listed(alloc, inquiry, &options, session, extra, &specs)
+}
+
+/// The same, where the remote or the options name a refspec.
 pub fn list<P: Peer, I: Interrupt>(
     alloc: Global,
     inquiry: &Inquiry<'_>,
@@ -151,9 +178,5 @@ pub fn list<P: Peer, I: Interrupt>(
     if names_none(inquiry, &options) {
         return Err(prepare::Error::MissingRefSpecs);
     }
-    let extra = specs_with_tags(alloc, inquiry.tags, options.extra_refspecs.as_slice())?;
-    let specs = joined_specs(alloc, inquiry.specs, &extra)?;
-    let mut session = open(alloc, inquiry, &options, &specs)?;
-    drive(alloc, &mut session, peer, interrupt)?;
-    map_listed(alloc, inquiry, &options, session, extra, &specs)
+    inquire(alloc, inquiry, peer, interrupt, options)
 }

@@ -65,7 +65,7 @@ has_heard answers old new g before l r rest told =
     let same : lines_text (requests_in g before said) ≡ heard_in answers old new g before l r rest told = rw append-nil at (heard []) in
     record { passed = rw same k.passed; same_requests = λ more. heard more ∙ sym same; needed = k.needed }
 
-abbrev at_outcome : Given → ListedValue → Option Received → Updates → Outcome
+abbrev pub at_outcome : Given → ListedValue → Option Received → Updates → Outcome
 at_outcome g l r u = outcome_in g.setup.settings.git_dir (manner_in g) l r u
 
 has_read : (answers : Bool) (old new : Option Talk) (g : Given) (before : State) (l : ListedValue) (r : Option Received) (rest : List ℕ) (u : Updates) → (told : HasTold answers old new g before l r rest)
@@ -87,13 +87,13 @@ moved_objects true packed setup s edits = refl
 moved_objects false packed setup s edits = refl
 
 -- the state behind the edits of a fetch
-abbrev moved_in : Given → State → List RefEdit → State
+abbrev pub moved_in : Given → State → List RefEdit → State
 moved_in g s edits = moved g.options.dry_run (manner_in g).packed g.setup s edits
 
-policy_same : (g : Given) (trees : List Worktree) (before s : State) (edits : List RefEdit) → s.refs ≡ before.refs → policy_at g trees before (moved_in g s edits) ≡ policy_in s (manner_in g) trees
+pub policy_same : (g : Given) (trees : List Worktree) (before s : State) (edits : List RefEdit) → s.refs ≡ before.refs → policy_at g trees before (moved_in g s edits) ≡ policy_in s (manner_in g) trees
 policy_same g trees before s edits same = rw (moved_objects g.options.dry_run (manner_in g).packed g.setup s edits, ← same) refl
 
-is_judged : (g : Given) (trees : List Worktree) (before : State) (l : ListedValue) (r : Option Received) (s : State) (u : Updates) → s.refs ≡ before.refs → judged_of (policy_in s (manner_in g) trees) l.ref_map ≡ Ok u
+unfoldable pub is_judged : (g : Given) (trees : List Worktree) (before : State) (l : ListedValue) (r : Option Received) (s : State) (u : Updates) → s.refs ≡ before.refs → judged_of (policy_in s (manner_in g) trees) l.ref_map ≡ Ok u
     → IsJudged g trees before (moved_in g s u.edits) r (at_outcome g l r u)
 is_judged g trees before l r s u same judged =
     let p = policy_same g trees before s u.edits same in
@@ -108,7 +108,7 @@ is_judged g trees before l r s u same judged =
       status = refl;
     }
 
-is_written : (g : Given) (trees : List Worktree) (before : State) (l : ListedValue) (r : Option Received) (s : State) (u : Updates) → s.refs ≡ before.refs → judged_of (policy_in s (manner_in g) trees) l.ref_map ≡ Ok u
+pub is_written : (g : Given) (trees : List Worktree) (before : State) (l : ListedValue) (r : Option Received) (s : State) (u : Updates) → s.refs ≡ before.refs → judged_of (policy_in s (manner_in g) trees) l.ref_map ≡ Ok u
     → IsWritten g trees before (moved_in g s u.edits) (at_outcome g l r u) u
 is_written g trees before l r s u same judged =
     let p = policy_same g trees before s u.edits same in
@@ -119,7 +119,7 @@ is_written g trees before l r s u same judged =
       turns = rw p (tells_type_changes _ _ _ _ _ outcome);
     }
 
-has_left : (dry : Bool) (packed : PackedRefs) (g : Given) (before : State) (wants : List ObjectId) (r : Option Received) (s : State) (u : Updates) → taken before wants (brought dry r) ≡ Ok s
+pub has_left : (dry : Bool) (packed : PackedRefs) (g : Given) (before : State) (wants : List ObjectId) (r : Option Received) (s : State) (u : Updates) → taken before wants (brought dry r) ≡ Ok s
     → IsLeft dry packed g.setup before (moved dry packed g.setup s u.edits) r u
 has_left true packed g before wants r s u took =
     let e : before ≡ s = cc in
@@ -132,14 +132,14 @@ moved_closed : (dry : Bool) (packed : PackedRefs) (g : Given) (s : State) (edits
 moved_closed true packed g s edits h = h
 moved_closed false packed g s edits h = h
 
-is_safe : (g : Given) (before : State) (m : RefMap) (r : Option Received) (s : State) (u : Updates) → taken before (wants_in g before m) (brought g.options.dry_run r) ≡ Ok s → (r ≡ None → wants_in g before m ≡ [])
+pub is_safe : (g : Given) (before : State) (m : RefMap) (r : Option Received) (s : State) (u : Updates) → taken before (wants_in g before m) (brought g.options.dry_run r) ≡ Ok s → (r ≡ None → wants_in g before m ≡ [])
     → IsSafe g before (moved_in g s u.edits) m
 is_safe g before m r s u took none = record {
   closed = λ closed. moved_closed g.options.dry_run (manner_in g).packed g s u.edits (stays_closed before (wants_in g before m) (brought g.options.dry_run r) s took closed);
   holds = λ wet. rw (moved_objects g.options.dry_run (manner_in g).packed g.setup s u.edits) (holds_mapped g before m (brought g.options.dry_run r) s took (λ e. none (rw wet at e)));
 }
 
-is_kept : (g : Given) (files left : Option Tree) (l : ListedValue) (r : Option Received) (u : Updates) → AreFiles files left (left_tree g.setup.settings.git_dir (at_outcome g l r u).status) → IsKept g files left r u (at_outcome g l r u)
+pub is_kept : (g : Given) (files left : Option Tree) (l : ListedValue) (r : Option Received) (u : Updates) → AreFiles files left (left_tree g.setup.settings.git_dir (at_outcome g l r u).status) → IsKept g files left r u (at_outcome g l r u)
 is_kept g files left l r u h = record { keep = keep_is g.setup.settings.git_dir g.options.dry_run r u; tree = h }
 
 fetched_with : (answers : Bool) (old new : Option Talk) (known : Option (List Worktree)) (files left : Option Tree) (g : Given) (trees : List Worktree) (before : State) (l : ListedValue) (r : Option Received) (rest : List ℕ) (s : State) (u : Updates) → IsTold known trees

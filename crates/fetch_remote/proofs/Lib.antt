@@ -15,6 +15,7 @@ pub mod Overrides
 pub mod Lost
 pub mod Judged
 pub mod Unjudged
+pub mod Steps
 pub mod Lasting
 pub mod Complete
 pub mod Deletions

@@ -235,7 +235,7 @@ refusal_is errors.Client x is = cc
 refusal_is errors.Interrupted x is = cc
 refusal_is errors.NoMemory x is = absurd (cc)
 
-refused_as : (now : Option Talk) (g : Given) (s : State) (l : ListedValue) (stream heard : List ℕ) (x : Error) → (IsOther x → ⊥) → IsRefusedBy (bound_of g) now (pack_stage g s l) stream heard x → ⊥
+pub refused_as : (now : Option Talk) (g : Given) (s : State) (l : ListedValue) (stream heard : List ℕ) (x : Error) → (IsOther x → ⊥) → IsRefusedBy (bound_of g) now (pack_stage g s l) stream heard x → ⊥
 refused_as now g s l stream heard x apart (inl all) = spared (bound_of g) (pack_stage g s l) (stream ++ []) x apart (spares_converse (bound_of g) (graph_of s.objects) (terms_in g s l)) (all []).answer
 refused_as now g s l stream heard x apart (inr last) = spared (bound_of g) (pack_stage g s l) stream x apart (spares_converse (bound_of g) (graph_of s.objects) (terms_in g s l)) last.1.answer
 

@@ -21,6 +21,7 @@ pub mod Fetched
 pub mod Refused
 pub mod Valid
 pub mod Requested
+pub mod Steps
 pub mod Lasting
 pub mod Deleting
 pub mod DeletionSteps

@@ -93,7 +93,7 @@ impl Remote {
 }
 
 /// How a fetch by these options is settled.
-fn manner(alloc: Global, tags: Tags, options: &FetchOptions) -> Result<Manner, NoMemory>
+pub(crate) fn manner(alloc: Global, tags: Tags, options: &FetchOptions) -> Result<Manner, NoMemory>
     ensures { IfOk result (λ how. how ≡ manner_of tags options.now) }
 {
     Ok(Manner {

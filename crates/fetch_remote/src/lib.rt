@@ -4,6 +4,7 @@
 pub mod branch;
 mod changing;
 pub mod connect;
+mod connection;
 mod copies;
 pub mod delete;
 mod deleting;
@@ -23,6 +24,8 @@ mod options;
 mod outcome;
 mod paths;
 pub mod phases;
+mod prepared;
+mod preparing;
 mod reload;
 pub mod remote;
 mod repository;
@@ -36,6 +39,7 @@ mod threads;
 mod undeletable;
 pub mod upstream;
 
+pub use connection::Connection;
 pub use direction::Direction;
 pub use fetch_conversation::{
     Negotiate, agent, algorithm, fetch, prepare, ref_map, rejects_shallow,
@@ -45,6 +49,8 @@ pub use fetch_lookup::{Name, Names, name, push, save};
 pub use open_error::OpenError;
 pub use options::FetchOptions;
 pub use outcome::{Outcome, PackOutcome, Status};
+pub use prepared::Prepared;
+pub use preparing::Prepare;
 pub use reload::read_configuration;
 pub use remote::Remote;
 pub use repository::{OpenOptions, Parts, Repository};

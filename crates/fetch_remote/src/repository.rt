@@ -1,12 +1,13 @@
 //! Repositories.
 
-ghost use Rattle.std.specs.Prelude.{◌≡◌, ◌↔◌, IfOk, IfErr, IfSome, OnOk, OnErr, MatchOption, IsOkUnless, IsTrue, IsNone, Some, None, not, option_map};
+ghost use Rattle.std.specs.Prelude.{◌≡◌, ◌↔◌, IfOk, IfErr, IfSome, OnOk, OnErr, MatchOption, IsOkUnless, IsTrue, IsNone, Some, None, true, not, option_map};
 ghost use Rattle.std.specs.FinSet as set;
 ghost use Rattle.fetch_store.specs.Stores.{AreOf, collision};
 ghost use Rattle.fetch_remote.specs.declared.open_error.OpenError.TheVariants as errors;
 ghost use Rattle.fetch_remote.specs.Paths.{shallow_file_of};
 ghost use Rattle.fetch_remote.specs.Repositories as spec;
 ghost use Rattle.fetch_remote.specs.Repositories.{state_of, setup_of};
+ghost use Rattle.fetch_remote.specs.RepositoryValues.{are_overrides};
 
 use crate::copies::copy_option;
 use crate::open_error::OpenError;
@@ -121,6 +122,7 @@ impl Repository {
         requires { parts.store.hash ≡ parts.refs.hash }
         ensures state { IfOk result (λ repo. state_of repo ≡ spec.state_in parts) }
         ensures setup { IfOk result (λ repo. spec.setup_in parts ≡ Some (setup_of repo)) }
+        ensures accepted { OnOk result (are_overrides parts.options.api_config_overrides ≡ true) }
         ensures refused { IfErr result (λ e. spec.IsOpenRefusal parts.options.api_config_overrides e) }
     {
         let Parts {

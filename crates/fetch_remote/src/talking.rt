@@ -4,21 +4,24 @@ ghost use Rattle.std.specs.Prelude.{◌≡◌, IfOk, IfSome, OnOk, IsErrOf};
 ghost use Rattle.fetch_store.specs.Faults.{Rose, Counts};
 ghost use Rattle.fetch_store.specs.Collisions.{HasDistinctIds};
 ghost use Rattle.fetch_store.specs.Stores.{AreOf};
+ghost use Rattle.fetch_conversation.specs.ListStage.{IsReady};
 ghost use Rattle.fetch_conversation.specs.Receiving.{IsHeeded};
 ghost use Rattle.fetch_conversation.specs.declared.fetch.Error.TheVariants as receive_errors;
 ghost use Rattle.fetch_conversation.specs.declared.prepare.Error.TheVariants as prepare_errors;
 ghost use Rattle.fetch_conversation.specs.declared.ref_map.Error.TheVariants as ref_map_errors;
 ghost use Rattle.fetch_remote.specs.Repositories.{state_of, setup_of};
 ghost use Rattle.fetch_remote.specs.Stages as spec;
+ghost use Rattle.fetch_remote.specs.Steps.{TalksOn};
 ghost use Rattle.fetch_remote.specs.Talking.{HasTalked};
 ghost use Rattle.fetch_remote.specs.declared.fetch_error.FetchError.TheVariants as errors;
 
+use crate::fetch;
 use crate::fetch_error::FetchError;
 use crate::options::FetchOptions;
 use crate::phases::{converse, list};
 use crate::remote::Remote;
 use crate::repository::Repository;
-use fetch_conversation::{Listed, NoProgress, Received, View};
+use fetch_conversation::{Listed, NoProgress, Progress, Received, View};
 use fetch_negotiate::{Shallow, tips, wants};
 use fetch_specs::Tags;
 use fetch_store::{List, NoMemory, ObjectId};
@@ -77,6 +80,54 @@ pub(crate) fn talk<R: Threads + Sync, P: Peer, I: Interrupt>(
         dry_run,
         peer,
         &mut NoProgress,
+        interrupt,
+    )?;
+    Ok(Talked {
+        listed,
+        wants: view.wants,
+        received,
+    })
+}
+
+/// Holds the second stage of a fetch whose references were listed.
+pub(crate) fn talk_on<R: Threads + Sync, P: Peer, Q: Progress, I: Interrupt>(
+    rt: &R,
+    alloc: Global,
+    remote: &Remote,
+    repo: &Repository,
+    listed: Listed,
+    peer: &mut P,
+    progress: &mut Q,
+    interrupt: &mut I,
+    options: &FetchOptions,
+) -> Result<Talked, fetch::Error>
+    requires ready { IsReady listed }
+    requires bound { listed.session.intake.bound ≡ options.now.map.max_reply_bytes }
+    ensures held { TalksOn P.answers (P.told peer.old) (P.told peer.new) (record { remote = remote.now; options = options.now; setup = setup_of repo.now }) (state_of repo.now) listed result }
+    ensures of_kind { IfOk result (λ t. IfSome t.received (λ r. AreOf (state_of repo.now).hash r.objects)) }
+    ensures distinct { IfOk result (λ t. IfSome t.received (λ r. HasDistinctIds r.objects)) }
+    ensures counts { Counts (P.faults peer.old) (P.faults peer.new) }
+    ensures client { IsErrOf result receive_errors.Client → Rose (P.faults peer.old) (P.faults peer.new) }
+    ensures asked { Counts (I.yes interrupt.old) (I.yes interrupt.new) }
+    ensures stopped { IsErrOf result receive_errors.Interrupted → Rose (I.yes interrupt.old) (I.yes interrupt.new) }
+    ensures uninterrupted { OnOk result ((I.yes interrupt.new).count ≡ (I.yes interrupt.old).count) }
+    ensures questions { IsHeeded (I.will_stop interrupt.old) (I.will_stop interrupt.new) (P.told peer.old) (P.told peer.new) result }
+{
+    let mut listed = listed;
+    let tags = remote.fetch_tags();
+    let view = view(alloc, repo, &listed.ref_map, tags, &options.shallow)?;
+    let received = converse(
+        rt,
+        alloc,
+        &mut listed,
+        repo.settings(),
+        &view,
+        repo.store(),
+        tags,
+        &options.shallow,
+        options.dry_run,
+        peer,
+        progress,
         interrupt,
     )?;
     Ok(Talked {

@@ -10,4 +10,8 @@ mod fetching;
 #[cfg(test)]
 mod fixture;
 #[cfg(test)]
+mod opened;
+#[cfg(test)]
 mod scenes;
+#[cfg(test)]
+mod steps;
