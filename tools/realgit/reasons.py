@@ -177,7 +177,7 @@ REASONS = {
     "Tags that are there, and refspecs without destination": _is_followed,
     "Tags that come in one request": _comes_by_itself,
     "Tags beside a rejected reference": _is_behind_rejection,
-    "Tags behind a symbolic destination": _is_behind_symbolic,
+    "Tags of a symbolic destination": _is_behind_symbolic,
     "An annotated tag outside `refs/tags/`": _is_tag_elsewhere,
     "A name and another below it": _is_nested,
     "A symbolic destination": _is_symbolic,

@@ -29,7 +29,7 @@ with_entry entry s = record s { entries = s.entries ++ entry ∷ [] }
 abbrev pub without_key : List ℕ → Section → Section
 without_key key s = record s { entries = filter (λ e. not (is_same_name e.0 key)) s.entries }
 
--- Why a text is refused: its first broken line, from 1, or want of memory.
+-- Why a text is refused: its first broken line, from 1, or out of memory.
 abbrev pub IsRefusedAt : Option ℕ → ConfigError → Type 0
 IsRefusedAt broken (Syntax line) = broken ≡ Some line
 IsRefusedAt broken (BadValue place) = ⊥

@@ -11,11 +11,11 @@ use Rattle.fetch_config.specs.declared.section.Section.{Section}
 use Rattle.fetch_config.specs.Pieces.{is_blank, is_comment_sign, is_name_byte, skip_blanks, is_nothing, is_name, is_key, behind}
 use Rattle.fetch_config.specs.Values.{value_of, subsection_of}
 
--- Behind a header only blanks or a comment may stand.
+-- After a header only blanks or a comment may stand.
 abbrev pub header_before : List ℕ → Option (List ℕ) → List ℕ → Option Line
 header_before name sub tail = if is_nothing tail then Some (Header name sub) else None
 
--- ` "<subsection>"]`, from behind the first blank on
+-- ` "<subsection>"]`, from after the first blank on
 abbrev pub header_with_sub : List ℕ → List ℕ → Option Line
 header_with_sub name text = do
   quoted ← behind 34 (skip_blanks text)
@@ -23,7 +23,7 @@ header_with_sub name text = do
   tail ← behind 93 sub.1
   header_before name (Some sub.0) tail
 
--- what stands behind the name of a header
+-- what stands after the name of a header
 abbrev pub header_behind : List ℕ → List ℕ → Option Line
 header_behind name [] = None
 header_behind name (c ∷ cs) =
@@ -31,11 +31,11 @@ header_behind name (c ∷ cs) =
     else if is_blank c then header_with_sub name cs
     else None
 
--- `[name]` or `[name "subsection"]`, from behind the bracket on
+-- `[name]` or `[name "subsection"]`, from after the bracket on
 abbrev pub header_of : List ℕ → Option Line
 header_of text = let name = take_while is_name_byte text in if is_name name then header_behind name (drop (prefix_len is_name_byte text) text) else None
 
--- what stands behind a key and its blanks
+-- what stands after a key and its blanks
 abbrev pub entry_behind : List ℕ → List ℕ → Option Line
 entry_behind key [] = Some (Entry key None)
 entry_behind key (c ∷ cs) = if c == 61 then option_map (λ value. Entry key (Some value)) (value_of cs) else None
@@ -62,7 +62,7 @@ line_of text = if has_nul text then None else line_at (skip_blanks text)
 abbrev pub EntryList : Type 0
 EntryList = List (List ℕ × Option (List ℕ))
 
--- the entries before the first header, and the sections behind
+-- the entries before the first header, and the sections after
 abbrev pub gather : Meta → List Line → EntryList × List Section
 gather meta [] = ([], [])
 gather meta (Nothing ∷ ls) = gather meta ls

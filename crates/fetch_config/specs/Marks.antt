@@ -52,7 +52,7 @@ abbrev pub is_part : Part → Bool
 is_part (Bare mark) = is_mark mark
 is_part (Quoted marks) = list_all is_mark marks
 
--- The text is parts one behind the other, and the value is what they stand for.
+-- The text is parts one after the other, and the value is what they stand for.
 pub record IsInParts (text value : List ℕ) : Type 0 where
   pub parts : List Part
   pub well : list_all is_part parts ≡ true
@@ -68,7 +68,7 @@ abbrev pub is_free : Part → Bool
 is_free (Bare mark) = not (is_sign mark)
 is_free (Quoted marks) = true
 
--- The text is a value's parts, with blanks round them and maybe a comment behind.
+-- The text is a value's parts, with blanks round them and maybe a comment after.
 pub record SaysValue (text value : List ℕ) : Type 0 where
   pub front : List ℕ
   pub parts : List Part

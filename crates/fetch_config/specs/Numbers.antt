@@ -14,7 +14,7 @@ unit_of c =
     else if c == 103 then Some 1073741824
     else None
 
--- the digits, and the factor behind them
+-- the digits, and the factor after them
 abbrev pub split_unit : List ℕ → List ℕ × ℕ
 split_unit text = option_map_or (λ unit. (take (length text - 1) text, unit)) (slice_get text (length text - 1) >>= unit_of) (text, 1)
 

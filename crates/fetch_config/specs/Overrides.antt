@@ -10,7 +10,7 @@ use Rattle.fetch_config.specs.declared.section.Section.{Section}
 use Rattle.fetch_config.specs.Pieces.{is_name, is_key}
 use Rattle.fetch_config.specs.Kept.{is_nul, is_nul_or_feed}
 
--- the path before the first `=`, and the value behind it, if there is one
+-- the path before the first `=`, and the value after it, if there is one
 abbrev pub path_and_value : List ℕ → List ℕ × Option (List ℕ)
 path_and_value text = option_map_or (λ p. (p.0, Some p.1)) (split_first 61 text) (text, None)
 
@@ -36,7 +36,7 @@ override_of text = let parts = path_and_value text in section_at parts.0 parts.1
 unfoldable pub unkept_place : List ℕ → Option ℕ
 unkept_place text = let path = (path_and_value text).0 in option_map_or (λ place. Some place) (position is_nul_or_feed path) (position is_nul text)
 
--- Why an override is refused: it has no key, also where it has a NUL; where it has one, its first byte that can't be kept; or want of memory.
+-- Why an override is refused: it has no key, also where it has a NUL; where it has one, its first byte that can't be kept; or out of memory.
 abbrev pub IsOverrideRefusal : List ℕ → ConfigError → Type 0
 IsOverrideRefusal text (Syntax line) = ⊥
 IsOverrideRefusal text (BadValue place) = IsTrue (is_some (override_of text)) × (unkept_place text ≡ Some place)

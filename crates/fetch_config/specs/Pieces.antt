@@ -41,7 +41,7 @@ abbrev pub is_key : List ℕ → Bool
 is_key [] = false
 is_key (c ∷ cs) = is_ascii_alphabetic c && list_all is_name_byte cs
 
--- what stands behind the byte c, where it comes first
+-- what stands after the byte c, where it comes first
 abbrev pub behind : ℕ → List ℕ → Option (List ℕ)
 behind c [] = None
 behind c (x ∷ xs) = if x == c then Some xs else None

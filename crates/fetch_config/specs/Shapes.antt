@@ -33,7 +33,7 @@ pub record SaysHeader (text name : List ℕ) (sub : Option (List ℕ)) : Type 0 
   pub nothing : is_nothing tail ≡ true
   pub no_nul : has_nul text ≡ false
 
--- behind the `=` a value, where there is one
+-- after the `=` a value, where there is one
 pub record IsAssigned (text value : List ℕ) : Type 0 where
   pub rest : List ℕ
   pub text_is : text ≡ 61 ∷ rest

@@ -2,7 +2,7 @@
 use Rattle.std.specs.Prelude.{◌≡◌, ℕ, Bool, true, not, ◌&&◌, ◌==◌, List, [], ◌∷◌, ◌++◌, map}
 use Rattle.std.specs.List.{list_all, flat_map}
 
--- a byte that stands for itself, or one behind a backslash
+-- a byte that stands for itself, or one after a backslash
 pub data Letter : Type 0 where
   Plain : ℕ → Letter
   Escaped : ℕ → Letter
@@ -16,7 +16,7 @@ abbrev pub letter_byte : Letter → ℕ
 letter_byte (Plain c) = c
 letter_byte (Escaped c) = c
 
--- A byte that stands for itself is no quote and no backslash; behind a backslash each byte may stand.
+-- A byte that stands for itself is no quote and no backslash; after a backslash each byte may stand.
 abbrev pub is_letter : Letter → Bool
 is_letter (Plain c) = not (c == 34) && not (c == 92)
 is_letter (Escaped c) = true

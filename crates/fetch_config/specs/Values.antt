@@ -14,7 +14,7 @@ escape_of c =
     else if c == 98 then Some 8
     else None
 
--- one more byte in front of what is read behind it
+-- one more byte in front of what is read after it
 abbrev pub with_byte : ℕ → Option (List ℕ) → Option (List ℕ)
 with_byte c rest = option_map (λ text. c ∷ text) rest
 
@@ -45,7 +45,7 @@ value_of text = unquoted false false (trim_end (skip_blanks (before_comment fals
 abbrev pub with_front : ℕ → Option (List ℕ × List ℕ) → Option (List ℕ × List ℕ)
 with_front c found = option_map (λ p. (c ∷ p.0, p.1)) found
 
--- A subsection's text up to its closing quote, and what stands behind that. `\` takes the next byte as it is.
+-- A subsection's text up to its closing quote, and what stands after that. `\` takes the next byte as it is.
 unfoldable pub subsection_of : Bool → List ℕ → Option (List ℕ × List ℕ)
 subsection_of escaped [] = None
 subsection_of true (c ∷ cs) = with_front c (subsection_of false cs)

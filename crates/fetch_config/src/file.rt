@@ -270,7 +270,7 @@ impl File {
         remove_entries(&mut self.sections, index, key);
     }
 
-    /// Removes a section; those behind it move up.
+    /// Removes a section; those after it move up.
     pub fn remove_section(&mut self, index: usize)
         requires { index < length self.old.sections }
         ensures { self.new ≡ with_sections self.old (remove self.old.sections index) }

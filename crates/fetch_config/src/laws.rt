@@ -10,7 +10,7 @@ ghost use Rattle.fetch_config.specs.Subsections.{IsQuotedName};
 ghost use Rattle.fetch_config.specs.Values.{unquoted, value_of, subsection_of};
 ghost use Rattle.fetch_config.specs.declared.line.Line.TheVariants as lines;
 
-/// A value that is written behind `= ` is read as it was.
+/// A value that is written after `= ` is read as it was.
 pub fn a_written_value_is_read_back()
     ensures { (value : List ℕ) → value_of (32 ∷ value_text value) ≡ Some value }
 {}
@@ -21,7 +21,7 @@ pub fn quotes_group_and_escapes_are_read()
     ensures { (text : List ℕ) → (value : List ℕ) → (unquoted false false text ≡ Some value) ↔ IsInParts text value }
 {}
 
-/// A value is what stands behind the `=` without outer blanks, up to a `#` or `;` outside quotes.
+/// A value is what stands after the `=` without outer blanks, up to a `#` or `;` outside quotes.
 pub fn a_value_stands_between_blanks_before_a_comment()
     ensures { (text : List ℕ) → (value : List ℕ) → (value_of text ≡ Some value) ↔ SaysValue text value }
 {}
@@ -38,7 +38,7 @@ pub fn a_header_is_a_name_between_brackets()
     ensures { (text : List ℕ) → (name : List ℕ) → (sub : Option (List ℕ)) → (line_of text ≡ Some (lines.Header name sub)) ↔ SaysHeader text name sub }
 {}
 
-/// A line is an entry exactly where it is blanks, a key, blanks, and then a `=` with a value behind it, or
+/// A line is an entry exactly where it is blanks, a key, blanks, and then a `=` with a value after it, or
 /// nothing: an implicit entry.
 pub fn an_entry_is_a_key_and_maybe_a_value()
     ensures { (text : List ℕ) → (key : List ℕ) → (value : Option (List ℕ)) → (line_of text ≡ Some (lines.Entry key value)) ↔ SaysEntry text key value }

@@ -15,7 +15,9 @@ use std::alloc::Global;
 pub enum Line {
     /// Blanks or a comment.
     Nothing,
+    /// A section begins: its name, and its subsection where it has one.
     Header(Text, Option<Text>),
+    /// An entry: its key, and its value where it has one.
     Entry(Text, Option<Text>),
 }
 

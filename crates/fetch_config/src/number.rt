@@ -17,7 +17,7 @@ fn unit_of(c: u8) -> Option<u64>
     }
 }
 
-/// The digits, and the factor behind them.
+/// The digits, and the factor after them.
 fn split_unit(text: &[u8]) -> (&[u8], u64)
     ensures digits { result.0.now ≡ (spec.split_unit text.now).0 }
     ensures unit { result.1 ≡ (spec.split_unit text.now).1 }

@@ -33,9 +33,13 @@ fn text_from(alloc: Global, text: Option<&[u8]>) -> Result<Option<Text>, NoMemor
 /// What an override says, lent.
 #[derive(Clone, Copy, Debug)]
 pub struct Override<'a> {
+    /// The name of the section.
     pub name: &'a [u8],
+    /// The subsection, where there is one.
     pub sub: Option<&'a [u8]>,
+    /// The key.
     pub key: &'a [u8],
+    /// The value, where there is one.
     pub value: Option<&'a [u8]>,
 }
 

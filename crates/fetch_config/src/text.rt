@@ -5,10 +5,13 @@ ghost use Rattle.std.specs.List.{prefix_len, suffix_len, list_all};
 ghost use Rattle.std.specs.Str.Lines.{lines, strip_carriage_return};
 ghost use Rattle.fetch_config.specs.Pieces as spec;
 
+/// The byte that ends a line.
 pub const LF: u8 = b'\n';
 
+/// The byte that may stand before it.
 pub const CR: u8 = b'\r';
 
+/// The byte that no text may have.
 pub const NUL: u8 = 0;
 
 /// A space or a tab.
@@ -101,7 +104,7 @@ pub fn is_key(text: &[u8]) -> bool
     }
 }
 
-/// What stands behind this byte, where it comes first.
+/// What stands after this byte, where it comes first.
 pub fn behind(byte: u8, text: &[u8]) -> Option<&[u8]>
     ensures { option_map (λ x. x.now) result ≡ spec.behind byte text.now }
 {
@@ -134,7 +137,7 @@ fn without_carriage_return(line: &[u8]) -> &[u8]
     }
 }
 
-/// The first line, and what stands behind its line feed.
+/// The first line, and what stands after its line feed.
 pub fn first_line(text: &[u8]) -> (&[u8], &[u8])
     requires { 0 < length text.now }
     ensures first { lines text.now ≡ result.0.now ∷ lines result.1.now }

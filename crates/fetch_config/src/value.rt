@@ -92,7 +92,7 @@ fn comment_place(text: &[u8]) -> usize
     text.len()
 }
 
-/// The value that a text behind a `=` says. None where it breaks the grammar.
+/// The value that a text after a `=` says. None where it breaks the grammar.
 #[tactic(auto, unfolding(crate::specs::Values::value_of))]
 pub fn value_of(alloc: Global, text: &[u8]) -> Result<Option<Vec<u8>>, NoMemory>
     ensures { IfOk result (λ value. option_map (λ v. v.items) value ≡ spec.value_of text.now) }
@@ -101,7 +101,7 @@ pub fn value_of(alloc: Global, text: &[u8]) -> Result<Option<Vec<u8>>, NoMemory>
     unquoted(alloc, trim_end(skip_blanks(text)))
 }
 
-/// A subsection up to its closing quote, and what stands behind that. None without a closing quote.
+/// A subsection up to its closing quote, and what stands after that. None without a closing quote.
 pub fn subsection_of(alloc: Global, text: &[u8]) -> Result<Option<(Vec<u8>, &[u8])>, NoMemory>
     ensures { IfOk result (λ found. option_map (λ f. (f.0.items, f.1.now)) found ≡ spec.subsection_of false text.now) }
 {

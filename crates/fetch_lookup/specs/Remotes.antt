@@ -47,11 +47,11 @@ tags_in sections name = tags_said (string_of sections remote (Some name) (codes 
 abbrev pub has_bytes : List ℕ → Bool
 has_bytes text = not (length text == 0)
 
--- An empty address clears those before it: the addresses behind the last empty one.
+-- An empty address clears those before it: the addresses after the last empty one.
 abbrev pub uncleared : List (List ℕ) → List (List ℕ)
 uncleared addresses = drop (length addresses - suffix_len has_bytes addresses) addresses
 
--- whether a remote's name is an address itself: it is a place, or has `:` behind its first byte
+-- whether a remote's name is an address itself: it is a place, or has `:` after its first byte
 abbrev pub is_address : List ℕ → Bool
 is_address name = is_place name || list_any (λ b. b == 58) (drop 1 name)
 

@@ -84,7 +84,7 @@ clears file name direction = list_any (clears_at file.meta name direction) file.
 abbrev pub Line : Type 0
 Line = List ℕ × List ℕ
 
--- The addresses, behind an empty one where that is asked.
+-- The addresses, after an empty one where that is asked.
 abbrev pub address_lines : Bool → Direction → List (List ℕ) → List Line
 address_lines clears direction urls = map (λ url. (address_key direction, url)) (if clears then [] ∷ urls else urls)
 

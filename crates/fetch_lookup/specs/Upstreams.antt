@@ -40,7 +40,7 @@ names_of_source (sources.ObjectId id) = []
 unfoldable pub names_leading : List Spec → List ℕ → List (List ℕ)
 names_leading specs tracking = flat_map (λ m. names_of_source m.lhs) (sources_of specs (tracking ∷ []))
 
--- want of memory is told as such
+-- out of memory is told as such
 abbrev pub find_refusal : FindError → Error
 find_refusal (finding.TagOpt value) = FindRemote (finding.TagOpt value)
 find_refusal (finding.Url kind name) = FindRemote (finding.Url kind name)

@@ -37,7 +37,7 @@ pub struct RemoteParts {
 
 /// The remote that has trusted sections `remote "<name>"`; none where there is no such section. An empty address
 /// clears those before it. Without an address to fetch from, the name is one where it has a slash, is a dot, or has
-/// a colon behind its first byte.
+/// a colon after its first byte.
 #[tactic(auto, unfolding(crate::specs::Names::remote))]
 pub fn find_remote(alloc: Global, file: &File, name: &[u8]) -> Option<Result<RemoteParts, Error>>
     ensures found { is_some result ≡ spec.is_remote file.now.sections name.now }
@@ -167,7 +167,7 @@ fn addresses_of(
     }
 }
 
-/// The addresses behind the last empty one.
+/// The addresses after the last empty one.
 fn uncleared(mut addresses: Vec<Text>) -> Result<Vec<Text>, NoMemory>
     ensures { IfOk result (λ kept. kept.items ≡ spec.uncleared addresses.items) }
 {
@@ -209,7 +209,7 @@ fn is_address(name: &[u8]) -> bool
     is_place(name) || has_colon(name)
 }
 
-/// Whether a colon stands behind the first byte.
+/// Whether a colon stands after the first byte.
 fn has_colon(name: &[u8]) -> bool
     ensures { result ≡ list_any (λ b. b == 58) (drop 1 name.now) }
 {

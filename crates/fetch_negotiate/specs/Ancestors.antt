@@ -26,7 +26,7 @@ leads g border (v ∷ vs) from to = leads g border vs from to || (leads g border
 unfoldable pub is_ancestor : Graph → set.FinSet id_cmp → ObjectId → ObjectId → Bool
 is_ancestor g border from to = leads g border (map.keys g) from to
 
--- the commit, and others behind it, each of which is a parent of the one before
+-- the commit, and others after it, each of which is a parent of the one before
 abbrev pub IsLine : Graph → set.FinSet id_cmp → ObjectId → List ObjectId → Type 0
 IsLine g border from [] = Unit {0}
 IsLine g border from (next ∷ line) = (has (parents_of g border from) next ≡ true) × IsLine g border next line

@@ -50,12 +50,12 @@ is_included tags.None = false
 unfoldable pub pack_word : Handshake → List ℕ
 pack_word handshake = if has_word plain_pack_2 (value_of (codes "fetch") handshake.capabilities) then plain_pack_2 else plain_pack
 
--- the lines behind that word, but for the haves
+-- the lines after that word, but for the haves
 abbrev pub details_of : Tags → Shallow → set.FinSet id_cmp → List ObjectId → List (List ℕ)
 details_of tags shallow border wants =
     when (is_included tags) include_tag ++ id_lines shallow_word (ids_of border) ++ depth_lines shallow ++ id_lines want_word wants
 
--- the lines behind the delimiter, but for the haves
+-- the lines after the delimiter, but for the haves
 abbrev pub asked_of : List ℕ → Tags → Shallow → set.FinSet id_cmp → List ObjectId → List (List ℕ)
 asked_of word tags shallow border wants = word ∷ details_of tags shallow border wants
 

@@ -76,11 +76,14 @@ pub enum Shallow {
     Deepen(u32),
     /// The commits since a time, in seconds since 1970.
     Since {
+        /// The time.
         cutoff: u64,
     },
     /// The commits that these names don't reach, and since a time where one is given.
     Exclude {
+        /// The names, as the server reads them.
         remote_refs: List<PartialName>,
+        /// The time, in seconds since 1970.
         since_cutoff: Option<u64>,
     },
 }
@@ -131,8 +134,11 @@ fn copy_names(alloc: Global, names: &[PartialName]) -> Result<Vec<PartialName>, 
 /// One request of a fetch: its window of haves, those of its haves that were acknowledged, and whether it ended the rounds.
 #[derive(Debug, Drop)]
 pub struct Round {
+    /// Its window of haves, in the order in which they were told.
     pub haves: List<ObjectId>,
+    /// Those of its haves that the server acknowledged.
     pub acknowledged: List<ObjectId>,
+    /// Whether it was the last one, with `done`.
     pub done: bool,
 }
 

@@ -19,7 +19,9 @@ use std::alloc::Global;
 pub enum AnyNegotiator {
     /// It tells no commit.
     Noop,
+    /// It tells each commit, the latest first.
     Consecutive(Consecutive),
+    /// It leaves out more and more commits between those that it tells.
     Skipping(Skipping),
 }
 

@@ -59,7 +59,7 @@ pub record HasOtherDigest (v : PackVersion) (hash : Kind) (bytes : List ℕ) (fo
   pub computes : computed ≡ digest hash (body_of v ws)
   pub other : found ≢ computed
 
--- Structure and digest are right and all payloads are objects. Those before one are behind their ids, and it is behind another id of the same hash.
+-- Structure and digest are right and all payloads are objects. Each of those before one stands after its own id, and that one after another id of the same hash.
 pub record HasOtherId (hash : Kind) (bytes : List ℕ) (written computed : ObjectId) (before : List Payload) (p : Payload) (after : List Written) : Type 0 where
   pub text : bytes ≡ text_of V2 hash (under_their_ids V2 hash before ++ record { id = bytes_of written; payload = p } ∷ after)
   pub fits : AreRecords V2 hash (under_their_ids V2 hash before ++ record { id = bytes_of written; payload = p } ∷ after)

@@ -33,7 +33,7 @@ pub record IsNameWay (names : Names) (first : List ℕ) (way : List (List ℕ)) 
   pub leads : Leads (next_name names) first way end
   pub distinct : IsDistinct bytes_eq way
 
--- Where the names end: at the id of a direct reference, at a name where nothing stands, at a name of the way, or, behind five of them, at a further one.
+-- Where the names end: at the id of a direct reference, at a name where nothing stands, at a name of the way, or, after five of them, at a further one.
 abbrev pub EndsNames : Names → List ℕ → Result ObjectId RefError → Type 0
 EndsNames names first (Ok id) = (way : List (List ℕ)) × (end : List ℕ) × IsNameWay names first way end × (length way < 5) × (map.get names end ≡ Some (Object id))
 EndsNames names first (Err (errors.Unborn end)) = (way : List (List ℕ)) × IsNameWay names first way end × (length way < 5) × (map.get names end ≡ None)
@@ -61,7 +61,7 @@ EndsTags graph first (Err e) = ⊥
 abbrev pub IsDirectlyAt : Names → List ℕ → Result ObjectId RefError → Type 0
 IsDirectlyAt names name answer = (id : ObjectId) × (map.get names name ≡ Some (Object id)) × (answer ≡ Ok id)
 
--- behind the names of a symbolic reference, where the tags end
+-- after the names of a symbolic reference, where the tags end
 abbrev pub IsBehindTags : Names → Graph → List ℕ → Result ObjectId RefError → Type 0
 IsBehindTags names graph name answer = (to : List ℕ) × (id : ObjectId) × (map.get names name ≡ Some (Symbolic to)) × EndsNames names name (Ok id) × EndsTags graph id answer
 

@@ -38,7 +38,7 @@ resolved names name target = read name (Some target) (λ id. Ok id) (λ next. fo
 abbrev pub is_met_id : List ObjectId → ObjectId → Bool
 is_met_id met id = list_any (λ m. eq_by_cmp id_cmp m id) met
 
--- the id that is no tag, or the next one behind a tag
+-- the id that is no tag, or the next one after a tag
 abbrev pub open_tag : ObjectId → Option Node → (ObjectId → Result ObjectId RefError) → Result ObjectId RefError
 open_tag id None next = Err (errors.MissingObject id)
 open_tag id (Some node) next = option_map_or next node.target (Ok id)

@@ -89,7 +89,7 @@ impl Contents {
         })
     }
 
-    /// Adds a line behind those of a name.
+    /// Adds a line after those of a name.
     pub(crate) fn add_line(&mut self, name: &FullName, line: LogLine) -> Result<Undo, NoMemory>
         ensures written { OnOk result (shown_in self.new ≡ with_line_in (shown_in self.old) name.now line) }
         ensures undo { IfOk result (TakesBack self.old self.new) }
@@ -166,7 +166,7 @@ fn lines_or_none(alloc: Global, lines: Option<List<LogLine>>) -> List<LogLine>
     }
 }
 
-/// Adds a line behind those of a name.
+/// Adds a line after those of a name.
 fn push_line(
     alloc: Global,
     logs: &mut BTreeMap<FullName, List<LogLine>>,

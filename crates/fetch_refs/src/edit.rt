@@ -165,6 +165,8 @@ impl RefEdit {
 /// Where references are written. Both leave the same map.
 #[derive(Clone, Copy, Debug, PartialEq, Eq)]
 pub enum PackedRefs {
+    /// Each reference by itself; an update leaves the packed list as it is.
     Never,
+    /// Updates go into the packed list.
     Only,
 }

@@ -64,7 +64,7 @@ pub fn tags_end_where_a_list_of_them_leads()
     ensures { (graph : Graph) (first : ObjectId) (answer : Result ObjectId RefError) → (through graph (map.len graph) [] first ≡ answer) ↔ EndsTags graph first answer }
 {}
 
-/// A direct reference is peeled to its id, a symbolic one to where the tags behind its names end, and any other name,
+/// A direct reference is peeled to its id, a symbolic one to where the tags after its names end, and any other name,
 /// or one whose names lead to no id, is refused as its names are.
 pub fn a_reference_is_peeled_along_names_and_tags()
     ensures { (names : Names) (graph : Graph) (name : List ℕ) (answer : Result ObjectId RefError) → (peeled names graph name ≡ answer) ↔ IsPeeledTo names graph name answer }

@@ -104,7 +104,7 @@ fn stands_among(met: &[&[u8]], name: &[u8]) -> bool
     met.iter().any(|other| *other == name)
 }
 
-/// The id that is no tag behind stored tags, else `TagCycle` or `MissingObject`.
+/// The id that is no tag, at the end of stored tags, else `TagCycle` or `MissingObject`.
 pub fn peel_tags<O: Objects>(
     alloc: Global,
     objects: &O,

@@ -3,6 +3,7 @@ pub mod Refusals
 pub mod Connecting
 pub mod Replays
 pub mod Fronts
+pub mod Playing
 pub mod Deleted
 pub mod Unmet
 pub mod Effects

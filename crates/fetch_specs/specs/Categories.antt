@@ -27,7 +27,7 @@ prefix_of RemoteBranch = remotes
 prefix_of Note = notes
 prefix_of PseudoRef = []
 
--- whether the names of a category stand alone, behind no prefix
+-- whether the names of a category stand alone, after no prefix
 abbrev pub is_pseudo : Category → Bool
 is_pseudo Tag = false
 is_pseudo LocalBranch = false

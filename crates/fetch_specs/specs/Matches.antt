@@ -35,7 +35,7 @@ short_remotes = codes "remotes/"
 abbrev pub has_star : List ℕ → Bool
 has_star text = list_any (λ b. b == 42) text
 
--- what stands before a pattern's star, and behind it
+-- what stands before a pattern's star, and after it
 abbrev pub front_of : List ℕ → List ℕ
 front_of pattern = before_first (λ b. b == 42) pattern
 
@@ -174,12 +174,12 @@ leading i j name source = record { lhs = sources.FullName source; rhs = Some nam
 abbrev pub source_matches : List Spec → ℕ → Spec → ℕ → List ℕ → List Match
 source_matches specs i spec j name = map (leading i j name) (sources_leading specs spec name)
 
--- one or none, behind others
+-- one or none, after others
 abbrev pub found : Option Match → List Match
 found None = []
 found (Some m) = m ∷ []
 
--- what each element gives with its number, one behind the other
+-- what each element gives with its number, one after the other
 abbrev pub numbered : {X : Type 0} → (ℕ → X → List Match) → ℕ → List X → List Match
 numbered f i [] = []
 numbered f i (x ∷ xs) = f i x ++ numbered f (i + 1) xs

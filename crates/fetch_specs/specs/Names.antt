@@ -15,7 +15,7 @@ last_is x [] = false
 last_is x (a ∷ []) = a == x
 last_is x (a ∷ b ∷ bs) = last_is x (b ∷ bs)
 
--- whether somewhere y stands behind x
+-- whether somewhere y stands after x
 abbrev pub has_pair : ℕ → ℕ → List ℕ → Bool
 has_pair x y [] = false
 has_pair x y (a ∷ []) = false

@@ -11,7 +11,7 @@ use Rattle.fetch_specs.specs.Parses.{head, id_named}
 use Rattle.fetch_specs.specs.Matches.{has_star, is_exclusion, slash_head}
 use Rattle.fetch_specs.specs.Specs.{Spec}
 
--- beside a text: before it, at it, or behind it
+-- beside a text: before it, at it, or after it
 abbrev pub placed : Ordering → List ℕ → List ℕ → List (List ℕ) → List (List ℕ) → List (List ℕ)
 placed Less text t ts behind = text ∷ t ∷ ts
 placed Equal text t ts behind = t ∷ ts

@@ -14,7 +14,7 @@ may_extend star c b = may_stand star b && not (last_is 46 c && b == 46) && not (
 abbrev pub may_follow : Bool → List ℕ → ℕ → Bool
 may_follow star c b = if b == 47 then may_end c else may_extend star c b
 
--- the part behind one more byte
+-- the part after one more byte
 abbrev pub onward : List ℕ → ℕ → List ℕ
 onward c b = if b == 47 then [] else c ++ b ∷ []
 

@@ -11,6 +11,7 @@ pub enum NameError {
     /// some name.
     #[error("no valid name from byte {place} on")]
     Invalid { place: usize },
+    /// Memory ran out.
     #[error("out of memory")]
     NoMemory,
 }
@@ -18,19 +19,25 @@ pub enum NameError {
 /// Why a text is no refspec.
 #[derive(Clone, Copy, Debug, PartialEq, Eq, Error)]
 pub enum SpecError {
+    /// An exclusion of nothing; to push also an empty text, or a plus alone.
     #[error("an empty refspec")]
     Empty,
+    /// An exclusion has a colon, and so a destination.
     #[error("an exclusion with a destination")]
     NegativeWithDestination,
+    /// An exclusion names an object by its id.
     #[error("an exclusion of an object id")]
     NegativeObjectHash,
+    /// One side has a star and the other has none.
     #[error("one side has a star and the other has none")]
     PatternUnbalanced,
+    /// A side has two stars or more.
     #[error("a side with two stars")]
     PatternUnsupported,
     /// A side isn't in the grammar of names. The place is in the whole text.
     #[error("no valid name from byte {place} on")]
     InvalidName { place: usize },
+    /// Memory ran out.
     #[error("out of memory")]
     NoMemory,
 }

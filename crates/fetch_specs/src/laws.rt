@@ -72,7 +72,7 @@ pub fn each_name_taken_is_asked_for()
 {}
 
 /// An exclusion and an id ask for nothing, and a source with a star asks at most for its front
-/// `refs/x/`, where the star stands behind it.
+/// `refs/x/`, where the star stands after it.
 pub fn what_a_refspec_asks_for()
     ensures exclusion { (spec : Spec) → IsTrue (is_exclusion spec.mode) → (spec_prefixes spec ≡ []) × (asks_for_all spec ≡ false) }
     ensures id { (source : List ℕ) → IsTrue (is_some (id_named source)) → source_prefixes source ≡ [] }

@@ -177,6 +177,7 @@ fn add_sources_of(
     Ok(())
 }
 
+/// Adds the matches of these items by their sources: refspec by refspec, and item by item in each.
 pub fn add_sources(
     alloc: Global,
     found: &mut Found,

@@ -113,6 +113,7 @@ fn source_id(source: Option<&[u8]>) -> Option<ObjectId>
     }
 }
 
+/// Whether the refspec leaves names out.
 pub fn is_exclusion(spec: &RefSpec) -> bool
     ensures { result ≡ words.is_exclusion spec.now.mode }
 {
@@ -125,6 +126,7 @@ fn excludes(name: &[u8], spec: &RefSpec) -> bool
     is_exclusion(spec) && source_taken(spec.source(), name).is_some()
 }
 
+/// Whether an exclusion among these refspecs leaves the name out.
 pub fn is_excluded(specs: &[RefSpec], name: &[u8]) -> bool
     ensures { result ≡ words.is_excluded specs.now name.now }
 {

@@ -9,6 +9,7 @@ ghost use Rattle.fetch_specs.specs.Matches as spec;
 use fetch_store::NoMemory;
 use std::alloc::Global;
 
+/// Whether the text is a pattern.
 pub fn has_star(text: &[u8]) -> bool
     ensures { result ≡ spec.has_star text.now }
 {
@@ -22,7 +23,7 @@ pub fn front_of(pattern: &[u8]) -> &[u8]
     &pattern[..star_or_end(pattern)]
 }
 
-/// What stands behind a pattern's star.
+/// What stands after a pattern's star.
 pub fn back_of(pattern: &[u8]) -> &[u8]
     ensures { result.now ≡ spec.back_of pattern.now }
 {
@@ -97,6 +98,7 @@ fn is_expansion(source: &[u8], name: &[u8]) -> bool
         || is_wrapped(b"refs/remotes/", source, b"/HEAD", name)
 }
 
+/// An empty text where it holds, and None where it does not.
 pub fn where_true(holds: bool) -> Option<&'static [u8]>
     ensures { option_copied result ≡ spec.where_true holds }
 {

@@ -15,9 +15,13 @@ use fetch_store::{Kind, ObjectId};
 /// The sides of a refspec, lent from its text.
 #[derive(Clone, Copy, Debug)]
 pub struct Parts<'a> {
+    /// What the refspec is for.
     pub operation: Operation,
+    /// How it applies.
     pub mode: Mode,
+    /// The side before the colon, where there is one.
     pub source: Option<&'a [u8]>,
+    /// The side after the colon, where there is one.
     pub destination: Option<&'a [u8]>,
 }
 

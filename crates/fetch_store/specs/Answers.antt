@@ -2,10 +2,10 @@
 --
 -- A clause says
 --     AnswersUnless is_memory expected result
--- where `expected` is what the call answers with ample memory, and `is_memory` tells which errors are want of memory: a function of the error's type, by its cases. So an Ok is the expected one, and so is each error but want of
+-- where `expected` is what the call answers with ample memory, and `is_memory` tells which errors are out of memory: a function of the error's type, by its cases. So an Ok is the expected one, and so is each error but want of
 -- memory, which may come in place of any answer. Where other errors are free too, the test holds of them as well, and each has a clause of its own that says when it comes.
 -- Where the contract sees the value through a view, say AnswersBy view is_memory expected result.
--- Where want of memory is the only error, IfOk result (λ value. value ≡ expected) says the same.
+-- Where out of memory is the only error, IfOk result (λ value. value ≡ expected) says the same.
 use Rattle.std.specs.Prelude.{◌≡◌, Bool, Result, Ok, Err}
 use Rattle.std.specs.Bool.{OnFalse}
 

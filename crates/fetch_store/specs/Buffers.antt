@@ -34,7 +34,7 @@ pub record IsIndexed (hash : Kind) (buffer : List ℕ) (index : Index) : Type 0 
 abbrev pub first_of : Entries → Entries → ObjectId → Option Stored
 first_of stored es q = first_some (finmap.find id_cmp q stored) (finmap.find id_cmp q es)
 
--- What a list brings is put behind a buffer, with spans of its new ids.
+-- What a list brings is put after a buffer, with spans of its new ids.
 pub record IsAppended (hash : Kind) (index : Index) (before buffer : List ℕ) (fresh : Index) (objects : Entries) : Type 0 where
   -- the index tells what it told
   pub kept : IsIndexed hash buffer index

@@ -1,5 +1,5 @@
 -- The grammar of objects. A text is parts, one after the other: the lines at the head of a commit or a tag,
--- or the entries of a tree. Behind the last line of a head any bytes may follow.
+-- or the entries of a tree. After the last line of a head any bytes may follow.
 use Rattle.std.specs.Prelude.{ℕ, Bool, ◌&&◌, nat_le, nat_eq, if◌then◌else◌, List, length, take, drop, codes, Option, Some, None}
 use Rattle.std.specs.List.{list_all, starts_with}
 use Rattle.std.specs.Option.{option_map}
@@ -16,7 +16,7 @@ use Rattle.fetch_store.specs.declared.grammar.Expected.TheVariants as expect
 use Rattle.fetch_store.specs.Id.{byte_len, id_of_bytes, id_in_hex}
 use Rattle.fetch_store.specs.Scan.{◌>>=◌, split_first, split_last, after, seconds_in, is_offset}
 
--- a part, what is expected behind it, and the bytes there
+-- a part, what is expected after it, and the bytes there
 pub record Step : Type 0 where
   pub part : Part
   pub expected : Expected

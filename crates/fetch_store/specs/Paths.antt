@@ -40,7 +40,7 @@ parents_of (part ∷ path) = [] ∷ map (λ p. part ∷ p) (parents_of path)
 abbrev pub parent_of : Path → Path
 parent_of path = take (length path - 1) path
 
--- what a path has behind this one, where it begins with it
+-- what a path has after this one, where it begins with it
 abbrev pub after_path : Path → Path → Option Path
 after_path [] path = Some path
 after_path (part ∷ above) [] = None

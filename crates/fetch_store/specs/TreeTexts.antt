@@ -1,4 +1,4 @@
--- The grammar of trees in the words of the format: a tree is its entries, one behind the other.
+-- The grammar of trees in the words of the format: a tree is its entries, one after the other.
 use Rattle.std.specs.Prelude.{◌≡◌, ℕ, ◌≤◌, if◌then◌else◌, List, ◌∷◌, ◌++◌, length, codes, All, Option, Some, None}
 use Rattle.std.specs.List.{AllPass, flat_map, filter_map}
 use Rattle.std.specs.Str.{bytes_eq}

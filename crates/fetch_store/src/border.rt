@@ -43,7 +43,7 @@ impl Border {
         }
     }
 
-    /// The border of these ids, in any order, of which some may come more than once. The only error is want of memory.
+    /// The border of these ids, in any order, of which some may come more than once. The only error is out of memory.
     pub fn from_ids(alloc: Global, ids: &[ObjectId]) -> Result<Border, StoreError>
         ensures border { IfOk result (λ border. border ≡ set_of ids.now) }
         ensures memory { IfErr result (λ e. e ≡ errors.NoMemory) }
@@ -75,7 +75,7 @@ impl Border {
     }
 
     /// This border with the `shallow` commits of a reply, and then without its `unshallow` ones: an id that both lists
-    /// name leaves. The only error is want of memory.
+    /// name leaves. The only error is out of memory.
     pub fn merged(
         &self,
         alloc: Global,
@@ -92,7 +92,7 @@ impl Border {
         Ok(border_of(ids))
     }
 
-    /// A border with the same commits. The only error is want of memory.
+    /// A border with the same commits. The only error is out of memory.
     pub fn try_clone(&self) -> Result<Border, NoMemory>
         ensures { IfOk result (λ copy. copy ≡ self.now) }
     {
@@ -127,7 +127,7 @@ pub fn ascending(mut ids: Vec<ObjectId>) -> Vec<ObjectId>
     ids
 }
 
-/// Puts those ids behind the others that aren't in the border that is left.
+/// Puts those ids after the others that aren't in the border that is left.
 fn keep(into: &mut Vec<ObjectId>, ids: &[ObjectId], left: &Border) -> Result<(), NoMemory>
     ensures { OnOk result (into.new.items ≡ into.old.items ++ filter (λ id. not (set.contains left.now id)) ids.now) }
 {

@@ -38,7 +38,7 @@ pub fn payload_len(objects: &[(ObjectId, Object)]) -> Result<usize, NoMemory>
     Ok(total)
 }
 
-/// Puts an object's bytes behind the others.
+/// Puts an object's bytes after the others.
 fn append(buffer: &mut Vec<u8>, object: ObjectRef<'_>) -> Span
     requires { vec_len buffer.old + length (seen object).bytes ≤ vec_capacity buffer.old }
     ensures bytes { buffer.new.items ≡ buffer.old.items ++ (seen object.entry).bytes }
@@ -55,7 +55,7 @@ fn append(buffer: &mut Vec<u8>, object: ObjectRef<'_>) -> Span
     }
 }
 
-/// Puts the bytes of the objects whose ids are new behind the others, and their spans into a list.
+/// Puts the bytes of the objects whose ids are new after the others, and their spans into a list.
 fn append_new(
     index: &[(ObjectId, Span)],
     buffer: &mut Vec<u8>,

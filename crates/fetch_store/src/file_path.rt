@@ -100,7 +100,7 @@ impl FilePath {
         self.prefix(self.len().saturating_sub(1))
     }
 
-    /// The parts behind those of a text, where this path begins with it. Takes no memory.
+    /// The parts after those of a text, where this path begins with it. Takes no memory.
     pub(crate) fn after(&self, path: &[u8]) -> Option<&[Text]>
         ensures { option_copied result ≡ after_path (parts_of path.now) self.now }
     {
@@ -137,7 +137,7 @@ impl FilePath {
     }
 }
 
-/// What stands before the first slash, and what stands behind it, if there is one.
+/// What stands before the first slash, and what stands after it, if there is one.
 fn next_piece(text: &[u8]) -> (&[u8], Option<&[u8]>)
     ensures parts { parts_of text.now ≡ filter is_part (result.0.now ∷ []) ++ parts_in (option_copied result.1) }
     ensures shorter { IfSome result.1 (λ rest. length rest.now < length text.now) }
@@ -158,7 +158,7 @@ fn push_part(alloc: Global, parts: &mut Vec<Text>, piece: &[u8]) -> Result<(), N
     Ok(())
 }
 
-/// The parts behind the piece, where they begin with it or it is empty.
+/// The parts after the piece, where they begin with it or it is empty.
 fn without_part<'a>(piece: &[u8], parts: &'a [Text]) -> Option<&'a [Text]>
     ensures { option_copied result ≡ after_path (filter is_part (piece.now ∷ [])) parts.now }
 {

@@ -406,7 +406,7 @@ fn remove_below(nodes: &mut BTreeMap<FilePath, TreeNode>, path: &[u8])
     nodes.retain(|key, _| key.after(path).is_none());
 }
 
-/// The names right behind a path, in their order.
+/// The names right after a path, in their order.
 fn names_behind(
     alloc: Global,
     path: &[u8],

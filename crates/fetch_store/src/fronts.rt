@@ -11,7 +11,7 @@ use crate::object::Object;
 use std::alloc::Global;
 
 /// Whether the first eight bytes of the ids tell all of them apart. They are sorted as numbers, which takes a fraction of
-/// the time and the memory of an index of the ids. Where it is false, ids may still differ behind their first bytes.
+/// the time and the memory of an index of the ids. Where it is false, ids may still differ after their first bytes.
 pub(crate) fn are_apart(alloc: Global, objects: &[(ObjectId, Object)]) -> Result<bool, NoMemory>
     ensures { IfOk result (λ apart. IsTrue apart → HaveDistinctIds objects.now) }
 {

@@ -22,9 +22,13 @@ use std::marker::Model;
 /// What an object says of its history.
 #[derive(Debug, Drop)]
 pub struct History {
+    /// What kind of object it is.
     pub kind: ObjectKind,
+    /// Of a commit its parents, in order; of another object none.
     pub parents: Vec<ObjectId>,
+    /// Of a commit when it was made, in seconds since 1970.
     pub seconds: Option<u64>,
+    /// Of a tag what it is of.
     pub target: Option<ObjectId>,
 }
 
@@ -130,7 +134,7 @@ fn copies(
     Ok(copies)
 }
 
-/// Puts the histories of the stored objects behind the others.
+/// Puts the histories of the stored objects after the others.
 fn append_stored(
     nodes: &mut Vec<(ObjectId, History)>,
     alloc: Global,
@@ -147,7 +151,7 @@ fn append_stored(
     Ok(())
 }
 
-/// Puts the histories of the objects behind the others.
+/// Puts the histories of the objects after the others.
 fn append(
     nodes: &mut Vec<(ObjectId, History)>,
     alloc: Global,

@@ -80,6 +80,7 @@ impl Object {
         self.kind == other.kind && self.bytes.as_slice() == other.bytes.as_slice()
     }
 
+    /// The object, lent.
     pub fn as_ref(&self) -> ObjectRef<'_>
         ensures same { seen result ≡ self.now }
         ensures valid { spec.IsObject self.now.hash self.now.kind self.now.bytes }
@@ -92,7 +93,7 @@ impl Object {
     }
 }
 
-/// What is expected behind the last part, and how many bytes are left there.
+/// What is expected after the last part, and how many bytes are left there.
 fn end_of_parts(hash: Kind, kind: ObjectKind, bytes: &[u8]) -> (Expected, usize)
     ensures expected { result.0 ≡ (spec.reading_of hash kind bytes.now).expected }
     ensures left { result.1 ≡ length (spec.reading_of hash kind bytes.now).rest }
@@ -151,12 +152,14 @@ impl<'a> ObjectRef<'a> {
         self.kind == other.kind && self.bytes == other.bytes
     }
 
+    /// What kind of object it is.
     pub fn kind(&self) -> ObjectKind
         ensures { result ≡ (seen self.now).kind }
     {
         self.kind
     }
 
+    /// Its bytes.
     pub fn bytes(&self) -> &'a [u8]
         ensures { result.now ≡ (seen self.now).bytes }
     {
@@ -269,7 +272,7 @@ fn read_parts(
     Ok((parents, seconds))
 }
 
-/// Puts the parent that a part names, if it does, behind the others.
+/// Puts the parent that a part names, if it does, after the others.
 fn push_parent(parents: &mut Vec<ObjectId>, part: Part) -> Result<(), NoMemory>
     ensures { OnOk result (parents.new.items ≡ parents.old.items ++ option_to_list (spec.parent_in part)) }
 {

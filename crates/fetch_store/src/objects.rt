@@ -104,6 +104,7 @@ fn parent_at(object: &ObjectRef<'_>, index: usize) -> Option<ObjectId>
     parents.nth(index)
 }
 
+/// Of a tag what it is of, and of another object nothing.
 pub fn target(object: &ObjectRef<'_>) -> Option<ObjectId>
     ensures { result ≡ target_of (seen object.now) }
 {

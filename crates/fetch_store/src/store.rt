@@ -55,6 +55,7 @@ impl Model for Store {
 }
 
 impl Store {
+    /// No objects, of a hash. Takes no memory.
     pub fn new(alloc: Global, kind: Kind) -> Store
         ensures { result ≡ record { hash = kind; objects = map.empty; spare = 0; spare_bytes = 0 } }
     {
@@ -76,6 +77,7 @@ impl Store {
         self.hash
     }
 
+    /// The object with this id, lent. None where there is none.
     pub fn get(&self, id: &ObjectId) -> Option<ObjectRef<'_>>
         ensures object { option_map seen result ≡ map.get self.now.objects id.now }
         ensures valid { IfSome result (λ o. let s = seen o in IsObject s.hash s.kind s.bytes) }
@@ -133,12 +135,14 @@ impl Store {
         self.index.len()
     }
 
+    /// Whether there are no objects.
     pub fn is_empty(&self) -> bool
         ensures { IsTrue result ↔ (map.len self.now.objects ≡ 0) }
     {
         self.len() == 0
     }
 
+    /// Whether an object with this id is stored.
     pub fn contains(&self, id: &ObjectId) -> bool
         ensures { result ≡ map.contains_key self.now.objects id.now }
     {

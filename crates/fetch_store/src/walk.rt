@@ -24,7 +24,7 @@ pub trait Next {
     fn is_there(&self, id: &ObjectId) -> bool
         ensures { result ≡ is_some (nexts self.now id.now) };
 
-    /// Puts the ids one step away behind the others.
+    /// Puts the ids one step away after the others.
     fn append_next(&self, id: &ObjectId, into: &mut Vec<ObjectId>) -> Result<(), NoMemory>
         ensures { OnOk result (into.new.items ≡ into.old.items ++ next_to (nexts self.now) id.now) };
 }

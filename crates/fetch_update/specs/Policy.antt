@@ -262,7 +262,7 @@ unless_unsent p s (Some id) otherwise = Ok (nothing (unsent_mode p.tags s id))
 unfoldable pub verdict_of : Policy → Spec → Mapping → Result Verdict Error
 verdict_of p s m = unless_unsent p s (unsent p (value_of m.remote)) (at_destination p s m m.local)
 
--- want of memory
+-- out of memory
 abbrev pub is_memory : Error → Bool
 is_memory errors.NoMemory = true
 is_memory _ = false

@@ -21,7 +21,7 @@ pub record Script : Type 0 where
 abbrev pub listed_for : List (ℕ × WorktreeFault) → ℕ → Option WorktreeFault
 listed_for failing call = option_map (λ f. f.1) (find (λ f. nat_eq f.0 call) failing)
 
--- A listed want of memory is no fault.
+-- A listed out of memory is no fault.
 abbrev pub unless_memory : WorktreeFault → Option WorktreeFault
 unless_memory NoMemory = None
 unless_memory fault = Some fault

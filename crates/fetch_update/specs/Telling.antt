@@ -29,7 +29,7 @@ log_of (Delete expected log) = None
 abbrev pub Says : RefEdit → List ℕ → Type 0
 Says e message = log_of e.change ≡ Some (record { mode = AndReference; force_create_reflog = false; message = message })
 
--- What is said behind the action, or in place of all, by the row that holds of the mapping.
+-- What is said after the action, or in place of all, by the row that holds of the mapping.
 pub record SaysByRow (p : Policy) (s : Spec) (m : Mapping) (e : RefEdit) : Type 0 where
   pub absent : IsAbsent p m → Says e (message_text p.message (storing e.name))
   pub unborn : (name target : List ℕ) → IsUnborn p m name target → Says e (message_text p.message change_unborn)

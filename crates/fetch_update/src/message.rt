@@ -16,6 +16,7 @@ pub enum RefLogMessage {
 }
 
 impl RefLogMessage {
+    /// An equal message.
     pub fn try_clone(&self) -> Result<RefLogMessage, NoMemory>
         ensures { IfOk result (λ copy. copy ≡ self.now) }
     {

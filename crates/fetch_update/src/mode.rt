@@ -11,27 +11,39 @@ use std::{fmt, str};
 /// What an update does to its reference, or why it does nothing.
 #[derive(Debug, Drop, PartialEq, Eq)]
 pub enum Mode {
+    /// The reference has the value already.
     NoChangeNeeded,
+    /// The new commit has the old one among its ancestors, by a dated path.
     FastForward,
+    /// The value is replaced by force, since the refspec has a plus.
     Forced,
+    /// The reference isn't there yet.
     New,
     /// A tag that the remote didn't send, since nothing that is fetched leads to it.
     ImplicitTagNotSentByRemote,
+    /// The object that the remote names isn't stored.
     RejectedSourceObjectNotFound { id: ObjectId },
+    /// The tag is there with another value, and the refspec has no plus.
     RejectedTagUpdate,
+    /// It is no fast-forward, and the refspec has no plus.
     RejectedNonFastForward,
+    /// The reference is there, and that of the remote leads to none.
     RejectedToReplaceWithUnborn,
+    /// The branch is checked out in these directories.
     RejectedCurrentlyCheckedOut { worktree_dirs: List<Text> },
 }
 
 /// How the kind of a reference changes.
 #[derive(Clone, Copy, Debug, PartialEq, Eq, PartialOrd, Ord, Hash)]
 pub enum TypeChange {
+    /// It named an object, and names a reference now.
     DirectToSymbolic,
+    /// It named a reference, and names an object now.
     SymbolicToDirect,
 }
 
 impl Mode {
+    /// An equal mode.
     pub fn try_clone(&self) -> Result<Mode, NoMemory>
         ensures { IfOk result (λ copy. copy ≡ self.now) }
     {

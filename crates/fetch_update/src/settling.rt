@@ -86,7 +86,7 @@ fn number(alloc: Global, verdicts: Vec<(usize, Verdict)>) -> Result<Outcome, NoM
     })
 }
 
-/// Puts an edit behind the others, and tells its index.
+/// Puts an edit after the others, and tells its index.
 fn add(edits: &mut Vec<RefEdit>, edit: Option<RefEdit>) -> Result<Option<usize>, NoMemory>
     ensures index { IfOk result (λ index. index ≡ option_map (λ _. vec_len edits.old) edit) }
     ensures edits { OnOk result (edits.new.items ≡ edits.old.items ++ option_to_list edit) }

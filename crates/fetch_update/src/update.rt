@@ -12,10 +12,13 @@ use thiserror::Error as ErrorMacro;
 /// What becomes of one mapping.
 #[derive(Debug, Drop, PartialEq, Eq)]
 pub struct Update {
+    /// What it does to its reference, or why it does nothing.
     pub mode: Mode,
+    /// How the kind of its reference changes, if it does.
     pub type_change: Option<TypeChange>,
     /// Which of the edits carries it out.
     pub edit_index: Option<usize>,
+    /// Which of the mappings it is of.
     pub mapping_index: usize,
 }
 
@@ -36,26 +39,37 @@ impl Update {
 /// The edits of all mappings, and what each mapping is told.
 #[derive(Debug, Drop)]
 pub struct Outcome {
+    /// The edits that carry the updates out.
     pub edits: List<RefEdit>,
+    /// What each mapping is told, in their order.
     pub updates: List<Update>,
 }
 
+/// Why updates can't be judged.
 #[derive(Debug, Drop, ErrorMacro)]
 pub enum Error {
+    /// A destination is no name of a reference.
     #[error("a destination is no name of a reference")]
     FindReference { name: Text },
+    /// An unborn reference of the remote leads to what is no name.
     #[error("the target of an unborn remote reference is no name")]
     InvalidRefName { name: Text },
+    /// A local reference names an object that isn't stored.
     #[error("the object of a local reference isn't stored")]
     FindCommit { id: ObjectId },
+    /// A local reference leads to no object.
     #[error("a local reference leads to no object")]
     PeelToId { name: FullName, cause: RefError },
+    /// The work trees couldn't be listed.
     #[error("the worktrees couldn't be listed")]
     WorktreeListing,
+    /// The repository of a work tree couldn't be opened.
     #[error("the repository of a worktree couldn't be opened")]
     OpenWorktreeRepo,
+    /// The head of a work tree couldn't be followed.
     #[error("the head of a worktree couldn't be followed")]
     FollowSymref,
+    /// Memory ran out.
     #[error("out of memory")]
     NoMemory,
 }
@@ -119,6 +133,7 @@ impl<T: Drop> From<AllocFailed<T>> for Error {
 }
 
 impl Update {
+    /// An equal update.
     pub fn try_clone(&self) -> Result<Update, NoMemory>
         ensures { IfOk result (λ copy. copy ≡ self.now) }
     {
@@ -132,6 +147,7 @@ impl Update {
 }
 
 impl Outcome {
+    /// An equal outcome.
     pub fn try_clone(&self) -> Result<Outcome, NoMemory>
         ensures { IfOk result (λ copy. copy ≡ self.now) }
     {

@@ -10,11 +10,14 @@ use thiserror::Error;
 /// A branch, and the directory in which it is checked out.
 #[derive(Debug, Drop)]
 pub struct Worktree {
+    /// The branch.
     pub branch: FullName,
+    /// The directory, as it is told.
     pub directory: Text,
 }
 
 impl Worktree {
+    /// An equal pair.
     pub fn try_clone(&self) -> Result<Worktree, NoMemory>
         ensures { IfOk result (λ copy. copy ≡ self.now) }
     {
@@ -28,12 +31,16 @@ impl Worktree {
 /// Why worktrees couldn't be listed.
 #[derive(Clone, Copy, Debug, PartialEq, Eq, Error)]
 pub enum WorktreeFault {
+    /// They couldn't be listed.
     #[error("the worktrees couldn't be listed")]
     Listing,
+    /// The repository of one couldn't be opened.
     #[error("the repository of a worktree couldn't be opened")]
     OpenRepo,
+    /// The head of one couldn't be followed.
     #[error("the head of a worktree couldn't be followed")]
     FollowSymref,
+    /// Memory ran out.
     #[error("out of memory")]
     NoMemory,
 }

@@ -1,3 +1,5 @@
+//! The dated path, held against graphs of real Git.
+
 ghost use Rattle.std.specs.Prelude.{◌≡◌, ◌↔◌, ◌<◌, IsTrue, IfOk, OnOk};
 ghost use Rattle.fetch_store.specs.declared.id.Kind.TheVariants as kinds;
 ghost use Rattle.fetch_store.specs.Graph.{graph_of};

@@ -80,7 +80,7 @@ fn digit(text: &[u8]) -> (u8, &[u8]) {
     }
 }
 
-/// Adds a commit, and asks for a path to each earlier one. None where an answer differs, else the graphs behind it.
+/// Adds a commit, and asks for a path to each earlier one. None where an answer differs, else the graphs after it.
 fn ask<'a>(
     alloc: Global,
     store: &mut Store,

@@ -52,7 +52,7 @@ fn commit(alloc: Global, refs: &mut Refs, edits: &[RefEdit]) -> Result<(), Fail>
     Ok(())
 }
 
-/// Branches 1 to `symbolic`, each a symbolic reference to the next, and the one behind them.
+/// Branches 1 to `symbolic`, each a symbolic reference to the next, and the one after them.
 fn chain(alloc: Global, symbolic: u8, last: Target) -> Result<Refs, Fail> {
     let mut refs = Refs::new(alloc, Kind::Sha1);
     let mut edits = Vec::new(alloc);

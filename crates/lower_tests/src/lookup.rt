@@ -35,7 +35,7 @@ fn read(alloc: Global, text: &[u8], trusted: bool) -> Result<File, ConfigError> 
     File::read(alloc, text, meta)
 }
 
-/// The names, each with a line feed behind, as `git remote` prints them.
+/// The names, each with a line feed after it, as `git remote` prints them.
 fn lines(alloc: Global, names: &BTreeSet<Text>) -> Result<Vec<u8>, NoMemory> {
     let mut out = Vec::new(alloc);
     for name in names {
@@ -45,7 +45,7 @@ fn lines(alloc: Global, names: &BTreeSet<Text>) -> Result<Vec<u8>, NoMemory> {
     Ok(out)
 }
 
-/// The texts, each with a line feed behind.
+/// The texts, each with a line feed after it.
 fn texts(alloc: Global, list: &List<Text>) -> Result<Vec<u8>, NoMemory> {
     let mut out = Vec::new(alloc);
     for text in list.as_slice() {
@@ -55,7 +55,7 @@ fn texts(alloc: Global, list: &List<Text>) -> Result<Vec<u8>, NoMemory> {
     Ok(out)
 }
 
-/// The refspecs, each with a line feed behind.
+/// The refspecs, each with a line feed after it.
 fn specs(alloc: Global, list: &List<RefSpec>) -> Result<Vec<u8>, SpecError> {
     let mut out = Vec::new(alloc);
     for spec in list.as_slice() {

@@ -1,3 +1,5 @@
+//! What a take would leave missing, and ids in order.
+
 ghost use Rattle.std.specs.Prelude.{◌≡◌, IfOk};
 ghost use Rattle.fetch_store.specs.Id.{kind_of};
 ghost use Rattle.fetch_store.specs.declared.id.Kind.TheVariants as kinds;

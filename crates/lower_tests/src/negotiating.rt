@@ -125,7 +125,7 @@ fn a_line_is_told_from_its_end(rt: HostRuntime) -> Result<(), Fail> {
     Ok(())
 }
 
-/// Neither what the other side has is told, nor what stands behind the border.
+/// Neither what the other side has is told, nor what stands beyond the border.
 #[test]
 fn a_line_is_told_in_part(rt: HostRuntime) -> Result<(), Fail> {
     let alloc = rt.alloc();

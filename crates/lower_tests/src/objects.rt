@@ -1,3 +1,5 @@
+//! Objects, their ids and what they say.
+
 use fetch_store::{
     Border, Graph, Kind, List, Missing, Object, ObjectId, ObjectKind, Objects, Store, StoreError,
     Text, first_missing, id_of,

@@ -1,3 +1,5 @@
+//! Plain packs, written and read.
+
 use fetch_pack::{
     Gate, PackError, PackVersion, hash_pieces, read_pack, read_pack_gated, write_pack,
     write_pack_of,

@@ -1,3 +1,5 @@
+//! References that move, and their reflogs.
+
 ghost use Rattle.std.specs.Prelude.{◌≡◌, true, OnOk, OnErr};
 ghost use Rattle.fetch_refs.specs.Logs.{after};
 ghost use Rattle.fetch_refs.specs.declared.edit.PackedRefs.TheVariants.{Never};

@@ -197,7 +197,7 @@ fn a_source_is_told_once_and_never_excluded(rt: HostRuntime) -> Result<(), Fail>
     Ok(())
 }
 
-/// What refspecs ask for, a space behind each.
+/// What refspecs ask for, a space after each.
 fn asked(alloc: Global, specs: &[u8]) -> Result<Vec<u8>, SpecError> {
     let specs = specs_of(alloc, specs, Operation::Fetch)?;
     let texts = prefixes(alloc, specs.as_slice())?;

@@ -1,3 +1,5 @@
+//! Names and refspecs.
+
 use fetch_specs::{
     Category, Conflict, FullName, Item, Match, MatchGroup, Operation, PartialName, RefSpec,
     SourceRef, SpecError, Tags, parse, prefixes, validate,

@@ -1,3 +1,5 @@
+//! What is asked for.
+
 use fetch_negotiate::{Depth, Shallow, request_of, wants};
 use fetch_specs::Tags;
 use fetch_store::{Border, Kind, List, ObjectId, Store, Text};

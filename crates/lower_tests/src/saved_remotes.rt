@@ -213,7 +213,7 @@ fn refspecs_are_replaced_and_added(rt: HostRuntime) -> Result<(), Fail> {
     Ok(())
 }
 
-/// Whether the refspecs, each with a space behind, are this text.
+/// Whether the refspecs, each with a space after it, are this text.
 fn is_list(alloc: Global, list: &List<RefSpec>, wanted: &[u8]) -> Result<bool, SpecError> {
     let mut out = Vec::new(alloc);
     for spec in list.as_slice() {

@@ -1,3 +1,5 @@
+//! A server whose bytes end too soon.
+
 use crate::fixture::{EMPTY, GREETING, LISTING, REMOTE, REPLY, ends, scene};
 use std::test::Fail;
 

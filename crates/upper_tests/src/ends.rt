@@ -1,3 +1,5 @@
+//! Sources and sinks that fail.
+
 ghost use Rattle.std.specs.Prelude.{false, None};
 
 use crate::fixture::{EMPTY, GREETING, LISTING, REMOTE, REPLY, fetch_over, scene};

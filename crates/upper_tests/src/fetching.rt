@@ -1,3 +1,5 @@
+//! Fetches that are refused.
+
 ghost use Rattle.std.specs.Prelude.{◌≡◌, IfOk};
 ghost use Rattle.fetch_store.specs.declared.id.Kind.TheVariants.{Sha1};
 

@@ -1,3 +1,5 @@
+//! What is no scene, and reports line by line.
+
 use fetch_cli::{
     Command, MemorySink, MemorySource, ReadError, SceneFault, Sink, StdSink, StdSource, append_map,
     append_sent, read_all, read_command, read_scene,
