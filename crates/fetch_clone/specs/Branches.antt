@@ -1,5 +1,5 @@
 -- The branch that `HEAD` of a new repository leads to.
-use Rattle.std.specs.Prelude.{ℕ, Bool, true, false, not, ◌&&◌, ◌==◌, if◌then◌else◌, List, [], ◌∷◌, ◌++◌, Option, Some, None, is_none, unwrap_or, codes}
+use Rattle.std.specs.Prelude.{ℕ, Bool, false, not, ◌&&◌, if◌then◌else◌, List, ◌++◌, Option, Some, None, is_none, unwrap_or, codes}
 use Rattle.std.specs.Str.{bytes_eq}
 use Rattle.fetch_config.specs.Contents.{Contents}
 use Rattle.fetch_config.specs.Lookups.{values_of, explicit, last_of}

@@ -1,13 +1,24 @@
 -- What a clone is asked for beside its place.
-use Rattle.std.specs.Prelude.{◌≡◌, ℕ, List, Option, Some, None, Result, Ok, Err, false, ⊤}
+use Rattle.std.specs.Prelude.{◌≡◌, ℕ, List, [], Option, Some, None, Result, Ok, Err, true, false, ⊤}
 use Rattle.fetch_specs.specs.Names.{name_trouble}
 use Rattle.fetch_specs.specs.Specs.{Spec}
 use Rattle.fetch_specs.specs.declared.error.NameError.{NameError}
 use Rattle.fetch_specs.specs.declared.error.NameError.TheVariants as names
+use Rattle.fetch_negotiate.specs.declared.algorithm.Shallow.TheVariants.{NoChange}
 use Rattle.fetch_clone.specs.Revisions.{revision_of}
 use Rattle.fetch_clone.specs.declared.choices.Choices.{Choices}
 use Rattle.fetch_clone.specs.declared.choices.Wanted.{Wanted}
 use Rattle.fetch_clone.specs.declared.choices.Wanted.TheVariants.{Everything, RefName, Revision}
+
+-- all branches with their whole history, as the configuration says
+abbrev pub plain : Choices
+plain = record {
+  remote_name = None;
+  shallow = NoChange;
+  overrides = [];
+  wanted = Everything;
+  options = record { prefix_from_spec_as_filter_on_remote = true; handshake_parameters = []; extra_refspecs = []; max_reply_bytes = 268435456 };
+}
 
 -- A ref name that was chosen is taken back, and a revision stays.
 abbrev pub without_ref_name : Wanted → Wanted

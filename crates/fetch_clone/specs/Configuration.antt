@@ -1,5 +1,5 @@
 -- The configuration that a new repository begins with.
-use Rattle.std.specs.Prelude.{ℕ, Bool, true, false, not, if◌then◌else◌, List, [], ◌∷◌, ◌++◌, Option, Some, None, codes}
+use Rattle.std.specs.Prelude.{ℕ, Bool, true, false, not, List, [], ◌∷◌, ◌++◌, codes}
 use Rattle.fetch_store.specs.declared.id.Kind.{Kind}
 use Rattle.fetch_store.specs.declared.id.Kind.TheVariants as hashes
 use Rattle.fetch_clone.specs.declared.create.Capabilities.{Capabilities}

@@ -6,3 +6,11 @@ pub mod Branches
 pub mod Revisions
 pub mod Tracking
 pub mod Choices
+pub mod Meant
+pub mod Aims
+pub mod Upstreams
+pub mod Replacing
+pub mod Initial
+pub mod Drafts
+pub mod Heading
+pub mod Mirrors

@@ -1,5 +1,5 @@
 -- What a clone's remote is called, and by which refspec it is fetched.
-use Rattle.std.specs.Prelude.{◌≡◌, ℕ, Bool, true, false, if◌then◌else◌, List, [], ◌∷◌, ◌++◌, length, drop, Option, Some, None, ⊤, unwrap_or, codes, nat_eq}
+use Rattle.std.specs.Prelude.{ℕ, false, if◌then◌else◌, List, ◌∷◌, ◌++◌, length, drop, Option, Some, None, codes, nat_eq}
 use Rattle.std.specs.List.{starts_with}
 use Rattle.fetch_config.specs.Contents.{Contents}
 use Rattle.fetch_config.specs.Lookups.{values_of, explicit, last_of}

@@ -42,8 +42,7 @@ pub struct Choices {
 impl Choices {
     /// All branches with their whole history, as the configuration says.
     pub fn new(alloc: Global) -> Choices
-        ensures remote_name { result.remote_name ≡ None }
-        ensures wanted { result.wanted ≡ Wanted.Everything }
+        ensures { result ≡ spec.plain }
     {
         Choices {
             remote_name: None,

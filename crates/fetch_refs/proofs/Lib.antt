@@ -16,3 +16,4 @@ pub mod Walks
 pub mod TagWays
 pub mod NameWays
 pub mod PackedAnswers
+pub mod Hashes

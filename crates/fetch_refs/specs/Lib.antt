@@ -24,3 +24,4 @@ pub mod Prepared
 pub mod Reading
 pub mod ReadSteps
 pub mod Leading
+pub mod Hashing

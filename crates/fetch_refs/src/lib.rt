@@ -6,6 +6,7 @@ mod contents;
 mod copies;
 mod edit;
 mod error;
+mod hashing;
 mod iter;
 mod journal;
 pub mod laws;

@@ -21,3 +21,4 @@ pub mod Deletions
 pub mod Replaced
 pub mod SectionsBack
 pub mod DeletedTwice
+pub mod Hashed

@@ -5,6 +5,7 @@ pub mod Codes
 pub mod Negotiated
 pub mod Paths
 pub mod Repositories
+pub mod Hashing
 pub mod Finding
 pub mod Following
 pub mod Connecting

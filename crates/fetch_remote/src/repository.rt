@@ -1,5 +1,7 @@
 //! Repositories.
 
+mod hash;
+
 ghost use Rattle.std.specs.Prelude.{◌≡◌, ◌↔◌, IfOk, IfErr, IfSome, OnOk, OnErr, MatchOption, IsOkUnless, IsTrue, IsNone, Some, None, not, option_map};
 ghost use Rattle.std.specs.FinSet as set;
 ghost use Rattle.fetch_store.specs.Stores.{AreOf, collision};
@@ -293,7 +295,7 @@ impl Repository {
     }
 
     /// The repository's own configuration.
-    pub(crate) fn local(&self) -> &File
+    pub fn local(&self) -> &File
         ensures { result.now ≡ (setup_of self.now).local }
     {
         &self.local

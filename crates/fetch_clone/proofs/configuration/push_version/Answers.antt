@@ -1,6 +1,5 @@
-use Rattle.std.proofs.Common.{◌≡◌, ◌++◌, List, ℕ, ap, sym, ◌∙◌, subst}
+use Rattle.std.proofs.Common.{◌++◌, ap, sym, ◌∙◌}
 use Rattle.fetch_clone.specs.Configuration as spec
-use Rattle.fetch_clone.specs.declared.create.Kind.TheVariants as kinds
 use Rattle.fetch_clone.proofs.Appended.{behind}
 use Rattle.fetch_clone.proofs.configuration.push_version.Goals as goal
 

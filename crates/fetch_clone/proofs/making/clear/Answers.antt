@@ -1,4 +1,4 @@
-use Rattle.std.proofs.Common.{◌≡◌, ◌≤◌, List, ℕ, length, Option, Some, IfSome, option_map, sym, subst, refl, ap, ◌∙◌}
+use Rattle.std.proofs.Common.{◌≡◌, ◌≤◌, List, ℕ, length, Some, IfSome, option_map, subst}
 use Rattle.fetch_clone.specs.Creation.{listed_in}
 use Rattle.fetch_clone.proofs.Steps.{has-entry}
 use Rattle.fetch_clone.proofs.making.clear.Goals as goal

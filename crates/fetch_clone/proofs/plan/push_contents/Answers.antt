@@ -1,4 +1,4 @@
-use Rattle.std.proofs.Common.{◌≡◌, ◌++◌, ap, ◌∙◌}
+use Rattle.std.proofs.Common.{◌++◌, ap, ◌∙◌}
 use Rattle.fetch_clone.specs.Plans.{contents_of}
 use Rattle.fetch_clone.proofs.Appended.{behind}
 use Rattle.fetch_clone.proofs.plan.push_contents.Goals as goal

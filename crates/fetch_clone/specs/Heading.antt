@@ -1,0 +1,147 @@
+-- A repository whose `HEAD` takes what a remote listed.
+use Rattle.std.specs.Prelude.{◌≡◌, ℕ, Bool, List, [], Option, Some, None, IfSome, Result, Ok, Err, ⊤}
+use Rattle.fetch_store.specs.FileCalls.{IsRefused}
+use Rattle.fetch_store.specs.Graph.{graph_of}
+use Rattle.fetch_store.specs.Paths.{parts_of}
+use Rattle.fetch_store.specs.Trees.{Tree, written}
+use Rattle.fetch_specs.specs.Specs.{Spec}
+use Rattle.fetch_config.specs.Contents.{Contents}
+use Rattle.fetch_config.specs.Print.{text_of}
+use Rattle.fetch_refs.specs.Logs.{after}
+use Rattle.fetch_refs.specs.declared.edit.PackedRefs.TheVariants as places
+use Rattle.fetch_refs.specs.declared.edit.RefEdit.{RefEdit}
+use Rattle.fetch_wire.specs.declared.mapping.RefMap.{RefMap}
+use Rattle.fetch_remote.specs.Finding.{existing_in}
+use Rattle.fetch_remote.specs.Paths.{config_path}
+use Rattle.fetch_remote.specs.Remotes.{RemoteValue}
+use Rattle.fetch_remote.specs.Repositories.{state_of, setup_of, with_refs, reopened}
+use Rattle.fetch_remote.specs.RepositoryValues.{State, Setup, RepositoryValue}
+use Rattle.fetch_remote.specs.declared.find.existing.Error.{Error as FindError}
+use Rattle.fetch_clone.specs.Aims.{aim_in, edits_of}
+use Rattle.fetch_clone.specs.Creation.{TellsStill}
+use Rattle.fetch_clone.specs.Upstreams.{following}
+use Rattle.fetch_clone.specs.declared.aim.Aim.{Aim}
+use Rattle.fetch_clone.specs.declared.aim.Aim.TheVariants.{Nothing, Id, Name}
+use Rattle.fetch_clone.specs.declared.aim.Unaimed.{Unaimed}
+use Rattle.fetch_clone.specs.declared.aim.Unaimed.TheVariants as unaimed
+use Rattle.fetch_clone.specs.declared.clone.fetch.Error.{Error}
+use Rattle.fetch_clone.specs.declared.clone.fetch.Error.TheVariants as errors
+use Rattle.fetch_clone.specs.declared.meant.Unmeant.TheVariants as unmeant
+
+-- ---- references
+
+-- The references after edits, which are written packed.
+abbrev pub edited : Setup → State → List RefEdit → State
+edited setup s edits = with_refs s (after setup.settings.committer setup.logging places.Only s.refs edits)
+
+abbrev pub moved : Setup → State → List ℕ → Aim → State
+moved setup s message aim = edited setup s (edits_of message aim)
+
+-- ---- the branch's section
+
+-- the refspecs that a remote was saved with
+abbrev pub specs_of : Result RemoteValue FindError → List Spec
+specs_of (Ok remote) = remote.fetch_specs
+specs_of (Err e) = []
+
+abbrev pub saved_specs : Setup → List ℕ → List Spec
+saved_specs setup remote = specs_of (existing_in setup.settings.config.sections remote)
+
+-- the local file with the section of the branch that `HEAD` leads to, where it gets one
+abbrev pub followed : Setup → List ℕ → Aim → Option Contents
+followed setup remote Nothing = None
+followed setup remote (Id id) = None
+followed setup remote (Name name id) = following setup.local remote (saved_specs setup remote) setup.settings.kind name
+
+-- The text is written into the file `config`.
+abbrev pub IsWritten : Option Tree → List ℕ → Contents → Option Tree → Type 0
+IsWritten before git_dir local now = TellsStill before now × IfSome before (λ t. written t (parts_of (config_path git_dir)) (text_of local.sections) ≡ now)
+
+-- Where there is such a section, it stands in the file `config`, which is written anew, and in memory; else both are as before.
+abbrev pub FollowsIf : Setup → Setup → Option Tree → Option Tree → Option Contents → Type 0
+FollowsIf before after told now None = (after ≡ before) × (now ≡ told)
+FollowsIf before after told now (Some local) = (reopened before local ≡ Some after) × IsWritten told before.settings.git_dir local now
+
+-- ---- all of it
+
+abbrev pub aim_of : State → RefMap → Option (List ℕ) → Option Spec → Result Aim Unaimed
+aim_of s map ref_name revision = aim_in map (graph_of s.objects) ref_name revision
+
+-- `HEAD` took what was aimed at.
+pub record HasHead (told now : Option Tree) (before after : RepositoryValue) (map : RefMap) (message remote : List ℕ) (ref_name : Option (List ℕ)) (revision : Option Spec) : Type 0 where
+  pub aim : Aim
+  pub takes : aim_of (state_of before) map ref_name revision ≡ Ok aim
+  pub state : state_of after ≡ moved (setup_of before) (state_of before) message aim
+  pub follows : FollowsIf (setup_of before) (setup_of after) told now (followed (setup_of before) remote aim)
+
+-- ---- refusals
+
+abbrev pub wanting : Option (List ℕ) → (List ℕ → Error) → Error
+wanting None e = errors.NoMemory
+wanting (Some wanted) e = e wanted
+
+abbrev pub source_of : Option Spec → Option (List ℕ)
+source_of None = None
+source_of (Some revision) = revision.source
+
+-- how a refusal to aim is told: a ref name and a revision with what was wanted
+abbrev pub told_as : Option (List ℕ) → Option Spec → Unaimed → Error
+told_as ref_name revision (unaimed.Name unmeant.Missing) = wanting ref_name errors.RefNameMissing
+told_as ref_name revision (unaimed.Name (unmeant.Ambiguous candidates)) = wanting ref_name (λ wanted. errors.RefNameAmbiguous wanted candidates)
+told_as ref_name revision (unaimed.Name unmeant.NoMemory) = errors.NoMemory
+told_as ref_name revision (unaimed.InvalidHead name) = errors.InvalidHeadRef name
+told_as ref_name revision unaimed.Revision = wanting (source_of revision) errors.RevisionMissing
+told_as ref_name revision (unaimed.Find id) = errors.FindRevision id
+told_as ref_name revision (unaimed.Peel id) = errors.PeelRevision id
+told_as ref_name revision unaimed.NoMemory = errors.NoMemory
+
+-- told so, unless memory ran out
+abbrev pub IsToldAs : Option (List ℕ) → Option Spec → Unaimed → Error → Type 0
+IsToldAs ref_name revision cause errors.NoMemory = ⊤
+IsToldAs ref_name revision cause errors.SaveConfigIo = ⊥
+IsToldAs ref_name revision cause e = e ≡ told_as ref_name revision cause
+
+-- why a local file isn't saved
+abbrev pub IsUnsaved : Bool → Option Tree → List ℕ → Option Contents → Error → Type 0
+IsUnsaved may_fail told git_dir local errors.NoMemory = ⊤
+IsUnsaved may_fail told git_dir local errors.SaveConfigIo = (file : Contents) × (local ≡ Some file) × IsRefused may_fail told (λ t. written t (parts_of (config_path git_dir)) (text_of file.sections))
+IsUnsaved may_fail told git_dir local e = ⊥
+
+-- Why there is nothing to aim at.
+pub record HasNoAim (s : State) (map : RefMap) (ref_name : Option (List ℕ)) (revision : Option Spec) (e : Error) : Type 0 where
+  pub cause : Unaimed
+  pub refused : aim_of s map ref_name revision ≡ Err cause
+  pub as_told : e ≡ told_as ref_name revision cause
+
+-- the same, unless memory ran out
+abbrev pub IsNoAim : State → RefMap → Option (List ℕ) → Option Spec → Error → Type 0
+IsNoAim s map ref_name revision errors.NoMemory = ⊤
+IsNoAim s map ref_name revision errors.SaveConfigIo = ⊥
+IsNoAim s map ref_name revision e = HasNoAim s map ref_name revision e
+
+-- There was nothing to aim at, and nothing has changed.
+pub record IsUnaimed (told now : Option Tree) (before after : RepositoryValue) (map : RefMap) (ref_name : Option (List ℕ)) (revision : Option Spec) (e : Error) : Type 0 where
+  pub why : HasNoAim (state_of before) map ref_name revision e
+  pub state : state_of after ≡ state_of before
+  pub setup : setup_of after ≡ setup_of before
+  pub tree : now ≡ told
+
+-- `HEAD` took what was aimed at, and then the branch's section couldn't be written.
+pub record IsUnwritten (may_fail : Bool) (told now : Option Tree) (before after : RepositoryValue) (map : RefMap) (message remote : List ℕ) (ref_name : Option (List ℕ)) (revision : Option Spec) : Type 0 where
+  pub aim : Aim
+  pub takes : aim_of (state_of before) map ref_name revision ≡ Ok aim
+  pub state : state_of after ≡ moved (setup_of before) (state_of before) message aim
+  pub setup : setup_of after ≡ setup_of before
+  pub local : Contents
+  pub follows : followed (setup_of before) remote aim ≡ Some local
+  pub tree : TellsStill told now
+  pub refused : IsRefused may_fail told (λ t. written t (parts_of (config_path (setup_of before).settings.git_dir)) (text_of local.sections))
+
+-- Memory ran out: the setup is as before.
+abbrev pub IsWanting : Option Tree → Option Tree → RepositoryValue → RepositoryValue → Type 0
+IsWanting told now before after = TellsStill told now × (setup_of after ≡ setup_of before)
+
+abbrev pub IsHeadRefusal : Bool → Option Tree → Option Tree → RepositoryValue → RepositoryValue → RefMap → List ℕ → List ℕ → Option (List ℕ) → Option Spec → Error → Type 0
+IsHeadRefusal may_fail told now before after map message remote ref_name revision errors.NoMemory = IsWanting told now before after
+IsHeadRefusal may_fail told now before after map message remote ref_name revision errors.SaveConfigIo = IsUnwritten may_fail told now before after map message remote ref_name revision
+IsHeadRefusal may_fail told now before after map message remote ref_name revision e = IsUnaimed told now before after map ref_name revision e

@@ -1,0 +1,65 @@
+-- Which reference a name means among those that are mapped.
+use Rattle.std.specs.Prelude.{ℕ, Bool, true, false, ◌&&◌, if◌then◌else◌, List, [], ◌∷◌, ◌++◌, map, find, codes, nat_eq, option_to_list, Option, Some, None, is_some, Result, Ok, Err}
+use Rattle.std.specs.List.{starts_with}
+use Rattle.std.specs.Option.{option_map, option_or, option_and_then}
+use Rattle.std.specs.Str.{bytes_eq}
+use Rattle.fetch_store.specs.declared.id.ObjectId.{ObjectId}
+use Rattle.fetch_wire.specs.References.{source_id, source_name}
+use Rattle.fetch_wire.specs.declared.mapping.Mapping.{Mapping}
+use Rattle.fetch_clone.specs.declared.meant.Meant.{Meant}
+use Rattle.fetch_clone.specs.declared.meant.Unmeant.{Unmeant}
+use Rattle.fetch_clone.specs.declared.meant.Unmeant.TheVariants.{Missing, Ambiguous, NoMemory}
+
+abbrev pub is_called : List ℕ → Option (List ℕ) → Bool
+is_called name None = false
+is_called name (Some own) = bytes_eq own name
+
+-- whether a mapping is of a reference of this name that has an id
+abbrev pub has_id_of : List ℕ → Mapping → Bool
+has_id_of name m = is_called name (source_name m.remote) && is_some (source_id m.remote)
+
+-- the id that a mapped name has, if it has one
+abbrev pub id_of : List Mapping → List ℕ → Option ObjectId
+id_of mappings name = option_and_then (λ m. source_id m.remote) (find (has_id_of name) mappings)
+
+abbrev pub named : List Mapping → List ℕ → Option Meant
+named mappings name = option_map (λ id. record { name = name; id = id }) (id_of mappings name)
+
+-- a branch of this name, or else a tag
+abbrev pub branch_or_tag : List Mapping → List ℕ → Option Meant
+branch_or_tag mappings wanted = option_or (named mappings (codes "refs/heads/" ++ wanted)) (named mappings (codes "refs/tags/" ++ wanted))
+
+-- the name itself; outside `refs/` also a branch, or else a tag
+abbrev pub written_out : List Mapping → List ℕ → Option Meant
+written_out mappings wanted = option_or (named mappings wanted) (if starts_with nat_eq wanted (codes "refs/") then None else branch_or_tag mappings wanted)
+
+-- what else a refspec with a short source takes: a name right under `refs/`, one of `refs/remotes/`, or the `HEAD` of a remote
+abbrev pub taken_beside : List Mapping → List ℕ → List Meant
+taken_beside mappings wanted =
+    option_to_list (named mappings (codes "refs/" ++ wanted))
+    ++ (option_to_list (named mappings (codes "refs/remotes/" ++ wanted)) ++ option_to_list (named mappings (codes "refs/remotes/" ++ wanted ++ codes "/HEAD")))
+
+abbrev pub beside : List Mapping → List ℕ → List Meant
+beside mappings wanted = if starts_with nat_eq wanted (codes "refs/") then [] else taken_beside mappings wanted
+
+abbrev pub name_of : Meant → List ℕ
+name_of m = m.name
+
+-- There has to be one.
+abbrev pub only_one : List Meant → Result Meant Unmeant
+only_one [] = Err Missing
+only_one (m ∷ []) = Ok m
+only_one (m ∷ n ∷ ms) = Err (Ambiguous (map name_of (m ∷ n ∷ ms)))
+
+abbrev pub or_beside : Option Meant → List Meant → Result Meant Unmeant
+or_beside (Some m) ms = Ok m
+or_beside None ms = only_one ms
+
+-- the reference that a name means, full or short
+unfoldable pub meant_in : List Mapping → List ℕ → Result Meant Unmeant
+meant_in mappings wanted = or_beside (written_out mappings wanted) (beside mappings wanted)
+
+abbrev pub is_memory : Unmeant → Bool
+is_memory NoMemory = true
+is_memory Missing = false
+is_memory (Ambiguous candidates) = false

@@ -1,0 +1,108 @@
+//! Why a clone isn't fetched into.
+
+use fetch_conversation::{fetch, prepare, ref_map};
+use fetch_lookup::{name, save};
+use fetch_remote::{OpenError, connect};
+use fetch_specs::PartialName;
+use fetch_store::{List, NoMemory, ObjectId, Text};
+use thiserror::Error as ThisError;
+
+/// Why a clone isn't fetched into.
+#[derive(Debug, Drop, ThisError)]
+pub enum Error {
+    /// It was, before.
+    #[error("the clone has succeeded before")]
+    Consumed,
+    /// The first override that isn't one.
+    #[error("an override isn't `section.key=value`, or can't be kept")]
+    ParseConfig {
+        text: Text,
+    },
+    /// The remote can't be called so.
+    #[error(transparent)]
+    RemoteName(name::Error),
+    /// There is no peer.
+    #[error(transparent)]
+    Connect(connect::Error),
+    /// The closure for the peer refused.
+    #[error("the connection was refused by the caller")]
+    RemoteConnection {
+        text: Text,
+    },
+    /// The references weren't listed.
+    #[error(transparent)]
+    RefMap(ref_map::Error),
+    /// The remote has no such reference.
+    #[error("no reference of the remote is called so")]
+    RefNameMissing {
+        wanted: PartialName,
+    },
+    /// Several references may be meant.
+    #[error("several references of the remote may be meant")]
+    RefNameAmbiguous {
+        wanted: PartialName,
+        candidates: List<Text>,
+    },
+    /// The remote's `HEAD` leads to a text that is no full name.
+    #[error("the remote's HEAD leads to no name")]
+    InvalidHeadRef {
+        head_ref_name: Text,
+    },
+    /// The reference that is meant has no full name.
+    #[error("the reference has no full name")]
+    ReferenceName {
+        name: Text,
+    },
+    /// The closure for the remote refused.
+    #[error("the remote was refused by the caller")]
+    RemoteConfiguration {
+        text: Text,
+    },
+    /// The remote can't be saved.
+    #[error(transparent)]
+    SaveConfig(save::AsError),
+    /// The configuration couldn't be read.
+    #[error(transparent)]
+    LoadConfig(OpenError),
+    /// The configuration couldn't be written.
+    #[error("the configuration couldn't be written")]
+    SaveConfigIo,
+    /// The references weren't listed, or there is nothing to fetch by.
+    #[error(transparent)]
+    PrepareFetch(prepare::Error),
+    /// The revision isn't mapped.
+    #[error("the remote has no such revision")]
+    RevisionMissing {
+        wanted: Text,
+    },
+    /// The configuration couldn't be read or written for another hash.
+    #[error(transparent)]
+    ReopenWithObjectHash(OpenError),
+    /// What was listed wasn't fetched.
+    #[error(transparent)]
+    Fetch(fetch::Error),
+    /// The revision's object isn't stored.
+    #[error("the revision isn't stored")]
+    FindRevision {
+        id: ObjectId,
+    },
+    /// The revision's object leads to no commit.
+    #[error("the revision is no commit")]
+    PeelRevision {
+        id: ObjectId,
+    },
+    /// Memory ran out.
+    #[error("out of memory")]
+    NoMemory,
+}
+
+impl From<NoMemory> for Error {
+    ghost use Rattle.std.specs.Prelude.{◌≡◌};
+    ghost use Rattle.fetch_clone.specs.declared.clone.fetch.Error.TheVariants as errors;
+
+    ghost from_gives = { λ _ e. e ≡ errors.NoMemory };
+
+    fn from(_e: NoMemory) -> Error {
+        Error::NoMemory
+    }
+}

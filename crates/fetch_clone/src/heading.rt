@@ -1,0 +1,290 @@
+//! A repository's `HEAD` takes what a remote listed.
+
+ghost use Rattle.std.specs.Prelude.{◌≡◌, ◌++◌, ◌∷◌, [], Ok, codes, IfOk, IfErr, IfSome, IsErrOf, OnOk, OnErr, Some};
+ghost use Rattle.std.specs.Option.{option_copied};
+ghost use Rattle.fetch_store.specs.Faults.{Rose, Counts};
+ghost use Rattle.fetch_clone.specs.Aims as aims;
+ghost use Rattle.fetch_clone.specs.Creation.{TellsStill};
+ghost use Rattle.fetch_clone.specs.Heading as spec;
+ghost use Rattle.fetch_clone.specs.declared.clone.fetch.Error.TheVariants as errors;
+ghost use Rattle.fetch_remote.specs.Repositories.{state_of, setup_of};
+
+use crate::aim::{Aim, Unaimed, aim_of};
+use crate::clone::fetch::Error;
+use crate::meant::Unmeant;
+use crate::opening::{config_path, head};
+use crate::upstream::following;
+use fetch_config::File;
+use fetch_refs::{Change, LogChange, PackedRefs, PreviousValue, RefEdit, RefLog, Target};
+use fetch_remote::find::existing;
+use fetch_remote::{Direction, Repository};
+use fetch_specs::{FullName, PartialName, RefSpec};
+use fetch_store::{FileError, Files, NoMemory, ObjectId, Text};
+use fetch_wire::RefMap;
+use std::alloc::Global;
+
+/// `HEAD` takes a revision's commit, or else leads to the reference that a ref name means, or else takes what the remote's
+/// `HEAD` says. A name that it leads to gets its id, and `HEAD` a line in its reflog. Where that name is a branch that the
+/// saved remote's refspecs take, the local configuration gets a section for it, and the file `config` is written anew.
+pub fn update_head<F: Files>(
+    alloc: Global,
+    repo: &mut Repository,
+    files: &mut F,
+    map: &RefMap,
+    message: &[u8],
+    remote_name: &[u8],
+    ref_name: Option<&PartialName>,
+    revision: Option<&RefSpec>,
+) -> Result<(), Error>
+    ensures ok { OnOk result (spec.HasHead (F.told files.old) (F.told files.new) repo.old repo.new map.now message.now remote_name.now (option_copied ref_name.entry) (option_copied revision.entry)) }
+    ensures refused { IfErr result (spec.IsHeadRefusal (F.may_fail files.old) (F.told files.old) (F.told files.new) repo.old repo.new map.now message.now remote_name.now (option_copied ref_name.entry) (option_copied revision.entry)) }
+    ensures io { IsErrOf result errors.SaveConfigIo → Rose (F.faults files.old) (F.faults files.new) }
+    ensures counts { Counts (F.faults files.old) (F.faults files.new) }
+    ensures may_fail { F.may_fail files.new ≡ F.may_fail files.old }
+{
+    let aim = aimed(alloc, repo, map, ref_name, revision)?;
+    let local = followed(alloc, repo, remote_name, &aim)?;
+    turn(alloc, repo, message, aim)?;
+    save_if(alloc, repo, files, local)
+}
+
+/// What `HEAD` is to take.
+fn aimed(
+    alloc: Global,
+    repo: &Repository,
+    map: &RefMap,
+    ref_name: Option<&PartialName>,
+    revision: Option<&RefSpec>,
+) -> Result<Aim, Error>
+    ensures ok { IfOk result (λ aim. spec.aim_of (state_of repo.now) map.now (option_copied ref_name.entry) (option_copied revision.entry) ≡ Ok aim) }
+    ensures refused { IfErr result (spec.IsNoAim (state_of repo.now) map.now (option_copied ref_name.entry) (option_copied revision.entry)) }
+{
+    match aim_of(alloc, map, repo.store(), ref_name, revision) {
+        Ok(aim) => Ok(aim),
+        Err(e) => Err(refusal_of(alloc, ref_name, revision, e)),
+    }
+}
+
+/// How a refusal to aim is told.
+fn refusal_of(
+    alloc: Global,
+    ref_name: Option<&PartialName>,
+    revision: Option<&RefSpec>,
+    e: Unaimed,
+) -> Error
+    ensures { spec.IsToldAs (option_copied ref_name.entry) (option_copied revision.entry) e result }
+{
+    match e {
+        Unaimed::Name(Unmeant::Missing) => match copied(ref_name) {
+            Some(wanted) => Error::RefNameMissing { wanted },
+            None => Error::NoMemory,
+        },
+        Unaimed::Name(Unmeant::Ambiguous { candidates }) => match copied(ref_name) {
+            Some(wanted) => Error::RefNameAmbiguous { wanted, candidates },
+            None => Error::NoMemory,
+        },
+        Unaimed::Name(Unmeant::NoMemory) => Error::NoMemory,
+        Unaimed::InvalidHead { name } => Error::InvalidHeadRef {
+            head_ref_name: name,
+        },
+        Unaimed::Revision => match source_of(alloc, revision) {
+            Some(wanted) => Error::RevisionMissing { wanted },
+            None => Error::NoMemory,
+        },
+        Unaimed::Find { id } => Error::FindRevision { id },
+        Unaimed::Peel { id } => Error::PeelRevision { id },
+        Unaimed::NoMemory => Error::NoMemory,
+    }
+}
+
+/// A copy of a name that is there, unless memory runs out.
+fn copied(name: Option<&PartialName>) -> Option<PartialName>
+    ensures { IfSome result (λ copy. option_copied name.entry ≡ Some copy) }
+{
+    match name {
+        Some(name) => name.try_clone().ok(),
+        None => None,
+    }
+}
+
+fn source_of(alloc: Global, revision: Option<&RefSpec>) -> Option<Text>
+    ensures { IfSome result (λ text. spec.source_of (option_copied revision.entry) ≡ Some text) }
+{
+    match revision {
+        Some(revision) => match revision.source() {
+            Some(source) => Text::new(alloc, source).ok(),
+            None => None,
+        },
+        None => None,
+    }
+}
+
+/// The local file with the section of the branch that `HEAD` leads to, where it gets one.
+fn followed(
+    alloc: Global,
+    repo: &Repository,
+    remote_name: &[u8],
+    aim: &Aim,
+) -> Result<Option<File>, NoMemory>
+    ensures { IfOk result (λ found. found ≡ spec.followed (setup_of repo.now) remote_name.now aim.now) }
+{
+    let Aim::Name { name, .. } = aim else {
+        return Ok(None);
+    };
+    let kind = repo.object_hash();
+    match repo.find_remote(alloc, remote_name) {
+        Ok(remote) => following(
+            alloc,
+            repo.local(),
+            remote_name,
+            remote.refspecs(Direction::Fetch),
+            kind,
+            name,
+        ),
+        Err(existing::Error::NoMemory) => Err(NoMemory),
+        Err(_) => following(alloc, repo.local(), remote_name, &[], kind, name),
+    }
+}
+
+/// The edits by which `HEAD` takes what is aimed at.
+fn edits_of(alloc: Global, message: &[u8], aim: Aim) -> Result<Vec<RefEdit>, NoMemory>
+    ensures { IfOk result (λ edits. edits.items ≡ aims.edits_of message.now aim) }
+{
+    match aim {
+        Aim::Nothing => Ok(Vec::new(alloc)),
+        Aim::Id(id) => of_head(alloc, message, Target::Object(id)),
+        Aim::Name { name, id } => {
+            let mut edits = of_head(alloc, message, Target::Symbolic(name.try_clone()?))?;
+            push_named(alloc, &mut edits, message, name, id)?;
+            Ok(edits)
+        }
+    }
+}
+
+/// The edit by which `HEAD` takes a value.
+fn of_head(alloc: Global, message: &[u8], new: Target) -> Result<Vec<RefEdit>, NoMemory>
+    ensures { IfOk result (λ edits. edits.items ≡ aims.update message.now (codes "HEAD") new ∷ []) }
+{
+    let mut edits = Vec::new(alloc);
+    edits.push(update(alloc, RefLog::AndReference, message, head(alloc)?, new)?)?;
+    Ok(edits)
+}
+
+/// Where there is an id, the name gets it, and `HEAD` a line in its reflog.
+fn push_named(
+    alloc: Global,
+    edits: &mut Vec<RefEdit>,
+    message: &[u8],
+    name: FullName,
+    id: Option<ObjectId>,
+) -> Result<(), NoMemory>
+    ensures { OnOk result (edits.new.items ≡ edits.old.items ++ aims.named_edits message.now name id) }
+{
+    let Some(id) = id else {
+        return Ok(());
+    };
+    edits.push(update(
+        alloc,
+        RefLog::AndReference,
+        message,
+        name,
+        Target::Object(id),
+    )?)?;
+    edits.push(update(
+        alloc,
+        RefLog::Only,
+        message,
+        head(alloc)?,
+        Target::Object(id),
+    )?)?;
+    Ok(())
+}
+
+fn update(
+    alloc: Global,
+    mode: RefLog,
+    message: &[u8],
+    name: FullName,
+    new: Target,
+) -> Result<RefEdit, NoMemory>
+    ensures { IfOk result (λ edit. edit ≡ aims.update_of mode message.now name new) }
+{
+    Ok(RefEdit {
+        change: Change::Update {
+            log: LogChange {
+                mode,
+                force_create_reflog: false,
+                message: Text::new(alloc, message)?,
+            },
+            expected: PreviousValue::Any,
+            new,
+        },
+        name,
+    })
+}
+
+/// Lets `HEAD` take what is aimed at. References are written packed.
+fn turn(alloc: Global, repo: &mut Repository, message: &[u8], aim: Aim) -> Result<(), NoMemory>
+    ensures state { OnOk result (state_of repo.new ≡ spec.moved (setup_of repo.old) (state_of repo.old) message.now aim) }
+    ensures setup { setup_of repo.new ≡ setup_of repo.old }
+{
+    let edits = edits_of(alloc, message, aim)?;
+    let committer = repo.settings().committer.try_clone()?;
+    match repo.edit_refs(edits.as_slice(), &committer, PackedRefs::Only) {
+        Ok(()) => Ok(()),
+        Err(_) => Err(NoMemory),
+    }
+}
+
+/// Puts the local file into force, where there is one, and writes it before.
+fn save_if<F: Files>(
+    alloc: Global,
+    repo: &mut Repository,
+    files: &mut F,
+    local: Option<File>,
+) -> Result<(), Error>
+    ensures state { state_of repo.new ≡ state_of repo.old }
+    ensures ok { OnOk result (spec.FollowsIf (setup_of repo.old) (setup_of repo.new) (F.told files.old) (F.told files.new) local) }
+    ensures refused { IfErr result (spec.IsUnsaved (F.may_fail files.old) (F.told files.old) (setup_of repo.old).settings.git_dir local) }
+    ensures err { OnErr result (setup_of repo.new ≡ setup_of repo.old) }
+    ensures tree { TellsStill (F.told files.old) (F.told files.new) }
+    ensures io { IsErrOf result errors.SaveConfigIo → Rose (F.faults files.old) (F.faults files.new) }
+    ensures counts { Counts (F.faults files.old) (F.faults files.new) }
+    ensures may_fail { F.may_fail files.new ≡ F.may_fail files.old }
+{
+    match local {
+        Some(local) => save_local(alloc, repo, files, local),
+        None => Ok(()),
+    }
+}
+
+/// Writes the whole local file into `config`, and puts it into force.
+fn save_local<F: Files>(
+    alloc: Global,
+    repo: &mut Repository,
+    files: &mut F,
+    local: File,
+) -> Result<(), Error>
+    ensures state { state_of repo.new ≡ state_of repo.old }
+    ensures ok { OnOk result (spec.FollowsIf (setup_of repo.old) (setup_of repo.new) (F.told files.old) (F.told files.new) (Some local)) }
+    ensures refused { IfErr result (spec.IsUnsaved (F.may_fail files.old) (F.told files.old) (setup_of repo.old).settings.git_dir (Some local)) }
+    ensures err { OnErr result (setup_of repo.new ≡ setup_of repo.old) }
+    ensures tree { TellsStill (F.told files.old) (F.told files.new) }
+    ensures io { IsErrOf result errors.SaveConfigIo → Rose (F.faults files.old) (F.faults files.new) }
+    ensures counts { Counts (F.faults files.old) (F.faults files.new) }
+    ensures may_fail { F.may_fail files.new ≡ F.may_fail files.old }
+{
+    let path = config_path(alloc, repo.git_dir())?;
+    let Ok(text) = local.write(alloc, None) else {
+        return Err(Error::NoMemory);
+    };
+    match files.write(path.as_bytes(), text.as_bytes()) {
+        Ok(()) => {}
+        Err(FileError::Failed) => return Err(Error::SaveConfigIo),
+        Err(FileError::NoMemory) => return Err(Error::NoMemory),
+    }
+    match repo.replace_local(alloc, local) {
+        Ok(()) => Ok(()),
+        Err(_) => Err(Error::NoMemory),
+    }
+}

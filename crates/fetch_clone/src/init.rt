@@ -1,0 +1,132 @@
+//! A repository is created and opened.
+
+ghost use Rattle.std.specs.Prelude.{◌≡◌, IfOk, IfErr, OnOk, IsTrue};
+ghost use Rattle.fetch_store.specs.Faults.{Rose, Counts};
+ghost use Rattle.fetch_clone.specs.Creation.{Reaches};
+ghost use Rattle.fetch_clone.specs.Initial.{IsInitial, IsInitRefusal, new_of, lenient as usual, is_init_fault};
+ghost use Rattle.fetch_clone.specs.Plans.{steps_of};
+
+use crate::create::{self, Kind, Options};
+use crate::opening::{New, lenient, open_new};
+use fetch_refs::Signature;
+use fetch_remote::{OpenError, OpenOptions, ThreadSafeRepository};
+use fetch_store::{Files, NoMemory, Text};
+use std::alloc::Global;
+use thiserror::Error as ThisError;
+
+/// Why there is no new repository. What was created before stays.
+#[derive(Debug, Drop, ThisError)]
+pub enum Error {
+    /// Its files weren't created.
+    #[error(transparent)]
+    Init(create::Error),
+    /// It wasn't opened.
+    #[error(transparent)]
+    Open(OpenError),
+    /// No branch can be called so.
+    #[error("the default branch has no name of a branch")]
+    InvalidBranchName {
+        /// The short name, as the configuration has it.
+        name: Text,
+    },
+    /// Memory ran out.
+    #[error("out of memory")]
+    NoMemory,
+}
+
+impl From<create::Error> for Error {
+    ghost use Rattle.std.specs.Prelude.{◌≡◌};
+    ghost use Rattle.fetch_clone.specs.Initial.{creation_refusal};
+
+    ghost from_gives = { λ e f. f ≡ creation_refusal e };
+
+    fn from(e: create::Error) -> Error {
+        match e {
+            create::Error::NoMemory => Error::NoMemory,
+            e => Error::Init(e),
+        }
+    }
+}
+
+impl From<OpenError> for Error {
+    ghost use Rattle.std.specs.Prelude.{◌≡◌};
+    ghost use Rattle.fetch_clone.specs.Initial.{opening_refusal};
+
+    ghost from_gives = { λ e f. f ≡ opening_refusal e };
+
+    fn from(e: OpenError) -> Error {
+        match e {
+            OpenError::NoMemory => Error::NoMemory,
+            e => Error::Open(e),
+        }
+    }
+}
+
+impl From<NoMemory> for Error {
+    ghost use Rattle.std.specs.Prelude.{◌≡◌};
+    ghost use Rattle.fetch_clone.specs.declared.init.Error.TheVariants as errors;
+
+    ghost from_gives = { λ _ e. e ≡ errors.NoMemory };
+
+    fn from(_e: NoMemory) -> Error {
+        Error::NoMemory
+    }
+}
+
+/// Creates a repository and opens it, as `init_opts` does: settings that can't be read are taken as absent, there are no
+/// overrides, and nothing comes before the repository's own configuration.
+pub fn init<F: Files>(
+    alloc: Global,
+    files: &mut F,
+    directory: &[u8],
+    kind: Kind,
+    options: Options,
+    committer: Signature,
+) -> Result<ThreadSafeRepository, Error>
+    ensures created { OnOk result (Reaches (F.told files.old) (steps_of directory.now kind options) (F.told files.new)) }
+    ensures repo { IfOk result (IsInitial (F.told files.new) (new_of directory.now kind options committer usual)) }
+    ensures refused { IfErr result (IsInitRefusal (F.may_fail files.old) (F.told files.old) (steps_of directory.now kind options) (new_of directory.now kind options committer usual) (F.told files.new)) }
+    ensures cause { IfErr result (λ e. IsTrue (is_init_fault e) → Rose (F.faults files.old) (F.faults files.new)) }
+    ensures counts { Counts (F.faults files.old) (F.faults files.new) }
+    ensures may_fail { F.may_fail files.new ≡ F.may_fail files.old }
+{
+    let open_options = lenient(alloc)?;
+    init_opts(
+        alloc,
+        files,
+        directory,
+        kind,
+        options,
+        open_options,
+        committer,
+    )
+}
+
+/// Creates a repository, reads its configuration, and lets `HEAD` lead to the branch that the configuration names, or to
+/// `main`. No line of a reflog is written. What was created before a refusal stays.
+pub fn init_opts<F: Files>(
+    alloc: Global,
+    files: &mut F,
+    directory: &[u8],
+    kind: Kind,
+    options: Options,
+    open_options: OpenOptions,
+    committer: Signature,
+) -> Result<ThreadSafeRepository, Error>
+    ensures created { OnOk result (Reaches (F.told files.old) (steps_of directory.now kind options) (F.told files.new)) }
+    ensures repo { IfOk result (IsInitial (F.told files.new) (new_of directory.now kind options committer open_options)) }
+    ensures refused { IfErr result (IsInitRefusal (F.may_fail files.old) (F.told files.old) (steps_of directory.now kind options) (new_of directory.now kind options committer open_options) (F.told files.new)) }
+    ensures cause { IfErr result (λ e. IsTrue (is_init_fault e) → Rose (F.faults files.old) (F.faults files.new)) }
+    ensures counts { Counts (F.faults files.old) (F.faults files.new) }
+    ensures may_fail { F.may_fail files.new ≡ F.may_fail files.old }
+{
+    let path = create::into(alloc, files, directory, kind, options)?;
+    let new = New {
+        path,
+        hash: options.object_hash.unwrap_or(fetch_store::Kind::Sha1),
+        committer,
+        options: open_options,
+    };
+    let repo = open_new(alloc, files, new)?;
+    Ok(repo.into_sync())
+}

@@ -1,0 +1,206 @@
+//! Which reference a name means among those that are mapped.
+
+ghost use Rattle.std.specs.Prelude.{◌≡◌, ◌++◌, codes, find, map, IfOk, OnOk, option_to_list};
+ghost use Rattle.std.specs.Option.{option_copied};
+ghost use Rattle.fetch_store.specs.Answers.{AnswersUnless};
+ghost use Rattle.fetch_clone.specs.Meant as spec;
+
+use fetch_specs::PartialName;
+use fetch_store::{List, NoMemory, ObjectId, Text};
+use fetch_wire::Mapping;
+use std::alloc::Global;
+
+/// A reference of the remote that is mapped and has an id.
+#[derive(Debug, Drop)]
+pub struct Meant {
+    pub name: Text,
+    pub id: ObjectId,
+}
+
+/// Why a name means no reference.
+#[derive(Debug, Drop)]
+pub enum Unmeant {
+    /// None is called so.
+    Missing,
+    /// Several may be meant.
+    Ambiguous { candidates: List<Text> },
+    /// Memory ran out.
+    NoMemory,
+}
+
+impl From<NoMemory> for Unmeant {
+    ghost use Rattle.std.specs.Prelude.{◌≡◌};
+    ghost use Rattle.fetch_clone.specs.declared.meant.Unmeant.TheVariants as errors;
+
+    ghost from_gives = { λ _ e. e ≡ errors.NoMemory };
+
+    fn from(_e: NoMemory) -> Unmeant {
+        Unmeant::NoMemory
+    }
+}
+
+/// The reference that a name means: the one of that full name, or else, outside `refs/`, the branch, the tag, or what else a
+/// refspec with this source takes, of which there has to be one.
+#[tactic(auto, unfolding(crate::specs::Meant::meant_in))]
+pub fn meaning_of(
+    alloc: Global,
+    mappings: &[Mapping],
+    wanted: &PartialName,
+) -> Result<Meant, Unmeant>
+    ensures { AnswersUnless spec.is_memory (spec.meant_in mappings.now wanted.now) result }
+{
+    let wanted = wanted.as_bytes();
+    match written_out(alloc, mappings, wanted)? {
+        Some(found) => Ok(found),
+        None => only_one(alloc, beside(alloc, mappings, wanted)?),
+    }
+}
+
+/// The name itself; outside `refs/` also a branch, or else a tag.
+fn written_out(
+    alloc: Global,
+    mappings: &[Mapping],
+    wanted: &[u8],
+) -> Result<Option<Meant>, NoMemory>
+    ensures { IfOk result (λ found. found ≡ spec.written_out mappings.now wanted.now) }
+{
+    match named(mappings, Text::new(alloc, wanted)?) {
+        Some(found) => Ok(Some(found)),
+        None if wanted.starts_with(b"refs/") => Ok(None),
+        None => branch_or_tag(alloc, mappings, wanted),
+    }
+}
+
+fn branch_or_tag(
+    alloc: Global,
+    mappings: &[Mapping],
+    wanted: &[u8],
+) -> Result<Option<Meant>, NoMemory>
+    ensures { IfOk result (λ found. found ≡ spec.branch_or_tag mappings.now wanted.now) }
+{
+    match named(mappings, behind(alloc, b"refs/heads/", wanted)?) {
+        Some(found) => Ok(Some(found)),
+        None => Ok(named(mappings, behind(alloc, b"refs/tags/", wanted)?)),
+    }
+}
+
+/// What else a refspec with this source takes.
+fn beside(alloc: Global, mappings: &[Mapping], wanted: &[u8]) -> Result<Vec<Meant>, NoMemory>
+    ensures { IfOk result (λ found. found.items ≡ spec.beside mappings.now wanted.now) }
+{
+    if wanted.starts_with(b"refs/") {
+        return Ok(Vec::new(alloc));
+    }
+    taken_beside(alloc, mappings, wanted)
+}
+
+fn taken_beside(alloc: Global, mappings: &[Mapping], wanted: &[u8]) -> Result<Vec<Meant>, NoMemory>
+    ensures { IfOk result (λ found. found.items ≡ spec.taken_beside mappings.now wanted.now) }
+{
+    let mut found = Vec::new(alloc);
+    push_named(&mut found, mappings, behind(alloc, b"refs/", wanted)?)?;
+    push_named(
+        &mut found,
+        mappings,
+        behind(alloc, b"refs/remotes/", wanted)?,
+    )?;
+    push_named(
+        &mut found,
+        mappings,
+        head_behind(alloc, b"refs/remotes/", wanted)?,
+    )?;
+    Ok(found)
+}
+
+fn push_named(found: &mut Vec<Meant>, mappings: &[Mapping], name: Text) -> Result<(), NoMemory>
+    ensures { OnOk result (found.new.items ≡ found.old.items ++ option_to_list (spec.named mappings.now name)) }
+{
+    if let Some(other) = named(mappings, name) {
+        found.push(other)?;
+    }
+    Ok(())
+}
+
+fn only_one(alloc: Global, found: Vec<Meant>) -> Result<Meant, Unmeant>
+    ensures { AnswersUnless spec.is_memory (spec.only_one found.items) result }
+{
+    let mut found = found;
+    if found.len() > 1 {
+        return Err(Unmeant::Ambiguous {
+            candidates: List::from(names_of(alloc, found.as_slice())?),
+        });
+    }
+    match found.pop() {
+        Some(only) => Ok(only),
+        None => Err(Unmeant::Missing),
+    }
+}
+
+fn names_of(alloc: Global, found: &[Meant]) -> Result<Vec<Text>, NoMemory>
+    ensures { IfOk result (λ names. names.items ≡ map spec.name_of found.now) }
+{
+    let mut names = Vec::new(alloc);
+    for meant in found {
+        names.push(meant.name.try_clone()?)?;
+    }
+    Ok(names)
+}
+
+fn behind(alloc: Global, front: &[u8], name: &[u8]) -> Result<Text, NoMemory>
+    ensures { IfOk result (λ text. text ≡ front.now ++ name.now) }
+{
+    let mut text = Vec::from_slice(alloc, front)?;
+    text.extend_from_slice(name)?;
+    Ok(Text::from(text))
+}
+
+/// The name of a remote's `HEAD`.
+fn head_behind(alloc: Global, front: &[u8], name: &[u8]) -> Result<Text, NoMemory>
+    ensures { IfOk result (λ text. text ≡ front.now ++ name.now ++ codes "/HEAD") }
+{
+    let mut text = Vec::from_slice(alloc, front)?;
+    text.extend_from_slice(name)?;
+    text.extend_from_slice(b"/HEAD")?;
+    Ok(Text::from(text))
+}
+
+/// The mapped reference of this name, where it has an id.
+fn named(mappings: &[Mapping], name: Text) -> Option<Meant>
+    ensures { result ≡ spec.named mappings.now name }
+{
+    match id_of(mappings, name.as_bytes()) {
+        Some(id) => Some(Meant { name, id }),
+        None => None,
+    }
+}
+
+fn id_of(mappings: &[Mapping], name: &[u8]) -> Option<ObjectId>
+    ensures { result ≡ spec.id_of mappings.now name.now }
+{
+    match with_id_of(mappings, name) {
+        Some(mapping) => mapping.remote.as_id().copied(),
+        None => None,
+    }
+}
+
+/// The first mapping of a reference of this name that has an id.
+fn with_id_of<'a>(mappings: &'a [Mapping], name: &[u8]) -> Option<&'a Mapping>
+    ensures { option_copied result ≡ find (spec.has_id_of name.now) mappings.now }
+{
+    mappings.iter().find(|m| has_id_of(name, m))
+}
+
+fn has_id_of(name: &[u8], mapping: &Mapping) -> bool
+    ensures { result ≡ spec.has_id_of name.now mapping.now }
+{
+    is_called(name, mapping.remote.as_name()) && mapping.remote.as_id().is_some()
+}
+
+fn is_called(name: &[u8], own: Option<&[u8]>) -> bool
+    ensures { result ≡ spec.is_called name.now (option_copied own.entry) }
+{
+    match own {
+        Some(own) => own == name,
+        None => false,
+    }
+}

@@ -1,0 +1,268 @@
+//! A clone: prepared, asked for something, and fetched into.
+
+ghost use Rattle.std.specs.Prelude.{◌≡◌, IfOk, IfErr, MatchResult, Some, None, true, false, IsTrue};
+ghost use Rattle.std.specs.Option.{option_copied};
+ghost use Rattle.fetch_lookup.specs.Names.{IsNameRefusal, name_refusal};
+ghost use Rattle.fetch_store.specs.Faults.{Rose, Counts};
+ghost use Rattle.fetch_clone.specs.Choices.{ChoosesRevision, RefNameVerdict, ref_name_chosen, with_wanted};
+ghost use Rattle.fetch_clone.specs.Drafts.{IsPrepared, IsPrepareRefusal, IsRemoved, is_removed, is_clone_fault, with_choices, making_of};
+ghost use Rattle.fetch_clone.specs.Revisions.{IsRevisionRefusal};
+
+use crate::create::{Kind, Options};
+use crate::draft::{Draft, Making, give_up, prepare};
+use crate::{clone, with_revision};
+use fetch_conversation::ref_map;
+use fetch_lookup::name;
+use fetch_negotiate::Shallow;
+use fetch_refs::Signature;
+use fetch_remote::connect::Connect;
+use fetch_remote::{OpenOptions, Repository};
+use fetch_specs::NameError;
+use fetch_store::{Files, List, NoMemory, Text};
+use std::alloc::Global;
+use thiserror::Error;
+
+/// Why a closure that configures something refused.
+#[derive(Debug, Drop, PartialEq, Eq, Error)]
+pub enum ConfigureFault {
+    /// It says why.
+    #[error("refused by the caller")]
+    Refused { text: Text },
+    /// Memory ran out.
+    #[error("out of memory")]
+    NoMemory,
+}
+
+impl From<NoMemory> for ConfigureFault {
+    ghost use Rattle.std.specs.Prelude.{◌≡◌};
+    ghost use Rattle.fetch_clone.specs.declared.prepare_fetch.ConfigureFault.TheVariants as errors;
+
+    ghost from_gives = { λ _ e. e ≡ errors.NoMemory };
+
+    fn from(_e: NoMemory) -> ConfigureFault {
+        ConfigureFault::NoMemory
+    }
+}
+
+/// A clone that is prepared. Dropped without success, it removes its place where that was free before.
+pub struct PrepareFetch<F: Files + Drop, C: Connect + Drop, R: Drop, G: Drop> {
+    pub(crate) files: F,
+    pub(crate) maker: C,
+    pub(crate) configure_remote: R,
+    pub(crate) configure_connection: G,
+    pub(crate) draft: Draft,
+}
+
+impl<F: Files + Drop, C: Connect + Drop, R: Drop, G: Drop> PrepareFetch<F, C, R, G> {
+    /// Creates an empty repository at the place, which has to be free unless the options say otherwise, to fetch into it
+    /// from the address. A refusal hands the files back.
+    pub fn new(
+        alloc: Global,
+        url: &[u8],
+        path: &[u8],
+        kind: Kind,
+        create_options: Options,
+        open_options: OpenOptions,
+        committer: Signature,
+        files: F,
+        maker: C,
+        configure_remote: R,
+        configure_connection: G,
+    ) -> Result<Self, (F, clone::Error)>
+        ensures ok { IfOk result (λ p. IsPrepared (F.faults files) (F.faults p.files) (F.told files) url.now path.now (making_of kind create_options open_options committer) (F.told p.files) p.draft) }
+        ensures kept { IfOk result (λ p. (p.maker ≡ maker) × (p.configure_remote ≡ configure_remote) × (p.configure_connection ≡ configure_connection)) }
+        ensures refused { IfErr result (λ e. IsPrepareRefusal (F.faults files) (F.faults e.0) (F.may_fail files) (F.told files) url.now path.now (making_of kind create_options open_options committer) (F.told e.0) e.1) }
+        ensures cause { IfErr result (λ e. IsTrue (is_clone_fault e.1) → Rose (F.faults files) (F.faults e.0)) }
+        ensures counts { MatchResult result (λ p. Counts (F.faults files) (F.faults p.files)) (λ e. Counts (F.faults files) (F.faults e.0)) }
+        ensures may_fail { MatchResult result (λ p. F.may_fail p.files ≡ F.may_fail files) (λ e. F.may_fail e.0 ≡ F.may_fail files) }
+    {
+        let making = Making {
+            kind,
+            options: create_options,
+            open_options,
+            committer,
+        };
+        let mut files = files;
+        match prepare(alloc, &mut files, url, path, making) {
+            Ok(draft) => Ok(PrepareFetch {
+                files,
+                maker,
+                configure_remote,
+                configure_connection,
+                draft,
+            }),
+            Err(e) => Err((files, e)),
+        }
+    }
+
+    /// The same with another closure for the remote, which is called before the remote is saved.
+    pub fn configure_remote<R2: Drop>(self, f: R2) -> PrepareFetch<F, C, R2, G>
+        ensures files { result.files ≡ self.files }
+        ensures maker { result.maker ≡ self.maker }
+        ensures remote { result.configure_remote ≡ f }
+        ensures connection { result.configure_connection ≡ self.configure_connection }
+        ensures draft { result.draft ≡ record self.draft { configures_remote = true } }
+    {
+        let PrepareFetch {
+            files,
+            maker,
+            configure_remote: _,
+            configure_connection,
+            mut draft,
+        } = self;
+        draft.configures_remote = true;
+        PrepareFetch {
+            files,
+            maker,
+            configure_remote: f,
+            configure_connection,
+            draft,
+        }
+    }
+
+    /// The same with another closure for the peer, which is called on each one that is fetched from.
+    pub fn configure_connection<G2: Drop>(self, f: G2) -> PrepareFetch<F, C, R, G2>
+        ensures files { result.files ≡ self.files }
+        ensures maker { result.maker ≡ self.maker }
+        ensures remote { result.configure_remote ≡ self.configure_remote }
+        ensures connection { result.configure_connection ≡ f }
+        ensures draft { result.draft ≡ self.draft }
+    {
+        let PrepareFetch {
+            files,
+            maker,
+            configure_remote,
+            configure_connection: _,
+            draft,
+        } = self;
+        PrepareFetch {
+            files,
+            maker,
+            configure_remote,
+            configure_connection: f,
+            draft,
+        }
+    }
+
+    /// The same with this name for the remote, unless the name is none: then the clone is handed back as it was.
+    pub fn with_remote_name(self, name: &[u8]) -> Result<Self, (Self, name::Error)>
+        ensures ok { IfOk result (λ p. p ≡ record self { draft = with_choices self.draft (record self.draft.choices { remote_name = Some name.now }) }) }
+        ensures refused { IfErr result (λ e. (e.0 ≡ self) × IsNameRefusal name.now e.1) }
+        ensures accepted { IfOk result (λ p. name_refusal name.now ≡ None) }
+    {
+        let mut clone = self;
+        let alloc = clone.draft.choices.overrides.allocator();
+        match clone.draft.choices.name_remote(alloc, name) {
+            Ok(()) => Ok(clone),
+            Err(e) => Err((clone, e)),
+        }
+    }
+
+    /// The same with this change of depth.
+    pub fn with_shallow(self, shallow: Shallow) -> Self
+        ensures { result ≡ record self { draft = with_choices self.draft (record self.draft.choices { shallow = shallow }) } }
+    {
+        let mut clone = self;
+        clone.draft.choices.shallow = shallow;
+        clone
+    }
+
+    /// The same with these overrides, each `section.key=value` or `section.subsection.key=value`, in place of earlier ones.
+    pub fn with_in_memory_config_overrides(self, values: Vec<Text>) -> Self
+        ensures { result ≡ record self { draft = with_choices self.draft (record self.draft.choices { overrides = values.items }) } }
+    {
+        let mut clone = self;
+        clone.draft.choices.overrides = List::from(values);
+        clone
+    }
+
+    /// The same, where `HEAD` is to lead to this reference. It takes the place of a revision; None takes back a reference
+    /// alone. Where the name is none, the clone is handed back as it was.
+    pub fn with_ref_name(self, name: Option<&[u8]>) -> Result<Self, (Self, NameError)>
+        ensures ok { IfOk result (λ p. p ≡ record self { draft = with_choices self.draft (with_wanted self.draft.choices (ref_name_chosen self.draft.choices.wanted (option_copied name.entry))) }) }
+        ensures verdict { RefNameVerdict (option_copied name.entry) result }
+        ensures err { IfErr result (λ e. e.0 ≡ self) }
+    {
+        let mut clone = self;
+        let alloc = clone.draft.choices.overrides.allocator();
+        match clone.draft.choices.choose_ref_name(alloc, name) {
+            Ok(()) => Ok(clone),
+            Err(e) => Err((clone, e)),
+        }
+    }
+
+    /// The same, where this revision alone is fetched. It takes the place of a reference; None takes back a revision alone.
+    /// Where the text names none, the clone is handed back as it was.
+    pub fn with_revision(
+        self,
+        revision: Option<&[u8]>,
+    ) -> Result<Self, (Self, with_revision::Error)>
+        ensures ok { IfOk result (λ p. ChoosesRevision self.draft.choices.wanted (option_copied revision.entry) p.draft.choices.wanted) }
+        ensures rest { IfOk result (λ p. p ≡ record self { draft = with_choices self.draft (with_wanted self.draft.choices p.draft.choices.wanted) }) }
+        ensures refused { IfErr result (λ e. (e.0 ≡ self) × IsRevisionRefusal (option_copied revision.entry) e.1) }
+    {
+        let mut clone = self;
+        let alloc = clone.draft.choices.overrides.allocator();
+        match clone.draft.choices.choose_revision(alloc, revision) {
+            Ok(()) => Ok(clone),
+            Err(e) => Err((clone, e)),
+        }
+    }
+
+    /// The same with these options of the listing.
+    pub fn with_fetch_options(self, options: ref_map::Options) -> Self
+        ensures { result ≡ record self { draft = with_choices self.draft (record self.draft.choices { options = options }) } }
+    {
+        let mut clone = self;
+        clone.draft.choices.options = options;
+        clone
+    }
+
+    /// The repository, empty as it was created, where there was no success. The place stays.
+    pub fn persist(self) -> Option<Repository>
+        ensures { result ≡ self.draft.repo }
+    {
+        let PrepareFetch {
+            files: _,
+            maker: _,
+            configure_remote: _,
+            configure_connection: _,
+            draft,
+        } = self;
+        draft.repo
+    }
+
+    /// Gives the clone up: without success, and not persisted, the removal of the place is asked for exactly where it was free
+    /// before. A fault of that is ignored. A drop does the same.
+    pub fn abandon(self) -> F
+        ensures removed { is_removed self.draft ≡ true → IsRemoved (F.faults self.files) (F.faults result) (F.may_fail self.files) (F.told self.files) self.draft.place (F.told result) }
+        ensures untouched { is_removed self.draft ≡ false → result ≡ self.files }
+        ensures counts { Counts (F.faults self.files) (F.faults result) }
+        ensures may_fail { F.may_fail result ≡ F.may_fail self.files }
+    {
+        let PrepareFetch {
+            files,
+            maker: _,
+            configure_remote: _,
+            configure_connection: _,
+            draft,
+        } = self;
+        let mut files = files;
+        give_up(&mut files, &draft);
+        files
+    }
+}
+
+impl<F: Files + Drop, C: Connect + Drop, R: Drop, G: Drop> Drop for PrepareFetch<F, C, R, G> {
+    fn drop(self) {
+        let PrepareFetch {
+            files,
+            maker: _,
+            configure_remote: _,
+            configure_connection: _,
+            draft,
+        } = self;
+        let mut files = files;
+        give_up(&mut files, &draft);
+    }
+}
