@@ -1,10 +1,10 @@
 -- What a server of the line says.
 use Rattle.std.specs.Prelude.{ℕ, List, [], ◌∷◌, ◌++◌, map, codes, Option, Some, option_to_list, option_map}
 use Rattle.fetch_store.specs.declared.id.ObjectId.{ObjectId}
-use Rattle.fetch_wire.specs.declared.handshake.Capability.{Capability}
-use Rattle.fetch_wire.specs.declared.line.Line.{Line}
-use Rattle.fetch_wire.specs.declared.reference.Ref.{Ref}
-use Rattle.fetch_wire.specs.declared.reference.Ref.TheVariants.{Direct}
+use Rattle.fetch_wire.specs.declared.greetings.handshake.Capability.{Capability}
+use Rattle.fetch_wire.specs.declared.lines.line.Line.{Line}
+use Rattle.fetch_wire.specs.declared.listings.reference.Ref.{Ref}
+use Rattle.fetch_wire.specs.declared.listings.reference.Ref.TheVariants.{Direct}
 use Rattle.fetch_wire.specs.Bands.{Piece, pack_lines}
 use Rattle.fetch_wire.specs.Cutting.{in_pieces}
 use Rattle.fetch_wire.specs.ServerLines.{greeting_lines, listing_lines_of}

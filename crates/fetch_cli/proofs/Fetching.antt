@@ -21,9 +21,9 @@ use Rattle.fetch_remote.specs.Fetched.{IsFetched}
 use Rattle.fetch_remote.specs.Form.{Given}
 use Rattle.fetch_remote.specs.Refused.{RefusesWith, IsRefusedBy, IsRefused}
 use Rattle.fetch_remote.specs.Repositories.{State}
-use Rattle.fetch_remote.specs.declared.fetch_error.FetchError.{FetchError}
-use Rattle.fetch_remote.specs.declared.fetch_error.FetchError.TheVariants as errors
-use Rattle.fetch_remote.specs.declared.outcome.Outcome.{Outcome}
+use Rattle.fetch_remote.specs.declared.fetching.fetch_error.FetchError.{FetchError}
+use Rattle.fetch_remote.specs.declared.fetching.fetch_error.FetchError.TheVariants as errors
+use Rattle.fetch_remote.specs.declared.fetching.outcome.Outcome.{Outcome}
 use Rattle.fetch_cli.specs.Fetched.{HasDone, HasRefused, HasRefusedBy, HasFetched}
 use Rattle.fetch_cli.proofs.KeepFiles.{never_unmade}
 

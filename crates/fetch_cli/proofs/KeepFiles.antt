@@ -34,7 +34,7 @@ use Rattle.fetch_remote.specs.Paths.{in_directory, keep_path}
 use Rattle.fetch_remote.specs.Repositories.{State}
 use Rattle.fetch_remote.specs.Settling.{pack_read, standing}
 use Rattle.fetch_remote.specs.Stages.{Told, bound_of, conversation}
-use Rattle.fetch_remote.specs.declared.fetch_error.FetchError.{FetchError}
+use Rattle.fetch_remote.specs.declared.fetching.fetch_error.FetchError.{FetchError}
 use Rattle.fetch_cli.specs.KeepFiles.{packs_of, first_kept}
 use Rattle.fetch_store.proofs.Rooted.{written_rooted, none_rooted}
 use Rattle.fetch_store.proofs.TreeChanges.{path_cmp_total, path_cmp_exact}

@@ -5,13 +5,13 @@ use Rattle.std.specs.FinMap as map
 use Rattle.fetch_store.specs.Stores.{ObjectMap}
 use Rattle.fetch_store.specs.Trees.{Tree}
 use Rattle.fetch_update.specs.declared.worktrees.Worktree.{Worktree}
-use Rattle.fetch_wire.specs.declared.line.Line.{Line}
+use Rattle.fetch_wire.specs.declared.lines.line.Line.{Line}
 use Rattle.fetch_remote.specs.Fetching.{requests_in}
 use Rattle.fetch_remote.specs.Form.{Given}
 use Rattle.fetch_remote.specs.Repositories.{State}
-use Rattle.fetch_remote.specs.declared.fetch_error.FetchError.{FetchError}
-use Rattle.fetch_remote.specs.declared.fetch_error.FetchError.TheVariants as errors
-use Rattle.fetch_remote.specs.declared.outcome.Outcome.{Outcome}
+use Rattle.fetch_remote.specs.declared.fetching.fetch_error.FetchError.{FetchError}
+use Rattle.fetch_remote.specs.declared.fetching.fetch_error.FetchError.TheVariants as errors
+use Rattle.fetch_remote.specs.declared.fetching.outcome.Outcome.{Outcome}
 use Rattle.fetch_cli.specs.Bench.{count_lines, summary_with, summary_of, SumsUp, IsSummary}
 use Rattle.fetch_cli.specs.Fetched.{HasFetchedBy, HasFetched}
 use Rattle.fetch_cli.specs.Report.{report_with, report_of, fetched_by, left_by, keep_left_by, given_of, found_of, stream_of}

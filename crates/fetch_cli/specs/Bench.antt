@@ -9,9 +9,9 @@ use Rattle.fetch_config.specs.Contents.{Contents}
 use Rattle.fetch_config.specs.Lines.{sections_of}
 use Rattle.fetch_refs.specs.declared.target.Target.TheVariants.{Object}
 use Rattle.fetch_remote.specs.Repositories.{State}
-use Rattle.fetch_remote.specs.declared.fetch_error.FetchError.{FetchError}
-use Rattle.fetch_remote.specs.declared.fetch_error.FetchError.TheVariants as errors
-use Rattle.fetch_remote.specs.declared.outcome.Outcome.{Outcome}
+use Rattle.fetch_remote.specs.declared.fetching.fetch_error.FetchError.{FetchError}
+use Rattle.fetch_remote.specs.declared.fetching.fetch_error.FetchError.TheVariants as errors
+use Rattle.fetch_remote.specs.declared.fetching.outcome.Outcome.{Outcome}
 use Rattle.fetch_bench.specs.Generated.{generated}
 use Rattle.fetch_bench.specs.declared.generated.Generated.{Generated}
 use Rattle.fetch_cli.specs.LineKinds.{refspec_in}

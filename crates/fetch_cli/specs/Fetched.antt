@@ -8,9 +8,9 @@ use Rattle.fetch_remote.specs.Fetching.{fetched_in, requests_in, left_in, keep_l
 use Rattle.fetch_remote.specs.Form.{Given}
 use Rattle.fetch_remote.specs.Keeping.{with_keep}
 use Rattle.fetch_remote.specs.Repositories.{State}
-use Rattle.fetch_remote.specs.declared.fetch_error.FetchError.{FetchError}
-use Rattle.fetch_remote.specs.declared.fetch_error.FetchError.TheVariants as errors
-use Rattle.fetch_remote.specs.declared.outcome.Outcome.{Outcome}
+use Rattle.fetch_remote.specs.declared.fetching.fetch_error.FetchError.{FetchError}
+use Rattle.fetch_remote.specs.declared.fetching.fetch_error.FetchError.TheVariants as errors
+use Rattle.fetch_remote.specs.declared.fetching.outcome.Outcome.{Outcome}
 
 -- It was done, and the peer heard all requests.
 pub record HasDone (g : Given) (trees : List Worktree) (found : State) (stream : List ℕ) (outcome : Outcome) (left : State) (heard : List ℕ) : Type 0 where

@@ -10,8 +10,8 @@ use Rattle.fetch_refs.specs.Logs.{lines_of}
 use Rattle.fetch_refs.specs.Names.{Names, Logs, RefsValue}
 use Rattle.fetch_refs.specs.declared.log.Signature.{Signature}
 use Rattle.fetch_wire.specs.Written.{lines_text}
-use Rattle.fetch_wire.specs.declared.line.Line.{Line}
-use Rattle.fetch_wire.specs.declared.mapping.Mapping.{Mapping}
+use Rattle.fetch_wire.specs.declared.lines.line.Line.{Line}
+use Rattle.fetch_wire.specs.declared.listings.mapping.Mapping.{Mapping}
 use Rattle.fetch_update.specs.declared.update.Outcome.{Outcome as Updates}
 use Rattle.fetch_update.specs.declared.update.Update.{Update}
 use Rattle.fetch_remote.specs.Fetching.{fetched_in, requests_in, left_in, keep_left_in}
@@ -19,12 +19,12 @@ use Rattle.fetch_remote.specs.Form.{Given}
 use Rattle.fetch_remote.specs.Keeping.{keep_in}
 use Rattle.fetch_remote.specs.Remotes.{nameless}
 use Rattle.fetch_remote.specs.Repositories.{State, logging_of}
-use Rattle.fetch_remote.specs.declared.fetch_error.FetchError.{FetchError}
-use Rattle.fetch_remote.specs.declared.fetch_error.FetchError.TheVariants as errors
-use Rattle.fetch_remote.specs.declared.options.FetchOptions.{FetchOptions}
-use Rattle.fetch_remote.specs.declared.outcome.Outcome.{Outcome}
-use Rattle.fetch_remote.specs.declared.outcome.Status.{Status}
-use Rattle.fetch_remote.specs.declared.outcome.Status.TheVariants as statuses
+use Rattle.fetch_remote.specs.declared.fetching.fetch_error.FetchError.{FetchError}
+use Rattle.fetch_remote.specs.declared.fetching.fetch_error.FetchError.TheVariants as errors
+use Rattle.fetch_remote.specs.declared.fetching.options.FetchOptions.{FetchOptions}
+use Rattle.fetch_remote.specs.declared.fetching.outcome.Outcome.{Outcome}
+use Rattle.fetch_remote.specs.declared.fetching.outcome.Status.{Status}
+use Rattle.fetch_remote.specs.declared.fetching.outcome.Status.TheVariants as statuses
 use Rattle.fetch_cli.specs.Heard.{lines_heard}
 use Rattle.fetch_cli.specs.MapLines.{map_line}
 use Rattle.fetch_cli.specs.ReportLines.{sent_line, ref_line, log_line, border_line, id_line, keep_line, refused_line}

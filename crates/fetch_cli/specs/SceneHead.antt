@@ -4,7 +4,7 @@ use Rattle.std.specs.Option.{is_some}
 use Rattle.std.specs.Str.{bytes_eq}
 use Rattle.fetch_store.specs.declared.id.Kind.{Kind}
 use Rattle.fetch_store.specs.declared.id.Kind.TheVariants as kinds
-use Rattle.fetch_wire.specs.declared.line.Line.{Line}
+use Rattle.fetch_wire.specs.declared.lines.line.Line.{Line}
 use Rattle.fetch_cli.specs.declared.scene.head.Head.{Head}
 use Rattle.fetch_cli.specs.Gives.{◌>>=◌}
 use Rattle.fetch_cli.specs.SceneLines.{Lines, says, value_of, next, next_if}

@@ -3,7 +3,7 @@ use Rattle.std.specs.Prelude.{ℕ, ◌==◌, true, false, nat_lt, List, [], ◌�
 use Rattle.std.specs.Option.{option_map}
 use Rattle.std.specs.Str.{bytes_eq}
 use Rattle.fetch_store.specs.Scan.{◌>>=◌, split_first}
-use Rattle.fetch_wire.specs.declared.line.Line.{Line}
+use Rattle.fetch_wire.specs.declared.lines.line.Line.{Line}
 use Rattle.fetch_cli.specs.declared.scene.options.SceneOption.{SceneOption}
 use Rattle.fetch_cli.specs.declared.scene.options.SceneOption.TheVariants.{DryRun, PackedOnly, NoFilter, Depth, Deepen, Since, Not, Parameter, Bound, Action, Message}
 use Rattle.fetch_cli.specs.declared.scene.options.SceneOptions.{SceneOptions}

@@ -3,7 +3,7 @@
 ghost use Rattle.std.specs.Prelude.{◌≡◌, ℕ, List, Err, map};
 ghost use Rattle.std.specs.Str.Lines.{lines, strip_carriage_return};
 ghost use Rattle.fetch_wire.specs.Written.{lines_text};
-ghost use Rattle.fetch_wire.specs.declared.line.Line.{Line};
+ghost use Rattle.fetch_wire.specs.declared.lines.line.Line.{Line};
 ghost use Rattle.fetch_cli.specs.Heard.{AreSent, lines_heard};
 ghost use Rattle.fetch_remote.specs.Fetching.{requests_in};
 ghost use Rattle.fetch_remote.specs.Valid.{IsValidInput};

@@ -1,7 +1,7 @@
 -- What a name means, where it isn't written out.
 use Rattle.std.proofs.Common.{◌≡◌, ℕ, List, Option, None, sym, ap, ◌∙◌}
 use Rattle.std.specs.Option.{option_or}
-use Rattle.fetch_wire.specs.declared.mapping.Mapping.{Mapping}
+use Rattle.fetch_wire.specs.declared.listings.mapping.Mapping.{Mapping}
 use Rattle.fetch_clone.specs.Meant.{written_out, beside, only_one, or_beside, meant_in}
 use Rattle.fetch_clone.specs.declared.meant.Meant.{Meant}
 

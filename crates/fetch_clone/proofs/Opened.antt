@@ -10,8 +10,8 @@ use Rattle.fetch_config.specs.Contents.{Contents}
 use Rattle.fetch_remote.specs.Reloads.{IsRefusedAt, KeepsTree}
 use Rattle.fetch_remote.specs.Repositories.{IsOpenRefusal, setup_in}
 use Rattle.fetch_remote.specs.RepositoryValues.{Setup}
-use Rattle.fetch_remote.specs.declared.open_error.OpenError.{OpenError}
-use Rattle.fetch_remote.specs.declared.open_error.OpenError.TheVariants as opening
+use Rattle.fetch_remote.specs.declared.repository.open_error.OpenError.{OpenError}
+use Rattle.fetch_remote.specs.declared.repository.open_error.OpenError.TheVariants as opening
 use Rattle.fetch_clone.specs.Branches.{default_branch_of, branch_of}
 use Rattle.fetch_clone.specs.Creation.{Reaches, IsStopped, IsStopAt, TellsStill, is_fault}
 use Rattle.fetch_clone.specs.Initial.{IsLocal, IsUnopened, IsUnready, IsBranchRefusal, IsInitRefusal, parts_with, config_of, creation_refusal, opening_refusal, is_init_fault}

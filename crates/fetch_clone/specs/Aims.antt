@@ -18,10 +18,10 @@ use Rattle.fetch_refs.specs.declared.target.Target.{Target}
 use Rattle.fetch_refs.specs.declared.target.Target.TheVariants as targets
 use Rattle.fetch_wire.specs.Mappings.{spec_at}
 use Rattle.fetch_wire.specs.References.{name_in, source_id}
-use Rattle.fetch_wire.specs.declared.mapping.Mapping.{Mapping}
-use Rattle.fetch_wire.specs.declared.mapping.RefMap.{RefMap}
-use Rattle.fetch_wire.specs.declared.reference.Ref.{Ref}
-use Rattle.fetch_wire.specs.declared.reference.Ref.TheVariants as refs
+use Rattle.fetch_wire.specs.declared.listings.mapping.Mapping.{Mapping}
+use Rattle.fetch_wire.specs.declared.listings.mapping.RefMap.{RefMap}
+use Rattle.fetch_wire.specs.declared.listings.reference.Ref.{Ref}
+use Rattle.fetch_wire.specs.declared.listings.reference.Ref.TheVariants as refs
 use Rattle.fetch_clone.specs.Meant.{is_called, meant_in}
 use Rattle.fetch_clone.specs.declared.aim.Aim.{Aim}
 use Rattle.fetch_clone.specs.declared.aim.Aim.TheVariants.{Nothing, Id, Name}

@@ -20,8 +20,8 @@ use Rattle.fetch_remote.specs.Paths.{config_path}
 use Rattle.fetch_remote.specs.Reloads.{HasRead, IsRefusedAt}
 use Rattle.fetch_remote.specs.Repositories.{state_of, setup_of, state_in, setup_in, is_override}
 use Rattle.fetch_remote.specs.RepositoryValues.{State, Setup, RepositoryValue}
-use Rattle.fetch_remote.specs.declared.open_error.OpenError.{OpenError}
-use Rattle.fetch_remote.specs.declared.open_error.OpenError.TheVariants as opening
+use Rattle.fetch_remote.specs.declared.repository.open_error.OpenError.{OpenError}
+use Rattle.fetch_remote.specs.declared.repository.open_error.OpenError.TheVariants as opening
 use Rattle.fetch_remote.specs.declared.repository.OpenOptions.{OpenOptions}
 use Rattle.fetch_remote.specs.declared.repository.Parts.{Parts}
 use Rattle.fetch_clone.specs.Branches.{default_branch_of, branch_of}

@@ -5,7 +5,7 @@ use Rattle.std.specs.Option.{option_map, option_or, option_and_then}
 use Rattle.std.specs.Str.{bytes_eq}
 use Rattle.fetch_store.specs.declared.id.ObjectId.{ObjectId}
 use Rattle.fetch_wire.specs.References.{source_id, source_name}
-use Rattle.fetch_wire.specs.declared.mapping.Mapping.{Mapping}
+use Rattle.fetch_wire.specs.declared.listings.mapping.Mapping.{Mapping}
 use Rattle.fetch_clone.specs.declared.meant.Meant.{Meant}
 use Rattle.fetch_clone.specs.declared.meant.Unmeant.{Unmeant}
 use Rattle.fetch_clone.specs.declared.meant.Unmeant.TheVariants.{Missing, Ambiguous, NoMemory}

@@ -2,7 +2,7 @@
 
 ghost use Rattle.std.specs.Prelude.{◌≡◌, IfOk, IfErr, IsErrOf, OnOk, OnErr, Some};
 ghost use Rattle.fetch_remote.specs.Repositories.{state_of, setup_of, reopened};
-ghost use Rattle.fetch_remote.specs.declared.open_error.OpenError.TheVariants as opening;
+ghost use Rattle.fetch_remote.specs.declared.repository.open_error.OpenError.TheVariants as opening;
 ghost use Rattle.fetch_clone.specs.Replacing.{replaced as replaced_in};
 
 use crate::replacing::replaced;

@@ -11,7 +11,7 @@ ghost use Rattle.fetch_clone.specs.Initial.{IsBranchRefusal, IsInitial, IsLocal,
 ghost use Rattle.fetch_remote.specs.Paths.{config_path as path_of_config};
 ghost use Rattle.fetch_remote.specs.Reloads.{IsRefusedAt, KeepsTree};
 ghost use Rattle.fetch_remote.specs.Repositories.{state_of, setup_of, setup_in, state_in, IsOpenRefusal};
-ghost use Rattle.fetch_remote.specs.declared.open_error.OpenError.TheVariants as errors;
+ghost use Rattle.fetch_remote.specs.declared.repository.open_error.OpenError.TheVariants as errors;
 
 use crate::branches::{branch_of, default_branch};
 use crate::create::Path;

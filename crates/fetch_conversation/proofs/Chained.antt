@@ -5,10 +5,10 @@ use Rattle.std.proofs.lemmas.List.Concat.{flat_map-append}
 use Rattle.std.specs.Prelude.{map}
 use Rattle.fetch_wire.specs.Talks.{Talk, Talks, Receive, behind, IsFront}
 use Rattle.fetch_wire.specs.Talks.{Talks-then, Makes-then}
-use Rattle.fetch_wire.specs.declared.awaited.Fault.{Fault}
-use Rattle.fetch_wire.specs.declared.awaited.Fault.TheVariants as faults
-use Rattle.fetch_wire.specs.declared.awaited.Told.{Told}
-use Rattle.fetch_wire.specs.declared.line.Line.{Line}
+use Rattle.fetch_wire.specs.declared.replies.awaited.Fault.{Fault}
+use Rattle.fetch_wire.specs.declared.replies.awaited.Fault.TheVariants as faults
+use Rattle.fetch_wire.specs.declared.replies.awaited.Told.{Told}
+use Rattle.fetch_wire.specs.declared.lines.line.Line.{Line}
 use Rattle.fetch_wire.specs.Awaited.{told_at}
 use Rattle.fetch_wire.specs.Written.{line_text, lines_text}
 use Rattle.fetch_conversation.specs.Conversation.{Conversation, ends, asks, sent_in, answer_in, ends_in, awaits_more, IsDue, IsAwaited, after_reply, after_answer, and_then, map_refusal, told_as, beside, Concludes, RefusesWith, IsRefusedBy, Breaks}

@@ -4,16 +4,16 @@ use Rattle.std.specs.Prelude.{is_some, map, ◌⊎◌, ◌||◌, ◌==◌}
 use Rattle.std.specs.List.{AllByRecursion}
 use Rattle.std.proofs.lemmas.Bool.{eqb-true}
 use Rattle.std.proofs.lemmas.List.{append-nil, nil_from_length}
-use Rattle.fetch_wire.specs.declared.awaited.Fault.{Fault}
-use Rattle.fetch_wire.specs.declared.awaited.Fault.TheVariants as faults
-use Rattle.fetch_wire.specs.declared.awaited.Told.{Told}
-use Rattle.fetch_wire.specs.declared.awaited.Told.TheVariants as told
+use Rattle.fetch_wire.specs.declared.replies.awaited.Fault.{Fault}
+use Rattle.fetch_wire.specs.declared.replies.awaited.Fault.TheVariants as faults
+use Rattle.fetch_wire.specs.declared.replies.awaited.Told.{Told}
+use Rattle.fetch_wire.specs.declared.replies.awaited.Told.TheVariants as told
 use Rattle.fetch_wire.specs.declared.error.WireError.{WireError}
 use Rattle.fetch_wire.specs.declared.error.WireError.TheVariants as wire
-use Rattle.fetch_wire.specs.declared.handshake.Handshake.{Handshake}
-use Rattle.fetch_wire.specs.declared.line.Line.{Line}
-use Rattle.fetch_wire.specs.declared.reading.Reading.{Reading}
-use Rattle.fetch_wire.specs.declared.turn.Turn.TheVariants as turns
+use Rattle.fetch_wire.specs.declared.greetings.handshake.Handshake.{Handshake}
+use Rattle.fetch_wire.specs.declared.lines.line.Line.{Line}
+use Rattle.fetch_wire.specs.declared.replies.reading.Reading.{Reading}
+use Rattle.fetch_wire.specs.declared.session.turn.Turn.TheVariants as turns
 use Rattle.fetch_wire.specs.Greetings.{offers}
 use Rattle.fetch_wire.specs.Intakes.{Intake, told_with, taking}
 use Rattle.fetch_wire.specs.Intakes as intakes

@@ -4,7 +4,7 @@ use Rattle.std.specs.FinMap as map
 use Rattle.fetch_store.specs.Graph.{Graph}
 use Rattle.fetch_store.specs.declared.id.ObjectId.{ObjectId}
 use Rattle.fetch_wire.specs.Talks.{Talk}
-use Rattle.fetch_wire.specs.declared.records.FetchReply.{FetchReply}
+use Rattle.fetch_wire.specs.declared.requests.records.FetchReply.{FetchReply}
 use Rattle.fetch_negotiate.specs.declared.algorithm.Round.{Round}
 use Rattle.fetch_conversation.specs.Conversation.{Conversation, ends, and_then, Concludes, Breaks, ConversesBy, Converses}
 use Rattle.fetch_conversation.specs.Conversing.{Tells, IsClear, negotiated_of}

@@ -5,7 +5,7 @@ use Rattle.fetch_store.specs.Graph.{Graph}
 use Rattle.fetch_store.specs.declared.id.ObjectId.{ObjectId}
 use Rattle.fetch_wire.specs.Talks.{Talk}
 use Rattle.fetch_wire.specs.Written.{lines_text}
-use Rattle.fetch_wire.specs.declared.records.FetchReply.{FetchReply}
+use Rattle.fetch_wire.specs.declared.requests.records.FetchReply.{FetchReply}
 use Rattle.fetch_negotiate.specs.Rounds.{sharing_all}
 use Rattle.fetch_negotiate.specs.Windows.{next_size}
 use Rattle.fetch_negotiate.specs.declared.algorithm.Algorithm.{Algorithm}

@@ -1,21 +1,21 @@
 -- A session to which a request was given is that of a question.
 use Rattle.std.proofs.Common.{◌≡◌, ℕ, Bool, true, List, [], ◌++◌, Option, Some, None, Result, Ok, Err, refl, sym, ap, ◌∙◌, subst}
 use Rattle.std.proofs.lemmas.List.{append-nil}
-use Rattle.fetch_wire.specs.declared.awaited.AskedReply.{AskedReply}
-use Rattle.fetch_wire.specs.declared.awaited.Await.TheVariants as awaits
-use Rattle.fetch_wire.specs.declared.awaited.Fault.{Fault}
-use Rattle.fetch_wire.specs.declared.awaited.Fault.TheVariants as faults
-use Rattle.fetch_wire.specs.declared.awaited.Told.{Told}
-use Rattle.fetch_wire.specs.declared.awaited.Told.TheVariants as told
+use Rattle.fetch_wire.specs.declared.replies.awaited.AskedReply.{AskedReply}
+use Rattle.fetch_wire.specs.declared.replies.awaited.Await.TheVariants as awaits
+use Rattle.fetch_wire.specs.declared.replies.awaited.Fault.{Fault}
+use Rattle.fetch_wire.specs.declared.replies.awaited.Fault.TheVariants as faults
+use Rattle.fetch_wire.specs.declared.replies.awaited.Told.{Told}
+use Rattle.fetch_wire.specs.declared.replies.awaited.Told.TheVariants as told
 use Rattle.fetch_wire.specs.declared.error.WireError.{WireError}
-use Rattle.fetch_wire.specs.declared.handshake.Handshake.{Handshake}
-use Rattle.fetch_wire.specs.declared.line.Line.{Line}
-use Rattle.fetch_wire.specs.declared.reading.Part.TheVariants as parts
-use Rattle.fetch_wire.specs.declared.reading.Reading.{Reading}
-use Rattle.fetch_wire.specs.declared.reading.Reading.TheVariants as reading
-use Rattle.fetch_wire.specs.declared.records.FetchReply.{FetchReply}
-use Rattle.fetch_wire.specs.declared.records.Request.{Request}
-use Rattle.fetch_wire.specs.declared.reference.Ref.{Ref}
+use Rattle.fetch_wire.specs.declared.greetings.handshake.Handshake.{Handshake}
+use Rattle.fetch_wire.specs.declared.lines.line.Line.{Line}
+use Rattle.fetch_wire.specs.declared.replies.reading.Part.TheVariants as parts
+use Rattle.fetch_wire.specs.declared.replies.reading.Reading.{Reading}
+use Rattle.fetch_wire.specs.declared.replies.reading.Reading.TheVariants as reading
+use Rattle.fetch_wire.specs.declared.requests.records.FetchReply.{FetchReply}
+use Rattle.fetch_wire.specs.declared.requests.records.Request.{Request}
+use Rattle.fetch_wire.specs.declared.listings.reference.Ref.{Ref}
 use Rattle.fetch_wire.specs.Awaited.{told_at, told_from, step_of}
 use Rattle.fetch_wire.specs.FetchReplies.{no_reply}
 use Rattle.fetch_wire.specs.Intakes.{told_with}

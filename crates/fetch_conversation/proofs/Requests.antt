@@ -6,8 +6,8 @@ use Rattle.std.proofs.lemmas.Bool.{lt-ltb}
 use Rattle.std.proofs.lemmas.List.{take_all, drop_all, take-append-le, drop-append-le, length-append}
 use Rattle.fetch_store.specs.declared.id.Kind.{Kind}
 use Rattle.fetch_store.specs.declared.id.ObjectId.{ObjectId}
-use Rattle.fetch_wire.specs.declared.handshake.Handshake.{Handshake}
-use Rattle.fetch_wire.specs.declared.line.Line.TheVariants.{Delim, Flush}
+use Rattle.fetch_wire.specs.declared.greetings.handshake.Handshake.{Handshake}
+use Rattle.fetch_wire.specs.declared.lines.line.Line.TheVariants.{Delim, Flush}
 use Rattle.fetch_wire.specs.Greetings.{offers, has_word, value_of}
 use Rattle.fetch_wire.specs.Requests.{when, sent, kind_text, agent_text}
 use Rattle.fetch_wire.specs.RequestWords.{command_word, agent_is, agent_word, format_word, format_is, plain_pack, plain_pack_2, have_word, done_word}

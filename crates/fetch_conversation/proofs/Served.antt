@@ -6,11 +6,11 @@ use Rattle.std.proofs.lemmas.List.Concat.{flat_map-append}
 use Rattle.fetch_wire.specs.Awaited.{step_of, start_of, told_at}
 use Rattle.fetch_wire.specs.StepLaws.{read_by-more, with_more, IsSettled}
 use Rattle.fetch_wire.specs.Talks.{Talk, Talks, Passes, IsFront}
-use Rattle.fetch_wire.specs.declared.awaited.Await.{Await}
-use Rattle.fetch_wire.specs.declared.awaited.Fault.{Fault}
-use Rattle.fetch_wire.specs.declared.awaited.Fault.TheVariants.{Short}
-use Rattle.fetch_wire.specs.declared.awaited.Told.{Told}
-use Rattle.fetch_wire.specs.declared.line.Line.{Line}
+use Rattle.fetch_wire.specs.declared.replies.awaited.Await.{Await}
+use Rattle.fetch_wire.specs.declared.replies.awaited.Fault.{Fault}
+use Rattle.fetch_wire.specs.declared.replies.awaited.Fault.TheVariants.{Short}
+use Rattle.fetch_wire.specs.declared.replies.awaited.Told.{Told}
+use Rattle.fetch_wire.specs.declared.lines.line.Line.{Line}
 use Rattle.fetch_wire.specs.Written.{line_text, lines_text}
 use Rattle.fetch_conversation.specs.Conversation.{Conversation, ends, asks, sent_in, answer_in, after_reply, beside, RefusesWith, IsRefusedBy, Concludes, Breaks}
 use Rattle.fetch_conversation.specs.Served.{answer_with, AsksOnly, requests_text, AreRequests, Serves, IsReadWhole, IsAnswered, IsOver, without_rest, IsFresh, Follows}

@@ -2,15 +2,15 @@
 use Rattle.std.proofs.Common.{◌≡◌, ◌≢◌, ℕ, Bool, true, false, List, [], ◌++◌, Option, Some, None, Result, Ok, Err, refl, sym, ap, ◌∙◌, subst, append_assoc, inl, inr}
 use Rattle.std.specs.Prelude.{is_some}
 use Rattle.std.proofs.lemmas.List.{append-nil}
-use Rattle.fetch_wire.specs.declared.awaited.Fault.{Fault}
-use Rattle.fetch_wire.specs.declared.awaited.Fault.TheVariants as faults
-use Rattle.fetch_wire.specs.declared.awaited.Told.{Told}
+use Rattle.fetch_wire.specs.declared.replies.awaited.Fault.{Fault}
+use Rattle.fetch_wire.specs.declared.replies.awaited.Fault.TheVariants as faults
+use Rattle.fetch_wire.specs.declared.replies.awaited.Told.{Told}
 use Rattle.fetch_wire.specs.declared.error.WireError.{WireError}
 use Rattle.fetch_wire.specs.declared.error.WireError.TheVariants as wire
-use Rattle.fetch_wire.specs.declared.handshake.Handshake.{Handshake}
-use Rattle.fetch_wire.specs.declared.reading.Reading.{Reading}
-use Rattle.fetch_wire.specs.declared.records.FetchReply.{FetchReply}
-use Rattle.fetch_wire.specs.declared.reference.Ref.{Ref}
+use Rattle.fetch_wire.specs.declared.greetings.handshake.Handshake.{Handshake}
+use Rattle.fetch_wire.specs.declared.replies.reading.Reading.{Reading}
+use Rattle.fetch_wire.specs.declared.requests.records.FetchReply.{FetchReply}
+use Rattle.fetch_wire.specs.declared.listings.reference.Ref.{Ref}
 use Rattle.fetch_wire.specs.Intakes.{Intake, told_with, taking}
 use Rattle.fetch_wire.specs.Intakes as intakes
 use Rattle.fetch_wire.specs.SessionStates.{SessionState, IsAlike, fed, error_of, after_told, read_one, rests, asks}

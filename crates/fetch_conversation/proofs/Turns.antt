@@ -7,7 +7,7 @@ use Rattle.fetch_wire.specs.SessionStates.{SessionState, IsAlike, IsAwaiting, fe
 use Rattle.fetch_wire.specs.Talks.{Talk, Talks, Makes, at_once, IsFront}
 use Rattle.fetch_wire.specs.declared.error.WireError.{WireError}
 use Rattle.fetch_wire.specs.declared.error.WireError.TheVariants as wire
-use Rattle.fetch_wire.specs.declared.turn.Turn.TheVariants as turns
+use Rattle.fetch_wire.specs.declared.session.turn.Turn.TheVariants as turns
 use Rattle.fetch_conversation.specs.Drives.{IsDrivable, GoesOn, IsDriven, IsUnsent, Takes, made_by}
 use Rattle.fetch_conversation.specs.Errors.{is_yes}
 use Rattle.fetch_conversation.specs.Receiving.{last_question, IsHeeded}

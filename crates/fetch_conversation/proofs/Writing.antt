@@ -16,15 +16,15 @@ use Rattle.fetch_wire.specs.Requests.{listing_lines}
 use Rattle.fetch_wire.specs.ServerLines.{greeting_lines, listing_lines_of}
 use Rattle.fetch_wire.specs.SessionStates.{listing_feature}
 use Rattle.fetch_wire.specs.Written.{lines_text, first_too_long}
-use Rattle.fetch_wire.specs.declared.awaited.Await.TheVariants as awaits
-use Rattle.fetch_wire.specs.declared.awaited.Fault.{Fault}
-use Rattle.fetch_wire.specs.declared.awaited.Told.{Told}
-use Rattle.fetch_wire.specs.declared.awaited.Told.TheVariants as told
-use Rattle.fetch_wire.specs.declared.handshake.Capability.{Capability}
-use Rattle.fetch_wire.specs.declared.handshake.Handshake.{Handshake}
-use Rattle.fetch_wire.specs.declared.line.Line.{Line}
-use Rattle.fetch_wire.specs.declared.records.FetchReply.{FetchReply}
-use Rattle.fetch_wire.specs.declared.reference.Ref.{Ref}
+use Rattle.fetch_wire.specs.declared.replies.awaited.Await.TheVariants as awaits
+use Rattle.fetch_wire.specs.declared.replies.awaited.Fault.{Fault}
+use Rattle.fetch_wire.specs.declared.replies.awaited.Told.{Told}
+use Rattle.fetch_wire.specs.declared.replies.awaited.Told.TheVariants as told
+use Rattle.fetch_wire.specs.declared.greetings.handshake.Capability.{Capability}
+use Rattle.fetch_wire.specs.declared.greetings.handshake.Handshake.{Handshake}
+use Rattle.fetch_wire.specs.declared.lines.line.Line.{Line}
+use Rattle.fetch_wire.specs.declared.requests.records.FetchReply.{FetchReply}
+use Rattle.fetch_wire.specs.declared.listings.reference.Ref.{Ref}
 use Rattle.fetch_wire.proofs.GreetingLines.{greeting_tells}
 use Rattle.fetch_wire.proofs.ListingLines.{listing_tells}
 use Rattle.fetch_wire.proofs.Moving.{text_tells}

@@ -4,11 +4,11 @@ use Rattle.std.specs.List.{AllByRecursion}
 use Rattle.fetch_wire.specs.Awaited.{told_at}
 use Rattle.fetch_wire.specs.Talks.{Talk, Talks, Receive, Makes, IsDrained, IsFront}
 use Rattle.fetch_wire.specs.Written.{lines_text, first_too_long}
-use Rattle.fetch_wire.specs.declared.awaited.Await.{Await}
-use Rattle.fetch_wire.specs.declared.awaited.Fault.{Fault}
-use Rattle.fetch_wire.specs.declared.awaited.Fault.TheVariants as faults
-use Rattle.fetch_wire.specs.declared.awaited.Told.{Told}
-use Rattle.fetch_wire.specs.declared.line.Line.{Line}
+use Rattle.fetch_wire.specs.declared.replies.awaited.Await.{Await}
+use Rattle.fetch_wire.specs.declared.replies.awaited.Fault.{Fault}
+use Rattle.fetch_wire.specs.declared.replies.awaited.Fault.TheVariants as faults
+use Rattle.fetch_wire.specs.declared.replies.awaited.Told.{Told}
+use Rattle.fetch_wire.specs.declared.lines.line.Line.{Line}
 
 -- It ends with an answer, or it asks: it sends lines, awaits a reply, and goes on by what the reply tells. Where the
 -- bytes of the peer hold no such reply, it ends with a refusal by what is wrong with them.

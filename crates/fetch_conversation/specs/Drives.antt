@@ -6,7 +6,7 @@ use Rattle.fetch_wire.specs.SessionStates.{SessionState, IsAlike, IsAwaiting, fe
 use Rattle.fetch_wire.specs.Talks.{Talk, Talks, Receive, Makes, at_once, IsDrained, IsFront}
 use Rattle.fetch_wire.specs.declared.error.WireError.{WireError}
 use Rattle.fetch_wire.specs.declared.error.WireError.TheVariants as wire
-use Rattle.fetch_wire.specs.declared.turn.Turn.TheVariants as turns
+use Rattle.fetch_wire.specs.declared.session.turn.Turn.TheVariants as turns
 use Rattle.fetch_conversation.specs.Errors.{is_yes}
 use Rattle.fetch_conversation.specs.Receiving.{IsHeeded}
 use Rattle.fetch_conversation.specs.declared.drive.Stop.{Stop}

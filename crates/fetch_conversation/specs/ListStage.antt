@@ -15,16 +15,16 @@ use Rattle.fetch_wire.specs.References.{name_in}
 use Rattle.fetch_wire.specs.Requests.{first_line, listing_lines}
 use Rattle.fetch_wire.specs.SessionStates.{error_of, listing_feature, turn_of, kind_of}
 use Rattle.fetch_wire.specs.Written.{first_too_long}
-use Rattle.fetch_wire.specs.declared.awaited.Await.TheVariants as awaits
-use Rattle.fetch_wire.specs.declared.awaited.Fault.{Fault}
-use Rattle.fetch_wire.specs.declared.awaited.Told.{Told}
-use Rattle.fetch_wire.specs.declared.awaited.Told.TheVariants as told
+use Rattle.fetch_wire.specs.declared.replies.awaited.Await.TheVariants as awaits
+use Rattle.fetch_wire.specs.declared.replies.awaited.Fault.{Fault}
+use Rattle.fetch_wire.specs.declared.replies.awaited.Told.{Told}
+use Rattle.fetch_wire.specs.declared.replies.awaited.Told.TheVariants as told
 use Rattle.fetch_wire.specs.declared.error.WireError.{WireError}
 use Rattle.fetch_wire.specs.declared.error.WireError.TheVariants as wire
-use Rattle.fetch_wire.specs.declared.handshake.Handshake.{Handshake}
-use Rattle.fetch_wire.specs.declared.mapping.RefMap.{RefMap}
-use Rattle.fetch_wire.specs.declared.reference.Ref.{Ref}
-use Rattle.fetch_wire.specs.declared.turn.Turn.TheVariants as turns
+use Rattle.fetch_wire.specs.declared.greetings.handshake.Handshake.{Handshake}
+use Rattle.fetch_wire.specs.declared.listings.mapping.RefMap.{RefMap}
+use Rattle.fetch_wire.specs.declared.listings.reference.Ref.{Ref}
+use Rattle.fetch_wire.specs.declared.session.turn.Turn.TheVariants as turns
 use Rattle.fetch_conversation.specs.Conversation.{Conversation, ends, asks, asks_unless, asking}
 use Rattle.fetch_conversation.specs.Mapped.{ref_mappings}
 use Rattle.fetch_conversation.specs.declared.listing.Listed.{Listed}

@@ -7,9 +7,9 @@ use Rattle.fetch_wire.specs.SessionStates.{SessionState, opened}
 use Rattle.fetch_wire.specs.Written.{first_too_long}
 use Rattle.fetch_wire.specs.declared.error.WireError.{WireError}
 use Rattle.fetch_wire.specs.declared.error.WireError.TheVariants as wire
-use Rattle.fetch_wire.specs.declared.handshake.Handshake.{Handshake}
-use Rattle.fetch_wire.specs.declared.line.Line.{Line}
-use Rattle.fetch_wire.specs.declared.reference.Ref.{Ref}
+use Rattle.fetch_wire.specs.declared.greetings.handshake.Handshake.{Handshake}
+use Rattle.fetch_wire.specs.declared.lines.line.Line.{Line}
+use Rattle.fetch_wire.specs.declared.listings.reference.Ref.{Ref}
 use Rattle.fetch_conversation.specs.Errors.{is_free_listing}
 use Rattle.fetch_conversation.specs.ListStage.{InquiryValue, ListedValue, prefixes_asked, mapped, other_reply, shown, unsendable, is_nil}
 use Rattle.fetch_conversation.specs.declared.listing.Listed.{Listed}

@@ -7,7 +7,7 @@ ghost use Rattle.fetch_conversation.specs.Errors.{is_yes};
 ghost use Rattle.fetch_conversation.specs.Receiving.{IsHeeded};
 ghost use Rattle.fetch_wire.specs.SessionStates.{turn_of, IsAwaiting};
 ghost use Rattle.fetch_wire.specs.Talks.{Sends, Makes};
-ghost use Rattle.fetch_wire.specs.declared.turn.Turn.TheVariants as turns;
+ghost use Rattle.fetch_wire.specs.declared.session.turn.Turn.TheVariants as turns;
 
 use fetch_wire::{Interrupt, Peer, SendFault, Session, Turn, WireError};
 use std::alloc::{AllocError, Global};

@@ -8,7 +8,7 @@ ghost use Rattle.fetch_conversation.specs.ListStage.{InquiryValue, inquiry_stage
 ghost use Rattle.fetch_conversation.specs.Listing.{IsOpened, TellsUnopened, TellsUntold, Answers};
 ghost use Rattle.fetch_conversation.specs.Receiving.{IsHeeded};
 ghost use Rattle.fetch_wire.specs.SessionStates.{turn_of};
-ghost use Rattle.fetch_wire.specs.declared.turn.Turn.TheVariants as turns;
+ghost use Rattle.fetch_wire.specs.declared.session.turn.Turn.TheVariants as turns;
 ghost use Rattle.fetch_conversation.specs.declared.prepare.Error.TheVariants as errors;
 ghost use Rattle.fetch_conversation.specs.declared.ref_map.Error.TheVariants as ref_map_errors;
 

@@ -3,7 +3,7 @@ use Rattle.std.proofs.Common.{◌≡◌, ℕ, Bool, false, List, [], ◌++◌, O
 use Rattle.std.proofs.lemmas.List.Concat.{flat_map-append}
 use Rattle.fetch_wire.specs.Talks.{Talk, IsFront}
 use Rattle.fetch_wire.specs.Written.{line_text, lines_text}
-use Rattle.fetch_wire.specs.declared.line.Line.{Line}
+use Rattle.fetch_wire.specs.declared.lines.line.Line.{Line}
 use Rattle.fetch_conversation.specs.Conversation.{Conversation, ends, sent_in, answer_in, and_then, map_refusal, told_as, Concludes, Breaks}
 use Rattle.fetch_conversation.specs.Errors.{is_free_listing, is_free_map, is_free_receiving}
 use Rattle.fetch_conversation.specs.ListStage.{ListedValue}
@@ -18,7 +18,7 @@ use Rattle.fetch_remote.specs.Errors.{preparing, receiving, is_free}
 use Rattle.fetch_remote.specs.Form.{Given}
 use Rattle.fetch_remote.specs.Repositories.{State}
 use Rattle.fetch_remote.specs.Stages.{bound_of, listing_stage, pack_stage, receiving_stage, conversation}
-use Rattle.fetch_remote.specs.declared.fetch_error.FetchError.TheVariants as errors
+use Rattle.fetch_remote.specs.declared.fetching.fetch_error.FetchError.TheVariants as errors
 
 -- ---- free refusals are free in the whole, and no others
 

@@ -6,7 +6,7 @@ use Rattle.fetch_store.specs.Graph.{graph_of}
 use Rattle.fetch_store.specs.declared.id.ObjectId.{ObjectId}
 use Rattle.fetch_refs.specs.declared.edit.PackedRefs.{PackedRefs}
 use Rattle.fetch_refs.specs.declared.edit.RefEdit.{RefEdit}
-use Rattle.fetch_wire.specs.declared.mapping.RefMap.{RefMap}
+use Rattle.fetch_wire.specs.declared.listings.mapping.RefMap.{RefMap}
 use Rattle.fetch_wire.specs.Talks.{Talk}
 use Rattle.fetch_wire.specs.Written.{lines_text}
 use Rattle.fetch_update.specs.declared.update.Outcome.{Outcome as Updates}
@@ -15,8 +15,8 @@ use Rattle.fetch_update.proofs.Wholes.{one_each, accepts_exactly, guesses_exactl
 use Rattle.fetch_conversation.specs.Conversation.{sent_in, answer_in}
 use Rattle.fetch_conversation.specs.ListStage.{ListedValue}
 use Rattle.fetch_conversation.specs.declared.conversing.Received.{Received}
-use Rattle.fetch_remote.specs.declared.fetch_error.FetchError.{FetchError}
-use Rattle.fetch_remote.specs.declared.outcome.Outcome.{Outcome}
+use Rattle.fetch_remote.specs.declared.fetching.fetch_error.FetchError.{FetchError}
+use Rattle.fetch_remote.specs.declared.fetching.outcome.Outcome.{Outcome}
 use Rattle.fetch_store.specs.Trees.{Tree}
 use Rattle.fetch_remote.specs.Fetched.{HasHeard, HasRead, IsJudged, IsWritten, IsLeft, IsKept, IsSafe, IsFetched, policy_at}
 use Rattle.fetch_remote.specs.Fetching.{manner_in, taken_in, settled_in, settled_by, fetched_in, requests_in}

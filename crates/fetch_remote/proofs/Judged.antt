@@ -2,8 +2,8 @@
 use Rattle.std.proofs.Common.{◌≡◌, true, false, List, Result, Ok, Err, refl, sym, ap, subst, ◌∙◌}
 use Rattle.fetch_store.specs.Answers.{AnswersUnless}
 use Rattle.fetch_specs.specs.Specs.{Spec}
-use Rattle.fetch_wire.specs.declared.mapping.Mapping.{Mapping}
-use Rattle.fetch_wire.specs.declared.mapping.RefMap.{RefMap}
+use Rattle.fetch_wire.specs.declared.listings.mapping.Mapping.{Mapping}
+use Rattle.fetch_wire.specs.declared.listings.mapping.RefMap.{RefMap}
 use Rattle.fetch_update.specs.Outcomes.{outcome_of}
 use Rattle.fetch_update.specs.Policy.{Policy, is_memory}
 use Rattle.fetch_update.specs.Refusing.{Refuses}

@@ -19,8 +19,8 @@ use Rattle.fetch_remote.specs.Keeping.{AreFiles, stays, kept, made, keep_in, mad
 use Rattle.fetch_remote.specs.Paths.{keep_path}
 use Rattle.fetch_remote.specs.Settling.{brought, pack_read, status_of, status_by, told_of, kept_of, released_of, IsUnreleased}
 use Rattle.fetch_conversation.specs.declared.fetch.Error.{Error}
-use Rattle.fetch_remote.specs.declared.outcome.Status.{Status}
-use Rattle.fetch_remote.specs.declared.settling.Taken.{Taken}
+use Rattle.fetch_remote.specs.declared.fetching.outcome.Status.{Status}
+use Rattle.fetch_remote.specs.declared.fetching.settling.Taken.{Taken}
 
 -- ---- trees
 

@@ -37,14 +37,14 @@ use Rattle.fetch_negotiate.specs.Wants.{is_tag_index}
 use Rattle.fetch_wire.specs.Mappings.{spec_at}
 use Rattle.fetch_wire.specs.References.{source_id}
 use Rattle.fetch_wire.specs.Talks.{Talk}
-use Rattle.fetch_wire.specs.declared.mapping.Mapping.{Mapping}
-use Rattle.fetch_wire.specs.declared.mapping.RefMap.{RefMap}
-use Rattle.fetch_wire.specs.declared.mapping.SpecIndex.{SpecIndex}
-use Rattle.fetch_wire.specs.declared.mapping.SpecIndex.TheVariants as indices
-use Rattle.fetch_wire.specs.declared.reference.Ref.{Ref}
-use Rattle.fetch_wire.specs.declared.reference.Ref.TheVariants as remote
-use Rattle.fetch_wire.specs.declared.reference.Source.{Source}
-use Rattle.fetch_wire.specs.declared.reference.Source.TheVariants as sources
+use Rattle.fetch_wire.specs.declared.listings.mapping.Mapping.{Mapping}
+use Rattle.fetch_wire.specs.declared.listings.mapping.RefMap.{RefMap}
+use Rattle.fetch_wire.specs.declared.listings.mapping.SpecIndex.{SpecIndex}
+use Rattle.fetch_wire.specs.declared.listings.mapping.SpecIndex.TheVariants as indices
+use Rattle.fetch_wire.specs.declared.listings.reference.Ref.{Ref}
+use Rattle.fetch_wire.specs.declared.listings.reference.Ref.TheVariants as remote
+use Rattle.fetch_wire.specs.declared.listings.reference.Source.{Source}
+use Rattle.fetch_wire.specs.declared.listings.reference.Source.TheVariants as sources
 use Rattle.fetch_update.specs.Accepted.{HasOneEach, EditsCarryOut, CarriesOut, edit_for, is_found}
 use Rattle.fetch_update.specs.Accepting.{is_accepting}
 use Rattle.fetch_update.specs.Policy.{Policy, value_of, is_stored}
@@ -60,7 +60,7 @@ use Rattle.fetch_conversation.specs.Conversation.{map_refusal, answer_in}
 use Rattle.fetch_conversation.specs.ListStage.{ListedValue}
 use Rattle.fetch_conversation.specs.declared.conversing.Received.{Received}
 use Rattle.fetch_conversation.specs.declared.fetch.Error.{Error as ReceiveError}
-use Rattle.fetch_remote.specs.declared.outcome.Outcome.{Outcome}
+use Rattle.fetch_remote.specs.declared.fetching.outcome.Outcome.{Outcome}
 use Rattle.fetch_remote.specs.Errors.{receiving}
 use Rattle.fetch_remote.specs.Fetched.{IsFetched, IsSafe, carried_out, policy_at, is_aside}
 use Rattle.fetch_remote.specs.Fetching.{manner_in, places_of, settled_in, settled_by, fetched_in}
@@ -69,9 +69,9 @@ use Rattle.fetch_remote.specs.Lasting.{updates_in, AcceptsNone, AreAlike, with_p
 use Rattle.fetch_remote.specs.Repositories.{State, Setup}
 use Rattle.fetch_remote.specs.Settling.{told_with, status_of, moved, outcome_in, settled}
 use Rattle.fetch_remote.specs.Stages.{Told, bound_of, conversation, receiving_stage}
-use Rattle.fetch_remote.specs.declared.fetch_error.FetchError.{FetchError}
-use Rattle.fetch_remote.specs.declared.fetch_error.FetchError.TheVariants as errors
-use Rattle.fetch_remote.specs.declared.settling.Manner.{Manner}
+use Rattle.fetch_remote.specs.declared.fetching.fetch_error.FetchError.{FetchError}
+use Rattle.fetch_remote.specs.declared.fetching.fetch_error.FetchError.TheVariants as errors
+use Rattle.fetch_remote.specs.declared.fetching.settling.Manner.{Manner}
 use Rattle.fetch_remote.proofs.Settled.{SettledAs, settled_as}
 use Rattle.fetch_remote.proofs.Wanted.{first_in, later_in, cases_in, either, stored_node}
 

@@ -1,7 +1,7 @@
 -- Overrides, one after the other.
 use Rattle.std.proofs.Common.{◌≡◌, ℕ, true, List, ◌∷◌, refl}
-use Rattle.fetch_remote.specs.declared.open_error.OpenError.{OpenError}
-use Rattle.fetch_remote.specs.declared.open_error.OpenError.TheVariants as errors
+use Rattle.fetch_remote.specs.declared.repository.open_error.OpenError.{OpenError}
+use Rattle.fetch_remote.specs.declared.repository.open_error.OpenError.TheVariants as errors
 use Rattle.fetch_remote.specs.Repositories.{is_override, IsOverrideRefused, IsOpenRefusal}
 
 pub first_refused : (text : List ℕ) (others : List (List ℕ)) (e : OpenError) → IsOverrideRefused text e → IsOpenRefusal (text ∷ others) e

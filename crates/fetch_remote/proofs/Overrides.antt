@@ -1,8 +1,8 @@
 -- Overrides that were tested are refused for want of memory alone.
 use Rattle.std.proofs.Common.{◌≡◌, ℕ, Bool, true, false, List, [], ◌∷◌, Option, Some, None, refl}
 use Rattle.std.specs.Prelude.{find, not, ◌&&◌}
-use Rattle.fetch_remote.specs.declared.open_error.OpenError.{OpenError}
-use Rattle.fetch_remote.specs.declared.open_error.OpenError.TheVariants as errors
+use Rattle.fetch_remote.specs.declared.repository.open_error.OpenError.{OpenError}
+use Rattle.fetch_remote.specs.declared.repository.open_error.OpenError.TheVariants as errors
 use Rattle.fetch_remote.specs.Repositories.{IsOpenRefusal}
 use Rattle.fetch_remote.specs.RepositoryValues.{is_override, are_overrides}
 

@@ -5,8 +5,8 @@ use Rattle.fetch_pack.specs.Reading.{Contents}
 use Rattle.fetch_store.specs.Graph.{Graph, graph_of}
 use Rattle.fetch_store.specs.declared.id.ObjectId.{ObjectId}
 use Rattle.fetch_update.specs.declared.worktrees.Worktree.{Worktree}
-use Rattle.fetch_wire.specs.declared.handshake.Capability.{Capability}
-use Rattle.fetch_wire.specs.declared.reference.Ref.{Ref}
+use Rattle.fetch_wire.specs.declared.greetings.handshake.Capability.{Capability}
+use Rattle.fetch_wire.specs.declared.listings.reference.Ref.{Ref}
 use Rattle.fetch_conversation.specs.Conversation.{Conversation, ends, answer_in, and_then, map_refusal, told_as}
 use Rattle.fetch_conversation.specs.ConverseStage.{converse_stage, wanting, with_pack}
 use Rattle.fetch_conversation.specs.Conversing.{IsClear}
@@ -25,7 +25,7 @@ use Rattle.fetch_remote.specs.Serving.{listed_by, IsListed, IsAllStored, IsServe
 use Rattle.fetch_remote.specs.Settling.{brought}
 use Rattle.fetch_remote.specs.Stages.{Told, bound_of, wants_in, terms_in, listing_stage, pack_stage, receiving_stage, conversation}
 use Rattle.fetch_remote.specs.Valid.{IsTakeable, AreJudgeable, policy_with, IsValidInput}
-use Rattle.fetch_remote.specs.declared.fetch_error.FetchError.{FetchError}
+use Rattle.fetch_remote.specs.declared.fetching.fetch_error.FetchError.{FetchError}
 
 -- ---- one stage behind the other
 

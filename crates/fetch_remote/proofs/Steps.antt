@@ -17,15 +17,15 @@ use Rattle.fetch_wire.specs.Requests.{first_line}
 use Rattle.fetch_wire.specs.SessionStates.{listing_feature}
 use Rattle.fetch_wire.specs.Talks.{Talk}
 use Rattle.fetch_wire.specs.Written.{first_too_long}
-use Rattle.fetch_wire.specs.declared.awaited.Await.{Await}
-use Rattle.fetch_wire.specs.declared.awaited.Await.TheVariants as awaits
-use Rattle.fetch_wire.specs.declared.awaited.Fault.{Fault}
-use Rattle.fetch_wire.specs.declared.awaited.Told.{Told}
-use Rattle.fetch_wire.specs.declared.awaited.Told.TheVariants as told
+use Rattle.fetch_wire.specs.declared.replies.awaited.Await.{Await}
+use Rattle.fetch_wire.specs.declared.replies.awaited.Await.TheVariants as awaits
+use Rattle.fetch_wire.specs.declared.replies.awaited.Fault.{Fault}
+use Rattle.fetch_wire.specs.declared.replies.awaited.Told.{Told}
+use Rattle.fetch_wire.specs.declared.replies.awaited.Told.TheVariants as told
 use Rattle.fetch_wire.specs.declared.error.WireError.TheVariants as wire
-use Rattle.fetch_wire.specs.declared.handshake.Handshake.{Handshake}
-use Rattle.fetch_wire.specs.declared.line.Line.{Line}
-use Rattle.fetch_wire.specs.declared.reference.Ref.{Ref}
+use Rattle.fetch_wire.specs.declared.greetings.handshake.Handshake.{Handshake}
+use Rattle.fetch_wire.specs.declared.lines.line.Line.{Line}
+use Rattle.fetch_wire.specs.declared.listings.reference.Ref.{Ref}
 use Rattle.fetch_conversation.specs.Conversation.{Conversation, ends, asks, asks_unless, answer_in, after_reply, Concludes, Breaks, IsRefusedBy}
 use Rattle.fetch_conversation.specs.Errors.{is_free_listing, is_free_receiving, prepare_of}
 use Rattle.fetch_conversation.specs.ListStage.{InquiryValue, ListedValue, all_specs, handshaking, too_long, failed, inquiry_stage, listing, listed, greeted, mapped, mapped_unless, unless, unlisted, unsendable, shown, pending_of}
@@ -48,9 +48,9 @@ use Rattle.fetch_remote.specs.Settling.{policy_in, IsSettled}
 use Rattle.fetch_remote.specs.Stages.{bound_of, wants_in, inquiry_in, terms_in, pack_stage}
 use Rattle.fetch_remote.specs.Steps.{HasListed, HasReceived, IsReceived, listing_error, is_missing}
 use Rattle.fetch_remote.specs.Talking.{HasEnded, BreaksListing, BreaksReceiving}
-use Rattle.fetch_remote.specs.declared.fetch_error.FetchError.TheVariants as errors
-use Rattle.fetch_remote.specs.declared.outcome.Outcome.{Outcome}
-use Rattle.fetch_remote.specs.declared.talking.Talked.{Talked}
+use Rattle.fetch_remote.specs.declared.fetching.fetch_error.FetchError.TheVariants as errors
+use Rattle.fetch_remote.specs.declared.fetching.outcome.Outcome.{Outcome}
+use Rattle.fetch_remote.specs.declared.fetching.talking.Talked.{Talked}
 use Rattle.fetch_remote.proofs.Fetched.{at_outcome, moved_in, is_judged, is_written, has_left, is_kept, is_safe}
 use Rattle.fetch_remote.proofs.Negotiated.{are_held}
 use Rattle.fetch_remote.proofs.Settled.{settled_as, takes}

@@ -18,8 +18,8 @@ use Rattle.fetch_remote.specs.Form.{Given}
 use Rattle.fetch_remote.specs.Repositories.{State}
 use Rattle.fetch_remote.specs.Stages.{bound_of, wants_in, terms_in, listing_stage, pack_stage}
 use Rattle.fetch_remote.specs.Talking.{HasTalked}
-use Rattle.fetch_remote.specs.declared.fetch_error.FetchError.{FetchError}
-use Rattle.fetch_remote.specs.declared.fetch_error.FetchError.TheVariants as errors
+use Rattle.fetch_remote.specs.declared.fetching.fetch_error.FetchError.{FetchError}
+use Rattle.fetch_remote.specs.declared.fetching.fetch_error.FetchError.TheVariants as errors
 use Rattle.fetch_remote.proofs.Received.{is_received}
 
 gives_up : {X E : Type 0} (free : E → Bool) (answers : Bool) (bound : ℕ) (now : Option Talk) (pending : List ℕ) (c : Conversation X E) (e : E) → free e ≡ true → Breaks free answers bound now now pending c e

@@ -3,8 +3,8 @@ use Rattle.std.specs.Prelude.{◌≡◌, ℕ, ◌+◌, ◌==◌, Bool, true, fal
 use Rattle.fetch_store.specs.Calls.{CallList}
 use Rattle.fetch_store.specs.Faults.{Faults, counted}
 use Rattle.fetch_wire.specs.Scripts.{Script}
-use Rattle.fetch_wire.specs.declared.peer.SendFault.{SendFault}
-use Rattle.fetch_wire.specs.declared.peer.SendFault.TheVariants as sending
+use Rattle.fetch_wire.specs.declared.session.peer.SendFault.{SendFault}
+use Rattle.fetch_wire.specs.declared.session.peer.SendFault.TheVariants as sending
 use Rattle.fetch_lookup.specs.declared.direction.Direction.{Direction}
 use Rattle.fetch_remote.specs.declared.connect.Error.{Error}
 use Rattle.fetch_remote.specs.declared.connect.Error.TheVariants as errors

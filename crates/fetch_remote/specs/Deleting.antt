@@ -23,8 +23,8 @@ use Rattle.fetch_remote.specs.Reloads.{Reads, HasBrokenLine}
 use Rattle.fetch_remote.specs.Repositories.{State, Setup, RepositoryValue, reopened, with_refs}
 use Rattle.fetch_remote.specs.declared.delete.Error.{Error}
 use Rattle.fetch_remote.specs.declared.delete.Error.TheVariants as errors
-use Rattle.fetch_remote.specs.declared.open_error.OpenError.{OpenError}
-use Rattle.fetch_remote.specs.declared.open_error.OpenError.TheVariants as causes
+use Rattle.fetch_remote.specs.declared.repository.open_error.OpenError.{OpenError}
+use Rattle.fetch_remote.specs.declared.repository.open_error.OpenError.TheVariants as causes
 
 -- ---- the names
 

@@ -25,8 +25,8 @@ use Rattle.fetch_remote.specs.declared.delete.CleanupError.{CleanupError}
 use Rattle.fetch_remote.specs.declared.delete.Error.{Error}
 use Rattle.fetch_remote.specs.declared.delete.Error.TheVariants as errors
 use Rattle.fetch_remote.specs.declared.deleting.ConfigChange.{ConfigChange}
-use Rattle.fetch_remote.specs.declared.open_error.OpenError.{OpenError}
-use Rattle.fetch_remote.specs.declared.open_error.OpenError.TheVariants as causes
+use Rattle.fetch_remote.specs.declared.repository.open_error.OpenError.{OpenError}
+use Rattle.fetch_remote.specs.declared.repository.open_error.OpenError.TheVariants as causes
 
 -- a work tree's directory, where it has this branch
 abbrev pub directory_of : List ℕ → Worktree → List (List ℕ)

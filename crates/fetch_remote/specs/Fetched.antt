@@ -23,8 +23,8 @@ use Rattle.fetch_negotiate.specs.Wants.{is_tag_index}
 use Rattle.fetch_wire.specs.Talks.{Talk, Talks}
 use Rattle.fetch_wire.specs.Written.{lines_text}
 use Rattle.fetch_wire.specs.References.{source_id}
-use Rattle.fetch_wire.specs.declared.mapping.Mapping.{Mapping}
-use Rattle.fetch_wire.specs.declared.mapping.RefMap.{RefMap}
+use Rattle.fetch_wire.specs.declared.listings.mapping.Mapping.{Mapping}
+use Rattle.fetch_wire.specs.declared.listings.mapping.RefMap.{RefMap}
 use Rattle.fetch_conversation.specs.Conversation.{answer_in, IsAwaited}
 use Rattle.fetch_conversation.specs.ListStage.{ListedValue, all_specs, extra_specs}
 use Rattle.fetch_conversation.specs.Mapped.{ref_mappings}
@@ -37,7 +37,7 @@ use Rattle.fetch_remote.specs.Keeping.{AreFiles, kept, keep_in, left_tree}
 use Rattle.fetch_remote.specs.Repositories.{State, Setup, held}
 use Rattle.fetch_remote.specs.Settling.{brought, pack_read, policy_in, status_of}
 use Rattle.fetch_remote.specs.Stages.{bound_of, wants_in, inquiry_in, listing_stage, pack_stage, conversation}
-use Rattle.fetch_remote.specs.declared.outcome.Outcome.{Outcome}
+use Rattle.fetch_remote.specs.declared.fetching.outcome.Outcome.{Outcome}
 
 -- what the outcome tells of the listing
 abbrev pub listed_in : Outcome → ListedValue

@@ -5,7 +5,7 @@ use Rattle.fetch_refs.specs.declared.edit.PackedRefs.TheVariants as places
 use Rattle.fetch_update.specs.declared.message.RefLogMessage.{RefLogMessage}
 use Rattle.fetch_update.specs.declared.worktrees.Worktree.{Worktree}
 use Rattle.fetch_specs.specs.declared.tags.Tags.{Tags}
-use Rattle.fetch_wire.specs.declared.line.Line.{Line}
+use Rattle.fetch_wire.specs.declared.lines.line.Line.{Line}
 use Rattle.fetch_conversation.specs.Conversation.{map_refusal, sent_in, answer_in}
 use Rattle.fetch_conversation.specs.declared.fetch.Error.{Error as ReceiveError}
 use Rattle.fetch_remote.specs.Errors.{receiving}
@@ -13,10 +13,10 @@ use Rattle.fetch_remote.specs.Form.{Given}
 use Rattle.fetch_remote.specs.Repositories.{State}
 use Rattle.fetch_remote.specs.Settling.{brought, keep_of, taken, settled, kept_or, standing, usual_message}
 use Rattle.fetch_remote.specs.Stages.{Told, bound_of, wants_in, conversation}
-use Rattle.fetch_remote.specs.declared.fetch_error.FetchError.{FetchError}
-use Rattle.fetch_remote.specs.declared.options.FetchOptions.{FetchOptions}
-use Rattle.fetch_remote.specs.declared.outcome.Outcome.{Outcome}
-use Rattle.fetch_remote.specs.declared.settling.Manner.{Manner}
+use Rattle.fetch_remote.specs.declared.fetching.fetch_error.FetchError.{FetchError}
+use Rattle.fetch_remote.specs.declared.fetching.options.FetchOptions.{FetchOptions}
+use Rattle.fetch_remote.specs.declared.fetching.outcome.Outcome.{Outcome}
+use Rattle.fetch_remote.specs.declared.fetching.settling.Manner.{Manner}
 
 -- where references are written
 abbrev pub places_of : Bool → PackedRefs

@@ -1,5 +1,5 @@
 -- What a fetch is given.
-use Rattle.fetch_remote.specs.declared.options.FetchOptions.{FetchOptions}
+use Rattle.fetch_remote.specs.declared.fetching.options.FetchOptions.{FetchOptions}
 use Rattle.fetch_remote.specs.Remotes.{RemoteValue}
 use Rattle.fetch_remote.specs.Repositories.{Setup}
 

@@ -9,8 +9,8 @@ use Rattle.fetch_update.specs.declared.update.Outcome.{Outcome as Updates}
 use Rattle.fetch_conversation.specs.declared.fetch.Error.{Error}
 use Rattle.fetch_conversation.specs.declared.fetch.Error.TheVariants as errors
 use Rattle.fetch_remote.specs.Paths.{keep_path}
-use Rattle.fetch_remote.specs.declared.outcome.Status.{Status}
-use Rattle.fetch_remote.specs.declared.outcome.Status.TheVariants as statuses
+use Rattle.fetch_remote.specs.declared.fetching.outcome.Status.{Status}
+use Rattle.fetch_remote.specs.declared.fetching.outcome.Status.TheVariants as statuses
 
 -- It stays where no edit stands and the pack has objects.
 abbrev pub stays : Updates → ℕ → Bool

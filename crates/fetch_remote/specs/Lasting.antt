@@ -8,8 +8,8 @@ use Rattle.fetch_update.specs.declared.update.Outcome.{Outcome as Updates}
 use Rattle.fetch_update.specs.declared.update.Update.{Update}
 use Rattle.fetch_remote.specs.Form.{Given}
 use Rattle.fetch_remote.specs.Repositories.{State}
-use Rattle.fetch_remote.specs.declared.outcome.Status.{Status}
-use Rattle.fetch_remote.specs.declared.outcome.Status.TheVariants as statuses
+use Rattle.fetch_remote.specs.declared.fetching.outcome.Status.{Status}
+use Rattle.fetch_remote.specs.declared.fetching.outcome.Status.TheVariants as statuses
 
 -- what became of the mappings
 abbrev pub updates_in : Status → Updates

@@ -7,7 +7,7 @@ use Rattle.fetch_store.specs.Stores.{id_cmp}
 use Rattle.fetch_negotiate.specs.Commits.{IsStoredCommit}
 use Rattle.fetch_negotiate.specs.Rounds.{haves_in}
 use Rattle.fetch_negotiate.specs.declared.algorithm.Round.{Round}
-use Rattle.fetch_wire.specs.declared.line.Line.{Line}
+use Rattle.fetch_wire.specs.declared.lines.line.Line.{Line}
 use Rattle.fetch_conversation.specs.Conversation.{sent_in}
 use Rattle.fetch_conversation.specs.Exchange.{asked_by}
 use Rattle.fetch_conversation.specs.ListStage.{ListedValue}

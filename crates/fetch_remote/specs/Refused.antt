@@ -19,9 +19,9 @@ use Rattle.fetch_remote.specs.Keeping.{AreFiles, with_keep, removed_in}
 use Rattle.fetch_remote.specs.Repositories.{State}
 use Rattle.fetch_remote.specs.Settling as settling
 use Rattle.fetch_remote.specs.Stages.{Told, bound_of, listing_stage, pack_stage, conversation}
-use Rattle.fetch_remote.specs.declared.outcome.Outcome.{Outcome}
-use Rattle.fetch_remote.specs.declared.fetch_error.FetchError.{FetchError}
-use Rattle.fetch_remote.specs.declared.fetch_error.FetchError.TheVariants as errors
+use Rattle.fetch_remote.specs.declared.fetching.outcome.Outcome.{Outcome}
+use Rattle.fetch_remote.specs.declared.fetching.fetch_error.FetchError.{FetchError}
+use Rattle.fetch_remote.specs.declared.fetching.fetch_error.FetchError.TheVariants as errors
 
 -- ---- the cause
 

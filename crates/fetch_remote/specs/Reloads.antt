@@ -5,8 +5,8 @@ use Rattle.fetch_store.specs.Trees.{Tree, read_in}
 use Rattle.fetch_config.specs.Contents.{Contents}
 use Rattle.fetch_config.specs.Lines.{broken_line, sections_of}
 use Rattle.fetch_config.specs.declared.meta.Meta.{Meta}
-use Rattle.fetch_remote.specs.declared.open_error.OpenError.{OpenError}
-use Rattle.fetch_remote.specs.declared.open_error.OpenError.TheVariants as errors
+use Rattle.fetch_remote.specs.declared.repository.open_error.OpenError.{OpenError}
+use Rattle.fetch_remote.specs.declared.repository.open_error.OpenError.TheVariants as errors
 use Rattle.fetch_remote.specs.Paths.{config_path}
 use Rattle.fetch_remote.specs.Repositories.{reopened}
 use Rattle.fetch_remote.specs.RepositoryValues.{Setup}

@@ -6,8 +6,8 @@ use Rattle.fetch_store.specs.Closed.{Holding}
 use Rattle.fetch_store.specs.Stores.{Entries, add_all}
 use Rattle.fetch_config.specs.Contents.{Contents}
 use Rattle.fetch_refs.specs.Names.{RefsValue}
-use Rattle.fetch_remote.specs.declared.open_error.OpenError.{OpenError}
-use Rattle.fetch_remote.specs.declared.open_error.OpenError.TheVariants as errors
+use Rattle.fetch_remote.specs.declared.repository.open_error.OpenError.{OpenError}
+use Rattle.fetch_remote.specs.declared.repository.open_error.OpenError.TheVariants as errors
 use Rattle.fetch_remote.specs.declared.repository.Parts.{Parts}
 use Rattle.fetch_conversation.specs.declared.settings.Settings.{Settings}
 pub use Rattle.fetch_remote.specs.RepositoryValues.{State, Setup, RepositoryValue, logging_of, is_override, with_override, with_overrides, resolved_of}

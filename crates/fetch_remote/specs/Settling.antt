@@ -24,13 +24,13 @@ use Rattle.fetch_conversation.specs.declared.fetch.Error.{Error}
 use Rattle.fetch_conversation.specs.declared.fetch.Error.TheVariants as errors
 use Rattle.fetch_conversation.specs.declared.negotiate.Negotiate.{Negotiate}
 use Rattle.fetch_store.specs.Trees.{Tree}
-use Rattle.fetch_remote.specs.declared.keep.Kept.{Kept}
-use Rattle.fetch_remote.specs.declared.outcome.Outcome.{Outcome}
-use Rattle.fetch_remote.specs.declared.outcome.PackOutcome.{PackOutcome}
-use Rattle.fetch_remote.specs.declared.outcome.Status.{Status}
-use Rattle.fetch_remote.specs.declared.outcome.Status.TheVariants as statuses
-use Rattle.fetch_remote.specs.declared.settling.Manner.{Manner}
-use Rattle.fetch_remote.specs.declared.settling.Taken.{Taken}
+use Rattle.fetch_remote.specs.declared.fetching.keep.Kept.{Kept}
+use Rattle.fetch_remote.specs.declared.fetching.outcome.Outcome.{Outcome}
+use Rattle.fetch_remote.specs.declared.fetching.outcome.PackOutcome.{PackOutcome}
+use Rattle.fetch_remote.specs.declared.fetching.outcome.Status.{Status}
+use Rattle.fetch_remote.specs.declared.fetching.outcome.Status.TheVariants as statuses
+use Rattle.fetch_remote.specs.declared.fetching.settling.Manner.{Manner}
+use Rattle.fetch_remote.specs.declared.fetching.settling.Taken.{Taken}
 use Rattle.fetch_remote.specs.Errors.{is_unlisted}
 use Rattle.fetch_remote.specs.Judging.{judged_of, IsTold}
 use Rattle.fetch_remote.specs.Keeping.{stays, kept, made, removed_in, with_keep, AreFiles}

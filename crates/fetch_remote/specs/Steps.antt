@@ -27,13 +27,13 @@ use Rattle.fetch_remote.specs.Negotiated.{AreHeld}
 use Rattle.fetch_remote.specs.Remotes.{RemoteValue}
 use Rattle.fetch_remote.specs.Repositories.{State, Setup}
 use Rattle.fetch_remote.specs.Stages.{inquiry_of, bound_of, wants_in, pack_stage}
-use Rattle.fetch_remote.specs.contracts.connection.Connection.{the_row}
-use Rattle.fetch_remote.specs.declared.connection.Connection.{Connection}
-use Rattle.fetch_remote.specs.declared.options.FetchOptions.{FetchOptions}
-use Rattle.fetch_remote.specs.declared.outcome.Outcome.{Outcome}
-use Rattle.fetch_remote.specs.declared.prepared.Prepared.{Prepared}
-use Rattle.fetch_remote.specs.declared.preparing.Prepare.{Prepare}
-use Rattle.fetch_remote.specs.declared.talking.Talked.{Talked}
+use Rattle.fetch_remote.specs.contracts.fetching.connection.Connection.{the_row}
+use Rattle.fetch_remote.specs.declared.fetching.connection.Connection.{Connection}
+use Rattle.fetch_remote.specs.declared.fetching.options.FetchOptions.{FetchOptions}
+use Rattle.fetch_remote.specs.declared.fetching.outcome.Outcome.{Outcome}
+use Rattle.fetch_remote.specs.declared.fetching.prepared.Prepared.{Prepared}
+use Rattle.fetch_remote.specs.declared.fetching.preparing.Prepare.{Prepare}
+use Rattle.fetch_remote.specs.declared.fetching.talking.Talked.{Talked}
 
 -- ---- a remote with its peer
 

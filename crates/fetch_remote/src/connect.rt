@@ -6,8 +6,8 @@ ghost use Rattle.fetch_remote.specs.Connecting.{is_of_maker, IsMissing, Makes, T
 ghost use Rattle.fetch_remote.specs.Remotes.{urls_for};
 ghost use Rattle.fetch_remote.specs.declared.connect.Error.TheVariants as errors;
 
-use crate::direction::Direction;
 use crate::remote::Remote;
+use crate::remotes::direction::Direction;
 use fetch_wire::{Peer, SendFault};
 use thiserror::Error as ThisError;
 

@@ -2,7 +2,7 @@
 
 ghost use Rattle.std.specs.Prelude.{◌≡◌, IfOk};
 
-use crate::open_error::OpenError;
+use crate::repository::open_error::OpenError;
 use fetch_specs::FullName;
 use fetch_store::{List, NoMemory, Text};
 use thiserror::Error as ThisError;

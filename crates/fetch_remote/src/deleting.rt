@@ -1,5 +1,9 @@
 //! Deleting local branches.
 
+pub mod deletion;
+pub mod editing;
+pub mod undeletable;
+
 ghost use Rattle.std.specs.Prelude.{◌≡◌, ◌≢◌, [], Ok, map as each, is_some, IfOk, IfErr, IfSome, IsErrOf, OnOk, OnErr, option_and_then};
 ghost use Rattle.std.specs.Bool.{OnTrue};
 ghost use Rattle.std.specs.BTreeSet.{insert_key};
@@ -14,14 +18,14 @@ ghost use Rattle.fetch_remote.specs.Deleting as spec;
 ghost use Rattle.fetch_remote.specs.DeletionSteps as steps;
 ghost use Rattle.fetch_remote.specs.Repositories.{state_of, setup_of, in_force};
 ghost use Rattle.fetch_remote.specs.declared.delete.Error.TheVariants as errors;
-ghost use Rattle.fetch_remote.specs.declared.open_error.OpenError.TheVariants as causes;
+ghost use Rattle.fetch_remote.specs.declared.repository.open_error.OpenError.TheVariants as causes;
 
 use crate::delete::{CleanupError, Error};
-use crate::open_error::OpenError;
-use crate::paths::in_directory;
-use crate::reload::file_of;
+use crate::deleting::undeletable::{check_local, check_unheld};
+use crate::repository::open_error::OpenError;
+use crate::repository::paths::in_directory;
+use crate::repository::reload::file_of;
 use crate::repository::{Repository, Resolved};
-use crate::undeletable::{check_local, check_unheld};
 use fetch_config::{File, Meta, Origin};
 use fetch_lookup::{Names, has_branch_sections, without_branch_sections};
 use fetch_refs::{Change, PackedRefs, PreviousValue, RefEdit, RefLog};

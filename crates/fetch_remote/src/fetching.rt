@@ -1,5 +1,16 @@
 //! The whole fetch.
 
+pub mod connection;
+pub mod fetch_error;
+pub mod judging;
+pub mod keep;
+pub mod options;
+pub mod outcome;
+pub mod prepared;
+pub mod preparing;
+pub mod settling;
+pub mod talking;
+
 ghost use Rattle.std.specs.Prelude.{◌≡◌, ℕ, true, false, List, Some, None, IfOk, IfErr, OnOk, IsErrOf};
 ghost use Rattle.fetch_store.specs.Faults.{Rose, Counts};
 ghost use Rattle.fetch_store.specs.FileCalls.{IsRefused as IsBlocked};
@@ -15,15 +26,15 @@ ghost use Rattle.fetch_remote.specs.Keeping.{made_in, with_keep};
 ghost use Rattle.fetch_remote.specs.Refused.{IsRefused, is_early};
 ghost use Rattle.fetch_remote.specs.Repositories.{state_of, setup_of};
 ghost use Rattle.fetch_remote.specs.Valid.{HasValidInput};
-ghost use Rattle.fetch_remote.specs.declared.fetch_error.FetchError.TheVariants as errors;
+ghost use Rattle.fetch_remote.specs.declared.fetching.fetch_error.FetchError.TheVariants as errors;
 
-use crate::fetch_error::FetchError;
-use crate::options::FetchOptions;
-use crate::outcome::Outcome;
+use crate::fetching::fetch_error::FetchError;
+use crate::fetching::options::FetchOptions;
+use crate::fetching::outcome::Outcome;
+use crate::fetching::settling::{Manner, settle};
+use crate::fetching::talking::talk;
 use crate::remote::Remote;
 use crate::repository::Repository;
-use crate::settling::{Manner, settle};
-use crate::talking::talk;
 use fetch_refs::PackedRefs;
 use fetch_specs::Tags;
 use fetch_store::{Files, NoMemory, Text};

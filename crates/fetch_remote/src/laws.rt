@@ -16,9 +16,9 @@ ghost use Rattle.fetch_update.specs.declared.mode.Mode.TheVariants as modes;
 ghost use Rattle.fetch_update.specs.declared.update.Update.{Update};
 ghost use Rattle.fetch_update.specs.declared.worktrees.Worktree.{Worktree};
 ghost use Rattle.fetch_wire.specs.Talks.{Talk};
-ghost use Rattle.fetch_wire.specs.declared.handshake.Capability.{Capability};
-ghost use Rattle.fetch_wire.specs.declared.mapping.RefMap.{RefMap};
-ghost use Rattle.fetch_wire.specs.declared.reference.Ref.{Ref};
+ghost use Rattle.fetch_wire.specs.declared.greetings.handshake.Capability.{Capability};
+ghost use Rattle.fetch_wire.specs.declared.listings.mapping.RefMap.{RefMap};
+ghost use Rattle.fetch_wire.specs.declared.listings.reference.Ref.{Ref};
 ghost use Rattle.fetch_conversation.specs.Writing.{Answer, listing_text, answers_text};
 ghost use Rattle.fetch_conversation.specs.declared.conversing.Received.{Received};
 ghost use Rattle.fetch_remote.specs.Deleting.{IsDeleted};
@@ -33,7 +33,7 @@ ghost use Rattle.fetch_remote.specs.Serving.{listed_by, IsAllStored, IsServed, t
 ghost use Rattle.fetch_remote.specs.Settling.{connected, pack_of};
 ghost use Rattle.fetch_remote.specs.Stages.{wants_in};
 ghost use Rattle.fetch_remote.specs.Valid.{IsTakeable, AreJudgeable, policy_with, IsValidInput};
-ghost use Rattle.fetch_remote.specs.declared.outcome.Outcome.{Outcome};
+ghost use Rattle.fetch_remote.specs.declared.fetching.outcome.Outcome.{Outcome};
 
 /// What a peer is sent is the first line, the listing request, and then the fetch requests for what is wanted of what it
 /// listed, one a round, each exactly where nothing refuses it; and nothing else.

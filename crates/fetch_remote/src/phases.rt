@@ -14,13 +14,13 @@ ghost use Rattle.fetch_conversation.specs.declared.prepare.Error.TheVariants as 
 ghost use Rattle.fetch_conversation.specs.declared.ref_map.Error.TheVariants as ref_map_errors;
 ghost use Rattle.fetch_remote.specs.Stages.{inquiry_of};
 
-use crate::direction::Direction;
+pub use crate::fetching::judging::judge;
+pub use crate::fetching::keep::{Kept, keep, make_keep, remove_keep};
 pub use crate::fetching::manner;
-pub use crate::judging::judge;
-pub use crate::keep::{Kept, keep, make_keep, remove_keep};
+pub use crate::fetching::settling::{Manner, Taken, status};
 use crate::ref_map::Options;
 use crate::remote::Remote;
-pub use crate::settling::{Manner, Taken, status};
+use crate::remotes::direction::Direction;
 use crate::{fetch, prepare};
 use fetch_conversation::{Inquiry, Terms, agent};
 pub use fetch_conversation::{Listed, NoProgress, Progress, Received, Settings, View};

@@ -6,7 +6,7 @@ ghost use Rattle.std.specs.Prelude.{◌≡◌, IfOk, option_map, slice_get};
 ghost use Rattle.std.specs.Option.{option_copied};
 ghost use Rattle.fetch_remote.specs.Remotes.{address_of, nameless, specs_for, urls_for, value_of};
 
-use crate::direction::Direction;
+use crate::remotes::direction::Direction;
 use fetch_lookup::{Name, RemoteParts};
 use fetch_specs::{RefSpec, Tags};
 use fetch_store::{List, NoMemory, Text};

@@ -1,20 +1,26 @@
 //! Repositories.
 
 mod hash;
+pub mod open_error;
+pub mod paths;
+pub mod reload;
+pub mod settings;
+pub mod thread_safe;
+pub mod threads;
 
 ghost use Rattle.std.specs.Prelude.{◌≡◌, ◌↔◌, IfOk, IfErr, IfSome, OnOk, OnErr, MatchOption, IsOkUnless, IsTrue, IsNone, Some, None, true, not, option_map};
 ghost use Rattle.std.specs.FinSet as set;
 ghost use Rattle.fetch_store.specs.Stores.{AreOf, collision};
-ghost use Rattle.fetch_remote.specs.declared.open_error.OpenError.TheVariants as errors;
+ghost use Rattle.fetch_remote.specs.declared.repository.open_error.OpenError.TheVariants as errors;
 ghost use Rattle.fetch_remote.specs.Paths.{shallow_file_of};
 ghost use Rattle.fetch_remote.specs.Repositories as spec;
 ghost use Rattle.fetch_remote.specs.Repositories.{state_of, setup_of};
 ghost use Rattle.fetch_remote.specs.RepositoryValues.{are_overrides};
 
-use crate::open_error::OpenError;
-use crate::paths;
-use crate::resolving::resolved;
-use crate::settings::Settings;
+use crate::remotes::resolving::resolved;
+use crate::repository::open_error::OpenError;
+use crate::repository::paths;
+use crate::repository::settings::Settings;
 use fetch_config::{File, Meta};
 use fetch_refs::{Refs, Signature};
 use fetch_store::{

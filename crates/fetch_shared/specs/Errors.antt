@@ -3,8 +3,8 @@ use Rattle.std.specs.Prelude.{Bool, false}
 use Rattle.fetch_remote.specs.Errors as remote
 use Rattle.fetch_remote.specs.declared.delete.Error.{Error as DeleteError}
 use Rattle.fetch_remote.specs.declared.delete.Error.TheVariants as delete
-use Rattle.fetch_remote.specs.declared.fetch_error.FetchError.{FetchError}
-use Rattle.fetch_remote.specs.declared.fetch_error.FetchError.TheVariants as fetch
+use Rattle.fetch_remote.specs.declared.fetching.fetch_error.FetchError.{FetchError}
+use Rattle.fetch_remote.specs.declared.fetching.fetch_error.FetchError.TheVariants as fetch
 use Rattle.fetch_shared.specs.declared.error.SharedError.{SharedError}
 use Rattle.fetch_shared.specs.declared.error.SharedError.TheVariants as errors
 

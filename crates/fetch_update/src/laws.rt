@@ -9,7 +9,7 @@ ghost use Rattle.fetch_specs.specs.Specs.{Spec};
 ghost use Rattle.fetch_refs.specs.Expectations.{refusal_of};
 ghost use Rattle.fetch_refs.specs.declared.edit.RefEdit.{RefEdit};
 ghost use Rattle.fetch_refs.specs.declared.target.Target.TheVariants.{Object};
-ghost use Rattle.fetch_wire.specs.declared.mapping.Mapping.{Mapping};
+ghost use Rattle.fetch_wire.specs.declared.listings.mapping.Mapping.{Mapping};
 ghost use Rattle.fetch_update.specs.Accepted.{AcceptsExactly, GuessesExactly, RejectsExactly, HasOneEach, EditsCarryOut};
 ghost use Rattle.fetch_update.specs.Accepting.{is_accepting, Accepts, HasDryRow, IsTaken, Tells};
 ghost use Rattle.fetch_update.specs.Ahead.{is_ahead};

@@ -1,15 +1,15 @@
 -- A session takes bytes, and reads on.
 use Rattle.std.proofs.Common.{◌≡◌, ℕ, Bool, true, false, List, [], ◌++◌, Option, Some, None, Result, Ok, Err, refl, sym, ap, ◌∙◌, subst}
-use Rattle.fetch_wire.specs.declared.awaited.AskedReply.{AskedReply}
-use Rattle.fetch_wire.specs.declared.awaited.Await.TheVariants as awaits
-use Rattle.fetch_wire.specs.declared.awaited.Fault.{Fault}
-use Rattle.fetch_wire.specs.declared.awaited.Fault.TheVariants as faults
-use Rattle.fetch_wire.specs.declared.awaited.Told.{Told}
-use Rattle.fetch_wire.specs.declared.awaited.Told.TheVariants as told
+use Rattle.fetch_wire.specs.declared.replies.awaited.AskedReply.{AskedReply}
+use Rattle.fetch_wire.specs.declared.replies.awaited.Await.TheVariants as awaits
+use Rattle.fetch_wire.specs.declared.replies.awaited.Fault.{Fault}
+use Rattle.fetch_wire.specs.declared.replies.awaited.Fault.TheVariants as faults
+use Rattle.fetch_wire.specs.declared.replies.awaited.Told.{Told}
+use Rattle.fetch_wire.specs.declared.replies.awaited.Told.TheVariants as told
 use Rattle.fetch_wire.specs.declared.error.WireError.{WireError}
-use Rattle.fetch_wire.specs.declared.handshake.Handshake.{Handshake}
-use Rattle.fetch_wire.specs.declared.intake.Found.{Found}
-use Rattle.fetch_wire.specs.declared.records.Request.{Request}
+use Rattle.fetch_wire.specs.declared.greetings.handshake.Handshake.{Handshake}
+use Rattle.fetch_wire.specs.declared.session.intake.Found.{Found}
+use Rattle.fetch_wire.specs.declared.requests.records.Request.{Request}
 use Rattle.fetch_wire.specs.Greetings.{offers}
 use Rattle.fetch_wire.specs.Intakes.{Intake, told_with, awaiting, taking, Finds, ReadsOn}
 use Rattle.fetch_wire.specs.RequestLines.{request_lines}

@@ -1,11 +1,11 @@
 -- A reply is read on line by line, while its bytes come in pieces.
 use Rattle.std.proofs.Common.{◌≡◌, ℕ, true, ◌≤◌, ◌<◌, List, [], ◌++◌, length, Some, None, Result, Ok, Err, refl, sym, ap, ◌∙◌, arith}
 use Rattle.std.proofs.lemmas.List.{append-nil}
-use Rattle.fetch_wire.specs.declared.awaited.Fault.TheVariants as faults
-use Rattle.fetch_wire.specs.declared.line.Line.{Line}
-use Rattle.fetch_wire.specs.declared.reading.Reading.{Reading}
-use Rattle.fetch_wire.specs.declared.section.Trouble.{Trouble}
-use Rattle.fetch_wire.specs.declared.section.Trouble.TheVariants.{Short, Broken, TooLong}
+use Rattle.fetch_wire.specs.declared.replies.awaited.Fault.TheVariants as faults
+use Rattle.fetch_wire.specs.declared.lines.line.Line.{Line}
+use Rattle.fetch_wire.specs.declared.replies.reading.Reading.{Reading}
+use Rattle.fetch_wire.specs.declared.lines.section.Trouble.{Trouble}
+use Rattle.fetch_wire.specs.declared.lines.section.Trouble.TheVariants.{Short, Broken, TooLong}
 use Rattle.fetch_wire.specs.Awaited.{step_of, told_from}
 use Rattle.fetch_wire.specs.Progressing.{told_of, is_lasting}
 use Rattle.fetch_wire.specs.Feeding.{Feeding, found_in, need_in, next_in, left_by, behind_next}
@@ -14,7 +14,7 @@ use Rattle.fetch_wire.specs.SectionLaws.{line_at-more}
 use Rattle.fetch_wire.specs.StepLaws.{read_by-step, line_then}
 use Rattle.fetch_wire.specs.LineLaws.{line_at-len, line_at-short, least}
 use Rattle.fetch_wire.specs.Stepping.{goes, ends, breaks, says, after_line, after_step, fault_of, read_within}
-use Rattle.fetch_wire.specs.declared.awaited.Told.{Told}
+use Rattle.fetch_wire.specs.declared.replies.awaited.Told.{Told}
 
 -- what bytes tell is what their first line does
 by_line : (f : Feeding) (reading : Reading) (more : List ℕ) (found : Result (Line × List ℕ) Trouble) → line_at f.bound f.place (f.pending ++ more) ≡ found

@@ -16,7 +16,7 @@ use Rattle.fetch_store.specs.declared.id.Kind.TheVariants.{Sha256}
 use Rattle.fetch_store.specs.declared.id.ObjectId.{ObjectId}
 use Rattle.fetch_store.proofs.Ids.{id_cmp_total}
 use Rattle.fetch_store.proofs.Orders.{cmp_is}
-use Rattle.fetch_wire.specs.declared.reference.Ref.{Ref}
+use Rattle.fetch_wire.specs.declared.listings.reference.Ref.{Ref}
 use Rattle.fetch_wire.specs.Listings.{HasDigests, is_listed}
 use Rattle.fetch_wire.specs.References.{name_in}
 

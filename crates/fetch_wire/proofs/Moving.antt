@@ -3,13 +3,13 @@ use Rattle.std.proofs.Common.{◌≡◌, ◌≢◌, ℕ, ◌+◌, ◌-◌, ◌�
 use Rattle.std.specs.Option.{option_or}
 use Rattle.std.proofs.lemmas.List.{get_or_at, take_at}
 use Rattle.std.proofs.lemmas.List.Sums.{sum_by-cons}
-use Rattle.fetch_wire.specs.declared.awaited.Await.{Await}
-use Rattle.fetch_wire.specs.declared.awaited.Told.{Told}
-use Rattle.fetch_wire.specs.declared.line.Line.{Line}
-use Rattle.fetch_wire.specs.declared.line.Line.TheVariants.{End}
-use Rattle.fetch_wire.specs.declared.reading.Part.TheVariants as parts
-use Rattle.fetch_wire.specs.declared.reading.Reading.{Reading}
-use Rattle.fetch_wire.specs.declared.reading.Reading.TheVariants as reading
+use Rattle.fetch_wire.specs.declared.replies.awaited.Await.{Await}
+use Rattle.fetch_wire.specs.declared.replies.awaited.Told.{Told}
+use Rattle.fetch_wire.specs.declared.lines.line.Line.{Line}
+use Rattle.fetch_wire.specs.declared.lines.line.Line.TheVariants.{End}
+use Rattle.fetch_wire.specs.declared.replies.reading.Part.TheVariants as parts
+use Rattle.fetch_wire.specs.declared.replies.reading.Reading.{Reading}
+use Rattle.fetch_wire.specs.declared.replies.reading.Reading.TheVariants as reading
 use Rattle.fetch_wire.specs.Awaited.{step_of, start_of, told_at}
 use Rattle.fetch_wire.specs.LineLaws.{IsLine}
 use Rattle.fetch_wire.specs.Lines.{line_len}

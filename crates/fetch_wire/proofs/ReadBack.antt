@@ -5,11 +5,11 @@ use Rattle.std.proofs.lemmas.Bool.Decides.{nat_tests}
 use Rattle.std.specs.List.{list_all}
 use Rattle.std.proofs.lemmas.List.Sums.{sum_by-cons}
 use Rattle.hex.specs.Hex.{is_hex_digit}
-use Rattle.fetch_wire.specs.declared.section.Trouble.{Trouble}
-use Rattle.fetch_wire.specs.declared.section.Trouble.TheVariants as lines
-use Rattle.fetch_wire.specs.declared.awaited.Fault.{Fault}
-use Rattle.fetch_wire.specs.declared.awaited.Fault.TheVariants.{TooLong}
-use Rattle.fetch_wire.specs.declared.line.Line.{Line}
+use Rattle.fetch_wire.specs.declared.lines.section.Trouble.{Trouble}
+use Rattle.fetch_wire.specs.declared.lines.section.Trouble.TheVariants as lines
+use Rattle.fetch_wire.specs.declared.replies.awaited.Fault.{Fault}
+use Rattle.fetch_wire.specs.declared.replies.awaited.Fault.TheVariants.{TooLong}
+use Rattle.fetch_wire.specs.declared.lines.line.Line.{Line}
 use Rattle.fetch_wire.specs.Bounds.{Moves, PassesBound, IsTooLong}
 use Rattle.fetch_wire.specs.Lines.{is_no_line, line_counted, announced, number_in, line_at, line_len}
 use Rattle.fetch_wire.specs.LineLaws.{IsLine, line_at-is}

@@ -11,17 +11,17 @@ use Rattle.fetch_store.specs.Lines.{IsWithout}
 use Rattle.fetch_store.specs.Scan.{split_first}
 use Rattle.fetch_store.specs.declared.id.ObjectId.{ObjectId}
 use Rattle.fetch_store.proofs.LineLaws.{splits}
-use Rattle.fetch_wire.specs.declared.awaited.Told.{Told}
-use Rattle.fetch_wire.specs.declared.awaited.Told.TheVariants as tolds
-use Rattle.fetch_wire.specs.declared.handshake.Capability.{Capability}
-use Rattle.fetch_wire.specs.declared.handshake.Handshake.{Handshake}
-use Rattle.fetch_wire.specs.declared.line.Line.{Line}
-use Rattle.fetch_wire.specs.declared.line.Line.TheVariants.{Payload, Flush, Delim, End}
-use Rattle.fetch_wire.specs.declared.reading.Advertised.{Advertised}
-use Rattle.fetch_wire.specs.declared.reading.Advertised.TheVariants as nexts
-use Rattle.fetch_wire.specs.declared.reading.Reading.{Reading}
-use Rattle.fetch_wire.specs.declared.reading.Reading.TheVariants as reading
-use Rattle.fetch_wire.specs.declared.reference.Ref.{Ref}
+use Rattle.fetch_wire.specs.declared.replies.awaited.Told.{Told}
+use Rattle.fetch_wire.specs.declared.replies.awaited.Told.TheVariants as tolds
+use Rattle.fetch_wire.specs.declared.greetings.handshake.Capability.{Capability}
+use Rattle.fetch_wire.specs.declared.greetings.handshake.Handshake.{Handshake}
+use Rattle.fetch_wire.specs.declared.lines.line.Line.{Line}
+use Rattle.fetch_wire.specs.declared.lines.line.Line.TheVariants.{Payload, Flush, Delim, End}
+use Rattle.fetch_wire.specs.declared.replies.reading.Advertised.{Advertised}
+use Rattle.fetch_wire.specs.declared.replies.reading.Advertised.TheVariants as nexts
+use Rattle.fetch_wire.specs.declared.replies.reading.Reading.{Reading}
+use Rattle.fetch_wire.specs.declared.replies.reading.Reading.TheVariants as reading
+use Rattle.fetch_wire.specs.declared.listings.reference.Ref.{Ref}
 use Rattle.fetch_wire.specs.Advertisements.{is_version_1, with_words, handshake_1, id_and_name, before_peel, is_no_name, is_null, advertised, with_peel, at_name, at_reference, at_advertised, first_named, at_first}
 use Rattle.fetch_wire.specs.Awaited.{step_of, at_capability, at_greeting}
 use Rattle.fetch_wire.specs.FetchReplies.{shallow_in}

@@ -14,13 +14,13 @@ use Rattle.fetch_store.specs.declared.id.ObjectId.{ObjectId}
 use Rattle.fetch_store.proofs.LineLaws.{splits}
 use Rattle.fetch_store.proofs.CommitTexts.{parts_without}
 use Rattle.fetch_store.proofs.TagTexts.{after_is}
-use Rattle.fetch_wire.specs.declared.awaited.Told.{Told}
-use Rattle.fetch_wire.specs.declared.awaited.Told.TheVariants as tolds
-use Rattle.fetch_wire.specs.declared.line.Line.{Line}
-use Rattle.fetch_wire.specs.declared.reading.Reading.{Reading}
-use Rattle.fetch_wire.specs.declared.reading.Reading.TheVariants as reading
-use Rattle.fetch_wire.specs.declared.reference.Ref.{Ref}
-use Rattle.fetch_wire.specs.declared.reference.Ref.TheVariants.{Direct, Symbolic, Peeled, Unborn}
+use Rattle.fetch_wire.specs.declared.replies.awaited.Told.{Told}
+use Rattle.fetch_wire.specs.declared.replies.awaited.Told.TheVariants as tolds
+use Rattle.fetch_wire.specs.declared.lines.line.Line.{Line}
+use Rattle.fetch_wire.specs.declared.replies.reading.Reading.{Reading}
+use Rattle.fetch_wire.specs.declared.replies.reading.Reading.TheVariants as reading
+use Rattle.fetch_wire.specs.declared.listings.reference.Ref.{Ref}
+use Rattle.fetch_wire.specs.declared.listings.reference.Ref.TheVariants.{Direct, Symbolic, Peeled, Unborn}
 use Rattle.fetch_wire.specs.Awaited.{step_of, at_listed}
 use Rattle.fetch_wire.specs.LinesTold.{Tells}
 use Rattle.fetch_wire.specs.Listings.{Attributes, no_attributes, with_target, with_peeled, told_by, with_attribute, with_attributes, ref_with, id_or_unborn, named_by, ref_in, is_listed, if_new}

@@ -1,9 +1,9 @@
 -- What holds while a text is read line by line, and of what it tells.
 use Rattle.std.proofs.Common.{ℕ, zero, suc, ◌+◌, List, Result, Ok, Err}
 use Rattle.std.specs.Prelude.{⊤}
-use Rattle.fetch_wire.specs.declared.awaited.Fault.{Fault}
-use Rattle.fetch_wire.specs.declared.line.Line.{Line}
-use Rattle.fetch_wire.specs.declared.section.Trouble.{Trouble}
+use Rattle.fetch_wire.specs.declared.replies.awaited.Fault.{Fault}
+use Rattle.fetch_wire.specs.declared.lines.line.Line.{Line}
+use Rattle.fetch_wire.specs.declared.lines.section.Trouble.{Trouble}
 use Rattle.fetch_wire.specs.Lines.{line_at, line_len}
 use Rattle.fetch_wire.specs.Stepping.{Step, goes, ends, breaks, says, after_step, after_line, read_within}
 

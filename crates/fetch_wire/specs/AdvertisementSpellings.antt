@@ -3,9 +3,9 @@ use Rattle.std.specs.Prelude.{◌≡◌, ◌≢◌, ◌⊎◌, ℕ, true, ⊤, L
 use Rattle.fetch_store.specs.Lines.{IsWithout}
 use Rattle.fetch_store.specs.declared.id.Kind.{Kind}
 use Rattle.fetch_store.specs.declared.id.ObjectId.{ObjectId}
-use Rattle.fetch_wire.specs.declared.handshake.Handshake.{Handshake}
-use Rattle.fetch_wire.specs.declared.line.Line.{Line}
-use Rattle.fetch_wire.specs.declared.reference.Ref.{Ref}
+use Rattle.fetch_wire.specs.declared.greetings.handshake.Handshake.{Handshake}
+use Rattle.fetch_wire.specs.declared.lines.line.Line.{Line}
+use Rattle.fetch_wire.specs.declared.listings.reference.Ref.{Ref}
 use Rattle.fetch_wire.specs.AdvertisementLines.{joined}
 use Rattle.fetch_wire.specs.Advertisements.{handshake_1, before_peel, is_null, target_among}
 use Rattle.fetch_wire.specs.NamesTold.{AreNamedOnce}

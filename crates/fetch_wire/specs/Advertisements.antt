@@ -8,16 +8,16 @@ use Rattle.fetch_store.specs.Id.{bytes_of, id_in_hex}
 use Rattle.fetch_store.specs.declared.id.Kind.{Kind}
 use Rattle.fetch_store.specs.declared.id.Kind.TheVariants.{Sha1}
 use Rattle.fetch_store.specs.declared.id.ObjectId.{ObjectId}
-use Rattle.fetch_wire.specs.declared.awaited.Told.{Told}
-use Rattle.fetch_wire.specs.declared.handshake.Capability.{Capability}
-use Rattle.fetch_wire.specs.declared.handshake.Handshake.{Handshake}
-use Rattle.fetch_wire.specs.declared.handshake.Version.TheVariants.{V1}
-use Rattle.fetch_wire.specs.declared.reading.Advertised.{Advertised}
-use Rattle.fetch_wire.specs.declared.reading.Advertised.TheVariants as next
-use Rattle.fetch_wire.specs.declared.reading.Reading.{Reading}
-use Rattle.fetch_wire.specs.declared.reading.Reading.TheVariants as reading
-use Rattle.fetch_wire.specs.declared.reference.Ref.{Ref}
-use Rattle.fetch_wire.specs.declared.reference.Ref.TheVariants.{Direct, Symbolic, Peeled, Unborn}
+use Rattle.fetch_wire.specs.declared.replies.awaited.Told.{Told}
+use Rattle.fetch_wire.specs.declared.greetings.handshake.Capability.{Capability}
+use Rattle.fetch_wire.specs.declared.greetings.handshake.Handshake.{Handshake}
+use Rattle.fetch_wire.specs.declared.greetings.handshake.Version.TheVariants.{V1}
+use Rattle.fetch_wire.specs.declared.replies.reading.Advertised.{Advertised}
+use Rattle.fetch_wire.specs.declared.replies.reading.Advertised.TheVariants as next
+use Rattle.fetch_wire.specs.declared.replies.reading.Reading.{Reading}
+use Rattle.fetch_wire.specs.declared.replies.reading.Reading.TheVariants as reading
+use Rattle.fetch_wire.specs.declared.listings.reference.Ref.{Ref}
+use Rattle.fetch_wire.specs.declared.listings.reference.Ref.TheVariants.{Direct, Symbolic, Peeled, Unborn}
 use Rattle.fetch_wire.specs.Greetings.{if_known, capability_in, hash_after}
 use Rattle.fetch_wire.specs.Listings.{is_listed, ref_with}
 use Rattle.fetch_wire.specs.References.{name_in}

@@ -1,6 +1,6 @@
 -- Lines that a reply begins with, and a line whose digits announce more bytes than the reply may have.
 use Rattle.std.specs.Prelude.{◌≡◌, ◌≢◌, ℕ, ◌+◌, ◌<◌, ◌≤◌, max, List, [], ◌∷◌, ◌++◌, length, Some, sum_by}
-use Rattle.fetch_wire.specs.declared.line.Line.{Line}
+use Rattle.fetch_wire.specs.declared.lines.line.Line.{Line}
 use Rattle.fetch_wire.specs.Lines.{number_in, line_len}
 use Rattle.fetch_wire.specs.LinesTold.{Writes}
 use Rattle.fetch_wire.specs.Stepping.{Step, goes}

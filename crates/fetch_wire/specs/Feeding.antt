@@ -2,11 +2,11 @@
 use Rattle.std.specs.Prelude.{ℕ, ◌+◌, List, ◌++◌, Option, Some, None, Result, Ok, Err}
 use Rattle.fetch_wire.specs.declared.error.WireError.{WireError}
 use Rattle.fetch_wire.specs.declared.error.WireError.TheVariants as errors
-use Rattle.fetch_wire.specs.declared.line.Line.{Line}
-use Rattle.fetch_wire.specs.declared.reader.Need.{Need}
-use Rattle.fetch_wire.specs.declared.reader.Need.TheVariants as needs
-use Rattle.fetch_wire.specs.declared.section.Trouble.{Trouble}
-use Rattle.fetch_wire.specs.declared.section.Trouble.TheVariants.{Short, Broken, TooLong}
+use Rattle.fetch_wire.specs.declared.lines.line.Line.{Line}
+use Rattle.fetch_wire.specs.declared.lines.reader.Need.{Need}
+use Rattle.fetch_wire.specs.declared.lines.reader.Need.TheVariants as needs
+use Rattle.fetch_wire.specs.declared.lines.section.Trouble.{Trouble}
+use Rattle.fetch_wire.specs.declared.lines.section.Trouble.TheVariants.{Short, Broken, TooLong}
 use Rattle.fetch_wire.specs.LineViews.{line_of}
 use Rattle.fetch_wire.specs.Lines.{line_at, line_len}
 

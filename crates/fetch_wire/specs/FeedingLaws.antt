@@ -1,8 +1,8 @@
 -- Lines are the same however their bytes are cut.
 use Rattle.std.specs.Prelude.{◌≡◌, ℕ, List, Result, Ok, Err, refl}
-use Rattle.fetch_wire.specs.declared.line.Line.{Line}
-use Rattle.fetch_wire.specs.declared.section.Trouble.{Trouble}
-use Rattle.fetch_wire.specs.declared.section.Trouble.TheVariants.{Short, Broken, TooLong}
+use Rattle.fetch_wire.specs.declared.lines.line.Line.{Line}
+use Rattle.fetch_wire.specs.declared.lines.section.Trouble.{Trouble}
+use Rattle.fetch_wire.specs.declared.lines.section.Trouble.TheVariants.{Short, Broken, TooLong}
 use Rattle.fetch_wire.specs.SectionLaws.{IsSettled, with_more, line_at-more}
 use Rattle.fetch_wire.specs.Feeding.{Feeding, fed, need_in, left_by, found_in, next_in, behind_next}
 

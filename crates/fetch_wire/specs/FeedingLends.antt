@@ -3,8 +3,8 @@ use Rattle.std.specs.Prelude.{◌≡◌, ⊤}
 use Rattle.std.specs.Borrow.{MutBor, Fml, follows_so}
 use mathlib.Core.Option.{none}
 use Rattle.fetch_wire.specs.Feeding.{behind_next}
-use Rattle.fetch_wire.specs.declared.reader.LineReader.{LineReader}
-use Rattle.fetch_wire.specs.contracts.reader.LineReader.{the_row}
+use Rattle.fetch_wire.specs.declared.lines.reader.LineReader.{LineReader}
+use Rattle.fetch_wire.specs.contracts.lines.reader.LineReader.{the_row}
 
 -- the line was read, and what was refused stays
 abbrev pub RestsBehind : MutBor LineReader → Fml

@@ -6,9 +6,9 @@ use Rattle.std.specs.Str.{bytes_eq}
 use Rattle.fetch_store.specs.Scan.{split_first}
 use Rattle.fetch_store.specs.declared.id.Kind.{Kind}
 use Rattle.fetch_store.specs.declared.id.Kind.TheVariants.{Sha1, Sha256}
-use Rattle.fetch_wire.specs.declared.handshake.Capability.{Capability}
-use Rattle.fetch_wire.specs.declared.handshake.Handshake.{Handshake}
-use Rattle.fetch_wire.specs.declared.handshake.Version.TheVariants.{V2}
+use Rattle.fetch_wire.specs.declared.greetings.handshake.Capability.{Capability}
+use Rattle.fetch_wire.specs.declared.greetings.handshake.Handshake.{Handshake}
+use Rattle.fetch_wire.specs.declared.greetings.handshake.Version.TheVariants.{V2}
 use Rattle.fetch_wire.specs.Words.{words}
 
 -- a capability, whose key isn't empty

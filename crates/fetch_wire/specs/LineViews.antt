@@ -1,8 +1,8 @@
 -- A line whose payload is lent, and one that owns it, are the same to contracts.
-use Rattle.fetch_wire.specs.declared.line.Line.{Line}
-use Rattle.fetch_wire.specs.declared.line.Line.TheVariants.{Payload, Flush, Delim, End}
-use Rattle.fetch_wire.specs.declared.line.LineRef.{LineRef}
-use Rattle.fetch_wire.specs.declared.line.LineRef.TheVariants as lent
+use Rattle.fetch_wire.specs.declared.lines.line.Line.{Line}
+use Rattle.fetch_wire.specs.declared.lines.line.Line.TheVariants.{Payload, Flush, Delim, End}
+use Rattle.fetch_wire.specs.declared.lines.line.LineRef.{LineRef}
+use Rattle.fetch_wire.specs.declared.lines.line.LineRef.TheVariants as lent
 
 -- the line that a lent one is
 abbrev pub line_of : LineRef → Line

@@ -4,10 +4,10 @@ use Rattle.std.specs.List.{list_all}
 use Rattle.std.specs.Option.{option_map}
 use Rattle.std.specs.Result.{result_ok}
 use Rattle.hex.specs.Hex.{decode_sized, is_hex_digit}
-use Rattle.fetch_wire.specs.declared.section.Trouble.{Trouble}
-use Rattle.fetch_wire.specs.declared.section.Trouble.TheVariants.{Short, Broken, TooLong}
-use Rattle.fetch_wire.specs.declared.line.Line.{Line}
-use Rattle.fetch_wire.specs.declared.line.Line.TheVariants.{Payload, Flush, Delim, End}
+use Rattle.fetch_wire.specs.declared.lines.section.Trouble.{Trouble}
+use Rattle.fetch_wire.specs.declared.lines.section.Trouble.TheVariants.{Short, Broken, TooLong}
+use Rattle.fetch_wire.specs.declared.lines.line.Line.{Line}
+use Rattle.fetch_wire.specs.declared.lines.line.Line.TheVariants.{Payload, Flush, Delim, End}
 
 infixl 10 ◌>>=◌
 abbrev pub ◌>>=◌ : {A B E : Type 0} → Result A E → (A → Result B E) → Result B E

@@ -11,8 +11,8 @@ use Rattle.fetch_store.specs.Stores.{id_cmp}
 use Rattle.fetch_store.specs.declared.id.Kind.{Kind}
 use Rattle.fetch_store.specs.declared.id.Kind.TheVariants.{Sha256}
 use Rattle.fetch_store.specs.declared.id.ObjectId.{ObjectId}
-use Rattle.fetch_wire.specs.declared.reference.Ref.{Ref}
-use Rattle.fetch_wire.specs.declared.reference.Ref.TheVariants.{Direct, Symbolic, Peeled, Unborn}
+use Rattle.fetch_wire.specs.declared.listings.reference.Ref.{Ref}
+use Rattle.fetch_wire.specs.declared.listings.reference.Ref.TheVariants.{Direct, Symbolic, Peeled, Unborn}
 use Rattle.fetch_wire.specs.References.{name_in}
 use Rattle.fetch_wire.specs.Words.{words}
 

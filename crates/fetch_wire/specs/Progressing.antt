@@ -1,11 +1,11 @@
 -- How far a reply was read of what was fed.
 use Rattle.std.specs.Prelude.{◌≡◌, ℕ, Bool, true, false, List, [], ◌++◌, Option, Some, None, Result, Ok, Err, ◌==◌}
-use Rattle.fetch_wire.specs.declared.awaited.Fault.{Fault}
-use Rattle.fetch_wire.specs.declared.awaited.Fault.TheVariants.{Short, Broken, TooLong, Said}
-use Rattle.fetch_wire.specs.declared.awaited.Told.{Told}
-use Rattle.fetch_wire.specs.declared.progress.Progress.{Progress}
-use Rattle.fetch_wire.specs.declared.progress.Progress.TheVariants.{On, Whole, Refused}
-use Rattle.fetch_wire.specs.declared.reading.Reading.{Reading}
+use Rattle.fetch_wire.specs.declared.replies.awaited.Fault.{Fault}
+use Rattle.fetch_wire.specs.declared.replies.awaited.Fault.TheVariants.{Short, Broken, TooLong, Said}
+use Rattle.fetch_wire.specs.declared.replies.awaited.Told.{Told}
+use Rattle.fetch_wire.specs.declared.replies.progress.Progress.{Progress}
+use Rattle.fetch_wire.specs.declared.replies.progress.Progress.TheVariants.{On, Whole, Refused}
+use Rattle.fetch_wire.specs.declared.replies.reading.Reading.{Reading}
 use Rattle.fetch_wire.specs.Awaited.{told_from}
 use Rattle.fetch_wire.specs.Feeding.{Feeding}
 

@@ -1,15 +1,15 @@
 -- What the code gives for a line, as a step.
 use Rattle.std.specs.Prelude.{List, ℕ}
-use Rattle.fetch_wire.specs.declared.awaited.AskedReply.{AskedReply}
-use Rattle.fetch_wire.specs.declared.awaited.Told.{Told}
-use Rattle.fetch_wire.specs.declared.reading.Part.{Part}
-use Rattle.fetch_wire.specs.declared.reading.Part.TheVariants.{Beginning, Acknowledgments, Ready, Rest, ShallowInfo, Packfile, Bands}
-use Rattle.fetch_wire.specs.declared.reading.Read.{Read}
-use Rattle.fetch_wire.specs.declared.reading.Read.TheVariants.{On, Whole, Broken, Said}
-use Rattle.fetch_wire.specs.declared.reading.Reading.{Reading}
-use Rattle.fetch_wire.specs.declared.saying.Saying.{Saying}
-use Rattle.fetch_wire.specs.declared.saying.Saying.TheVariants as saying
-use Rattle.fetch_wire.specs.declared.records.FetchReply.{FetchReply}
+use Rattle.fetch_wire.specs.declared.replies.awaited.AskedReply.{AskedReply}
+use Rattle.fetch_wire.specs.declared.replies.awaited.Told.{Told}
+use Rattle.fetch_wire.specs.declared.replies.reading.Part.{Part}
+use Rattle.fetch_wire.specs.declared.replies.reading.Part.TheVariants.{Beginning, Acknowledgments, Ready, Rest, ShallowInfo, Packfile, Bands}
+use Rattle.fetch_wire.specs.declared.replies.reading.Read.{Read}
+use Rattle.fetch_wire.specs.declared.replies.reading.Read.TheVariants.{On, Whole, Broken, Said}
+use Rattle.fetch_wire.specs.declared.replies.reading.Reading.{Reading}
+use Rattle.fetch_wire.specs.declared.replies.saying.Saying.{Saying}
+use Rattle.fetch_wire.specs.declared.replies.saying.Saying.TheVariants as saying
+use Rattle.fetch_wire.specs.declared.requests.records.FetchReply.{FetchReply}
 use Rattle.fetch_wire.specs.FetchReplies.{at_beginning, at_rest, at_packfile}
 use Rattle.fetch_wire.specs.Stepping.{Step, goes, ends, breaks, says}
 

@@ -2,10 +2,10 @@
 use Rattle.std.specs.Prelude.{ℕ, List, Option, Some, None}
 use Rattle.std.specs.Option.{option_or}
 use Rattle.fetch_store.specs.declared.id.ObjectId.{ObjectId}
-use Rattle.fetch_wire.specs.declared.reference.Ref.{Ref}
-use Rattle.fetch_wire.specs.declared.reference.Ref.TheVariants.{Direct, Symbolic, Peeled, Unborn}
-use Rattle.fetch_wire.specs.declared.reference.Source.{Source}
-use Rattle.fetch_wire.specs.declared.reference.Source.TheVariants as sources
+use Rattle.fetch_wire.specs.declared.listings.reference.Ref.{Ref}
+use Rattle.fetch_wire.specs.declared.listings.reference.Ref.TheVariants.{Direct, Symbolic, Peeled, Unborn}
+use Rattle.fetch_wire.specs.declared.listings.reference.Source.{Source}
+use Rattle.fetch_wire.specs.declared.listings.reference.Source.TheVariants as sources
 
 abbrev pub name_in : Ref → List ℕ
 name_in (Direct name object) = name

@@ -4,9 +4,9 @@ use Rattle.std.specs.Str.{bytes_eq}
 use Rattle.hex.specs.Hex.{encode_lower}
 use Rattle.fetch_store.specs.Id.{bytes_of}
 use Rattle.fetch_store.specs.declared.id.ObjectId.{ObjectId}
-use Rattle.fetch_wire.specs.declared.line.Line.{Line}
-use Rattle.fetch_wire.specs.declared.line.Line.TheVariants.{Flush, Delim}
-use Rattle.fetch_wire.specs.declared.records.Request.{Request}
+use Rattle.fetch_wire.specs.declared.lines.line.Line.{Line}
+use Rattle.fetch_wire.specs.declared.lines.line.Line.TheVariants.{Flush, Delim}
+use Rattle.fetch_wire.specs.declared.requests.records.Request.{Request}
 use Rattle.fetch_wire.specs.RequestWords.{plain_pack, plain_pack_2, have_word, done_word}
 use Rattle.fetch_wire.specs.Requests.{sent, when}
 

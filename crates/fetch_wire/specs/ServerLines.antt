@@ -6,11 +6,11 @@ use Rattle.fetch_store.specs.Id.{byte_len, bytes_of, kind_of}
 use Rattle.fetch_store.specs.Lines.{IsWithout}
 use Rattle.fetch_store.specs.declared.id.Kind.{Kind}
 use Rattle.fetch_store.specs.declared.id.ObjectId.{ObjectId}
-use Rattle.fetch_wire.specs.declared.handshake.Capability.{Capability}
-use Rattle.fetch_wire.specs.declared.line.Line.{Line}
-use Rattle.fetch_wire.specs.declared.line.Line.TheVariants.{Flush, Delim}
-use Rattle.fetch_wire.specs.declared.records.FetchReply.{FetchReply}
-use Rattle.fetch_wire.specs.declared.reference.Ref.{Ref}
+use Rattle.fetch_wire.specs.declared.greetings.handshake.Capability.{Capability}
+use Rattle.fetch_wire.specs.declared.lines.line.Line.{Line}
+use Rattle.fetch_wire.specs.declared.lines.line.Line.TheVariants.{Flush, Delim}
+use Rattle.fetch_wire.specs.declared.requests.records.FetchReply.{FetchReply}
+use Rattle.fetch_wire.specs.declared.listings.reference.Ref.{Ref}
 use Rattle.fetch_wire.specs.Bands.{Band, Piece, pack_lines, packed}
 use Rattle.fetch_wire.specs.Cutting.{in_pieces}
 use Rattle.fetch_wire.specs.FetchReplies.{no_reply}

@@ -1,10 +1,10 @@
 -- A text is read line by line: each line is a step from what was told before it.
 use Rattle.std.specs.Prelude.{ℕ, zero, suc, ◌+◌, List, length, Option, Some, None, Result, Ok, Err}
-use Rattle.fetch_wire.specs.declared.section.Trouble.{Trouble}
-use Rattle.fetch_wire.specs.declared.section.Trouble.TheVariants as lines
-use Rattle.fetch_wire.specs.declared.awaited.Fault.{Fault}
-use Rattle.fetch_wire.specs.declared.awaited.Fault.TheVariants.{Short, Broken, TooLong, Said}
-use Rattle.fetch_wire.specs.declared.line.Line.{Line}
+use Rattle.fetch_wire.specs.declared.lines.section.Trouble.{Trouble}
+use Rattle.fetch_wire.specs.declared.lines.section.Trouble.TheVariants as lines
+use Rattle.fetch_wire.specs.declared.replies.awaited.Fault.{Fault}
+use Rattle.fetch_wire.specs.declared.replies.awaited.Fault.TheVariants.{Short, Broken, TooLong, Said}
+use Rattle.fetch_wire.specs.declared.lines.line.Line.{Line}
 use Rattle.fetch_wire.specs.Lines.{line_at, line_len}
 
 -- What a line does to a reading in state S: it goes on, it ends with a T that was told, the line breaks the grammar,

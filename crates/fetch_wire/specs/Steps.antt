@@ -1,7 +1,7 @@
 -- What one line of a reply does.
 use Rattle.std.specs.Prelude.{ℕ, List, drop, if◌then◌else◌}
-use Rattle.fetch_wire.specs.declared.line.Line.{Line}
-use Rattle.fetch_wire.specs.declared.line.Line.TheVariants.{Payload, Flush, Delim, End}
+use Rattle.fetch_wire.specs.declared.lines.line.Line.{Line}
+use Rattle.fetch_wire.specs.declared.lines.line.Line.TheVariants.{Payload, Flush, Delim, End}
 use Rattle.fetch_wire.specs.Stepping.{Step, breaks, says}
 use Rattle.fetch_wire.specs.Texts.{without_lf, is_error}
 

@@ -6,8 +6,8 @@ use Rattle.std.proofs.Math.Seq.{take-append_seam, drop-append_seam}
 use Rattle.std.proofs.lemmas.Bool.Decides.{nat_tests}
 use Rattle.hex.specs.Hex.{IsBytes, encode_with}
 use Rattle.hex.proofs.HexLemmas.{decode_sized-encode_lower}
-use Rattle.fetch_wire.specs.declared.line.Line.{Line}
-use Rattle.fetch_wire.specs.declared.line.Line.TheVariants.{Payload, Flush, Delim, End}
+use Rattle.fetch_wire.specs.declared.lines.line.Line.{Line}
+use Rattle.fetch_wire.specs.declared.lines.line.Line.TheVariants.{Payload, Flush, Delim, End}
 use Rattle.fetch_wire.specs.Lines.{line_counted, announced, number_in, line_at, line_len}
 use Rattle.fetch_wire.specs.LineLaws.{IsLine}
 use Rattle.fetch_wire.specs.Written.{four_digits, count_of, payload_of, line_text, too_long_in}

@@ -5,9 +5,9 @@ use Rattle.fetch_wire.specs.RequestLines.{request_lines}
 use Rattle.fetch_wire.specs.SessionStates.{SessionState, IsAlike, requested, turn_of, refusal_of, if_told, is_all_sent, kind_of}
 use Rattle.fetch_wire.specs.Written.{first_too_long, TellsTooLong}
 use Rattle.fetch_wire.specs.declared.error.WireError.{WireError}
-use Rattle.fetch_wire.specs.declared.line.Line.{Line}
-use Rattle.fetch_wire.specs.declared.records.Request.{Request}
-use Rattle.fetch_wire.specs.declared.turn.Turn.TheVariants as turns
+use Rattle.fetch_wire.specs.declared.lines.line.Line.{Line}
+use Rattle.fetch_wire.specs.declared.requests.records.Request.{Request}
+use Rattle.fetch_wire.specs.declared.session.turn.Turn.TheVariants as turns
 use Rattle.fetch_negotiate.specs.Requests.{Asked, text_lines, fetch_request}
 use Rattle.fetch_conversation.specs.Conversing.{IsAsked, terms_told}
 use Rattle.fetch_conversation.specs.Exchange.{TermsValue, asked_by, haves_told}

@@ -1,6 +1,6 @@
 use Rattle.std.proofs.Common.{◌≡◌, Option, Ok, None, refl, subst, arith}
 use Rattle.std.proofs.lemmas.Result.{err_from_is_err_and}
-use Rattle.fetch_wire.specs.declared.records.FetchReply.{FetchReply}
+use Rattle.fetch_wire.specs.declared.requests.records.FetchReply.{FetchReply}
 use Rattle.fetch_conversation.specs.Conversing.{found_in, terms_told}
 use Rattle.fetch_conversation.specs.Exchange.{TermsValue, haves_told}
 use Rattle.fetch_conversation.specs.ListStage.{shown}

@@ -8,10 +8,10 @@ use Rattle.fetch_wire.specs.References.{name_in}
 use Rattle.fetch_wire.specs.SessionStates.{SessionState}
 use Rattle.fetch_wire.specs.declared.error.WireError.{WireError}
 use Rattle.fetch_wire.specs.declared.error.WireError.TheVariants as wire
-use Rattle.fetch_wire.specs.declared.handshake.Handshake.{Handshake}
-use Rattle.fetch_wire.specs.declared.mapping.Mapping.{Mapping}
-use Rattle.fetch_wire.specs.declared.mapping.RefMap.{RefMap}
-use Rattle.fetch_wire.specs.declared.reference.Ref.{Ref}
+use Rattle.fetch_wire.specs.declared.greetings.handshake.Handshake.{Handshake}
+use Rattle.fetch_wire.specs.declared.listings.mapping.Mapping.{Mapping}
+use Rattle.fetch_wire.specs.declared.listings.mapping.RefMap.{RefMap}
+use Rattle.fetch_wire.specs.declared.listings.reference.Ref.{Ref}
 use Rattle.fetch_conversation.specs.Errors.{is_free_listing, is_transport, is_interrupted, prepare_of, prepare_of_wire}
 use Rattle.fetch_conversation.specs.Listing.{TellsConflicts, found_in}
 use Rattle.fetch_conversation.specs.ListStage.{InquiryValue, all_specs, extra_specs, map_of}

@@ -1,6 +1,6 @@
 use Rattle.std.proofs.Common.{◌≡◌, Option, Some, None, Ok, refl, ap, subst, ◌∙◌, arith}
 use Rattle.std.proofs.lemmas.Result.{err_from_is_err_and}
-use Rattle.fetch_wire.specs.declared.records.FetchReply.{FetchReply}
+use Rattle.fetch_wire.specs.declared.requests.records.FetchReply.{FetchReply}
 use Rattle.fetch_negotiate.specs.Any.{algorithm_of}
 use Rattle.fetch_negotiate.specs.declared.algorithm.Round.{Round}
 use Rattle.fetch_conversation.specs.Conversing.{course_of, found_in, terms_told}

@@ -4,7 +4,7 @@ use Rattle.std.proofs.lemmas.Result.{err_from_is_err_and}
 use Rattle.fetch_store.specs.Faults.{Counts-then}
 use Rattle.fetch_store.specs.Graph.{Graph}
 use Rattle.fetch_wire.specs.Talks.{Talk}
-use Rattle.fetch_wire.specs.declared.records.FetchReply.{FetchReply}
+use Rattle.fetch_wire.specs.declared.requests.records.FetchReply.{FetchReply}
 use Rattle.fetch_negotiate.specs.Any.{algorithm_of}
 use Rattle.fetch_negotiate.specs.declared.algorithm.Algorithm.{Algorithm}
 use Rattle.fetch_conversation.specs.ConverseStage.{algorithm_in}

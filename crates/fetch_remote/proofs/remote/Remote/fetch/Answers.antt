@@ -6,7 +6,7 @@ use Rattle.fetch_conversation.proofs.Heeded.{heeded_still, heeded_as, no_questio
 use Rattle.fetch_conversation.specs.ListStage.{shown}
 use Rattle.fetch_remote.specs.Errors.{receiving, is_yes}
 use Rattle.fetch_remote.specs.Repositories.{state_of}
-use Rattle.fetch_remote.specs.declared.fetch_error.FetchError.TheVariants as errors
+use Rattle.fetch_remote.specs.declared.fetching.fetch_error.FetchError.TheVariants as errors
 use Rattle.fetch_remote.proofs.Asked.{settling_yes}
 use Rattle.fetch_remote.proofs.Complete.{complete}
 use Rattle.fetch_remote.proofs.Fetched.{is_fetched}

@@ -1,0 +1,194 @@
+//! A remote with its peer.
+
+ghost use Rattle.std.specs.Prelude.{◌≡◌, false, IfOk, IfErr, OnOk, IsErrOf};
+ghost use Rattle.std.specs.Borrow.{sem};
+ghost use Rattle.fetch_store.specs.Faults.{Rose, Counts};
+ghost use Rattle.fetch_conversation.specs.Errors.{is_interrupted, is_interrupted_map};
+ghost use Rattle.fetch_conversation.specs.Receiving.{IsHeeded};
+ghost use Rattle.fetch_conversation.specs.declared.prepare.Error.TheVariants as prepare_errors;
+ghost use Rattle.fetch_conversation.specs.declared.ref_map.Error.TheVariants as ref_map_errors;
+ghost use Rattle.fetch_remote.specs.Repositories.{setup_of};
+ghost use Rattle.fetch_remote.specs.Stages.{inquiry_of};
+ghost use Rattle.fetch_remote.specs.Steps as spec;
+ghost use Rattle.fetch_remote.specs.Steps.{LendsPeer, peer_of, remote_of, lent, prepared_of, options_with, HasListed, BreaksOff, IsUnlisted, HasInquired, IsUninquired, is_missing};
+
+use crate::fetching::options::FetchOptions;
+use crate::fetching::prepared::Prepared;
+use crate::fetching::preparing::Prepare;
+use crate::phases::list;
+use crate::remote::Remote;
+use crate::remotes::direction::Direction;
+use crate::repository::Repository;
+use crate::{prepare, ref_map};
+use fetch_conversation::{Inquiry, agent, inquire};
+use fetch_negotiate::Shallow;
+use fetch_wire::{Handshake, Interrupt, Peer, RefMap};
+use std::alloc::Global;
+
+/// A remote, and the peer that it is fetched from.
+#[derive(Drop)]
+pub struct Connection<'a, P> {
+    remote: &'a Remote,
+    peer: &'a mut P,
+}
+
+impl Remote {
+    /// The remote with a peer to fetch from.
+    pub fn to_connection_with_transport<'a, P>(&'a self, peer: &'a mut P) -> Connection<'a, P>
+        ensures remote { remote_of result ≡ self.now }
+        ensures same_reference { (peer_of result).ghost_name ≡ peer.entry.ghost_name }
+        ensures peer { (peer_of result).now ≡ peer.old }
+    {
+        Connection { remote: self, peer }
+    }
+}
+
+impl<'a, P: Peer> Connection<'a, P> {
+    /// The remote.
+    pub fn remote(&self) -> &Remote
+        ensures { result.now ≡ remote_of self.now }
+    {
+        self.remote
+    }
+
+    /// The peer.
+    pub fn transport_mut(&mut self) -> &mut P
+        ensures* writes_back { sem 𝓛 (LendsPeer P.row self.entry result) }
+        ensures value { result.now ≡ (peer_of self.old).now }
+    {
+        &mut *self.peer
+    }
+
+    /// Asks for the greeting, then for the listing, and maps what is listed, also where no refspec is named. The interrupt is
+    /// asked once before each receive. The peer is left behind what was heard and given.
+    pub fn ref_map<I: Interrupt>(
+        self,
+        alloc: Global,
+        repo: &Repository,
+        interrupt: &mut I,
+        options: ref_map::Options,
+    ) -> Result<(RefMap, Handshake), ref_map::Error>
+        ensures listed { IfOk result (λ found. HasInquired P.answers (P.told (peer_of self.entry).now) (P.told self.exit.1.0.now)
+            (inquiry_of (remote_of self.entry) (setup_of repo.now).settings options) (record { ref_map = found.0; handshake = found.1 })) }
+        ensures refused { IfErr result (λ e. IsUninquired P.answers (P.told (peer_of self.entry).now) (P.told self.exit.1.0.now)
+            (inquiry_of (remote_of self.entry) (setup_of repo.now).settings options) e) }
+        ensures counts { Counts (P.faults (peer_of self.entry).now) (P.faults self.exit.1.0.now) }
+        ensures transport { IsErrOf result ref_map_errors.Transport → Rose (P.faults (peer_of self.entry).now) (P.faults self.exit.1.0.now) }
+        ensures asked { Counts (I.yes interrupt.old) (I.yes interrupt.new) }
+        ensures interrupted { IsErrOf result ref_map_errors.Interrupted → Rose (I.yes interrupt.old) (I.yes interrupt.new) }
+        ensures uninterrupted { OnOk result ((I.yes interrupt.new).count ≡ (I.yes interrupt.old).count) }
+        ensures questions { IsHeeded is_interrupted_map (I.will_stop interrupt.old) (I.will_stop interrupt.new) (P.told (peer_of self.entry).now) (P.told self.exit.1.0.now) result }
+    {
+        let Connection { remote, peer } = self;
+        inquired(alloc, remote, repo, peer, interrupt, options)
+    }
+
+    /// Asks for the greeting, then for the listing, and maps what is listed, to fetch it. The interrupt is asked once before each
+    /// receive. The fetch is no dry run, writes loose references and the usual message, and doesn't change the depth, until
+    /// that is chosen. After an error the peer is left behind what was heard and given.
+    pub fn prepare_fetch<I: Interrupt>(
+        self,
+        alloc: Global,
+        repo: &Repository,
+        interrupt: &mut I,
+        options: ref_map::Options,
+    ) -> Result<Prepare<'a, P>, prepare::Error>
+        ensures refused { IfErr result (λ e. (last : P) × IsUnlisted P.told P.faults P.answers (I.will_stop interrupt.old) (I.will_stop interrupt.new)
+            (inquiry_of (remote_of self.entry) (setup_of repo.now).settings options) (peer_of self.entry).now last e) }
+        ensures same_reference { IfOk result (λ p. (lent p).ghost_name ≡ (peer_of self.entry).ghost_name) }
+        ensures remote { IfOk result (λ p. (prepared_of p).remote ≡ remote_of self.entry) }
+        ensures options { IfOk result (λ p. (prepared_of p).options ≡ options_with options) }
+        ensures listed { IfOk result (λ p. HasListed P.answers (P.told (peer_of self.entry).now) (P.told (lent p).now)
+            (inquiry_of (remote_of self.entry) (setup_of repo.now).settings options) (prepared_of p).listed) }
+        ensures counts { IfOk result (λ p. Counts (P.faults (peer_of self.entry).now) (P.faults (lent p).now)) }
+        ensures asked { Counts (I.yes interrupt.old) (I.yes interrupt.new) }
+        ensures interrupted { IsErrOf result (prepare_errors.RefMap ref_map_errors.Interrupted) → Rose (I.yes interrupt.old) (I.yes interrupt.new) }
+        ensures uninterrupted { OnOk result ((I.yes interrupt.new).count ≡ (I.yes interrupt.old).count) }
+        ensures questions { IfOk result (λ p. IsHeeded is_interrupted (I.will_stop interrupt.old) (I.will_stop interrupt.new) (P.told (peer_of self.entry).now) (P.told (lent p).now) result) }
+    {
+        let Connection { remote, peer } = self;
+        match listed_for(alloc, remote, repo, peer, interrupt, options) {
+            Ok(prepared) => Ok(Prepare {
+                remote,
+                peer,
+                prepared,
+            }),
+            Err(e) => Err(e),
+        }
+    }
+}
+
+/// Lists the references of a remote and maps them, also where no refspec is named.
+fn inquired<P: Peer, I: Interrupt>(
+    alloc: Global,
+    remote: &Remote,
+    repo: &Repository,
+    peer: &mut P,
+    interrupt: &mut I,
+    options: ref_map::Options,
+) -> Result<(RefMap, Handshake), ref_map::Error>
+    ensures listed { IfOk result (λ found. HasInquired P.answers (P.told peer.old) (P.told peer.new) (inquiry_of remote.now (setup_of repo.now).settings options) (record { ref_map = found.0; handshake = found.1 })) }
+    ensures refused { IfErr result (λ e. IsUninquired P.answers (P.told peer.old) (P.told peer.new) (inquiry_of remote.now (setup_of repo.now).settings options) e) }
+    ensures counts { Counts (P.faults peer.old) (P.faults peer.new) }
+    ensures transport { IsErrOf result ref_map_errors.Transport → Rose (P.faults peer.old) (P.faults peer.new) }
+    ensures asked { Counts (I.yes interrupt.old) (I.yes interrupt.new) }
+    ensures interrupted { IsErrOf result ref_map_errors.Interrupted → Rose (I.yes interrupt.old) (I.yes interrupt.new) }
+    ensures uninterrupted { OnOk result ((I.yes interrupt.new).count ≡ (I.yes interrupt.old).count) }
+    ensures questions { IsHeeded is_interrupted_map (I.will_stop interrupt.old) (I.will_stop interrupt.new) (P.told peer.old) (P.told peer.new) result }
+{
+    let inquiry = Inquiry {
+        address: remote.address(),
+        agent: agent(repo.settings()),
+        specs: remote.refspecs(Direction::Fetch),
+        tags: remote.fetch_tags(),
+    };
+    match inquire(alloc, &inquiry, peer, interrupt, options) {
+        Ok(listed) => Ok((listed.ref_map, listed.handshake)),
+        Err(e) => Err(listing_error(e)),
+    }
+}
+
+/// Why references weren't listed.
+fn listing_error(e: prepare::Error) -> ref_map::Error
+    requires { is_missing e ≡ false }
+    ensures { result ≡ spec.listing_error e }
+{
+    match e {
+        prepare::Error::RefMap(e) => e,
+        prepare::Error::NoMemory => ref_map::Error::NoMemory,
+        prepare::Error::MissingRefSpecs => unreachable!(),
+    }
+}
+
+/// Lists the references of a remote and maps them, to fetch them.
+fn listed_for<P: Peer, I: Interrupt>(
+    alloc: Global,
+    remote: &Remote,
+    repo: &Repository,
+    peer: &mut P,
+    interrupt: &mut I,
+    options: ref_map::Options,
+) -> Result<Prepared, prepare::Error>
+    ensures options { IfOk result (λ p. p.options ≡ options_with options) }
+    ensures listed { IfOk result (λ p. HasListed P.answers (P.told peer.old) (P.told peer.new) (inquiry_of remote.now (setup_of repo.now).settings options) p.listed) }
+    ensures refused { IfErr result (λ e. BreaksOff P.answers (P.told peer.old) (P.told peer.new) (inquiry_of remote.now (setup_of repo.now).settings options) e) }
+    ensures counts { Counts (P.faults peer.old) (P.faults peer.new) }
+    ensures transport { IsErrOf result (prepare_errors.RefMap ref_map_errors.Transport) → Rose (P.faults peer.old) (P.faults peer.new) }
+    ensures asked { Counts (I.yes interrupt.old) (I.yes interrupt.new) }
+    ensures interrupted { IsErrOf result (prepare_errors.RefMap ref_map_errors.Interrupted) → Rose (I.yes interrupt.old) (I.yes interrupt.new) }
+    ensures uninterrupted { OnOk result ((I.yes interrupt.new).count ≡ (I.yes interrupt.old).count) }
+    ensures questions { IsHeeded is_interrupted (I.will_stop interrupt.old) (I.will_stop interrupt.new) (P.told peer.old) (P.told peer.new) result }
+{
+    let map = options.try_clone()?;
+    let listed = list(alloc, remote, repo.settings(), peer, interrupt, options)?;
+    Ok(Prepared {
+        listed,
+        options: FetchOptions {
+            map,
+            dry_run: false,
+            write_packed_refs_only: false,
+            reflog_message: None,
+            shallow: Shallow::NoChange,
+        },
+    })
+}

@@ -1,0 +1,16 @@
+//! What a fetch is prepared with.
+
+ghost use Rattle.std.specs.Prelude.{◌≡◌};
+ghost use Rattle.fetch_conversation.specs.ListStage.{IsReady};
+
+use crate::fetching::options::FetchOptions;
+use fetch_conversation::Listed;
+
+/// What a fetch is prepared with: what was listed, with the conversation that goes on, and how the fetch is to be done.
+#[derive(Drop)]
+pub struct Prepared {
+    pub(crate) listed: Listed,
+    pub(crate) options: FetchOptions,
+    ghost ready: { IsReady listed },
+    ghost bound: { listed.session.intake.bound ≡ options.map.max_reply_bytes },
+}

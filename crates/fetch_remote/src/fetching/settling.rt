@@ -1,0 +1,357 @@
+//! What a fetch does with what it received.
+
+ghost use Rattle.std.specs.Prelude.{◌≡◌, ℕ, true, false, is_some, IfOk, IfErr, IfSome, IsErrOf, List, OnOk, OnErr, Some, None, Ok};
+ghost use Rattle.std.specs.Option.{option_map};
+ghost use Rattle.fetch_store.specs.Faults.{Rose, Counts};
+ghost use Rattle.fetch_store.specs.FileCalls.{IsRefused};
+ghost use Rattle.fetch_store.specs.Collisions.{HasDistinctIds};
+ghost use Rattle.fetch_store.specs.Stores.{AreOf};
+ghost use Rattle.fetch_refs.specs.Expectations.{refusal_of};
+ghost use Rattle.fetch_update.specs.declared.update.Error.TheVariants as update_errors;
+ghost use Rattle.fetch_conversation.specs.ListStage.{shown};
+ghost use Rattle.fetch_conversation.specs.declared.fetch.Error.TheVariants as errors;
+ghost use Rattle.fetch_remote.specs.Judging.{Judges};
+ghost use Rattle.fetch_remote.specs.Keeping.{AreFiles, made, made_in, with_keep, without_keep, left_tree};
+ghost use Rattle.fetch_remote.specs.Repositories.{state_of, setup_of};
+ghost use Rattle.fetch_remote.specs.Settling as spec;
+ghost use Rattle.fetch_remote.specs.Settling.{taken, brought, pack_read, policy_in, is_early, Fails, IsOfJudging, IsSettled, IsUnsettled, IsUntaken};
+
+use crate::fetch;
+use crate::fetching::judging::judge;
+use crate::fetching::keep::{Kept, keep, release};
+use crate::fetching::outcome::{Outcome, Status};
+use crate::fetching::talking::Talked;
+use crate::repository::Repository;
+use fetch_conversation::{Listed, Negotiate, Received};
+use fetch_refs::{PackedRefs, RefEdit};
+use fetch_specs::Tags;
+use fetch_store::{Files, NoMemory, ObjectId, StoreError, Take, first_missing_of_take};
+use fetch_update::{RefLogMessage, Worktrees, update};
+use fetch_wire::{Handshake, RefMap};
+use std::alloc::Global;
+
+/// How a fetch is to be settled.
+#[derive(Debug, Drop)]
+pub struct Manner {
+    /// What is done with tags.
+    pub tags: Tags,
+    /// Whether nothing is changed.
+    pub dry_run: bool,
+    /// Where references are written.
+    pub packed: PackedRefs,
+    /// What reflogs say.
+    pub message: RefLogMessage,
+}
+
+/// What the outcome tells of what was received.
+#[derive(Drop)]
+pub struct Taken {
+    pub negotiate: Negotiate,
+    /// With the keep file that was made.
+    pub pack: Option<Kept>,
+}
+
+/// Makes the keep file, takes what was received, judges the mapped references, moves them, and removes the keep file
+/// unless it stays. All memory is taken before they move. In a dry run nothing is made or taken and nothing moves.
+pub(crate) fn settle<F: Files, W: Worktrees>(
+    alloc: Global,
+    repo: &mut Repository,
+    how: &Manner,
+    talked: Talked,
+    files: &mut F,
+    worktrees: &mut W,
+) -> Result<Outcome, fetch::Error>
+    requires of_kind { IfSome talked.received (λ r. AreOf (state_of repo.old).hash r.objects) }
+    requires distinct { IfSome talked.received (λ r. HasDistinctIds r.objects) }
+    ensures settled { IfOk result (λ outcome. IsSettled (W.told worktrees.old) (setup_of repo.old) how.now (state_of repo.old) talked.wants (shown talked.listed) talked.received outcome (state_of repo.new)) }
+    ensures kept { IfOk result (λ outcome. AreFiles (F.told files.old) (F.told files.new) (left_tree (setup_of repo.old).settings.git_dir outcome.status)) }
+    ensures refused { IfErr result (λ e. IsUnsettled (W.told worktrees.old) (F.told files.old) (F.told files.new) (setup_of repo.old) how.now (state_of repo.old) talked.wants (shown talked.listed) talked.received (state_of repo.new) e) }
+    ensures setup { setup_of repo.new ≡ setup_of repo.old }
+    ensures dry { how.now.dry_run ≡ true → files.new ≡ files.old }
+    ensures unread { IfOk result (λ outcome. made_in (setup_of repo.old).settings.git_dir outcome.status ≡ None → files.new ≡ files.old) }
+    ensures early { IfErr result (λ e. is_early e ≡ true → files.new ≡ files.old) }
+    ensures file_counts { Counts (F.faults files.old) (F.faults files.new) }
+    ensures keep_file { (path : List ℕ) → IsErrOf result (errors.KeepFile path) → Rose (F.faults files.old) (F.faults files.new) }
+    ensures in_the_way { (path : List ℕ) → IsErrOf result (errors.KeepFile path) → IsRefused (F.may_fail files.old) (F.told files.old) (with_keep (Some path)) }
+    ensures remove_keep_file { (path : List ℕ) → IsErrOf result (errors.RemovePackKeepFile path) → Rose (F.faults files.old) (F.faults files.new) }
+    ensures removable { (path : List ℕ) → IsErrOf result (errors.RemovePackKeepFile path) → F.may_fail files.old ≡ false → F.told files.old ≡ None }
+    ensures may_fail { F.may_fail files.new ≡ F.may_fail files.old }
+    ensures told { W.told worktrees.new ≡ W.told worktrees.old }
+    ensures listing_counts { Counts (W.listing worktrees.old) (W.listing worktrees.new) }
+    ensures open_repo_counts { Counts (W.open_repo worktrees.old) (W.open_repo worktrees.new) }
+    ensures follow_symref_counts { Counts (W.follow_symref worktrees.old) (W.follow_symref worktrees.new) }
+    ensures listing { IsErrOf result (errors.UpdateRefs update_errors.WorktreeListing) → Rose (W.listing worktrees.old) (W.listing worktrees.new) }
+    ensures open_repo { IsErrOf result (errors.UpdateRefs update_errors.OpenWorktreeRepo) → Rose (W.open_repo worktrees.old) (W.open_repo worktrees.new) }
+    ensures follow_symref { IsErrOf result (errors.UpdateRefs update_errors.FollowSymref) → Rose (W.follow_symref worktrees.old) (W.follow_symref worktrees.new) }
+{
+    let Talked {
+        listed,
+        wants,
+        received,
+    } = talked;
+    let (ref_map, handshake) = found(listed);
+    let taken = bring(alloc, repo, how.dry_run, wants.as_slice(), received, files)?;
+    let updates = judged(alloc, repo, &ref_map, how, worktrees)?;
+    move_refs(repo, how, updates.edits.as_slice())?;
+    let status = status(files, how.dry_run, taken, updates)?;
+    Ok(Outcome {
+        ref_map,
+        handshake,
+        status,
+    })
+}
+
+/// What was listed, without the conversation.
+fn found(listed: Listed) -> (RefMap, Handshake)
+    ensures { result ≡ (listed.ref_map, listed.handshake) }
+{
+    (listed.ref_map, listed.handshake)
+}
+
+/// Takes what was received, but in a dry run.
+fn bring<F: Files>(
+    alloc: Global,
+    repo: &mut Repository,
+    dry_run: bool,
+    wants: &[ObjectId],
+    received: Option<Received>,
+    files: &mut F,
+) -> Result<Option<Taken>, fetch::Error>
+    requires of_kind { IfSome received (λ r. AreOf (state_of repo.old).hash r.objects) }
+    requires distinct { IfSome received (λ r. HasDistinctIds r.objects) }
+    ensures state { OnOk result (taken (state_of repo.old) wants.now (brought dry_run received) ≡ Ok (state_of repo.new)) }
+    ensures told { IfOk result (λ t. t ≡ spec.told_of (setup_of repo.old).settings.git_dir dry_run received) }
+    ensures made { OnOk result (AreFiles (F.told files.old) (F.told files.new) (with_keep (made (setup_of repo.old).settings.git_dir (pack_read dry_run received)))) }
+    ensures refused { IfErr result (λ e. IsUntaken (taken (state_of repo.old) wants.now (brought dry_run received)) (made (setup_of repo.old).settings.git_dir (pack_read dry_run received)) (F.told files.old) (F.told files.new) e) }
+    ensures err { OnErr result (state_of repo.new ≡ state_of repo.old) }
+    ensures setup { setup_of repo.new ≡ setup_of repo.old }
+    ensures unread { pack_read dry_run received ≡ None → files.new ≡ files.old }
+    ensures early { IfErr result (λ e. is_early e ≡ true → files.new ≡ files.old) }
+    ensures counts { Counts (F.faults files.old) (F.faults files.new) }
+    ensures cause { (path : List ℕ) → IsErrOf result (errors.KeepFile path) → Rose (F.faults files.old) (F.faults files.new) }
+    ensures in_the_way { (path : List ℕ) → IsErrOf result (errors.KeepFile path) → IsRefused (F.may_fail files.old) (F.told files.old) (with_keep (Some path)) }
+    ensures may_fail { F.may_fail files.new ≡ F.may_fail files.old }
+{
+    let Some(received) = received else {
+        return Ok(None);
+    };
+    if dry_run {
+        return Ok(Some(Taken {
+            negotiate: received.negotiate,
+            pack: None,
+        }));
+    }
+    let taken = take(alloc, repo, wants, received, files)?;
+    Ok(Some(taken))
+}
+
+/// Takes what was received, once it is known that no id has another object and that no link is missing, and the keep file
+/// was made: objects and border change in one step.
+fn take<F: Files>(
+    alloc: Global,
+    repo: &mut Repository,
+    wants: &[ObjectId],
+    received: Received,
+    files: &mut F,
+) -> Result<Taken, fetch::Error>
+    requires of_kind { AreOf (state_of repo.old).hash received.objects }
+    requires distinct { HasDistinctIds received.objects }
+    ensures state { OnOk result (taken (state_of repo.old) wants.now (Some received) ≡ Ok (state_of repo.new)) }
+    ensures told { IfOk result (λ t. t ≡ record { negotiate = received.negotiate; pack = option_map (spec.pack_kept (setup_of repo.old).settings.git_dir) received.pack }) }
+    ensures made { OnOk result (AreFiles (F.told files.old) (F.told files.new) (with_keep (made (setup_of repo.old).settings.git_dir received.pack))) }
+    ensures refused { IfErr result (λ e. IsUntaken (taken (state_of repo.old) wants.now (Some received)) (made (setup_of repo.old).settings.git_dir received.pack) (F.told files.old) (F.told files.new) e) }
+    ensures err { OnErr result (state_of repo.new ≡ state_of repo.old) }
+    ensures setup { setup_of repo.new ≡ setup_of repo.old }
+    ensures unread { received.pack ≡ None → files.new ≡ files.old }
+    ensures early { IfErr result (λ e. is_early e ≡ true → files.new ≡ files.old) }
+    ensures counts { Counts (F.faults files.old) (F.faults files.new) }
+    ensures cause { (path : List ℕ) → IsErrOf result (errors.KeepFile path) → Rose (F.faults files.old) (F.faults files.new) }
+    ensures in_the_way { (path : List ℕ) → IsErrOf result (errors.KeepFile path) → IsRefused (F.may_fail files.old) (F.told files.old) (with_keep (Some path)) }
+    ensures may_fail { F.may_fail files.new ≡ F.may_fail files.old }
+{
+    may_take(alloc, repo, wants, &received)?;
+    let pack = keep(alloc, files, repo.settings(), received.pack)?;
+    let negotiate = add(alloc, repo, received)?;
+    Ok(Taken { negotiate, pack })
+}
+
+/// Whether what was received may be taken.
+fn may_take(
+    alloc: Global,
+    repo: &Repository,
+    wants: &[ObjectId],
+    received: &Received,
+) -> Result<(), fetch::Error>
+    requires { HasDistinctIds received.now.objects }
+    ensures ok { OnOk result (taken (state_of repo.now) wants.now (Some received.now) ≡ Ok (spec.after_take (state_of repo.now) (spec.pack_of received.now))) }
+    ensures checked { OnOk result (spec.checked (state_of repo.now) (spec.pack_of received.now) ≡ Ok tt) }
+    ensures refused { IfErr result (λ e. Fails (taken (state_of repo.now) wants.now (Some received.now)) e) }
+{
+    check(repo, received)?;
+    check_links(alloc, repo, wants, received)
+}
+
+/// Whether no id has another object. Within the pack none comes twice, so only the repository can have another.
+fn check(repo: &Repository, received: &Received) -> Result<(), fetch::Error>
+    requires { HasDistinctIds received.now.objects }
+    ensures { result ≡ spec.checked (state_of repo.now) (spec.pack_of received.now) }
+{
+    match repo.store().check_distinct(received.objects.as_slice()) {
+        Ok(()) => Ok(()),
+        Err(StoreError::Collision { id }) => Err(fetch::Error::Collision { id }),
+        Err(_) => Err(fetch::Error::NoMemory),
+    }
+}
+
+/// Whether no link would be missing, of the pack and of what was asked for.
+fn check_links(
+    alloc: Global,
+    repo: &Repository,
+    wants: &[ObjectId],
+    received: &Received,
+) -> Result<(), fetch::Error>
+    ensures ok { OnOk result (spec.connected (state_of repo.now) wants.now (spec.pack_of received.now) ≡ Ok tt) }
+    ensures refused { IfErr result (λ e. Fails (spec.connected (state_of repo.now) wants.now (spec.pack_of received.now)) e) }
+{
+    let take = Take {
+        wants,
+        objects: received.objects.as_slice(),
+        shallow: received.shallow.as_slice(),
+        unshallow: received.unshallow.as_slice(),
+    };
+    match first_missing_of_take(alloc, repo.store(), repo.border(), &take)? {
+        Some(link) => Err(fetch::Error::Disconnected { link }),
+        None => Ok(()),
+    }
+}
+
+/// Adds the objects and puts the merged border in place of the old one. No id has another object, so that memory alone
+/// may refuse it.
+fn add(alloc: Global, repo: &mut Repository, received: Received) -> Result<Negotiate, fetch::Error>
+    requires of_kind { AreOf (state_of repo.old).hash received.objects }
+    requires checked { spec.checked (state_of repo.old) (spec.pack_of received) ≡ Ok tt }
+    ensures ok { OnOk result (state_of repo.new ≡ spec.after_take (state_of repo.old) (spec.pack_of received)) }
+    ensures negotiate { IfOk result (λ n. n ≡ received.negotiate) }
+    ensures refused { IfErr result (λ e. e ≡ errors.NoMemory) }
+    ensures err { OnErr result (state_of repo.new ≡ state_of repo.old) }
+    ensures setup { setup_of repo.new ≡ setup_of repo.old }
+{
+    let Received {
+        negotiate,
+        objects,
+        shallow,
+        unshallow,
+        ..
+    } = received;
+    let Ok(border) = repo
+        .border()
+        .merged(alloc, shallow.as_slice(), unshallow.as_slice())
+    else {
+        return Err(fetch::Error::NoMemory);
+    };
+    match repo.take_reserved(objects.into_vec(), border) {
+        Ok(()) => Ok(negotiate),
+        Err(_) => Err(fetch::Error::NoMemory),
+    }
+}
+
+/// What becomes of the mapped references, over what is there now.
+fn judged<W: Worktrees>(
+    alloc: Global,
+    repo: &Repository,
+    ref_map: &RefMap,
+    how: &Manner,
+    worktrees: &mut W,
+) -> Result<update::Outcome, fetch::Error>
+    ensures judged { Judges (W.told worktrees.old) (λ trees. policy_in (state_of repo.now) how.now trees) ref_map.now result }
+    ensures only { IfErr result IsOfJudging }
+    ensures told { W.told worktrees.new ≡ W.told worktrees.old }
+    ensures listing_counts { Counts (W.listing worktrees.old) (W.listing worktrees.new) }
+    ensures open_repo_counts { Counts (W.open_repo worktrees.old) (W.open_repo worktrees.new) }
+    ensures follow_symref_counts { Counts (W.follow_symref worktrees.old) (W.follow_symref worktrees.new) }
+    ensures listing { IsErrOf result (errors.UpdateRefs update_errors.WorktreeListing) → Rose (W.listing worktrees.old) (W.listing worktrees.new) }
+    ensures open_repo { IsErrOf result (errors.UpdateRefs update_errors.OpenWorktreeRepo) → Rose (W.open_repo worktrees.old) (W.open_repo worktrees.new) }
+    ensures follow_symref { IsErrOf result (errors.UpdateRefs update_errors.FollowSymref) → Rose (W.follow_symref worktrees.old) (W.follow_symref worktrees.new) }
+{
+    judge(
+        alloc,
+        repo.refs(),
+        repo.store(),
+        ref_map,
+        how.tags,
+        &how.message,
+        how.dry_run,
+        worktrees,
+    )
+}
+
+/// Moves the references, but in a dry run. The edits find what they expect, so that memory alone may refuse them.
+fn move_refs(repo: &mut Repository, how: &Manner, edits: &[RefEdit]) -> Result<(), NoMemory>
+    requires found { refusal_of (state_of repo.old).refs.names edits.now ≡ None }
+    ensures ok { OnOk result (state_of repo.new ≡ spec.moved how.now.dry_run how.now.packed (setup_of repo.old) (state_of repo.old) edits.now) }
+    ensures err { OnErr result (state_of repo.new ≡ state_of repo.old) }
+    ensures setup { setup_of repo.new ≡ setup_of repo.old }
+{
+    if how.dry_run {
+        return Ok(());
+    }
+    repo.move_refs(edits, how.packed)
+}
+
+/// Whether a pack came, and what became of the mappings. The keep file is removed, unless it stays. Takes no memory.
+pub fn status<F: Files>(
+    files: &mut F,
+    dry_run: bool,
+    taken: Option<Taken>,
+    updates: update::Outcome,
+) -> Result<Status, fetch::Error>
+    ensures told { IfOk result (λ status. status ≡ spec.status_by dry_run taken updates) }
+    ensures removed { OnOk result (AreFiles (F.told files.old) (F.told files.new) (without_keep (spec.released_of updates taken))) }
+    ensures refused { IfErr result (λ e. spec.IsUnreleased (spec.released_of updates taken) e) }
+    ensures tree { is_some (F.told files.new) ≡ is_some (F.told files.old) }
+    ensures unread { spec.kept_of taken ≡ None → files.new ≡ files.old }
+    ensures counts { Counts (F.faults files.old) (F.faults files.new) }
+    ensures cause { OnErr result (Rose (F.faults files.old) (F.faults files.new)) }
+    ensures in_the_way { OnErr result (IsRefused (F.may_fail files.old) (F.told files.old) (without_keep (spec.released_of updates taken))) }
+    ensures may_fail { F.may_fail files.new ≡ F.may_fail files.old }
+{
+    match taken {
+        Some(taken) => status_with(files, dry_run, taken, updates),
+        None => Ok(Status::NoPackReceived {
+            dry_run,
+            negotiate: None,
+            update_refs: updates,
+        }),
+    }
+}
+
+fn status_with<F: Files>(
+    files: &mut F,
+    dry_run: bool,
+    taken: Taken,
+    updates: update::Outcome,
+) -> Result<Status, fetch::Error>
+    ensures told { IfOk result (λ status. status ≡ spec.told_by dry_run taken.negotiate taken.pack updates) }
+    ensures removed { OnOk result (AreFiles (F.told files.old) (F.told files.new) (without_keep (spec.released updates taken.pack))) }
+    ensures refused { IfErr result (λ e. spec.IsUnreleased (spec.released updates taken.pack) e) }
+    ensures tree { is_some (F.told files.new) ≡ is_some (F.told files.old) }
+    ensures unread { taken.pack ≡ None → files.new ≡ files.old }
+    ensures counts { Counts (F.faults files.old) (F.faults files.new) }
+    ensures cause { OnErr result (Rose (F.faults files.old) (F.faults files.new)) }
+    ensures in_the_way { OnErr result (IsRefused (F.may_fail files.old) (F.told files.old) (without_keep (spec.released updates taken.pack))) }
+    ensures may_fail { F.may_fail files.new ≡ F.may_fail files.old }
+{
+    let Taken { negotiate, pack } = taken;
+    match pack {
+        Some(kept) => Ok(Status::Change {
+            negotiate,
+            write_pack_bundle: release(files, kept, &updates)?,
+            update_refs: updates,
+        }),
+        None => Ok(Status::NoPackReceived {
+            dry_run,
+            negotiate: Some(negotiate),
+            update_refs: updates,
+        }),
+    }
+}

@@ -1,0 +1,170 @@
+//! Lines, read while their bytes come in pieces.
+
+ghost use Rattle.std.specs.Prelude.{◌≡◌, ◌≤◌, ◌+◌, [], Ok, Err, OnOk, OnErr, IfOk, IfErr, IsOk, drop, length, vec_len};
+ghost use Rattle.fetch_wire.specs.Lines.{line_at};
+ghost use Rattle.fetch_wire.specs.declared.error.WireError.TheVariants as errors;
+ghost use Rattle.fetch_wire.specs.Feeding.{next_in, need_in, left_by, fed, seen};
+ghost use Rattle.fetch_wire.specs.FeedingLends.{RestsBehind};
+ghost use Rattle.std.specs.Borrow.{sem};
+
+use crate::error::WireError;
+use crate::lines::line::LineRef;
+use crate::lines::section::{Trouble, line_in};
+use crate::replies::bound::ReplyBound;
+use fetch_store::NoMemory;
+use std::alloc::Global;
+use std::marker::Model;
+
+/// What a reader gives.
+#[derive(Clone, Copy, Debug, PartialEq, Eq)]
+pub enum Need<'a> {
+    /// The next line.
+    Line(LineRef<'a>),
+    /// More bytes: those that were fed and not yet read are the beginning of a line.
+    More,
+}
+
+/// The lines of one reply, whose bytes are fed in pieces. Contracts see how many bytes the reply may have, how many the
+/// lines that were read have, and the bytes that were fed and not yet read.
+#[derive(Debug, Drop)]
+pub struct LineReader {
+    bytes: Vec<u8>,
+    start: usize,
+    place: usize,
+    bound: ReplyBound,
+}
+
+impl Model for LineReader {
+    ghost use Rattle.std.specs.Prelude.{◌≤◌, drop, vec_len};
+    ghost use Rattle.fetch_wire.specs.Feeding.{Feeding};
+
+    ghost Value = { Feeding };
+
+    ghost view = { λ reader. record { bound = reader.bound; place = reader.place; pending = drop reader.start reader.bytes.items } };
+
+    ghost invariant = { λ reader. (reader.start ≤ vec_len reader.bytes) × (reader.place ≤ reader.bound) };
+}
+
+impl LineReader {
+    /// A reader to which nothing was fed yet.
+    pub fn new(alloc: Global, bound: ReplyBound) -> LineReader
+        ensures { result ≡ record { bound = bound; place = 0; pending = [] } }
+    {
+        LineReader {
+            bytes: Vec::new(alloc),
+            start: 0,
+            place: 0,
+            bound,
+        }
+    }
+
+    /// The allocator that the reader was made with.
+    pub fn allocator(&self) -> Global {
+        *self.bytes.allocator()
+    }
+
+    /// How many bytes the reply may have.
+    pub fn bound(&self) -> ReplyBound
+        ensures { result ≡ self.now.bound }
+    {
+        self.bound
+    }
+
+    /// How many bytes the lines that were read have.
+    pub fn place(&self) -> usize
+        ensures place { result ≡ self.now.place }
+        ensures within { result ≤ self.now.bound }
+    {
+        self.place
+    }
+
+    /// The bytes that were fed and not yet read.
+    pub fn pending(&self) -> &[u8]
+        ensures { result.now ≡ self.now.pending }
+    {
+        &self.bytes[self.start..]
+    }
+
+    /// An equal reader: what was read already isn't copied.
+    pub fn try_clone(&self) -> Result<LineReader, NoMemory>
+        ensures { IfOk result (λ copy. copy ≡ self.now) }
+    {
+        Ok(LineReader {
+            bytes: Vec::from_slice(self.allocator(), self.pending())?,
+            start: 0,
+            place: self.place,
+            bound: self.bound,
+        })
+    }
+
+    /// Takes the next bytes. Want of memory alone is an error, and leaves the reader as it was.
+    pub fn feed(&mut self, piece: &[u8]) -> Result<(), WireError>
+        ensures ok { OnOk result (self.new ≡ fed self.old piece.now) }
+        ensures err { OnErr result (self.new ≡ self.old) }
+        ensures memory { IfErr result (λ e. e ≡ errors.NoMemory) }
+    {
+        let _ = self.bytes.drain(..self.start);
+        self.start = 0;
+        self.bytes.extend_from_slice(piece)?;
+        Ok(())
+    }
+
+    /// The next line, where all of it was fed. A line that breaks the grammar, or whose digits pass the bound, is refused
+    /// as soon as its digits show it, and by each later call too. Takes no memory. `Trouble::to_error` makes a
+    /// `WireError` of a refusal.
+    pub fn next(&mut self) -> Result<Need<'_>, Trouble>
+        ensures given { seen result ≡ next_in self.old }
+        ensures* left { sem 𝓛 (RestsBehind self.entry) }
+    {
+        let (start, place) = (self.start, self.place);
+        let count = count_next(self.bound, place, &self.bytes[start..])?;
+        self.start = start + count;
+        self.place = place + count;
+        Ok(need_next(self.bound, place, start, &self.bytes))
+    }
+
+    /// Forgets what was fed and not yet read, and begins anew.
+    pub(crate) fn clear(&mut self)
+        ensures { self.new ≡ record self.old { place = 0; pending = [] } }
+    {
+        self.bytes.clear();
+        self.start = 0;
+        self.place = 0;
+    }
+
+    /// Begins the next reply: its place is 0, and it may have as many bytes as the one before.
+    pub fn next_reply(&mut self)
+        ensures { self.new ≡ record self.old { place = 0 } }
+    {
+        self.place = 0;
+    }
+}
+
+/// How many bytes the next line takes: none where more are needed.
+fn count_next(bound: ReplyBound, place: usize, bytes: &[u8]) -> Result<usize, Trouble>
+    requires { place ≤ bound }
+    ensures left { IfOk result (λ count. left_by (record { bound = bound; place = place; pending = bytes.now }) (line_at bound place bytes.now) ≡ record { bound = bound; place = place + count; pending = drop count bytes.now }) }
+    ensures within { IfOk result (λ count. count ≤ length bytes.now) }
+    ensures bounded { IfOk result (λ count. place + count ≤ bound) }
+    ensures refused { IfErr result (λ e. need_in (line_at bound place bytes.now) ≡ Err e) }
+    ensures read { IfOk result (λ count. IsOk (need_in (line_at bound place bytes.now))) }
+{
+    match line_in(bound.get() as usize, place, bytes) {
+        Ok((_, count)) => Ok(count),
+        Err(Trouble::Short { .. }) => Ok(0),
+        Err(trouble) => Err(trouble),
+    }
+}
+
+/// The line that begins at `start`, if all of it is there. It isn't refused.
+fn need_next(bound: ReplyBound, place: usize, start: usize, bytes: &Vec<u8>) -> Need<'_>
+    requires place { place ≤ bound }
+    requires start { start ≤ vec_len bytes.now }
+    requires read { IsOk (need_in (line_at bound place (drop start bytes.now.items))) }
+    ensures { seen (Ok result) ≡ need_in (line_at bound place (drop start bytes.now.items)) }
+{
+    match line_in(bound.get() as usize, place, &bytes[start..]) {
+        Ok((line, _)) => Need::Line(line),
+        Err(_) => Need::More,
+    }
+}

@@ -1,0 +1,5 @@
+//! Listings: the references of a remote, and where they go.
+
+pub mod listing;
+pub mod mapping;
+pub mod reference;

@@ -1,0 +1,69 @@
+//! What a line says.
+
+ghost use Rattle.std.specs.Prelude.{◌≡◌, List, ℕ};
+ghost use Rattle.fetch_wire.specs.declared.replies.awaited.Told.{Told};
+ghost use Rattle.fetch_wire.specs.declared.replies.reading.Reading.{Reading};
+ghost use Rattle.fetch_wire.specs.LineViews.{line_of};
+ghost use Rattle.fetch_wire.specs.ReadSteps.{by_saying};
+ghost use Rattle.fetch_wire.specs.Stepping.{Step};
+ghost use Rattle.fetch_wire.specs.Steps.{by_line, error_text};
+ghost use Rattle.fetch_wire.specs.Texts.{without_lf, is_error};
+
+use crate::lines::line::LineRef;
+
+/// What a line says where a text line may stand.
+#[derive(Clone, Copy)]
+pub(crate) enum Saying<'a> {
+    /// A text, without its last line feed.
+    Text(&'a [u8]),
+    /// The server fails, and says this.
+    Error(&'a [u8]),
+    Flush,
+    Delim,
+    End,
+}
+
+#[tactic(auto, unfolding(crate::specs::Texts::without_lf))]
+fn without_line_feed(text: &[u8]) -> &[u8]
+    ensures { result.now ≡ without_lf text.now }
+{
+    if !text.is_empty() && text[text.len() - 1] == b'\n' {
+        &text[..text.len() - 1]
+    } else {
+        text
+    }
+}
+
+#[tactic(auto, unfolding(crate::specs::Texts::is_error))]
+fn begins_with_error(payload: &[u8]) -> bool
+    ensures { result ≡ is_error payload.now }
+{
+    payload.starts_with(b"ERR ")
+}
+
+/// What the server says behind `ERR `.
+fn error_text(payload: &[u8]) -> &[u8]
+    ensures { result.now ≡ error_text payload.now }
+{
+    let text = without_line_feed(payload);
+    &text[text.len().min(4)..]
+}
+
+/// What the line says.
+pub(crate) fn said_by(line: LineRef<'_>) -> Saying<'_>
+    ensures { (flush delim : Step Reading Told) (text : List ℕ → Step Reading Told)
+        → by_saying flush delim text result ≡ by_line flush delim text (line_of line.entry) }
+{
+    match line {
+        LineRef::Payload(payload) => {
+            if begins_with_error(payload) {
+                Saying::Error(error_text(payload))
+            } else {
+                Saying::Text(without_line_feed(payload))
+            }
+        }
+        LineRef::Flush => Saying::Flush,
+        LineRef::Delim => Saying::Delim,
+        LineRef::End => Saying::End,
+    }
+}

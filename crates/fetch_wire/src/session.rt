@@ -1,0 +1,7 @@
+//! A session: the conversation with a peer, driven from outside.
+
+pub mod conversation;
+pub mod intake;
+pub mod peer;
+pub mod scripted;
+pub mod turn;

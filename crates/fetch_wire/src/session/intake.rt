@@ -1,0 +1,162 @@
+//! What a peer sent and wasn't read yet, and the reply that is awaited of it.
+
+use crate::error::WireError;
+use crate::lines::reader::LineReader;
+use crate::replies::awaited::{Await, Fault, Told};
+use crate::replies::bound::ReplyBound;
+use crate::replies::progress::{Progress, read_on};
+use crate::replies::reading::Reading;
+use fetch_store::{NoMemory, TryClone};
+use std::alloc::Global;
+use std::marker::Model;
+
+/// What was found of the reply that is awaited.
+#[derive(Drop)]
+pub(crate) enum Found {
+    /// It goes on, or none is awaited.
+    Nothing,
+    /// It is whole, and told this.
+    Told(Told),
+    /// It can't become whole.
+    Fault(Fault),
+}
+
+/// What a peer sent and wasn't read yet, and what the reply that is awaited told so far.
+#[derive(Drop)]
+pub(crate) struct Intake {
+    lines: LineReader,
+    reading: Option<Reading>,
+}
+
+impl Model for Intake {
+    ghost use Rattle.std.specs.Prelude.{◌≡◌, true};
+    ghost use Rattle.fetch_wire.specs.Intakes as spec;
+
+    ghost Value = { spec.Intake };
+
+    ghost view = { λ i. record { bound = i.lines.bound; place = i.lines.place; pending = i.lines.pending; reading = i.reading } };
+
+    ghost invariant = { λ i. spec.is_read i.lines.bound i.lines.place i.lines.pending i.reading ≡ true };
+}
+
+impl Intake {
+    ghost use Rattle.std.specs.Prelude.{◌≡◌, [], true, Some, None, Err, IfOk, IfErr, OnErr, is_some};
+    ghost use Rattle.fetch_wire.specs.Intakes as spec;
+    ghost use Rattle.fetch_wire.specs.Awaited.{start_of};
+    ghost use Rattle.fetch_wire.specs.declared.replies.awaited.Fault.TheVariants as faults;
+    ghost use Rattle.fetch_wire.specs.declared.error.WireError.TheVariants as errors;
+
+    /// Nothing was fed yet, and this reply is awaited.
+    pub(crate) fn new(alloc: Global, bound: ReplyBound, awaited: Await) -> Intake
+        ensures { result ≡ record { bound = bound; place = 0; pending = []; reading = Some (start_of awaited) } }
+    {
+        Intake {
+            lines: LineReader::new(alloc, bound),
+            reading: Some(Reading::start(alloc, awaited)),
+        }
+    }
+
+    /// Whether a reply is awaited.
+    pub(crate) fn is_awaiting(&self) -> bool
+        ensures awaiting { result ≡ is_some self.now.reading }
+        ensures short { result ≡ true → spec.told_with self.now [] ≡ Some (Err (faults.Short self.now.place)) }
+    {
+        self.reading.is_some()
+    }
+
+    /// How many bytes a reply may have.
+    pub(crate) fn bound(&self) -> ReplyBound
+        ensures { result ≡ self.now.bound }
+    {
+        self.lines.bound()
+    }
+
+    /// How many bytes the lines that were read of the awaited reply have.
+    pub(crate) fn place(&self) -> usize
+        ensures { result ≡ self.now.place }
+    {
+        self.lines.place()
+    }
+
+    /// Forgets what wasn't read, and awaits nothing.
+    pub(crate) fn clear(&mut self)
+        ensures { self.new ≡ spec.resting [] self.old }
+    {
+        self.reading = None;
+        self.lines.clear();
+    }
+
+    /// What wasn't read, and nothing awaited.
+    pub(crate) fn copy_resting(&self) -> Result<Intake, WireError>
+        ensures copied { IfOk result (λ copy. copy ≡ spec.resting self.now.pending self.now) }
+        ensures memory { IfErr result (λ e. e ≡ errors.NoMemory) }
+    {
+        let mut lines = LineReader::new(self.lines.allocator(), self.lines.bound());
+        lines.feed(self.lines.pending())?;
+        Ok(Intake {
+            lines,
+            reading: None,
+        })
+    }
+
+    /// An equal intake.
+    pub(crate) fn try_clone(&self) -> Result<Intake, NoMemory>
+        ensures { IfOk result (λ copy. copy ≡ self.now) }
+    {
+        Ok(Intake {
+            lines: self.lines.try_clone()?,
+            reading: self.reading.try_clone()?,
+        })
+    }
+
+    /// Reads on from what was told so far.
+    fn read(&mut self, reading: Reading) -> Result<Found, NoMemory>
+        requires { self.old.reading ≡ None }
+        ensures read { IfOk result (λ found. spec.ReadsOn (record self.old { reading = Some reading }) self.new found) }
+        ensures bound { self.new.bound ≡ self.old.bound }
+        ensures lost { OnErr result (self.new.reading ≡ None) }
+    {
+        let alloc = self.lines.allocator();
+        match read_on(alloc, &mut self.lines, reading)? {
+            Progress::On(reading) => {
+                self.reading = Some(reading);
+                Ok(Found::Nothing)
+            }
+            Progress::Whole(told) => {
+                self.lines.next_reply();
+                Ok(Found::Told(told))
+            }
+            Progress::Refused(fault) => {
+                self.lines.clear();
+                Ok(Found::Fault(fault))
+            }
+        }
+    }
+
+    /// Takes the next bytes, and reads on where a reply is awaited. Where memory runs out, none is awaited any more.
+    pub(crate) fn feed(&mut self, piece: &[u8]) -> Result<Found, WireError>
+        ensures read { IfOk result (λ found. spec.ReadsOn (spec.taking piece.now self.old) self.new found) }
+        ensures bound { self.new.bound ≡ self.old.bound }
+        ensures lost { OnErr result (self.new.reading ≡ None) }
+        ensures memory { IfErr result (λ e. e ≡ errors.NoMemory) }
+    {
+        let reading = self.reading.take();
+        self.lines.feed(piece)?;
+        match reading {
+            Some(reading) => Ok(self.read(reading)?),
+            None => Ok(Found::Nothing),
+        }
+    }
+
+    /// Awaits a reply, and reads it as far as its bytes are there. Where memory runs out, none is awaited any more.
+    pub(crate) fn start(&mut self, awaited: Await) -> Result<Found, NoMemory>
+        ensures read { IfOk result (λ found. spec.ReadsOn (spec.awaiting awaited self.old) self.new found) }
+        ensures bound { self.new.bound ≡ self.old.bound }
+        ensures lost { OnErr result (self.new.reading ≡ None) }
+    {
+        let alloc = self.lines.allocator();
+        self.reading = None;
+        self.lines.next_reply();
+        self.read(Reading::start(alloc, awaited))
+    }
+}
