@@ -247,12 +247,12 @@ fn deletions(alloc: Global, names: &[FullName]) -> Result<Vec<RefEdit>, NoMemory
 {
     let mut edits = Vec::with_capacity(alloc, names.len())?;
     for name in names {
-        edits.push(deletion(name.try_clone()?))?;
+        edits.push(deletion_of(name.try_clone()?))?;
     }
     Ok(edits)
 }
 
-fn deletion(name: FullName) -> RefEdit
+fn deletion_of(name: FullName) -> RefEdit
     ensures { result ≡ steps.deletion name }
 {
     RefEdit {

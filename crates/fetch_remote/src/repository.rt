@@ -19,7 +19,6 @@ ghost use Rattle.fetch_remote.specs.RepositoryValues.{are_overrides};
 
 use crate::remotes::resolving::resolved;
 use crate::repository::open_error::OpenError;
-use crate::repository::paths;
 use crate::repository::settings::Settings;
 use fetch_config::{File, Meta};
 use fetch_refs::{Refs, Signature};
