@@ -10,8 +10,10 @@ use thiserror::Error;
 /// Why bytes weren't sent.
 #[derive(Clone, Copy, Debug, PartialEq, Eq, Error)]
 pub enum SendFault {
+    /// The other side failed. Its count of faults rose.
     #[error("the other side failed")]
     Failed,
+    /// Memory ran out. No fault is counted.
     #[error("out of memory")]
     NoMemory,
 }
