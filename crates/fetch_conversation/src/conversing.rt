@@ -55,10 +55,13 @@ impl View {
 /// What was received: the rounds, the objects of the pack, the changes of the border, and the pack's count and digest.
 #[derive(Debug, Drop)]
 pub struct Received {
+    /// The rounds that were held, one for each request.
     pub negotiate: Negotiate,
     /// Each once, under the hash of its text. None in a dry run.
     pub objects: List<(ObjectId, Object)>,
+    /// The ids of the reply's `shallow` lines, in order: commits that join the border.
     pub shallow: List<ObjectId>,
+    /// The ids of its `unshallow` lines, in order: commits that leave the border.
     pub unshallow: List<ObjectId>,
     /// How many objects the pack has, each as often as it comes, and its digest. None in a dry run.
     pub pack: Option<(u32, ObjectId)>,
@@ -85,8 +88,11 @@ impl Received {
 /// What a pack is asked for by, lent. Who asks, and with how many threads the pack is read, the settings say.
 #[derive(Clone, Copy)]
 pub struct Terms<'a> {
+    /// What is read of the repository: its hash, and its configuration with agent and algorithm.
     pub settings: &'a Settings,
+    /// What is wanted, with the repository's border and tips.
     pub view: &'a View,
+    /// What is done with tags: `include-tag` is sent for `Included` alone.
     pub tags: Tags,
     /// How the depth of the history is to change.
     pub shallow: &'a Shallow,

@@ -38,8 +38,11 @@ pub struct Inquiry<'a> {
 /// A remote whose references are listed and mapped, with the conversation that goes on.
 #[derive(Drop)]
 pub struct Listed {
+    /// The conversation, with no request under way.
     pub session: Session,
+    /// The references listed, and what they are mapped to.
     pub ref_map: RefMap,
+    /// What the greeting said.
     pub handshake: Handshake,
 }
 
