@@ -17,16 +17,19 @@ pub enum SharedError {
     /// The repository isn't closed: this is its first missing link.
     #[error("the repository has a link to an object that is not stored")]
     NotClosed {
+        /// The first missing link.
         link: Missing,
     },
     /// The pack would leave a link missing: this is the first.
     #[error("the pack has a link to an object that is not stored")]
     Disconnected {
+        /// The first missing link.
         link: Missing,
     },
     /// Another object has this id.
     #[error("another object has this id")]
     Collision {
+        /// The first such id, in the order of the pack.
         id: ObjectId,
     },
     /// An edit expects something else than what stands at its name.
