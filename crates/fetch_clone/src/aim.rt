@@ -24,7 +24,9 @@ pub enum Aim {
     Id(ObjectId),
     /// It leads to a name, which gets the id where there is one.
     Name {
+        /// The full name that `HEAD` leads to.
         name: FullName,
+        /// The id that the name gets. None where the remote has none.
         id: Option<ObjectId>,
     },
 }
