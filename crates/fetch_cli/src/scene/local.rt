@@ -21,10 +21,15 @@ use std::alloc::Global;
 /// The repository of a scene, without its objects.
 #[derive(Drop)]
 pub(crate) struct Local {
+    /// Hash, directories and leniency.
     pub head: Head,
+    /// The references. No name comes twice.
     pub refs: List<Reference>,
+    /// The commits whose parents are left out.
     pub border: Border,
+    /// The repository's own configuration.
     pub config: File,
+    /// The work trees that the fetch is told, in order.
     pub worktrees: List<Worktree>,
 }
 
