@@ -55,16 +55,21 @@ impl OpenOptions {
 /// What a repository is made of.
 #[derive(Drop)]
 pub struct Parts {
+    /// The objects, whose hash is the repository's.
     pub store: Store,
+    /// The references with their reflogs, of the same hash.
     pub refs: Refs,
     /// The commits whose parents are left aside.
     pub border: Border,
     /// The repository's own configuration.
     pub local: File,
+    /// Who writes the lines of reflogs.
     pub committer: Signature,
+    /// The path of the git directory.
     pub git_dir: Text,
     /// The directory of the work tree, where there is one.
     pub workdir: Option<Text>,
+    /// How it is opened: leniency, overrides, and what comes before the local file.
     pub options: OpenOptions,
 }
 

@@ -16,6 +16,7 @@ pub enum FetchError {
     /// From the fetch request on.
     #[error(transparent)]
     Receive(fetch::Error),
+    /// Memory ran out, in whichever step.
     #[error("out of memory")]
     NoMemory,
 }

@@ -46,6 +46,7 @@ pub struct Manner {
 /// What the outcome tells of what was received.
 #[derive(Drop)]
 pub struct Taken {
+    /// The rounds that were held, one for each request.
     pub negotiate: Negotiate,
     /// With the keep file that was made.
     pub pack: Option<Kept>,
