@@ -113,7 +113,9 @@ fn refuse(alloc: Global, listed: &Listed, terms: &Terms<'_>) -> Result<(), fetch
 }
 
 /// Asks for the pack of what is wanted, in rounds that tell which commits are there, and reads it. Where nothing is
-/// wanted, nothing is sent. The interrupt is asked once before each receive.
+/// wanted, nothing is sent. The interrupt is asked once before each receive. Before anything is sent `NoMapping`,
+/// `IncompatibleObjectHash`, a setting that can't be read and what the server lacks are refused, in this order.
+/// `Client` comes only where the peer's faults rose, and `Interrupted` only where the interrupt said yes.
 pub fn converse<R: Threads + Sync, P: Peer, I: Interrupt, Q: Progress, O: Objects>(
     rt: &R,
     alloc: Global,

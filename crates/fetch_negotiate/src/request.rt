@@ -19,7 +19,7 @@ use fetch_wire::{Handshake, Request, WireError, append_head, append_when, joined
 use std::alloc::Global;
 
 /// The request of one round: what is asked, the haves acknowledged so far in the order in which they first were, and
-/// then the window. `git/` is put before an agent that doesn't begin with it.
+/// then the window. `git/` is put before an agent that doesn't begin with it. The only error is out of memory.
 pub fn request_of(
     alloc: Global,
     handshake: &Handshake,
