@@ -1,4 +1,4 @@
--- A line of commits over the empty tree, one behind the other. They are told by how many stand before them.
+-- A line of commits over the empty tree, one after the other. They are told by how many stand before them.
 use Rattle.std.specs.Prelude.{ℕ, zero, suc, ◌+◌, List, [], ◌∷◌, ◌++◌, map, codes, decimal, Option, Some, None, option_to_list, option_map}
 use Rattle.std.specs.List.{range_with_len}
 use Rattle.hex.specs.Hex.{encode_lower}
@@ -24,7 +24,7 @@ tree_id = id_of Sha1 Tree []
 abbrev pub digits_of : ObjectId → List ℕ
 digits_of id = encode_lower (bytes_of id)
 
--- who wrote the commit of a number, and when: so many seconds after 1970
+-- who wrote the commit of a number, and when: that many seconds after 1970
 unfoldable pub signature : ℕ → List ℕ
 signature number = codes "A <a@x> " ++ decimal number ++ codes " +0000"
 
@@ -51,14 +51,14 @@ abbrev pub tip : ℕ → Option ObjectId
 tip zero = None
 tip (suc n) = Some (id_of Sha1 Commit (text_of (tip n) (n + 1)))
 
--- The commit behind n others: the last of them is its parent, and its number is n + 1.
+-- The commit after n others: the last of them is its parent, and its number is n + 1.
 abbrev pub commit_after : ℕ → Stored
 commit_after n = commit_of (tip n) (n + 1)
 
--- count commits, of which the first stands behind n others
+-- count commits, of which the first stands after n others
 abbrev pub commits_after : ℕ → ℕ → List Stored
 commits_after n count = map commit_after (range_with_len n count)
 
--- the empty tree, and the first n commits behind it
+-- the empty tree, and the first n commits after it
 abbrev pub line_of : ℕ → Entries
 line_of n = map under_its_id (empty_tree ∷ commits_after 0 n)

@@ -44,7 +44,7 @@ answer_in bound (ends answer) stream = beside stream answer
 answer_in bound (asks lines awaited failed next) stream =
     after_reply (λ fault. Err (failed fault)) (λ told rest. answer_in bound (next told) rest) (told_at bound awaited stream)
 
--- Whether the bytes end in a reply, with nothing wrong in it, or go on behind whole ones.
+-- Whether the bytes end in a reply, with nothing wrong in it, or go on after whole ones.
 abbrev pub ends_in : (Told → List ℕ → Bool) → Result (Told × List ℕ) Fault → Bool
 ends_in go (Ok x) = go x.0 x.1
 ends_in go (Err (faults.Short place)) = true
@@ -87,7 +87,7 @@ told_as g (ends answer) = ends (map_refusal g answer)
 told_as g (asks lines awaited failed next) = asks lines awaited (λ fault. g (failed fault)) (λ told. told_as g (next told))
 
 -- The conversation was held to its end: the peer heard its lines, and this is its answer, whatever comes after. No
--- receive was made before all that was to be sent so far had been heard, and none behind a reply that was whole.
+-- receive was made before all that was to be sent so far had been heard, and none after a reply that was whole.
 pub record Concludes {X E : Type 0} (answers : Bool) (bound : ℕ) (old new : Option Talk) (pending : List ℕ) (c : Conversation X E) (x : X) (rest : List ℕ) : Type 0 where
   pub said : List ℕ
   pub heard : List ℕ

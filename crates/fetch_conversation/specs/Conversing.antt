@@ -28,7 +28,7 @@ use Rattle.fetch_conversation.specs.declared.rounds.Course.{Course}
 abbrev pub terms_told : ListedValue → Terms → TermsValue
 terms_told l t = record { listed = l; settings = t.settings.now; view = t.view.now; tags = t.tags; shallow = t.shallow.now; dry_run = t.dry_run }
 
--- a refusal is told, or want of memory in its place; where there is none, nothing is refused
+-- a refusal is told, or out of memory in its place; where there is none, nothing is refused
 abbrev pub Tells : {T : Type 0} → Option Error → Result T Error → Type 0
 Tells None (Ok x) = ⊤
 Tells None (Err e) = e ≡ errors.NoMemory

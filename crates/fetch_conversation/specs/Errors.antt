@@ -15,7 +15,7 @@ use Rattle.fetch_conversation.specs.declared.prepare.Error.TheVariants as prepar
 use Rattle.fetch_conversation.specs.declared.ref_map.Error.{Error as RefMapError}
 use Rattle.fetch_conversation.specs.declared.ref_map.Error.TheVariants as ref_map
 
--- ---- an inner refusal; want of memory stays what it is
+-- ---- an inner refusal; out of memory stays what it is
 
 abbrev pub prepare_of : RefMapError → PrepareError
 prepare_of ref_map.NoMemory = prepare.NoMemory
@@ -85,7 +85,7 @@ is_interrupted prepare.MissingRefSpecs = false
 is_interrupted (prepare.RefMap e) = is_interrupted_map e
 is_interrupted prepare.NoMemory = false
 
--- A free refusal has no cause in the conversation: want of memory has none at all, and a fault and a yes have a count.
+-- A free refusal has no cause in the conversation: out of memory has none at all, and a fault and a yes have a count.
 abbrev pub is_free_map : RefMapError → Bool
 is_free_map (ref_map.Handshake e) = false
 is_free_map ref_map.Transport = true
@@ -149,7 +149,7 @@ is_stopped (fetch.UpdateRefs e) = false
 is_stopped (fetch.RemovePackKeepFile path) = false
 is_stopped fetch.NoMemory = false
 
--- A free refusal has no cause in the conversation: want of memory has none at all, and a fault and a yes have a count.
+-- A free refusal has no cause in the conversation: out of memory has none at all, and a fault and a yes have a count.
 abbrev pub is_free_receiving : ReceiveError → Bool
 is_free_receiving fetch.Client = true
 is_free_receiving fetch.Interrupted = true

@@ -52,7 +52,7 @@ abbrev pub with_spec : Option Spec → List Spec → List Spec
 with_spec None extra = extra
 with_spec (Some spec) extra = if list_any is_tag_spec extra then extra else extra ++ spec ∷ []
 
--- the extra refspecs, and the one of the tags behind them where tags are taken and it isn't among them
+-- the extra refspecs, and the one of the tags after them where tags are taken and it isn't among them
 abbrev pub with_tags : Tags → List Spec → List Spec
 with_tags tags extra = with_spec (tag_spec_of tags) extra
 

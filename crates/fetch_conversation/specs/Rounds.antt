@@ -58,7 +58,7 @@ pub record Negotiated : Type 0 where
 abbrev pub is_end : CourseValue → Window → FetchReply → Bool
 is_end c w reply = is_short c w || reply.last
 
--- So many rounds at most, from here on. They are never used up where they are more than the stored objects.
+-- That many rounds at most, from here on. They are never used up where they are more than the stored objects.
 unfoldable pub negotiating : ℕ → ℕ → TermsValue → Graph → Algorithm → CourseValue → Conversation Negotiated Error
 negotiating zero bound t g algorithm c = ends (Err other_reply)
 negotiating (suc more) bound t g algorithm c =

@@ -37,7 +37,7 @@ pub record AreWithin (bound : ℕ) (lines : List Line) : Type 0 where
 
 -- ---- the references
 
--- The inquiry has refspecs, and nothing of it is refused before or behind this greeting.
+-- The inquiry has refspecs, and nothing of it is refused before or after this greeting.
 pub record IsAskable (q : InquiryValue) (h : Handshake) : Type 0 where
   pub some : no_specs q ≡ None
   pub sendable : unsendable q ≡ None

@@ -33,7 +33,7 @@ use std::thread::Threads;
 pub struct View {
     /// What is asked for.
     pub wants: List<ObjectId>,
-    /// The commits whose parents are left aside.
+    /// The commits whose parents are left out.
     pub border: Border,
     /// The commits that its references lead to.
     pub tips: List<ObjectId>,

@@ -151,7 +151,7 @@ impl Error {
     }
 }
 
-/// Want of memory stays want of memory, and a collision is told by itself.
+/// Out of memory stays out of memory, and a collision is told by itself.
 impl From<PackError> for Error {
     ghost use Rattle.std.specs.Prelude.{◌≡◌};
     ghost use Rattle.fetch_conversation.specs.Errors.{fetch_of_pack};
@@ -167,7 +167,7 @@ impl From<PackError> for Error {
     }
 }
 
-/// Want of memory stays want of memory.
+/// Out of memory stays out of memory.
 impl From<WireError> for Error {
     ghost use Rattle.std.specs.Prelude.{◌≡◌};
     ghost use Rattle.fetch_conversation.specs.Errors.{fetch_of_wire};
@@ -182,7 +182,7 @@ impl From<WireError> for Error {
     }
 }
 
-/// Want of memory stays want of memory.
+/// Out of memory stays out of memory.
 impl From<update::Error> for Error {
     ghost use Rattle.std.specs.Prelude.{◌≡◌};
     ghost use Rattle.fetch_conversation.specs.Errors.{fetch_of_update};

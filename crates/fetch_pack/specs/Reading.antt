@@ -20,7 +20,7 @@ abbrev pub ◌>>=◌ : {A B : Type 0} → Result A PackError → (A → Result B
 (Ok x) >>= f = f x
 (Err e) >>= f = Err e
 
--- want of memory
+-- out of memory
 abbrev pub is_memory : PackError → Bool
 is_memory NoMemory = true
 is_memory _ = false

@@ -45,7 +45,7 @@ category_of name =
     else if list_any (λ b. b == 47) name then None
     else Some PseudoRef
 
--- a name without a front, where it has it
+-- a name without a prefix, where it has it
 abbrev pub without : List ℕ → List ℕ → List ℕ
 without front name = if starts_with nat_eq name front then drop (length front) name else name
 

@@ -42,7 +42,7 @@ front_of pattern = before_first (λ b. b == 42) pattern
 abbrev pub back_of : List ℕ → List ℕ
 back_of pattern = after_first (λ b. b == 42) pattern
 
--- what stands between a front and a back in a name that has both
+-- what stands between a prefix and a suffix in a name that has both
 abbrev pub between : List ℕ → List ℕ → List ℕ → Option (List ℕ)
 between front back name =
     if nat_le (length front + length back) (length name) && starts_with nat_eq name front && ends_with nat_eq name back

@@ -63,18 +63,18 @@ abbrev pub greatest : (ℕ → Bool) → ℕ → ℕ
 greatest passes zero = zero
 greatest passes (suc n) = if passes (suc n) then suc n else greatest passes n
 
--- the length of the longest front that a letter makes a name
+-- the length of the longest prefix that a letter makes a name
 unfoldable pub name_place : Bool → List ℕ → ℕ
 name_place star text = greatest (λ k. is_name star (take k text ++ 97 ∷ [])) (length text)
 
--- whether a front goes on as a full name: by a small letter, by a capital, or as `refs/` does
+-- whether a prefix goes on as a full name: by a small letter, by a capital, or as `refs/` does
 abbrev pub goes_on : List ℕ → Bool
 goes_on front = is_full_name (front ++ 97 ∷ []) || is_full_name (front ++ 65 ∷ []) || starts_with nat_eq refs front
 
 unfoldable pub full_name_place : List ℕ → ℕ
 full_name_place text = greatest (λ k. goes_on (take k text)) (length text)
 
--- the place is the length of the longest front that begins some valid text
+-- the place is the length of the longest prefix that begins some valid text
 pub record IsLongestBeginning (valid : List ℕ → Bool) (text : List ℕ) (place : ℕ) : Type 0 where
   pub within : place ≤ length text
   pub begins : (rest : List ℕ) × IsTrue (valid (take place text ++ rest))

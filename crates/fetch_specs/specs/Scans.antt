@@ -28,7 +28,7 @@ abbrev pub last_part : List ℕ → List ℕ → List ℕ
 last_part c [] = c
 last_part c (b ∷ bs) = last_part (onward c b) bs
 
--- how many bytes a text has in common with a word's front
+-- how many bytes a text has in common with a word's prefix
 abbrev pub common : List ℕ → List ℕ → ℕ
 common [] text = 0
 common (x ∷ word) [] = 0

@@ -106,7 +106,7 @@ fn put_source(alloc: Global, texts: &mut Vec<Text>, source: &[u8]) -> Result<(),
     put_expansions(alloc, texts, source)
 }
 
-/// Puts the front of a source up to its second slash.
+/// Puts the prefix of a source up to its second slash.
 fn put_front(alloc: Global, texts: &mut Vec<Text>, source: &[u8]) -> Result<(), NoMemory>
     ensures { OnOk result (texts.new.items ≡ put_all texts.old.items (words.refs_prefix source.now)) }
 {

@@ -68,7 +68,7 @@ impl FullName {
         self.text.as_bytes()
     }
 
-    /// What the name is for, where its front says so.
+    /// What the name is for, where its prefix says so.
     #[tactic(auto, unfolding(crate::specs::Categories::tags, crate::specs::Categories::heads, crate::specs::Categories::remotes, crate::specs::Categories::notes))]
     pub fn category(&self) -> Option<Category>
         ensures { result ≡ category_of self.now }

@@ -1,4 +1,4 @@
--- Borders: finite sets of the commits whose parents are left aside.
+-- Borders: finite sets of the commits whose parents are left out.
 use Rattle.std.specs.Prelude.{List, map}
 use Rattle.std.specs.Coded.{Coded}
 use Rattle.std.specs.FinMap as finmap

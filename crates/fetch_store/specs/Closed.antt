@@ -10,7 +10,7 @@ use Rattle.fetch_store.specs.Objects.{Stored, links_of, parents_of, others_of, i
 use Rattle.fetch_store.specs.Stores.{ObjectMap}
 use Rattle.fetch_store.specs.Borders.{IdSet}
 
--- the objects, and the commits whose parents are left aside
+-- the objects, and the commits whose parents are left out
 pub record Holding : Type 0 where
   pub objects : ObjectMap
   pub border : IdSet

@@ -29,7 +29,7 @@ pub record IsWithin (nexts : Nexts) (starts : List ObjectId) (limit : Option ℕ
   pub path : IsPath nexts start rest id
   pub few : IfSome limit (λ n. length rest ≤ n)
 
--- one step on from what is within so many steps
+-- one step on from what is within that many steps
 abbrev pub IsOneOn : Nexts → List ObjectId → ℕ → ObjectId → Type 0
 IsOneOn nexts starts n id = (from : ObjectId) × IsWithin nexts starts (Some n) from × IsNext nexts from id
 

@@ -81,7 +81,7 @@ abbrev pub adjusted : Names → List RefEdit → Verdict → Option RefEdit → 
 adjusted names edits v None = v
 adjusted names edits v (Some e) = if is_kept names edits e.change then kept e else v
 
--- the updates, where so many edits stand before them
+-- the updates, where that many edits stand before them
 abbrev pub updates_from : ℕ → Verdicts → List Update
 updates_from n [] = []
 updates_from n (v ∷ vs) =

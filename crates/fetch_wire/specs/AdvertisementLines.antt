@@ -23,7 +23,7 @@ joined (word ∷ others) = word ++ spaced others
 abbrev pub named_text : Option ObjectId → List ℕ → List ℕ
 named_text id name = id_text id ++ 32 ∷ name
 
--- what a tag peels to, under its name with `^{}` behind it
+-- what a tag peels to, under its name with `^{}` after it
 abbrev pub peel_texts : List ℕ → Option ObjectId → List (List ℕ)
 peel_texts name None = []
 peel_texts name (Some id) = named_text (Some id) (name ++ codes "^{}") ∷ []

@@ -33,7 +33,7 @@ abbrev pub with_word : List Capability → List ℕ → Option (List Capability)
 with_word found [] = Some found
 with_word found (c ∷ cs) = option_map (λ capability. found ++ capability ∷ []) (option_and_then if_known (capability_in (c ∷ cs)))
 
--- the capabilities of words, behind those before them
+-- the capabilities of words, after those before them
 abbrev pub with_words : List Capability → List (List ℕ) → Option (List Capability)
 with_words found [] = Some found
 with_words found (word ∷ others) = option_and_then (λ more. with_words more others) (with_word found word)
@@ -97,7 +97,7 @@ with_peel id name [] = None
 with_peel id name (r ∷ []) = if bytes_eq (name_in r) name then Some (peeled_to id r ∷ []) else None
 with_peel id name (r ∷ s ∷ others) = option_map (λ more. r ∷ more) (with_peel id name (s ∷ others))
 
--- a line `<id> <name>`, or `<id> <name>^{}` behind the line of that name
+-- a line `<id> <name>`, or `<id> <name>^{}` after the line of that name
 abbrev pub at_name : Handshake → List Ref → Advertised → ObjectId → List ℕ → Option (List ℕ) → Option Reading
 at_name handshake before next.Reference id name None = option_map (λ r. reading.Advertisement handshake (before ++ r ∷ []) next.Reference) (advertised handshake before id name)
 at_name handshake before next.Reference id name (Some short) = option_map (λ refs. reading.Advertisement handshake refs next.Peeled) (with_peel id short before)

@@ -16,7 +16,7 @@ pub record Feeding : Type 0 where
   pub place : ℕ
   pub pending : List ℕ
 
--- the same, with more bytes behind
+-- the same, with more bytes after
 abbrev pub fed : Feeding → List ℕ → Feeding
 fed feeding more = record feeding { pending = feeding.pending ++ more }
 

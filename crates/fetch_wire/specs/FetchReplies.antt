@@ -79,7 +79,7 @@ at_acknowledgment asked reply text =
     if is_ready text then goes (reading.Reply asked Ready reply) else or_breaks (acknowledged_in asked text)
     (λ id. goes (reading.Reply asked Acknowledgments (record reply { acknowledged = reply.acknowledged ++ id ∷ [] }))))
 
--- behind `ready`: the delimiter alone
+-- after `ready`: the delimiter alone
 abbrev pub behind_ready : AskedReply → FetchReply → Line → Step Reading Told
 behind_ready asked reply (Payload payload) = breaks
 behind_ready asked reply Flush = breaks
@@ -92,7 +92,7 @@ at_change asked reply (Some id) unshallow = goes (reading.Reply asked ShallowInf
 at_change asked reply None (Some id) = goes (reading.Reply asked ShallowInfo (record reply { unshallow = reply.unshallow ++ id ∷ [] }))
 at_change asked reply None None = breaks
 
--- the pack with more bytes behind it
+-- the pack with more bytes after it
 abbrev pub with_bytes : Option (List ℕ) → List ℕ → Option (List ℕ)
 with_bytes None bytes = Some bytes
 with_bytes (Some pack) bytes = Some (pack ++ bytes)

@@ -13,7 +13,7 @@ use Rattle.fetch_wire.specs.RequestWords.{agent_word, agent_is, format_word, for
 abbrev pub text_line : List ℕ → Line
 text_line text = Payload (text ++ 10 ∷ [])
 
--- `name` or `name=value`, with a NUL behind it
+-- `name` or `name=value`, with a NUL after it
 abbrev pub parameter_text : List ℕ × Option (List ℕ) → List ℕ
 parameter_text (name, None) = name ++ 0 ∷ []
 parameter_text (name, Some value) = name ++ 61 ∷ value ++ 0 ∷ []

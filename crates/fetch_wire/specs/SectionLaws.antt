@@ -17,7 +17,7 @@ use Rattle.fetch_wire.specs.declared.lines.section.Trouble.TheVariants.{Short, B
 use Rattle.fetch_wire.specs.declared.lines.line.Line.{Line}
 use Rattle.fetch_wire.specs.Lines.{◌>>=◌, is_no_line, line_counted, announced, number_in, line_at}
 
--- more bytes behind what a reading found
+-- more bytes after what a reading found
 abbrev pub with_more : {A : Type 0} → Result (A × List ℕ) Trouble → List ℕ → Result (A × List ℕ) Trouble
 with_more found more = found >>= λ x. Ok (x.0, x.1 ++ more)
 
@@ -65,7 +65,7 @@ unfolding number_in
 no_number-by_digit digits wrong =
     no_number (decode_sized digits 2) (λ ok. let all = list_all-from_AllPass is_hex_digit digits ((IsOk-decode_sized digits 2).0 ok).1 in cc)
 
--- a front that isn't all digits
+-- a prefix that isn't all digits
 wrong_front : (bytes more : List ℕ) → list_all is_hex_digit bytes ≡ false → list_all is_hex_digit (bytes ++ more) ≡ false
 wrong_front bytes more wrong = list_all-append is_hex_digit bytes more ∙ rw wrong refl
 

@@ -94,7 +94,7 @@ abbrev pub acknowledged_texts : List ObjectId → List (List ℕ)
 acknowledged_texts [] = codes "NAK" ∷ []
 acknowledged_texts (id ∷ ids) = id_lines (codes "ACK ") (id ∷ ids)
 
--- a reply behind which more haves may come
+-- a reply after which more haves may come
 abbrev pub round_lines : List ObjectId → List Line
 round_lines ids = sent (codes "acknowledgments" ∷ acknowledged_texts ids) ++ Flush ∷ []
 

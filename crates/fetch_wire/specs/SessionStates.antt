@@ -90,7 +90,7 @@ asks_listing h s =
     let lines = listing_lines h s.agent s.prefixes in
     listing_by (first_too_long lines) (offers listing_feature h.capabilities) h lines s
 
--- behind a greeting of version 2 the references are asked for
+-- after a greeting of version 2 the references are asked for
 abbrev pub asks : Told → SessionState → SessionState
 asks (told.Greeting h) s = asks_listing h s
 asks (told.Advertisement h refs) s = s
@@ -116,7 +116,7 @@ after_told asking s (Some (Err (faults.Said text))) = failing (errors.ServerErro
 abbrev pub read_one : (Told → SessionState → SessionState) → SessionState → SessionState
 read_one asking s = after_told asking s (told_with s.intake [])
 
--- Reads on as far as replies are whole: behind a greeting the listing, and behind each other reply none is awaited.
+-- Reads on as far as replies are whole: after a greeting the listing, and after each other reply none is awaited.
 abbrev pub read_on : SessionState → SessionState
 read_on s = read_one rests (read_one asks s)
 
@@ -124,7 +124,7 @@ abbrev pub fed_by : Option WireError → SessionState → List ℕ → SessionSt
 fed_by (Some e) s piece = s
 fed_by None s piece = read_on (record s { intake = taking piece s.intake })
 
--- More bytes came. Behind a trouble none is read.
+-- More bytes came. After a trouble none is read.
 abbrev pub fed : SessionState → List ℕ → SessionState
 fed s piece = fed_by s.trouble s piece
 
@@ -158,11 +158,11 @@ turn_by None true false = turns.Idle
 abbrev pub turn_of : SessionState → Turn
 turn_of s = turn_by (refusal_of s) (is_all_sent s) (is_some s.intake.reading)
 
--- What was fed behind the replies read is a proper prefix of the awaited one, and no digits in it pass the bound.
+-- What was fed after the replies read is a proper prefix of the awaited one, and no digits in it pass the bound.
 abbrev pub IsAwaiting : SessionState → Type 0
 IsAwaiting s = (place : ℕ) × (told_with s.intake [] ≡ Some (Err (faults.Short place)))
 
--- want of memory
+-- out of memory
 abbrev pub is_memory : WireError → Bool
 is_memory errors.NoMemory = true
 is_memory _ = false
@@ -200,7 +200,7 @@ stored found.Nothing s = s
 stored (found.Told t) s = keeps t s
 stored (found.Fault fault) s = record s { trouble = Some (error_of s.intake.bound fault) }
 
--- and behind a greeting the references are asked for
+-- and after a greeting the references are asked for
 abbrev pub Takes : Found → SessionState → SessionState → Type 0
 Takes found.Nothing s now = now ≡ s
 Takes (found.Told (told.Greeting h)) s now = IsAlike now (read_one rests (asks_listing h (keeps (told.Greeting h) s)))

@@ -54,11 +54,11 @@ abbrev pub IsDrained : Option Talk → Type 0
 IsDrained None = ⊤
 IsDrained (Some a) = a.to_come ≡ []
 
--- some front of the bytes
+-- some prefix of the bytes
 abbrev pub IsFront : List ℕ → List ℕ → Type 0
 IsFront front bytes = (rest : List ℕ) × (bytes ≡ front ++ rest)
 
--- a send: the bytes were heard, or at a refusal a front of them
+-- a send: the bytes were heard, or at a refusal a prefix of them
 abbrev pub Sends : {T E : Type 0} → Bool → Option Talk → Option Talk → Result T E → List ℕ → Type 0
 Sends answers before now result bytes =
     MatchResult result (λ _. Talks answers before now bytes []) (λ _. (front : List ℕ) × IsFront front bytes × Talks answers before now front [])

@@ -140,7 +140,7 @@ pub(crate) fn open(alloc: Global, setting: &Setting) -> Result<Option<Repository
     Ok(Some(repo))
 }
 
-/// The calls that fail, behind the one that sets the files up.
+/// The calls that fail, after the one that sets the files up.
 fn failing(alloc: Global, calls: &[u64]) -> Result<Vec<u64>, NoMemory> {
     let mut failing = Vec::new(alloc);
     for call in calls {

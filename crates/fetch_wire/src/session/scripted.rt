@@ -120,7 +120,7 @@ fn next_place(pieces: &[Text], piece: usize, offset: usize) -> (usize, usize)
     (piece, offset)
 }
 
-/// Copies what stands behind this place to the front of `into`, as far as it fits.
+/// Copies what follows this place to the front of `into`, as far as it fits.
 fn copy_from(bytes: &[u8], place: usize, into: &mut [u8]) -> usize
     requires { place ≤ length bytes.now }
     ensures count { result ≡ min (length into.new) (length bytes.now - place) }
