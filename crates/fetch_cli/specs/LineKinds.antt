@@ -34,7 +34,7 @@ symbolic_in name = option_map targets.Symbolic (full_name_in name)
 abbrev pub object_in : Kind → List ℕ → Option Target
 object_in hash digits = option_map targets.Object (id_in_hex hash digits)
 
--- a name behind a `@`, or the digits of an id
+-- a name after a `@`, or the digits of an id
 unfoldable pub target_in : Kind → List ℕ → Option Target
 target_in hash [] = None
 target_in hash (c ∷ cs) = if c == 64 then symbolic_in cs else object_in hash (c ∷ cs)
@@ -77,6 +77,6 @@ tags_of line = value_of (codes "tags ") line >>= tags_named
 abbrev pub refspec_in : List ℕ → Option Spec
 refspec_in text = result_ok (parsed Fetch text)
 
--- behind a word
+-- after a word
 unfoldable pub refspec_of : List ℕ → Line → Option Spec
 refspec_of word line = value_of word line >>= refspec_in

@@ -171,7 +171,7 @@ report_of s = report_with (requests_in (given_of s) (found_of s) (stream_of s)) 
 pub record IsReport (s : Scene) (status : ℕ) (text : List ℕ) : Type 0 where
   pub whole : report_of s ≡ (status, text)
 
--- The report of the scene stands behind what was there.
+-- The report of the scene stands after what was there.
 pub record Reports (s : Scene) (old new : List ℕ) (status : ℕ) : Type 0 where
   pub text : List ℕ
   pub reported : IsReport s status text

@@ -34,7 +34,7 @@ sent_line End = codes "> 0002\n"
 abbrev pub hex_of : ObjectId → List ℕ
 hex_of id = encode_lower (bytes_of id)
 
--- an id, or a name behind a `@`
+-- an id, or a name after a `@`
 unfoldable pub target_text : Target → List ℕ
 target_text (targets.Object id) = hex_of id
 target_text (targets.Symbolic name) = codes "@" ++ name

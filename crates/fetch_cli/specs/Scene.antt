@@ -36,7 +36,7 @@ bytes_in p = unwrap_or (payload_of p.line) []
 unfoldable pub objects_in : Kind → List Placed → Option Entries
 objects_in hash payloads = option_map (λ pack. pack.objects) (result_ok (read hash (flat_map bytes_in payloads)))
 
--- A pack that breaks is malformed at its first payload, or at the line behind it where it has none; whatever follows.
+-- A pack that breaks is malformed at its first payload, or at the line after it where it has none; whatever follows.
 unfoldable pub objects_of : Kind → Lines → Result (Entries × Lines) ℕ
 objects_of hash ls = do
   objects ← ok_or (objects_in hash (group_of payload_of ls)) (place_of ls)
@@ -59,7 +59,7 @@ abbrev pub ends_in : ℕ → List Placed → ℕ → Result (Unit {0}) ℕ
 ends_in len [] last = if last == len then Ok tt else Err last
 ends_in len (p ∷ ps) last = Err p.place
 
--- the peer's pieces, and a flush with nothing behind it
+-- the peer's pieces, and a flush with nothing after it
 unfoldable pub pieces_of : ℕ → Lines → Result (List (List ℕ)) ℕ
 pieces_of len ls = do
   pieces ← each_of payload_of (group_of payload_of ls)

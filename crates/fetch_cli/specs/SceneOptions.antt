@@ -56,7 +56,7 @@ parameter_split text (Some x) = parameter_of x.0 (Some x.1)
 abbrev pub parameter_in : List ℕ → Option SceneOption
 parameter_in text = parameter_split text (split_first 61 text)
 
--- an option of a word and a text behind it
+-- an option of a word and a text after it
 unfoldable pub option_with : List ℕ → List ℕ → Option SceneOption
 option_with word text =
     if bytes_eq word (codes "depth") then depth_in text

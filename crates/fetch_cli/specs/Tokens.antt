@@ -1,4 +1,4 @@
--- How a report tells a refusal: the variant's name, and what it keeps behind a space. A variant that only wraps another
+-- How a report tells a refusal: the variant's name, and what it keeps after a space. A variant that only wraps another
 -- refusal is told as that one.
 use Rattle.std.specs.Prelude.{ℕ, List, ◌++◌, codes, decimal, Option, Some, None}
 use Rattle.fetch_pack.specs.declared.error.PackError.{PackError}

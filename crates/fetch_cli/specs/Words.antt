@@ -26,7 +26,7 @@ if_few n = if nat_lt 0 n && nat_le n 100000 then Some n else None
 abbrev pub count_in : List ℕ → Option ℕ
 count_in word = option_and_then if_few (number_in word)
 
--- how many commits the words behind `bench` ask for; a further word is too many
+-- how many commits the words after `bench` ask for; a further word is too many
 abbrev pub bench_with : Option ℕ → List (List ℕ) → Result Command ℕ
 bench_with None others = Err 2
 bench_with (Some count) [] = Ok (Bench count)

@@ -1,4 +1,4 @@
-//! The lines of a report. Each call puts a line behind what is there; after an error a part of it may stand there.
+//! The lines of a report. Each call puts a line after what is there; after an error a part of it may stand there.
 
 ghost use Rattle.std.specs.Prelude.{◌≡◌, ◌<◌, ◌++◌, decimal, OnOk};
 ghost use Rattle.std.specs.List.{flat_map};

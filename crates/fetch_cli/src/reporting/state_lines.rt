@@ -80,7 +80,7 @@ fn append_ids(out: &mut Vec<u8>, store: &Store) -> Result<(), NoMemory>
 {
     match store.ids(*out.allocator()) {
         Ok(ids) => append_each_id(out, &ids),
-        // Ids are refused for nothing but want of memory.
+        // Ids are refused only where memory runs out.
         Err(
             StoreError::NoMemory
             | StoreError::BadHex { .. }

@@ -42,7 +42,7 @@ fn border_of(alloc: Global, ids: List<ObjectId>) -> Result<Border, NoMemory>
     }
 }
 
-/// Reads the repository of a scene, and the delimiter behind it.
+/// Reads the repository of a scene, and the delimiter after it.
 #[tactic(auto, unfolding(crate::specs::Scene::local_of))]
 pub(crate) fn read_local<'a>(
     alloc: Global,

@@ -29,7 +29,7 @@ pub(crate) struct RemotePart {
     pub options: SceneOptions,
 }
 
-/// Reads the remote of a scene, and the delimiter behind it.
+/// Reads the remote of a scene, and the delimiter after it.
 #[tactic(auto, unfolding(crate::specs::Scene::remote_of))]
 pub(crate) fn read_remote<'a>(
     alloc: Global,

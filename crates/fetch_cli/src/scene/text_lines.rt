@@ -11,7 +11,7 @@ use fetch_store::NoMemory;
 use fetch_wire::{LineRef, line_in};
 use std::alloc::Global;
 
-/// The line at a place, and the place behind it.
+/// The line at a place, and the place after it.
 #[tactic(auto, unfolding(crate::specs::SceneLines::line_found))]
 fn line_at(bytes: &[u8], place: usize) -> Option<(LineRef<'_>, usize)>
     requires within { place ≤ length bytes.now }
