@@ -45,7 +45,7 @@ abbrev pub ChoosesRevision : Wanted → Option (List ℕ) → Wanted → Type 0
 ChoosesRevision before None now = now ≡ without_revision before
 ChoosesRevision before (Some text) now = (found : Spec) × (revision_of text ≡ Ok found) × (now ≡ Revision found)
 
--- A text that is a name is refused for want of memory alone; one that isn't is refused with its place; None is never refused.
+-- A text that is a name is refused only where memory runs out; one that isn't is refused with its place; None is never refused.
 abbrev pub IsNameRefusalAt : Option ℕ → NameError → Type 0
 IsNameRefusalAt None e = e ≡ names.NoMemory
 IsNameRefusalAt (Some place) e = e ≡ names.Invalid place

@@ -86,7 +86,7 @@ IsStopAt may_fail stood (File path bytes) now (IoWrite told) = (told ≡ path) �
 IsStopAt may_fail stood step now NoMemory = TellsStill stood now
 IsStopAt may_fail stood step now e = ⊥
 
--- The first steps were done, so many, and the next one was refused.
+-- The first steps were done, that many, and the next one was refused.
 pub record IsStopped (may_fail : Bool) (before : Option Tree) (steps : List Step) (now : Option Tree) (e : Error) : Type 0 where
   pub count : ℕ
   pub step : Step

@@ -60,7 +60,7 @@ pub record IsUnprepared (was is : Faults) (may_fail : Bool) (before : Option Tre
   pub noted : IsNoted was is before place stood free
   pub why : IsInitRefusal may_fail stood (steps_of place making.kind (strict making.options)) (new_of place making.kind (strict making.options) making.committer making.open_options) now e
 
--- Want of memory is never wrapped.
+-- Out of memory is never wrapped.
 abbrev pub init_refusal : InitError → Error
 init_refusal initial.NoMemory = NoMemory
 init_refusal e = Init e

@@ -106,7 +106,7 @@ pub record IsInitial (told : Option Tree) (new : New) (repo : RepositoryValue) :
 
 -- ---- why it isn't
 
--- Want of memory is never wrapped.
+-- Out of memory is never wrapped.
 abbrev pub creation_refusal : CreateError → Error
 creation_refusal creating.NoMemory = NoMemory
 creation_refusal e = Init e

@@ -17,6 +17,6 @@ is_replaced news s = list_any (is_like s) news
 unfoldable pub without_replaced : List Section → Contents → Contents
 without_replaced news file = with_sections file (filter (λ s. not (is_replaced news s)) file.sections)
 
--- Those that are replaced go, and the new ones stand behind the others.
+-- Those that are replaced go, and the new ones stand after the others.
 unfoldable pub replaced : List Section → Contents → Contents
 replaced news file = with_sections file (filter (λ s. not (is_replaced news s)) file.sections ++ news)
