@@ -8,7 +8,7 @@ use Rattle.fetch_remote.specs.declared.fetching.fetch_error.FetchError.TheVarian
 use Rattle.fetch_shared.specs.declared.error.SharedError.{SharedError}
 use Rattle.fetch_shared.specs.declared.error.SharedError.TheVariants as errors
 
--- want of memory stays what it is
+-- out of memory stays what it is
 abbrev pub fetching : FetchError → SharedError
 fetching fetch.NoMemory = errors.NoMemory
 fetching e = errors.Fetch e

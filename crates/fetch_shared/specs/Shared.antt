@@ -50,7 +50,7 @@ pub record IsKept (v : SharedValue) : Type 0 where
   pub state : IsStateOf v.opening v.journal v.repository
   pub met : AllMet (outline v.opening) v.journal
 
--- want of memory
+-- out of memory
 abbrev pub is_memory : SharedError → Bool
 is_memory errors.NoMemory = true
 is_memory _ = false

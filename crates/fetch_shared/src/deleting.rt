@@ -55,7 +55,7 @@ pub fn delete_shared<R: Wait, W: Worktrees>(
     }
 }
 
-/// Enters a deletion of these names. Want of memory alone refuses it.
+/// Enters a deletion of these names. Out of memory alone refuses it.
 fn enter<R: Wait>(
     rt: &R,
     alloc: Global,

@@ -90,7 +90,7 @@ fn copy_of(found: &Option<Target>) -> Result<Option<Target>, NoMemory>
     }
 }
 
-/// Want of memory stays want of memory.
+/// Out of memory stays out of memory.
 impl From<FetchError> for SharedError {
     ghost use Rattle.std.specs.Prelude.{◌≡◌};
     ghost use Rattle.fetch_shared.specs.Errors.{fetching};
@@ -105,7 +105,7 @@ impl From<FetchError> for SharedError {
     }
 }
 
-/// Want of memory stays want of memory.
+/// Out of memory stays out of memory.
 impl From<delete::Error> for SharedError {
     ghost use Rattle.std.specs.Prelude.{◌≡◌};
     ghost use Rattle.fetch_shared.specs.Errors.{deleting};
