@@ -66,7 +66,7 @@ uncounted g trees before after files left said heard e sure = record {
   removing = λ path is. absurd (uncaused e (unremoved path) sure refl is);
 }
 
--- ---- want of memory before anything is said
+-- ---- out of memory before anything is said
 
 no_memory_counted : (g : Given) (trees : List Worktree) (before after : State) (files left : Option Tree) (said heard : List ℕ) → IsCounted g trees before after files left said heard errors.NoMemory
 no_memory_counted g trees before after files left said heard = record {
@@ -218,7 +218,7 @@ pub broken_off : (answers : Bool) (old new : Option Talk) (known : Option (List 
 broken_off answers old new known files g before e (inl h) = broken_listing answers old new known files g before e h
 broken_off answers old new known files g before e (inr h) = broken_receiving answers old new known files g before e h
 
--- ---- refused behind the conversation
+-- ---- refused after the conversation
 
 -- the refusal's cause, and what it leaves
 abbrev IsLate : Given → List Worktree → State → State → Option Tree → Option Tree → Told → ReceiveError → Type 0

@@ -27,7 +27,7 @@ use Rattle.fetch_remote.specs.Stages.{Told, bound_of, wants_in, terms_in, listin
 use Rattle.fetch_remote.specs.Valid.{IsTakeable, AreJudgeable, policy_with, IsValidInput}
 use Rattle.fetch_remote.specs.declared.fetching.fetch_error.FetchError.{FetchError}
 
--- ---- one stage behind the other
+-- ---- one stage after the other
 
 told_end : (bound : ℕ) (l : ListedValue) (r : Option Received) (rest : List ℕ) → answer_in {X = Told} {E = FetchError} bound (ends (Ok (record { listed = l; received = r }))) rest ≡ Ok (record { listed = l; received = r }, rest)
 unfolding answer_in

@@ -152,7 +152,7 @@ untaken_making before wants r s git_dir files left e took h =
     making_at path is (inl by) m = let same : h.path ≡ path = cc in subst (λ (x : List ℕ). IsMaking (taken before wants (Some r)) (made git_dir r.pack) x files left) same m
     making_at path is (inr by) m = absurd (cc)
 
--- memory ran out behind the making
+-- memory ran out after the making
 pub untaken_behind : (before : State) (wants : List ObjectId) (r : Received) (s : State) (git_dir : List ℕ) (files left : Option Tree) → taken before wants (Some r) ≡ Ok s → AreFiles files left (with_keep (made git_dir r.pack))
     → IsUntaken (taken before wants (Some r)) (made git_dir r.pack) files left errors.NoMemory
 untaken_behind before wants r s git_dir files left took h = record { why = λ sure. absurd (cc); making = λ path is. absurd (cc); stands = stands (made git_dir r.pack) h }
@@ -182,7 +182,7 @@ untaken setup how trees before wants l r files left e h = record {
 pub untaken_unremoved : (before : State) (wants : List ObjectId) (r : Option Received) (keep : Option (List ℕ)) (files left : Option Tree) (e : Error) (path : List ℕ) → IsUntaken (taken before wants r) keep files left e → e ≡ errors.RemovePackKeepFile path → ⊥
 untaken_unremoved before wants r keep files left e path h is = taking_only before wants r e (errors.RemovePackKeepFile path) (h.why (ap is_free_taking is)).0 is
 
--- ---- judging is refused behind the taking
+-- ---- judging is refused after the taking
 
 told_of_judging : (o : Result Updates UpdateError) (e : Error) → judged_as o ≡ Err e → IsOfJudging e
 told_of_judging (Ok u) e is = absurd (cc)
@@ -286,7 +286,7 @@ unjudged_found setup how trees before wants l r files left mid e m same took kep
 
 -- ---- moving
 
--- memory ran out behind the taking
+-- memory ran out after the taking
 pub unmoved : (setup : Setup) (how : Manner) (trees : List Worktree) (before : State) (wants : List ObjectId) (l : ListedValue) (r : Option Received) (files left : Option Tree) (mid : State) → taken before wants (brought how.dry_run r) ≡ Ok mid
     → AreFiles files left (with_keep (keep_of setup how r)) → IsUnsettledBy (settled setup how trees before wants l r) (taken before wants (brought how.dry_run r)) (keep_of setup how r) setup.settings.git_dir files left before mid errors.NoMemory
 unmoved setup how trees before wants l r files left mid took kept = record {

@@ -129,7 +129,7 @@ pub record IsDeleted (trees : Option (List Worktree)) (told now : Option Tree) (
 
 -- ---- refusals
 
--- want of memory stays what it is
+-- out of memory stays what it is
 abbrev pub config_refusal : OpenError → Error
 config_refusal causes.NoMemory = errors.NoMemory
 config_refusal cause = errors.ConfigRead cause
@@ -147,8 +147,8 @@ IsUnread told git_dir (causes.Config line) = HasBrokenLine told (config_path git
 IsUnread told git_dir causes.Io = ⊤
 IsUnread told git_dir e = ⊥
 
--- Why branches aren't deleted, or not cleaned up behind. Each test stands behind those before it. A failed call has its
--- count, and want of memory is free.
+-- Why branches aren't deleted, or not cleaned up after. Each test stands after those before it. A failed call has its
+-- count, and out of memory is free.
 abbrev pub IsRefused : Option (List Worktree) → Option Tree → List ℕ → List (List ℕ) → Error → Type 0
 IsRefused trees told git_dir names (errors.NotLocal name) = find is_foreign names ≡ Some name
 IsRefused trees told git_dir names errors.WorktreeListing = find is_foreign names ≡ None
@@ -159,7 +159,7 @@ IsRefused trees told git_dir names (errors.ConfigRead cause) = AreFree trees nam
 IsRefused trees told git_dir names (errors.Cleanup references source) = (references ≡ names) × (AreFree trees names × HasSections told git_dir names)
 IsRefused trees told git_dir names errors.NoMemory = ⊤
 
--- What a refusal leaves of references and reflogs. Behind the clean-up they are gone, and behind want of memory they may be,
+-- What a refusal leaves of references and reflogs. After the clean-up they are gone, and after out of memory they may be,
 -- where there are sections to clean up.
 abbrev pub Leaves : Option Tree → List ℕ → List (List ℕ) → State → State → Error → Type 0
 Leaves told git_dir names before after (errors.NotLocal name) = after ≡ before

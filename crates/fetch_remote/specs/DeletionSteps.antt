@@ -81,7 +81,7 @@ pub record IsRead (told : Option Tree) (path : List ℕ) (file : Contents) : Typ
   pub grammar : broken_in text ≡ None
   pub contents : file ≡ record { meta = file_meta; sections = sections_in text }
 
--- a refusal to read it, or want of memory
+-- a refusal to read it, or out of memory
 abbrev pub IsUnread : Option Tree → List ℕ → OpenError → Type 0
 IsUnread told path (causes.Config line) = HasBrokenLine told path line
 IsUnread told path causes.Io = ⊤

@@ -45,7 +45,7 @@ listed_in outcome = record { ref_map = outcome.ref_map; handshake = outcome.hand
 
 -- ---- what was heard
 
--- What the peer gave in the call is what it said. It heard exactly the requests for that, whatever comes behind.
+-- What the peer gave in the call is what it said. It heard exactly the requests for that, whatever comes after.
 pub record HasHeard (answers : Bool) (old new : Option Talk) (g : Given) (before : State) (said : List ℕ) : Type 0 where
   pub passed : Talks answers old new (lines_text (requests_in g before said)) said
   pub same_requests : (more : List ℕ) → lines_text (requests_in g before (said ++ more)) ≡ lines_text (requests_in g before said)

@@ -57,7 +57,7 @@ fetched_in g trees s stream = settled_by g trees s (answer_in (bound_of g) (conv
 unfoldable pub requests_in : Given → State → List ℕ → List Line
 requests_in g s stream = sent_in (bound_of g) (conversation g s) stream
 
--- the state that a refusal leaves: as found, or with all that was received where what comes behind the taking is refused
+-- the state that a refusal leaves: as found, or with all that was received where what comes after the taking is refused
 abbrev pub left_by : Given → State → Result (Told × List ℕ) FetchError → State
 left_by g s (Err e) = s
 left_by g s (Ok x) = kept_or s (taken_in g s x.0)
@@ -65,7 +65,7 @@ left_by g s (Ok x) = kept_or s (taken_in g s x.0)
 unfoldable pub left_in : Given → State → List ℕ → State
 left_in g s stream = left_by g s (answer_in (bound_of g) (conversation g s) stream)
 
--- the keep file that a refusal leaves: the one that was made, where what comes behind the taking is refused
+-- the keep file that a refusal leaves: the one that was made, where what comes after the taking is refused
 abbrev pub keep_left_by : Given → State → Result (Told × List ℕ) FetchError → Option (List ℕ)
 keep_left_by g s (Err e) = None
 keep_left_by g s (Ok x) = standing (taken_in g s x.0) (keep_made g x.0)

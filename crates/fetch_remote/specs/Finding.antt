@@ -42,7 +42,7 @@ abbrev pub is_fetch_memory : FetchError → Bool
 is_fetch_memory for_fetch.NoMemory = true
 is_fetch_memory _ = false
 
--- want of memory stays what it is
+-- out of memory stays what it is
 abbrev pub existing_refusal : FindError → ExistingError
 existing_refusal find.NoMemory = existing.NoMemory
 existing_refusal e = existing.Find e

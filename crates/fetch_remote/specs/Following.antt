@@ -39,7 +39,7 @@ name_refusal (lookup.Name place) = Name place
 name_refusal (lookup.PushDefault value) = PushDefault value
 name_refusal lookup.NoMemory = NoMemory
 
--- want of memory stays what it is
+-- out of memory stays what it is
 abbrev pub remote_refusal : ExistingError → Error
 remote_refusal existing.NoMemory = NoMemory
 remote_refusal e = Remote e

@@ -18,7 +18,7 @@ judged_as (Err e) = Err (fetch_of_update e)
 unfoldable pub judged_of : Policy → RefMap → Result Outcome Error
 judged_of p m = judged_as (outcome_of p m.refspecs m.extra_refspecs m.mappings)
 
--- A fault of the worktrees has a count in place of a cause, and want of memory has neither.
+-- A fault of the worktrees has a count in place of a cause, and out of memory has neither.
 abbrev pub is_free_judging : Error → Bool
 is_free_judging (errors.UpdateRefs e) = is_worktree_fault e
 is_free_judging errors.NoMemory = true

@@ -34,6 +34,6 @@ abbrev pub HasNegotiatedBy : Given → State → ListedValue → List Line → O
 HasNegotiatedBy g before l lines None = lines ≡ []
 HasNegotiatedBy g before l lines (Some r) = HasNegotiated g before l lines r.negotiate.rounds
 
--- The rounds that are told were held with one who says this behind the listing, whatever comes after.
+-- The rounds that are told were held with one who says this after the listing, whatever comes after.
 pub record AreHeld (g : Given) (before : State) (l : ListedValue) (behind : List ℕ) (received : Option Received) : Type 0 where
   pub each : (more : List ℕ) → HasNegotiatedBy g before l (sent_in (bound_of g) (pack_stage g before l) (behind ++ more)) received

@@ -12,7 +12,7 @@ use Rattle.fetch_config.specs.declared.error.Unreadable.{Unreadable}
 use Rattle.fetch_refs.specs.Names.{RefsValue}
 use Rattle.fetch_conversation.specs.declared.settings.Settings.{Settings}
 
--- what a fetch may change: objects of this hash, the commits whose parents are left aside, and the references with their
+-- what a fetch may change: objects of this hash, the commits whose parents are left out, and the references with their
 -- logs and the packed list
 pub record State : Type 0 where
   pub hash : Kind

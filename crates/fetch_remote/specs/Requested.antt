@@ -65,7 +65,7 @@ abbrev pub listing_behind : Given → Result (Told × List ℕ) Fault → List L
 listing_behind g (Ok x) = listing_to g x.0
 listing_behind g (Err fault) = []
 
--- what is sent behind the first line, to a server that says this
+-- what is sent after the first line, to a server that says this
 abbrev pub listing_sent : Given → List ℕ → List Line
 listing_sent g stream = listing_behind g (told_at (bound_of g) awaits.Greeting stream)
 

@@ -22,7 +22,7 @@ pub record IsListed (g : Given) (capabilities : List Capability) (refs : List Re
   pub askable : IsAskable (inquiry_in g) (handshake_of capabilities)
   pub listing : IsListing (bound_of g) (inquiry_in g) capabilities refs
 
--- A server lists these references, nothing is refused behind them, and none of what they name is wanted.
+-- A server lists these references, nothing is refused after them, and none of what they name is wanted.
 pub record IsAllStored (g : Given) (s : State) (capabilities : List Capability) (refs : List Ref) : Type 0 where
   pub listed : IsListed g capabilities refs
   pub clear : IsClear (terms_in g s (listed_by g capabilities refs))

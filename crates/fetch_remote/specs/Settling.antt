@@ -182,7 +182,7 @@ IsUnreleased keep e = (path : List ℕ) × (e ≡ errors.RemovePackKeepFile path
 
 -- ---- what a refusal leaves
 
--- the state where the taking was refused, or where what comes behind it was
+-- the state where the taking was refused, or where what comes after it was
 abbrev pub kept_or : State → Result State Error → State
 kept_or before (Ok s) = s
 kept_or before (Err e) = before
@@ -227,7 +227,7 @@ pub record IsUntaken (took : Result State Error) (keep : Option (List ℕ)) (fil
   pub making : (path : List ℕ) → e ≡ errors.KeepFile path → IsMaking took keep path files left
   pub stands : (left ≡ files) ⊎ ((path : List ℕ) × IsMaking took keep path files left)
 
--- ---- a fetch that was refused behind its conversation
+-- ---- a fetch that was refused after its conversation
 
 -- a refusal before the keep file is made
 abbrev pub is_early : Error → Bool

@@ -48,7 +48,7 @@ peer_of c = c.peer
 abbrev pub with_peer : {P : Type 0} → Connection P → P → Connection P
 with_peer c last = record c { peer = record (c.peer) { now = last } }
 
--- The connection's peer is lent: it ends as it is left behind the reference.
+-- The connection's peer is lent: it ends as it is left after the reference.
 abbrev pub LendsPeer : (P : RattleType) → MutBor (Connection P.Denot) → MutBor P.Denot → Fml
 LendsPeer P c r = Lends (the_row (record { mir = named 0; lft = [] }) P) P c r (with_peer c.now)
 
@@ -99,7 +99,7 @@ pub record IsUnlisted {P : Type 0} (told : P → Option Talk) (faults : P → Fa
 
 -- ---- the first stage by itself
 
--- The references were listed, whether or not a refspec was named. What was received behind that is let go.
+-- The references were listed, whether or not a refspec was named. What was received after that is let go.
 pub record HasInquired (answers : Bool) (old now : Option Talk) (q : InquiryValue) (l : ListedValue) : Type 0 where
   pub behind : List ℕ
   pub list : Concludes answers q.options.max_reply_bytes old now [] (inquiry_stage q.options.max_reply_bytes q) l behind
@@ -137,7 +137,7 @@ pub record TalksOn (answers : Bool) (mid new : Option Talk) (g : Given) (s : Sta
   pub held : TalksOnBy answers mid new g s listed result
 
 -- What a call leaves that goes on with what was listed. In it the peer heard the fetch requests for what it said, and no
--- more, whatever comes behind, and the reply is read in that; the rest is as in the whole fetch.
+-- more, whatever comes after, and the reply is read in that; the rest is as in the whole fetch.
 pub record IsReceived (answers : Bool) (mid new : Option Talk) (known : Option (List Worktree)) (files files_left : Option Tree) (g : Given) (before after : State) (listed : Listed) (outcome : Outcome) : Type 0 where
   pub shows : listed_in outcome ≡ shown listed
   pub received : Option Received

@@ -14,7 +14,7 @@ use Rattle.fetch_remote.specs.Stages.{bound_of, wants_in, listing_stage, pack_st
 use Rattle.fetch_remote.specs.declared.fetching.fetch_error.FetchError.{FetchError}
 use Rattle.fetch_remote.specs.declared.fetching.talking.Talked.{Talked}
 
--- Both stages came to their ends, one after the other; behind is what was received and not read after the first.
+-- Both stages came to their ends, one after the other; after is what was received and not read after the first.
 pub record HasTold (answers : Bool) (old new : Option Talk) (g : Given) (s : State) (listed : ListedValue) (received : Option Received) (rest : List ℕ) : Type 0 where
   pub between : Option Talk
   pub behind : List ℕ

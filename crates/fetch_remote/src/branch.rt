@@ -42,7 +42,7 @@ impl From<fetch_lookup::branch::Error> for Error {
     }
 }
 
-/// Want of memory stays want of memory.
+/// Out of memory stays out of memory.
 impl From<existing::Error> for Error {
     ghost use Rattle.std.specs.Prelude.{◌≡◌};
     ghost use Rattle.fetch_remote.specs.Following.{remote_refusal};

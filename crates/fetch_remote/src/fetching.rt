@@ -50,7 +50,7 @@ impl Remote {
     /// changes nothing. The interrupt is asked once before each receive.
     ///
     /// After an error the references and their logs are as they were found, but for `RemovePackKeepFile`: then they have
-    /// moved. Objects and border are as found, unless the error came behind the taking: then they are with all that was
+    /// moved. Objects and border are as found, unless the error came after the taking: then they are with all that was
     /// received, and the keep file stands. Where a call on the files was refused, these are as that call left them.
     pub fn fetch<R: Threads + Sync, P: Peer, I: Interrupt, F: Files, W: Worktrees>(
         &self,

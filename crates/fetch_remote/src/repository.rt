@@ -59,7 +59,7 @@ pub struct Parts {
     pub store: Store,
     /// The references with their reflogs, of the same hash.
     pub refs: Refs,
-    /// The commits whose parents are left aside.
+    /// The commits whose parents are left out.
     pub border: Border,
     /// The repository's own configuration.
     pub local: File,
@@ -212,7 +212,7 @@ impl Repository {
         &self.refs
     }
 
-    /// The commits whose parents are left aside.
+    /// The commits whose parents are left out.
     pub fn border(&self) -> &Border
         ensures { result.now ≡ (state_of self.now).border }
     {
@@ -243,14 +243,14 @@ impl Repository {
         }
     }
 
-    /// Whether the parents of some commit are left aside.
+    /// Whether the parents of some commit are left out.
     pub fn is_shallow(&self) -> bool
         ensures { IsTrue (not result) ↔ ((state_of self.now).border ≡ set.empty) }
     {
         !self.border().is_empty()
     }
 
-    /// The commits whose parents are left aside. None where the whole history is there.
+    /// The commits whose parents are left out. None where the whole history is there.
     pub fn shallow_commits(&self) -> Option<&Border>
         ensures none { IsNone result ↔ ((state_of self.now).border ≡ set.empty) }
         ensures border { IfSome result (λ border. border.now ≡ (state_of self.now).border) }
