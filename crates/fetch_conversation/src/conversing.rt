@@ -116,6 +116,7 @@ fn refuse(alloc: Global, listed: &Listed, terms: &Terms<'_>) -> Result<(), fetch
 /// wanted, nothing is sent. The interrupt is asked once before each receive. Before anything is sent `NoMapping`,
 /// `IncompatibleObjectHash`, a setting that can't be read and what the server lacks are refused, in this order.
 /// `Client` comes only where the peer's faults rose, and `Interrupted` only where the interrupt said yes.
+// Many arguments: each is lent by itself, so that a clause speaks of each before and after the call.
 pub fn converse<R: Threads + Sync, P: Peer, I: Interrupt, Q: Progress, O: Objects>(
     rt: &R,
     alloc: Global,
