@@ -26,6 +26,7 @@ use std::alloc::Global;
 /// `HEAD` takes a revision's commit, or else leads to the reference that a ref name means, or else takes what the remote's
 /// `HEAD` says. A name that it leads to gets its id, and `HEAD` a line in its reflog. Where that name is a branch that the
 /// saved remote's refspecs take, the local configuration gets a section for it, and the file `config` is written anew.
+// Many arguments: the public signature. A clone hands in what it was asked for.
 pub fn update_head<F: Files>(
     alloc: Global,
     repo: &mut Repository,

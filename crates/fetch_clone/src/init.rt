@@ -104,6 +104,7 @@ pub fn init<F: Files>(
 
 /// Creates a repository, reads its configuration, and lets `HEAD` lead to the branch that the configuration names, or to
 /// `main`. No line of a reflog is written. What was created before a refusal stays.
+// Many arguments: the public signature. Each tells another thing of the new repository.
 pub fn init_opts<F: Files>(
     alloc: Global,
     files: &mut F,

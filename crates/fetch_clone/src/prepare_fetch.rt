@@ -56,6 +56,7 @@ pub struct PrepareFetch<F: Files + Drop, C: Connect + Drop, R: Drop, G: Drop> {
 impl<F: Files + Drop, C: Connect + Drop, R: Drop, G: Drop> PrepareFetch<F, C, R, G> {
     /// Creates an empty repository at the place, which has to be free unless the options say otherwise, to fetch into it
     /// from the address. A refusal hands the files back.
+    // Many arguments: the public signature. All that a clone is made of is owned by it.
     pub fn new(
         alloc: Global,
         url: &[u8],
