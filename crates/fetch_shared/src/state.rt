@@ -97,6 +97,7 @@ impl SharedState {
     /// `Collision` comes where an id has another object in the repository or earlier in the pack, with the first such id;
     /// else `Disconnected` where the take would leave a link missing, with the first, the wants first of all. After an error
     /// nothing is changed.
+    // Many arguments: the public signature. A pack and its lines are what a reply has.
     pub fn take(
         &mut self,
         alloc: Global,
