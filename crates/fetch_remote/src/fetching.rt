@@ -52,6 +52,7 @@ impl Remote {
     /// After an error the references and their logs are as they were found, but for `RemovePackKeepFile`: then they have
     /// moved. Objects and border are as found, unless the error came after the taking: then they are with all that was
     /// received, and the keep file stands. Where a call on the files was refused, these are as that call left them.
+    // Many arguments: the public signature. Each is lent by itself, so that a clause speaks of each before and after.
     pub fn fetch<R: Threads + Sync, P: Peer, I: Interrupt, F: Files, W: Worktrees>(
         &self,
         rt: &R,

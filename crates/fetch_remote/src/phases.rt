@@ -63,6 +63,7 @@ pub fn list<P: Peer, I: Interrupt>(
 
 /// Asks for the pack of what is wanted, in rounds that tell which commits are there, and reads it. Where nothing is wanted,
 /// nothing is sent. The interrupt is asked once before each receive. In a dry run the last reply is read up to the pack alone.
+// Many arguments: the public signature of this stage.
 pub fn converse<R: Threads + Sync, P: Peer, I: Interrupt, Q: Progress, O: Objects>(
     rt: &R,
     alloc: Global,
