@@ -130,7 +130,8 @@ pub(crate) struct Resolved {
 }
 
 impl Repository {
-    /// A repository of these parts. Objects and references are of one hash.
+    /// A repository of these parts. Objects and references are of one hash. `Override` tells the first override that
+    /// isn't one, and else the only error is out of memory.
     pub fn from_parts(alloc: Global, parts: Parts) -> Result<Repository, OpenError>
         requires { parts.store.hash ≡ parts.refs.hash }
         ensures state { IfOk result (λ repo. state_of repo ≡ spec.state_in parts) }
