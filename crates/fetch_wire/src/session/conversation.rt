@@ -123,7 +123,7 @@ impl Session {
         })
     }
 
-    /// Whose turn it is.
+    /// Whose turn it is: a refusal comes first, then what is to be sent, then a reply that is awaited.
     pub fn poll(&self) -> Turn
         ensures turn { result ≡ spec.turn_of self.now }
         ensures receives { result ≡ turns.Receive → spec.IsAwaiting self.now }
@@ -153,14 +153,14 @@ impl Session {
         self.trouble.is_some() && (self.refused || self.is_all_sent())
     }
 
-    /// What is to be sent.
+    /// What is to be sent, in order. It is empty where nothing is.
     pub fn outgoing(&self) -> &[u8]
         ensures { result.now ≡ self.now.outgoing }
     {
         &self.outgoing[self.sent..]
     }
 
-    /// That many of the outgoing bytes were sent.
+    /// The first `count` of the outgoing bytes were sent.
     pub fn sent(&mut self, count: usize)
         requires { count ≤ length self.old.outgoing }
         ensures { self.new ≡ record self.old { outgoing = drop count self.old.outgoing } }

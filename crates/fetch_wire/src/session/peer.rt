@@ -29,7 +29,7 @@ pub trait Peer {
     /// Whether what it hears may add to what it has still to give.
     ghost answers: { Bool };
 
-    /// At a refusal a prefix of the bytes may have been heard.
+    /// Sends all of the bytes. At a refusal a prefix of them may have been heard.
     fn send(&mut self, bytes: &[u8]) -> Result<(), SendFault>
         ensures talk { Sends answers (told self.old) (told self.new) result bytes.now }
         ensures receives { Makes (told self.old) (told self.new) [] }
