@@ -4,7 +4,7 @@ use crate::find::existing;
 use fetch_store::Text;
 use thiserror::Error as ThisError;
 
-/// Why the name isn't told.
+/// Why it isn't told what a branch is called on its remote.
 #[derive(Debug, Drop, PartialEq, Eq, ThisError)]
 pub enum Error {
     /// It is no full name.

@@ -47,7 +47,7 @@ impl Repository {
     }
 
     /// The remote that trusted sections `remote "<name>"` tell. None exactly where there is no such section. An error
-    /// is the first thing in these sections that can't be read.
+    /// tells what of these sections can't be read: `TagOpt` first, then `Url`, then `RefSpec`.
     pub fn try_find_remote(
         &self,
         alloc: Global,
