@@ -44,7 +44,7 @@ pub struct Options {
     pub object_hash: Option<fetch_store::Kind>,
 }
 
-/// Where a repository stands.
+/// Where a repository is.
 #[derive(Debug, Drop, PartialEq, Eq)]
 pub struct Path {
     /// The directory of the repository.
