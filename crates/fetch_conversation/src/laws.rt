@@ -51,7 +51,7 @@ pub fn rounds_are_never_used_up()
         → answer_in bound (negotiating (suc (map.len g) + more) bound t g algorithm (first_course algorithm view)) stream ≡ answer_in bound (negotiating (suc (map.len g)) bound t g algorithm (first_course algorithm view)) stream }
 {}
 
-/// What a server writes is heard to its end: its greeting and its references are listed, and its answers to the requests
+/// What a server writes is read to its end: its greeting and its references are listed, and its answers to the requests
 /// bring the pack, whatever comes after.
 pub fn what_a_server_writes_is_heard()
     ensures listed { (bound : ℕ) (q : InquiryValue) (capabilities : List Capability) (refs : List Ref) (rest : List ℕ) → IsAskable q (handshake_of capabilities) → IsListing bound q capabilities refs

@@ -20,16 +20,16 @@ pub enum SendFault {
 
 /// The other end of a conversation.
 pub trait Peer {
-    /// What it heard, what it gave and what it has still to give, and each receive that was made of it, where it tells
+    /// What it received, what it gave and what it has still to give, and each receive that was made of it, where it tells
     /// them.
     ghost told: { Self → Option Talk };
 
     ghost faults: { Self → Faults };
 
-    /// Whether what it hears may add to what it has still to give.
+    /// Whether what it receives may add to what it has still to give.
     ghost answers: { Bool };
 
-    /// Sends all of the bytes. At a refusal a prefix of them may have been heard.
+    /// Sends all of the bytes. At a refusal a prefix of them may have been received.
     fn send(&mut self, bytes: &[u8]) -> Result<(), SendFault>
         ensures talk { Sends answers (told self.old) (told self.new) result bytes.now }
         ensures receives { Makes (told self.old) (told self.new) [] }
