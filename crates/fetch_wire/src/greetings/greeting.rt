@@ -1,4 +1,4 @@
-//! What a server says first.
+//! The capabilities of a greeting: how each is read, and what they say together.
 
 ghost use Rattle.std.specs.Prelude.{◌≡◌, IfOk, fold, option_and_then};
 ghost use Rattle.std.specs.Option.{option_copied};

@@ -1,4 +1,4 @@
-//! What a server says first.
+//! What a greeting says, as a record.
 
 ghost use Rattle.std.specs.Prelude.{◌≡◌, IfOk};
 ghost use Rattle.std.specs.Option.{option_copied};
