@@ -7,7 +7,7 @@ use crate::{fetch, prepare};
 use fetch_store::NoMemory;
 use thiserror::Error;
 
-/// Why a fetch was refused. References and reflogs are as found, unless a keep file couldn't be removed after them.
+/// Why a fetch was refused. References and reflogs are as found, unless a keep file couldn't be removed once they had moved.
 #[derive(Debug, Drop, Error)]
 pub enum FetchError {
     /// Before a pack was asked for: the objects are as they were found.
