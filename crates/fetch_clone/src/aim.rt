@@ -176,7 +176,7 @@ fn is_same_side(a: Option<&[u8]>, b: Option<&[u8]>) -> bool
     }
 }
 
-/// The commit after a stored id.
+/// The commit that a stored id leads to.
 fn of_id<O: Objects>(alloc: Global, objects: &O, id: Option<ObjectId>) -> Result<Aim, Unaimed>
     ensures { AnswersUnless spec.is_memory (spec.of_id (O.graph objects.now) id) result }
 {
