@@ -11,6 +11,7 @@ use Rattle.fetch_store.specs.declared.id.Kind.TheVariants.{Sha1}
 use Rattle.fetch_store.specs.declared.id.ObjectId.{ObjectId}
 use Rattle.fetch_store.specs.declared.object_kind.ObjectKind.TheVariants.{Commit, Tree}
 
+-- an object under its id
 abbrev pub under_its_id : Stored → ObjectId × Stored
 under_its_id o = (id_of o.hash o.kind o.bytes, o)
 
@@ -18,9 +19,11 @@ under_its_id o = (id_of o.hash o.kind o.bytes, o)
 abbrev pub empty_tree : Stored
 empty_tree = record { hash = Sha1; kind = Tree; bytes = [] }
 
+-- the id of the empty tree
 abbrev pub tree_id : ObjectId
 tree_id = id_of Sha1 Tree []
 
+-- an id in hexadecimal digits
 abbrev pub digits_of : ObjectId → List ℕ
 digits_of id = encode_lower (bytes_of id)
 
@@ -40,9 +43,11 @@ parts parent number = record {
   rest = 10 ∷ (decimal number ++ 10 ∷ []);
 }
 
+-- the text of a commit
 unfoldable pub text_of : Option ObjectId → ℕ → List ℕ
 text_of parent number = commit_text (parts parent number)
 
+-- a commit with this parent and number
 abbrev pub commit_of : Option ObjectId → ℕ → Stored
 commit_of parent number = record { hash = Sha1; kind = Commit; bytes = text_of parent number }
 

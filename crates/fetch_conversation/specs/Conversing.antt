@@ -72,6 +72,7 @@ reply_of (Err e) reply = Err e
 
 -- ---- the rounds
 
+-- how far the rounds are, as a value
 abbrev pub course_of : Course → CourseValue
 course_of c = record { so_far = so_far_of c.negotiator; shared = c.shared.items; rounds = c.rounds; size = c.size }
 

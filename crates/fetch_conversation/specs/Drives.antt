@@ -69,6 +69,7 @@ pub record Stops (answers : Bool) (old new : Option Talk) (s : SessionState) (e 
   pub front : IsFront heard (fed s said).outgoing
   pub why : Explains new heard (fed s said) e
 
+-- What driving a session gives: it is idle, or where it stopped.
 abbrev pub Drives : {T : Type 0} → Bool → Option Talk → Option Talk → SessionState → SessionState → Result T Stop → Type 0
 Drives answers old new s now (Ok x) = Finishes answers old new s now
 Drives answers old new s now (Err e) = Stops answers old new s e

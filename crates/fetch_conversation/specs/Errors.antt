@@ -17,10 +17,12 @@ use Rattle.fetch_conversation.specs.declared.ref_map.Error.TheVariants as ref_ma
 
 -- ---- an inner refusal; out of memory stays what it is
 
+-- a refusal of the mapping, as one of the preparation
 abbrev pub prepare_of : RefMapError → PrepareError
 prepare_of ref_map.NoMemory = prepare.NoMemory
 prepare_of e = prepare.RefMap e
 
+-- a refusal of the wire, as one of the fetch
 abbrev pub fetch_of_wire : WireError → ReceiveError
 fetch_of_wire wire.NoMemory = fetch.NoMemory
 fetch_of_wire e = fetch.Fetch e
@@ -31,21 +33,25 @@ fetch_of_pack pack.NoMemory = fetch.NoMemory
 fetch_of_pack (pack.Collision id) = fetch.Collision id
 fetch_of_pack e = fetch.Pack e
 
+-- a refusal of the policy, as one of the fetch
 abbrev pub fetch_of_update : UpdateError → ReceiveError
 fetch_of_update update.NoMemory = fetch.NoMemory
 fetch_of_update e = fetch.UpdateRefs e
 
+-- a refusal of the wire, as one of the preparation
 abbrev pub prepare_of_wire : WireError → PrepareError
 prepare_of_wire wire.NoMemory = prepare.NoMemory
 prepare_of_wire e = prepare.RefMap (ref_map.Handshake e)
 
 -- ---- why a session was driven no further
 
+-- why a session stopped, as a refusal of the preparation
 abbrev pub prepare_of_stop : Stop → PrepareError
 prepare_of_stop (stops.Refused e) = prepare_of_wire e
 prepare_of_stop stops.Failed = prepare.RefMap ref_map.Transport
 prepare_of_stop stops.Interrupted = prepare.RefMap ref_map.Interrupted
 
+-- why a session stopped, as a refusal of the fetch
 abbrev pub fetch_of_stop : Stop → ReceiveError
 fetch_of_stop (stops.Refused e) = fetch_of_wire e
 fetch_of_stop stops.Failed = fetch.Client
@@ -67,6 +73,7 @@ is_transport_map ref_map.Interrupted = false
 is_transport_map (ref_map.InitRefMap conflicts) = false
 is_transport_map ref_map.NoMemory = false
 
+-- whether the peer failed while references were listed
 abbrev pub is_transport : PrepareError → Bool
 is_transport prepare.MissingRefSpecs = false
 is_transport (prepare.RefMap e) = is_transport_map e
@@ -80,6 +87,7 @@ is_interrupted_map ref_map.Interrupted = true
 is_interrupted_map (ref_map.InitRefMap conflicts) = false
 is_interrupted_map ref_map.NoMemory = false
 
+-- whether the interrupt said yes while references were listed
 abbrev pub is_interrupted : PrepareError → Bool
 is_interrupted prepare.MissingRefSpecs = false
 is_interrupted (prepare.RefMap e) = is_interrupted_map e
@@ -93,6 +101,7 @@ is_free_map ref_map.Interrupted = true
 is_free_map (ref_map.InitRefMap conflicts) = false
 is_free_map ref_map.NoMemory = false
 
+-- whether a refusal of the preparation is a free one
 abbrev pub is_free_listing : PrepareError → Bool
 is_free_listing prepare.MissingRefSpecs = false
 is_free_listing (prepare.RefMap e) = is_free_map e

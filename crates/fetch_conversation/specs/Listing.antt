@@ -17,6 +17,7 @@ use Rattle.fetch_conversation.specs.declared.prepare.Error.{Error}
 use Rattle.fetch_conversation.specs.declared.ref_map.Error.{Error as MapError}
 use Rattle.fetch_conversation.specs.declared.ref_map.Error.TheVariants as ref_map
 
+-- the first line of an inquiry
 abbrev pub first_of : InquiryValue → Line
 first_of q = first_line q.address q.options.handshake_parameters
 

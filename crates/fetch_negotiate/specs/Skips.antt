@@ -36,6 +36,7 @@ handed offered s = if offered then record { first = longer s.first; left = longe
 abbrev pub higher : Skip → Skip → Skip
 higher own other = if nat_lt own.first other.first then other else own
 
+-- the pairs that were handed on, in order
 abbrev pub Pairs : Type 0
 Pairs = List (ObjectId × Skip)
 

@@ -48,13 +48,16 @@ source_prefixes source =
     else if has_star source then []
     else expansions source
 
+-- what a source asks for, where there is one
 abbrev pub side_prefixes : Option (List ℕ) → List (List ℕ)
 side_prefixes None = []
 side_prefixes (Some source) = source_prefixes source
 
+-- what a refspec asks for
 abbrev pub spec_prefixes : Spec → List (List ℕ)
 spec_prefixes spec = if is_exclusion spec.mode then [] else side_prefixes spec.source
 
+-- texts put into an ascending list, each once
 abbrev pub put_all : List (List ℕ) → List (List ℕ) → List (List ℕ)
 put_all into [] = into
 put_all into (text ∷ texts) = put_all (put text into) texts
@@ -63,6 +66,7 @@ put_all into (text ∷ texts) = put_all (put text into) texts
 abbrev pub has_open_star : List ℕ → Bool
 has_open_star source = if starts_with nat_eq source refs then has_star (take (second_slash source) source) else has_star source
 
+-- whether a source's star is open
 abbrev pub is_open_side : Option (List ℕ) → Bool
 is_open_side None = false
 is_open_side (Some source) = has_open_star source

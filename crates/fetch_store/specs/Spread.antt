@@ -9,6 +9,7 @@ use Rattle.fetch_store.specs.Closed.{Holding, links_within}
 abbrev pub Nexts : Type 0
 Nexts = ObjectId → Option (List ObjectId)
 
+-- the ids one step away from an id
 abbrev pub next_to : Nexts → ObjectId → List ObjectId
 next_to nexts id = option_map_or (λ (ids : List ObjectId). ids) (nexts id) []
 

@@ -26,9 +26,11 @@ at_greeting text =
     if is_version_2 text then goes (reading.Capabilities []) else (
     if is_version_1 text then goes reading.Version else or_breaks (at_first text) (λ s. goes s))
 
+-- the reading after a line of a greeting
 abbrev pub at_capability : List Capability → List ℕ → Step Reading Told
 at_capability before text = or_breaks (option_and_then if_known (capability_in text)) (λ c. goes (reading.Capabilities (before ++ c ∷ [])))
 
+-- the reading after a line of a listing
 abbrev pub at_listed : Kind → List Ref → List ℕ → Step Reading Told
 at_listed kind before text = or_breaks (option_and_then (if_new before) (ref_in kind text)) (λ r. goes (reading.Listing kind (before ++ r ∷ [])))
 

@@ -59,6 +59,7 @@ pub record ReplyReading : Type 0 where
   pub pending : List ℕ
   pub progress : Option Progress
 
+-- what the bytes tell from this progress on
 abbrev pub tells_by : ℕ → ℕ → List ℕ → Option Progress → Option (Result (Told × List ℕ) Fault)
 tells_by bound place bytes None = None
 tells_by bound place bytes (Some (On reading)) = Some (told_from bound reading place bytes)
@@ -69,6 +70,7 @@ tells_by bound place bytes (Some (Refused fault)) = Some (Err fault)
 abbrev pub tells : ReplyReading → List ℕ → Option (Result (Told × List ℕ) Fault)
 tells r more = tells_by r.bound r.place (r.pending ++ more) r.progress
 
+-- whether a reply ends at this place within a line
 abbrev pub is_short_at : ℕ → Result (Told × List ℕ) Fault → Bool
 is_short_at place (Ok x) = false
 is_short_at place (Err (Short p)) = p == place

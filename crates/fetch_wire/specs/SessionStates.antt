@@ -75,6 +75,7 @@ keeps (told.Advertisement h refs) s = record s { handshake = Some h; refs = Some
 keeps (told.Listing refs) s = record s { refs = Some refs }
 keeps (told.Reply reply) s = record s { reply = Some reply }
 
+-- the capability that lists references
 unfoldable pub listing_feature : List ℕ
 listing_feature = codes "ls-refs"
 
@@ -120,6 +121,7 @@ read_one asking s = after_told asking s (told_with s.intake [])
 abbrev pub read_on : SessionState → SessionState
 read_on s = read_one rests (read_one asks s)
 
+-- a session that is fed a piece, unless it refuses
 abbrev pub fed_by : Option WireError → SessionState → List ℕ → SessionState
 fed_by (Some e) s piece = s
 fed_by None s piece = read_on (record s { intake = taking piece s.intake })
@@ -139,6 +141,7 @@ pub record IsAlike (a b : SessionState) : Type 0 where
 abbrev pub is_all_sent : SessionState → Bool
 is_all_sent s = length s.outgoing == 0
 
+-- a trouble, once all is sent
 abbrev pub if_told : Bool → Option WireError → Option WireError
 if_told true trouble = trouble
 if_told false trouble = None
@@ -148,6 +151,7 @@ if_told false trouble = None
 abbrev pub refusal_of : SessionState → Option WireError
 refusal_of s = if_told (s.refused || is_all_sent s) s.trouble
 
+-- whose turn it is
 abbrev pub turn_by : Option WireError → Bool → Bool → Turn
 turn_by (Some e) all_sent awaits = turns.Failed
 turn_by None false awaits = turns.Send
@@ -169,6 +173,7 @@ is_memory _ = false
 
 -- ---- calls
 
+-- a session after the peer's bytes ended
 abbrev pub after_end : SessionState → Option WireError → Option (Result (Told × List ℕ) Fault) → SessionState
 after_end s (Some e) found = record s { refused = true }
 after_end s None None = s
@@ -179,6 +184,7 @@ after_end s None (Some (Err fault)) = record (failing (error_of s.intake.bound f
 abbrev pub ended : SessionState → SessionState
 ended s = after_end s s.trouble (told_with s.intake [])
 
+-- the hash of a greeting, SHA-1 before it was read
 abbrev pub kind_of : Option Handshake → Kind
 kind_of None = Sha1
 kind_of (Some h) = h.object_hash

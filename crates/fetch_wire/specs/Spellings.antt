@@ -61,6 +61,7 @@ pub data Attribute : Type 0 where
   Peels : List ℕ → ObjectId → Attribute
   Other : List ℕ → Attribute
 
+-- an attribute as it is written
 abbrev pub attribute_text : Attribute → List ℕ
 attribute_text (Target target) = codes "symref-target:" ++ target
 attribute_text (Peels digits id) = codes "peeled:" ++ digits
@@ -124,6 +125,7 @@ pub data Acknowledgment : Type 0 where
   Nak : Acknowledgment
   Ack : List ℕ → ObjectId → Acknowledgment
 
+-- an acknowledgment as it is written
 abbrev pub acknowledgment_text : Acknowledgment → List ℕ
 acknowledgment_text Nak = codes "NAK"
 acknowledgment_text (Ack digits id) = codes "ACK " ++ digits
@@ -133,6 +135,7 @@ abbrev pub IsAcknowledgment : AskedReply → Acknowledgment → Type 0
 IsAcknowledgment asked Nak = ⊤
 IsAcknowledgment asked (Ack digits id) = Spells asked.kind digits id × (has_id id asked.haves ≡ true)
 
+-- the ids that are acknowledged, in order
 abbrev pub acknowledged_by : List Acknowledgment → List ObjectId
 acknowledged_by [] = []
 acknowledged_by (Nak ∷ others) = acknowledged_by others
@@ -143,19 +146,23 @@ pub data Move : Type 0 where
   Comes : List ℕ → ObjectId → Move
   Leaves : List ℕ → ObjectId → Move
 
+-- a move of the border as it is written
 abbrev pub move_text : Move → List ℕ
 move_text (Comes digits id) = codes "shallow " ++ digits
 move_text (Leaves digits id) = codes "unshallow " ++ digits
 
+-- The digits of a move spell its id.
 abbrev pub IsMove : Kind → Move → Type 0
 IsMove kind (Comes digits id) = Spells kind digits id
 IsMove kind (Leaves digits id) = Spells kind digits id
 
+-- the commits that join the border, in order
 abbrev pub coming : List Move → List ObjectId
 coming [] = []
 coming (Comes digits id ∷ others) = id ∷ coming others
 coming (Leaves digits id ∷ others) = coming others
 
+-- the commits that leave the border, in order
 abbrev pub leaving : List Move → List ObjectId
 leaving [] = []
 leaving (Comes digits id ∷ others) = leaving others
