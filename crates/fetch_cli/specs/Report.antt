@@ -39,6 +39,7 @@ use Rattle.fetch_cli.specs.declared.scene.Scene.{Scene}
 unfoldable pub committer : Signature
 committer = record { name = codes "fetch"; email = codes "fetch@localhost"; seconds = 0; offset_minutes = pos 0 }
 
+-- the options of a scene's fetch
 abbrev pub fetch_options : SceneOptions → List Spec → FetchOptions
 fetch_options o extra = record {
   map = record { prefix_from_spec_as_filter_on_remote = o.filter; handshake_parameters = o.parameters; extra_refspecs = extra; max_reply_bytes = o.bound };
@@ -81,12 +82,15 @@ found_of s = record {
 abbrev pub stream_of : Scene → List ℕ
 stream_of s = concat s.pieces
 
+-- what the fetch of a scene gives
 abbrev pub fetched_by : Scene → Result (Outcome × State) FetchError
 fetched_by s = fetched_in (given_of s) s.worktrees (found_of s) (stream_of s)
 
+-- the requests of a scene's fetch
 abbrev pub requests_of : Scene → List ℕ
 requests_of s = lines_text (requests_in (given_of s) (found_of s) (stream_of s))
 
+-- the state that a scene's fetch leaves at a refusal
 abbrev pub left_by : Scene → State
 left_by s = left_in (given_of s) (found_of s) (stream_of s)
 
@@ -96,6 +100,7 @@ keep_left_by s = keep_left_in (given_of s) (found_of s) (stream_of s)
 
 -- ---- the lines of a report
 
+-- the lines that were sent
 abbrev pub sent_lines : List Line → List ℕ
 sent_lines lines = flat_map sent_line lines
 
@@ -108,9 +113,11 @@ map_line_at update (Some mapping) = map_line update mapping
 abbrev pub update_line : List Mapping → Update → List ℕ
 update_line mappings update = map_line_at update (slice_get mappings update.mapping_index)
 
+-- a line for each update
 abbrev pub map_lines : List Mapping → List Update → List ℕ
 map_lines mappings updates = flat_map (update_line mappings) updates
 
+-- a line for each reference
 abbrev pub ref_lines : Names → List ℕ
 ref_lines names = flat_map (λ e. ref_line e.0 e.1) (map.entries names)
 
@@ -126,6 +133,7 @@ log_lines refs = flat_map (λ e. log_lines_at refs.logs e.0) (map.entries refs.n
 unfoldable pub state_lines : State → List ℕ
 state_lines s = ref_lines s.refs.names ++ log_lines s.refs ++ flat_map border_line (ids_of s.border) ++ flat_map id_line (map.keys s.objects)
 
+-- the updates of a status
 abbrev pub updates_of : Status → Updates
 updates_of (statuses.NoPackReceived dry_run negotiate updates) = updates
 updates_of (statuses.Change negotiate pack updates) = updates
@@ -135,10 +143,12 @@ abbrev pub keep_lines : Option (List ℕ) → List ℕ
 keep_lines None = []
 keep_lines (Some path) = keep_line path
 
+-- the report of a fetch that was done
 unfoldable pub done_text : List Line → Outcome → State → List ℕ
 done_text sent outcome after =
     sent_lines sent ++ map_lines outcome.ref_map.mappings (updates_of outcome.status).updates ++ state_lines after ++ keep_lines (keep_in outcome.status) ++ codes "ok\n"
 
+-- the report of a fetch that was refused
 unfoldable pub refused_text : List Line → FetchError → State → Option (List ℕ) → List ℕ
 refused_text sent e left keep = sent_lines sent ++ refused_line (token e) ++ state_lines left ++ keep_lines keep
 

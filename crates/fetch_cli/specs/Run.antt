@@ -47,6 +47,7 @@ is_fetch (Ok Help) = false
 is_fetch (Ok Version) = false
 is_fetch (Err number) = false
 
+-- whether the words ask for a fetch
 abbrev pub asks_fetch : List (List ℕ) → Bool
 asks_fetch words = is_fetch (command_of words)
 

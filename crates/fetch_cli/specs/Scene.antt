@@ -29,6 +29,7 @@ local_of ls = do
   divided ← next delimits worktrees.1
   Ok (record { head = head.0; refs = refs.0; border = set_of border.0; config = config.0; worktrees = worktrees.0 }, divided.1)
 
+-- the payload of a line, or nothing
 abbrev pub bytes_in : Placed → List ℕ
 bytes_in p = unwrap_or (payload_of p.line) []
 
@@ -74,6 +75,7 @@ talk_of len ls = do
   pieces ← pieces_of len remote.1
   Ok (remote.0, pieces)
 
+-- the scene of these lines
 abbrev pub scene_in : ℕ → Lines → Result Scene ℕ
 scene_in len ls = do
   local ← local_of ls

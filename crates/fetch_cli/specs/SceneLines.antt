@@ -24,12 +24,14 @@ pub record Lines : Type 0 where
 abbrev pub without_lf : List ℕ → List ℕ
 without_lf bytes = if nat_lt 0 (length bytes) && slice_index bytes (length bytes - 1) == 10 then take (length bytes - 1) bytes else bytes
 
+-- the text of a text line
 unfoldable pub text_of : Line → Option (List ℕ)
 text_of (Payload payload) = Some (without_lf payload)
 text_of Flush = None
 text_of Delim = None
 text_of End = None
 
+-- the payload of a line
 unfoldable pub payload_of : Line → Option (List ℕ)
 payload_of (Payload payload) = Some payload
 payload_of Flush = None
@@ -44,12 +46,14 @@ value_of word line = option_and_then (after word) (text_of line)
 unfoldable pub says : List ℕ → Line → Option (Unit {0})
 says word line = option_and_then (λ text. if bytes_eq text word then Some tt else None) (text_of line)
 
+-- a line that is a delimiter
 unfoldable pub delimits : Line → Option (Unit {0})
 delimits (Payload payload) = None
 delimits Flush = None
 delimits Delim = Some tt
 delimits End = None
 
+-- a line that is a flush
 unfoldable pub flushes : Line → Option (Unit {0})
 flushes (Payload payload) = None
 flushes Flush = Some tt
@@ -61,6 +65,7 @@ abbrev pub first_in : List Placed → ℕ → Result (Placed × Lines) ℕ
 first_in [] last = Err last
 first_in (p ∷ ps) last = Ok (p, record { lines = ps; last = last })
 
+-- the first line and the others
 abbrev pub first_of : Lines → Result (Placed × Lines) ℕ
 first_of ls = first_in ls.lines ls.last
 
@@ -77,6 +82,7 @@ abbrev pub taken_or_left : {A : Type 0} → Lines → Result (A × Lines) ℕ �
 taken_or_left ls (Ok x) = (Some x.0, x.1)
 taken_or_left ls (Err place) = (None, ls)
 
+-- what the first line gives, if it gives something, and the lines that are left
 abbrev pub next_if : {A : Type 0} → (Line → Option A) → Lines → Option A × Lines
 next_if f ls = taken_or_left ls (next f ls)
 
@@ -88,6 +94,7 @@ group_len f lines = prefix_len (λ p. is_some (f p.line)) lines
 abbrev pub group_of : {A : Type 0} → (Line → Option A) → Lines → List Placed
 group_of f ls = take (group_len f ls.lines) ls.lines
 
+-- the lines after those that give something
 abbrev pub behind_group : {A : Type 0} → (Line → Option A) → Lines → Lines
 behind_group f ls = record { lines = drop (group_len f ls.lines) ls.lines; last = ls.last }
 
@@ -113,6 +120,7 @@ unbounded = 2 ^ 64 - 1
 unfoldable pub line_found : ℕ → List ℕ → Option (Line × List ℕ)
 line_found place bytes = result_ok (line_at unbounded place bytes)
 
+-- a line before others
 abbrev pub onto : Placed → Lines → Lines
 onto p ls = record { lines = p ∷ ls.lines; last = ls.last }
 
@@ -135,5 +143,6 @@ abbrev pub first_place : List Placed → ℕ → ℕ
 first_place [] last = last
 first_place (p ∷ ps) last = p.place
 
+-- the place of the first line
 abbrev pub place_of : Lines → ℕ
 place_of ls = first_place ls.lines ls.last
