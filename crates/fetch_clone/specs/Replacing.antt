@@ -6,6 +6,7 @@ use Rattle.fetch_config.specs.Lookups.{is_same_sub}
 use Rattle.fetch_config.specs.Pieces.{is_same_name}
 use Rattle.fetch_config.specs.declared.section.Section.{Section}
 
+-- whether two sections have one name and subsection
 abbrev pub is_like : Section → Section → Bool
 is_like s other = is_same_name s.name other.name && is_same_sub s.sub other.sub
 
