@@ -13,6 +13,7 @@ abbrev pub fetching : FetchError → SharedError
 fetching fetch.NoMemory = errors.NoMemory
 fetching e = errors.Fetch e
 
+-- why branches weren't deleted, as a refusal of a shared repository
 abbrev pub deleting : DeleteError → SharedError
 deleting delete.NoMemory = errors.NoMemory
 deleting e = errors.Delete e

@@ -37,6 +37,7 @@ pub record Holder : Type 0 where
   pub held : List Span
   pub front : List Entry
 
+-- what a seat of this view is seen as
 abbrev pub holder_of : TableId → View → Holder
 holder_of table v = record { shared = record { table = table; opening = v.opening }; number = v.number; unused = v.unused; held = own v; front = v.front }
 
