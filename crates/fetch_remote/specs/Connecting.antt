@@ -30,6 +30,7 @@ TakesBack (Some taken) now peer = now ≡ Some (taken ++ peer ∷ [])
 abbrev pub with_lost : Faults → Faults → Faults
 with_lost peer lost = if peer.count == 0 then lost else record lost { count = lost.count + 1 }
 
+-- why a maker failed, as a refusal of the connection
 abbrev pub connecting : SendFault → Error
 connecting sending.Failed = errors.Connect
 connecting sending.NoMemory = errors.NoMemory

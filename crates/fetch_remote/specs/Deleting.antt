@@ -42,6 +42,7 @@ short_names names = in_order (each shortened names)
 
 -- ---- the configuration file
 
+-- the file that the new configuration is written to first
 abbrev pub lock_path : List ℕ → List ℕ
 lock_path git_dir = in_directory git_dir (codes "config.lock")
 
@@ -76,6 +77,7 @@ without names m = finmap.retain_keys m (λ key. not (is_among name_cmp names key
 abbrev pub refs_without : List (List ℕ) → RefsValue → RefsValue
 refs_without names r = record { hash = r.hash; names = without names r.names; logs = without names r.logs; packed = without names r.packed }
 
+-- the state without these references
 abbrev pub state_without : List (List ℕ) → State → State
 state_without names s = with_refs s (refs_without names s.refs)
 
@@ -97,6 +99,7 @@ pub record IsLeft (told now : Option Tree) (before after : Setup) : Type 0 where
   pub setup : after ≡ before
   pub tree : now ≡ told
 
+-- What a deletion did to configuration and files, where there are sections to clean up, and where there are none.
 abbrev pub Cleans : Bool → List (List ℕ) → Option (List ℕ) → Option Tree → Option Tree → Setup → Setup → Type 0
 Cleans true names text told now before after = IsCleaned names text told now before after
 Cleans false names text told now before after = IsLeft told now before after
@@ -182,6 +185,7 @@ abbrev pub is_unlocal : Error → Bool
 is_unlocal (errors.NotLocal name) = true
 is_unlocal e = false
 
+-- whether a refusal comes before the files are asked
 abbrev pub is_before_files : Error → Bool
 is_before_files (errors.NotLocal name) = true
 is_before_files errors.WorktreeListing = true

@@ -13,6 +13,7 @@ abbrev pub preparing : PrepareError → FetchError
 preparing prepare.NoMemory = errors.NoMemory
 preparing e = errors.Prepare e
 
+-- a refusal from the fetch request on, as one of the fetch
 abbrev pub receiving : ReceiveError → FetchError
 receiving fetch.NoMemory = errors.NoMemory
 receiving e = errors.Receive e

@@ -17,6 +17,7 @@ use Rattle.fetch_remote.specs.Form.{Given}
 use Rattle.fetch_remote.specs.Repositories.{State}
 use Rattle.fetch_remote.specs.Stages.{bound_of, terms_in, pack_stage}
 
+-- What the rounds of a fetch told.
 pub record HasNegotiated (g : Given) (before : State) (l : ListedValue) (lines : List Line) (rounds : List Round) : Type 0 where
   -- The fetch requests are one a round. Each tells the ids acknowledged before it and then its window, the next one of the
   -- settings' algorithm over the objects found, and has `done` exactly where that isn't full; the last alone has it.

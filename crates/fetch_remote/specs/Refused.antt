@@ -102,6 +102,7 @@ pub record IsCutReceiving (g : Given) (before after : State) (files files_left :
 abbrev pub interrupted_listing : FetchError
 interrupted_listing = errors.Prepare (prepare.RefMap ref_map.Interrupted)
 
+-- the interrupt said yes from the fetch request on
 abbrev pub interrupted_receiving : FetchError
 interrupted_receiving = errors.Receive receive.Interrupted
 
@@ -113,6 +114,7 @@ unjudged e = errors.Receive (receive.UpdateRefs e)
 abbrev pub unmade : List ℕ → FetchError
 unmade path = errors.Receive (receive.KeepFile path)
 
+-- the keep file couldn't be removed
 abbrev pub unremoved : List ℕ → FetchError
 unremoved path = errors.Receive (receive.RemovePackKeepFile path)
 
@@ -140,6 +142,7 @@ pub record IsCounted (g : Given) (trees : List Worktree) (before after : State) 
 
 -- ---- the refusal
 
+-- What holds after a fetch that was refused.
 pub record IsRefused (answers : Bool) (old new : Option Talk) (known : Option (List Worktree)) (files files_left : Option Tree) (g : Given) (before after : State) (e : FetchError) : Type 0 where
   -- What the peer gave in the call is what it said, and it heard a prefix of the requests for that. Each receive was
   -- made where it had heard all that was to be sent so far, and a reply was still awaited.

@@ -68,5 +68,6 @@ KeepsTree before after errors.Io = ⊤
 KeepsTree before after errors.NoMemory = ⊤
 KeepsTree before after (errors.Override text) = ⊤
 
+-- Why a repository wasn't opened again.
 abbrev pub IsReloadRefusal : Option Tree → Setup → OpenError → Type 0
 IsReloadRefusal told setup e = IsRefusedAt told (config_path setup.settings.git_dir) e

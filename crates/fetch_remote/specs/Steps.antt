@@ -37,6 +37,7 @@ use Rattle.fetch_remote.specs.declared.fetching.talking.Talked.{Talked}
 
 -- ---- a remote with its peer
 
+-- the remote of a connection
 abbrev pub remote_of : {P : Type 0} → Connection P → RemoteValue
 remote_of c = c.remote.now
 
@@ -60,6 +61,7 @@ pub record PreparedValue : Type 0 where
   pub listed : Listed
   pub options : FetchOptions
 
+-- what was prepared
 abbrev pub prepared_of : {P : Type 0} → Prepare P Prepared → PreparedValue
 prepared_of p = record { remote = p.remote.now; listed = p.prepared.listed; options = p.prepared.options }
 
