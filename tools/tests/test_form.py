@@ -57,6 +57,20 @@ fn eight(a: u8, b: u8, c: u8, d: u8, e: u8, f: u8, g: u8, h: u8) {}
 """
 
 
+DEFINITIONS = """\
+-- Definitions.
+use a.{b}
+pub mod c
+
+-- with a comment
+abbrev pub one : Type 0
+one = two
+
+pub record Two : Type 0 where
+  pub field : one
+"""
+
+
 class Survey(unittest.TestCase):
     def setUp(self):
         self.lines = [SURVEY.Line(number, text) for number, text in enumerate(CODE.splitlines(), 1)]
@@ -68,6 +82,10 @@ class Survey(unittest.TestCase):
     def test_a_reason_stands_for_the_arguments(self):
         self.assertEqual([each.partition(": ")[2] for each in SURVEY.functions("a.rt", self.lines)],
                          ["eight has 8 arguments"])
+
+    def test_definitions_without_a_comment(self):
+        lines = [SURVEY.Line(number, text) for number, text in enumerate(DEFINITIONS.splitlines(), 1)]
+        self.assertEqual(list(SURVEY.uncommented("A.antt", lines)), ["A.antt:9: Two has no comment"])
 
 
 class DeadNames(unittest.TestCase):
