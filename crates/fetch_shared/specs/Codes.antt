@@ -34,6 +34,7 @@ abbrev mode_from : Bool → RefLog
 mode_from true = AndReference
 mode_from false = Only
 
+-- a mode is the one that its bit names
 pub mode_back : (m : RefLog) → mode_from (touches_reference m) ≡ m
 mode_back AndReference = refl
 mode_back Only = refl
