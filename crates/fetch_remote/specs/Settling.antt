@@ -38,6 +38,7 @@ use Rattle.fetch_remote.specs.Paths.{keep_path}
 use Rattle.fetch_remote.specs.Repositories.{State, Setup, held, with_pack}
 
 infixl 10 ◌>>=◌
+-- one step after the other, unless the first is refused
 abbrev pub ◌>>=◌ : {A B : Type 0} → Result A Error → (A → Result B Error) → Result B Error
 (Ok x) >>= f = f x
 (Err e) >>= f = Err e
@@ -227,6 +228,7 @@ pub record IsTaken (taking : Result State Error) (keep : Option (List ℕ)) (fil
 
 -- ---- a taking that was refused
 
+-- whether a refusal of the taking is a free one
 abbrev pub is_free_taking : Error → Bool
 is_free_taking (errors.KeepFile path) = true
 is_free_taking errors.NoMemory = true

@@ -130,6 +130,7 @@ pub record HasReceived (answers : Bool) (mid new : Option Talk) (g : Given) (s :
   pub wants : t.wants ≡ wants_in g s listed.ref_map
   pub pack : Concludes answers (bound_of g) mid new (pending_of listed) (pack_stage g s (shown listed)) t.received (pending_of t.listed)
 
+-- What was received after the listing, or where that broke off.
 abbrev pub TalksOnBy : Bool → Option Talk → Option Talk → Given → State → Listed → Result Talked ReceiveError → Type 0
 TalksOnBy answers mid new g s listed (Ok t) = HasReceived answers mid new g s listed t
 TalksOnBy answers mid new g s listed (Err e) = Breaks is_free_receiving answers (bound_of g) mid new (pending_of listed) (pack_stage g s (shown listed)) e
