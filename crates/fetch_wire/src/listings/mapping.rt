@@ -38,7 +38,7 @@ impl SpecIndex {
 pub struct Mapping {
     /// What is fetched.
     pub remote: Source,
-    /// The full name of the local reference that it goes to. None where it is fetched alone.
+    /// The local reference that it goes to, its name completed, which may be no valid one. None where it is fetched alone.
     pub local: Option<Text>,
     /// The refspec that made the mapping.
     pub spec_index: SpecIndex,
@@ -66,11 +66,11 @@ impl TryClone for Mapping {
 /// The references of a remote, the refspecs, and the mappings that they make.
 #[derive(Debug, Drop)]
 pub struct RefMap {
-    /// The mappings, in the order in which the refspecs make them. No destination has two sources.
+    /// First those of ids, then refspec by refspec and reference by reference. No destination has two sources.
     pub mappings: List<Mapping>,
     /// The remote's refspecs, which `ExplicitInRemote` counts.
     pub refspecs: List<RefSpec>,
-    /// The extra refspecs, that of the tags last, which `Implicit` counts.
+    /// The extra refspecs, which `Implicit` counts. That of the tags is at their end, unless it was among them.
     pub extra_refspecs: List<RefSpec>,
     /// All references that the server listed, in its order.
     pub remote_refs: List<Ref>,

@@ -13,7 +13,7 @@ pub enum SendFault {
     /// The other side failed. Its count of faults rose.
     #[error("the other side failed")]
     Failed,
-    /// Memory ran out. No fault is counted.
+    /// Memory ran out, which is no fault of the other side.
     #[error("out of memory")]
     NoMemory,
 }
