@@ -45,7 +45,7 @@ fn copy_negotiate(negotiate: &Option<Negotiate>) -> Result<Option<Negotiate>, No
 pub enum Status {
     /// None was asked for.
     NoPackReceived {
-        /// Whether that is because the fetch was a dry run.
+        /// Whether the fetch was a dry run.
         dry_run: bool,
         /// Absent where no request was sent.
         negotiate: Option<Negotiate>,
