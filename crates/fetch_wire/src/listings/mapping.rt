@@ -38,7 +38,7 @@ impl SpecIndex {
 pub struct Mapping {
     /// What is fetched.
     pub remote: Source,
-    /// The local reference that it goes to, its name completed, which may be no valid one. None where it is fetched alone.
+    /// The local reference that it goes to; its completed name may be no valid one. None where it is fetched alone.
     pub local: Option<Text>,
     /// The refspec that made the mapping.
     pub spec_index: SpecIndex,
