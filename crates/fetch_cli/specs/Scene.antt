@@ -60,7 +60,7 @@ abbrev pub ends_in : ℕ → List Placed → ℕ → Result (Unit {0}) ℕ
 ends_in len [] last = if last == len then Ok tt else Err last
 ends_in len (p ∷ ps) last = Err p.place
 
--- the peer's pieces, and a flush with nothing after it
+-- the peer's pieces, and a flush with nothing behind it
 unfoldable pub pieces_of : ℕ → Lines → Result (List (List ℕ)) ℕ
 pieces_of len ls = do
   pieces ← each_of payload_of (group_of payload_of ls)
@@ -75,7 +75,6 @@ talk_of len ls = do
   pieces ← pieces_of len remote.1
   Ok (remote.0, pieces)
 
--- the scene of these lines
 abbrev pub scene_in : ℕ → Lines → Result Scene ℕ
 scene_in len ls = do
   local ← local_of ls

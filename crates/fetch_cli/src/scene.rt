@@ -44,33 +44,22 @@ use std::thread::Threads;
 /// A scene: a repository, a remote, how to fetch from it, and what the peer says.
 #[derive(Drop)]
 pub struct Scene {
-    /// The hash of all ids.
     pub hash: Kind,
-    /// The path of the git directory, any text.
     pub git_dir: Text,
-    /// The work tree's directory, any text. None without that line.
     pub workdir: Option<Text>,
-    /// Whether a setting that can't be read is taken as absent.
     pub lenient: bool,
     /// No name comes twice.
     pub refs: List<Reference>,
-    /// The commits whose parents are left out.
     pub border: Border,
     /// The repository's own, and trusted.
     pub config: File,
-    /// The work trees that the fetch is told, in order.
     pub worktrees: List<Worktree>,
     /// Each under its id, in the order of the pack.
     pub objects: List<(ObjectId, Object)>,
-    /// The remote's address, any text.
     pub address: Text,
-    /// The remote's refspecs.
     pub specs: List<RefSpec>,
-    /// What is done with tags.
     pub tags: Tags,
-    /// The extra refspecs.
     pub extra: List<RefSpec>,
-    /// How the fetch is to be done.
     pub options: SceneOptions,
     /// What the peer says, piece by piece.
     pub pieces: List<Text>,

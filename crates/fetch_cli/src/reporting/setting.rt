@@ -170,7 +170,6 @@ fn remote_of(
 }
 
 /// The repository of a scene. There are no overrides, so that memory alone may refuse it.
-// Many arguments: the parts of a scene, which the clauses name one by one.
 fn open(
     alloc: Global,
     store: Store,

@@ -14,13 +14,9 @@ use std::alloc::Global;
 /// What the head of a scene says.
 #[derive(Drop)]
 pub(crate) struct Head {
-    /// The hash of all ids.
     pub hash: Kind,
-    /// The path of the git directory, any text.
     pub git_dir: Text,
-    /// The work tree's directory, any text. None without that line.
     pub workdir: Option<Text>,
-    /// Whether a setting that can't be read is taken as absent.
     pub lenient: bool,
 }
 

@@ -93,7 +93,6 @@ impl ReadsLine for Flush {
 /// A line that tells a commit of the border.
 #[derive(Drop)]
 pub(crate) struct BorderLine {
-    /// The hash of its id.
     pub hash: Kind,
 }
 

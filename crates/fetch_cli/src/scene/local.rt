@@ -21,15 +21,10 @@ use std::alloc::Global;
 /// The repository of a scene, without its objects.
 #[derive(Drop)]
 pub(crate) struct Local {
-    /// Hash, directories and leniency.
     pub head: Head,
-    /// The references. No name comes twice.
     pub refs: List<Reference>,
-    /// The commits whose parents are left out.
     pub border: Border,
-    /// The repository's own configuration.
     pub config: File,
-    /// The work trees that the fetch is told, in order.
     pub worktrees: List<Worktree>,
 }
 
@@ -42,7 +37,7 @@ fn border_of(alloc: Global, ids: List<ObjectId>) -> Result<Border, NoMemory>
     }
 }
 
-/// Reads the repository of a scene, and the delimiter after it.
+/// Reads the repository of a scene, and the delimiter behind it.
 #[tactic(auto, unfolding(crate::specs::Scene::local_of))]
 pub(crate) fn read_local<'a>(
     alloc: Global,

@@ -57,7 +57,7 @@ fn read_objects_in<R: Threads + Sync>(
     }
 }
 
-/// Reads the objects of a scene, and the delimiter after them.
+/// Reads the objects of a scene, and the delimiter behind them.
 #[tactic(auto, unfolding(crate::specs::Scene::objects_of))]
 pub(crate) fn read_objects<'a, R: Threads + Sync>(
     rt: &R,

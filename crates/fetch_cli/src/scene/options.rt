@@ -33,19 +33,13 @@ pub(crate) enum SceneOption {
 /// The options of a scene.
 #[derive(Debug, Drop)]
 pub struct SceneOptions {
-    /// Whether nothing is changed.
     pub dry_run: bool,
-    /// Whether ids are written into the packed list.
     pub packed_only: bool,
     /// Whether the remote is asked for the references alone that the refspecs may match.
     pub filter: bool,
-    /// How the depth of the history is to change.
     pub shallow: Shallow,
-    /// The parameters of the first line: a name, with a value where there is one.
     pub parameters: List<(Text, Option<Text>)>,
-    /// How many bytes a reply may have.
     pub bound: ReplyBound,
-    /// What the reflogs say. None for the usual message.
     pub message: Option<RefLogMessage>,
 }
 

@@ -17,9 +17,7 @@ use std::alloc::Global;
 /// A reference of a scene.
 #[derive(Debug, Drop)]
 pub struct Reference {
-    /// Its full name.
     pub name: FullName,
-    /// The id or the name that it has.
     pub target: Target,
 }
 

@@ -17,19 +17,14 @@ use std::alloc::Global;
 /// The remote of a scene, and how to fetch from it.
 #[derive(Drop)]
 pub(crate) struct RemotePart {
-    /// The remote's address, any text.
     pub address: Text,
-    /// The remote's refspecs.
     pub specs: List<RefSpec>,
-    /// What is done with tags.
     pub tags: Tags,
-    /// The extra refspecs.
     pub extra: List<RefSpec>,
-    /// How the fetch is to be done.
     pub options: SceneOptions,
 }
 
-/// Reads the remote of a scene, and the delimiter after it.
+/// Reads the remote of a scene, and the delimiter behind it.
 #[tactic(auto, unfolding(crate::specs::Scene::remote_of))]
 pub(crate) fn read_remote<'a>(
     alloc: Global,
