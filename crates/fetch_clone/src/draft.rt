@@ -41,7 +41,6 @@ pub struct Draft {
     pub free: bool,
     /// The repository, until the clone has succeeded.
     pub repo: Option<Repository>,
-    /// What the clone is asked for.
     pub choices: Choices,
     /// Whether a closure for the remote was set by the builder.
     pub configures_remote: bool,

@@ -66,7 +66,7 @@ uncounted g trees before after files left said heard e sure = record {
   removing = λ path is. absurd (uncaused e (unremoved path) sure refl is);
 }
 
--- ---- out of memory before anything is said
+-- ---- want of memory before anything is said
 
 no_memory_counted : (g : Given) (trees : List Worktree) (before after : State) (files left : Option Tree) (said heard : List ℕ) → IsCounted g trees before after files left said heard errors.NoMemory
 no_memory_counted g trees before after files left said heard = record {

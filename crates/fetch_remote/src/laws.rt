@@ -48,7 +48,7 @@ pub fn an_honest_pack_is_never_disconnected()
         → connected s (wants_in g s m) (pack_of r) ≡ Ok tt }
 {}
 
-/// What a server writes is valid input of a fetch, whatever comes after: it lists references of which none is wanted, or it
+/// What a server writes is valid input of a fetch, whatever comes behind: it lists references of which none is wanted, or it
 /// lists them and answers the requests up to a pack that may be taken. In both cases no mapping may be refused.
 pub fn what_a_server_serves_is_valid()
     ensures listed { (g : Given) (trees : List Worktree) (s : State) (capabilities : List Capability) (refs : List Ref) (rest : List ℕ) → IsAllStored g s capabilities refs
