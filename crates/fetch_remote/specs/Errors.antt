@@ -18,6 +18,11 @@ abbrev pub receiving : ReceiveError → FetchError
 receiving fetch.NoMemory = errors.NoMemory
 receiving e = errors.Receive e
 
+-- out of memory, from the fetch request on
+abbrev pub is_memory : ReceiveError → Bool
+is_memory fetch.NoMemory = true
+is_memory e = false
+
 -- a fault of the worktrees
 abbrev pub is_unlisted : ReceiveError → Bool
 is_unlisted (fetch.UpdateRefs e) = is_worktree_fault e

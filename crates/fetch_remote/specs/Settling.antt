@@ -1,5 +1,5 @@
 -- What a fetch does with what it received.
-use Rattle.std.specs.Prelude.{◌≡◌, ◌≢◌, ◌⊎◌, ◌||◌, ℕ, Bool, true, false, if◌then◌else◌, List, [], Option, Some, None, Result, Ok, Err, codes, ⊤, slice_get, is_some}
+use Rattle.std.specs.Prelude.{◌≡◌, ◌≢◌, ◌⊎◌, ◌||◌, ℕ, Bool, true, false, if◌then◌else◌, List, Option, Some, None, Result, Ok, Err, codes, slice_get, is_some}
 use Rattle.std.specs.Option.{option_map, option_and_then}
 use Rattle.fetch_store.specs.declared.id.ObjectId.{ObjectId}
 use Rattle.fetch_store.specs.declared.missing.Missing.{Missing}
@@ -203,11 +203,6 @@ kept_or before (Err e) = before
 abbrev pub standing : Result State Error → Option (List ℕ) → Option (List ℕ)
 standing (Ok s) path = path
 standing (Err e) path = None
-
--- what was answered is this refusal, unless memory ran out
-abbrev pub Fails : {X : Type 0} → Result X Error → Error → Type 0
-Fails expected errors.NoMemory = ⊤
-Fails expected e = expected ≡ Err e
 
 -- a refusal of judging
 abbrev pub IsOfJudging : Error → Type 0
