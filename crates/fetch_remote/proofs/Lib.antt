@@ -10,7 +10,6 @@ pub mod Fetched
 pub mod Refused
 pub mod Ordered
 pub mod Kept
-pub mod Talked
 pub mod Asked
 pub mod Overrides
 pub mod Lost

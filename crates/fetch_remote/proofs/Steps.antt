@@ -37,7 +37,7 @@ use Rattle.fetch_conversation.specs.declared.prepare.Error.{Error as PrepareErro
 use Rattle.fetch_conversation.specs.declared.prepare.Error.TheVariants as prepare
 use Rattle.fetch_conversation.specs.declared.ref_map.Error.{Error as MapError}
 use Rattle.fetch_conversation.specs.declared.ref_map.Error.TheVariants as ref_map
-use Rattle.fetch_remote.specs.Errors.{receiving}
+use Rattle.fetch_remote.specs.Errors.{preparing, receiving}
 use Rattle.fetch_remote.specs.Fetching.{manner_in, taken_in}
 use Rattle.fetch_remote.specs.Form.{Given}
 use Rattle.fetch_remote.specs.Judging.{IsTold, judged_of}
@@ -46,7 +46,7 @@ use Rattle.fetch_remote.specs.Refused.{IsRefused}
 use Rattle.fetch_remote.specs.Repositories.{State}
 use Rattle.fetch_remote.specs.Settling.{policy_in, IsSettled}
 use Rattle.fetch_remote.specs.Stages.{bound_of, wants_in, inquiry_in, terms_in, pack_stage}
-use Rattle.fetch_remote.specs.Steps.{HasListed, HasReceived, IsReceived, listing_error, is_missing}
+use Rattle.fetch_remote.specs.Steps.{HasListed, BreaksOff, HasReceived, IsReceived, listing_error, is_missing}
 use Rattle.fetch_remote.specs.Talking.{HasEnded, BreaksListing, BreaksReceiving}
 use Rattle.fetch_remote.specs.declared.fetching.fetch_error.FetchError.TheVariants as errors
 use Rattle.fetch_remote.specs.declared.fetching.outcome.Outcome.{Outcome}
@@ -67,6 +67,10 @@ talked_on answers old mid new g s listed t h k = record {
   told = rw k.kept (record { between = mid; behind = pending_of listed; list = h.list; pack = k.pack });
   wants = k.wants ∙ sym (ap (λ (l : ListedValue). wants_in g s l.ref_map) k.kept);
 }
+
+-- the first one breaks off
+pub breaks_off : (answers : Bool) (old new : Option Talk) (g : Given) (s : State) (e : PrepareError) → BreaksOff answers old new (inquiry_in g) e → BreaksListing answers old new g (preparing e) ⊎ BreaksReceiving answers old new g s (preparing e)
+breaks_off answers old new g s e h = inl (record { cause = e; told = refl; broke = h.broke })
 
 -- the second one breaks off
 pub breaks_on : (answers : Bool) (old mid new : Option Talk) (g : Given) (s : State) (listed : Listed) (e : ReceiveError) → HasListed answers old mid (inquiry_in g) listed

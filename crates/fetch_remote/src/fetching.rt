@@ -28,13 +28,15 @@ ghost use Rattle.fetch_remote.specs.Repositories.{state_of, setup_of};
 ghost use Rattle.fetch_remote.specs.Valid.{HasValidInput};
 ghost use Rattle.fetch_remote.specs.declared.fetching.fetch_error.FetchError.TheVariants as errors;
 
+use crate::fetching::connection::listed_for;
 use crate::fetching::fetch_error::FetchError;
 use crate::fetching::options::FetchOptions;
 use crate::fetching::outcome::Outcome;
-use crate::fetching::settling::{Manner, settle};
-use crate::fetching::talking::talk;
+use crate::fetching::preparing::fetch_on;
+use crate::fetching::settling::Manner;
 use crate::remote::Remote;
 use crate::repository::Repository;
+use fetch_conversation::NoProgress;
 use fetch_refs::PackedRefs;
 use fetch_specs::Tags;
 use fetch_store::{Files, NoMemory, Text};
@@ -97,9 +99,30 @@ impl Remote {
         ensures open_repo { IsErrOf result (errors.Receive (receive_errors.UpdateRefs update_errors.OpenWorktreeRepo)) → Rose (W.open_repo worktrees.old) (W.open_repo worktrees.new) }
         ensures follow_symref { IsErrOf result (errors.Receive (receive_errors.UpdateRefs update_errors.FollowSymref)) → Rose (W.follow_symref worktrees.old) (W.follow_symref worktrees.new) }
     {
-        let how = manner(alloc, self.fetch_tags(), &options)?;
-        let talked = talk(rt, alloc, self, repo, peer, interrupt, options)?;
-        let outcome = settle(alloc, repo, &how, talked, files, worktrees)?;
+        let FetchOptions {
+            map,
+            dry_run,
+            write_packed_refs_only,
+            reflog_message,
+            shallow,
+        } = options;
+        let mut prepared = listed_for(alloc, self, repo, peer, interrupt, map)?;
+        prepared.options.dry_run = dry_run;
+        prepared.options.write_packed_refs_only = write_packed_refs_only;
+        prepared.options.reflog_message = reflog_message;
+        prepared.options.shallow = shallow;
+        let outcome = fetch_on(
+            rt,
+            alloc,
+            self,
+            prepared,
+            repo,
+            peer,
+            &mut NoProgress,
+            interrupt,
+            files,
+            worktrees,
+        )?;
         Ok(outcome)
     }
 }

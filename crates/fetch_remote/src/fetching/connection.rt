@@ -161,7 +161,7 @@ fn listing_error(e: prepare::Error) -> ref_map::Error
 }
 
 /// Lists the references of a remote and maps them, to fetch them.
-fn listed_for<P: Peer, I: Interrupt>(
+pub(crate) fn listed_for<P: Peer, I: Interrupt>(
     alloc: Global,
     remote: &Remote,
     repo: &Repository,

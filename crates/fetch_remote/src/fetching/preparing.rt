@@ -172,7 +172,14 @@ impl<'a, P: Peer> Prepare<'a, P> {
 }
 
 /// Asks for what is wanted of what was listed, and settles what is received.
-fn fetch_on<R: Threads + Sync, P: Peer, Q: Progress, I: Interrupt, F: Files, W: Worktrees>(
+pub(crate) fn fetch_on<
+    R: Threads + Sync,
+    P: Peer,
+    Q: Progress,
+    I: Interrupt,
+    F: Files,
+    W: Worktrees,
+>(
     rt: &R,
     alloc: Global,
     remote: &Remote,
