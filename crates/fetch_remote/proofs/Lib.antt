@@ -18,6 +18,8 @@ pub mod Unjudged
 pub mod Steps
 pub mod Lasting
 pub mod Complete
+pub mod Unread
+pub mod DryRuns
 pub mod Serving
 pub mod Deletions
 pub mod Replaced
