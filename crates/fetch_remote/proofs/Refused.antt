@@ -110,7 +110,7 @@ broken_free answers old new known files g before said heard e free passed front 
 }
 
 -- the two refusals of a stage that have a count aren't told by the other
-pub no_pack_listing : (e : PrepareError) (x : ReceiveError) → preparing e ≡ errors.Receive x → ⊥
+no_pack_listing : (e : PrepareError) (x : ReceiveError) → preparing e ≡ errors.Receive x → ⊥
 no_pack_listing prepare.MissingRefSpecs x is = absurd (cc)
 no_pack_listing (prepare.RefMap e) x is = absurd (cc)
 no_pack_listing prepare.NoMemory x is = absurd (cc)

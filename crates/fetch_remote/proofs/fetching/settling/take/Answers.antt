@@ -1,7 +1,7 @@
 use Rattle.std.proofs.Common.{Some}
 use Rattle.std.proofs.lemmas.Result.{err_from_is_err_and}
 use Rattle.fetch_remote.specs.Repositories.{state_of}
-use Rattle.fetch_remote.proofs.Settled.{untaken_early, untaken_making, untaken_behind, never_unmade}
+use Rattle.fetch_remote.proofs.Settled.{untaken_early, untaken_making, untaken_behind}
 use Rattle.fetch_remote.proofs.fetching.settling.take.Goals as goal
 
 pub returns-in_err-may_take-clause-refused : goal.returns-in_err-may_take-clause-refused

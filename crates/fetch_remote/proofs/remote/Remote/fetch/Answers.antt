@@ -10,10 +10,9 @@ use Rattle.fetch_conversation.proofs.Heeded.{heeded_then, heeded_as, same_questi
 use Rattle.fetch_remote.specs.Errors.{preparing, receiving, is_yes}
 use Rattle.fetch_remote.specs.Form.{Given}
 use Rattle.fetch_remote.specs.Repositories.{state_of, setup_of}
-use Rattle.fetch_remote.specs.declared.fetching.fetch_error.FetchError.TheVariants as errors
 use Rattle.fetch_remote.proofs.Asked.{listing_yes, receiving_yes}
 use Rattle.fetch_remote.proofs.Complete.{complete}
-use Rattle.fetch_remote.proofs.Refused.{broken_off, no_pack_listing, no_listing_pack}
+use Rattle.fetch_remote.proofs.Refused.{broken_off, no_listing_pack}
 use Rattle.fetch_remote.proofs.Steps.{breaks_off, same_error}
 use Rattle.fetch_remote.proofs.Unjudged.{refusal_is}
 use Rattle.fetch_remote.proofs.remote.Remote.fetch.Goals as goal
