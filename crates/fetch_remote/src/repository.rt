@@ -275,7 +275,7 @@ impl Repository {
     /// Whether lines are written into the reflogs of branches: as `core.logAllRefUpdates` says where it can be read, and
     /// else where there is a work tree.
     #[tactic(auto, unfolding(crate::specs::RepositoryValues::logging_of))]
-    pub(crate) fn logs(&self) -> bool
+    pub fn logs(&self) -> bool
         ensures { result ≡ (setup_of self.now).logging }
     {
         match self
