@@ -25,6 +25,8 @@ pub use reporting::lines::{
 };
 pub use reporting::map_lines::append_map;
 pub use reporting::report;
+pub use reporting::setting::{Setting, set_up};
+pub use reporting::state_lines::append_state;
 pub use reporting::summary::summary;
 pub use reporting::tokens::append_token;
 pub use scene::fault::SceneFault;

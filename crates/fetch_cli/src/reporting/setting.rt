@@ -23,12 +23,13 @@ use std::alloc::Global;
 
 /// A repository and a remote, as a scene says; and how it is to be fetched, what is checked out, and what the peer says.
 #[derive(Drop)]
-pub(crate) struct Setting {
-    pub(crate) repo: Repository,
-    pub(crate) remote: Remote,
-    pub(crate) options: FetchOptions,
-    pub(crate) worktrees: List<Worktree>,
-    pub(crate) pieces: List<Text>,
+pub struct Setting {
+    pub repo: Repository,
+    pub remote: Remote,
+    pub options: FetchOptions,
+    pub worktrees: List<Worktree>,
+    /// What the peer says, piece by piece.
+    pub pieces: List<Text>,
 }
 
 /// Who writes the lines of reflogs.
@@ -214,8 +215,8 @@ fn open(
     }
 }
 
-/// Sets up what a scene says.
-pub(crate) fn set_up(alloc: Global, scene: Scene) -> Result<Setting, NoMemory>
+/// Sets up what a scene says. Its objects are of its hash, as those that are read are.
+pub fn set_up(alloc: Global, scene: Scene) -> Result<Setting, NoMemory>
     requires { AreOf scene.hash scene.objects }
     ensures given { IfOk result (λ s. record { remote = s.remote; options = s.options; setup = setup_of s.repo } ≡ spec.given_of scene) }
     ensures found { IfOk result (λ s. state_of s.repo ≡ spec.found_of scene) }

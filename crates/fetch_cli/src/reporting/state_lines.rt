@@ -92,7 +92,7 @@ fn append_ids(out: &mut Vec<u8>, store: &Store) -> Result<(), NoMemory>
 
 /// The references, their reflogs, the border and the ids.
 #[tactic(auto, unfolding(crate::specs::Report::state_lines))]
-pub(crate) fn append_state(out: &mut Vec<u8>, repo: &Repository) -> Result<(), NoMemory>
+pub fn append_state(out: &mut Vec<u8>, repo: &Repository) -> Result<(), NoMemory>
     ensures { OnOk result (out.new.items ≡ out.old.items ++ spec.state_lines (state_of repo.now)) }
 {
     append_refs(out, repo.refs())?;
