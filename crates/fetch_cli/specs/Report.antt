@@ -2,8 +2,10 @@
 use Rattle.std.specs.Prelude.{◌≡◌, ◌≢◌, ℕ, pos, List, [], ◌∷◌, ◌++◌, codes, Option, Some, None, Result, Ok, Err, if◌then◌else◌}
 use Rattle.std.specs.FinMap as map
 use Rattle.std.specs.List.{concat, flat_map, slice_get}
-use Rattle.fetch_store.specs.Borders.{ids_of}
-use Rattle.fetch_store.specs.Stores.{add_all}
+use Rattle.fetch_config.specs.Contents.{Contents}
+use Rattle.fetch_store.specs.declared.id.Kind.{Kind}
+use Rattle.fetch_store.specs.Borders.{IdSet, ids_of}
+use Rattle.fetch_store.specs.Stores.{Entries, add_all}
 use Rattle.fetch_specs.specs.Names.{is_full_name}
 use Rattle.fetch_specs.specs.Specs.{Spec}
 use Rattle.fetch_refs.specs.Logs.{lines_of}
@@ -18,7 +20,7 @@ use Rattle.fetch_remote.specs.Fetching.{fetched_in, requests_in, left_in, keep_l
 use Rattle.fetch_remote.specs.Form.{Given}
 use Rattle.fetch_remote.specs.Keeping.{keep_in}
 use Rattle.fetch_remote.specs.Remotes.{nameless}
-use Rattle.fetch_remote.specs.Repositories.{State, logging_of}
+use Rattle.fetch_remote.specs.Repositories.{State, Setup, logging_of}
 use Rattle.fetch_remote.specs.declared.fetching.fetch_error.FetchError.{FetchError}
 use Rattle.fetch_remote.specs.declared.fetching.fetch_error.FetchError.TheVariants as errors
 use Rattle.fetch_remote.specs.declared.fetching.options.FetchOptions.{FetchOptions}
@@ -27,8 +29,10 @@ use Rattle.fetch_remote.specs.declared.fetching.outcome.Status.{Status}
 use Rattle.fetch_remote.specs.declared.fetching.outcome.Status.TheVariants as statuses
 use Rattle.fetch_cli.specs.Heard.{lines_heard}
 use Rattle.fetch_cli.specs.MapLines.{map_line}
+use Rattle.fetch_cli.specs.Scene.{local_in}
 use Rattle.fetch_cli.specs.ReportLines.{sent_line, ref_line, log_line, border_line, id_line, keep_line, refused_line}
 use Rattle.fetch_cli.specs.Tokens.{token}
+use Rattle.fetch_cli.specs.declared.scene.head.Head.{Head}
 use Rattle.fetch_cli.specs.declared.scene.options.SceneOptions.{SceneOptions}
 use Rattle.fetch_cli.specs.declared.scene.references.Reference.{Reference}
 use Rattle.fetch_cli.specs.declared.scene.Scene.{Scene}
@@ -49,19 +53,23 @@ fetch_options o extra = record {
   shallow = o.shallow;
 }
 
+-- what is read of a repository with this head and this configuration, which is all it has
+abbrev pub setup_in : Head → Contents → Setup
+setup_in head config = record {
+  base = record { meta = config.meta; sections = [] };
+  local = config;
+  overrides = [];
+  workdir = head.workdir;
+  settings = record { kind = head.hash; config = config; lenient = head.lenient; git_dir = head.git_dir; committer = committer };
+  logging = logging_of config head.workdir;
+}
+
 -- the remote with its one address, the options, and what is read of the repository
 abbrev pub given_of : Scene → Given
 given_of s = record {
   remote = nameless (s.address ∷ []) s.specs s.tags;
   options = fetch_options s.options s.extra;
-  setup = record {
-    base = record { meta = s.config.meta; sections = [] };
-    local = s.config;
-    overrides = [];
-    workdir = s.workdir;
-    settings = record { kind = s.hash; config = s.config; lenient = s.lenient; git_dir = s.git_dir; committer = committer };
-    logging = logging_of s.config s.workdir;
-  };
+  setup = setup_in (local_in s).head s.config;
 }
 
 -- with each reference at its name
@@ -70,13 +78,16 @@ with_references names [] = names
 with_references names (r ∷ rs) = with_references (map.insert names r.name r.target) rs
 
 -- the objects, the border and the references, and no reflogs
-abbrev pub found_of : Scene → State
-found_of s = record {
-  hash = s.hash;
-  objects = add_all map.empty s.objects;
-  border = s.border;
-  refs = record { hash = s.hash; names = with_references map.empty s.refs; logs = map.empty; packed = map.empty };
+abbrev pub found_in : Kind → Entries → IdSet → List Reference → State
+found_in hash objects border refs = record {
+  hash = hash;
+  objects = add_all map.empty objects;
+  border = border;
+  refs = record { hash = hash; names = with_references map.empty refs; logs = map.empty; packed = map.empty };
 }
+
+abbrev pub found_of : Scene → State
+found_of s = found_in s.hash s.objects s.border s.refs
 
 -- all that the peer says
 abbrev pub stream_of : Scene → List ℕ

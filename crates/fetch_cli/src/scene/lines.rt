@@ -12,7 +12,7 @@ use std::marker::Model;
 
 /// A line and the place where it begins.
 #[derive(Drop)]
-pub(crate) struct Placed<'a> {
+pub struct Placed<'a> {
     place: usize,
     line: LineRef<'a>,
 }
@@ -113,7 +113,7 @@ fn without_line_feed(text: &[u8]) -> &[u8]
 
 /// Lines that follow each other, and the place after the last of them.
 #[derive(Drop)]
-pub(crate) struct Lines<'a> {
+pub struct Lines<'a> {
     lines: &'a [Placed<'a>],
     last: usize,
 }
@@ -148,7 +148,7 @@ impl<'a> Lines<'a> {
     }
 
     /// Lines that follow each other.
-    pub(crate) fn from_parts(lines: &'a [Placed<'a>], last: usize) -> Lines<'a>
+    pub fn from_parts(lines: &'a [Placed<'a>], last: usize) -> Lines<'a>
         ensures lines { result.lines ≡ lines.now }
         ensures last { result.last ≡ last }
     {

@@ -26,8 +26,8 @@ fn line_at(bytes: &[u8], place: usize) -> Option<(LineRef<'_>, usize)>
     }
 }
 
-/// The lines of a text up to where it has no more, and that place.
-pub(crate) fn read_lines(alloc: Global, bytes: &[u8]) -> Result<(Vec<Placed<'_>>, usize), NoMemory>
+/// The lines of a text up to where it has no more, and that place. The text is no longer than a scene may be.
+pub fn read_lines(alloc: Global, bytes: &[u8]) -> Result<(Vec<Placed<'_>>, usize), NoMemory>
     requires { length bytes.now ≤ 2 ^ 30 }
     ensures { IfOk result (λ x. record { lines = x.0.items; last = x.1 } ≡ spec.lines_of bytes.now) }
 {
