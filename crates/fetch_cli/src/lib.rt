@@ -24,8 +24,8 @@ pub use reporting::lines::{
     append_malformed_word, append_number, append_ref, append_refused, append_sent, append_target,
 };
 pub use reporting::map_lines::append_map;
-pub use reporting::setting::{set_up_local, set_up_remote};
-pub use reporting::state_lines::{append_commits, append_ids, append_refs};
+pub use reporting::setting::{Setting, set_up, set_up_local, set_up_remote};
+pub use reporting::state_lines::{append_commits, append_ids, append_refs, append_state};
 pub use reporting::summary::summary;
 pub use reporting::tokens::append_token;
 pub use reporting::{report, tokens};

@@ -233,8 +233,8 @@ pub fn set_up_local(
     open(alloc, store, refs, committer, local)
 }
 
-/// Sets up what a scene says.
-pub(crate) fn set_up(alloc: Global, scene: Scene) -> Result<Setting, NoMemory>
+/// Sets up what a scene says. Its objects are of its hash, as those that are read are.
+pub fn set_up(alloc: Global, scene: Scene) -> Result<Setting, NoMemory>
     requires { AreOf scene.hash scene.objects }
     ensures given { IfOk result (λ s. record { remote = s.remote; options = s.options; setup = setup_of s.repo } ≡ spec.given_of scene) }
     ensures found { IfOk result (λ s. state_of s.repo ≡ spec.found_of scene) }
