@@ -15,3 +15,14 @@ pub mod SeatSteps
 pub mod Back
 pub mod Turned
 pub mod Starts
+pub mod Saw
+pub mod Named
+pub mod Told
+pub mod Spoken
+pub mod Brought
+pub mod Judged
+pub mod Moved
+pub mod Settled
+pub mod Owned
+pub mod Fetched
+pub mod Places

@@ -22,3 +22,8 @@ deleting e = errors.Delete e
 abbrev pub is_of_peer : SharedError → Bool
 is_of_peer (errors.Fetch e) = remote.is_of_peer e
 is_of_peer e = false
+
+-- a yes of the interrupt
+abbrev pub is_yes : SharedError → Bool
+is_yes (errors.Fetch e) = remote.is_yes e
+is_yes e = false

@@ -16,3 +16,8 @@ pub mod Received
 pub mod Errors
 pub mod Receipts
 pub mod Deleting
+pub mod Seen
+pub mod Talking
+pub mod Bringing
+pub mod Settling
+pub mod Fetching
