@@ -4,6 +4,7 @@ pub mod Connecting
 pub mod Replays
 pub mod Fronts
 pub mod Deleted
+pub mod Playing
 pub mod Unmet
 pub mod Effects
 pub mod Journals

@@ -8,11 +8,12 @@ use Rattle.fetch_remote.specs.declared.fetching.fetch_error.FetchError.TheVarian
 use Rattle.fetch_shared.specs.declared.error.SharedError.{SharedError}
 use Rattle.fetch_shared.specs.declared.error.SharedError.TheVariants as errors
 
--- want of memory stays what it is
+-- out of memory stays what it is
 abbrev pub fetching : FetchError → SharedError
 fetching fetch.NoMemory = errors.NoMemory
 fetching e = errors.Fetch e
 
+-- why branches weren't deleted, as a refusal of a shared repository
 abbrev pub deleting : DeleteError → SharedError
 deleting delete.NoMemory = errors.NoMemory
 deleting e = errors.Delete e

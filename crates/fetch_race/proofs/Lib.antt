@@ -1,0 +1,5 @@
+pub mod Jobs
+pub mod Inputs
+pub mod Outlines
+pub mod OneJob
+pub mod Told
