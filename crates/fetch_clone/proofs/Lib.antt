@@ -6,3 +6,5 @@ pub mod Opened
 pub mod Prepared
 pub mod Branched
 pub mod Headed
+pub mod Counted
+pub mod StepsCounted

@@ -13,3 +13,11 @@ pub mod Replacing
 pub mod Initial
 pub mod Drafts
 pub mod Heading
+pub mod Mirrors
+pub mod Reached
+pub mod Stages
+pub mod Targets
+pub mod Planned
+pub mod Listed
+pub mod Cloned
+pub mod Counted

@@ -49,7 +49,7 @@ pub fn update_head<F: Files>(
 }
 
 /// What `HEAD` is to take.
-fn aimed(
+pub fn aimed(
     alloc: Global,
     repo: &Repository,
     map: &RefMap,
@@ -66,7 +66,7 @@ fn aimed(
 }
 
 /// How a refusal to aim is told.
-fn refusal_of(
+pub fn refusal_of(
     alloc: Global,
     ref_name: Option<&PartialName>,
     revision: Option<&RefSpec>,
@@ -274,17 +274,34 @@ fn save_local<F: Files>(
     ensures counts { Counts (F.faults files.old) (F.faults files.new) }
     ensures may_fail { F.may_fail files.new ≡ F.may_fail files.old }
 {
-    let path = config_path(alloc, repo.git_dir())?;
+    write_local(alloc, files, repo.git_dir(), &local)?;
+    match repo.replace_local(alloc, local) {
+        Ok(()) => Ok(()),
+        Err(_) => Err(Error::NoMemory),
+    }
+}
+
+/// Writes the whole local file into the file `config` in the directory.
+pub fn write_local<F: Files>(
+    alloc: Global,
+    files: &mut F,
+    git_dir: &[u8],
+    local: &File,
+) -> Result<(), Error>
+    ensures written { OnOk result (spec.IsWritten (F.told files.old) git_dir.now local.now (F.told files.new)) }
+    ensures refused { IfErr result (spec.IsUnsaved (F.may_fail files.old) (F.told files.old) git_dir.now (Some local.now)) }
+    ensures tree { TellsStill (F.told files.old) (F.told files.new) }
+    ensures io { IsErrOf result errors.SaveConfigIo → Rose (F.faults files.old) (F.faults files.new) }
+    ensures counts { Counts (F.faults files.old) (F.faults files.new) }
+    ensures may_fail { F.may_fail files.new ≡ F.may_fail files.old }
+{
+    let path = config_path(alloc, git_dir)?;
     let Ok(text) = local.write(alloc, None) else {
         return Err(Error::NoMemory);
     };
     match files.write(path.as_bytes(), text.as_bytes()) {
-        Ok(()) => {}
-        Err(FileError::Failed) => return Err(Error::SaveConfigIo),
-        Err(FileError::NoMemory) => return Err(Error::NoMemory),
-    }
-    match repo.replace_local(alloc, local) {
         Ok(()) => Ok(()),
-        Err(_) => Err(Error::NoMemory),
+        Err(FileError::Failed) => Err(Error::SaveConfigIo),
+        Err(FileError::NoMemory) => Err(Error::NoMemory),
     }
 }

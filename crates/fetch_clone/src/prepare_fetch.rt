@@ -266,3 +266,16 @@ impl<F: Files + Drop, C: Connect + Drop, R: Drop, G: Drop> Drop for PrepareFetch
         give_up(&mut files, &draft);
     }
 }
+
+/// The repository, as `persist` gives it.
+impl<F: Files + Drop, C: Connect + Drop, R: Drop, G: Drop> From<PrepareFetch<F, C, R, G>>
+    for Option<Repository>
+{
+    ghost use Rattle.std.specs.Prelude.{◌≡◌};
+
+    ghost from_gives = { λ p repo. repo ≡ p.draft.repo };
+
+    fn from(clone: PrepareFetch<F, C, R, G>) -> Option<Repository> {
+        clone.persist()
+    }
+}

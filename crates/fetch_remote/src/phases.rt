@@ -14,9 +14,11 @@ ghost use Rattle.fetch_conversation.specs.declared.prepare.Error.TheVariants as 
 ghost use Rattle.fetch_conversation.specs.declared.ref_map.Error.TheVariants as ref_map_errors;
 ghost use Rattle.fetch_remote.specs.Stages.{inquiry_of};
 
+pub use crate::fetching::connection::{inquired, listed_for};
 pub use crate::fetching::judging::judge;
 pub use crate::fetching::keep::{Kept, keep, make_keep, remove_keep};
 pub use crate::fetching::manner;
+pub use crate::fetching::preparing::fetch_on;
 pub use crate::fetching::settling::{Manner, Taken, status};
 use crate::ref_map::Options;
 use crate::remote::Remote;

@@ -2,6 +2,7 @@
 
 mod hash;
 pub mod open_error;
+mod overriding;
 pub mod paths;
 pub mod reload;
 pub mod settings;

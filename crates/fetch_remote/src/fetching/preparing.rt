@@ -170,8 +170,10 @@ impl<'a, P: Peer> Prepare<'a, P> {
     }
 }
 
-/// Asks for what is wanted of what was listed, and settles what is received.
-fn fetch_on<R: Threads + Sync, P: Peer, Q: Progress, I: Interrupt, F: Files, W: Worktrees>(
+/// Asks for what is wanted of what was listed, and settles what is received. The interrupt is asked once before each receive.
+///
+/// After an error references, reflogs, objects, border and files are as `Remote::fetch` leaves them.
+pub fn fetch_on<R: Threads + Sync, P: Peer, Q: Progress, I: Interrupt, F: Files, W: Worktrees>(
     rt: &R,
     alloc: Global,
     remote: &Remote,
