@@ -1,4 +1,4 @@
-"""Lines: four hexadecimal digits that count themselves, and the payload behind them."""
+"""Lines: four hexadecimal digits that count themselves, and the payload after them."""
 
 from enum import Enum
 
@@ -55,7 +55,7 @@ def placed_lines(data):
 
 
 def line_at(data, place):
-    """The line that begins at a place, and the place behind it."""
+    """The line that begins at a place, and the place after it."""
     digits = data[place : place + 4]
     for mark in Mark:
         if digits == mark.value:

@@ -45,7 +45,7 @@ class Report:
     refused: str | None = None
 
     def requests(self):
-        """The requests behind the first line, each a list of lines that ends before its flush."""
+        """The requests after the first line, each a list of lines that ends before its flush."""
         found, request = [], []
         for line in self.sent[1:]:
             if line is Mark.FLUSH:

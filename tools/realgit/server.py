@@ -73,7 +73,7 @@ def _with_plain_packs(line):
 
 
 def _split_at_pack(said):
-    """The bytes up to the line `packfile` with it, and the band lines behind it, or None where no pack comes."""
+    """The bytes up to the line `packfile` with it, and the band lines after it, or None where no pack comes."""
     front, bands = [], None
     for _, line in placed_lines(said):
         if bands is None:

@@ -5,7 +5,7 @@ use fetch_cli::{StdSink, StdSource, run};
 use std::process::ExitCode;
 use std::{env, io};
 
-/// The words behind the program's name.
+/// The words after the program's name.
 fn words(rt: &HostRuntime) -> io::Result<Vec<Vec<u8>>> {
     let mut words = Vec::new(rt.alloc());
     for word in env::args(rt)?.skip(1) {

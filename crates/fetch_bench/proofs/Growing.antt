@@ -21,7 +21,7 @@ commits_more before i =
 abbrev pub pair : ObjectId → Stored → ObjectId × Stored
 pair id o = (id, o)
 
--- the next commit is put behind the others
+-- the next commit is put after the others
 pub line_grows : (before i : ℕ) (start out new : Entries) (last : Option ObjectId) (text : List ℕ) (id : ObjectId) (o : Stored)
     → out ≡ start ++ map under_its_id (commits_after before i) → last ≡ tip (before + i) → text ≡ text_of last (before + i + 1)
     → id ≡ id_of Sha1 Commit text → o ≡ record { hash = Sha1; kind = Commit; bytes = text } → new ≡ out ++ (id, o) ∷ []

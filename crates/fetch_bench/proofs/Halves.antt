@@ -30,7 +30,7 @@ range_joined a (suc m) k =
     let on : (a + 1) + m ≡ a + suc m = omega arith in
     ap (range_with_len a) more ∙ ap (λ (l : List ℕ). a ∷ l) (range_joined (a + 1) m k ∙ ap (λ (b : ℕ). range_with_len (a + 1) m ++ range_with_len b k) on)
 
--- some commits, and those behind them
+-- some commits, and those after them
 pub commits_joined : (a m k : ℕ) → commits_after a (m + k) ≡ commits_after a m ++ commits_after (a + m) k
 commits_joined a m k = ap (map commit_after) (range_joined a m k) ∙ map-append commit_after (range_with_len a m) (range_with_len (a + m) k)
 

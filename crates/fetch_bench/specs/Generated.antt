@@ -8,7 +8,7 @@ use Rattle.fetch_bench.specs.Commits.{tip, commits_after, line_of}
 use Rattle.fetch_bench.specs.Served.{branches, stream_of}
 use Rattle.fetch_bench.specs.declared.generated.Generated.{Generated}
 
--- the pack of the commits behind the first half
+-- the pack of the commits after the first half
 abbrev pub second_half : ℕ → List ℕ
 second_half n = pack_text V1 Sha1 (payloads_of (commits_after (n / 2) (n - n / 2)))
 

@@ -10,6 +10,7 @@ use Rattle.fetch_wire.specs.Cutting.{in_pieces}
 use Rattle.fetch_wire.specs.ServerLines.{greeting_lines, listing_lines_of}
 use Rattle.fetch_wire.specs.Written.{lines_text}
 
+-- a capability with a value
 abbrev pub capability : List ℕ → List ℕ → Capability
 capability name value = record { name = name; value = Some value }
 

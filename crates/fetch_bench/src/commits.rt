@@ -10,7 +10,7 @@ use fetch_store::{Kind, NoMemory, Object, ObjectId, ObjectKind, StoreError, id_o
 use itoa::Buffer;
 use std::alloc::Global;
 
-/// Puts the digits of an id behind what is there.
+/// Puts the digits of an id after what is there.
 fn append_id(out: &mut Vec<u8>, id: &ObjectId) -> Result<(), NoMemory>
     ensures { OnOk result (out.new.items ≡ out.old.items ++ spec.digits_of id.now) }
 {
@@ -37,7 +37,7 @@ fn append_number(out: &mut Vec<u8>, number: usize) -> Result<(), NoMemory>
     Ok(())
 }
 
-/// Puts who wrote the commit of a number, and when, behind what is there.
+/// Puts who wrote the commit of a number, and when, after what is there.
 #[tactic(auto, unfolding(crate::specs::Commits::signature))]
 fn append_signature(out: &mut Vec<u8>, number: usize) -> Result<(), NoMemory>
     ensures { OnOk result (out.new.items ≡ out.old.items ++ spec.signature number) }
@@ -48,7 +48,7 @@ fn append_signature(out: &mut Vec<u8>, number: usize) -> Result<(), NoMemory>
     Ok(())
 }
 
-/// Puts the line of a parent, where there is one, behind what is there.
+/// Puts the line of a parent, where there is one, after what is there.
 fn append_parent(out: &mut Vec<u8>, parent: Option<&ObjectId>) -> Result<(), NoMemory>
     ensures { OnOk result (out.new.items ≡ out.old.items ++ flat_map parent_line (option_to_list (option_map spec.digits_of (option_copied parent.entry)))) }
 {
@@ -60,7 +60,7 @@ fn append_parent(out: &mut Vec<u8>, parent: Option<&ObjectId>) -> Result<(), NoM
     Ok(())
 }
 
-/// Puts the commit of a number with this parent behind what is there. `tree` is the id of the empty tree.
+/// Puts the commit of a number with this parent after what is there. `tree` is the id of the empty tree.
 fn append_commit(
     out: &mut Vec<u8>,
     tree: &ObjectId,
@@ -117,7 +117,7 @@ pub(crate) fn empty_line(alloc: Global) -> Result<Vec<(ObjectId, Object)>, NoMem
     Ok(line)
 }
 
-/// Puts `count` commits behind what is there, each under its id, of which the first stands behind `before` others in
+/// Puts `count` commits after what is there, each under its id, of which the first stands after `before` others in
 /// the line; and answers the id of the last of all these, where there is one. `tip` is the id of the last of the others.
 pub(crate) fn push_commits(
     alloc: Global,

@@ -67,7 +67,7 @@ fn server_stream(alloc: Global, count: usize, tip: Option<ObjectId>) -> Result<V
     stream_of(alloc, main, old, pack)
 }
 
-/// A fetch of the second half of a line of `count` commits, from 1 to 100,000. They stand over the empty tree, one behind
+/// A fetch of the second half of a line of `count` commits, from 1 to 100,000. They stand over the empty tree, one after
 /// the other; the client has the first half, rounded down, and the server has the whole line at `refs/heads/main`, and
 /// its first half, rounded up, at `refs/heads/old`. What the server says is the greeting, the listing, and the reply with
 /// the rest of the line as a pack, in pieces of 65,000 bytes, the last of which may be shorter.

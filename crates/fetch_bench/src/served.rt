@@ -70,7 +70,7 @@ fn branches(
     Ok(refs)
 }
 
-/// Puts a line behind what is there. It fits, so that memory alone may refuse it.
+/// Puts a line after what is there. It fits, so that memory alone may refuse it.
 fn append_line(out: &mut Vec<u8>, line: LineRef<'_>) -> Result<(), NoMemory>
     ensures { OnOk result (out.new.items ≡ out.old.items ++ line_text (line_of line.entry)) }
 {
@@ -89,7 +89,7 @@ fn append_lines(out: &mut Vec<u8>, lines: &[Line]) -> Result<(), NoMemory>
     Ok(())
 }
 
-/// Puts the line of a part of the pack behind what is there.
+/// Puts the line of a part of the pack after what is there.
 fn append_band(alloc: Global, out: &mut Vec<u8>, piece: &[u8]) -> Result<(), NoMemory>
     ensures { OnOk result (out.new.items ≡ out.old.items ++ line_text (band_line (Piece piece.now))) }
 {
@@ -107,7 +107,7 @@ fn append_bands(alloc: Global, out: &mut Vec<u8>, pieces: &[Text]) -> Result<(),
     Ok(())
 }
 
-/// Puts the reply with a pack behind what is there.
+/// Puts the reply with a pack after what is there.
 fn append_reply(alloc: Global, out: &mut Vec<u8>, pack: Vec<u8>) -> Result<(), NoMemory>
     ensures { OnOk result (out.new.items ≡ out.old.items ++ lines_text (pack_lines (map Piece (in_pieces 65000 pack.items)))) }
 {

@@ -50,7 +50,7 @@ answers_none input bytes place status text all found is = record { bytes = bytes
 
 -- ---- the statuses of answers
 
--- none of those that the ends and want of memory have
+-- none of those that the ends and out of memory have
 abbrev pub IsAnswered : ℕ → Type 0
 IsAnswered status = (status ≢ 2) × (status ≢ 3) × (status ≢ 5) × (status ≤ 5)
 

@@ -46,7 +46,7 @@ pub each_stops : {A : Type 0} (f : Line → Option A) (lines : List Placed) (i :
 each_stops f lines i p front total lt here is so_far =
     sym (rw (from lines i p lt here) at so_far) ∙ stopped f p (drop (i + 1) lines) front is
 
--- the last line is behind
+-- the last line is over
 pub each_ends : {A : Type 0} (f : Line → Option A) (lines : List Placed) (i : ℕ) (front : List A) (total : Result (List A) ℕ) → length lines ≤ i → behind front (each_of f (drop i lines)) ≡ total → total ≡ Ok front
 unfolding each_of
 each_ends f lines i front total le so_far = sym (rw (drop_all i lines le) at so_far) ∙ ap Ok (append-nil front)

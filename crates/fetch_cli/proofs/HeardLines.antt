@@ -7,7 +7,7 @@ use Rattle.fetch_cli.specs.Report.{sent_lines}
 use Rattle.fetch_cli.specs.ReportLines.{sent_line}
 use Rattle.fetch_cli.specs.SceneLines.{line_found}
 
--- The lines that are left, behind those written, are the lines of the bytes behind what was there.
+-- The lines that are left, after those written, are the lines of the bytes after what was there.
 pub record IsLeft (start out rest bytes : List ℕ) : Type 0 where
   pub count : ℕ
   pub enough : length rest ≤ count

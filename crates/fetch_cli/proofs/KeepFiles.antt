@@ -164,7 +164,7 @@ behind_each part x q (k ∷ ps) h = by (λ later. behind_each part x q ps later)
     by again (inl at) = ap (λ (b : Bool). b || is_among q ps) (then_both (slice_cmp nat_cmp x part) (path_cmp q k) at)
     by again (inr later) = among_later q k ps (again later)
 
--- nothing is a name behind a path, of those above one that is a name longer
+-- nothing is a name after a path, of those above one that is a name longer
 none_above : (d : Path) (name : List ℕ) (q : Path) → is_among q (parents_of (d ++ name ∷ [])) ≡ true → name_behind (after_path d q) ≡ None
 none_above [] name [] h = refl
 none_above [] name (x ∷ q) h = absurd (cc)
@@ -281,7 +281,7 @@ module _ where
 
 -- ---- the keep file of a digest
 
--- its name, behind the first byte
+-- its name, after the first byte
 name_of : ObjectId → List ℕ
 name_of digest = codes "ack-" ++ encode_lower (bytes_of digest) ++ codes ".keep"
 

@@ -29,6 +29,7 @@ use Rattle.fetch_cli.specs.declared.scene.Scene.{Scene}
 abbrev pub configuration : List ℕ
 configuration = text_of (codes "[fetch]" ∷ codes "negotiationAlgorithm = noop" ∷ [])
 
+-- the configuration of a bench
 unfoldable pub config : Contents
 config = record { meta = own; sections = sections_of own configuration }
 
@@ -40,6 +41,7 @@ tracking id = record { name = codes "refs/remotes/origin/main"; target = Object 
 abbrev pub refspec : List ℕ
 refspec = codes "+refs/heads/*:refs/remotes/origin/*"
 
+-- the scene of what was generated
 unfoldable pub scene_with : Generated → Scene
 scene_with g = record {
   hash = Sha1;
@@ -73,9 +75,11 @@ bench_line n = counted_line (codes "bench ") n
 abbrev pub count_lines : State → List ℕ
 count_lines s = counted_line (codes "objects ") (length (map.keys s.objects)) ++ counted_line (codes "refs ") (length (map.entries s.refs.names))
 
+-- the summary of a fetch that was done
 unfoldable pub done_summary : ℕ → Outcome → State → List ℕ
 done_summary n outcome after = bench_line n ++ map_lines outcome.ref_map.mappings (updates_of outcome.status).updates ++ count_lines after ++ codes "ok\n"
 
+-- the summary of a fetch that was refused
 unfoldable pub refused_summary : ℕ → FetchError → List ℕ
 refused_summary n e = bench_line n ++ refused_line (token e)
 

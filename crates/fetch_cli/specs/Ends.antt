@@ -2,11 +2,11 @@
 use Rattle.std.specs.Prelude.{◌≡◌, ℕ, ◌<◌, List, ◌++◌, length, Option, Some, None, Result, ⊤, MatchResult}
 use Rattle.std.specs.Io.KnownBytes.{Appends}
 
--- some front of the bytes
+-- some prefix of the bytes
 abbrev pub IsFront : List ℕ → List ℕ → Type 0
 IsFront front bytes = (rest : List ℕ) × (bytes ≡ front ++ rest)
 
--- All bytes were taken, or at a refusal a front of them.
+-- All bytes were taken, or at a refusal a prefix of them.
 abbrev pub Takes : {T E : Type 0} → Option (List ℕ) → Option (List ℕ) → Result T E → List ℕ → Type 0
 Takes before now result bytes =
     MatchResult result (λ _. Appends before now bytes) (λ _. (front : List ℕ) × IsFront front bytes × Appends before now front)

@@ -30,9 +30,11 @@ HasRefusedBy g trees found stream errors.NoMemory left files heard = ⊤
 HasRefusedBy g trees found stream (errors.Prepare e) left files heard = HasRefused g trees found stream (errors.Prepare e) left files heard
 HasRefusedBy g trees found stream (errors.Receive e) left files heard = HasRefused g trees found stream (errors.Receive e) left files heard
 
+-- What a scene's fetch left, and what its peer heard.
 abbrev pub HasFetchedBy : Given → List Worktree → State → List ℕ → Result Outcome FetchError → State → Tree → List ℕ → Type 0
 HasFetchedBy g trees found stream (Ok outcome) left files heard = HasDone g trees found stream outcome left heard
 HasFetchedBy g trees found stream (Err e) left files heard = HasRefusedBy g trees found stream e left files heard
 
+-- the same, as a fact of its own
 pub record HasFetched (g : Given) (trees : List Worktree) (found : State) (stream : List ℕ) (result : Result Outcome FetchError) (left : State) (files : Tree) (heard : List ℕ) : Type 0 where
   pub by : HasFetchedBy g trees found stream result left files heard

@@ -4,10 +4,12 @@ use Rattle.fetch_cli.specs.declared.scene.fault.SceneFault.{SceneFault}
 use Rattle.fetch_cli.specs.declared.scene.fault.SceneFault.TheVariants.{Malformed, NoMemory}
 
 infixl 10 ◌>>=◌
+-- one reading after the other, unless the first breaks
 abbrev pub ◌>>=◌ : {A B : Type 0} → Result A ℕ → (A → Result B ℕ) → Result B ℕ
 (Ok x) >>= f = f x
 (Err place) >>= f = Err place
 
+-- The fault is the one that is found, or memory ran out.
 abbrev pub FailsAs : {A : Type 0} → SceneFault → Result A ℕ → Type 0
 FailsAs (Malformed place) found = found ≡ Err place
 FailsAs NoMemory found = ⊤
@@ -17,5 +19,6 @@ abbrev pub GivesBy : {X A : Type 0} → (X → A) → Result X SceneFault → Re
 GivesBy view (Ok x) found = found ≡ Ok (view x)
 GivesBy view (Err e) found = FailsAs e found
 
+-- What is read is what the definition finds.
 abbrev pub Gives : {A : Type 0} → Result A SceneFault → Result A ℕ → Type 0
 Gives result found = GivesBy (λ x. x) result found

@@ -6,12 +6,12 @@ use Rattle.fetch_wire.specs.declared.lines.line.Line.{Line}
 use Rattle.fetch_wire.specs.declared.lines.line.Line.TheVariants.{Payload, Flush, Delim, End}
 use Rattle.fetch_cli.specs.SceneLines.{line_found}
 
--- a line before those behind it; where no line is, the lines end
+-- a line before those after it; where no line is, the lines end
 abbrev pub heard_then : (List ℕ → List Line) → Option (Line × List ℕ) → List Line
 heard_then others None = []
 heard_then others (Some x) = x.0 ∷ others x.1
 
--- the lines of the bytes, of at most so many
+-- the lines of the bytes, of at most that many
 unfoldable pub heard_within : ℕ → List ℕ → List Line
 heard_within zero bytes = []
 heard_within (suc n) bytes = heard_then (heard_within n) (line_found 0 bytes)

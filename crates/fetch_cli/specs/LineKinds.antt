@@ -28,13 +28,15 @@ full_name_in text = if is_full_name text then Some text else None
 abbrev pub partial_name_in : List ℕ → Option (List ℕ)
 partial_name_in text = if is_name false text then Some text else None
 
+-- a target that is a name
 abbrev pub symbolic_in : List ℕ → Option Target
 symbolic_in name = option_map targets.Symbolic (full_name_in name)
 
+-- a target that is an id
 abbrev pub object_in : Kind → List ℕ → Option Target
 object_in hash digits = option_map targets.Object (id_in_hex hash digits)
 
--- a name behind a `@`, or the digits of an id
+-- a name after a `@`, or the digits of an id
 unfoldable pub target_in : Kind → List ℕ → Option Target
 target_in hash [] = None
 target_in hash (c ∷ cs) = if c == 64 then symbolic_in cs else object_in hash (c ∷ cs)
@@ -47,9 +49,11 @@ reference_in hash value = do
   name ← full_name_in parts.1
   Some (record { name = name; target = target })
 
+-- the reference of a line
 unfoldable pub reference_of : Kind → Line → Option Reference
 reference_of hash line = value_of (codes "ref ") line >>= reference_in hash
 
+-- the border commit of a line
 unfoldable pub border_of : Kind → Line → Option ObjectId
 border_of hash line = value_of (codes "border ") line >>= id_in_hex hash
 
@@ -60,9 +64,11 @@ worktree_in value = do
   branch ← full_name_in parts.0
   Some (record { branch = branch; directory = parts.1 })
 
+-- the work tree of a line
 unfoldable pub worktree_of : Line → Option Worktree
 worktree_of line = value_of (codes "worktree ") line >>= worktree_in
 
+-- what this word says of tags
 unfoldable pub tags_named : List ℕ → Option Tags
 tags_named name =
     if bytes_eq name (codes "all") then Some tags.All
@@ -70,6 +76,7 @@ tags_named name =
     else if bytes_eq name (codes "none") then Some tags.None
     else None
 
+-- what a line says of tags
 unfoldable pub tags_of : Line → Option Tags
 tags_of line = value_of (codes "tags ") line >>= tags_named
 
@@ -77,6 +84,6 @@ tags_of line = value_of (codes "tags ") line >>= tags_named
 abbrev pub refspec_in : List ℕ → Option Spec
 refspec_in text = result_ok (parsed Fetch text)
 
--- behind a word
+-- after a word
 unfoldable pub refspec_of : List ℕ → Line → Option Spec
 refspec_of word line = value_of word line >>= refspec_in

@@ -15,6 +15,7 @@ abbrev pub source_text : Source → List ℕ
 source_text (sources.ObjectId id) = hex_of id
 source_text (sources.Ref reference) = name_in reference
 
+-- the destination of a mapping, or that it has none
 unfoldable pub destination_text : Option (List ℕ) → List ℕ
 destination_text None = codes "(none)"
 destination_text (Some name) = name

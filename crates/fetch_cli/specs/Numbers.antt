@@ -9,6 +9,7 @@ is_number [] = false
 is_number (c ∷ []) = all_ascii_digits (c ∷ [])
 is_number (c ∷ d ∷ cs) = not (c == 48) && all_ascii_digits (c ∷ d ∷ cs)
 
+-- a number, where it is below this bound
 abbrev pub if_below : ℕ → ℕ → Option ℕ
 if_below bound n = if nat_lt n bound then Some n else None
 

@@ -31,14 +31,16 @@ sent_line Flush = codes "> 0000\n"
 sent_line Delim = codes "> 0001\n"
 sent_line End = codes "> 0002\n"
 
+-- an id in hexadecimal digits
 abbrev pub hex_of : ObjectId → List ℕ
 hex_of id = encode_lower (bytes_of id)
 
--- an id, or a name behind a `@`
+-- an id, or a name after a `@`
 unfoldable pub target_text : Target → List ℕ
 target_text (targets.Object id) = hex_of id
 target_text (targets.Symbolic name) = codes "@" ++ name
 
+-- the line of a reference
 unfoldable pub ref_line : List ℕ → Target → List ℕ
 ref_line name target = codes "ref " ++ target_text target ++ codes " " ++ name ++ codes "\n"
 
@@ -50,15 +52,19 @@ change_text old new = hex_of old ++ codes " " ++ hex_of new
 unfoldable pub log_line : List ℕ → LogLine → List ℕ
 log_line name line = codes "log " ++ name ++ codes " " ++ change_text line.old line.new ++ codes " " ++ line.message ++ codes "\n"
 
+-- the line of a border commit
 unfoldable pub border_line : ObjectId → List ℕ
 border_line id = codes "border " ++ hex_of id ++ codes "\n"
 
+-- the line of a stored id
 unfoldable pub id_line : ObjectId → List ℕ
 id_line id = codes "id " ++ hex_of id ++ codes "\n"
 
+-- the line of a keep file
 unfoldable pub keep_line : List ℕ → List ℕ
 keep_line path = codes "keep " ++ path ++ codes "\n"
 
+-- the line of a refusal
 unfoldable pub refused_line : List ℕ → List ℕ
 refused_line token = codes "refused " ++ token ++ codes "\n"
 

@@ -47,6 +47,7 @@ is_fetch (Ok Help) = false
 is_fetch (Ok Version) = false
 is_fetch (Err number) = false
 
+-- whether the words ask for a fetch
 abbrev pub asks_fetch : List (List ℕ) → Bool
 asks_fetch words = is_fetch (command_of words)
 
@@ -60,7 +61,7 @@ pub record Writes (words : List (List ℕ)) (input old new : Option (List ℕ)) 
   pub answer : IsAnswer words input status text
   pub wrote : Appends old new text
 
--- A front of the answer was written.
+-- A prefix of the answer was written.
 pub record WritesFront (words : List (List ℕ)) (input old new : Option (List ℕ)) : Type 0 where
   pub status : ℕ
   pub text : List ℕ
@@ -82,7 +83,7 @@ pub record HasValidScene (words : List (List ℕ)) (input : Option (List ℕ)) :
   pub is : scene_of bytes ≡ Ok scene
   pub valid : IsValidInput (given_of scene) scene.worktrees (found_of scene) (stream_of scene)
 
--- The summary of the scene of so many commits was written whole, with its status.
+-- The summary of the scene of that many commits was written whole, with its status.
 pub record WritesSummary (count : ℕ) (old new : Option (List ℕ)) (status : ℕ) : Type 0 where
   pub text : List ℕ
   pub summary : IsSummary count (generated_scene count) status text

@@ -29,6 +29,7 @@ local_of ls = do
   divided ← next delimits worktrees.1
   Ok (record { head = head.0; refs = refs.0; border = set_of border.0; config = config.0; worktrees = worktrees.0 }, divided.1)
 
+-- the payload of a line, or nothing
 abbrev pub bytes_in : Placed → List ℕ
 bytes_in p = unwrap_or (payload_of p.line) []
 
@@ -36,7 +37,7 @@ bytes_in p = unwrap_or (payload_of p.line) []
 unfoldable pub objects_in : Kind → List Placed → Option Entries
 objects_in hash payloads = option_map (λ pack. pack.objects) (result_ok (read hash (flat_map bytes_in payloads)))
 
--- A pack that breaks is malformed at its first payload, or at the line behind it where it has none; whatever follows.
+-- A pack that breaks is malformed at its first payload, or at the line after it where it has none; whatever follows.
 unfoldable pub objects_of : Kind → Lines → Result (Entries × Lines) ℕ
 objects_of hash ls = do
   objects ← ok_or (objects_in hash (group_of payload_of ls)) (place_of ls)
@@ -59,13 +60,24 @@ abbrev pub ends_in : ℕ → List Placed → ℕ → Result (Unit {0}) ℕ
 ends_in len [] last = if last == len then Ok tt else Err last
 ends_in len (p ∷ ps) last = Err p.place
 
--- the peer's pieces, and a flush with nothing behind it
+-- the payloads at the front
+unfoldable pub payloads_of : Lines → Result (List (List ℕ) × Lines) ℕ
+payloads_of ls = do
+  payloads ← each_of payload_of (group_of payload_of ls)
+  Ok (payloads, behind_group payload_of ls)
+
+-- a flush with nothing behind it
+unfoldable pub end_of : ℕ → Lines → Result (Unit {0}) ℕ
+end_of len ls = do
+  flushed ← next flushes ls
+  ends_in len flushed.1.lines flushed.1.last
+
+-- the peer's pieces, and the end
 unfoldable pub pieces_of : ℕ → Lines → Result (List (List ℕ)) ℕ
 pieces_of len ls = do
-  pieces ← each_of payload_of (group_of payload_of ls)
-  flushed ← next flushes (behind_group payload_of ls)
-  ended ← ends_in len flushed.1.lines flushed.1.last
-  Ok pieces
+  pieces ← payloads_of ls
+  ended ← end_of len pieces.1
+  Ok pieces.0
 
 -- the remote, and what its peer says
 unfoldable pub talk_of : ℕ → Lines → Result (RemotePart × List (List ℕ)) ℕ
@@ -74,28 +86,46 @@ talk_of len ls = do
   pieces ← pieces_of len remote.1
   Ok (remote.0, pieces)
 
+-- the scene of its parts
+abbrev pub scene_with : Local → Entries → RemotePart → List (List ℕ) → Scene
+scene_with local objects remote pieces = record {
+  hash = local.head.hash;
+  git_dir = local.head.git_dir;
+  workdir = local.head.workdir;
+  lenient = local.head.lenient;
+  refs = local.refs;
+  border = local.border;
+  config = local.config;
+  worktrees = local.worktrees;
+  objects = objects;
+  address = remote.address;
+  specs = remote.specs;
+  tags = remote.tags;
+  extra = remote.extra;
+  options = remote.options;
+  pieces = pieces;
+}
+
+-- the repository of a scene
+abbrev pub local_in : Scene → Local
+local_in s = record {
+  head = record { hash = s.hash; git_dir = s.git_dir; workdir = s.workdir; lenient = s.lenient };
+  refs = s.refs;
+  border = s.border;
+  config = s.config;
+  worktrees = s.worktrees;
+}
+
+-- and its remote
+abbrev pub remote_in : Scene → RemotePart
+remote_in s = record { address = s.address; specs = s.specs; tags = s.tags; extra = s.extra; options = s.options }
+
 abbrev pub scene_in : ℕ → Lines → Result Scene ℕ
 scene_in len ls = do
   local ← local_of ls
   objects ← objects_of local.0.head.hash local.1
   talk ← talk_of len objects.1
-  Ok (record {
-    hash = local.0.head.hash;
-    git_dir = local.0.head.git_dir;
-    workdir = local.0.head.workdir;
-    lenient = local.0.head.lenient;
-    refs = local.0.refs;
-    border = local.0.border;
-    config = local.0.config;
-    worktrees = local.0.worktrees;
-    objects = objects.0;
-    address = talk.0.address;
-    specs = talk.0.specs;
-    tags = talk.0.tags;
-    extra = talk.0.extra;
-    options = talk.0.options;
-    pieces = talk.1;
-  })
+  Ok (scene_with local.0 objects.0 talk.0 talk.1)
 
 -- the most bytes of a scene
 abbrev pub limit : ℕ

@@ -9,15 +9,18 @@ use Rattle.fetch_cli.specs.declared.scene.head.Head.{Head}
 use Rattle.fetch_cli.specs.Gives.{◌>>=◌}
 use Rattle.fetch_cli.specs.SceneLines.{Lines, says, value_of, next, next_if}
 
+-- the hash of this name
 unfoldable pub kind_named : List ℕ → Option Kind
 kind_named name =
     if bytes_eq name (codes "sha1") then Some kinds.Sha1
     else if bytes_eq name (codes "sha256") then Some kinds.Sha256
     else None
 
+-- the hash of a line
 unfoldable pub hash_of : Line → Option Kind
 hash_of line = option_and_then kind_named (value_of (codes "hash ") line)
 
+-- the head, and the lines after it
 unfoldable pub head_of : Lines → Result (Head × Lines) ℕ
 head_of ls = do
   scene ← next (says (codes "scene 1")) ls

@@ -34,12 +34,15 @@ bound_in text = do
   n ← small_number_in text
   if n == 0 then None else (if nat_lt 1073741824 n then None else Some (Bound n))
 
+-- the option `deepen`
 abbrev pub deepen_in : List ℕ → Option SceneOption
 deepen_in text = option_map Deepen (small_number_in text)
 
+-- the option `since`
 abbrev pub since_in : List ℕ → Option SceneOption
 since_in text = option_map Since (number_in text)
 
+-- the option `not`
 abbrev pub not_in : List ℕ → Option SceneOption
 not_in text = option_map Not (partial_name_in text)
 
@@ -53,10 +56,11 @@ abbrev pub parameter_split : List ℕ → Option (List ℕ × List ℕ) → Opti
 parameter_split text None = parameter_of text None
 parameter_split text (Some x) = parameter_of x.0 (Some x.1)
 
+-- the option `parameter`
 abbrev pub parameter_in : List ℕ → Option SceneOption
 parameter_in text = parameter_split text (split_first 61 text)
 
--- an option of a word and a text behind it
+-- an option of a word and a text after it
 unfoldable pub option_with : List ℕ → List ℕ → Option SceneOption
 option_with word text =
     if bytes_eq word (codes "depth") then depth_in text
@@ -69,18 +73,22 @@ option_with word text =
     else if bytes_eq word (codes "message") then Some (Message text)
     else None
 
+-- an option of one word, or of a word and a text
 abbrev pub option_split : List ℕ → Option (List ℕ × List ℕ) → Option SceneOption
 option_split text None = plain_option text
 option_split text (Some x) = option_with x.0 x.1
 
+-- the option of a text
 unfoldable pub option_in : List ℕ → Option SceneOption
 option_in text = option_split text (split_first 32 text)
 
+-- the option of a line
 unfoldable pub option_of : Line → Option SceneOption
 option_of line = value_of (codes "option ") line >>= option_in
 
 -- ---- all options together, one after the other
 
+-- the options where none is told
 abbrev pub no_options : SceneOptions
 no_options = record { dry_run = false; packed_only = false; filter = true; shallow = shallow.NoChange; parameters = []; bound = 268435456; message = None }
 
@@ -114,5 +122,6 @@ with_option o (Bound n) = record o { bound = n }
 with_option o (Action text) = record o { message = Some (messages.Prefixed text) }
 with_option o (Message text) = record o { message = Some (messages.Override text) }
 
+-- the options of these, one after the other
 abbrev pub options_of : List SceneOption → SceneOptions
 options_of os = fold with_option no_options os

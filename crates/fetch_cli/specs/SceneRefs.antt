@@ -14,6 +14,7 @@ use Rattle.fetch_cli.specs.SceneLines.{Placed, Lines, value_of, group_of, behind
 abbrev pub has_name : List Reference → List ℕ → Bool
 has_name before name = list_any (λ (r : Reference). bytes_eq name r.name) before
 
+-- a reference, unless its name came before
 abbrev pub if_new : List Reference → Reference → Option Reference
 if_new before r = if has_name before r.name then None else Some r
 
@@ -28,6 +29,7 @@ references_behind hash before (p ∷ ps) = do
   r ← ok_or (new_reference hash before p.line) p.place
   references_behind hash (before ++ r ∷ []) ps
 
+-- the references, and the lines after them
 unfoldable pub references_of : Kind → Lines → Result (List Reference × Lines) ℕ
 references_of hash ls = do
   references ← references_behind hash [] (group_of (value_of (codes "ref ")) ls)

@@ -1,4 +1,4 @@
--- How a report tells a refusal: the variant's name, and what it keeps behind a space. A variant that only wraps another
+-- How a report tells a refusal: the variant's name, and what it keeps after a space. A variant that only wraps another
 -- refusal is told as that one.
 use Rattle.std.specs.Prelude.{ℕ, List, ◌++◌, codes, decimal, Option, Some, None}
 use Rattle.fetch_pack.specs.declared.error.PackError.{PackError}
@@ -26,6 +26,7 @@ use Rattle.fetch_cli.specs.ReportLines.{hex_of, target_text}
 unfoldable pub keeping : List ℕ → List ℕ → List ℕ
 keeping word kept = word ++ codes " " ++ kept
 
+-- a refusal of the wire
 unfoldable pub wire_token : WireError → List ℕ
 wire_token (wire.Malformed place) = keeping (codes "Malformed") (decimal place)
 wire_token (wire.ServerError text) = keeping (codes "ServerError") text
@@ -35,6 +36,7 @@ wire_token (wire.LineTooLong length) = keeping (codes "LineTooLong") (decimal le
 wire_token (wire.BadParameter text place) = keeping (keeping (codes "BadParameter") text) (decimal place)
 wire_token wire.NoMemory = codes "NoMemory"
 
+-- a refusal of a pack
 unfoldable pub pack_token : PackError → List ℕ
 pack_token (pack.Malformed place) = keeping (codes "Malformed") (decimal place)
 pack_token (pack.PackDigest found computed) = keeping (keeping (codes "PackDigest") (hex_of found)) (hex_of computed)
@@ -47,6 +49,7 @@ unfoldable pub found_text : Option Target → List ℕ
 found_text None = codes "none"
 found_text (Some target) = target_text target
 
+-- a refusal of references
 unfoldable pub refs_token : RefError → List ℕ
 refs_token (refs.Expectation index found) = keeping (keeping (codes "Expectation") (decimal index)) (found_text found)
 refs_token (refs.Cycle name) = keeping (codes "Cycle") name
@@ -56,6 +59,7 @@ refs_token (refs.MissingObject id) = keeping (codes "MissingObject") (hex_of id)
 refs_token (refs.TagCycle id) = keeping (codes "TagCycle") (hex_of id)
 refs_token refs.NoMemory = codes "NoMemory"
 
+-- a refusal of the policy
 unfoldable pub update_token : UpdateError → List ℕ
 update_token (update.FindReference name) = keeping (codes "FindReference") name
 update_token (update.InvalidRefName name) = keeping (codes "InvalidRefName") name
@@ -66,6 +70,7 @@ update_token update.OpenWorktreeRepo = codes "OpenWorktreeRepo"
 update_token update.FollowSymref = codes "FollowSymref"
 update_token update.NoMemory = codes "NoMemory"
 
+-- a refusal of the listing
 unfoldable pub ref_map_token : RefMapError → List ℕ
 ref_map_token (ref_map.Handshake e) = wire_token e
 ref_map_token ref_map.Transport = codes "Transport"
@@ -73,6 +78,7 @@ ref_map_token ref_map.Interrupted = codes "Interrupted"
 ref_map_token (ref_map.InitRefMap conflicts) = codes "InitRefMap"
 ref_map_token ref_map.NoMemory = codes "NoMemory"
 
+-- a refusal before the fetch request
 unfoldable pub prepare_token : PrepareError → List ℕ
 prepare_token prepare.MissingRefSpecs = codes "MissingRefSpecs"
 prepare_token (prepare.RefMap e) = ref_map_token e
@@ -83,6 +89,7 @@ abbrev pub hash_text : Kind → List ℕ
 hash_text Sha1 = codes "sha1"
 hash_text Sha256 = codes "sha256"
 
+-- a refusal from the fetch request on
 unfoldable pub receive_token : ReceiveError → List ℕ
 receive_token (receive.NoMapping refspecs count) = keeping (codes "NoMapping") (decimal count)
 receive_token (receive.IncompatibleObjectHash local remote) = keeping (keeping (codes "IncompatibleObjectHash") (hash_text local)) (hash_text remote)
@@ -101,6 +108,7 @@ receive_token (receive.UpdateRefs e) = update_token e
 receive_token (receive.RemovePackKeepFile path) = keeping (codes "RemovePackKeepFile") path
 receive_token receive.NoMemory = codes "NoMemory"
 
+-- a refusal of a fetch
 unfoldable pub token : FetchError → List ℕ
 token (errors.Prepare e) = prepare_token e
 token (errors.Receive e) = receive_token e

@@ -5,6 +5,7 @@ use Rattle.fetch_cli.specs.declared.program.words.Command.{Command}
 use Rattle.fetch_cli.specs.declared.program.words.Command.TheVariants.{Fetch, Bench, Help, Version}
 use Rattle.fetch_cli.specs.Numbers.{number_in}
 
+-- the command of one word
 unfoldable pub command_named : List ℕ → Option Command
 command_named word =
     if bytes_eq word (codes "fetch") then Some Fetch
@@ -26,12 +27,13 @@ if_few n = if nat_lt 0 n && nat_le n 100000 then Some n else None
 abbrev pub count_in : List ℕ → Option ℕ
 count_in word = option_and_then if_few (number_in word)
 
--- how many commits the words behind `bench` ask for; a further word is too many
+-- how many commits the words after `bench` ask for; a further word is too many
 abbrev pub bench_with : Option ℕ → List (List ℕ) → Result Command ℕ
 bench_with None others = Err 2
 bench_with (Some count) [] = Ok (Bench count)
 bench_with (Some count) (other ∷ others) = Err 3
 
+-- the bench of these words
 abbrev pub bench_of : List (List ℕ) → Result Command ℕ
 bench_of [] = Err 2
 bench_of (word ∷ others) = bench_with (count_in word) others

@@ -21,13 +21,22 @@ pub use program::standard::{StdSink, StdSource};
 pub use program::words::{Command, HELP, MAX_BENCH, VERSION, read_command};
 pub use reporting::lines::{
     append_border, append_hex, append_id, append_keep, append_log, append_malformed,
-    append_malformed_word, append_ref, append_refused, append_sent,
+    append_malformed_word, append_number, append_ref, append_refused, append_sent, append_target,
 };
 pub use reporting::map_lines::append_map;
-pub use reporting::report;
+pub use reporting::setting::{Setting, set_up, set_up_local, set_up_remote};
+pub use reporting::state_lines::{append_commits, append_ids, append_refs, append_state};
 pub use reporting::summary::summary;
 pub use reporting::tokens::append_token;
+pub use reporting::{report, tokens};
 pub use scene::fault::SceneFault;
+pub use scene::head::Head;
+pub use scene::lines::{Lines, Placed};
+pub use scene::local::{Local, read_local};
+pub use scene::objects::read_objects;
 pub use scene::options::SceneOptions;
+pub use scene::pieces::{read_delimiter_if, read_end, read_payloads};
 pub use scene::references::Reference;
+pub use scene::remote_part::{RemotePart, read_remote};
+pub use scene::text_lines::read_lines;
 pub use scene::{Scene, read_scene};

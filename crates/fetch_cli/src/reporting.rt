@@ -204,7 +204,7 @@ fn append_report(out: &mut Vec<u8>, fetched: &Fetched, keep: &Option<Text>) -> R
     }
 }
 
-/// Fetches as a scene says, and puts the report behind what is there: its status, which is 0 where the fetch was done and
+/// Fetches as a scene says, and puts the report after what is there: its status, which is 0 where the fetch was done and
 /// 1 where it was refused. After an error a part of the report may stand there.
 ///
 /// The objects of the scene are of its hash, as those that are read are.

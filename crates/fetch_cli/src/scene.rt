@@ -11,6 +11,7 @@ pub mod names;
 pub mod numbers;
 pub mod objects;
 pub mod options;
+pub mod pieces;
 pub mod references;
 pub mod refspecs;
 pub mod remote_part;
@@ -25,12 +26,11 @@ ghost use Rattle.fetch_cli.specs.Scene as spec;
 use crate::program::input::MAX_SCENE;
 use crate::scene::fault::SceneFault;
 use crate::scene::head::Head;
-use crate::scene::line_kinds::{Flush, Payload};
-use crate::scene::line_reader::{read_each, read_next};
 use crate::scene::lines::Lines;
 use crate::scene::local::{Local, read_local};
 use crate::scene::objects::read_objects;
 use crate::scene::options::SceneOptions;
+use crate::scene::pieces::{read_end, read_payloads};
 use crate::scene::references::Reference;
 use crate::scene::remote_part::{RemotePart, read_remote};
 use crate::scene::text_lines::read_lines;
@@ -44,48 +44,44 @@ use std::thread::Threads;
 /// A scene: a repository, a remote, how to fetch from it, and what the peer says.
 #[derive(Drop)]
 pub struct Scene {
+    /// The hash of the repository's ids.
     pub hash: Kind,
+    /// The Git directory.
     pub git_dir: Text,
+    /// The work tree, where there is one.
     pub workdir: Option<Text>,
+    /// Whether settings that can't be read count as absent.
     pub lenient: bool,
     /// No name comes twice.
     pub refs: List<Reference>,
+    /// The commits whose parents are left out.
     pub border: Border,
     /// The repository's own, and trusted.
     pub config: File,
+    /// Which branches are checked out, and where.
     pub worktrees: List<Worktree>,
     /// Each under its id, in the order of the pack.
     pub objects: List<(ObjectId, Object)>,
+    /// The remote's one address.
     pub address: Text,
+    /// The remote's refspecs.
     pub specs: List<RefSpec>,
+    /// Which tags are fetched.
     pub tags: Tags,
+    /// Refspecs for this fetch alone.
     pub extra: List<RefSpec>,
+    /// What all options say together.
     pub options: SceneOptions,
     /// What the peer says, piece by piece.
     pub pieces: List<Text>,
-}
-
-fn ends(len: usize, lines: Lines<'_>) -> Result<(), SceneFault>
-    ensures { Gives result (spec.ends_in len lines.entry.lines lines.entry.last) }
-{
-    let (lines, last) = lines.into_parts();
-    match lines {
-        [first, ..] => Err(SceneFault::Malformed {
-            place: first.place(),
-        }),
-        [] if last == len => Ok(()),
-        [] => Err(SceneFault::Malformed { place: last }),
-    }
 }
 
 #[tactic(auto, unfolding(crate::specs::Scene::pieces_of))]
 fn read_pieces(alloc: Global, len: usize, lines: Lines<'_>) -> Result<List<Text>, SceneFault>
     ensures { Gives result (spec.pieces_of len lines.entry) }
 {
-    let (group, lines) = lines.payloads();
-    let pieces = read_each(alloc, &Payload, group)?;
-    let (_, lines) = read_next(alloc, &Flush, lines)?;
-    ends(len, lines)?;
+    let (pieces, lines) = read_payloads(alloc, lines)?;
+    read_end(alloc, len, lines)?;
     Ok(pieces)
 }
 
@@ -102,6 +98,71 @@ fn read_talk(
     Ok((remote, pieces))
 }
 
+/// The parts of a scene: its repository, the objects in it, the remote, and what the peer says.
+pub(crate) type SceneParts = (Local, List<(ObjectId, Object)>, RemotePart, List<Text>);
+
+impl Scene {
+    fn from_parts(
+        local: Local,
+        objects: List<(ObjectId, Object)>,
+        remote: RemotePart,
+        pieces: List<Text>,
+    ) -> Scene
+        ensures { result ≡ spec.scene_with local objects remote pieces }
+    {
+        let Local {
+            head,
+            refs,
+            border,
+            config,
+            worktrees,
+        } = local;
+        Scene {
+            hash: head.hash,
+            git_dir: head.git_dir,
+            workdir: head.workdir,
+            lenient: head.lenient,
+            refs,
+            border,
+            config,
+            worktrees,
+            objects,
+            address: remote.address,
+            specs: remote.specs,
+            tags: remote.tags,
+            extra: remote.extra,
+            options: remote.options,
+            pieces,
+        }
+    }
+
+    pub(crate) fn into_parts(self) -> SceneParts
+        ensures { result ≡ (spec.local_in self, self.objects, spec.remote_in self, self.pieces) }
+    {
+        let head = Head {
+            hash: self.hash,
+            git_dir: self.git_dir,
+            workdir: self.workdir,
+            lenient: self.lenient,
+        };
+        let local = Local {
+            head,
+            refs: self.refs,
+            border: self.border,
+            config: self.config,
+            worktrees: self.worktrees,
+        };
+        let remote = RemotePart {
+            address: self.address,
+            specs: self.specs,
+            tags: self.tags,
+            extra: self.extra,
+            options: self.options,
+        };
+        (local, self.objects, remote, self.pieces)
+    }
+}
+
 fn read_parts<R: Threads + Sync>(
     rt: &R,
     alloc: Global,
@@ -114,43 +175,7 @@ fn read_parts<R: Threads + Sync>(
     let (local, lines) = read_local(alloc, lines)?;
     let (objects, lines) = read_objects(rt, alloc, local.head.hash, lines)?;
     let (remote, pieces) = read_talk(alloc, len, lines)?;
-    let Local {
-        head,
-        refs,
-        border,
-        config,
-        worktrees,
-    } = local;
-    let Head {
-        hash,
-        git_dir,
-        workdir,
-        lenient,
-    } = head;
-    let RemotePart {
-        address,
-        specs,
-        tags,
-        extra,
-        options,
-    } = remote;
-    Ok(Scene {
-        hash,
-        git_dir,
-        workdir,
-        lenient,
-        refs,
-        border,
-        config,
-        worktrees,
-        objects,
-        address,
-        specs,
-        tags,
-        extra,
-        options,
-        pieces,
-    })
+    Ok(Scene::from_parts(local, objects, remote, pieces))
 }
 
 /// The scene that the bytes are. A text longer than a scene may be is malformed at the limit.

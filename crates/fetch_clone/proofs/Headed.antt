@@ -22,7 +22,7 @@ use Rattle.fetch_clone.specs.declared.meant.Unmeant.TheVariants as unmeant
 use Rattle.fetch_clone.specs.declared.clone.fetch.Error.{Error}
 use Rattle.fetch_clone.specs.declared.clone.fetch.Error.TheVariants as errors
 
--- Want of memory is told as such.
+-- Out of memory is told as such.
 memory-told : (ref_name : Option (List ℕ)) (revision : Option Spec) (cause : Unaimed) → is_memory cause ≡ true → told_as ref_name revision cause ≡ errors.NoMemory
 memory-told ref_name revision (unaimed.Name unmeant.Missing) m = absurd cc
 memory-told ref_name revision (unaimed.Name (unmeant.Ambiguous candidates)) m = absurd cc

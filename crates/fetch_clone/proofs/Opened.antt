@@ -87,7 +87,7 @@ no-fault was is new local initial.NoMemory why t = absurd (false≢true t)
 
 -- ---- creating and opening
 
--- what want of memory leaves of the files
+-- what out of memory leaves of the files
 stopped-told : (may_fail : Bool) (stood now : Option Tree) (step : Step) → IsStopAt may_fail stood step now creating.NoMemory → TellsStill stood now
 stopped-told may_fail stood now (Clear path) w = w
 stopped-told may_fail stood now (Vacant path) w = w

@@ -49,7 +49,7 @@ next-step before stood now steps i step short is r m =
     let more = take_more steps i step short ∙ ap (λ s. take i steps ++ s ∷ []) is in
     subst (λ (l : List Step). Reaches before l now) (sym more) (one-more before stood now (take i steps) step r m)
 
--- Want of memory stops any step.
+-- Out of memory stops any step.
 stop-memory : (may_fail : Bool) (stood now : Option Tree) (step : Step) → is_some now ≡ is_some stood → IsStopAt may_fail stood step now NoMemory
 stop-memory may_fail stood now (Clear path) e = e
 stop-memory may_fail stood now (Vacant path) e = e

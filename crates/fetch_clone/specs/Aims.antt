@@ -44,26 +44,31 @@ of_advertised (Some (refs.Symbolic name target tag object)) = at_name target (So
 of_advertised (Some (refs.Peeled name tag object)) = Ok Nothing
 of_advertised (Some (refs.Unborn name target)) = at_name target None
 
+-- whether a reference is `HEAD`
 abbrev pub is_head : Ref → Bool
 is_head r = bytes_eq (name_in r) (codes "HEAD")
 
+-- the `HEAD` that the remote lists
 abbrev pub advertised_head : RefMap → Option Ref
 advertised_head map = find is_head map.remote_refs
 
 -- ---- a ref name
 
+-- the reference that is meant, as what `HEAD` takes
 abbrev pub of_meant : Result Meant Unmeant → Result Aim Unaimed
 of_meant (Ok m) = at_name m.name (Some m.id)
 of_meant (Err e) = Err (unaimed.Name e)
 
 -- ---- a revision
 
+-- whether two sides are the same
 abbrev pub is_same_side : Option (List ℕ) → Option (List ℕ) → Bool
 is_same_side None None = true
 is_same_side None (Some b) = false
 is_same_side (Some a) None = false
 is_same_side (Some a) (Some b) = bytes_eq a b
 
+-- whether a refspec has this source
 abbrev pub has_source : Option (List ℕ) → Option Spec → Bool
 has_source source None = false
 has_source source (Some spec) = is_same_side spec.source source
@@ -81,6 +86,7 @@ abbrev pub of_peeled : Graph → ObjectId → Result ObjectId RefError → Resul
 of_peeled graph first (Ok id) = if is_commit_at graph id then Ok (Id id) else Err (unaimed.Peel first)
 of_peeled graph first (Err e) = Err (unaimed.Peel first)
 
+-- the commit of a revision's id
 abbrev pub of_id : Graph → Option ObjectId → Result Aim Unaimed
 of_id graph None = Err unaimed.Revision
 of_id graph (Some id) = if is_some (finmap.get graph id) then of_peeled graph id (through graph (finmap.len graph) [] id) else Err (unaimed.Find id)
@@ -93,6 +99,7 @@ aim_in map graph ref_name (Some revision) = of_id graph (revision_id map revisio
 aim_in map graph (Some name) None = of_meant (meant_in map.mappings name)
 aim_in map graph None None = of_advertised (advertised_head map)
 
+-- out of memory
 abbrev pub is_memory : Unaimed → Bool
 is_memory unaimed.NoMemory = true
 is_memory (unaimed.Name e) = Rattle.fetch_clone.specs.Meant.is_memory e
@@ -100,9 +107,11 @@ is_memory e = false
 
 -- ---- the edits
 
+-- an edit that writes a value and expects nothing
 abbrev pub update_of : RefLog → List ℕ → List ℕ → Target → RefEdit
 update_of mode message name new = record { change = Update (record { mode = mode; force_create_reflog = false; message = message }) Any new; name = name }
 
+-- the same, of the reference and its reflog
 abbrev pub update : List ℕ → List ℕ → Target → RefEdit
 update message name new = update_of AndReference message name new
 

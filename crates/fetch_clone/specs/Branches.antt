@@ -9,6 +9,7 @@ use Rattle.fetch_specs.specs.Names.{first_is, full_name_trouble}
 unfoldable pub default_branch_of : Contents → List ℕ
 default_branch_of config = unwrap_or (last_of (explicit (values_of (codes "init") None (codes "defaultBranch") false config.sections))) (codes "main")
 
+-- the full name of a branch
 abbrev pub full_branch : List ℕ → List ℕ
 full_branch name = codes "refs/heads/" ++ name
 
@@ -16,5 +17,6 @@ full_branch name = codes "refs/heads/" ++ name
 abbrev pub is_branch_name : List ℕ → Bool
 is_branch_name name = not (bytes_eq name (codes "HEAD")) && (not (first_is 45 name) && is_none (full_name_trouble (full_branch name)))
 
+-- the full name of a branch, where it may be called so
 abbrev pub branch_of : List ℕ → Option (List ℕ)
 branch_of name = if is_branch_name name then Some (full_branch name) else None

@@ -32,6 +32,7 @@ without_revision Everything = Everything
 without_revision (RefName name) = RefName name
 without_revision (Revision spec) = Everything
 
+-- with another choice of references
 abbrev pub with_wanted : Choices → Wanted → Choices
 with_wanted choices wanted = record choices { wanted = wanted }
 
@@ -45,11 +46,12 @@ abbrev pub ChoosesRevision : Wanted → Option (List ℕ) → Wanted → Type 0
 ChoosesRevision before None now = now ≡ without_revision before
 ChoosesRevision before (Some text) now = (found : Spec) × (revision_of text ≡ Ok found) × (now ≡ Revision found)
 
--- A text that is a name is refused for want of memory alone; one that isn't is refused with its place; None is never refused.
+-- A text that is a name is refused only where memory runs out; one that isn't is refused with its place; None is never refused.
 abbrev pub IsNameRefusalAt : Option ℕ → NameError → Type 0
 IsNameRefusalAt None e = e ≡ names.NoMemory
 IsNameRefusalAt (Some place) e = e ≡ names.Invalid place
 
+-- Whether a ref name is accepted, and why it isn't.
 abbrev pub RefNameVerdict : {X Y : Type 0} → Option (List ℕ) → Result X (Y × NameError) → Type 0
 RefNameVerdict None (Ok x) = ⊤
 RefNameVerdict None (Err e) = ⊥

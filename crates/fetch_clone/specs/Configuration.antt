@@ -6,9 +6,11 @@ use Rattle.fetch_clone.specs.declared.create.Capabilities.{Capabilities}
 use Rattle.fetch_clone.specs.declared.create.Kind.TheVariants as kinds
 use Rattle.fetch_clone.specs.declared.create.Kind.{Kind as Layout}
 
+-- a text with its line feed
 abbrev pub line : List ℕ → List ℕ
 line text = text ++ 10 ∷ []
 
+-- a truth value as it is written
 abbrev pub truth : Bool → List ℕ
 truth true = codes "true"
 truth false = codes "false"
@@ -17,6 +19,7 @@ truth false = codes "false"
 abbrev pub entry : List ℕ → List ℕ → List ℕ
 entry key value = line (9 ∷ key ++ codes " = " ++ value)
 
+-- whether there is no work tree
 abbrev pub is_bare : Layout → Bool
 is_bare kinds.Bare = true
 is_bare kinds.WithWorktree = false
@@ -31,6 +34,7 @@ abbrev pub version_in : Kind → List ℕ
 version_in hashes.Sha1 = entry (codes "repositoryformatversion") (codes "0")
 version_in hashes.Sha256 = entry (codes "repositoryformatversion") (codes "1") ++ line (codes "[extensions]") ++ entry (codes "objectformat") (codes "sha256")
 
+-- the configuration of a new repository
 unfoldable pub configuration_of : Layout → Capabilities → Kind → List ℕ
 configuration_of kind can hash =
     line (codes "[core]")

@@ -20,6 +20,7 @@ listed_at t path None = None
 listed_at t path (Some None) = Some None
 listed_at t path (Some (Some node)) = option_map (λ names. Some names) (names_in t (parts_of path))
 
+-- what is listed at a path, or that nothing stands there
 abbrev pub listed_in : Tree → List ℕ → Option (Option (List (List ℕ)))
 listed_in t path = listed_at t path (kind_in t (parts_of path))
 
@@ -30,6 +31,7 @@ cleared_in t path (Some None) = with_directories t (parts_of path)
 cleared_in t path (Some (Some [])) = Some t
 cleared_in t path (Some (Some (name ∷ names))) = None
 
+-- the tree, unless a directory stands there
 abbrev pub if_no_directory : Tree → Option (Option Node) → Option Tree
 if_no_directory t None = None
 if_no_directory t (Some None) = Some t
@@ -49,6 +51,7 @@ Makes before step now = (is_some now ≡ is_some before) × IfSome before (λ t.
 
 -- ---- one step after the other
 
+-- the tree after these steps; None where one of them stops
 abbrev pub tree_after_all : Tree → List Step → Option Tree
 tree_after_all t [] = Some t
 tree_after_all t (step ∷ steps) = option_and_then (λ u. tree_after_all u steps) (tree_after t step)
@@ -86,7 +89,7 @@ IsStopAt may_fail stood (File path bytes) now (IoWrite told) = (told ≡ path) �
 IsStopAt may_fail stood step now NoMemory = TellsStill stood now
 IsStopAt may_fail stood step now e = ⊥
 
--- The first steps were done, so many, and the next one was refused.
+-- The first steps were done, that many, and the next one was refused.
 pub record IsStopped (may_fail : Bool) (before : Option Tree) (steps : List Step) (now : Option Tree) (e : Error) : Type 0 where
   pub count : ℕ
   pub step : Step

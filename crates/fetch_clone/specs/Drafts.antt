@@ -22,6 +22,7 @@ use Rattle.fetch_clone.specs.declared.draft.Making.{Making}
 use Rattle.fetch_clone.specs.declared.init.Error.{Error as InitError}
 use Rattle.fetch_clone.specs.declared.init.Error.TheVariants as initial
 
+-- whether a text has a NUL or a line feed
 abbrev pub has_nul_or_feed : List ℕ → Bool
 has_nul_or_feed text = list_any (λ b. b == 0) text || list_any (λ b. b == 10) text
 
@@ -60,7 +61,7 @@ pub record IsUnprepared (was is : Faults) (may_fail : Bool) (before : Option Tre
   pub noted : IsNoted was is before place stood free
   pub why : IsInitRefusal may_fail stood (steps_of place making.kind (strict making.options)) (new_of place making.kind (strict making.options) making.committer making.open_options) now e
 
--- Want of memory is never wrapped.
+-- Out of memory is never wrapped.
 abbrev pub init_refusal : InitError → Error
 init_refusal initial.NoMemory = NoMemory
 init_refusal e = Init e
@@ -72,6 +73,7 @@ IsPrepareRefusal was is may_fail before url place making now Url = (is_no_addres
 IsPrepareRefusal was is may_fail before url place making now (Init e) = (is_no_address url ≡ false) × IsUnprepared was is may_fail before place making now e
 IsPrepareRefusal was is may_fail before url place making now NoMemory = TellsStill before now
 
+-- whether the cause is a fault of the files
 abbrev pub is_clone_fault : Error → Bool
 is_clone_fault Url = false
 is_clone_fault (Init e) = is_init_fault e
@@ -87,16 +89,20 @@ is_removed draft = if draft.free then is_some draft.repo else false
 abbrev pub IsGone : Option Tree → List ℕ → Option Tree → Type 0
 IsGone before place now = TellsStill before now × IfSome before (λ t. without_all t (parts_of place) ≡ now)
 
+-- The removal was refused: its fault is counted, and something is in the way, unless the files fail by themselves.
 abbrev pub IsNotGone : Faults → Faults → Bool → Option Tree → List ℕ → Option Tree → Type 0
 IsNotGone was is may_fail before place now = Rose was is × (TellsStill before now × IsRefused may_fail before (λ t. without_all t (parts_of place)))
 
+-- The place is gone, or its removal was refused.
 abbrev pub IsRemoved : Faults → Faults → Bool → Option Tree → List ℕ → Option Tree → Type 0
 IsRemoved was is may_fail before place now = IsGone before place now ⊎ IsNotGone was is may_fail before place now
 
 -- ---- a prepared clone
 
+-- how a repository is created and opened
 abbrev pub making_of : Layout → Options → OpenOptions → Signature → Making
 making_of kind options opened committer = record { kind = kind; options = options; open_options = opened; committer = committer }
 
+-- a clone with other choices
 abbrev pub with_choices : Draft → Choices → Draft
 with_choices draft choices = record draft { choices = choices }

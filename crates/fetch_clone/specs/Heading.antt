@@ -34,6 +34,7 @@ use Rattle.fetch_clone.specs.declared.meant.Unmeant.TheVariants as unmeant
 abbrev pub edited : Setup → State → List RefEdit → State
 edited setup s edits = with_refs s (after setup.settings.committer setup.logging places.Only s.refs edits)
 
+-- the state once `HEAD` took its aim
 abbrev pub moved : Setup → State → List ℕ → Aim → State
 moved setup s message aim = edited setup s (edits_of message aim)
 
@@ -44,6 +45,7 @@ abbrev pub specs_of : Result RemoteValue FindError → List Spec
 specs_of (Ok remote) = remote.fetch_specs
 specs_of (Err e) = []
 
+-- the refspecs of the remote that was saved
 abbrev pub saved_specs : Setup → List ℕ → List Spec
 saved_specs setup remote = specs_of (existing_in setup.settings.config.sections remote)
 
@@ -64,6 +66,7 @@ FollowsIf before after told now (Some local) = (reopened before local ≡ Some a
 
 -- ---- all of it
 
+-- what `HEAD` is to take, over what is stored
 abbrev pub aim_of : State → RefMap → Option (List ℕ) → Option Spec → Result Aim Unaimed
 aim_of s map ref_name revision = aim_in map (graph_of s.objects) ref_name revision
 
@@ -76,10 +79,12 @@ pub record HasHead (told now : Option Tree) (before after : RepositoryValue) (ma
 
 -- ---- refusals
 
+-- a refusal that tells what was asked for
 abbrev pub wanting : Option (List ℕ) → (List ℕ → Error) → Error
 wanting None e = errors.NoMemory
 wanting (Some wanted) e = e wanted
 
+-- the source of a revision
 abbrev pub source_of : Option Spec → Option (List ℕ)
 source_of None = None
 source_of (Some revision) = revision.source
@@ -141,6 +146,7 @@ pub record IsUnwritten (may_fail : Bool) (told now : Option Tree) (before after 
 abbrev pub IsWanting : Option Tree → Option Tree → RepositoryValue → RepositoryValue → Type 0
 IsWanting told now before after = TellsStill told now × (setup_of after ≡ setup_of before)
 
+-- Why `HEAD` didn't take its aim.
 abbrev pub IsHeadRefusal : Bool → Option Tree → Option Tree → RepositoryValue → RepositoryValue → RefMap → List ℕ → List ℕ → Option (List ℕ) → Option Spec → Error → Type 0
 IsHeadRefusal may_fail told now before after map message remote ref_name revision errors.NoMemory = IsWanting told now before after
 IsHeadRefusal may_fail told now before after map message remote ref_name revision errors.SaveConfigIo = IsUnwritten may_fail told now before after map message remote ref_name revision

@@ -38,6 +38,7 @@ use Rattle.fetch_clone.specs.declared.init.Error.TheVariants.{Init, Open, Invali
 
 -- ---- what it is made of
 
+-- the hash of a new repository
 abbrev pub hash_of : Options → Kind
 hash_of options = unwrap_or options.object_hash hashes.Sha1
 
@@ -49,6 +50,7 @@ new_of directory kind options committer opened = record { path = path_of directo
 abbrev pub lenient : OpenOptions
 lenient = record { lenient_config = true; api_config_overrides = []; base = record { meta = record { source = System; level = 0; path = None; trusted = true }; sections = [] } }
 
+-- the path of its configuration
 abbrev pub config_of : New → List ℕ
 config_of new = config_path new.path.git_dir
 
@@ -60,6 +62,7 @@ local_meta path = record { source = Local; level = 0; path = Some path; trusted 
 abbrev pub IsLocalAt : Option Tree → List ℕ → Contents → Type 0
 IsLocalAt told path local = HasRead told path (local_meta path) local
 
+-- This is the configuration that the files have.
 abbrev pub IsLocal : Option Tree → New → Contents → Type 0
 IsLocal told new local = IsLocalAt told (config_of new) local
 
@@ -106,11 +109,12 @@ pub record IsInitial (told : Option Tree) (new : New) (repo : RepositoryValue) :
 
 -- ---- why it isn't
 
--- Want of memory is never wrapped.
+-- Out of memory is never wrapped.
 abbrev pub creation_refusal : CreateError → Error
 creation_refusal creating.NoMemory = NoMemory
 creation_refusal e = Init e
 
+-- a configuration that couldn't be read, as a refusal of the creation
 abbrev pub opening_refusal : OpenError → Error
 opening_refusal opening.NoMemory = NoMemory
 opening_refusal e = Open e
@@ -122,6 +126,7 @@ pub record HasBadBranch (new : New) (local : Contents) (name : List ℕ) : Type 
   pub named : name ≡ default_branch_of setup.settings.config
   pub bad : branch_of name ≡ None
 
+-- A branch can't be called so, or memory ran out.
 abbrev pub IsBranchRefusal : List ℕ → Error → Type 0
 IsBranchRefusal name (InvalidBranchName told) = (told ≡ name) × (branch_of name ≡ None)
 IsBranchRefusal name NoMemory = ⊤
@@ -165,12 +170,14 @@ pub record IsCreatedOnly (may_fail : Bool) (before : Option Tree) (steps : List 
   pub created : Reaches before steps stood
   pub why : IsUnready may_fail stood new now e
 
+-- Why there is no new repository.
 abbrev pub IsInitRefusal : Bool → Option Tree → List Step → New → Option Tree → Error → Type 0
 IsInitRefusal may_fail before steps new now (Init e) = IsStopped may_fail before steps now e
 IsInitRefusal may_fail before steps new now NoMemory = TellsStill before now
 IsInitRefusal may_fail before steps new now (Open e) = IsCreatedOnly may_fail before steps new now (Open e)
 IsInitRefusal may_fail before steps new now (InvalidBranchName name) = IsCreatedOnly may_fail before steps new now (InvalidBranchName name)
 
+-- whether the files failed to be read
 abbrev pub is_open_fault : OpenError → Bool
 is_open_fault opening.Io = true
 is_open_fault e = false

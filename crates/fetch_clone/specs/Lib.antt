@@ -13,3 +13,4 @@ pub mod Replacing
 pub mod Initial
 pub mod Drafts
 pub mod Heading
+pub mod Mirrors

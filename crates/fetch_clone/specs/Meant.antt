@@ -10,6 +10,7 @@ use Rattle.fetch_clone.specs.declared.meant.Meant.{Meant}
 use Rattle.fetch_clone.specs.declared.meant.Unmeant.{Unmeant}
 use Rattle.fetch_clone.specs.declared.meant.Unmeant.TheVariants.{Missing, Ambiguous, NoMemory}
 
+-- whether a reference has this name
 abbrev pub is_called : List ℕ → Option (List ℕ) → Bool
 is_called name None = false
 is_called name (Some own) = bytes_eq own name
@@ -22,6 +23,7 @@ has_id_of name m = is_called name (source_name m.remote) && is_some (source_id m
 abbrev pub id_of : List Mapping → List ℕ → Option ObjectId
 id_of mappings name = option_and_then (λ m. source_id m.remote) (find (has_id_of name) mappings)
 
+-- the reference of this name that is mapped
 abbrev pub named : List Mapping → List ℕ → Option Meant
 named mappings name = option_map (λ id. record { name = name; id = id }) (id_of mappings name)
 
@@ -39,9 +41,11 @@ taken_beside mappings wanted =
     option_to_list (named mappings (codes "refs/" ++ wanted))
     ++ (option_to_list (named mappings (codes "refs/remotes/" ++ wanted)) ++ option_to_list (named mappings (codes "refs/remotes/" ++ wanted ++ codes "/HEAD")))
 
+-- what else a refspec with this source takes, outside `refs/`
 abbrev pub beside : List Mapping → List ℕ → List Meant
 beside mappings wanted = if starts_with nat_eq wanted (codes "refs/") then [] else taken_beside mappings wanted
 
+-- the name of a reference
 abbrev pub name_of : Meant → List ℕ
 name_of m = m.name
 
@@ -51,6 +55,7 @@ only_one [] = Err Missing
 only_one (m ∷ []) = Ok m
 only_one (m ∷ n ∷ ms) = Err (Ambiguous (map name_of (m ∷ n ∷ ms)))
 
+-- the reference, or else the one that is taken beside it
 abbrev pub or_beside : Option Meant → List Meant → Result Meant Unmeant
 or_beside (Some m) ms = Ok m
 or_beside None ms = only_one ms
@@ -59,6 +64,7 @@ or_beside None ms = only_one ms
 unfoldable pub meant_in : List Mapping → List ℕ → Result Meant Unmeant
 meant_in mappings wanted = or_beside (written_out mappings wanted) (beside mappings wanted)
 
+-- out of memory
 abbrev pub is_memory : Unmeant → Bool
 is_memory NoMemory = true
 is_memory Missing = false

@@ -28,6 +28,7 @@ abbrev pub must_be_empty : Layout → Option Bool → Bool
 must_be_empty kinds.Bare asked = true
 must_be_empty kinds.WithWorktree asked = unwrap_or asked false
 
+-- the step that asks for an empty directory, where it is asked
 abbrev pub cleared : Bool → List ℕ → List Step
 cleared true directory = Clear directory ∷ []
 cleared false directory = []
@@ -51,6 +52,7 @@ contents_of git_dir configuration =
     ∷ File (below git_dir (codes "config")) configuration
     ∷ []
 
+-- the configuration that these options give
 abbrev pub configuration_in : Layout → Options → List ℕ
 configuration_in kind options = configuration_of kind (unwrap_or options.fs_capabilities usual) (unwrap_or options.object_hash hashes.Sha1)
 

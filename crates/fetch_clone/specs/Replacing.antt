@@ -6,6 +6,7 @@ use Rattle.fetch_config.specs.Lookups.{is_same_sub}
 use Rattle.fetch_config.specs.Pieces.{is_same_name}
 use Rattle.fetch_config.specs.declared.section.Section.{Section}
 
+-- whether two sections have one name and subsection
 abbrev pub is_like : Section → Section → Bool
 is_like s other = is_same_name s.name other.name && is_same_sub s.sub other.sub
 
@@ -17,6 +18,6 @@ is_replaced news s = list_any (is_like s) news
 unfoldable pub without_replaced : List Section → Contents → Contents
 without_replaced news file = with_sections file (filter (λ s. not (is_replaced news s)) file.sections)
 
--- Those that are replaced go, and the new ones stand behind the others.
+-- Those that are replaced go, and the new ones stand after the others.
 unfoldable pub replaced : List Section → Contents → Contents
 replaced news file = with_sections file (filter (λ s. not (is_replaced news s)) file.sections ++ news)

@@ -24,6 +24,7 @@ is_pattern_sign c = c == 42 || (c == 63 || (c == 91 || (c == 93 || c == 92)))
 unfoldable pub names_one : List ℕ → Bool
 names_one text = bytes_eq text (codes "HEAD") || (is_id text || (starts_with nat_eq text (codes "refs/") && not (list_any is_pattern_sign text)))
 
+-- whether a side is this text
 abbrev pub is_side : List ℕ → Option (List ℕ) → Bool
 is_side text None = false
 is_side text (Some source) = bytes_eq source text
@@ -32,6 +33,7 @@ is_side text (Some source) = bytes_eq source text
 abbrev pub is_source_alone : List ℕ → Spec → Bool
 is_source_alone text spec = is_none spec.destination && is_side text spec.source
 
+-- the refspec of a revision, or why there is none
 abbrev pub revision_in : List ℕ → Result Spec SpecError → Result Spec Error
 revision_in text (Err e) = Err (Parse e)
 revision_in text (Ok spec) = if is_source_alone text spec && names_one text then Ok spec else Err Invalid
@@ -40,6 +42,7 @@ revision_in text (Ok spec) = if is_source_alone text spec && names_one text then
 abbrev pub revision_of : List ℕ → Result Spec Error
 revision_of text = revision_in text (parsed Fetch text)
 
+-- out of memory
 abbrev pub is_memory : Error → Bool
 is_memory NoMemory = true
 is_memory Invalid = false

@@ -8,6 +8,7 @@ use Rattle.fetch_config.specs.Lookups.{values_of, explicit, last_of}
 unfoldable pub default_remote_of : Contents → Option (List ℕ)
 default_remote_of config = last_of (explicit (values_of (codes "clone") None (codes "defaultRemoteName") false config.sections))
 
+-- what names of branches begin with
 abbrev pub heads : List ℕ
 heads = codes "refs/heads/"
 
@@ -19,6 +20,7 @@ tracking_of remote short = codes "refs/remotes/" ++ remote ++ 47 ∷ short
 abbrev pub destination_of : List ℕ → List ℕ → List ℕ
 destination_of remote target = if starts_with nat_eq target heads then tracking_of remote (drop (length heads) target) else target
 
+-- the refspec of one reference
 abbrev pub spec_of_one : List ℕ → List ℕ → List ℕ
 spec_of_one remote target = 43 ∷ target ++ 58 ∷ destination_of remote target
 

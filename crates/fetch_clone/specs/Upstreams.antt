@@ -14,6 +14,7 @@ use Rattle.fetch_config.specs.Kept.{is_nul, is_nul_or_feed}
 use Rattle.fetch_config.specs.declared.meta.Meta.{Meta}
 use Rattle.fetch_config.specs.declared.section.Section.{Section}
 
+-- whether a category is that of branches
 abbrev pub is_local : Option Category → Bool
 is_local (Some categories.LocalBranch) = true
 is_local _ = false
@@ -30,6 +31,7 @@ maps specs kind name = list_any is_of_item (mappings_of specs (name ∷ []) kind
 abbrev pub is_followed : List Spec → Kind → List ℕ → Bool
 is_followed specs kind name = is_local (category_of name) && (is_utf8 (shortened name) && maps specs kind name)
 
+-- the section of a branch that follows one of a remote
 abbrev pub branch_section : Meta → List ℕ → List ℕ → Section
 branch_section meta remote name =
     record { name = codes "branch"; sub = Some (shortened name); meta = meta; entries = (codes "remote", Some remote) ∷ (codes "merge", Some name) ∷ [] }
@@ -38,6 +40,7 @@ branch_section meta remote name =
 abbrev pub is_kept : List ℕ → List ℕ → Bool
 is_kept remote name = is_none (position is_nul_or_feed (shortened name)) && (is_none (position is_nul remote) && is_none (position is_nul name))
 
+-- the configuration with that section at its end
 abbrev pub with_branch : Contents → List ℕ → List ℕ → Contents
 with_branch local remote name = with_sections local (local.sections ++ branch_section local.meta remote name ∷ [])
 

@@ -24,7 +24,9 @@ pub enum Aim {
     Id(ObjectId),
     /// It leads to a name, which gets the id where there is one.
     Name {
+        /// The full name that `HEAD` leads to.
         name: FullName,
+        /// The id that the name gets. None where the remote has none.
         id: Option<ObjectId>,
     },
 }
@@ -174,7 +176,7 @@ fn is_same_side(a: Option<&[u8]>, b: Option<&[u8]>) -> bool
     }
 }
 
-/// The commit behind a stored id.
+/// The commit that a stored id leads to.
 fn of_id<O: Objects>(alloc: Global, objects: &O, id: Option<ObjectId>) -> Result<Aim, Unaimed>
     ensures { AnswersUnless spec.is_memory (spec.of_id (O.graph objects.now) id) result }
 {

@@ -32,10 +32,13 @@ pub enum Wanted {
 pub struct Choices {
     /// The name of the remote, where one was given.
     pub remote_name: Option<Text>,
+    /// How deep the history is to be.
     pub shallow: Shallow,
     /// Overrides, as a repository is opened with.
     pub overrides: List<Text>,
+    /// Which references are fetched, and where `HEAD` leads.
     pub wanted: Wanted,
+    /// How references are listed and mapped.
     pub options: ref_map::Options,
 }
 

@@ -44,7 +44,7 @@ pub struct Options {
     pub object_hash: Option<fetch_store::Kind>,
 }
 
-/// Where a repository stands.
+/// Where a repository is.
 #[derive(Debug, Drop, PartialEq, Eq)]
 pub struct Path {
     /// The directory of the repository.
@@ -87,7 +87,9 @@ impl From<NoMemory> for Error {
     }
 }
 
-/// Creates the files of an empty repository, step by step. What was done before a step that is refused stays.
+/// Creates the files of an empty repository, step by step. What was done before a step that is refused stays. A fault
+/// of the files comes only where their count rose; `DirectoryNotEmpty` and `DirectoryExists` tell the directory that is
+/// in the way.
 pub fn into<F: Files>(
     alloc: Global,
     files: &mut F,

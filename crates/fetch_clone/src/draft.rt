@@ -20,16 +20,22 @@ use std::alloc::Global;
 /// How a repository is created and opened.
 #[derive(Drop)]
 pub struct Making {
+    /// With a work tree, or bare.
     pub kind: Kind,
+    /// How the files are created.
     pub options: Options,
+    /// How the repository is opened.
     pub open_options: OpenOptions,
+    /// Who writes the lines of reflogs.
     pub committer: Signature,
 }
 
 /// A clone that isn't fetched into yet.
 #[derive(Drop)]
 pub struct Draft {
+    /// The address that is cloned, as it was given.
     pub url: Text,
+    /// The directory that is cloned into, as it was given.
     pub place: Text,
     /// Whether nothing stood at the place before, or an empty directory.
     pub free: bool,

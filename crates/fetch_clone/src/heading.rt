@@ -26,6 +26,7 @@ use std::alloc::Global;
 /// `HEAD` takes a revision's commit, or else leads to the reference that a ref name means, or else takes what the remote's
 /// `HEAD` says. A name that it leads to gets its id, and `HEAD` a line in its reflog. Where that name is a branch that the
 /// saved remote's refspecs take, the local configuration gets a section for it, and the file `config` is written anew.
+// Many arguments: the public signature. A clone hands in what it was asked for.
 pub fn update_head<F: Files>(
     alloc: Global,
     repo: &mut Repository,
@@ -274,17 +275,34 @@ fn save_local<F: Files>(
     ensures counts { Counts (F.faults files.old) (F.faults files.new) }
     ensures may_fail { F.may_fail files.new ≡ F.may_fail files.old }
 {
-    let path = config_path(alloc, repo.git_dir())?;
+    write_local(alloc, files, repo.git_dir(), &local)?;
+    match repo.replace_local(alloc, local) {
+        Ok(()) => Ok(()),
+        Err(_) => Err(Error::NoMemory),
+    }
+}
+
+/// Writes the whole local file into the file `config` in the directory.
+pub fn write_local<F: Files>(
+    alloc: Global,
+    files: &mut F,
+    git_dir: &[u8],
+    local: &File,
+) -> Result<(), Error>
+    ensures written { OnOk result (spec.IsWritten (F.told files.old) git_dir.now local.now (F.told files.new)) }
+    ensures refused { IfErr result (spec.IsUnsaved (F.may_fail files.old) (F.told files.old) git_dir.now (Some local.now)) }
+    ensures tree { TellsStill (F.told files.old) (F.told files.new) }
+    ensures io { IsErrOf result errors.SaveConfigIo → Rose (F.faults files.old) (F.faults files.new) }
+    ensures counts { Counts (F.faults files.old) (F.faults files.new) }
+    ensures may_fail { F.may_fail files.new ≡ F.may_fail files.old }
+{
+    let path = config_path(alloc, git_dir)?;
     let Ok(text) = local.write(alloc, None) else {
         return Err(Error::NoMemory);
     };
     match files.write(path.as_bytes(), text.as_bytes()) {
-        Ok(()) => {}
-        Err(FileError::Failed) => return Err(Error::SaveConfigIo),
-        Err(FileError::NoMemory) => return Err(Error::NoMemory),
-    }
-    match repo.replace_local(alloc, local) {
         Ok(()) => Ok(()),
-        Err(_) => Err(Error::NoMemory),
+        Err(FileError::Failed) => Err(Error::SaveConfigIo),
+        Err(FileError::NoMemory) => Err(Error::NoMemory),
     }
 }

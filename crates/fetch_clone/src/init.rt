@@ -102,8 +102,11 @@ pub fn init<F: Files>(
     )
 }
 
-/// Creates a repository, reads its configuration, and lets `HEAD` lead to the branch that the configuration names, or to
-/// `main`. No line of a reflog is written. What was created before a refusal stays.
+/// Creates a repository, reads its configuration, and lets `HEAD` lead to the branch that the configuration names, or
+/// to `main`. No line of a reflog is written. What was created before a refusal stays. `Init` tells a step of the
+/// creation that was refused, `Open` why the configuration couldn't be read, and `InvalidBranchName` a branch that
+/// can't be called so.
+// Many arguments: the public signature. Each tells another thing of the new repository.
 pub fn init_opts<F: Files>(
     alloc: Global,
     files: &mut F,

@@ -13,7 +13,9 @@ use std::alloc::Global;
 /// A reference of the remote that is mapped and has an id.
 #[derive(Debug, Drop)]
 pub struct Meant {
+    /// Its name, as the remote lists it.
     pub name: Text,
+    /// Its id, of a tag before what it peels to.
     pub id: ObjectId,
 }
 

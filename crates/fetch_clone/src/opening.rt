@@ -28,9 +28,13 @@ use std::alloc::Global;
 /// What a repository is opened with, once its files are created.
 #[derive(Drop)]
 pub struct New {
+    /// Where the repository was created.
     pub path: Path,
+    /// The hash of its objects.
     pub hash: Kind,
+    /// Who writes the lines of reflogs.
     pub committer: Signature,
+    /// Leniency, overrides, and what comes before the local file.
     pub options: OpenOptions,
 }
 
@@ -193,6 +197,7 @@ fn leading(alloc: Global, branch: FullName) -> Result<RefEdit, NoMemory>
     })
 }
 
+/// The name `HEAD`.
 pub fn head(alloc: Global) -> Result<FullName, NoMemory>
     ensures { IfOk result (λ name. name ≡ codes "HEAD") }
 {

@@ -56,6 +56,7 @@ pub struct PrepareFetch<F: Files + Drop, C: Connect + Drop, R: Drop, G: Drop> {
 impl<F: Files + Drop, C: Connect + Drop, R: Drop, G: Drop> PrepareFetch<F, C, R, G> {
     /// Creates an empty repository at the place, which has to be free unless the options say otherwise, to fetch into it
     /// from the address. A refusal hands the files back.
+    // Many arguments: the public signature. All that a clone is made of is owned by it.
     pub fn new(
         alloc: Global,
         url: &[u8],
@@ -264,5 +265,17 @@ impl<F: Files + Drop, C: Connect + Drop, R: Drop, G: Drop> Drop for PrepareFetch
         } = self;
         let mut files = files;
         give_up(&mut files, &draft);
+    }
+}
+
+/// The repository, as `persist` gives it.
+impl<F: Files + Drop, C: Connect + Drop, R: Drop, G: Drop> From<PrepareFetch<F, C, R, G>>
+    for Option<Repository> {
+    ghost use Rattle.std.specs.Prelude.{◌≡◌};
+
+    ghost from_gives = { λ p repo. repo ≡ p.draft.repo };
+
+    fn from(clone: PrepareFetch<F, C, R, G>) -> Option<Repository> {
+        clone.persist()
     }
 }

@@ -11,7 +11,7 @@ use fetch_config::{File, Section};
 use fetch_store::{NoMemory, Text};
 use std::alloc::Global;
 
-/// The file in which the sections of another stand behind those of other names or subsections.
+/// The file in which the sections of another stand after those of other names or subsections.
 #[tactic(auto, unfolding(crate::specs::Replacing::replaced, crate::specs::Replacing::without_replaced))]
 pub fn replaced(alloc: Global, file: &File, news: &File) -> Result<File, NoMemory>
     ensures { IfOk result (λ replaced. replaced ≡ spec.replaced news.now.sections file.now) }

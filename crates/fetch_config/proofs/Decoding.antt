@@ -7,7 +7,7 @@ use Rattle.fetch_store.specs.Scan.{◌>>=◌}
 use Rattle.fetch_config.specs.Pieces.{is_comment_sign}
 use Rattle.fetch_config.specs.Values.{escape_of, with_byte, with_front, unquoted, before_comment, subsection_of}
 
--- what is read already, in front of what is read behind it
+-- what is read already, in front of what is read after it
 abbrev pub onto : List ℕ → Option (List ℕ) → Option (List ℕ)
 onto xs rest = option_map (λ text. xs ++ text) rest
 

@@ -18,7 +18,7 @@ gathered meta rest = gather meta (filter_map line_of (lines rest))
 abbrev pub joined : Meta → List Section → List ℕ → List Section
 joined meta ss rest = with_entries ss (gathered meta rest).0 ++ (gathered meta rest).1
 
--- the first broken line, behind this many lines
+-- the first broken line, after this many lines
 abbrev pub told : ℕ → List Section → List ℕ → Option ℕ
 told number ss rest = option_map (λ n. number + n) (first_broken (is_opened ss) (each_line (lines rest)))
 

@@ -18,7 +18,7 @@ use Rattle.fetch_config.proofs.WrittenLines.{other_byte, is_stop, divided, name_
 use Rattle.fetch_config.proofs.Edges.{skip-blanks, front_blanks, value_between}
 use Rattle.fetch_config.proofs.Letters.{backslash_takes, read-letters}
 
--- a text as its blanks and what stands behind them
+-- a text as its blanks and what follows them
 record Led (text : List ℕ) : Type 0 where
   front : List ℕ
   blank : list_all is_blank front ≡ true
@@ -70,7 +70,7 @@ closed name sub tail found told = step (is_nothing tail) refl
     step true nothing is = record { nothing = nothing; name_is = cc; sub_is = cc }
     step false nothing is = absurd cc
 
--- what stands behind a header's name
+-- what follows a header's name
 record Behind (text : List ℕ) (sub : Option (List ℕ)) : Type 0 where
   inner : List ℕ
   tail : List ℕ
@@ -124,7 +124,7 @@ header_rest name (c ∷ cs) found told is = step (eqb c 93) (is_blank c) refl re
     step false true bracket blank is = with_sub name c cs found told blank is
     step false false bracket blank is = absurd cc
 
--- a header behind its first bracket
+-- a header after its first bracket
 record Opened (text name : List ℕ) (sub : Option (List ℕ)) : Type 0 where
   rest : List ℕ
   text_is : text ≡ name ++ rest

@@ -72,7 +72,7 @@ read-parts (p ∷ ps) h =
 
 -- from the value to the parts
 
--- characters up to a closing quote, and parts behind it
+-- characters up to a closing quote, and parts after it
 pub record IsInRun (text value : List ℕ) : Type 0 where
   marks : List Mark
   well : list_all is_mark marks ≡ true

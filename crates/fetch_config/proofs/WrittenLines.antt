@@ -101,7 +101,7 @@ pub no_feed : (text : List ℕ) → IsPlain text → IsWithout 10 text
 no_feed [] h = refl
 no_feed (c ∷ cs) h = let b = and_parts (is_plain c) (list_all is_plain cs) h in and_from (not (eqb c 10)) (list_all (λ b. not (eqb b 10)) cs) (unfed (eqb c 0) (eqb c 10) b.0) (no_feed cs b.1)
 
--- a name and what stands behind it
+-- a name and what follows it
 
 unfoldable pub is_stop : List ℕ → Bool
 is_stop [] = true

@@ -173,7 +173,7 @@ begins-escaped : (v : List ℕ) → is_edge (slice_get v 0) ≡ false → skip_b
 begins-escaped [] h = absurd cc
 begins-escaped (c ∷ cs) h = begins-byte (escaped cs) c (or_parts (is_blank c) (eqb c 13) h).0
 
--- What stands behind the equals sign, up to a comment and without its blanks.
+-- What follows the equals sign, up to a comment and without its blanks.
 space-before : (t u : List ℕ) → before_comment false false t ≡ u → before_comment false false (32 ∷ t) ≡ 32 ∷ u
 unfolding before_comment
 space-before t u h = ap (λ v. 32 ∷ v) h

@@ -12,6 +12,7 @@ pub record Contents : Type 0 where
   pub meta : Meta
   pub sections : List Section
 
+-- a file with these sections
 abbrev pub with_sections : Contents → List Section → Contents
 with_sections file sections = record { meta = file.meta; sections = sections }
 

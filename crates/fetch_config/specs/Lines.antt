@@ -52,6 +52,7 @@ line_at (c ∷ cs) =
     else if c == 91 then header_of cs
     else entry_of (c ∷ cs)
 
+-- whether a line has a NUL
 abbrev pub has_nul : List ℕ → Bool
 has_nul text = list_any (λ c. c == 0) text
 
@@ -59,6 +60,7 @@ has_nul text = list_any (λ c. c == 0) text
 unfoldable pub line_of : List ℕ → Option Line
 line_of text = if has_nul text then None else line_at (skip_blanks text)
 
+-- entries: keys, with values where they have one
 abbrev pub EntryList : Type 0
 EntryList = List (List ℕ × Option (List ℕ))
 
@@ -79,6 +81,7 @@ fits_behind opened None = false
 fits_behind opened (Some (Entry key value)) = opened
 fits_behind opened (Some _) = true
 
+-- whether a line opens a section
 abbrev pub opens : Option Line → Bool
 opens (Some (Header name sub)) = true
 opens _ = false
@@ -88,9 +91,11 @@ abbrev pub first_broken : Bool → List (Option Line) → Option ℕ
 first_broken opened [] = None
 first_broken opened (l ∷ ls) = if fits_behind opened l then option_map (λ n. n + 1) (first_broken (opened || opens l) ls) else Some 1
 
+-- what each line says
 abbrev pub each_line : List (List ℕ) → List (Option Line)
 each_line [] = []
 each_line (l ∷ ls) = line_of l ∷ each_line ls
 
+-- the number of the first line that breaks the grammar, from 1
 unfoldable pub broken_line : List ℕ → Option ℕ
 broken_line text = first_broken false (each_line (lines text))

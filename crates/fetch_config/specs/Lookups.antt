@@ -40,6 +40,7 @@ unfoldable pub last_or : {A : Type 0} → Option A → List A → Option A
 last_or found [] = found
 last_or found (x ∷ xs) = last_or (Some x) xs
 
+-- the last of a list
 abbrev pub last_of : {A : Type 0} → List A → Option A
 last_of xs = last_or None xs
 
@@ -47,6 +48,7 @@ last_of xs = last_or None xs
 abbrev pub last_place : List (Option (List ℕ)) → Unreadable
 last_place values = record { place = min (length values) (2 ^ 64 - 1) - 1 }
 
+-- a value that was read, or why not
 abbrev pub readable : {A : Type 0} → Option A → Unreadable → Result A Unreadable
 readable None refusal = Err refusal
 readable (Some x) refusal = Ok x
@@ -55,5 +57,6 @@ readable (Some x) refusal = Ok x
 unfoldable pub boolean_of : List (Option (List ℕ)) → Option (Result Bool Unreadable)
 boolean_of values = option_map (λ v. readable (truth_of v) (last_place values)) (last_of values)
 
+-- the last of these values as a number
 unfoldable pub integer_of : List (Option (List ℕ)) → Option (Result ℤ Unreadable)
 integer_of values = option_map (λ v. readable (number_of v) (last_place values)) (last_of values)

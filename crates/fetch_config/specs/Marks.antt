@@ -40,14 +40,17 @@ pub data Part : Type 0 where
   Bare : Mark → Part
   Quoted : List Mark → Part
 
+-- a part of a value as it is written
 abbrev pub part_text : Part → List ℕ
 part_text (Bare mark) = mark_text mark
 part_text (Quoted marks) = 34 ∷ (flat_map mark_text marks ++ 34 ∷ [])
 
+-- what a part of a value stands for
 abbrev pub part_value : Part → List ℕ
 part_value (Bare mark) = mark_byte mark ∷ []
 part_value (Quoted marks) = map mark_byte marks
 
+-- whether a part is one of the grammar
 abbrev pub is_part : Part → Bool
 is_part (Bare mark) = is_mark mark
 is_part (Quoted marks) = list_all is_mark marks
@@ -59,6 +62,7 @@ pub record IsInParts (text value : List ℕ) : Type 0 where
   pub text_is : text ≡ flat_map part_text parts
   pub value_is : value ≡ flat_map part_value parts
 
+-- whether a mark begins a comment
 abbrev pub is_sign : Mark → Bool
 is_sign (Byte c) = is_comment_sign c
 is_sign _ = false

@@ -25,9 +25,11 @@ magnitude text =
     if is_decimal parts.0 && nat_le (digits_value 10 parts.0 * parts.1) (2 ^ 63)
     then Some (digits_value 10 parts.0 * parts.1) else None
 
+-- a number that fits
 abbrev pub positive : ℕ → Option ℤ
 positive n = if nat_lt n (2 ^ 63) then Some (pos n) else None
 
+-- a number below zero
 abbrev pub negative : ℕ → Option ℤ
 negative n = Some (neg_ℤ (pos n))
 
@@ -39,13 +41,16 @@ integer_in (c ∷ cs) =
     else if c == 43 then magnitude cs >>= positive
     else magnitude (c ∷ cs) >>= positive
 
+-- whether a number is zero
 abbrev pub is_zero : ℤ → Bool
 is_zero (pos n) = n == 0
 is_zero (negsuc n) = false
 
+-- whether a text says yes
 unfoldable pub is_yes : List ℕ → Bool
 is_yes text = bytes_eq text (codes "true") || bytes_eq text (codes "yes") || bytes_eq text (codes "on")
 
+-- whether a text says no
 unfoldable pub is_no : List ℕ → Bool
 is_no text = bytes_eq text (codes "false") || bytes_eq text (codes "no") || bytes_eq text (codes "off") || length text == 0
 

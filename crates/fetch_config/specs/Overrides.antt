@@ -18,6 +18,7 @@ path_and_value text = option_map_or (λ p. (p.0, Some p.1)) (split_first 61 text
 abbrev pub api_meta : Meta
 api_meta = record { source = origins.Api; level = 0; path = None; trusted = true }
 
+-- the section of an override, where name and key are in the grammar
 abbrev pub override_section : List ℕ → Option (List ℕ) → List ℕ → Option (List ℕ) → Option Section
 override_section name sub key value =
     if is_name name && is_key key then Some (record { name = name; sub = sub; meta = api_meta; entries = (key, value) ∷ [] }) else None

@@ -24,6 +24,7 @@ skip_blanks text = drop (prefix_len is_blank text) text
 abbrev pub trim_end : List ℕ → List ℕ
 trim_end text = take (length text - suffix_len is_blank text) text
 
+-- whether a text ends here or begins a comment
 abbrev pub is_end_or_comment : List ℕ → Bool
 is_end_or_comment [] = true
 is_end_or_comment (c ∷ cs) = is_comment_sign c

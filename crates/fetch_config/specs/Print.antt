@@ -20,6 +20,7 @@ value_byte c =
 abbrev pub is_blank_or_return : ℕ → Bool
 is_blank_or_return c = is_blank c || c == 13
 
+-- whether a byte at a value's edge would be trimmed, or there is none
 abbrev pub is_edge : Option ℕ → Bool
 is_edge None = true
 is_edge (Some c) = is_blank_or_return c
@@ -28,9 +29,11 @@ is_edge (Some c) = is_blank_or_return c
 abbrev pub needs_quotes : List ℕ → Bool
 needs_quotes text = is_edge (slice_get text 0) || is_edge (slice_get text (length text - 1)) || list_any is_comment_sign text
 
+-- a value with its escapes
 abbrev pub escaped : List ℕ → List ℕ
 escaped text = flat_map value_byte text
 
+-- a value as it is written, in quotes where it needs them
 unfoldable pub value_text : List ℕ → List ℕ
 value_text text = if needs_quotes text then 34 ∷ (escaped text ++ 34 ∷ []) else escaped text
 
@@ -47,19 +50,24 @@ entry_text entry = 9 ∷ (entry.0 ++ equals_text entry.1 ++ 10 ∷ [])
 abbrev pub sub_byte : ℕ → List ℕ
 sub_byte c = if c == 92 || c == 34 then 92 ∷ c ∷ [] else c ∷ []
 
+-- a subsection as it is written
 abbrev pub sub_text : Option (List ℕ) → List ℕ
 sub_text None = []
 sub_text (Some text) = 32 ∷ 34 ∷ (flat_map sub_byte text ++ 34 ∷ [])
 
+-- a header as it is written
 abbrev pub header_text : Section → List ℕ
 header_text s = 91 ∷ (s.name ++ sub_text s.sub ++ 93 ∷ 10 ∷ [])
 
+-- a section as it is written
 abbrev pub section_text : Section → List ℕ
 section_text s = header_text s ++ flat_map entry_text s.entries
 
+-- sections as they are written
 unfoldable pub text_of : List Section → List ℕ
 text_of sections = flat_map section_text sections
 
+-- whether two origins are one
 abbrev pub is_same_origin : Origin → Origin → Bool
 is_same_origin origins.System origins.System = true
 is_same_origin origins.Global origins.Global = true
@@ -72,6 +80,7 @@ abbrev pub is_of : Option Origin → Section → Bool
 is_of None s = true
 is_of (Some origin) s = is_same_origin s.meta.source origin
 
+-- the sections of an origin, or all
 abbrev pub of_origin : Option Origin → List Section → List Section
 of_origin origin sections = filter (is_of origin) sections
 

@@ -12,6 +12,7 @@ with_entries [] entries = []
 with_entries (s ∷ []) entries = record s { entries = s.entries ++ entries } ∷ []
 with_entries (s ∷ t ∷ ss) entries = s ∷ with_entries (t ∷ ss) entries
 
+-- a section without entries
 abbrev pub empty_section : Meta → List ℕ → Option (List ℕ) → Section
 empty_section meta name sub = record { name = name; sub = sub; meta = meta; entries = [] }
 
@@ -22,6 +23,7 @@ after_line meta ss (Some Nothing) = ss
 after_line meta ss (Some (Header name sub)) = ss ++ empty_section meta name sub ∷ []
 after_line meta ss (Some (Entry key value)) = with_entries ss ((key, value) ∷ [])
 
+-- whether a header was met
 abbrev pub is_opened : List Section → Bool
 is_opened [] = false
 is_opened (s ∷ ss) = true

@@ -39,6 +39,7 @@ pub record IsAssigned (text value : List ℕ) : Type 0 where
   pub text_is : text ≡ 61 ∷ rest
   pub value_is : SaysValue rest value
 
+-- What follows a key: nothing, or a value after an equals sign.
 abbrev pub SaysAssigned : List ℕ → Option (List ℕ) → Type 0
 SaysAssigned text None = text ≡ []
 SaysAssigned text (Some value) = IsAssigned text value

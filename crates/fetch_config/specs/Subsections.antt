@@ -7,6 +7,7 @@ pub data Letter : Type 0 where
   Plain : ℕ → Letter
   Escaped : ℕ → Letter
 
+-- a letter of a subsection as it is written
 abbrev pub letter_text : Letter → List ℕ
 letter_text (Plain c) = c ∷ []
 letter_text (Escaped c) = 92 ∷ c ∷ []

@@ -42,6 +42,7 @@ before_comment quoted false (c ∷ cs) =
 unfoldable pub value_of : List ℕ → Option (List ℕ)
 value_of text = unquoted false false (trim_end (skip_blanks (before_comment false false text)))
 
+-- with a byte in front of what was read
 abbrev pub with_front : ℕ → Option (List ℕ × List ℕ) → Option (List ℕ × List ℕ)
 with_front c found = option_map (λ p. (c ∷ p.0, p.1)) found
 

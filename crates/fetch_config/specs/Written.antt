@@ -10,6 +10,7 @@ use Rattle.fetch_config.specs.Lines.{sections_of, broken_line}
 unfoldable pub is_named : Section → Bool
 is_named s = is_name s.name && list_all (λ entry. is_key entry.0) s.entries
 
+-- All sections have names and keys of the grammar.
 abbrev pub AreNamed : List Section → Type 0
 AreNamed sections = list_all is_named sections ≡ true
 

@@ -41,7 +41,7 @@ impl Model for File {
 }
 
 impl File {
-    /// A configuration without sections.
+    /// A configuration without sections. It is always Ok.
     pub fn new(alloc: Global, meta: Meta) -> Result<File, ConfigError>
         ensures { result ≡ Ok (record { meta = meta; sections = [] }) }
     {
@@ -70,7 +70,8 @@ impl File {
         })
     }
 
-    /// Reads a text. A refusal tells the first line that breaks the grammar.
+    /// Reads a text. A refusal tells the first line that breaks the grammar. That is `Syntax`, and else the only error
+    /// is out of memory.
     pub fn read(alloc: Global, bytes: &[u8], meta: Meta) -> Result<File, ConfigError>
         ensures accepted { OnOk result (lines.broken_line bytes.now ≡ None) }
         ensures file { IfOk result (λ file. file ≡ record { meta = meta; sections = lines.sections_of meta bytes.now }) }
@@ -80,8 +81,8 @@ impl File {
         Ok(File { meta, sections })
     }
 
-    /// The text of the sections of this source, or of all sections. Where names and keys obey the grammar, the text
-    /// of all reads as the same sections.
+    /// The text of the sections of this source, or of all sections. Where names and keys obey the grammar, the text of
+    /// all reads as the same sections. The only error is out of memory.
     pub fn write(&self, alloc: Global, origin: Option<Origin>) -> Result<Text, ConfigError>
         ensures ok { IfOk result (λ text. text ≡ print.text_of (print.of_origin origin self.now.sections)) }
         ensures read_back { IfOk result (λ text. origin ≡ None → AreNamed self.now.sections → Says self.now.sections text) }
@@ -91,7 +92,8 @@ impl File {
         Ok(Text::from(text))
     }
 
-    /// Adds copies of the other's sections at the end. After an error the file is as before.
+    /// Adds copies of the other's sections at the end. After an error the file is as before. The only error is out of
+    /// memory.
     pub fn append(&mut self, alloc: Global, other: &File) -> Result<(), ConfigError>
         ensures ok { OnOk result (self.new ≡ with_sections self.old (self.old.sections ++ other.now.sections)) }
         ensures err { IfErr result (λ e. (e ≡ errors.NoMemory) × (self.new ≡ self.old)) }
@@ -154,7 +156,7 @@ impl File {
         lookup::last_value(self.sections.as_slice(), section, sub, key, trusted_only)
     }
 
-    /// The values that aren't implicit, in order.
+    /// The values that aren't implicit, in order. The only error is out of memory.
     pub fn strings(
         &self,
         alloc: Global,
@@ -171,7 +173,8 @@ impl File {
         Ok(values)
     }
 
-    /// The last entry as a truth value. An implicit entry is true.
+    /// The last entry as a truth value. An implicit entry is true. None where there is no entry; `Unreadable` where its
+    /// value is no truth value.
     pub fn boolean(
         &self,
         section: &[u8],
@@ -184,7 +187,8 @@ impl File {
         lookup::boolean(self.sections.as_slice(), section, sub, key, trusted_only)
     }
 
-    /// The last entry as a number.
+    /// The last entry as a number. None where there is no entry; `Unreadable` where its value is no number, or it has
+    /// none.
     pub fn integer(
         &self,
         section: &[u8],
@@ -220,6 +224,7 @@ impl File {
     }
 
     /// Adds a section without entries at the end, and answers its index. After an error the file is as before.
+    /// `BadValue` comes exactly where the subsection has a NUL or a line feed, with the place of the first.
     pub fn push_section(
         &mut self,
         alloc: Global,
@@ -239,7 +244,8 @@ impl File {
         Ok(index)
     }
 
-    /// Adds an entry at the end of a section. After an error the file is as before.
+    /// Adds an entry at the end of a section. After an error the file is as before. `BadValue` comes exactly where the
+    /// value has a NUL, with the place of the first.
     pub fn push_value(
         &mut self,
         alloc: Global,

@@ -22,7 +22,7 @@ abbrev pub answer_behind : {X Y E : Type 0} → ℕ → (X → Conversation Y E)
 answer_behind bound f (Ok x) = answer_in bound (f x.0) x.1
 answer_behind bound f (Err e) = Err e
 
--- what is sent by the second, behind the first
+-- what is sent by the second, after the first
 sent_at_end : {X Y E : Type 0} (bound : ℕ) (f : X → Conversation Y E) (answer : Result X E) (stream : List ℕ) → sent_in bound (after_answer f answer) stream ≡ sent_behind bound f (beside stream answer)
 unfolding sent_in
 sent_at_end bound f (Ok x) stream = refl
@@ -83,7 +83,7 @@ awaits_asking : {X Y E : Type 0} (bound : ℕ) (f : X → Conversation Y E) (fai
 awaits_asking bound f failed next (Err fault) x rest again is = absurd (cc)
 awaits_asking bound f failed next (Ok y) x rest again is = again y.0 y.1 is
 
--- behind the first's end the second awaits
+-- after the first's end the second awaits
 pub awaits_late : {X Y E : Type 0} (bound : ℕ) (c : Conversation X E) (f : X → Conversation Y E) (stream : List ℕ) (x : X) (rest : List ℕ) → answer_in bound c stream ≡ Ok (x, rest) → awaits_more bound (and_then c f) stream ≡ awaits_more bound (f x) rest
 unfolding answer_in awaits_more and_then
 awaits_late bound (ends answer) f stream x rest is = awaits_at_end bound f answer stream ∙ ap (awaits_behind bound f) is
@@ -132,7 +132,7 @@ due_early bound c f pending r h = record {
 pub awaited_early : {X Y E : Type 0} (bound : ℕ) (old new : Option Talk) (pending : List ℕ) (c : Conversation X E) (f : X → Conversation Y E) → IsAwaited bound old new pending c → IsAwaited bound old new pending (and_then c f)
 awaited_early bound old new pending c f h = record { receives = h.receives; made = h.made; due = all_as (IsDue bound c pending) (IsDue bound (and_then c f) pending) h.receives (due_early bound c f pending) h.due }
 
--- A receive of the second comes behind all that the first was said and heard.
+-- A receive of the second comes after all that the first was said and heard.
 due_late : {X Y E : Type 0} (bound : ℕ) (pending rest said heard : List ℕ) (c : Conversation X E) (f : X → Conversation Y E) (x : X) → ((more : List ℕ) → lines_text (sent_in bound c (pending ++ (said ++ more))) ≡ heard)
     → ((more : List ℕ) → answer_in bound c (pending ++ (said ++ more)) ≡ Ok (x, rest ++ more)) → (r : Receive) → IsDue bound (f x) rest r → IsDue bound (and_then c f) pending (behind heard said r)
 due_late bound pending rest said heard c f x asked answered r h = record {

@@ -230,7 +230,7 @@ unsent_explains now heard s (stops.Refused w) is = λ isnt. absurd (isnt is)
 unsent_explains now heard s stops.Failed is = tt
 unsent_explains now heard s stops.Interrupted is = absurd is
 
--- a front of what was to be sent was heard
+-- a prefix of what was to be sent was heard
 pub stops_sending : (answers : Bool) (old mid new : Option Talk) (s now : SessionState) (front : List ℕ) (e : Stop) → GoesOn answers old mid s now → IsFront front now.outgoing → Talks answers mid new front [] → Makes mid new [] → IsUnsent e → Stops answers old new s e
 stops_sending answers old mid new s now front e h is talk made free = record {
   heard = h.heard ++ front;
@@ -347,7 +347,7 @@ resting s is = (well_by s (refusal_of s) (is_all_sent s) (is_some s.intake.readi
 
 -- ---- what a call answers
 
--- an error but want of memory is the refusal
+-- an error but out of memory is the refusal
 refuses_with : (refusal : Option WireError) (f : WireError) → RefusesUnless {X = Unit {0}} is_memory refusal (Err f) → f ≢ wire.NoMemory → refusal ≡ Some f
 refuses_with refusal (wire.Malformed place) h other = h
 refuses_with refusal (wire.ServerError text) h other = h

@@ -23,7 +23,7 @@ received_then n m (Some a) None c p q = absurd p
 received_then n m (Some a) (Some b) None p q = absurd q
 received_then n m (Some a) (Some b) (Some c) p q = omega (arith, p, q)
 
--- so many as are told
+-- as many as are told
 received_so : (a b : Option Talk) (receives : List Receive) → Makes a b receives → HasReceived (length receives) a b
 received_so None b receives made = tt
 received_so (Some a) None receives made = absurd made

@@ -126,7 +126,7 @@ module _ (bound : ℕ) (t : TermsValue) (g : Graph) (algorithm : Algorithm) wher
       subst (λ (x : Conversation Negotiated Error). Breaks is_free_receiving answers bound old new pending x e) (sym (negotiating_is more c))
       (breaks_early is_free_receiving answers bound old new pending (round_in c) (λ reply. behind_round more c reply) e h)
 
-  -- memory runs out behind the first round
+  -- memory runs out after the first round
   pub breaks_behind : (answers : Bool) (old new : Option Talk) (pending rest : List ℕ) (more : ℕ) (c : CourseValue) (reply : FetchReply) (e : Error) → Concludes answers bound old new pending (round_in c) reply rest → is_free_receiving e ≡ true
       → Breaks is_free_receiving answers bound old new pending (negotiating (suc more) bound t g algorithm c) e
   breaks_behind answers old new pending rest more c reply e h free =
@@ -165,7 +165,7 @@ module _ (bound : ℕ) (t : TermsValue) (g : Graph) (algorithm : Algorithm) wher
       → Breaks is_free_receiving answers bound old new pending (negotiating (suc more) bound t g algorithm c) e
   unanswered answers old new pending rest more c d round shared e h k = breaks_round answers old new pending more c e (exchanged_at answers old new pending rest c d round shared (Err e) h k)
 
-  -- memory runs out behind the answer
+  -- memory runs out after the answer
   pub untold : (answers : Bool) (old new : Option Talk) (pending rest : List ℕ) (more : ℕ) (c d : CourseValue) (round : Round) (shared : List ObjectId) (reply : FetchReply) (e : Error) → IsNext c d round shared → Exchanged answers old new pending rest shared round (Ok reply)
       → is_free_receiving e ≡ true → Breaks is_free_receiving answers bound old new pending (negotiating (suc more) bound t g algorithm c) e
   untold answers old new pending rest more c d round shared reply e h k free = breaks_behind answers old new pending rest more c reply e (exchanged_at answers old new pending rest c d round shared (Ok reply) h k) free
@@ -212,7 +212,7 @@ module _ (bound : ℕ) (t : TermsValue) (g : Graph) (algorithm : Algorithm) wher
 
   -- ---- round by round
 
-  -- Before each round, so many were held: however the rest of the rounds is held, so are all.
+  -- Before each round, that many were held: however the rest of the rounds is held, so are all.
   pub record Goes (answers : Bool) (old now : Option Talk) (pending rest : List ℕ) (all : ℕ) (first c : CourseValue) (held : ℕ) : Type 0 where
     pub leads : (left : ℕ) → left + held ≡ all → Leads is_free_receiving answers bound old pending (negotiating all bound t g algorithm first) now rest (negotiating left bound t g algorithm c)
 

@@ -42,7 +42,7 @@ record Shows (q : InquiryValue) (bound : ℕ) (s : SessionState) (lines : List L
 shows_as : (q : InquiryValue) (bound : ℕ) (lines : List Line) (answer : Result (ListedValue × List ℕ) Error) (more : Bool) (s t : SessionState) → t ≡ s → Shows q bound s lines answer more → Shows q bound t lines answer more
 shows_as q bound lines answer more s t is h = subst (λ (x : SessionState). Shows q bound x lines answer more) (sym is) h
 
--- a session that awaits the references, behind the first line and the listing request
+-- a session that awaits the references, after the first line and the listing request
 abbrev listing_state : InquiryValue → ℕ → Line → Handshake → List Line → List ℕ → SessionState
 listing_state q bound first h lines rest = record {
   agent = q.agent;

@@ -4,7 +4,7 @@ use Rattle.std.proofs.lemmas.List.{take_more}
 use Rattle.std.proofs.lemmas.List.Elements.{filter_map-append}
 use Rattle.std.specs.List.{filter_map}
 
--- what one more gives stands behind what those before it gave
+-- what one more gives stands after what those before it gave
 pub one_more : {X Y : Type 0} (h : X → Option Y) (xs : List X) (i : ℕ) (x : X) (before now : List Y) → i < length xs → x ≡ get_or xs i x → before ≡ filter_map h (take i xs) → now ≡ before ++ filter_map h (x ∷ [])
     → now ≡ filter_map h (take (i + 1) xs)
 one_more h xs i x before now lt here so_far is =

@@ -37,7 +37,7 @@ use Rattle.fetch_conversation.proofs.Tied.{answer_of, answer_by, at_rest, rests_
 abbrev pub reply_state : SessionState → ℕ → AskedReply → List ℕ → SessionState
 reply_state s bound asked bytes = record s { intake = record { bound = bound; place = 0; pending = bytes; reading = Some (reading.Reply asked parts.Beginning no_reply) } }
 
--- behind a reply nothing is asked
+-- after a reply nothing is asked
 asks_nothing : (s : SessionState) (found : Result (Told × List ℕ) Fault) → told_with s.intake [] ≡ Some found → TellsReply found → read_one rests (after_told asks s (Some found)) ≡ after_told rests s (Some found)
 asks_nothing s (Ok (told.Greeting h, rest)) is tells = absurd tells
 asks_nothing s (Ok (told.Advertisement h refs, rest)) is tells = absurd tells

@@ -49,7 +49,7 @@ others_next is_request rule serve s before lines others tail all one is =
     ap (λ (l : List ℕ). rule (l ++ others)) text ∙ ap rule (append_assoc (requests_text before) (lines_text lines) others) ∙ is ∙ sym (append_assoc (rule (requests_text before)) (serve lines) tail)
     ∙ ap (λ (l : List ℕ). l ++ tail) (sym (s.each before lines all one)) ∙ ap (λ (l : List ℕ). rule l ++ tail) (sym text)
 
--- what a reply told, read alone, is told where more is behind it
+-- what a reply told, read alone, is told where more is after it
 stays : (bound : ℕ) (awaited : Await) (reply tail : List ℕ) (reading : Result (Told × List ℕ) Fault) → told_at bound awaited reply ≡ reading → IsSettled reading → told_at bound awaited (reply ++ tail) ≡ with_more reading tail
 stays bound awaited reply tail reading is settled =
     let h : IsSettled (told_at bound awaited reply) = subst IsSettled (sym is) settled in
@@ -81,7 +81,7 @@ sent_more : {X E : Type 0} (bound : ℕ) (next : Next X E) (told : Told) (rest :
     → lines_text (after_reply (λ _. []) (λ told rest. sent_in bound (next told) rest) reading) ≡ lines_text (sent_in bound (next told) rest)
 sent_more bound next told rest reading is = rw is refl
 
--- A conversation with one whose rule serves it, behind some requests.
+-- A conversation with one whose rule serves it, after some requests.
 pub served : {X E : Type 0} (bound : ℕ) (is_request : List Line → Bool) (rule : List ℕ → List ℕ) (serve : List Line → List ℕ) → Serves is_request rule serve → (c : Conversation X E) (before : List (List Line)) (stream : List ℕ)
     → AreRequests is_request before → AsksOnly is_request c → IsAnswered bound serve c → rule (requests_text before ++ lines_text (sent_in bound c stream)) ≡ rule (requests_text before) ++ stream
     → without_rest (answer_in bound c stream) ≡ answer_with bound serve c

@@ -34,7 +34,7 @@ use Rattle.fetch_conversation.proofs.Held.{round_in, behind_round, negotiating_i
 
 -- ---- one request
 
--- nothing is sent behind a reply
+-- nothing is sent after a reply
 reply_sends : (bound : ℕ) (told : Told) (rest : List ℕ) → sent_in bound (replied told) rest ≡ []
 unfolding sent_in
 reply_sends bound (told.Reply reply) rest = refl

@@ -131,7 +131,7 @@ module _ (bound : ℕ) (t : TermsValue) (g : Graph) (algorithm : Algorithm) (who
       ∙ answer_then bound (round_in bound t g algorithm c) (λ reply. behind_round bound t g algorithm more c reply) (lines_text (lines_of a) ++ rest)
       ∙ ap (answer_behind bound (λ reply. behind_round bound t g algorithm more c reply)) (round_is c a rest h)
 
-  -- and those behind it
+  -- and those after it
   rounds_are : (more : ℕ) (c : CourseValue) (a : Answer) (answers : List Answer) (rest : List ℕ) → length answers < more → AnswerRounds bound t g algorithm c a answers
       → answer_in bound (negotiating more bound t g algorithm c) (answers_text a answers ++ rest) ≡ Ok (negotiated_by g algorithm c a answers, rest)
   rounds_are zero c a answers rest few h = absurd (omega arith)

@@ -21,9 +21,11 @@ abbrev pub asks_unless : {X E : Type 0} → Option ℕ → (ℕ → E) → Conve
 asks_unless None long c = c
 asks_unless (Some length) long c = ends (Err (long length))
 
+-- asks these lines, unless one is too long
 abbrev pub asking : {X E : Type 0} → (ℕ → E) → List Line → Await → (Fault → E) → (Told → Conversation X E) → Conversation X E
 asking long lines awaited failed next = asks_unless (first_too_long lines) long (asks lines awaited failed next)
 
+-- what follows a reply, or a fault in its place
 abbrev pub after_reply : {A : Type 0} → (Fault → A) → (Told → List ℕ → A) → Result (Told × List ℕ) Fault → A
 after_reply none go (Err fault) = none fault
 after_reply none go (Ok x) = go x.0 x.1
@@ -34,6 +36,7 @@ sent_in bound (ends answer) stream = []
 sent_in bound (asks lines awaited failed next) stream =
     lines ++ after_reply (λ _. []) (λ told rest. sent_in bound (next told) rest) (told_at bound awaited stream)
 
+-- an answer with what is left
 abbrev pub beside : {X E : Type 0} → List ℕ → Result X E → Result (X × List ℕ) E
 beside rest (Ok x) = Ok (x, rest)
 beside rest (Err e) = Err e
@@ -44,7 +47,7 @@ answer_in bound (ends answer) stream = beside stream answer
 answer_in bound (asks lines awaited failed next) stream =
     after_reply (λ fault. Err (failed fault)) (λ told rest. answer_in bound (next told) rest) (told_at bound awaited stream)
 
--- Whether the bytes end in a reply, with nothing wrong in it, or go on behind whole ones.
+-- Whether the bytes end in a reply, with nothing wrong in it, or go on after whole ones.
 abbrev pub ends_in : (Told → List ℕ → Bool) → Result (Told × List ℕ) Fault → Bool
 ends_in go (Ok x) = go x.0 x.1
 ends_in go (Err (faults.Short place)) = true
@@ -73,10 +76,12 @@ abbrev pub after_answer : {X Y E : Type 0} → (X → Conversation Y E) → Resu
 after_answer f (Ok x) = f x
 after_answer f (Err e) = ends (Err e)
 
+-- A second conversation goes on where the first ended well.
 unfoldable pub and_then : {X Y E : Type 0} → Conversation X E → (X → Conversation Y E) → Conversation Y E
 and_then (ends answer) f = after_answer f answer
 and_then (asks lines awaited failed next) f = asks lines awaited failed (λ told. and_then (next told) f)
 
+-- an answer whose refusal is told by another error
 abbrev pub map_refusal : {X E F : Type 0} → (E → F) → Result X E → Result X F
 map_refusal g (Ok x) = Ok x
 map_refusal g (Err e) = Err (g e)
@@ -87,7 +92,7 @@ told_as g (ends answer) = ends (map_refusal g answer)
 told_as g (asks lines awaited failed next) = asks lines awaited (λ fault. g (failed fault)) (λ told. told_as g (next told))
 
 -- The conversation was held to its end: the peer heard its lines, and this is its answer, whatever comes after. No
--- receive was made before all that was to be sent so far had been heard, and none behind a reply that was whole.
+-- receive was made before all that was to be sent so far had been heard, and none after a reply that was whole.
 pub record Concludes {X E : Type 0} (answers : Bool) (bound : ℕ) (old new : Option Talk) (pending : List ℕ) (c : Conversation X E) (x : X) (rest : List ℕ) : Type 0 where
   pub said : List ℕ
   pub heard : List ℕ
@@ -116,6 +121,7 @@ pub record Breaks {X E : Type 0} (free : E → Bool) (answers : Bool) (bound : �
   pub front : IsFront heard (lines_text (sent_in bound c (pending ++ said)))
   pub why : free e ≡ false → IsRefusedBy bound new c (pending ++ said) heard e
 
+-- What a conversation held gives: an answer, or where it broke off.
 abbrev pub ConversesBy : {X E : Type 0} → (E → Bool) → Bool → ℕ → Option Talk → Option Talk → List ℕ → List ℕ → Conversation X E → Result X E → Type 0
 ConversesBy free answers bound old new pending rest c (Ok x) = Concludes answers bound old new pending c x rest
 ConversesBy free answers bound old new pending rest c (Err e) = Breaks free answers bound old new pending c e

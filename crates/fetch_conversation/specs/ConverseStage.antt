@@ -41,11 +41,13 @@ use Rattle.fetch_conversation.specs.declared.fetch.Error.TheVariants as errors
 
 -- ---- refusals before anything is sent, also where nothing is wanted
 
+-- whether a refspec is no exclusion
 abbrev pub is_positive : Mode → Bool
 is_positive modes.Normal = true
 is_positive modes.Force = true
 is_positive modes.Exclusion = false
 
+-- whether a source has a star
 abbrev pub has_star : Option (List ℕ) → Bool
 has_star None = false
 has_star (Some text) = list_any (λ b. b == 42) text
@@ -54,6 +56,7 @@ has_star (Some text) = list_any (λ b. b == 42) text
 abbrev pub names_one : Spec → Bool
 names_one spec = is_positive spec.mode && not (has_star spec.source)
 
+-- the remote's refspecs and then the extra ones
 abbrev pub specs_of : RefMap → List Spec
 specs_of m = m.refspecs ++ m.extra_refspecs
 
@@ -61,21 +64,26 @@ specs_of m = m.refspecs ++ m.extra_refspecs
 abbrev pub is_unmapped : RefMap → Bool
 is_unmapped m = is_nil m.mappings && not (is_nil m.remote_refs) && list_any names_one (specs_of m)
 
+-- nothing is mapped that a refspec names
 abbrev pub unmapped : RefMap → Option Error
 unmapped m = if is_unmapped m then Some (errors.NoMapping (specs_of m) (length m.remote_refs)) else None
 
+-- the same, of what was listed
 abbrev pub no_mapping : TermsValue → Option Error
 no_mapping t = unmapped t.listed.ref_map
 
+-- whether two hashes are one
 abbrev pub is_same_kind : Kind → Kind → Bool
 is_same_kind Sha1 Sha1 = true
 is_same_kind Sha1 Sha256 = false
 is_same_kind Sha256 Sha1 = false
 is_same_kind Sha256 Sha256 = true
 
+-- the server's hash is another
 abbrev pub unlike : Kind → Kind → Option Error
 unlike local remote = if is_same_kind local remote then None else Some (errors.IncompatibleObjectHash local remote)
 
+-- the same, of what was listed
 abbrev pub other_hash : TermsValue → Option Error
 other_hash t = unlike t.settings.kind t.listed.handshake.object_hash
 
@@ -91,9 +99,11 @@ unfit s =
     option_or (unread_as errors.NegotiationAlgorithmConfig (algorithm_of_config s.config s.lenient))
     (unread_as errors.PackThreads (threads_of s.config s.lenient)))
 
+-- the capability of a fetch
 unfoldable pub fetch_feature : List ℕ
 fetch_feature = codes "fetch"
 
+-- the feature of a border and of depths
 unfoldable pub shallow_feature : List ℕ
 shallow_feature = codes "shallow"
 
@@ -102,6 +112,7 @@ abbrev pub offered_in : Version → List Capability → List Capability
 offered_in versions.V1 capabilities = []
 offered_in versions.V2 capabilities = capabilities
 
+-- what a greeting of version 2 offers
 abbrev pub offered : Handshake → List Capability
 offered h = offered_in h.version h.capabilities
 
@@ -109,6 +120,7 @@ offered h = offered_in h.version h.capabilities
 abbrev pub fetches : List ℕ → Handshake → Bool
 fetches word h = has_word word (value_of fetch_feature (offered h))
 
+-- whether the depth isn't to change
 abbrev pub is_no_change : Shallow → Bool
 is_no_change depth.NoChange = true
 is_no_change (depth.DepthAtRemote n) = false
@@ -120,9 +132,11 @@ is_no_change (depth.Exclude names cutoff) = false
 abbrev pub is_border_needed : IdSet → Shallow → Bool
 is_border_needed border shallow = not (is_nil (ids_of border)) || not (is_no_change shallow)
 
+-- whether a border or a depth is to be sent
 abbrev pub needs_shallow : TermsValue → Bool
 needs_shallow t = is_border_needed t.view.border t.shallow
 
+-- a feature that isn't offered
 abbrev pub lacks : Bool → List ℕ → Option Error
 lacks offered name = if offered then None else Some (errors.Fetch (wire.MissingFeature name))
 
@@ -133,6 +147,7 @@ lacked h border_needed =
     option_or (lacks (fetches plain_pack h || fetches plain_pack_2 h) plain_pack)
     (lacks (not border_needed || fetches shallow_feature h) shallow_feature))
 
+-- the first feature that the server lacks
 abbrev pub lacking : TermsValue → Option Error
 lacking t = lacked t.listed.handshake (needs_shallow t)
 
@@ -146,6 +161,7 @@ with_pack n c = record { negotiate = record { rounds = n.rounds }; objects = c.o
 abbrev pub without_pack : Negotiated → Received
 without_pack n = record { negotiate = record { rounds = n.rounds }; objects = []; shallow = n.reply.shallow; unshallow = n.reply.unshallow; pack = None }
 
+-- what a pack brings, or why it can't be read
 abbrev pub unpacked : Negotiated → Result Contents PackError → Result (Option Received) Error
 unpacked n (Ok c) = Ok (Some (with_pack n c))
 unpacked n (Err e) = Err (fetch_of_pack e)
@@ -165,6 +181,7 @@ abbrev pub rejected : Settings → View → Shallow → FetchReply → Option Er
 rejected settings view shallow reply =
     if is_rejecting (rejects_shallow_of settings.config) && is_no_change shallow then option_map (λ id. errors.RejectShallowRemote id) (first_outside view.border reply.shallow) else None
 
+-- this refusal, where there is one
 abbrev pub result_unless : {X E : Type 0} → Option E → Result X E → Result X E
 result_unless None r = r
 result_unless (Some e) r = Err e
@@ -184,6 +201,7 @@ abbrev pub algorithm_told : Result Algorithm (List ℕ) → Algorithm
 algorithm_told (Ok algorithm) = algorithm
 algorithm_told (Err value) = algorithms.Consecutive
 
+-- the algorithm of the settings
 abbrev pub algorithm_in : Settings → Algorithm
 algorithm_in s = algorithm_told (algorithm_of_config s.config s.lenient)
 

@@ -28,7 +28,7 @@ use Rattle.fetch_conversation.specs.declared.rounds.Course.{Course}
 abbrev pub terms_told : ListedValue → Terms → TermsValue
 terms_told l t = record { listed = l; settings = t.settings.now; view = t.view.now; tags = t.tags; shallow = t.shallow.now; dry_run = t.dry_run }
 
--- a refusal is told, or want of memory in its place; where there is none, nothing is refused
+-- a refusal is told, or out of memory in its place; where there is none, nothing is refused
 abbrev pub Tells : {T : Type 0} → Option Error → Result T Error → Type 0
 Tells None (Ok x) = ⊤
 Tells None (Err e) = e ≡ errors.NoMemory
@@ -72,6 +72,7 @@ reply_of (Err e) reply = Err e
 
 -- ---- the rounds
 
+-- how far the rounds are, as a value
 abbrev pub course_of : Course → CourseValue
 course_of c = record { so_far = so_far_of c.negotiator; shared = c.shared.items; rounds = c.rounds; size = c.size }
 

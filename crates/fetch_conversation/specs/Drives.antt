@@ -54,13 +54,13 @@ pub record Finishes (answers : Bool) (old new : Option Talk) (s now : SessionSta
 abbrev pub Refuses : Option Talk → SessionState → WireError → Type 0
 Refuses now s e = (s.trouble ≡ Some e) ⊎ (IsDrained now × (s.trouble ≡ None) × ((ended s).trouble ≡ Some e))
 
--- A refusal that isn't want of memory is that of the session, and all that is to be sent was heard.
+-- A refusal that isn't out of memory is that of the session, and all that is to be sent was heard.
 abbrev pub Explains : Option Talk → List ℕ → SessionState → Stop → Type 0
 Explains now heard s (stops.Refused e) = e ≢ wire.NoMemory → (heard ≡ s.outgoing) × Refuses now s e
 Explains now heard s stops.Failed = ⊤
 Explains now heard s stops.Interrupted = ⊤
 
--- It broke off, and the peer heard a front of what is to be sent to one who says this.
+-- It broke off, and the peer heard a prefix of what is to be sent to one who says this.
 pub record Stops (answers : Bool) (old new : Option Talk) (s : SessionState) (e : Stop) : Type 0 where
   pub heard : List ℕ
   pub said : List ℕ
@@ -69,6 +69,7 @@ pub record Stops (answers : Bool) (old new : Option Talk) (s : SessionState) (e 
   pub front : IsFront heard (fed s said).outgoing
   pub why : Explains new heard (fed s said) e
 
+-- What driving a session gives: it is idle, or where it stopped.
 abbrev pub Drives : {T : Type 0} → Bool → Option Talk → Option Talk → SessionState → SessionState → Result T Stop → Type 0
 Drives answers old new s now (Ok x) = Finishes answers old new s now
 Drives answers old new s now (Err e) = Stops answers old new s e
@@ -86,7 +87,7 @@ pub record IsDriven {T : Type 0} (answers : Bool) (old new : Option Talk) (s now
 
 -- ---- one step
 
--- a fault of the peer, or want of memory
+-- a fault of the peer, or out of memory
 abbrev pub IsUnsent : Stop → Type 0
 IsUnsent (stops.Refused e) = e ≡ wire.NoMemory
 IsUnsent stops.Failed = ⊤

@@ -15,12 +15,14 @@ use Rattle.fetch_conversation.specs.declared.prepare.Error.TheVariants as prepar
 use Rattle.fetch_conversation.specs.declared.ref_map.Error.{Error as RefMapError}
 use Rattle.fetch_conversation.specs.declared.ref_map.Error.TheVariants as ref_map
 
--- ---- an inner refusal; want of memory stays what it is
+-- ---- an inner refusal; out of memory stays what it is
 
+-- a refusal of the mapping, as one of the preparation
 abbrev pub prepare_of : RefMapError → PrepareError
 prepare_of ref_map.NoMemory = prepare.NoMemory
 prepare_of e = prepare.RefMap e
 
+-- a refusal of the wire, as one of the fetch
 abbrev pub fetch_of_wire : WireError → ReceiveError
 fetch_of_wire wire.NoMemory = fetch.NoMemory
 fetch_of_wire e = fetch.Fetch e
@@ -31,21 +33,25 @@ fetch_of_pack pack.NoMemory = fetch.NoMemory
 fetch_of_pack (pack.Collision id) = fetch.Collision id
 fetch_of_pack e = fetch.Pack e
 
+-- a refusal of the policy, as one of the fetch
 abbrev pub fetch_of_update : UpdateError → ReceiveError
 fetch_of_update update.NoMemory = fetch.NoMemory
 fetch_of_update e = fetch.UpdateRefs e
 
+-- a refusal of the wire, as one of the preparation
 abbrev pub prepare_of_wire : WireError → PrepareError
 prepare_of_wire wire.NoMemory = prepare.NoMemory
 prepare_of_wire e = prepare.RefMap (ref_map.Handshake e)
 
 -- ---- why a session was driven no further
 
+-- why a session stopped, as a refusal of the preparation
 abbrev pub prepare_of_stop : Stop → PrepareError
 prepare_of_stop (stops.Refused e) = prepare_of_wire e
 prepare_of_stop stops.Failed = prepare.RefMap ref_map.Transport
 prepare_of_stop stops.Interrupted = prepare.RefMap ref_map.Interrupted
 
+-- why a session stopped, as a refusal of the fetch
 abbrev pub fetch_of_stop : Stop → ReceiveError
 fetch_of_stop (stops.Refused e) = fetch_of_wire e
 fetch_of_stop stops.Failed = fetch.Client
@@ -67,6 +73,7 @@ is_transport_map ref_map.Interrupted = false
 is_transport_map (ref_map.InitRefMap conflicts) = false
 is_transport_map ref_map.NoMemory = false
 
+-- whether the peer failed while references were listed
 abbrev pub is_transport : PrepareError → Bool
 is_transport prepare.MissingRefSpecs = false
 is_transport (prepare.RefMap e) = is_transport_map e
@@ -80,12 +87,13 @@ is_interrupted_map ref_map.Interrupted = true
 is_interrupted_map (ref_map.InitRefMap conflicts) = false
 is_interrupted_map ref_map.NoMemory = false
 
+-- whether the interrupt said yes while references were listed
 abbrev pub is_interrupted : PrepareError → Bool
 is_interrupted prepare.MissingRefSpecs = false
 is_interrupted (prepare.RefMap e) = is_interrupted_map e
 is_interrupted prepare.NoMemory = false
 
--- A free refusal has no cause in the conversation: want of memory has none at all, and a fault and a yes have a count.
+-- A free refusal has no cause in the conversation: out of memory has none at all, and a fault and a yes have a count.
 abbrev pub is_free_map : RefMapError → Bool
 is_free_map (ref_map.Handshake e) = false
 is_free_map ref_map.Transport = true
@@ -93,6 +101,7 @@ is_free_map ref_map.Interrupted = true
 is_free_map (ref_map.InitRefMap conflicts) = false
 is_free_map ref_map.NoMemory = false
 
+-- whether a refusal of the preparation is a free one
 abbrev pub is_free_listing : PrepareError → Bool
 is_free_listing prepare.MissingRefSpecs = false
 is_free_listing (prepare.RefMap e) = is_free_map e
@@ -149,7 +158,7 @@ is_stopped (fetch.UpdateRefs e) = false
 is_stopped (fetch.RemovePackKeepFile path) = false
 is_stopped fetch.NoMemory = false
 
--- A free refusal has no cause in the conversation: want of memory has none at all, and a fault and a yes have a count.
+-- A free refusal has no cause in the conversation: out of memory has none at all, and a fault and a yes have a count.
 abbrev pub is_free_receiving : ReceiveError → Bool
 is_free_receiving fetch.Client = true
 is_free_receiving fetch.Interrupted = true

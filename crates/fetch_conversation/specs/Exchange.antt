@@ -39,6 +39,7 @@ asked_by t = record { handshake = t.listed.handshake; agent = agent_of t.setting
 abbrev pub haves_told : List ObjectId → List ObjectId → List ObjectId
 haves_told shared window = firsts shared ++ window
 
+-- a line of the request is too long
 abbrev pub too_long : ℕ → Error
 too_long length = errors.Fetch (wire.LineTooLong length)
 
@@ -50,6 +51,7 @@ failed bound fault = errors.Fetch (error_of bound fault)
 abbrev pub other_reply : Error
 other_reply = errors.Fetch (wire.Malformed 0)
 
+-- the reply to a fetch request
 abbrev pub replied : Told → Conversation FetchReply Error
 replied (told.Reply reply) = ends (Ok reply)
 replied (told.Greeting h) = ends (Err other_reply)

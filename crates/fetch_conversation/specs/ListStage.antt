@@ -48,14 +48,16 @@ pub record ListedValue : Type 0 where
 
 -- ---- refspecs
 
+-- refspecs with this one at the end, unless one is equal
 abbrev pub with_spec : Option Spec → List Spec → List Spec
 with_spec None extra = extra
 with_spec (Some spec) extra = if list_any is_tag_spec extra then extra else extra ++ spec ∷ []
 
--- the extra refspecs, and the one of the tags behind them where tags are taken and it isn't among them
+-- the extra refspecs, and the one of the tags after them where tags are taken and it isn't among them
 abbrev pub with_tags : Tags → List Spec → List Spec
 with_tags tags extra = with_spec (tag_spec_of tags) extra
 
+-- the extra refspecs of an inquiry, with that of the tags
 abbrev pub extra_specs : InquiryValue → List Spec
 extra_specs q = with_tags q.tags q.options.extra_refspecs
 
@@ -69,6 +71,7 @@ prefixes_asked q = if q.options.prefix_from_spec_as_filter_on_remote then prefix
 
 -- ---- refusals before anything is sent
 
+-- whether a list is empty
 abbrev pub is_nil : {X : Type 0} → List X → Bool
 is_nil [] = true
 is_nil (x ∷ xs) = false
@@ -77,6 +80,7 @@ is_nil (x ∷ xs) = false
 abbrev pub handshaking : WireError → Error
 handshaking e = errors.RefMap (ref_map.Handshake e)
 
+-- a line of the listing request is too long
 abbrev pub too_long : ℕ → Error
 too_long length = handshaking (wire.LineTooLong length)
 
@@ -99,6 +103,7 @@ abbrev pub unless : {X E : Type 0} → Option E → Conversation X E → Convers
 unless None c = c
 unless (Some e) c = ends (Err e)
 
+-- the references with what they are mapped to
 abbrev pub map_of : InquiryValue → Handshake → List Ref → RefMap
 map_of q h refs = record {
   mappings = ref_mappings (length q.specs) (all_specs q) h.object_hash refs;
@@ -108,6 +113,7 @@ map_of q h refs = record {
   object_hash = h.object_hash;
 }
 
+-- what is listed, unless destinations have two sources
 abbrev pub mapped_unless : List Conflict → InquiryValue → Handshake → List Ref → Result ListedValue Error
 mapped_unless [] q h refs = Ok (record { ref_map = map_of q h refs; handshake = h })
 mapped_unless (c ∷ cs) q h refs = Err (errors.RefMap (ref_map.InitRefMap (c ∷ cs)))
@@ -120,6 +126,7 @@ mapped q h refs = mapped_unless (conflicts_of (mappings_of (all_specs q) (map na
 abbrev pub other_reply : Error
 other_reply = handshaking (wire.Malformed 0)
 
+-- the end of the stage, by what the listing tells
 abbrev pub listed : InquiryValue → Handshake → Told → Conversation ListedValue Error
 listed q h (told.Listing refs) = ends (mapped q h refs)
 listed q h (told.Greeting other) = ends (Err other_reply)
@@ -154,9 +161,11 @@ list_stage bound q = unless (no_specs q) (inquiry_stage bound q)
 
 -- ---- what the call answers
 
+-- what was listed, without the conversation
 abbrev pub shown : Listed → ListedValue
 shown l = record { ref_map = l.ref_map; handshake = l.handshake }
 
+-- the same, of an answer
 abbrev pub answer_shown : Result Listed Error → Result ListedValue Error
 answer_shown (Ok l) = Ok (shown l)
 answer_shown (Err e) = Err e
@@ -165,6 +174,7 @@ answer_shown (Err e) = Err e
 abbrev pub pending_of : Listed → List ℕ
 pending_of l = l.session.intake.pending
 
+-- what was received and isn't read yet
 abbrev pub left_by : Result Listed Error → List ℕ
 left_by (Ok l) = pending_of l
 left_by (Err e) = []

@@ -17,6 +17,7 @@ use Rattle.fetch_conversation.specs.declared.prepare.Error.{Error}
 use Rattle.fetch_conversation.specs.declared.ref_map.Error.{Error as MapError}
 use Rattle.fetch_conversation.specs.declared.ref_map.Error.TheVariants as ref_map
 
+-- the first line of an inquiry
 abbrev pub first_of : InquiryValue → Line
 first_of q = first_line q.address q.options.handshake_parameters
 
@@ -36,13 +37,13 @@ found_in q None refs = Err other_reply
 found_in q (Some h) None = Err other_reply
 found_in q (Some h) (Some refs) = mapped q h refs
 
--- why they aren't there: none tells it, but for want of memory
+-- why they aren't there: none tells it, except out of memory
 abbrev pub TellsUntold : Option Handshake → Option (List Ref) → WireError → Type 0
 TellsUntold None refs e = e ≢ wire.NoMemory → e ≡ wire.Malformed 0
 TellsUntold (Some h) None e = e ≢ wire.NoMemory → e ≡ wire.Malformed 0
 TellsUntold (Some h) (Some refs) e = e ≡ wire.NoMemory
 
--- these conflicts are told, or want of memory
+-- these conflicts are told, or out of memory
 abbrev pub TellsConflicts : List Conflict → MapError → Type 0
 TellsConflicts found (ref_map.Handshake e) = ⊥
 TellsConflicts found ref_map.Transport = ⊥

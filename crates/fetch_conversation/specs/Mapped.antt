@@ -25,9 +25,10 @@ taken_by refs (matched.FullName name) index = option_map sources.Ref (option_and
 abbrev pub index_among : ℕ → ℕ → SpecIndex
 index_among remote index = if nat_lt index remote then ExplicitInRemote index else Implicit (index - remote)
 
+-- the mapping that a match makes
 abbrev pub mapping_by : ℕ → List Ref → Match → Option Mapping
 mapping_by remote refs m = option_map (λ source. record { remote = source; local = m.rhs; spec_index = index_among remote m.spec_index }) (taken_by refs m.lhs m.item_index)
 
--- the mappings of what is listed, by refspecs of which so many are the remote's
+-- the mappings of what is listed, by refspecs of which that many are the remote's
 unfoldable pub ref_mappings : ℕ → List Spec → Kind → List Ref → List Mapping
 ref_mappings remote specs kind refs = filter_map (mapping_by remote refs) (mappings_of specs (map name_in refs) kind)

@@ -44,6 +44,7 @@ agent_of config = unwrap_or (last_of (explicit (agents_in config))) (codes "oxid
 unfoldable pub rejections_in : Contents → List (Option (List ℕ))
 rejections_in config = values_of (codes "clone") None (codes "rejectShallow") true config.sections
 
+-- what the setting says, or its value where it can't be read
 abbrev pub rejects_by : Option (Result Bool Unreadable) → List ℕ → Result Bool (List ℕ)
 rejects_by None told = Ok false
 rejects_by (Some (Ok rejects)) told = Ok rejects
@@ -59,6 +60,7 @@ rejects_shallow_of config = rejects_by (boolean_of (rejections_in config)) (last
 unfoldable pub algorithms_in : Contents → List (Option (List ℕ))
 algorithms_in config = values_of (codes "fetch") None (codes "negotiationAlgorithm") false config.sections
 
+-- the algorithm that has this name
 abbrev pub algorithm_named : List ℕ → Option Algorithm
 algorithm_named name =
     if bytes_eq name (codes "noop") then Some algorithms.Noop
@@ -67,10 +69,12 @@ algorithm_named name =
     else if bytes_eq name (codes "skipping") then Some algorithms.Skipping
     else None
 
+-- the algorithm, or what a name that is none gives
 abbrev pub algorithm_or : Bool → List ℕ → Option Algorithm → Result Algorithm (List ℕ)
 algorithm_or lenient name (Some algorithm) = Ok algorithm
 algorithm_or lenient name None = unread lenient algorithms.Consecutive name
 
+-- the algorithm of a value, or the one that stands without it
 abbrev pub algorithm_by : Bool → Option (List ℕ) → Result Algorithm (List ℕ)
 algorithm_by lenient None = Ok algorithms.Consecutive
 algorithm_by lenient (Some name) = algorithm_or lenient name (algorithm_named name)

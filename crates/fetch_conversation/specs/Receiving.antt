@@ -2,7 +2,7 @@
 use Rattle.std.specs.Prelude.{◌≡◌, ℕ, ◌+◌, ◌<◌, Bool, length, Option, Some, None, Result, Ok, Err, ⊤, if◌then◌else◌}
 use Rattle.fetch_wire.specs.Talks.{Talk}
 
--- so many receives were made, where it is told
+-- that many receives were made, where it is told
 abbrev pub HasReceived : ℕ → Option Talk → Option Talk → Type 0
 HasReceived n None now = ⊤
 HasReceived n (Some a) None = ⊥

@@ -26,6 +26,7 @@ pub record CourseValue : Type 0 where
 abbrev pub first_course : Algorithm → View → CourseValue
 first_course algorithm view = record { so_far = begun algorithm view.tips view.border; shared = []; rounds = []; size = first_size }
 
+-- the window of the next round
 abbrev pub next_window : Graph → Algorithm → CourseValue → Window
 next_window g algorithm c = window_of g algorithm c.size c.so_far
 
@@ -37,6 +38,7 @@ is_short c w = nat_lt (length w.haves) c.size
 abbrev pub round_of : CourseValue → Window → FetchReply → Round
 round_of c w reply = record { haves = w.haves; acknowledged = reply.acknowledged; done = is_short c w }
 
+-- the rounds with this one at the end
 abbrev pub rounds_with : CourseValue → Window → FetchReply → List Round
 rounds_with c w reply = c.rounds ++ round_of c w reply ∷ []
 
@@ -58,7 +60,7 @@ pub record Negotiated : Type 0 where
 abbrev pub is_end : CourseValue → Window → FetchReply → Bool
 is_end c w reply = is_short c w || reply.last
 
--- So many rounds at most, from here on. They are never used up where they are more than the stored objects.
+-- That many rounds at most, from here on. They are never used up where they are more than the stored objects.
 unfoldable pub negotiating : ℕ → ℕ → TermsValue → Graph → Algorithm → CourseValue → Conversation Negotiated Error
 negotiating zero bound t g algorithm c = ends (Err other_reply)
 negotiating (suc more) bound t g algorithm c =

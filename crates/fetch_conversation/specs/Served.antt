@@ -25,6 +25,7 @@ AsksOnly is_request (asks lines awaited failed next) = IsTrue (is_request lines)
 abbrev pub requests_text : List (List Line) → List ℕ
 requests_text requests = flat_map lines_text requests
 
+-- Each of these is a request.
 abbrev pub AreRequests : (List Line → Bool) → List (List Line) → Type 0
 AreRequests is_request requests = AllByRecursion (λ lines. IsTrue (is_request lines)) requests
 
@@ -45,6 +46,7 @@ abbrev pub IsReadWhole : {X E : Type 0} → (Told → Type 0) → (Told → Conv
 IsReadWhole again next (Err fault) = (place : ℕ) → fault ≢ Short place
 IsReadWhole again next (Ok x) = ((x.1 ≡ []) × again x.0) ⊎ IsOver (next x.0)
 
+-- Each request of the conversation is answered by a whole reply.
 unfoldable pub IsAnswered : {X E : Type 0} → ℕ → (List Line → List ℕ) → Conversation X E → Type 0
 IsAnswered bound serve (ends answer) = ⊤
 IsAnswered bound serve (asks lines awaited failed next) = IsReadWhole (λ told. IsAnswered bound serve (next told)) next (told_at bound awaited (serve lines))

@@ -37,7 +37,7 @@ pub record AreWithin (bound : ℕ) (lines : List Line) : Type 0 where
 
 -- ---- the references
 
--- The inquiry has refspecs, and nothing of it is refused before or behind this greeting.
+-- The inquiry has refspecs, and nothing of it is refused before or after this greeting.
 pub record IsAskable (q : InquiryValue) (h : Handshake) : Type 0 where
   pub some : no_specs q ≡ None
   pub sendable : unsendable q ≡ None
@@ -94,6 +94,7 @@ MayBe asked (readies ids change bands) = (asked.done ≡ false) × AreHaves aske
 abbrev pub asked_in : TermsValue → Graph → Algorithm → CourseValue → AskedReply
 asked_in t g algorithm c = let w = next_window g algorithm c in reply_to t (haves_told c.shared w.haves) (is_short c w)
 
+-- the request of the next round
 abbrev pub request_in : TermsValue → Graph → Algorithm → CourseValue → List Line
 request_in t g algorithm c = let w = next_window g algorithm c in fetch_request (asked_by t) (haves_told c.shared w.haves) (is_short c w)
 
@@ -103,6 +104,7 @@ pub record AnswersRound (bound : ℕ) (t : TermsValue) (g : Graph) (algorithm : 
   pub answer : MayBe (asked_in t g algorithm c) a
   pub written : AreWithin bound (lines_of a)
 
+-- the course after a round with this answer
 abbrev pub after : Graph → Algorithm → CourseValue → Answer → CourseValue
 after g algorithm c a = course_after algorithm c (next_window g algorithm c) (reply_of a)
 
@@ -117,6 +119,7 @@ abbrev pub negotiated_by : Graph → Algorithm → CourseValue → Answer → Li
 negotiated_by g algorithm c a [] = record { rounds = rounds_with c (next_window g algorithm c) (reply_of a); reply = reply_of a }
 negotiated_by g algorithm c a (b ∷ answers) = negotiated_by g algorithm (after g algorithm c a) b answers
 
+-- what a server writes in these rounds
 abbrev pub answers_text : Answer → List Answer → List ℕ
 answers_text a [] = lines_text (lines_of a)
 answers_text a (b ∷ answers) = lines_text (lines_of a) ++ answers_text b answers

@@ -28,7 +28,7 @@ pub(crate) fn copied_specs(alloc: Global, specs: &[RefSpec]) -> Result<Vec<RefSp
     Ok(copies)
 }
 
-/// The refspecs of the remote, and the extra ones behind them.
+/// The refspecs of the remote, and the extra ones after them.
 pub(crate) fn joined_specs(
     alloc: Global,
     own: &[RefSpec],

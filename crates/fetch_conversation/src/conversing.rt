@@ -33,7 +33,7 @@ use std::thread::Threads;
 pub struct View {
     /// What is asked for.
     pub wants: List<ObjectId>,
-    /// The commits whose parents are left aside.
+    /// The commits whose parents are left out.
     pub border: Border,
     /// The commits that its references lead to.
     pub tips: List<ObjectId>,
@@ -55,10 +55,13 @@ impl View {
 /// What was received: the rounds, the objects of the pack, the changes of the border, and the pack's count and digest.
 #[derive(Debug, Drop)]
 pub struct Received {
+    /// The rounds that were held, one for each request.
     pub negotiate: Negotiate,
     /// Each once, under the hash of its text. None in a dry run.
     pub objects: List<(ObjectId, Object)>,
+    /// The ids of the reply's `shallow` lines, in order: commits that join the border.
     pub shallow: List<ObjectId>,
+    /// The ids of its `unshallow` lines, in order: commits that leave the border.
     pub unshallow: List<ObjectId>,
     /// How many objects the pack has, each as often as it comes, and its digest. None in a dry run.
     pub pack: Option<(u32, ObjectId)>,
@@ -85,8 +88,11 @@ impl Received {
 /// What a pack is asked for by, lent. Who asks, and with how many threads the pack is read, the settings say.
 #[derive(Clone, Copy)]
 pub struct Terms<'a> {
+    /// What is read of the repository: its hash, and its configuration with agent and algorithm.
     pub settings: &'a Settings,
+    /// What is wanted, with the repository's border and tips.
     pub view: &'a View,
+    /// What is done with tags: `include-tag` is sent for `Included` alone.
     pub tags: Tags,
     /// How the depth of the history is to change.
     pub shallow: &'a Shallow,
@@ -107,7 +113,10 @@ fn refuse(alloc: Global, listed: &Listed, terms: &Terms<'_>) -> Result<(), fetch
 }
 
 /// Asks for the pack of what is wanted, in rounds that tell which commits are there, and reads it. Where nothing is
-/// wanted, nothing is sent. The interrupt is asked once before each receive.
+/// wanted, nothing is sent. The interrupt is asked once before each receive. Before anything is sent `NoMapping`,
+/// `IncompatibleObjectHash`, a setting that can't be read and what the server lacks are refused, in this order.
+/// `Client` comes only where the peer's faults rose, and `Interrupted` only where the interrupt said yes.
+// Many arguments: each is lent by itself, so that a clause speaks of each before and after the call.
 pub fn converse<R: Threads + Sync, P: Peer, I: Interrupt, Q: Progress, O: Objects>(
     rt: &R,
     alloc: Global,

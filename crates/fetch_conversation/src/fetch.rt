@@ -23,27 +23,33 @@ pub enum Error {
     /// Repository and server name objects by different hashes.
     #[error("the server's hash is another than the repository's")]
     IncompatibleObjectHash {
+        /// The repository's hash.
         local: Kind,
+        /// The hash that the greeting names, SHA-1 where it names none.
         remote: Kind,
     },
     /// With the pack, this link would lead to what isn't stored.
     #[error("what was received isn't connected")]
     Disconnected {
+        /// The first missing link.
         link: Missing,
     },
     /// `clone.rejectShallow` is no truth value.
     #[error("clone.rejectShallow is no truth value: {value:?}")]
     RejectShallowRemoteConfig {
+        /// The value that can't be read, as its entry has it.
         value: Text,
     },
     /// `fetch.negotiationAlgorithm` is none that is known.
     #[error("fetch.negotiationAlgorithm is unknown: {value:?}")]
     NegotiationAlgorithmConfig {
+        /// The value that can't be read, as its entry has it.
         value: Text,
     },
     /// `pack.threads` is no number of threads.
     #[error("pack.threads is no number of threads: {value:?}")]
     PackThreads {
+        /// The value that can't be read, empty for an entry without a value.
         value: Text,
     },
     /// What was to be sent doesn't fit, or the server breaks the protocol, refuses, or lacks a feature.
@@ -58,6 +64,7 @@ pub enum Error {
     /// The server's history is cut off at this commit, and the settings refuse that.
     #[error("the server's history is shallow")]
     RejectShallowRemote {
+        /// The first commit of the reply's `shallow` lines that is not in the border found.
         id: ObjectId,
     },
     /// The pack isn't one.
@@ -66,11 +73,13 @@ pub enum Error {
     /// An object of the pack has the id of another object, of the pack or of the repository.
     #[error("an id has two objects")]
     Collision {
+        /// The first such id, in the order of the pack.
         id: ObjectId,
     },
     /// The file that keeps the pack couldn't be made.
     #[error("the keep file {path:?} couldn't be made")]
     KeepFile {
+        /// Where it was to be: `objects/pack/pack-<digest>.keep` in the git directory.
         path: Text,
     },
     /// The mapped references couldn't be judged.
@@ -79,6 +88,7 @@ pub enum Error {
     /// The references have moved, and the file that keeps the pack couldn't be removed.
     #[error("the keep file {path:?} couldn't be removed")]
     RemovePackKeepFile {
+        /// Where it still is: `objects/pack/pack-<digest>.keep` in the git directory.
         path: Text,
     },
     /// Memory ran out.
@@ -141,7 +151,7 @@ impl Error {
     }
 }
 
-/// Want of memory stays want of memory, and a collision is told by itself.
+/// Out of memory stays out of memory, and a collision is told by itself.
 impl From<PackError> for Error {
     ghost use Rattle.std.specs.Prelude.{◌≡◌};
     ghost use Rattle.fetch_conversation.specs.Errors.{fetch_of_pack};
@@ -157,7 +167,7 @@ impl From<PackError> for Error {
     }
 }
 
-/// Want of memory stays want of memory.
+/// Out of memory stays out of memory.
 impl From<WireError> for Error {
     ghost use Rattle.std.specs.Prelude.{◌≡◌};
     ghost use Rattle.fetch_conversation.specs.Errors.{fetch_of_wire};
@@ -172,7 +182,7 @@ impl From<WireError> for Error {
     }
 }
 
-/// Want of memory stays want of memory.
+/// Out of memory stays out of memory.
 impl From<update::Error> for Error {
     ghost use Rattle.std.specs.Prelude.{◌≡◌};
     ghost use Rattle.fetch_conversation.specs.Errors.{fetch_of_update};

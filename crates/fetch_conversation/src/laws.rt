@@ -42,7 +42,7 @@ pub fn requests_tell_rounds()
         → answer_in bound (converse_stage bound g t) stream ≡ Ok (Some r, rest) → TellsRounds g t (sent_in bound (converse_stage bound g t) stream) r.negotiate.rounds }
 {}
 
-/// So many rounds as there are stored objects, and one, are never used up: were more allowed, the same would be sent and
+/// As many rounds as there are stored objects, and one, are never used up: were more allowed, the same would be sent and
 /// answered.
 pub fn rounds_are_never_used_up()
     ensures sent { (bound more : ℕ) (t : TermsValue) (g : Graph) (algorithm : Algorithm) (view : View) (stream : List ℕ)
@@ -51,8 +51,8 @@ pub fn rounds_are_never_used_up()
         → answer_in bound (negotiating (suc (map.len g) + more) bound t g algorithm (first_course algorithm view)) stream ≡ answer_in bound (negotiating (suc (map.len g)) bound t g algorithm (first_course algorithm view)) stream }
 {}
 
-/// What a server writes is heard to its end: its greeting and its references are listed, and its answers to the requests
-/// bring the pack, whatever comes behind.
+/// What a server writes is read to its end: its greeting and its references are listed, and its answers to the requests
+/// bring the pack, whatever comes after.
 pub fn what_a_server_writes_is_heard()
     ensures listed { (bound : ℕ) (q : InquiryValue) (capabilities : List Capability) (refs : List Ref) (rest : List ℕ) → IsAskable q (handshake_of capabilities) → IsListing bound q capabilities refs
         → answer_in bound (list_stage bound q) (listing_text capabilities refs ++ rest) ≡ Ok (record { ref_map = map_of q (handshake_of capabilities) refs; handshake = handshake_of capabilities }, rest) }

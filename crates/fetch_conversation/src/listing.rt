@@ -38,8 +38,11 @@ pub struct Inquiry<'a> {
 /// A remote whose references are listed and mapped, with the conversation that goes on.
 #[derive(Drop)]
 pub struct Listed {
+    /// The conversation, with no request under way.
     pub session: Session,
+    /// The references listed, and what they are mapped to.
     pub ref_map: RefMap,
+    /// What the greeting said.
     pub handshake: Handshake,
 }
 
@@ -129,8 +132,9 @@ fn names_none(inquiry: &Inquiry<'_>, options: &Options) -> bool
     are_none(inquiry.specs) && are_none(options.extra_refspecs.as_slice())
 }
 
-/// Asks for the greeting, then for the listing, and maps what is listed, also where no refspec is named. The interrupt is
-/// asked once before each receive.
+/// Asks for the greeting, then for the listing, and maps what is listed, also where no refspec is named. The interrupt
+/// is asked once before each receive. `Transport` comes only where the peer's faults rose, and `Interrupted` only where
+/// the interrupt said yes; two sources of one destination are refused last.
 pub fn inquire<P: Peer, I: Interrupt>(
     alloc: Global,
     inquiry: &Inquiry<'_>,
@@ -156,7 +160,8 @@ pub fn inquire<P: Peer, I: Interrupt>(
     map_listed(alloc, inquiry, &options, session, extra, &specs)
 }
 
-/// The same, where the remote or the options name a refspec.
+/// The same, where the remote or the options name a refspec. Where neither does, `MissingRefSpecs` comes before
+/// anything is sent.
 pub fn list<P: Peer, I: Interrupt>(
     alloc: Global,
     inquiry: &Inquiry<'_>,

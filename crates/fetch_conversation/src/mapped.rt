@@ -14,7 +14,7 @@ use fetch_store::{Kind, List, NoMemory, Text};
 use fetch_wire::{Mapping, Ref, Source, SpecIndex};
 use std::alloc::Global;
 
-/// The mappings of what is listed, by refspecs of which so many are the remote's, and the others extra ones.
+/// The mappings of what is listed, by refspecs of which that many are the remote's, and the others extra ones.
 /// Two different sources may not lead to one destination.
 #[tactic(auto, unfolding(crate::specs::Mapped::ref_mappings))]
 pub(crate) fn map_refs(

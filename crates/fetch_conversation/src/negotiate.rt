@@ -8,6 +8,7 @@ use fetch_store::{List, NoMemory};
 /// What was said of what is there: one round a request.
 #[derive(Debug, Drop)]
 pub struct Negotiate {
+    /// One for each request that was sent, in order.
     pub rounds: List<Round>,
 }
 

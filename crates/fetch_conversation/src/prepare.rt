@@ -46,7 +46,7 @@ impl Error {
     }
 }
 
-/// Want of memory stays want of memory.
+/// Out of memory stays out of memory.
 impl From<ref_map::Error> for Error {
     ghost use Rattle.std.specs.Prelude.{◌≡◌};
     ghost use Rattle.fetch_conversation.specs.Errors.{prepare_of};
@@ -72,7 +72,7 @@ impl From<NoMemory> for Error {
     }
 }
 
-/// Want of memory stays want of memory.
+/// Out of memory stays out of memory.
 impl From<WireError> for Error {
     ghost use Rattle.std.specs.Prelude.{◌≡◌};
     ghost use Rattle.fetch_conversation.specs.Errors.{prepare_of_wire};

@@ -28,7 +28,7 @@ pub fn agent(settings: &Settings) -> &[u8]
 }
 
 /// Whether a server with a border of its own is refused: `clone.rejectShallow` of trusted sections. Leniency doesn't
-/// cover it.
+/// cover it. An error is the value that is no truth value.
 #[tactic(auto, unfolding(crate::specs::ReadSettings::rejects_shallow_of, crate::specs::ReadSettings::rejections_in))]
 pub fn rejects_shallow(settings: &Settings) -> Result<bool, &[u8]>
     ensures { told_by result ≡ spec.rejects_shallow_of settings.now.config }
@@ -48,7 +48,7 @@ pub fn rejects_shallow(settings: &Settings) -> Result<bool, &[u8]>
 }
 
 /// How commits are chosen for the haves: `fetch.negotiationAlgorithm`. A lenient repository takes a name that is none
-/// as absent.
+/// as absent. An error is the name that is none.
 #[tactic(auto, unfolding(crate::specs::ReadSettings::algorithm_of_config, crate::specs::ReadSettings::algorithms_in))]
 pub fn algorithm(settings: &Settings) -> Result<Algorithm, &[u8]>
     ensures { told_by result ≡ spec.algorithm_of_config settings.now.config settings.now.lenient }
@@ -65,8 +65,8 @@ pub fn algorithm(settings: &Settings) -> Result<Algorithm, &[u8]>
     }
 }
 
-/// How many threads read a pack: `pack.threads` of trusted sections. 0 is None. A lenient repository takes a value
-/// that can't be read, or is below 0, as absent.
+/// How many threads read a pack: `pack.threads` of trusted sections. 0 is None. A lenient repository takes a value that
+/// can't be read, or is below 0, as absent. An error is that value.
 #[tactic(auto, unfolding(crate::specs::ReadSettings::threads_of, crate::specs::ReadSettings::threads_in))]
 pub fn threads(settings: &Settings) -> Result<Option<usize>, &[u8]>
     ensures { told_by result ≡ spec.threads_of settings.now.config settings.now.lenient }

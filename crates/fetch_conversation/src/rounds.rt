@@ -57,7 +57,7 @@ fn chosen(settings: &Settings) -> Algorithm
     }
 }
 
-/// How many commits the window behind one of this size may have.
+/// How many commits the window after one of this size may have.
 fn next_size(size: usize) -> usize
     ensures { result ≡ next_size size }
 {

@@ -16,6 +16,7 @@ pub struct Settings {
     pub config: File,
     /// Take a setting that can't be read as absent.
     pub lenient: bool,
+    /// The path of the git directory, as the repository was opened with it.
     pub git_dir: Text,
     /// Who writes the lines of reflogs.
     pub committer: Signature,

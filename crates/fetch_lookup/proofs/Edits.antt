@@ -32,7 +32,7 @@ edited-removed (suc i) [] = refl
 edited-removed zero (x ∷ xs) = refl
 edited-removed (suc i) (x ∷ xs) = ap (λ ys. x ∷ ys) (edited-removed i xs)
 
--- What is edited behind a place, and then at the place, is edited from the place on.
+-- What is edited after a place, and then at the place, is edited from the place on.
 pub edited-step : {A : Type 0} (i : ℕ) (f : A → List A) (xs : List A) → i < length xs → edited_at i f (take (suc i) xs ++ flat_map f (drop (suc i) xs)) ≡ take i xs ++ flat_map f (drop i xs)
 edited-step i f [] lt = absurd (omega arith)
 edited-step zero f (x ∷ xs) lt = refl
@@ -56,7 +56,7 @@ on_length (suc i) f [] = refl
 on_length zero f (x ∷ xs) = refl
 on_length (suc i) f (x ∷ xs) = ap suc (on_length i f xs)
 
--- an edit of the section behind the last
+-- an edit of the section after the last
 pub on-end : (f : Section → Section) (xs : List Section) (s : Section) → on_section (length xs) f (xs ++ s ∷ []) ≡ xs ++ f s ∷ []
 on-end f [] s = refl
 on-end f (x ∷ xs) s = ap (λ ys. x ∷ ys) (on-end f xs s)
@@ -66,7 +66,7 @@ two-by p q x xs true c e d rest = rw e rest
 two-by p q x xs false true e d rest = rw (e, d) rest
 two-by p q x xs false false e d rest = rw (e, d) (ap (λ ys. x ∷ ys) rest)
 
--- Two filters, one behind the other, are one.
+-- Two filters, one after the other, are one.
 pub two : {A : Type 0} (p q : A → Bool) (xs : List A) → filter (λ y. not (q y)) (filter (λ y. not (p y)) xs) ≡ filter (λ y. not (p y || q y)) xs
 two p q [] = refl
 two p q (x ∷ xs) = two-by p q x xs (p x) (q x) refl refl (two p q xs)

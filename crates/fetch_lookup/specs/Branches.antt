@@ -44,6 +44,7 @@ default_said text =
     else if bytes_eq text (codes "matching") then Some Matching
     else None
 
+-- out of memory
 abbrev pub is_memory : Error → Bool
 is_memory (Unknown value) = false
 is_memory NoMemory = true
@@ -54,6 +55,7 @@ default_or lenient text (Some choice) = Ok choice
 default_or true text None = Ok Simple
 default_or false text None = Err (Unknown text)
 
+-- the choice of a value, or the one that stands without it
 abbrev pub default_at : Bool → Option (List ℕ) → Result Default Error
 default_at lenient None = Ok Simple
 default_at lenient (Some text) = default_or lenient text (default_said text)

@@ -39,6 +39,7 @@ ill_formed_place text = if is_utf8 text then None else Some (utf8_valid_len text
 abbrev pub name_of : List ℕ → Option Name
 name_of text = if is_place text then Some (Url text) else if is_utf8 text then Some (Symbol text) else None
 
+-- the text of a name
 abbrev pub text_of : Name → List ℕ
 text_of (Symbol text) = text
 text_of (Url text) = text
@@ -48,6 +49,7 @@ abbrev pub symbol_of : Name → Option (List ℕ)
 symbol_of (Symbol text) = if_utf8 text
 symbol_of (Url text) = None
 
+-- the text of a name that is a place
 abbrev pub url_of : Name → Option (List ℕ)
 url_of (Symbol text) = None
 url_of (Url text) = Some text
@@ -70,6 +72,7 @@ abbrev pub IsNameRefusal : List ℕ → Error → Type 0
 IsNameRefusal name (Invalid source told) = (name_refusal name ≡ Some source) × (told ≡ name)
 IsNameRefusal name NoMemory = Unit {0}
 
+-- the order of texts, byte by byte
 abbrev pub text_cmp : List ℕ → List ℕ → Ordering
 text_cmp = slice_cmp nat_cmp
 
@@ -77,12 +80,15 @@ text_cmp = slice_cmp nat_cmp
 abbrev pub subsection_in : List ℕ → Section → List (List ℕ)
 subsection_in name s = if is_same_name s.name name && s.meta.trusted then option_to_list s.sub else []
 
+-- the subsections of trusted sections of this name
 abbrev pub subsections_of : List ℕ → List Section → List (List ℕ)
 subsections_of name sections = flat_map (subsection_in name) sections
 
+-- the name of a remote's sections
 unfoldable pub remote : List ℕ
 remote = codes "remote"
 
+-- the name of a branch's sections
 unfoldable pub branch : List ℕ
 branch = codes "branch"
 
@@ -98,6 +104,7 @@ branch_names_of sections = filter is_utf8 (ascending text_cmp (subsections_of br
 abbrev pub string_of : List Section → List ℕ → Option (List ℕ) → List ℕ → Bool → Option (List ℕ)
 string_of sections name sub key trusted_only = last_of (explicit (values_of name sub key trusted_only sections))
 
+-- the remote that is meant among several
 unfoldable pub origin : List ℕ
 origin = codes "origin"
 

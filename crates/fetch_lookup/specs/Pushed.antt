@@ -16,10 +16,12 @@ use Rattle.fetch_lookup.specs.declared.push.Error.TheVariants as defaults
 use Rattle.fetch_lookup.specs.declared.remote.RemoteParts.{RemoteParts}
 use Rattle.fetch_lookup.specs.Branches.{merge_of, destination_in, push_default_in}
 
+-- out of memory
 abbrev pub is_memory : Error → Bool
 is_memory NoMemory = true
 is_memory _ = false
 
+-- a text, unless it is no full name
 abbrev pub unless_trouble : List ℕ → Option ℕ → Result (List ℕ) Error
 unless_trouble text None = Ok text
 unless_trouble text (Some place) = Err (Name place)
@@ -33,6 +35,7 @@ abbrev pub told : Result (Option (List ℕ)) Error → Option (Result (List ℕ)
 told (Err e) = Some (Err e)
 told (Ok text) = option_map named text
 
+-- a name, where it is this one
 abbrev pub where_same : List ℕ → Option (List ℕ) → Option (List ℕ)
 where_same name None = None
 where_same name (Some text) = if bytes_eq text name then Some text else None
@@ -45,6 +48,7 @@ target_by Upstream name merge = merge
 target_by Simple name merge = where_same name merge
 target_by Matching name merge = Some name
 
+-- where a branch is pushed by this choice, or why the choice can't be read
 abbrev pub target_or : Result Default DefaultError → List ℕ → Option (List ℕ) → Result (Option (List ℕ)) Error
 target_or (Ok choice) name merge = Ok (target_by choice name merge)
 target_or (Err (defaults.Unknown value)) name merge = Err (PushDefault value)

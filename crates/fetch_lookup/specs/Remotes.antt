@@ -21,6 +21,7 @@ use Rattle.fetch_lookup.specs.Ordered.{ascending}
 use Rattle.fetch_lookup.specs.Results.{and_then, all_of}
 use Rattle.fetch_lookup.specs.SpecOrder.{spec_cmp}
 
+-- out of memory
 abbrev pub is_memory : Error → Bool
 is_memory NoMemory = true
 is_memory _ = false
@@ -41,9 +42,11 @@ tags_said (Some text) =
     else if bytes_eq text (codes "--no-tags") then Ok choices.None
     else Err (TagOpt text)
 
+-- what sections say of a remote's tags
 unfoldable pub tags_in : List Section → List ℕ → Result Tags Error
 tags_in sections name = tags_said (string_of sections remote (Some name) (codes "tagOpt") true)
 
+-- whether a text isn't empty
 abbrev pub has_bytes : List ℕ → Bool
 has_bytes text = not (length text == 0)
 
@@ -60,10 +63,12 @@ abbrev pub or_itself : List ℕ → List (List ℕ) → List (List ℕ)
 or_itself name [] = if is_address name then name ∷ [] else []
 or_itself name (url ∷ urls) = url ∷ urls
 
+-- the addresses of a remote for a direction
 unfoldable pub addresses_of : List Section → List ℕ → Direction → List (List ℕ)
 addresses_of sections name Fetch = or_itself name (uncleared (texts_of sections name (codes "url")))
 addresses_of sections name Push = uncleared (texts_of sections name (codes "pushurl"))
 
+-- whether a text has a line feed
 abbrev pub has_feed : List ℕ → Bool
 has_feed text = list_any (λ b. b == 10) text
 
@@ -73,6 +78,7 @@ addresses_in sections name direction =
     let urls = addresses_of sections name direction in
     if list_any has_feed urls then Err (Url direction name) else Ok urls
 
+-- what refspecs of a direction are for
 abbrev pub operation_of : Direction → Operation
 operation_of Fetch = operations.Fetch
 operation_of Push = operations.Push

@@ -18,6 +18,7 @@ is_one_of names sub = option_map_or (λ sub. list_any (bytes_eq sub) names) sub 
 abbrev pub is_branch_of : List (List ℕ) → Section → Bool
 is_branch_of names s = is_same_name s.name branch && is_same_origin s.meta.source Local && is_one_of names s.sub
 
+-- whether there are sections of these branches
 unfoldable pub has_branches : List (List ℕ) → List Section → Bool
 has_branches names sections = list_any (is_branch_of names) sections
 

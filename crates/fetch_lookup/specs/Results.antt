@@ -7,6 +7,7 @@ abbrev pub and_then : {A B E : Type 0} → Result A E → (A → Result B E) →
 and_then (Ok x) f = f x
 and_then (Err e) f = Err e
 
+-- an answer in front of others, unless one is refused
 abbrev pub in_front : {B E : Type 0} → Result B E → Result (List B) E → Result (List B) E
 in_front (Err e) others = Err e
 in_front (Ok x) (Err e) = Err e

@@ -33,6 +33,7 @@ unfoldable pub address_key : Direction → List ℕ
 address_key Fetch = codes "url"
 address_key Push = codes "pushurl"
 
+-- the key of the choice of tags
 unfoldable pub tag_key : List ℕ
 tag_key = codes "tagOpt"
 
@@ -58,6 +59,7 @@ is_emptied s = not (length s.entries == 0) && list_all (λ e. is_saved_key e.0) 
 unfoldable pub cleaned_at : List ℕ → Section → List Section
 cleaned_at name s = if not (is_of_remote name s) then s ∷ [] else if is_emptied s then [] else cleaned_section s ∷ []
 
+-- sections without the keys of a remote
 abbrev pub cleaned : List ℕ → List Section → List Section
 cleaned name sections = flat_map (cleaned_at name) sections
 
@@ -65,6 +67,7 @@ cleaned name sections = flat_map (cleaned_at name) sections
 abbrev pub is_same_meta : Meta → Meta → Bool
 is_same_meta a b = is_same_origin a.source b.source && a.level == b.level && is_same_sub a.path b.path && (if a.trusted then b.trusted else not b.trusted)
 
+-- whether a text is empty
 abbrev pub is_empty : List ℕ → Bool
 is_empty text = length text == 0
 
@@ -94,9 +97,11 @@ tag_word choices.All = Some (codes "--tags")
 tag_word choices.Included = None
 tag_word choices.None = Some (codes "--no-tags")
 
+-- the line of a choice of tags, or none
 unfoldable pub tag_lines : Tags → List Line
 tag_lines tags = option_to_list (option_map (λ word. (tag_key, word)) (tag_word tags))
 
+-- a line for each refspec
 abbrev pub spec_lines : Direction → List Spec → List Line
 spec_lines direction specs = map (λ s. (spec_key direction, printed s)) specs
 
@@ -106,6 +111,7 @@ lines_of clears_urls clears_push_urls parts =
     address_lines clears_urls Fetch parts.urls ++ (address_lines clears_push_urls Push parts.push_urls
     ++ (tag_lines parts.fetch_tags ++ (spec_lines Fetch parts.fetch_specs ++ spec_lines Push parts.push_specs)))
 
+-- the lines that a remote is saved by
 abbrev pub saved_lines : Contents → List ℕ → RemoteParts → List Line
 saved_lines file name parts = lines_of (clears file name Fetch) (clears file name Push) parts
 
@@ -113,6 +119,7 @@ saved_lines file name parts = lines_of (clears file name Fetch) (clears file nam
 abbrev pub with_lines : List Line → Section → Section
 with_lines lines s = record s { entries = s.entries ++ map (λ l. (l.0, Some l.1)) lines }
 
+-- one place further, where there is one before, or the first here
 abbrev pub further : Option ℕ → Bool → Option ℕ
 further (Some i) here = Some (suc i)
 further None true = Some 0
@@ -123,6 +130,7 @@ unfoldable pub last_place : {A : Type 0} → (A → Bool) → List A → Option 
 last_place p [] = None
 last_place p (x ∷ xs) = further (last_place p xs) (p x)
 
+-- whether a section is the file's own, and the remote's
 abbrev pub is_own : Meta → List ℕ → Section → Bool
 is_own meta name s = is_of_remote name s && is_same_meta s.meta meta
 
@@ -152,6 +160,7 @@ saved file name parts =
 abbrev pub IsUsedAt : Contents → List ℕ → Option ℕ → ℕ → Contents → Type 0
 IsUsedAt file name used index new = (lines : List Line) → with_sections new (on_section index (with_lines lines) new.sections) ≡ with_sections file (placed_in used (new_section file.meta name) lines file.sections)
 
+-- out of memory
 abbrev pub is_memory : Error → Bool
 is_memory NoMemory = true
 is_memory _ = false
@@ -172,6 +181,7 @@ values_of_parts parts = parts.urls ++ (parts.push_urls ++ (map printed parts.fet
 unfoldable pub unkept_place : List ℕ → RemoteParts → Option ℕ
 unkept_place name parts = option_or (position is_nul_or_feed name) (nul_in (values_of_parts parts))
 
+-- a refusal, where a text can't be kept
 abbrev pub at_place : Option ℕ → Result (Unit {0}) Error
 at_place None = Ok tt
 at_place (Some place) = Err (Value place)
@@ -190,10 +200,12 @@ save_verdict (Some name) parts = at_place (unkept_place (text_of name) parts)
 abbrev pub valid_name : List ℕ → Name
 valid_name text = if is_place text then Url text else Symbol text
 
+-- out of memory
 abbrev pub is_as_memory : AsError → Bool
 is_as_memory as_errors.NoMemory = true
 is_as_memory _ = false
 
+-- a name, or why it isn't valid
 abbrev pub name_or : List ℕ → Option SpecError → Result Name AsError
 name_or name None = Ok (valid_name name)
 name_or name (Some source) = Err (as_errors.Name (name_errors.Invalid source name))
@@ -202,6 +214,7 @@ name_or name (Some source) = Err (as_errors.Name (name_errors.Invalid source nam
 abbrev pub name_verdict : List ℕ → Result Name AsError
 name_verdict name = name_or name (name_refusal name)
 
+-- a refusal of the saving, where a text can't be kept
 abbrev pub save_place : Option ℕ → Result (Unit {0}) AsError
 save_place None = Ok tt
 save_place (Some place) = Err (as_errors.Save (Value place))
@@ -210,5 +223,6 @@ save_place (Some place) = Err (as_errors.Save (Value place))
 abbrev pub save_as_verdict : List ℕ → RemoteParts → Result (Unit {0}) AsError
 save_as_verdict name parts = and_then (name_verdict name) (λ _. save_place (unkept_place name parts))
 
+-- a remote with another name
 abbrev pub renamed : Name → RemoteParts → RemoteParts
 renamed name parts = record parts { name = Some name }

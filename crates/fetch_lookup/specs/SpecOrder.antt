@@ -34,6 +34,7 @@ spec_cmp a b =
     (ordering_then (nat_cmp (mode_rank a.mode) (mode_rank b.mode))
     (ordering_then (side_cmp a.source b.source) (side_cmp a.destination b.destination)))
 
+-- out of memory
 abbrev pub is_spec_memory : SpecError → Bool
 is_spec_memory errors.NoMemory = true
 is_spec_memory _ = false

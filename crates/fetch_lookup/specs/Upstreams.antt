@@ -23,6 +23,7 @@ use Rattle.fetch_lookup.specs.Remotes.{found_in}
 use Rattle.fetch_lookup.specs.Results.{and_then, all_of}
 use Rattle.fetch_lookup.specs.Saved.{first_or_empty}
 
+-- out of memory
 abbrev pub is_memory : Error → Bool
 is_memory NoMemory = true
 is_memory _ = false
@@ -32,6 +33,7 @@ abbrev pub is_tracking_category : Option Category → Bool
 is_tracking_category (Some categories.RemoteBranch) = true
 is_tracking_category _ = false
 
+-- the name of a source that isn't an id
 abbrev pub names_of_source : SourceRef → List (List ℕ)
 names_of_source (sources.FullName name) = name ∷ []
 names_of_source (sources.ObjectId id) = []
@@ -51,15 +53,19 @@ find_refusal finding.NoMemory = NoMemory
 abbrev pub leading_by : List ℕ → List ℕ → RemoteParts → Leading
 leading_by tracking name remote = record { name = name; sources = names_leading remote.fetch_specs tracking; remote = remote }
 
+-- the branches of a remote that lead to a tracking branch
 unfoldable pub leading_in : List Section → List ℕ → List ℕ → Result Leading Error
 leading_in sections tracking name = result_map_both (leading_by tracking name) find_refusal (found_in sections name)
 
+-- whether several branches lead there
 abbrev pub is_ambiguous : Leading → Bool
 is_ambiguous l = nat_lt 1 (length l.sources)
 
+-- whether one branch alone leads there
 abbrev pub is_single : Leading → Bool
 is_single l = length l.sources == 1
 
+-- the name of a remote for which this holds
 abbrev pub name_where : (Leading → Bool) → Leading → List (List ℕ)
 name_where p l = if p l then l.name ∷ [] else []
 
@@ -67,6 +73,7 @@ name_where p l = if p l then l.name ∷ [] else []
 unfoldable pub names_told : List Leading → List (List ℕ)
 names_told found = flat_map (name_where is_ambiguous) found ++ flat_map (name_where is_single) found
 
+-- the branch that leads there, where it is a full name
 abbrev pub validated_by : Leading → Option ℕ → Result (Option (List ℕ × RemoteParts)) Error
 validated_by l None = Ok (Some (first_or_empty l.sources, l.remote))
 validated_by l (Some place) = Err (ValidateUpstreamBranch place)

@@ -5,7 +5,7 @@ ghost use Rattle.std.specs.Prelude.{◌≡◌, IfOk};
 use fetch_store::{NoMemory, Text};
 use thiserror::Error as ThisError;
 
-/// Why the name isn't told.
+/// Why it isn't told what a branch is called on its remote.
 #[derive(Debug, Drop, PartialEq, Eq, ThisError)]
 pub enum Error {
     /// It is no full name.

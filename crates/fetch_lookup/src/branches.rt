@@ -12,7 +12,7 @@ use fetch_store::{Kind, NoMemory, Text};
 use std::alloc::Global;
 
 /// What a branch is fetched from: the last `branch.<short>.merge`, below `refs/heads/` where it doesn't begin with
-/// `refs/`. None where the configuration has no such entry.
+/// `refs/`. None where the configuration has no such entry, and `Invalid` where that is no full name.
 #[tactic(auto, unfolding(crate::specs::Branches::merge_of))]
 pub fn branch_merge_name(
     alloc: Global,
@@ -66,7 +66,8 @@ fn text_in_full(alloc: Global, text: &[u8]) -> Result<Text, NoMemory>
     Ok(Text::from(full))
 }
 
-/// Where refspecs lead a name: the first destination that they give to it. None where they give none.
+/// Where refspecs lead a name: the first destination that they give to it. None where they give none, and `Invalid`
+/// where that is no full name.
 pub fn destination_name(
     alloc: Global,
     specs: &[RefSpec],

@@ -8,7 +8,7 @@ use fetch_store::{NoMemory, Text};
 use std::alloc::{AllocError, AllocFailed};
 use thiserror::Error as ThisError;
 
-/// Why a remote is refused.
+/// Why what a configuration says of a remote can't be read.
 #[derive(Debug, Drop, PartialEq, Eq, ThisError)]
 pub enum Error {
     /// `tagOpt` is neither `--tags` nor `--no-tags`.

@@ -15,8 +15,10 @@ use fetch_specs::{Category, FullName, NameError};
 use fetch_store::{List, NoMemory, Text};
 use std::alloc::Global;
 
-/// The branch that a tracking branch follows, and its remote: the refspecs of one remote alone lead there, and from
-/// one branch alone. None where none do. The first remote that is refused, in ascending order of names, is told.
+/// The branch that a tracking branch follows, and its remote: the refspecs of one remote alone lead there, and from one
+/// branch alone. None where none do. `BranchCategory` comes first, where the name isn't below `refs/remotes/`; then the
+/// first remote that is refused, in ascending order of names; then `AmbiguousRemotes`, where refspecs lead there from
+/// several branches.
 #[tactic(auto, unfolding(crate::specs::Upstreams::upstream_in))]
 pub fn upstream_branch_and_remote_for_tracking_branch(
     alloc: Global,

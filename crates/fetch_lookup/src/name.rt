@@ -140,7 +140,7 @@ impl From<NoMemory> for Error {
 }
 
 /// A copy of a name, where it may stand in the names of tracking branches: where
-/// `refs/heads/test:refs/remotes/<name>/test` is a refspec to fetch by, and is UTF-8.
+/// `refs/heads/test:refs/remotes/<name>/test` is a refspec to fetch by, and is UTF-8. Else `Invalid` tells why not.
 pub fn validated(alloc: Global, name: &[u8]) -> Result<Text, Error>
     ensures ok { IfOk result (λ text. text ≡ name.now) }
     ensures accepted { OnOk result (spec.name_refusal name.now ≡ None) }

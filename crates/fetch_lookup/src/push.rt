@@ -75,7 +75,7 @@ impl From<NoMemory> for Error {
 }
 
 /// The choice of `push.default`, which is `Simple` where it is absent, and, if that is asked, where its value is
-/// unknown.
+/// unknown. Else an unknown value is refused.
 #[tactic(auto, unfolding(crate::specs::Branches::push_default_in))]
 pub fn default_choice(alloc: Global, file: &File, lenient: bool) -> Result<Default, Error>
     ensures { AnswersUnless spec.is_memory (spec.push_default_in file.now.sections lenient) result }

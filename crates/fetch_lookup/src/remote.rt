@@ -35,9 +35,9 @@ pub struct RemoteParts {
     pub fetch_tags: Tags,
 }
 
-/// The remote that has trusted sections `remote "<name>"`; none where there is no such section. An empty address
-/// clears those before it. Without an address to fetch from, the name is one where it has a slash, is a dot, or has
-/// a colon after its first byte.
+/// The remote that has trusted sections `remote "<name>"`; none where there is no such section. An empty address clears
+/// those before it. Without an address to fetch from, the name is one where it has a slash, is a dot, or has a colon
+/// after its first byte. An unknown `tagOpt`, an address with a line feed and a refspec that doesn't parse are refused.
 #[tactic(auto, unfolding(crate::specs::Names::remote))]
 pub fn find_remote(alloc: Global, file: &File, name: &[u8]) -> Option<Result<RemoteParts, Error>>
     ensures found { is_some result ≡ spec.is_remote file.now.sections name.now }

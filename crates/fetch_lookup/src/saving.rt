@@ -21,7 +21,8 @@ use std::alloc::Global;
 /// Saves a remote: in all sections `remote "<name>"` the addresses, the choice of tags and the refspecs go, and what
 /// they are now is written into the last such section of the file itself, or into a new one at the end. A new one is
 /// used also where addresses of other files are to be cleared, by an empty address before the others. After an error
-/// the file is as before.
+/// the file is as before. `NameMissing` comes where the remote has no name, and then `Value` where a configuration
+/// can't keep one of the texts.
 pub fn save_to(alloc: Global, remote: &RemoteParts, config: &mut File) -> Result<(), Error>
     ensures answer { AnswersUnless spec.is_memory (spec.save_verdict remote.now.name remote.now) result }
     ensures saved { OnOk result (IfSome remote.now.name (λ name. config.new ≡ spec.saved config.old (text_of name) remote.now)) }
@@ -35,7 +36,8 @@ pub fn save_to(alloc: Global, remote: &RemoteParts, config: &mut File) -> Result
     }
 }
 
-/// Saves a remote under a valid name, which it then has. After an error the file and the remote are as before.
+/// Saves a remote under a valid name, which it then has. After an error the file and the remote are as before. `Name`
+/// comes first, where the name isn't valid.
 pub fn save_as_to(
     alloc: Global,
     remote: &mut RemoteParts,

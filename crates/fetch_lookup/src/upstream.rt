@@ -8,7 +8,7 @@ use fetch_store::{List, NoMemory, Text};
 use std::alloc::AllocFailed;
 use thiserror::Error as ThisError;
 
-/// Why the branch isn't told.
+/// Why it isn't told which branch a tracking branch follows.
 #[derive(Debug, Drop, PartialEq, Eq, ThisError)]
 pub enum Error {
     /// The name isn't below `refs/remotes/`.

@@ -101,7 +101,7 @@ behind_by sa sb o e = at (nat_cmp sb sa) (ranks sb sa) e
     at Equal h e = let f = lt_not_gt o e in grind (arith, nat_tests)
     at Greater h e = absurd (true≢false e)
 
--- what isn't behind another stands before no other
+-- what isn't after another stands before no other
 pub not_behind : (sa sb : ℕ) (a b : ObjectId) → is_gt (ordering_then (nat_cmp sb sa) (id_cmp a b)) ≡ false → before sb b sa a ≡ false
 not_behind sa sb a b e = ap (λ (o : Ordering). nat_lt sa sb || (sb == sa && is_lt o)) (id_cmp_total.antisymm b a) ∙ behind_by sa sb (id_cmp a b) e
 

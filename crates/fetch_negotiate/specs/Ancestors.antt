@@ -31,6 +31,7 @@ abbrev pub IsLine : Graph → set.FinSet id_cmp → ObjectId → List ObjectId �
 IsLine g border from [] = Unit {0}
 IsLine g border from (next ∷ line) = (has (parents_of g border from) next ≡ true) × IsLine g border next line
 
+-- the last commit of a line that begins here
 abbrev pub last_of : ObjectId → List ObjectId → ObjectId
 last_of from [] = from
 last_of from (next ∷ line) = last_of next line

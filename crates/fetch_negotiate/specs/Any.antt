@@ -35,11 +35,13 @@ sharing algorithms.Noop n id = n
 sharing algorithms.Consecutive n id = acknowledging n id
 sharing algorithms.Skipping n id = acknowledging n id
 
+-- the algorithm of a negotiator
 abbrev pub algorithm_of : AnyNegotiator → Algorithm
 algorithm_of negotiators.Noop = algorithms.Noop
 algorithm_of (negotiators.Consecutive c) = algorithms.Consecutive
 algorithm_of (negotiators.Skipping s) = algorithms.Skipping
 
+-- what a negotiator has told so far
 abbrev pub so_far_of : AnyNegotiator → Negotiation
 so_far_of negotiators.Noop = idle
 so_far_of (negotiators.Consecutive c) = c.so_far

@@ -13,6 +13,7 @@ use Rattle.fetch_store.specs.Objects.{is_kind}
 use Rattle.fetch_store.specs.Stores.{id_cmp}
 use Rattle.fetch_negotiate.specs.declared.commits.Commit.{Commit}
 
+-- a commit, coded
 abbrev pub coded_commit : Coded Commit
 coded_commit = code_by (ℕ × List ObjectId) (coded× coded_ℕ (coded_list coded_id)) (λ c. (c.seconds, c.parents)) (λ p. record { seconds = p.0; parents = p.1 }) (λ _. refl)
 
@@ -36,6 +37,7 @@ IsStoredCommit g id = is_some (commit_of g id) ≡ true
 abbrev pub Known : Type 0
 Known = map.FinMap id_cmp (Option Commit)
 
+-- what is known of objects, coded
 abbrev pub coded_known : Coded Known
 coded_known = map.code {R = id_cmp} coded_id (coded_option coded_commit)
 

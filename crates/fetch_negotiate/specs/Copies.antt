@@ -5,6 +5,7 @@ use Rattle.fetch_negotiate.specs.declared.line.Line.{Line}
 use Rattle.fetch_negotiate.specs.declared.skips.Skips.{Skips}
 use Rattle.fetch_negotiate.specs.declared.walk.Walk.{Walk}
 
+-- Both have the same acknowledged ids, commits and marks.
 pub record IsSameCommon (a b : Common) : Type 0 where
   pub acknowledged : a.acknowledged.items ≡ b.acknowledged.items
   pub settled : a.settled ≡ b.settled
@@ -12,6 +13,7 @@ pub record IsSameCommon (a b : Common) : Type 0 where
   pub closed : a.closed ≡ b.closed
   pub marked : a.marked ≡ b.marked
 
+-- Both have the same candidates, queue and commits taken.
 pub record IsSameLine (a b : Line) : Type 0 where
   pub tips : a.tips ≡ b.tips
   pub candidates : a.candidates.items ≡ b.candidates.items
@@ -20,12 +22,14 @@ pub record IsSameLine (a b : Line) : Type 0 where
   pub taken : a.taken.items ≡ b.taken.items
   pub told : a.told ≡ b.told
 
+-- Both walks have read and marked the same.
 pub record IsSameWalk (a b : Walk) : Type 0 where
   pub border : a.border ≡ b.border
   pub table : a.table.entries ≡ b.table.entries
   pub common : IsSameCommon a.common b.common
   pub line : IsSameLine a.line b.line
 
+-- Both have handed on the same pairs.
 pub record IsSameSkips (a b : Skips) : Type 0 where
   pub handed : a.handed.items ≡ b.handed.items
   pub entered : a.entered ≡ b.entered

@@ -43,6 +43,7 @@ is_common g border acknowledged id = list_any (λ known. eq_by_cmp id_cmp id kno
 abbrev pub is_open : Graph → Negotiation → ObjectId → Bool
 is_open g n id = is_some (commit_of g id) && not (has n.taken id) && not (is_common g n.border n.acknowledged id)
 
+-- the seconds of a stored commit, or 0
 abbrev pub seconds_of : Graph → ObjectId → ℕ
 seconds_of g id = option_map_or (λ (c : Commit). c.seconds) (commit_of g id) 0
 

@@ -8,6 +8,7 @@ use Rattle.fetch_negotiate.specs.declared.skip.Skip.{Skip}
 use Rattle.fetch_negotiate.specs.declared.skips.Skips.{Skips}
 use Rattle.fetch_negotiate.specs.Skips.{Pairs, no_skip, pair_of}
 
+-- the pair that a commit was given, or 0 and 0
 abbrev pub skip_in : BTreeMap ObjectId Skip → ObjectId → Skip
 skip_in pairs id = unwrap_or (tree.get id_cmp pairs id) no_skip
 
@@ -16,5 +17,6 @@ pub record AreEntered (handed : Pairs) (entered : ℕ) (pairs : BTreeMap ObjectI
   pub entered_in : entered ≤ length handed
   pub each : (id : ObjectId) → skip_in pairs id ≡ pair_of (take entered handed) id
 
+-- The map has the pairs that were handed on.
 abbrev pub IsPaired : Skips → Type 0
 IsPaired s = AreEntered s.handed.items s.entered s.pairs

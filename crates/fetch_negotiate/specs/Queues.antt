@@ -20,15 +20,19 @@ use Rattle.fetch_negotiate.specs.Sharing.{IsMarked}
 abbrev pub Rank : Type 0
 Rank = Reverse ℕ × ObjectId
 
+-- the later commit first, and then the smaller id
 abbrev pub rank_cmp : Rank → Rank → Ordering
 rank_cmp a b = ordering_then (nat_cmp b.0.0 a.0.0) (id_cmp a.1 b.1)
 
+-- whether the queue has this commit
 abbrev pub in_queue : BTreeSet Rank → Rank → Bool
 in_queue queue r = tree.contains rank_cmp queue r
 
+-- the seconds of a commit that was read, or 0
 abbrev pub seconds_at : Read → ObjectId → ℕ
 seconds_at k q = option_map_or (λ (c : Commit). c.seconds) (commit_at k q) 0
 
+-- the rank of a commit in the queue
 abbrev pub rank_at : Read → ObjectId → Rank
 rank_at k q = (let r : Reverse ℕ = record { 0 = seconds_at k q } in r, q)
 
@@ -43,6 +47,7 @@ pub record IsQueued (k : Read) (candidates : List ObjectId) (r : Rank) : Type 0 
   pub candidate : has candidates r.1 ≡ true
   pub seconds : r ≡ rank_at k r.1
 
+-- What a walk keeps of its candidates: where they come from, which entered the queue, and which were taken.
 pub record IsLine (k : Read) (border : set.FinSet id_cmp) (commits : List ObjectId) (tips : ℕ) (candidates : List ObjectId) (entered : ℕ) (queue : BTreeSet Rank) (taken : List ObjectId) : Type 0 where
   pub tips_in : tips ≤ length candidates
   pub entered_in : entered ≤ length candidates
@@ -51,6 +56,7 @@ pub record IsLine (k : Read) (border : set.FinSet id_cmp) (commits : List Object
   pub each : (q : ObjectId) → has (take entered candidates) q ≡ true → IsEntered k commits taken queue q
   pub queued : (r : Rank) → in_queue queue r ≡ true → IsQueued k candidates r
 
+-- the same, of the line of a walk
 abbrev pub IsLineIn : Read → set.FinSet id_cmp → List ObjectId → Line → Type 0
 IsLineIn k border commits l = IsMarked l.told l.taken.items × IsLine k border commits l.tips l.candidates.items l.entered l.queue l.taken.items
 
@@ -61,6 +67,7 @@ pub record IsChosen (k : Read) (commits taken : List ObjectId) (queue : BTreeSet
   pub common : has commits id ≡ false
   pub first : (r : Rank) → in_queue queue r ≡ true → is_gt (rank_cmp (rank_at k id) r) ≡ false
 
+-- The queue is empty.
 pub record IsNone (queue : BTreeSet Rank) : Type 0 where
   pub empty : (r : Rank) → in_queue queue r ≡ false
 
@@ -69,5 +76,6 @@ pub record IsFront (queue : BTreeSet Rank) (r : Rank) : Type 0 where
   pub here : in_queue queue r ≡ true
   pub first : (q : Rank) → in_queue queue q ≡ true → is_gt (rank_cmp r q) ≡ false
 
+-- the tips that a line began with
 abbrev pub tips_in : Line → List ObjectId
 tips_in l = take l.tips l.candidates.items

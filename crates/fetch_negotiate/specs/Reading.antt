@@ -14,9 +14,11 @@ use Rattle.fetch_negotiate.specs.Commits.{commit_of}
 abbrev pub Read : Type 0
 Read = ObjectId → Option (Option Commit)
 
+-- what was read, by id
 abbrev pub Table : Type 0
 Table = BTreeMap ObjectId (Option Commit)
 
+-- what a table tells of an id
 abbrev pub read_in : Table → Read
 read_in t id = tree.get id_cmp t id
 
@@ -28,6 +30,7 @@ pub record IsTold (k : Read) (g : Graph) : Type 0 where
 pub record Grows (k l : Read) : Type 0 where
   pub stays : (id : ObjectId) (found : Option Commit) → k id ≡ Some found → l id ≡ Some found
 
+-- the commit that was read at an id
 abbrev pub commit_at : Read → ObjectId → Option Commit
 commit_at k id = option_and_then (λ c. c) (k id)
 

@@ -30,6 +30,7 @@ pub record Asked : Type 0 where
 abbrev pub head_of : Handshake → List ℕ → List (List ℕ)
 head_of handshake agent = command_word ∷ head_texts handshake agent
 
+-- the line of a time, where there is one
 abbrev pub since_lines : Option ℕ → List (List ℕ)
 since_lines cutoff = option_map_or (λ seconds. (since_word ++ decimal seconds) ∷ []) cutoff []
 
@@ -41,6 +42,7 @@ depth_lines (Deepen depth) = (deepen_word ++ decimal depth) ∷ relative_word �
 depth_lines (Since cutoff) = (since_word ++ decimal cutoff) ∷ []
 depth_lines (Exclude names cutoff) = since_lines cutoff ++ map (λ name. not_word ++ name) names
 
+-- whether tags come along with the history
 abbrev pub is_included : Tags → Bool
 is_included tags.All = false
 is_included tags.Included = true

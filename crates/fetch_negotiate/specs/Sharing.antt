@@ -9,6 +9,7 @@ use Rattle.fetch_negotiate.specs.declared.common.Common.{Common}
 use Rattle.fetch_negotiate.specs.Commits.{has}
 use Rattle.fetch_negotiate.specs.Reading.{Read, Grows, commit_at, links_at}
 
+-- whether a set has an id
 abbrev pub in_set : BTreeSet ObjectId → ObjectId → Bool
 in_set s id = tree.contains id_cmp s id
 
@@ -26,6 +27,7 @@ pub record IsReached (k : Read) (border : set.FinSet id_cmp) (acknowledged : Lis
   pub holds : (P : ObjectId → Bool) → ((a : ObjectId) → has acknowledged a ≡ true → P a ≡ true)
       → ((x y : ObjectId) → P x ≡ true → has (links_at k border x) y ≡ true → is_some (commit_at k y) ≡ true → P y ≡ true) → P id ≡ true
 
+-- What is marked as shared: acknowledged commits and their ancestors, and how far each list was followed.
 pub record IsCommon (k : Read) (border : set.FinSet id_cmp) (acknowledged : List ObjectId) (settled : ℕ) (commits : List ObjectId) (closed : ℕ) : Type 0 where
   pub settled_in : settled ≤ length acknowledged
   pub closed_in : closed ≤ length commits
@@ -34,6 +36,7 @@ pub record IsCommon (k : Read) (border : set.FinSet id_cmp) (acknowledged : List
   pub told : (q : ObjectId) → has (take settled acknowledged) q ≡ true → IsDone k commits q
   pub parents : (q : ObjectId) → has (take closed commits) q ≡ true → (p : ObjectId) → has (links_at k border q) p ≡ true → IsDone k commits p
 
+-- the same, of what a walk keeps
 abbrev pub IsCommonIn : Read → set.FinSet id_cmp → Common → Type 0
 IsCommonIn k border c = IsMarked c.marked c.commits.items × IsCommon k border c.acknowledged.items c.settled c.commits.items c.closed
 
@@ -48,9 +51,11 @@ pub record IsSettled (k : Read) (border : set.FinSet id_cmp) (acknowledged commi
 pub record IsWithin (k : Read) (border : set.FinSet id_cmp) (acknowledged : List ObjectId) (id : ObjectId) : Type 0 where
   pub later : (l : Read) → Grows k l → is_some (commit_at l id) ≡ true → IsReached l border acknowledged id
 
+-- Of each of these a stored commit is reached, however more is read.
 pub record AreWithin (k : Read) (border : set.FinSet id_cmp) (acknowledged ids : List ObjectId) : Type 0 where
   pub each : (q : ObjectId) → has ids q ≡ true → IsWithin k border acknowledged q
 
+-- Each of these was read, and is marked where it is a stored commit.
 pub record AreDone (k : Read) (commits ids : List ObjectId) : Type 0 where
   pub each : (q : ObjectId) → has ids q ≡ true → IsDone k commits q
 

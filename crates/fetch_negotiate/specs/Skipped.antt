@@ -25,8 +25,10 @@ pub record IsSkipping (w : Walk) (s : Skips) : Type 0 where
 pub record AnyStored (k : Read) (ids : List ObjectId) (any : Bool) : Type 0 where
   pub says : (g : Graph) → IsTold k g → any ≡ list_any (λ id. is_some (commit_of g id)) ids
 
+-- It tells whether the commit has stored parents, in each graph that was read.
 pub record HasParents (k : Read) (border : set.FinSet id_cmp) (id : ObjectId) (has : Bool) : Type 0 where
   pub says : (g : Graph) → IsTold k g → has ≡ has_parents g border id
 
+-- It tells whether the commit is offered, in each graph that was read.
 pub record IsOffered (k : Read) (border : set.FinSet id_cmp) (skip : Skip) (id : ObjectId) (offered : Bool) : Type 0 where
   pub says : (g : Graph) → IsTold k g → offered ≡ is_offered g border skip id

@@ -36,6 +36,7 @@ handed offered s = if offered then record { first = longer s.first; left = longe
 abbrev pub higher : Skip → Skip → Skip
 higher own other = if nat_lt own.first other.first then other else own
 
+-- the pairs that were handed on, in order
 abbrev pub Pairs : Type 0
 Pairs = List (ObjectId × Skip)
 
@@ -70,7 +71,7 @@ abbrev pub after_one : Graph → Negotiation → Option ObjectId → (Negotiatio
 after_one g n None rest = record { later = n; have = None }
 after_one g n (Some id) rest = if offers g n id then record { later = taking n (Some id); have = Some id } else rest (taking n (Some id))
 
--- Commits are taken, so many at most, until one is offered or none is left.
+-- Commits are taken, at most that many, until one is offered or none is left.
 unfoldable pub skipping : Graph → ℕ → Negotiation → Offer
 skipping g zero n = record { later = n; have = None }
 skipping g (suc more) n = after_one g n (next_taken g n) (skipping g more)

@@ -6,6 +6,7 @@ use Rattle.fetch_negotiate.specs.declared.commits.Commit.{Commit}
 use Rattle.fetch_negotiate.specs.Commits.{commit_of}
 use Rattle.fetch_negotiate.specs.Reading.{Read, IsTold}
 
+-- Where nothing was read, what was read is so in each graph.
 pub unread_told : (k : Read) (g : Graph) → ((id : ObjectId) → k id ≡ None) → IsTold k g
 unread_told k g none = record { told = λ id found is. nothing id found (k id) (none id) is }
   where

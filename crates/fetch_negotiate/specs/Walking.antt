@@ -11,13 +11,16 @@ use Rattle.fetch_negotiate.specs.Queues.{IsLineIn, tips_in}
 use Rattle.fetch_negotiate.specs.Reading.{Table, read_in, commit_at}
 use Rattle.fetch_negotiate.specs.Sharing.{IsCommonIn}
 
+-- What a walk keeps, of what is shared and of its line.
 pub record IsWalk (w : Walk) : Type 0 where
   pub common : IsCommonIn (read_in w.table) w.border w.common
   pub line : IsLineIn (read_in w.table) w.border w.common.commits.items w.line
 
+-- what a walk has told so far
 abbrev pub so_far_in : Walk → Negotiation
 so_far_in w = record { tips = tips_in w.line; border = w.border; taken = w.line.taken.items; acknowledged = w.common.acknowledged.items }
 
+-- what a table knows, as a finite map
 abbrev pub known_in : Table → Known
 known_in t = map.from_entries t.entries
 

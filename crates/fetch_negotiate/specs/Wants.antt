@@ -35,6 +35,6 @@ want_in tags shallow g extra m =
     else option_and_then (λ id. if is_wanted shallow g id then Some id else None) (source_id m.remote)
 
 -- The ids of the mappings, in their order and each once. The tags that come with the history, and what is stored,
--- are left aside.
+-- are left out.
 unfoldable pub wants_of : RefMap → Tags → Shallow → Graph → List ObjectId
 wants_of m tags shallow g = firsts (filter_map (want_in tags shallow g m.extra_refspecs) m.mappings)

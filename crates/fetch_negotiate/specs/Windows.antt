@@ -16,7 +16,7 @@ abbrev pub beginning : Option ObjectId → Negotiation → (Negotiation → Wind
 beginning None later rest = record { haves = []; later = later }
 beginning (Some id) later rest = record { haves = id ∷ (rest later).haves; later = (rest later).later }
 
--- so many commits at most, as they are offered one after another
+-- at most that many commits, as they are offered one after another
 unfoldable pub window_of : Graph → Algorithm → ℕ → Negotiation → Window
 window_of g algorithm zero n = record { haves = []; later = n }
 window_of g algorithm (suc more) n = beginning (offer_of g algorithm n).have (offer_of g algorithm n).later (window_of g algorithm more)

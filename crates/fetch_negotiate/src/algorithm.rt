@@ -70,9 +70,9 @@ impl Depth {
 pub enum Shallow {
     /// Not at all.
     NoChange,
-    /// So many commits, counted from the tips of the remote.
+    /// That many commits, counted from the tips of the remote.
     DepthAtRemote(Depth),
-    /// So many commits more than the border has.
+    /// That many commits more than the border has.
     Deepen(u32),
     /// The commits since a time, in seconds since 1970.
     Since {

@@ -65,7 +65,7 @@ impl AnyNegotiator {
         }
     }
 
-    /// The next window: so many commits at most, and fewer only where no more are left. Where memory runs out, some of
+    /// The next window: at most that many commits, and fewer only where no more are left. Where memory runs out, some of
     /// them may have been told, and the others come next.
     pub fn window<O: Objects>(
         &mut self,

@@ -19,7 +19,8 @@ use fetch_wire::{Handshake, Request, WireError, append_head, append_when, joined
 use std::alloc::Global;
 
 /// The request of one round: what is asked, the haves acknowledged so far in the order in which they first were, and
-/// then the window. `git/` is put before an agent that doesn't begin with it.
+/// then the window. `git/` is put before an agent that doesn't begin with it. The only error is out of memory.
+// Many arguments: the public signature, one for each group of a request's lines.
 pub fn request_of(
     alloc: Global,
     handshake: &Handshake,
@@ -47,6 +48,7 @@ pub fn request_of(
     })
 }
 
+// Many arguments: those of `request_of` but the haves.
 fn text_lines(
     alloc: Global,
     handshake: &Handshake,

@@ -102,7 +102,7 @@ fn enter_next(skips: &mut Skips) -> Result<(), NoMemory>
     Ok(())
 }
 
-/// Makes room for so many more pairs.
+/// Makes room for that many more pairs.
 pub(crate) fn make_room(skips: &mut Skips, count: usize) -> Result<(), NoMemory>
     requires { IsPaired skips.old }
     ensures paired { IsPaired skips.new }

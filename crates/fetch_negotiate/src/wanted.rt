@@ -16,7 +16,7 @@ use fetch_store::{NoMemory, ObjectId, Objects};
 use fetch_wire::{Mapping, RefMap, SpecIndex};
 use std::alloc::Global;
 
-/// The ids that the mappings ask for, in their order and each once. The implicit tags are left aside, and without a
+/// The ids that the mappings ask for, in their order and each once. The implicit tags are left out, and without a
 /// change of depth what is stored is too.
 #[tactic(auto, unfolding(crate::specs::Wants::wants_of))]
 pub fn wants<O: Objects>(

@@ -272,7 +272,7 @@ checked hash f = all_parsed f.version hash 12 f.written >>= λ os. named hash f 
 made_is : (a b : Contents) → ◌≡◌ {A = Result Contents PackError} (Ok a) (Ok b) → a ≡ b
 made_is a b e = cc
 
--- a frame whose digest is right, and what was read behind it
+-- a frame whose digest is right, and what was read after it
 checked_found : (hash : Kind) (bytes : List ℕ) (f : Frame) (c : Contents) → IsFramed hash bytes f → f.digest ≡ digest hash (body_of f.version f.written) → checked hash f ≡ Ok c
     → IsPack f.version hash bytes (payloads_in f.written) × (c ≡ contents_of f.version hash (payloads_in f.written))
 checked_found hash bytes f c is_framed right e =

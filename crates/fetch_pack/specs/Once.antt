@@ -13,6 +13,7 @@ use Rattle.std.specs.Prelude.{[]}
 abbrev pub AreNamed : Entries → Type 0
 AreNamed os = AllByRecursion (λ o. o.0 ≡ id_of o.1.hash o.1.kind o.1.bytes) os
 
+-- the ids of entries
 abbrev pub ids_of : Entries → List ObjectId
 ids_of os = map (λ o. o.0) os
 

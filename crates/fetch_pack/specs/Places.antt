@@ -12,5 +12,6 @@ abbrev pub IsPlace : Entries → ObjectId → Option ℕ → Type 0
 IsPlace kept id None = find id_cmp id kept ≡ None
 IsPlace kept id (Some place) = (place < length kept) × ((d : ObjectId × Stored) → find id_cmp id kept ≡ Some (get_or kept place d).1)
 
+-- The map has the place of each id among the entries kept.
 abbrev pub ArePlaces : Entries → BTreeMap ObjectId ℕ → Type 0
 ArePlaces kept places = (id : ObjectId) → IsPlace kept id (tree.get id_cmp places id)

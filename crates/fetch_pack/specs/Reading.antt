@@ -16,11 +16,12 @@ use Rattle.fetch_pack.specs.declared.version.PackVersion.TheVariants.{V1, V2}
 use Rattle.fetch_pack.specs.Records.{Payload, Written, Records, mark, version_text, number_at, records}
 
 infixl 10 ◌>>=◌
+-- one reading after the other, unless the first is refused
 abbrev pub ◌>>=◌ : {A B : Type 0} → Result A PackError → (A → Result B PackError) → Result B PackError
 (Ok x) >>= f = f x
 (Err e) >>= f = Err e
 
--- want of memory
+-- out of memory
 abbrev pub is_memory : PackError → Bool
 is_memory NoMemory = true
 is_memory _ = false
@@ -44,28 +45,34 @@ ended v hash bytes count r =
     then Ok (record { version = v; count = count; written = r.written; body = take place bytes; digest = id_of_bytes hash r.rest })
     else Err (Malformed place)
 
+-- the records after a count, or that it is cut off
 abbrev pub counted : PackVersion → Kind → List ℕ → Option (ℕ × List ℕ) → Result Frame PackError
 counted v hash bytes None = Err (Malformed 8)
 counted v hash bytes (Some n) = ended v hash bytes n.0 (records v hash n.0 n.1)
 
+-- the version that the bytes name
 abbrev pub version_at : List ℕ → Option PackVersion
 version_at bytes =
     if starts_with nat_eq bytes (version_text V1) then Some V1
     else if starts_with nat_eq bytes (version_text V2) then Some V2
     else None
 
+-- what follows a version, or that it is none
 abbrev pub versioned : Kind → List ℕ → Option PackVersion → Result Frame PackError
 versioned hash bytes None = Err (Malformed 4)
 versioned hash bytes (Some v) = counted v hash bytes (number_at (drop 8 bytes))
 
+-- the parts of a pack, or where its structure breaks
 abbrev pub structure : Kind → List ℕ → Result Frame PackError
 structure hash bytes = if not (starts_with nat_eq bytes mark) then Err (Malformed 0) else versioned hash bytes (version_at (drop 4 bytes))
 
 -- ---- digest
 
+-- whether two ids are one
 abbrev pub is_id : ObjectId → ObjectId → Bool
 is_id a b = eq_by_cmp id_cmp a b
 
+-- the parts, where the digest at the end is that of the bytes before it
 abbrev pub with_digest : Kind → Frame → Result Frame PackError
 with_digest hash f =
     let computed = digest hash f.body in
@@ -78,9 +85,11 @@ abbrev pub head_len : PackVersion → ℕ
 head_len V1 = 5
 head_len V2 = 9
 
+-- how many bytes a record takes
 abbrev pub record_len : PackVersion → Written → ℕ
 record_len v w = head_len v + length w.id + length w.payload.bytes
 
+-- a payload as an object of this hash
 abbrev pub stored : Kind → Payload → Stored
 stored hash p = record { hash = hash; kind = p.kind; bytes = p.bytes }
 
@@ -98,9 +107,11 @@ all_parsed v hash place (w ∷ ws) = do
 
 -- ---- ids
 
+-- the id of an object
 abbrev pub hashed : Kind → Stored → ObjectId
 hashed hash o = id_of hash o.kind o.bytes
 
+-- the ids of objects, in order
 abbrev pub ids_of : Kind → List Stored → List ObjectId
 ids_of hash os = map (hashed hash) os
 
@@ -128,10 +139,12 @@ paired (id ∷ ids) (o ∷ os) = (id, o) ∷ paired ids os
 abbrev pub keep : Entries → ObjectId × Stored → Entries
 keep kept o = if list_any (λ x. is_id o.0 x.0) kept then kept else kept ++ o ∷ []
 
+-- with each of these entries whose id isn't kept yet
 abbrev pub once_from : Entries → Entries → Entries
 once_from kept [] = kept
 once_from kept (o ∷ os) = once_from (keep kept o) os
 
+-- what a pack holds: its objects, each once, how many records it has, and its digest
 pub record Contents : Type 0 where
   pub objects : Entries
   pub count : ℕ
@@ -142,11 +155,13 @@ abbrev pub unless : Entries → Option ObjectId → Result Entries PackError
 unless kept (Some id) = Err (Collision id)
 unless kept None = Ok kept
 
+-- each entry once, or the first id with two objects
 abbrev pub distinct : Entries → Result Entries PackError
 distinct os = unless (once_from [] os) (collision finmap.empty os)
 
 -- ---- the whole
 
+-- what a text gives as a pack, or its first refusal
 abbrev pub read : Kind → List ℕ → Result Contents PackError
 read hash bytes = do
   framed ← structure hash bytes

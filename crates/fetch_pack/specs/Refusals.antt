@@ -75,6 +75,7 @@ pub record HasCollision (v : PackVersion) (hash : Kind) (bytes : List ℕ) (id :
   pub objects : AllByRecursion (λ p. IsObject hash p.kind p.bytes) ps
   pub first : collision finmap.empty (entries hash ps) ≡ Some id
 
+-- why a text is refused, by each error
 abbrev pub IsRefused : Kind → List ℕ → PackError → Type 0
 IsRefused hash bytes (Malformed place) = IsMalformed hash bytes place
 IsRefused hash bytes (PackDigest found computed) = (v : PackVersion) × (ws : List Written) × HasOtherDigest v hash bytes found computed ws

@@ -212,7 +212,8 @@ fn check_ids(hash: Kind, framed: &Framed<'_>, ids: &[ObjectId]) -> Result<(), Pa
     }
 }
 
-/// Reads a pack of either version, all of the bytes: `read_pack_gated` with a gate that does nothing.
+/// Reads a pack of either version, all of the bytes: `read_pack_gated` with a gate that does nothing. Where they are no
+/// pack the refusal is the first in the order that `PackError` tells.
 pub fn read_pack<R: Threads + Sync>(
     rt: &R,
     alloc: Global,
@@ -237,7 +238,8 @@ pub fn read_pack<R: Threads + Sync>(
 }
 
 /// Reads a pack of either version, all of the bytes. Its objects are hashed by `hash_pieces` with this gate. The answer
-/// is the same for every number of threads and every gate.
+/// is the same for every number of threads and every gate. Where the bytes are no pack the refusal is the first in the
+/// order that `PackError` tells.
 pub fn read_pack_gated<R: Threads + Sync, G: Gate + Sync>(
     rt: &R,
     alloc: Global,

@@ -55,7 +55,7 @@ module _ {K X : Type 0} (R : K → K → Ordering) where
   sorted_entries (e ∷ es) h = let t = two_parts (below_all R e.0 es) (is_sorted R es) h in (all_below e.0 es t.0, sorted_entries es t.1)
 
 module _ {K X : Type 0} {R : K → K → Ordering} (o : IsTotalOrder R) where
-  -- a key behind all others goes to the end
+  -- a key after all others goes to the end
   pub insert-last : (es : List (K × X)) (k : K) (v : X) (rest : List (K × X)) → IsStrictlySortedBy R (keys_of (es ++ (k, v) ∷ rest)) → insert_entry R es k v ≡ es ++ (k, v) ∷ []
   unfolding IsStrictlySortedBy
   insert-last [] k v rest s = refl

@@ -141,7 +141,7 @@ no_lines_cut es fs name left none same =
     let nil : lines_of (logs_of es) name ≡ [] = lines-logs_of es name ∙ ap (λ (o : Option (List LogLine)). unwrap_or o []) (sym none) in
     ap logs_of same ∙ sym (same_lines es name) ∙ ap (with_lines (logs_of es) name) (nil ∙ sym (take_nil left) ∙ ap (take left) (sym nil))
 
--- a change behind others
+-- a change after others
 pub unwound-push : (us : List Undo) (u : Undo) (r : RefsValue) → unwound (us ++ u ∷ []) r ≡ unwound us (undone u r)
 unwound-push [] u r = refl
 unwound-push (x ∷ us) u r = ap (undone x) (unwound-push us u r)
@@ -187,7 +187,7 @@ unwound_popped c d us vs u is back = ap (unwound vs) back ∙ sym (unwound-push 
 pub same_room : (c d : Contents) → KeepsPlaces c d → (us vs : List Undo) → vs ≡ us → has_room c us ≡ true → has_room d vs ≡ true
 same_room c d keeps us vs is room = room_kept c d keeps vs (subst (λ xs. has_room c xs ≡ true) (sym is) room)
 
--- one step of a journal: a change, or none, is noted behind the others
+-- one step of a journal: a change, or none, is noted after the others
 module _ (c d : Contents) (keeps : KeepsPlaces c d) (us : List Undo) (room : has_room c us ≡ true) where
   step-room : (u : Option Undo) → TakesBackIf c d u → has_room d (us ++ option_to_list u) ≡ true
   step-room None back = subst (λ vs. has_room d vs ≡ true) (sym (append-nil us)) (room_kept c d keeps us room)

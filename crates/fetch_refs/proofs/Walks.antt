@@ -54,7 +54,7 @@ module _ {A : Type 0} (eq : A → A → Bool) where
       ]
 
   module _ (next : A → Option A) where
-    -- where a walk of so many steps ends
+    -- where a walk of that many steps ends
     pub record Trace (left : ℕ) (ms : List A) (x : A) : Type 0 where
       pub way : List A
       pub end : A

@@ -16,9 +16,11 @@ use Rattle.fetch_refs.specs.Packed.{direct_id}
 use Rattle.fetch_refs.specs.Overlay.{logs_of, with_lines}
 use Rattle.fetch_refs.specs.Slots.{with_slot, over, each}
 
+-- the value at a place
 abbrev pub value_of : Slot → Option Target
 value_of s = s.value
 
+-- the id that the packed list has at a place
 abbrev pub packed_of : Slot → Option ObjectId
 packed_of s = s.packed
 
@@ -38,9 +40,11 @@ list_of es = over finmap.empty (each packed_of es)
 abbrev pub shown_in : Contents → RefsValue
 shown_in c = record { hash = c.hash; names = names_of c.names.entries; logs = logs_of c.logs.entries; packed = list_of c.names.entries }
 
+-- whether the name has a place
 abbrev pub has_name : Contents → List ℕ → Bool
 has_name c name = is_some (lookup (is_at (name_cmp name)) c.names.entries)
 
+-- whether the name has a place for its reflog
 abbrev pub has_log : Contents → List ℕ → Bool
 has_log c name = is_some (lookup (is_at (name_cmp name)) c.logs.entries)
 
@@ -54,6 +58,7 @@ has_place c (undos.Target name old) = has_name c name
 has_place c (undos.Line name left) = true
 has_place c (undos.Lines name old) = has_log c name
 
+-- each change can be taken back in place
 abbrev pub has_room : Contents → List Undo → Bool
 has_room c [] = true
 has_room c (u ∷ us) = has_place c u && has_room c us

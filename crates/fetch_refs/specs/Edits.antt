@@ -14,6 +14,7 @@ abbrev pub with_value : Names → List ℕ → Option Target → Names
 with_value names name (Some value) = map.insert names name value
 with_value names name None = map.remove names name
 
+-- what a deletion or an update writes: nothing, where it is of the reflog alone
 abbrev pub written_in : RefLog → Option Target → Option (Option Target)
 written_in AndReference value = Some value
 written_in Only value = None
@@ -23,10 +24,12 @@ abbrev pub written : Change → Option (Option Target)
 written (Update log expected new) = written_in log.mode (Some new)
 written (Delete expected log) = written_in log None
 
+-- the references with this value at a name, where one is written
 abbrev pub put : Names → List ℕ → Option (Option Target) → Names
 put names name None = names
 put names name (Some value) = with_value names name value
 
+-- the references after an edit
 abbrev pub changed : Names → RefEdit → Names
 changed names e = put names e.name (written e.change)
 

@@ -24,6 +24,7 @@ holds (MustExistAndMatch wanted) (Some found) = is_same found wanted
 holds (ExistingMustMatch wanted) None = true
 holds (ExistingMustMatch wanted) (Some found) = is_same found wanted
 
+-- what a change expects
 abbrev pub expected_of : Change → PreviousValue
 expected_of (Update log expected new) = expected
 expected_of (Delete expected log) = expected

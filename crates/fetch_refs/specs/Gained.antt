@@ -13,6 +13,7 @@ use Rattle.fetch_refs.specs.Edits.{changed}
 use Rattle.fetch_refs.specs.Logs.{Logging, gets_line, old_id}
 use Rattle.fetch_refs.specs.Names.{Names}
 
+-- whether a change is a deletion
 abbrev pub is_deletion : Change → Bool
 is_deletion (Update log expected new) = false
 is_deletion (Delete expected log) = true
@@ -27,6 +28,7 @@ line_for how name log before (Symbolic target) = []
 line_for how name log before (Object id) =
     if gets_line how.enabled name log before (Object id) then record { old = old_id how.hash before; new = id; committer = how.committer; message = log.message } ∷ [] else []
 
+-- the line that a change gives the reflog, or none
 abbrev pub line_of_change : Logging → List ℕ → Option Target → Change → List LogLine
 line_of_change how name before (Update log expected new) = line_for how name log before new
 line_of_change how name before (Delete expected log) = []

@@ -7,6 +7,7 @@ use Rattle.fetch_refs.specs.declared.target.Target.{Target}
 use Rattle.fetch_refs.specs.declared.target.Target.TheVariants.{Object, Symbolic}
 use Rattle.fetch_refs.specs.Names.{RefsValue}
 
+-- whether a list is empty
 abbrev pub is_empty : {X : Type 0} → List X → Bool
 is_empty [] = true
 is_empty (x ∷ xs) = false
@@ -16,6 +17,7 @@ abbrev pub is_name : Target → Bool
 is_name (Object id) = false
 is_name (Symbolic name) = true
 
+-- whether a value is an id
 abbrev pub is_id : Option Target → Bool
 is_id (Some (Object id)) = true
 is_id (Some (Symbolic name)) = false

@@ -24,6 +24,7 @@ standing (e ∷ es) = stands e.0 e.1 (standing es)
 abbrev pub References : Type 0
 References = List (List ℕ × Target)
 
+-- references in order, coded
 abbrev pub coded_references : Coded References
 coded_references = coded_list (coded× (coded_list coded_ℕ) coded_target)
 

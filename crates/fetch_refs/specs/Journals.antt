@@ -10,6 +10,7 @@ use Rattle.fetch_refs.specs.Names.{RefsValue}
 abbrev pub before : Journal → RefsValue
 before j = unwound j.undo.items (shown_in j.contents)
 
+-- the references of a journal, with all its edits
 abbrev pub now_in : Journal → RefsValue
 now_in j = shown_in j.contents
 

@@ -15,14 +15,17 @@ abbrev pub last_that : {X : Type 0} → (X → Bool) → List X → Option X
 last_that p [] = None
 last_that p (x ∷ xs) = option_or (last_that p xs) (if p x then Some x else None)
 
+-- whether a mode is of the reference too
 abbrev pub touches_reference : RefLog → Bool
 touches_reference AndReference = true
 touches_reference Only = false
 
+-- the mode of a change
 abbrev pub mode_of : Change → RefLog
 mode_of (Update log expected new) = log.mode
 mode_of (Delete expected log) = log
 
+-- the value that a change leaves
 abbrev pub new_value : Change → Option Target
 new_value (Update log expected new) = Some new
 new_value (Delete expected log) = None

@@ -69,5 +69,6 @@ IsBehindTags names graph name answer = (to : List ℕ) × (id : ObjectId) × (ma
 abbrev pub IsRefusedByNames : Names → List ℕ → Result ObjectId RefError → Type 0
 IsRefusedByNames names name answer = (e : RefError) × EndsNames names name (Err e) × (answer ≡ Err e)
 
+-- What peeling a name answers, in each of its three cases.
 abbrev pub IsPeeledTo : Names → Graph → List ℕ → Result ObjectId RefError → Type 0
 IsPeeledTo names graph name answer = IsDirectlyAt names name answer ⊎ IsBehindTags names graph name answer ⊎ IsRefusedByNames names name answer

@@ -33,6 +33,7 @@ pub record Logging : Type 0 where
 unfoldable pub is_logged : List ℕ → Bool
 is_logged name = bytes_eq name (codes "HEAD") || (starts_with nat_eq name (codes "refs/heads/") || (starts_with nat_eq name (codes "refs/remotes/") || starts_with nat_eq name (codes "refs/notes/")))
 
+-- whether a mode is of the reflog alone
 abbrev pub is_only : RefLog → Bool
 is_only modes.Only = true
 is_only modes.AndReference = false
@@ -56,6 +57,7 @@ old_id kind (Some (Object id)) = id
 old_id kind (Some (Symbolic name)) = null_id kind
 old_id kind None = null_id kind
 
+-- the lines of a name's reflog
 abbrev pub lines_of : Logs → List ℕ → List LogLine
 lines_of logs name = unwrap_or (map.get logs name) []
 

@@ -16,9 +16,11 @@ use Rattle.fetch_refs.specs.Codes.{coded_target, coded_line}
 abbrev pub name_cmp : List ℕ → List ℕ → Ordering
 name_cmp = slice_cmp nat_cmp
 
+-- the references by name
 abbrev pub Names : Type 0
 Names = map.FinMap name_cmp Target
 
+-- the reflogs by name
 abbrev pub Logs : Type 0
 Logs = map.FinMap name_cmp (List LogLine)
 
@@ -33,6 +35,7 @@ pub record RefsValue : Type 0 where
   pub logs : Logs
   pub packed : PackedList
 
+-- references with reflogs, coded
 abbrev pub coded_refs : Coded RefsValue
 coded_refs =
     code_by (Kind × (Names × (Logs × PackedList)))

@@ -49,10 +49,12 @@ abbrev pub packed_value : PackedRefs → Change → Option (Option ObjectId)
 packed_value how (Update log expected new) = packed_in log.mode (packed_by how new)
 packed_value how (Delete expected log) = packed_in log (Some None)
 
+-- the packed list with this id at a name, or without one, where it is changed
 abbrev pub with_packed : PackedList → List ℕ → Option (Option ObjectId) → PackedList
 with_packed list name None = list
 with_packed list name (Some value) = with_slot list name value
 
+-- the packed list after an edit
 abbrev pub packed_changed : PackedRefs → PackedList → RefEdit → PackedList
 packed_changed how list e = with_packed list e.name (packed_value how e.change)
 

@@ -14,6 +14,7 @@ abbrev pub line_if : List ℕ → Option ObjectId → List ℕ
 line_if name None = []
 line_if name (Some id) = packed_line (name, id)
 
+-- whether two ids that may be missing are the same
 abbrev pub same_option : Option ObjectId → Option ObjectId → Bool
 same_option None None = true
 same_option (Some a) (Some b) = eq_by_cmp id_cmp a b

@@ -24,7 +24,7 @@ read name None direct next = Err (errors.Unborn name)
 read name (Some (Object id)) direct next = direct id
 read name (Some (Symbolic target)) direct next = next target
 
--- The id at the end of a way of symbolic references, which met these names so far and may meet so many more.
+-- The id at the end of a way of symbolic references, which met these names so far and may meet that many more.
 unfoldable pub follow : Names → ℕ → List (List ℕ) → List ℕ → Result ObjectId RefError
 follow names zero met name = Err (if is_met met name then errors.Cycle name else errors.Depth name)
 follow names (suc left) met name =
@@ -43,7 +43,7 @@ abbrev pub open_tag : ObjectId → Option Node → (ObjectId → Result ObjectId
 open_tag id None next = Err (errors.MissingObject id)
 open_tag id (Some node) next = option_map_or next node.target (Ok id)
 
--- The id at the end of a way through stored tags, which met these ids so far and may meet so many more.
+-- The id at the end of a way through stored tags, which met these ids so far and may meet that many more.
 -- Where all stored ids were met, another one isn't stored.
 unfoldable pub through : Graph → ℕ → List ObjectId → ObjectId → Result ObjectId RefError
 through graph zero met id = Err (if is_met_id met id then errors.TagCycle id else errors.MissingObject id)

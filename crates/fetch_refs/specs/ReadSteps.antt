@@ -16,6 +16,7 @@ use Rattle.fetch_refs.specs.Slots.{each}
 abbrev pub direct_slot : ObjectId → Slot
 direct_slot id = record { value = Some (Object id); packed = Some id }
 
+-- the places of entries
 abbrev pub slots_of : List (List ℕ × ObjectId) → List (List ℕ × Slot)
 slots_of es = each direct_slot es
 

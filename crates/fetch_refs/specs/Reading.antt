@@ -28,7 +28,7 @@ AreEntries kind list = AllByRecursion (IsEntry kind) (map.entries list)
 abbrev pub references_of : Kind → PackedList → RefsValue
 references_of kind list = record { hash = kind; names = over map.empty (each (λ id. Some (Object id)) (map.entries list)); logs = map.empty; packed = list }
 
--- The text is the lines of a list, of so many bytes, and then the rest.
+-- The text is the lines of a list, of that many bytes, and then the rest.
 pub record GoesOnAt (kind : Kind) (text : List ℕ) (place : ℕ) (list : PackedList) (rest : List ℕ) : Type 0 where
   pub entries : AreEntries kind list
   pub whole : text ≡ packed_text list ++ rest

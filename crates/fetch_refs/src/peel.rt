@@ -20,7 +20,8 @@ use std::collections::BTreeSet;
 
 impl Refs {
     /// The id that a name stands for: a direct reference's as it stands, and what a symbolic one
-    /// leads to, with tags peeled.
+    /// leads to, with tags peeled. `Unborn`, `Cycle` and `Depth` come of the names on the way, and
+    /// then `TagCycle` and `MissingObject` of the tags.
     #[tactic(auto, unfolding(crate::specs::Peeled::peeled))]
     pub fn peel<O: Objects>(&self, objects: &O, name: &FullName) -> Result<ObjectId, RefError>
         ensures { AnswersUnless is_memory (peeled self.now.names (O.graph objects.now) name.now) result }

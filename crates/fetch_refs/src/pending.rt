@@ -1,4 +1,4 @@
-//! Edits that are ready to be made.
+//! References in which edits are made, and what takes these back.
 
 ghost use Rattle.std.specs.Prelude.{◌≡◌, ℕ, List as Items, OnOk, IfOk, IfErr};
 ghost use Rattle.fetch_refs.specs.Journals.{before, now_in, HasRoom, HasTexts};

@@ -77,8 +77,8 @@ impl Refs {
         self.text.as_bytes()
     }
 
-    /// Puts all direct references into the packed list, and nothing else. After an error nothing
-    /// is changed.
+    /// Puts all direct references into the packed list, and nothing else. After an error nothing is
+    /// changed. The only error is out of memory.
     pub fn compact(&mut self) -> Result<(), RefError>
         ensures ok { OnOk result (self.new ≡ record { hash = self.old.hash; names = self.old.names; logs = self.old.logs; packed = all_direct self.old.names }) }
         ensures err { OnErr result (self.new ≡ self.old) }

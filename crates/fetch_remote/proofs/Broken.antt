@@ -34,7 +34,7 @@ free_listing prepare.MissingRefSpecs = refl
 free_listing (prepare.RefMap e) = free_map e
 free_listing prepare.NoMemory = refl
 
--- behind the listing a fault of the worktrees is free, too
+-- after the listing a fault of the worktrees is free, too
 free_receiving : (e : ReceiveError) → is_free (receiving e) ≡ false → is_free_receiving e ≡ false
 free_receiving (receive.NoMapping specs count) sure = refl
 free_receiving (receive.IncompatibleObjectHash local remote) sure = refl
@@ -78,7 +78,7 @@ whole_receiving answers old mid new g s l behind e h k =
     breaks_late is_free answers (bound_of g) old mid new [] behind (told_as preparing (listing_stage g)) (receiving_stage g s) l (receiving e)
     (concludes_as answers (bound_of g) old mid [] behind preparing (listing_stage g) l h) (receiving_as answers mid new g s l behind e k)
 
--- ---- a front of the requests
+-- ---- a prefix of the requests
 
 front_then : {X Y E F : Type 0} (bound : ℕ) (f : E → F) (c : Conversation X E) (next : X → Conversation Y F) (stream heard : List ℕ) → IsFront heard (lines_text (sent_in bound c stream))
     → IsFront heard (lines_text (sent_in bound (and_then (told_as f c) next) stream))

@@ -86,7 +86,7 @@ moved_objects : (dry : Bool) (packed : PackedRefs) (setup : Setup) (s : State) (
 moved_objects true packed setup s edits = refl
 moved_objects false packed setup s edits = refl
 
--- the state behind the edits of a fetch
+-- the state after the edits of a fetch
 abbrev pub moved_in : Given → State → List RefEdit → State
 moved_in g s edits = moved g.options.dry_run (manner_in g).packed g.setup s edits
 

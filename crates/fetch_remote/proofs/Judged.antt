@@ -1,5 +1,6 @@
 -- What judging answers, over a list of worktrees.
 use Rattle.std.proofs.Common.{◌≡◌, true, false, List, Result, Ok, Err, refl, sym, ap, subst, ◌∙◌}
+use Rattle.std.proofs.lemmas.Bool.{OnFalse_from}
 use Rattle.fetch_store.specs.Answers.{AnswersUnless}
 use Rattle.fetch_specs.specs.Specs.{Spec}
 use Rattle.fetch_wire.specs.declared.listings.mapping.Mapping.{Mapping}
@@ -15,7 +16,7 @@ use Rattle.fetch_update.proofs.Refused.{refused_with}
 use Rattle.fetch_conversation.specs.Errors.{fetch_of_update, is_worktree_fault}
 use Rattle.fetch_conversation.specs.declared.fetch.Error.{Error}
 use Rattle.fetch_conversation.specs.declared.fetch.Error.TheVariants as errors
-use Rattle.fetch_remote.specs.Judging.{judged_as, judged_of, AnswersBy}
+use Rattle.fetch_remote.specs.Judging.{judged_of, is_free_judging}
 
 refuses_no_fault : (p : Policy) (m : Mapping) (e : UpdateError) → Refuses p m e → is_worktree_fault e ≡ false
 refuses_no_fault p m (update.FindReference name) h = refl
@@ -39,16 +40,20 @@ pub judged_yes : (p : Policy) (m : RefMap) (o : Outcome) → outcome_of p m.refs
 unfolding judged_of
 judged_yes p m o is = rw is refl
 
+-- a free refusal may come whatever is expected
+pub told_free : (expected : Result Outcome Error) (e : Error) → is_free_judging e ≡ true → AnswersUnless {A = Outcome} is_free_judging expected (Err e)
+told_free expected e free = OnFalse_from (is_free_judging e) (expected ≡ Err e) (λ sure. let k : true ≡ false = sym free ∙ sure in absurd cc)
+
 -- a refusal of the policy is told as it is
-pub told_refusal : (p : Policy) (m : RefMap) (e : UpdateError) → AnswersUnless {A = Outcome} is_memory (outcome_of p m.refspecs m.extra_refspecs m.mappings) (Err e) → AnswersBy {X = Outcome} (judged_of p m) (Err (fetch_of_update e))
-told_refusal p m update.NoMemory h = λ sure. absurd (cc)
-told_refusal p m (update.FindReference name) h = λ _. judged_err p m (update.FindReference name) h
-told_refusal p m (update.InvalidRefName name) h = λ _. judged_err p m (update.InvalidRefName name) h
-told_refusal p m (update.FindCommit id) h = λ _. judged_err p m (update.FindCommit id) h
-told_refusal p m (update.PeelToId name cause) h = λ _. judged_err p m (update.PeelToId name cause) h
-told_refusal p m update.WorktreeListing h = λ _. judged_err p m update.WorktreeListing h
-told_refusal p m update.OpenWorktreeRepo h = λ _. judged_err p m update.OpenWorktreeRepo h
-told_refusal p m update.FollowSymref h = λ _. judged_err p m update.FollowSymref h
+pub told_refusal : (p : Policy) (m : RefMap) (e : UpdateError) → AnswersUnless {A = Outcome} is_memory (outcome_of p m.refspecs m.extra_refspecs m.mappings) (Err e) → AnswersUnless {A = Outcome} is_free_judging (judged_of p m) (Err (fetch_of_update e))
+told_refusal p m update.NoMemory h = tt
+told_refusal p m (update.FindReference name) h = judged_err p m (update.FindReference name) h
+told_refusal p m (update.InvalidRefName name) h = judged_err p m (update.InvalidRefName name) h
+told_refusal p m (update.FindCommit id) h = judged_err p m (update.FindCommit id) h
+told_refusal p m (update.PeelToId name cause) h = judged_err p m (update.PeelToId name cause) h
+told_refusal p m update.WorktreeListing h = tt
+told_refusal p m update.OpenWorktreeRepo h = tt
+told_refusal p m update.FollowSymref h = tt
 
 same_refusal : (a b : UpdateError) → errors.UpdateRefs a ≡ errors.UpdateRefs b → a ≡ b
 same_refusal a b is = cc

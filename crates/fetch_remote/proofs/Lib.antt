@@ -10,7 +10,6 @@ pub mod Fetched
 pub mod Refused
 pub mod Ordered
 pub mod Kept
-pub mod Talked
 pub mod Asked
 pub mod Overrides
 pub mod Lost
@@ -19,6 +18,8 @@ pub mod Unjudged
 pub mod Steps
 pub mod Lasting
 pub mod Complete
+pub mod Unread
+pub mod DryRuns
 pub mod Serving
 pub mod Deletions
 pub mod Replaced

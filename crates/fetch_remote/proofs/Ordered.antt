@@ -56,7 +56,7 @@ sent_long bound (Some n) long c stream = refl
 
 -- ---- the listing
 
--- what is sent of a conversation that ends behind its question
+-- what is sent of a conversation that ends after its question
 sent_once : {X E : Type 0} (bound : ℕ) (next : Reply → Conversation X E) (found : Result (Reply × List ℕ) Fault) → ((t : Reply) (rest : List ℕ) → sent_in bound (next t) rest ≡ []) → (lines : List Line)
     → lines ++ after_reply (λ _. []) (λ t rest. sent_in bound (next t) rest) found ≡ lines
 sent_once bound next (Ok x) none lines = rw (none x.0 x.1) (append-nil lines)

@@ -2,28 +2,25 @@
 use Rattle.std.proofs.Common.{◌≡◌, ℕ, Bool, true, false, List, [], ◌++◌, Option, Result, Ok, Err, refl, sym, ap, ◌∙◌, inl, inr}
 use Rattle.std.specs.Prelude.{◌⊎◌}
 use Rattle.std.proofs.lemmas.List.{append-nil}
-use Rattle.fetch_update.specs.declared.update.Error.{Error as UpdateError}
 use Rattle.fetch_update.specs.declared.worktrees.Worktree.{Worktree}
-use Rattle.fetch_wire.specs.Talks.{Talk, Talks, IsFront, Talks-none, Talks-then}
+use Rattle.fetch_wire.specs.Talks.{Talk, Talks, IsFront, Talks-then}
 use Rattle.fetch_wire.specs.Written.{lines_text}
 use Rattle.fetch_conversation.specs.Conversation.{answer_in, IsAwaited, Breaks}
 use Rattle.fetch_conversation.specs.Conversation as held
-use Rattle.fetch_conversation.proofs.Tied.{awaited_first}
-use Rattle.fetch_conversation.specs.Errors.{is_free_listing, is_worktree_fault}
+use Rattle.fetch_conversation.specs.Errors.{is_free_listing}
 use Rattle.fetch_conversation.specs.ListStage.{ListedValue}
 use Rattle.fetch_conversation.specs.declared.conversing.Received.{Received}
 use Rattle.fetch_conversation.specs.declared.fetch.Error.{Error as ReceiveError}
 use Rattle.fetch_conversation.specs.declared.fetch.Error.TheVariants as receive
 use Rattle.fetch_conversation.specs.declared.prepare.Error.{Error as PrepareError}
 use Rattle.fetch_conversation.specs.declared.prepare.Error.TheVariants as prepare
-use Rattle.fetch_conversation.specs.declared.ref_map.Error.TheVariants as ref_map
 use Rattle.fetch_remote.specs.declared.fetching.fetch_error.FetchError.{FetchError}
 use Rattle.fetch_remote.specs.declared.fetching.fetch_error.FetchError.TheVariants as errors
 use Rattle.fetch_remote.specs.Errors.{preparing, receiving, is_free}
-use Rattle.fetch_remote.specs.Fetching.{manner_in, taken_in, keep_made, settled_in, fetched_in, requests_in, left_by, left_in, keep_left_by, keep_left_in}
+use Rattle.fetch_remote.specs.Fetching.{manner_in, taken_in, keep_made, settled_in, requests_in, left_by, left_in, keep_left_by, keep_left_in}
 use Rattle.fetch_remote.specs.Form.{Given}
 use Rattle.fetch_remote.specs.Keeping.{AreFiles, with_keep}
-use Rattle.fetch_remote.specs.Refused.{RefusesWith, IsRefusedBy, HasEnded, IsFound, IsMaking, IsTaken, IsMoved, IsStanding, unjudged, unmade, unremoved, is_late, IsCutListing, IsCutReceiving, IsCounted, IsRefused, interrupted_listing, interrupted_receiving}
+use Rattle.fetch_remote.specs.Refused.{RefusesWith, IsRefusedBy, HasEnded, IsFound, IsMaking, IsTaken, IsStanding, unjudged, unmade, unremoved, is_late, IsCutListing, IsCutReceiving, IsCounted, IsRefused}
 use Rattle.fetch_remote.specs.Repositories.{State}
 use Rattle.fetch_store.specs.Trees.{Tree}
 use Rattle.fetch_remote.specs.Settling.{kept_or, standing, is_free_settling, IsLeft, IsUnsettled}
@@ -64,33 +61,6 @@ uncounted g trees before after files left said heard e sure = record {
   making = λ path is. absurd (uncaused e (unmade path) sure refl is);
   worktrees = λ fault yes is. absurd (uncaused e (unjudged fault) sure yes is);
   removing = λ path is. absurd (uncaused e (unremoved path) sure refl is);
-}
-
--- ---- want of memory before anything is said
-
-no_memory_counted : (g : Given) (trees : List Worktree) (before after : State) (files left : Option Tree) (said heard : List ℕ) → IsCounted g trees before after files left said heard errors.NoMemory
-no_memory_counted g trees before after files left said heard = record {
-  transport = λ is. absurd (cc);
-  interrupted = λ is. absurd (cc);
-  client = λ is. absurd (cc);
-  stopped = λ is. absurd (cc);
-  making = λ path is. absurd (cc);
-  worktrees = λ fault yes is. absurd (cc);
-  removing = λ path is. absurd (cc);
-}
-
-pub forgot : (answers : Bool) (now : Option Talk) (known : Option (List Worktree)) (files : Option Tree) (g : Given) (before : State) → IsRefused answers now now known files files g before before errors.NoMemory
-forgot answers now known files g before = record {
-  said = [];
-  heard = [];
-  passed = Talks-none answers now;
-  front = (lines_text (requests_in g before []), refl);
-  needed = awaited_first (bound_of g) now [] (conversation g before);
-  trees = list_of known;
-  listed_trees = list_told known;
-  why = λ sure. absurd (cc);
-  stands = λ _. inl (found before files);
-  counted = no_memory_counted g (list_of known) before before files files [] [];
 }
 
 -- ---- a conversation that broke off
@@ -145,7 +115,7 @@ no_pack_listing prepare.MissingRefSpecs x is = absurd (cc)
 no_pack_listing (prepare.RefMap e) x is = absurd (cc)
 no_pack_listing prepare.NoMemory x is = absurd (cc)
 
-no_listing_pack : (e : ReceiveError) (x : PrepareError) → receiving e ≡ errors.Prepare x → ⊥
+pub no_listing_pack : (e : ReceiveError) (x : PrepareError) → receiving e ≡ errors.Prepare x → ⊥
 no_listing_pack (receive.NoMapping specs count) x is = absurd (cc)
 no_listing_pack (receive.IncompatibleObjectHash local remote) x is = absurd (cc)
 no_listing_pack (receive.Disconnected link) x is = absurd (cc)
@@ -218,7 +188,7 @@ pub broken_off : (answers : Bool) (old new : Option Talk) (known : Option (List 
 broken_off answers old new known files g before e (inl h) = broken_listing answers old new known files g before e h
 broken_off answers old new known files g before e (inr h) = broken_receiving answers old new known files g before e h
 
--- ---- refused behind the conversation
+-- ---- refused after the conversation
 
 -- the refusal's cause, and what it leaves
 abbrev IsLate : Given → List Worktree → State → State → Option Tree → Option Tree → Told → ReceiveError → Type 0

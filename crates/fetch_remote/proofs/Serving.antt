@@ -3,31 +3,29 @@ use Rattle.std.proofs.Common.{◌≡◌, Bool, true, false, List, [], ◌++◌, 
 use Rattle.std.specs.Prelude.{IfSome}
 use Rattle.fetch_pack.specs.Reading.{Contents}
 use Rattle.fetch_store.specs.Graph.{Graph, graph_of}
-use Rattle.fetch_store.specs.declared.id.ObjectId.{ObjectId}
 use Rattle.fetch_update.specs.declared.worktrees.Worktree.{Worktree}
 use Rattle.fetch_wire.specs.declared.greetings.handshake.Capability.{Capability}
 use Rattle.fetch_wire.specs.declared.listings.reference.Ref.{Ref}
-use Rattle.fetch_conversation.specs.Conversation.{Conversation, ends, answer_in, and_then, map_refusal, told_as}
-use Rattle.fetch_conversation.specs.ConverseStage.{converse_stage, wanting, with_pack}
+use Rattle.fetch_conversation.specs.Conversation.{Conversation, ends, answer_in, map_refusal, told_as}
+use Rattle.fetch_conversation.specs.ConverseStage.{converse_stage, with_pack}
 use Rattle.fetch_conversation.specs.Conversing.{IsClear}
 use Rattle.fetch_conversation.specs.Exchange.{TermsValue}
 use Rattle.fetch_conversation.specs.ListStage.{ListedValue}
 use Rattle.fetch_conversation.specs.Writing.{Answer, listing_text, answers_text, negotiated_in}
 use Rattle.fetch_conversation.specs.declared.conversing.Received.{Received}
-use Rattle.fetch_conversation.specs.declared.fetch.Error.{Error as ReceiveError}
-use Rattle.fetch_conversation.specs.declared.prepare.Error.{Error as PrepareError}
 use Rattle.fetch_conversation.proofs.Chained.{answer_behind, answer_then, answer_as}
 use Rattle.fetch_conversation.proofs.Writing.{written_listing, written_pack}
 use Rattle.fetch_remote.specs.Errors.{preparing, receiving}
 use Rattle.fetch_remote.specs.Form.{Given}
 use Rattle.fetch_remote.specs.Repositories.{State}
-use Rattle.fetch_remote.specs.Serving.{listed_by, IsListed, IsAllStored, IsServed, told_listed, told_served}
+use Rattle.fetch_remote.specs.Serving.{listed_by, IsAllStored, IsServed, told_listed, told_served, as_dry_run, but_its_pack, told_dry}
 use Rattle.fetch_remote.specs.Settling.{brought}
 use Rattle.fetch_remote.specs.Stages.{Told, bound_of, wants_in, terms_in, listing_stage, pack_stage, receiving_stage, conversation}
 use Rattle.fetch_remote.specs.Valid.{IsTakeable, AreJudgeable, policy_with, IsValidInput}
 use Rattle.fetch_remote.specs.declared.fetching.fetch_error.FetchError.{FetchError}
+use Rattle.fetch_remote.proofs.DryRuns.{stage_dry}
 
--- ---- one stage behind the other
+-- ---- one stage after the other
 
 told_end : (bound : ℕ) (l : ListedValue) (r : Option Received) (rest : List ℕ) → answer_in {X = Told} {E = FetchError} bound (ends (Ok (record { listed = l; received = r }))) rest ≡ Ok (record { listed = l; received = r }, rest)
 unfolding answer_in
@@ -95,5 +93,25 @@ served_is_valid g trees s capabilities refs a answers contents rest h taken judg
       behind = rest;
       replies = both g s l (Some r) (listing_text capabilities refs ++ answered) answered rest (written_listing (bound_of g) _ capabilities refs answered h.listed.askable h.listed.listing) (written_pack (bound_of g) t (graph_of s.objects) a answers contents rest h.packed);
       pack = is_brought g.options.dry_run r (IsTakeable s (wants_in g s l.ref_map)) h.packed.kept taken;
+      mappings = judged;
+    }
+
+-- ---- a dry run
+
+-- The same text of a server is read by a dry run, up to the pack.
+pub dry_is_valid : (g : Given) (trees : List Worktree) (s : State) (capabilities : List Capability) (refs : List Ref) (a : Answer) (answers : List Answer) (contents : Contents) (rest : List ℕ) → IsServed g s capabilities refs a answers contents
+    → AreJudgeable (policy_with (as_dry_run g) trees s (told_dry (told_served g s capabilities refs a answers contents))) (listed_by g capabilities refs).ref_map
+    → IsValidInput (as_dry_run g) trees s (listing_text capabilities refs ++ (answers_text a answers ++ rest))
+dry_is_valid g trees s capabilities refs a answers contents rest h judged =
+    let l = listed_by g capabilities refs in
+    let t : TermsValue = terms_in g s l in
+    let r : Received = with_pack (negotiated_in t (graph_of s.objects) a answers) contents in
+    let answered : List ℕ = answers_text a answers ++ rest in
+    let d = stage_dry (bound_of g) (graph_of s.objects) t answered rest (Some r) (written_pack (bound_of g) t (graph_of s.objects) a answers contents rest h.packed) in
+    record {
+      told = told_dry (told_served g s capabilities refs a answers contents);
+      behind = d.left;
+      replies = both (as_dry_run g) s l (Some (but_its_pack r)) (listing_text capabilities refs ++ answered) answered d.left (written_listing (bound_of g) _ capabilities refs answered h.listed.askable h.listed.listing) d.is;
+      pack = tt;
       mappings = judged;
     }

@@ -2,6 +2,8 @@
 use Rattle.std.proofs.Common.{◌≡◌, ◌≢◌, ℕ, Bool, true, false, List, [], ◌∷◌, Option, Some, None, Result, Ok, Err, refl, sym, ap, ◌∙◌, subst, Contains, arith, inl, inr}
 use Rattle.std.specs.Prelude.{◌⊎◌, ◌||◌, IfErr, ⊤, is_some, unwrap_or}
 use Rattle.std.specs.FinMap as map
+use Rattle.std.proofs.lemmas.Bool.{OnFalse_at}
+use Rattle.fetch_store.specs.Answers.{AnswersUnless}
 use Rattle.fetch_store.specs.Objects.{Stored}
 use Rattle.std.specs.List.{slice_get}
 use Rattle.std.proofs.lemmas.List.Elements.{All-contains}
@@ -21,7 +23,6 @@ use Rattle.fetch_update.specs.declared.update.Error.{Error as UpdateError}
 use Rattle.fetch_update.specs.declared.update.Error.TheVariants as update_errors
 use Rattle.fetch_update.specs.declared.update.Outcome.{Outcome as Updates}
 use Rattle.fetch_update.specs.declared.worktrees.Worktree.{Worktree}
-use Rattle.fetch_conversation.specs.Errors.{is_worktree_fault}
 use Rattle.fetch_wire.specs.declared.listings.mapping.RefMap.{RefMap}
 use Rattle.fetch_conversation.specs.ListStage.{ListedValue}
 use Rattle.fetch_conversation.specs.declared.conversing.Received.{Received}
@@ -31,11 +32,12 @@ use Rattle.fetch_remote.specs.declared.fetching.outcome.Outcome.{Outcome}
 use Rattle.fetch_remote.specs.declared.fetching.outcome.Status.{Status}
 use Rattle.fetch_remote.specs.declared.fetching.settling.Manner.{Manner}
 use Rattle.fetch_remote.specs.Fetched.{HoldsMapped, objects_with, border_with}
+use Rattle.fetch_remote.specs.Errors.{is_memory}
 use Rattle.fetch_remote.specs.Form.{Given}
-use Rattle.fetch_remote.specs.Judging.{judged_as, judged_of, is_free_judging, AnswersBy, IsTold, Judges}
+use Rattle.fetch_remote.specs.Judging.{judged_as, judged_of, is_free_judging, IsTold, Judges}
 use Rattle.fetch_remote.specs.Repositories.{State, Setup, held}
-use Rattle.fetch_remote.specs.Keeping.{AreFiles, IsUnmade, made, with_keep, removed_in}
-use Rattle.fetch_remote.specs.Settling.{◌>>=◌, unless_hit, unless_missing, brought, keep_of, pack_of, after_take, taken, policy_in, moved, outcome_in, status_of, status_by, told_of, released_of, done, settled, kept_or, Fails, IsOfJudging, is_early, is_free_taking, is_free_settling, IsMaking, IsTaken, IsMoved, IsUntaken, IsUnreleased, IsUnsettledBy}
+use Rattle.fetch_remote.specs.Keeping.{AreFiles, IsUnmade, made, with_keep}
+use Rattle.fetch_remote.specs.Settling.{◌>>=◌, unless_hit, unless_missing, brought, keep_of, pack_of, after_take, taken, policy_in, moved, outcome_in, status_of, status_by, told_of, released_of, done, settled, IsOfJudging, is_early, is_free_taking, is_free_settling, IsMaking, IsTaken, IsMoved, IsUntaken, IsUnreleased, IsUnsettledBy}
 use Rattle.fetch_remote.proofs.Keeping.{files_same, same_files, status_is, removed_is}
 use Rattle.fetch_remote.specs.Stages.{wants_in}
 use Rattle.fetch_remote.proofs.Wanted.{stored_or_wanted}
@@ -107,18 +109,18 @@ of_taking before wants (Some r) e is = taking_by (collision before.objects r.obj
 pub taking_only : (before : State) (wants : List ObjectId) (r : Option Received) (e x : Error) → taken before wants r ≡ Err e → e ≡ x → IsOfTaking x
 taking_only before wants r e x is same = subst IsOfTaking same (of_taking before wants r e is)
 
-pub never_unmade : (before : State) (wants : List ObjectId) (r : Option Received) (e : Error) (path : List ℕ) → Fails (taken before wants r) e → e ≡ errors.KeepFile path → ⊥
+pub never_unmade : (before : State) (wants : List ObjectId) (r : Option Received) (e : Error) (path : List ℕ) → AnswersUnless {A = State} is_memory (taken before wants r) (Err e) → e ≡ errors.KeepFile path → ⊥
 never_unmade before wants r e path h is = of_taking before wants r (errors.KeepFile path) (rw is at h)
 
 -- the taking was refused before any call of the files
-pub untaken_early : (before : State) (wants : List ObjectId) (r : Option Received) (keep : Option (List ℕ)) (files : Option Tree) (e : Error) → Fails (taken before wants r) e → IsUntaken (taken before wants r) keep files files e
+pub untaken_early : (before : State) (wants : List ObjectId) (r : Option Received) (keep : Option (List ℕ)) (files : Option Tree) (e : Error) → AnswersUnless {A = State} is_memory (taken before wants r) (Err e) → IsUntaken (taken before wants r) keep files files e
 untaken_early before wants r keep files e h = record {
   why = λ sure. (fails_for (taken before wants r) e sure h, refl);
   making = λ path is. absurd (never_unmade before wants r e path h is);
   stands = inl refl;
 }
   where
-    fails_for : (x : Result State Error) (e : Error) → is_free_taking e ≡ false → Fails x e → x ≡ Err e
+    fails_for : (x : Result State Error) (e : Error) → is_free_taking e ≡ false → AnswersUnless {A = State} is_memory x (Err e) → x ≡ Err e
     fails_for x (errors.NoMapping specs count) sure h = h
     fails_for x (errors.IncompatibleObjectHash local remote) sure h = h
     fails_for x (errors.Disconnected link) sure h = h
@@ -152,7 +154,7 @@ untaken_making before wants r s git_dir files left e took h =
     making_at path is (inl by) m = let same : h.path ≡ path = cc in subst (λ (x : List ℕ). IsMaking (taken before wants (Some r)) (made git_dir r.pack) x files left) same m
     making_at path is (inr by) m = absurd (cc)
 
--- memory ran out behind the making
+-- memory ran out after the making
 pub untaken_behind : (before : State) (wants : List ObjectId) (r : Received) (s : State) (git_dir : List ℕ) (files left : Option Tree) → taken before wants (Some r) ≡ Ok s → AreFiles files left (with_keep (made git_dir r.pack))
     → IsUntaken (taken before wants (Some r)) (made git_dir r.pack) files left errors.NoMemory
 untaken_behind before wants r s git_dir files left took h = record { why = λ sure. absurd (cc); making = λ path is. absurd (cc); stands = stands (made git_dir r.pack) h }
@@ -182,7 +184,7 @@ untaken setup how trees before wants l r files left e h = record {
 pub untaken_unremoved : (before : State) (wants : List ObjectId) (r : Option Received) (keep : Option (List ℕ)) (files left : Option Tree) (e : Error) (path : List ℕ) → IsUntaken (taken before wants r) keep files left e → e ≡ errors.RemovePackKeepFile path → ⊥
 untaken_unremoved before wants r keep files left e path h is = taking_only before wants r e (errors.RemovePackKeepFile path) (h.why (ap is_free_taking is)).0 is
 
--- ---- judging is refused behind the taking
+-- ---- judging is refused after the taking
 
 told_of_judging : (o : Result Updates UpdateError) (e : Error) → judged_as o ≡ Err e → IsOfJudging e
 told_of_judging (Ok u) e is = absurd (cc)
@@ -200,22 +202,22 @@ unfolding judged_of
 of_judging p m e is = told_of_judging (outcome_of p m.refspecs m.extra_refspecs m.mappings) e is
 
 -- what judging may answer
-pub judging_told : (p : Policy) (m : RefMap) (e : Error) → AnswersBy {X = Updates} (judged_of p m) (Err e) → IsOfJudging e
-judging_told p m (errors.NoMapping specs count) h = of_judging p m (errors.NoMapping specs count) (h refl)
-judging_told p m (errors.IncompatibleObjectHash local remote) h = of_judging p m (errors.IncompatibleObjectHash local remote) (h refl)
-judging_told p m (errors.Disconnected link) h = of_judging p m (errors.Disconnected link) (h refl)
-judging_told p m (errors.RejectShallowRemoteConfig value) h = of_judging p m (errors.RejectShallowRemoteConfig value) (h refl)
-judging_told p m (errors.NegotiationAlgorithmConfig value) h = of_judging p m (errors.NegotiationAlgorithmConfig value) (h refl)
-judging_told p m (errors.PackThreads value) h = of_judging p m (errors.PackThreads value) (h refl)
-judging_told p m (errors.Fetch e) h = of_judging p m (errors.Fetch e) (h refl)
-judging_told p m errors.Client h = of_judging p m errors.Client (h refl)
-judging_told p m errors.Interrupted h = of_judging p m errors.Interrupted (h refl)
-judging_told p m (errors.RejectShallowRemote id) h = of_judging p m (errors.RejectShallowRemote id) (h refl)
-judging_told p m (errors.Pack e) h = of_judging p m (errors.Pack e) (h refl)
-judging_told p m (errors.Collision id) h = of_judging p m (errors.Collision id) (h refl)
-judging_told p m (errors.KeepFile path) h = of_judging p m (errors.KeepFile path) (h refl)
+pub judging_told : (p : Policy) (m : RefMap) (e : Error) → AnswersUnless {A = Updates} is_free_judging (judged_of p m) (Err e) → IsOfJudging e
+judging_told p m (errors.NoMapping specs count) h = of_judging p m (errors.NoMapping specs count) h
+judging_told p m (errors.IncompatibleObjectHash local remote) h = of_judging p m (errors.IncompatibleObjectHash local remote) h
+judging_told p m (errors.Disconnected link) h = of_judging p m (errors.Disconnected link) h
+judging_told p m (errors.RejectShallowRemoteConfig value) h = of_judging p m (errors.RejectShallowRemoteConfig value) h
+judging_told p m (errors.NegotiationAlgorithmConfig value) h = of_judging p m (errors.NegotiationAlgorithmConfig value) h
+judging_told p m (errors.PackThreads value) h = of_judging p m (errors.PackThreads value) h
+judging_told p m (errors.Fetch e) h = of_judging p m (errors.Fetch e) h
+judging_told p m errors.Client h = of_judging p m errors.Client h
+judging_told p m errors.Interrupted h = of_judging p m errors.Interrupted h
+judging_told p m (errors.RejectShallowRemote id) h = of_judging p m (errors.RejectShallowRemote id) h
+judging_told p m (errors.Pack e) h = of_judging p m (errors.Pack e) h
+judging_told p m (errors.Collision id) h = of_judging p m (errors.Collision id) h
+judging_told p m (errors.KeepFile path) h = of_judging p m (errors.KeepFile path) h
 judging_told p m (errors.UpdateRefs e) h = inr (e, refl)
-judging_told p m (errors.RemovePackKeepFile path) h = of_judging p m (errors.RemovePackKeepFile path) (h refl)
+judging_told p m (errors.RemovePackKeepFile path) h = of_judging p m (errors.RemovePackKeepFile path) h
 judging_told p m errors.NoMemory h = inl refl
 
 pub told_only : (known : Option (List Worktree)) (policy : List Worktree → Policy) (m : RefMap) (result : Result Updates Error) → Judges known policy m result → IfErr result IsOfJudging
@@ -257,12 +259,12 @@ judging_sure (errors.RemovePackKeepFile path) h = absurd (cc)
 judging_sure errors.NoMemory h = absurd (cc)
 
 pub unjudged : (setup : Setup) (how : Manner) (trees : List Worktree) (before : State) (wants : List ObjectId) (l : ListedValue) (r : Option Received) (files left : Option Tree) (mid : State) (e : Error) → taken before wants (brought how.dry_run r) ≡ Ok mid
-    → AreFiles files left (with_keep (keep_of setup how r)) → AnswersBy {X = Updates} (judged_of (policy_in mid how trees) l.ref_map) (Err e)
+    → AreFiles files left (with_keep (keep_of setup how r)) → AnswersUnless {A = Updates} is_free_judging (judged_of (policy_in mid how trees) l.ref_map) (Err e)
     → IsUnsettledBy (settled setup how trees before wants l r) (taken before wants (brought how.dry_run r)) (keep_of setup how r) setup.settings.git_dir files left before mid e
 unfolding settled
 unjudged setup how trees before wants l r files left mid e took kept h = record {
   why = λ sure.
-      let k = h (judging_sure e sure) in
+      let k = OnFalse_at (judging_sure e sure) h in
       (rw (took, k) refl, rw took refl, rw took kept);
   stands = λ _. inr at;
   unlisted = λ fault faulty is. at;
@@ -279,14 +281,14 @@ unjudged setup how trees before wants l r files left mid e took kept h = record 
 
 -- the same over a map that is the one that was listed
 pub unjudged_found : (setup : Setup) (how : Manner) (trees : List Worktree) (before : State) (wants : List ObjectId) (l : ListedValue) (r : Option Received) (files left : Option Tree) (mid : State) (e : Error) (m : RefMap) → m ≡ l.ref_map
-    → taken before wants (brought how.dry_run r) ≡ Ok mid → AreFiles files left (with_keep (keep_of setup how r)) → AnswersBy {X = Updates} (judged_of (policy_in mid how trees) m) (Err e)
+    → taken before wants (brought how.dry_run r) ≡ Ok mid → AreFiles files left (with_keep (keep_of setup how r)) → AnswersUnless {A = Updates} is_free_judging (judged_of (policy_in mid how trees) m) (Err e)
     → IsUnsettledBy (settled setup how trees before wants l r) (taken before wants (brought how.dry_run r)) (keep_of setup how r) setup.settings.git_dir files left before mid e
 unjudged_found setup how trees before wants l r files left mid e m same took kept h =
-    unjudged setup how trees before wants l r files left mid e took kept (subst (λ (x : RefMap). AnswersBy {X = Updates} (judged_of (policy_in mid how trees) x) (Err e)) same h)
+    unjudged setup how trees before wants l r files left mid e took kept (subst (λ (x : RefMap). AnswersUnless {A = Updates} is_free_judging (judged_of (policy_in mid how trees) x) (Err e)) same h)
 
 -- ---- moving
 
--- memory ran out behind the taking
+-- memory ran out after the taking
 pub unmoved : (setup : Setup) (how : Manner) (trees : List Worktree) (before : State) (wants : List ObjectId) (l : ListedValue) (r : Option Received) (files left : Option Tree) (mid : State) → taken before wants (brought how.dry_run r) ≡ Ok mid
     → AreFiles files left (with_keep (keep_of setup how r)) → IsUnsettledBy (settled setup how trees before wants l r) (taken before wants (brought how.dry_run r)) (keep_of setup how r) setup.settings.git_dir files left before mid errors.NoMemory
 unmoved setup how trees before wants l r files left mid took kept = record {

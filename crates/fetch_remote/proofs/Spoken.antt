@@ -74,7 +74,7 @@ pub needed_listing : (g : Given) (s : State) (old new : Option Talk) → IsAwait
 unfolding conversation
 needed_listing g s old new h = awaited_early (bound_of g) old new [] (told_as preparing (listing_stage g)) (receiving_stage g s) (awaited_as (bound_of g) old new [] preparing (listing_stage g) h)
 
--- and what is due for the pack, behind the listing
+-- and what is due for the pack, after the listing
 pub needed_receiving : (answers : Bool) (g : Given) (s : State) (old mid new : Option Talk) (l : ListedValue) (behind : List ℕ) → (h : Concludes answers (bound_of g) old mid [] (listing_stage g) l behind)
     → IsAwaited (bound_of g) mid new behind (pack_stage g s l) → IsAwaited (bound_of g) old new [] (conversation g s)
 unfolding conversation receiving_stage

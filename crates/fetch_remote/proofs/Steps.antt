@@ -37,7 +37,7 @@ use Rattle.fetch_conversation.specs.declared.prepare.Error.{Error as PrepareErro
 use Rattle.fetch_conversation.specs.declared.prepare.Error.TheVariants as prepare
 use Rattle.fetch_conversation.specs.declared.ref_map.Error.{Error as MapError}
 use Rattle.fetch_conversation.specs.declared.ref_map.Error.TheVariants as ref_map
-use Rattle.fetch_remote.specs.Errors.{receiving}
+use Rattle.fetch_remote.specs.Errors.{preparing, receiving}
 use Rattle.fetch_remote.specs.Fetching.{manner_in, taken_in}
 use Rattle.fetch_remote.specs.Form.{Given}
 use Rattle.fetch_remote.specs.Judging.{IsTold, judged_of}
@@ -46,7 +46,7 @@ use Rattle.fetch_remote.specs.Refused.{IsRefused}
 use Rattle.fetch_remote.specs.Repositories.{State}
 use Rattle.fetch_remote.specs.Settling.{policy_in, IsSettled}
 use Rattle.fetch_remote.specs.Stages.{bound_of, wants_in, inquiry_in, terms_in, pack_stage}
-use Rattle.fetch_remote.specs.Steps.{HasListed, HasReceived, IsReceived, listing_error, is_missing}
+use Rattle.fetch_remote.specs.Steps.{HasListed, BreaksOff, HasReceived, IsReceived, listing_error, is_missing}
 use Rattle.fetch_remote.specs.Talking.{HasEnded, BreaksListing, BreaksReceiving}
 use Rattle.fetch_remote.specs.declared.fetching.fetch_error.FetchError.TheVariants as errors
 use Rattle.fetch_remote.specs.declared.fetching.outcome.Outcome.{Outcome}
@@ -59,7 +59,7 @@ use Rattle.fetch_remote.proofs.Received.{is_received}
 use Rattle.fetch_remote.proofs.Refused.{broken_off}
 use Rattle.fetch_remote.proofs.Unjudged.{IsOther, refused_as}
 
--- ---- the second stage behind the first
+-- ---- the second stage after the first
 
 -- both are held to their ends
 pub talked_on : (answers : Bool) (old mid new : Option Talk) (g : Given) (s : State) (listed : Listed) (t : Talked) → HasListed answers old mid (inquiry_in g) listed → HasReceived answers mid new g s listed t → HasEnded answers old new g s t
@@ -67,6 +67,10 @@ talked_on answers old mid new g s listed t h k = record {
   told = rw k.kept (record { between = mid; behind = pending_of listed; list = h.list; pack = k.pack });
   wants = k.wants ∙ sym (ap (λ (l : ListedValue). wants_in g s l.ref_map) k.kept);
 }
+
+-- the first one breaks off
+pub breaks_off : (answers : Bool) (old new : Option Talk) (g : Given) (s : State) (e : PrepareError) → BreaksOff answers old new (inquiry_in g) e → BreaksListing answers old new g (preparing e) ⊎ BreaksReceiving answers old new g s (preparing e)
+breaks_off answers old new g s e h = inl (record { cause = e; told = refl; broke = h.broke })
 
 -- the second one breaks off
 pub breaks_on : (answers : Bool) (old mid new : Option Talk) (g : Given) (s : State) (listed : Listed) (e : ReceiveError) → HasListed answers old mid (inquiry_in g) listed
@@ -82,14 +86,14 @@ pub kind_on : (answers : Bool) (mid new : Option Talk) (g : Given) (s : State) (
     → Concludes answers (bound_of g) mid new (pending_of listed) (pack_stage g s (shown listed)) r rest → listed.handshake.object_hash ≡ s.hash
 kind_on answers mid new g s listed rest r same k = sym (is_received (bound_of g) (graph_of s.objects) (terms_in g s (shown listed)) _ r _ (k.answered [])).kind ∙ same
 
--- it is refused by nothing that comes behind it
+-- it is refused by nothing that comes after it
 pub is_spoken : (answers : Bool) (mid new : Option Talk) (g : Given) (s : State) (listed : Listed) (e x : ReceiveError) → (IsOther x → ⊥) → is_free_receiving x ≡ false
     → Breaks is_free_receiving answers (bound_of g) mid new (pending_of listed) (pack_stage g s (shown listed)) e → e ≡ x → ⊥
 is_spoken answers mid new g s listed e x apart sure b is =
     let k = subst (λ (y : ReceiveError). Breaks is_free_receiving answers (bound_of g) mid new (pending_of listed) (pack_stage g s (shown listed)) y) is b in
     refused_as new g s (shown listed) _ _ x apart (k.why sure)
 
--- memory runs out behind the listing
+-- memory runs out after the listing
 pub forgot_on : (answers : Bool) (old now : Option Talk) (known : Option (List Worktree)) (files : Option Tree) (g : Given) (before : State) (listed : Listed) → HasListed answers old now (inquiry_in g) listed
     → IsRefused answers old now known files files g before before errors.NoMemory
 forgot_on answers old now known files g before listed h = broken_off answers old now known files g before errors.NoMemory (breaks_on answers old now now g before listed receive.NoMemory h (gives_up_here answers now g before listed))

@@ -1,6 +1,6 @@
 -- A conversation is never refused as judging is, nor by the files.
-use Rattle.std.proofs.Common.{◌≡◌, ℕ, zero, suc, Bool, true, false, not, List, [], ◌∷◌, ◌++◌, length, Option, Some, None, Result, Ok, Err, refl, sym, ap, ◌∙◌, subst, inl, inr}
-use Rattle.std.specs.Prelude.{◌⊎◌, ◌&&◌, ◌||◌, ⊤, IfSome, if◌then◌else◌}
+use Rattle.std.proofs.Common.{◌≡◌, ℕ, zero, suc, Bool, true, false, not, List, [], ◌∷◌, ◌++◌, length, Option, Some, None, Result, Ok, Err, subst, inl, inr}
+use Rattle.std.specs.Prelude.{◌&&◌, ◌||◌, ⊤, IfSome, if◌then◌else◌}
 use Rattle.std.specs.FinMap as map
 use Rattle.std.specs.Option.{option_or, option_map}
 use Rattle.fetch_store.specs.Graph.{Graph, graph_of}
@@ -37,13 +37,11 @@ use Rattle.fetch_conversation.specs.Errors.{fetch_of_pack, is_free_receiving}
 use Rattle.fetch_conversation.specs.ListStage.{ListedValue, unless}
 use Rattle.fetch_conversation.specs.declared.fetch.Error.{Error}
 use Rattle.fetch_conversation.specs.declared.fetch.Error.TheVariants as errors
-use Rattle.fetch_conversation.specs.declared.prepare.Error.{Error as PrepareError}
-use Rattle.fetch_conversation.specs.declared.prepare.Error.TheVariants as prepare
-use Rattle.fetch_remote.specs.Errors.{preparing, receiving}
+use Rattle.fetch_remote.specs.Errors.{receiving}
 use Rattle.fetch_remote.specs.Form.{Given}
 use Rattle.fetch_remote.specs.Repositories.{State}
 use Rattle.fetch_remote.specs.Stages.{bound_of, terms_in, pack_stage}
-use Rattle.fetch_remote.specs.Talking.{BreaksListing, BreaksReceiving}
+use Rattle.fetch_remote.specs.Talking.{BreaksReceiving}
 use Rattle.fetch_remote.specs.declared.fetching.fetch_error.FetchError.{FetchError}
 use Rattle.fetch_remote.specs.declared.fetching.fetch_error.FetchError.TheVariants as fetch
 
@@ -245,19 +243,3 @@ receives_no_other answers old new g s e h x apart sure is =
     let cause = refusal_is h.cause x is in
     let b = rw cause at h.broke in
     refused_as new g s h.listed _ _ x apart (b.why sure)
-
-listing_no_other : (e : PrepareError) (x : Error) → preparing e ≡ fetch.Receive x → ⊥
-listing_no_other prepare.MissingRefSpecs x is = absurd (cc)
-listing_no_other (prepare.RefMap e) x is = absurd (cc)
-listing_no_other prepare.NoMemory x is = absurd (cc)
-
--- no conversation breaks off so
-pub talks_no_other : (answers : Bool) (old new : Option Talk) (g : Given) (s : State) (e : FetchError) (x : Error) → (IsOther x → ⊥) → is_free_receiving x ≡ false → BreaksListing answers old new g e ⊎ BreaksReceiving answers old new g s e → e ≡ fetch.Receive x → ⊥
-talks_no_other answers old new g s e x apart sure (inl h) is = listing_no_other h.cause x (sym h.told ∙ is)
-talks_no_other answers old new g s e x apart sure (inr h) is = receives_no_other answers old new g s e h x apart sure (sym h.told ∙ is)
-
--- what `?` returned is the refusal that was told
-pub same_refusal : {T : Type 0} (r : Result T FetchError) (e y x : FetchError) → r ≡ Err y → y ≡ e → r ≡ Err x → e ≡ x
-same_refusal r e y x is told same =
-    let k : y ≡ x = cc in
-    sym told ∙ k

@@ -35,6 +35,7 @@ numbered (suc zero) = origins.Global
 numbered (suc (suc zero)) = origins.Local
 numbered (suc (suc (suc n))) = origins.Api
 
+-- an origin is the one that its number names
 pub numbered-number : (o : Origin) → numbered (number o) ≡ o
 numbered-number origins.System = refl
 numbered-number origins.Global = refl
@@ -76,5 +77,6 @@ coded_setup =
     (λ s. (s.base, (s.local, (s.overrides, (s.workdir, (s.settings, s.logging))))))
     (λ p. record { base = p.0; local = p.1.0; overrides = p.1.1.0; workdir = p.1.1.1.0; settings = p.1.1.1.1.0; logging = p.1.1.1.1.1 }) (λ _. refl)
 
+-- a repository, coded
 abbrev pub coded_repository : Coded RepositoryValue
 coded_repository = code_by (State × Setup) (coded× coded_state coded_setup) (λ r. (r.state, r.setup)) (λ p. record { state = p.0; setup = p.1 }) (λ _. refl)

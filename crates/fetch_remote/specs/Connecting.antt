@@ -14,14 +14,14 @@ abbrev pub out_after : {P E : Type 0} → Result P E → ℕ → ℕ
 out_after (Ok peer) out = out + 1
 out_after (Err e) out = out
 
--- Where the peers still to be made are told, the first of them is made; behind the last one any may be. None goes at a refusal.
+-- Where the peers still to be made are told, the first of them is made; after the last one any may be. None goes at a refusal.
 abbrev pub Makes : {P E : Type 0} → Option (List P) → Option (List P) → Result P E → Type 0
 Makes None now result = now ≡ None
 Makes (Some left) now (Err e) = now ≡ Some left
 Makes (Some []) now (Ok peer) = now ≡ Some []
 Makes (Some (first ∷ left)) now (Ok peer) = (peer ≡ first) × (now ≡ Some left)
 
--- Where the peers taken back are told, the peer stands behind them as it is.
+-- Where the peers taken back are told, the peer stands after them as it is.
 abbrev pub TakesBack : {P : Type 0} → Option (List P) → Option (List P) → P → Type 0
 TakesBack None now peer = now ≡ None
 TakesBack (Some taken) now peer = now ≡ Some (taken ++ peer ∷ [])
@@ -30,6 +30,7 @@ TakesBack (Some taken) now peer = now ≡ Some (taken ++ peer ∷ [])
 abbrev pub with_lost : Faults → Faults → Faults
 with_lost peer lost = if peer.count == 0 then lost else record lost { count = lost.count + 1 }
 
+-- why a maker failed, as a refusal of the connection
 abbrev pub connecting : SendFault → Error
 connecting sending.Failed = errors.Connect
 connecting sending.NoMemory = errors.NoMemory

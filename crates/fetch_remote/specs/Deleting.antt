@@ -42,6 +42,7 @@ short_names names = in_order (each shortened names)
 
 -- ---- the configuration file
 
+-- the file that the new configuration is written to first
 abbrev pub lock_path : List ℕ → List ℕ
 lock_path git_dir = in_directory git_dir (codes "config.lock")
 
@@ -76,6 +77,7 @@ without names m = finmap.retain_keys m (λ key. not (is_among name_cmp names key
 abbrev pub refs_without : List (List ℕ) → RefsValue → RefsValue
 refs_without names r = record { hash = r.hash; names = without names r.names; logs = without names r.logs; packed = without names r.packed }
 
+-- the state without these references
 abbrev pub state_without : List (List ℕ) → State → State
 state_without names s = with_refs s (refs_without names s.refs)
 
@@ -97,6 +99,7 @@ pub record IsLeft (told now : Option Tree) (before after : Setup) : Type 0 where
   pub setup : after ≡ before
   pub tree : now ≡ told
 
+-- What a deletion did to configuration and files, where there are sections to clean up, and where there are none.
 abbrev pub Cleans : Bool → List (List ℕ) → Option (List ℕ) → Option Tree → Option Tree → Setup → Setup → Type 0
 Cleans true names text told now before after = IsCleaned names text told now before after
 Cleans false names text told now before after = IsLeft told now before after
@@ -129,7 +132,7 @@ pub record IsDeleted (trees : Option (List Worktree)) (told now : Option Tree) (
 
 -- ---- refusals
 
--- want of memory stays what it is
+-- out of memory stays what it is
 abbrev pub config_refusal : OpenError → Error
 config_refusal causes.NoMemory = errors.NoMemory
 config_refusal cause = errors.ConfigRead cause
@@ -147,8 +150,8 @@ IsUnread told git_dir (causes.Config line) = HasBrokenLine told (config_path git
 IsUnread told git_dir causes.Io = ⊤
 IsUnread told git_dir e = ⊥
 
--- Why branches aren't deleted, or not cleaned up behind. Each test stands behind those before it. A failed call has its
--- count, and want of memory is free.
+-- Why branches aren't deleted, or not cleaned up after. Each test stands after those before it. A failed call has its
+-- count, and out of memory is free.
 abbrev pub IsRefused : Option (List Worktree) → Option Tree → List ℕ → List (List ℕ) → Error → Type 0
 IsRefused trees told git_dir names (errors.NotLocal name) = find is_foreign names ≡ Some name
 IsRefused trees told git_dir names errors.WorktreeListing = find is_foreign names ≡ None
@@ -159,7 +162,7 @@ IsRefused trees told git_dir names (errors.ConfigRead cause) = AreFree trees nam
 IsRefused trees told git_dir names (errors.Cleanup references source) = (references ≡ names) × (AreFree trees names × HasSections told git_dir names)
 IsRefused trees told git_dir names errors.NoMemory = ⊤
 
--- What a refusal leaves of references and reflogs. Behind the clean-up they are gone, and behind want of memory they may be,
+-- What a refusal leaves of references and reflogs. After the clean-up they are gone, and after out of memory they may be,
 -- where there are sections to clean up.
 abbrev pub Leaves : Option Tree → List ℕ → List (List ℕ) → State → State → Error → Type 0
 Leaves told git_dir names before after (errors.NotLocal name) = after ≡ before
@@ -182,6 +185,7 @@ abbrev pub is_unlocal : Error → Bool
 is_unlocal (errors.NotLocal name) = true
 is_unlocal e = false
 
+-- whether a refusal comes before the files are asked
 abbrev pub is_before_files : Error → Bool
 is_before_files (errors.NotLocal name) = true
 is_before_files errors.WorktreeListing = true

@@ -55,17 +55,20 @@ pub record IsFirstHeld (told : Option (List Worktree)) (names : List (List ℕ))
   pub first : find (is_checked_out trees) names ≡ Some name
   pub all_directories : directories ≡ directories_of trees name
 
+-- why the work trees weren't listed, as a refusal of the deletion
 abbrev pub listing_refusal : WorktreeFault → Error
 listing_refusal faults.Listing = errors.WorktreeListing
 listing_refusal faults.OpenRepo = errors.OpenWorktreeRepo
 listing_refusal faults.FollowSymref = errors.FollowSymref
 listing_refusal faults.NoMemory = errors.NoMemory
 
+-- The first branch that these work trees have checked out is told, or memory ran out.
 abbrev pub IsHeldIn : List Worktree → List (List ℕ) → Error → Type 0
 IsHeldIn trees names (errors.CheckedOut name directories) = (find (is_checked_out trees) names ≡ Some name) × (directories ≡ directories_of trees name)
 IsHeldIn trees names errors.NoMemory = ⊤
 IsHeldIn trees names e = ⊥
 
+-- Why branches aren't deleted, by what the work trees tell.
 abbrev pub IsHeld : Option (List Worktree) → List (List ℕ) → Error → Type 0
 IsHeld told names errors.WorktreeListing = ⊤
 IsHeld told names errors.OpenWorktreeRepo = ⊤
@@ -81,7 +84,7 @@ pub record IsRead (told : Option Tree) (path : List ℕ) (file : Contents) : Typ
   pub grammar : broken_in text ≡ None
   pub contents : file ≡ record { meta = file_meta; sections = sections_in text }
 
--- a refusal to read it, or want of memory
+-- a refusal to read it, or out of memory
 abbrev pub IsUnread : Option Tree → List ℕ → OpenError → Type 0
 IsUnread told path (causes.Config line) = HasBrokenLine told path line
 IsUnread told path causes.Io = ⊤
@@ -95,6 +98,7 @@ pub record IsPlanned (names : List (List ℕ)) (file : Contents) (setup : Setup)
   pub text : change.text ≡ text_of (without_branches (short_names names) file).sections
   pub local : setup_without names setup ≡ Some (in_force setup change.local.file change.local.config)
 
+-- The change of the configuration that the file asks for, or none.
 abbrev pub Plans : List (List ℕ) → Contents → Setup → Option ConfigChange → Type 0
 Plans names file setup None = has_branches (short_names names) file.sections ≡ false
 Plans names file setup (Some change) = IsPlanned names file setup change
@@ -107,6 +111,7 @@ pub record IsGone (told now : Option Tree) (names : List (List ℕ)) (before aft
   pub state : after.state ≡ state_without names before.state
   pub cleaned : Cleans (has_sections names text) names text told now before.setup after.setup
 
+-- Why branches aren't deleted, or not cleaned up, once the work trees were asked.
 abbrev pub IsNotGone : Option Tree → List ℕ → List (List ℕ) → Error → Type 0
 IsNotGone told git_dir names (errors.ConfigRead cause) = spec.IsUnread told git_dir cause
 IsNotGone told git_dir names (errors.Cleanup references source) = (references ≡ names) × HasSections told git_dir names
@@ -118,6 +123,7 @@ abbrev pub cleanup : List (List ℕ) → CleanupError → FileError → Error
 cleanup names source calls.Failed = errors.Cleanup names source
 cleanup names source calls.NoMemory = errors.NoMemory
 
+-- Only the sections are left to clean up, or memory ran out.
 abbrev pub IsCleanup : List (List ℕ) → Error → Type 0
 IsCleanup names (errors.Cleanup references source) = references ≡ names
 IsCleanup names errors.NoMemory = ⊤

@@ -45,7 +45,7 @@ listed_in outcome = record { ref_map = outcome.ref_map; handshake = outcome.hand
 
 -- ---- what was heard
 
--- What the peer gave in the call is what it said. It heard exactly the requests for that, whatever comes behind.
+-- What the peer gave in the call is what it said. It heard exactly the requests for that, whatever comes after.
 pub record HasHeard (answers : Bool) (old new : Option Talk) (g : Given) (before : State) (said : List ℕ) : Type 0 where
   pub passed : Talks answers old new (lines_text (requests_in g before said)) said
   pub same_requests : (more : List ℕ) → lines_text (requests_in g before (said ++ more)) ≡ lines_text (requests_in g before said)
@@ -54,6 +54,7 @@ pub record HasHeard (answers : Bool) (old new : Option Talk) (g : Given) (before
 
 -- ---- what was read
 
+-- The greeting, the listing and the reply are read in what the peer said.
 pub record HasRead (g : Given) (before : State) (said : List ℕ) (outcome : Outcome) : Type 0 where
   -- The greeting and the listing are read in what it said,
   pub behind : List ℕ
@@ -72,6 +73,7 @@ pub record HasRead (g : Given) (before : State) (said : List ℕ) (outcome : Out
 abbrev pub policy_at : Given → List Worktree → State → State → Policy
 policy_at g trees before after = policy_in (record before { objects = after.objects }) (manner_in g) trees
 
+-- What became of the mappings, by the policy.
 pub record IsJudged (g : Given) (trees : List Worktree) (before after : State) (received : Option Received) (outcome : Outcome) : Type 0 where
   -- Each mapping is judged by the policy.
   pub updates : Updates
@@ -97,10 +99,12 @@ pub record IsWritten (g : Given) (trees : List Worktree) (before after : State) 
 
 -- ---- what is left
 
+-- the objects with those of the reply
 abbrev pub objects_with : ObjectMap → Option Received → ObjectMap
 objects_with objects None = objects
 objects_with objects (Some r) = add_all objects r.objects
 
+-- the border with the reply's shallow lines
 abbrev pub border_with : IdSet → Option Received → IdSet
 border_with border None = border
 border_with border (Some r) = merged border r.shallow r.unshallow
@@ -110,6 +114,7 @@ abbrev pub carried_out : Bool → List RefEdit → List RefEdit
 carried_out true edits = []
 carried_out false edits = edits
 
+-- What is left of the repository.
 pub record IsLeft (dry_run : Bool) (packed_refs : PackedRefs) (setup : Setup) (before after : State) (received : Option Received) (updates : Updates) : Type 0 where
   -- The objects and the border are those found with the reply's objects and shallow lines; in a dry run those found.
   pub objects : after.objects ≡ objects_with before.objects (brought dry_run received)
@@ -151,6 +156,7 @@ pub record IsSafe (g : Given) (before after : State) (m : RefMap) : Type 0 where
 
 -- ---- the headline
 
+-- What holds after a fetch that was done.
 pub record IsFetched (answers : Bool) (old new : Option Talk) (known : Option (List Worktree)) (files files_left : Option Tree) (g : Given) (before after : State) (outcome : Outcome) : Type 0 where
   pub said : List ℕ
   pub heard : HasHeard answers old new g before said

@@ -31,6 +31,7 @@ message_of message = unwrap_or message usual_message
 abbrev pub manner_of : Tags → FetchOptions → Manner
 manner_of tags o = record { tags = tags; dry_run = o.dry_run; packed = places_of o.write_packed_refs_only; message = message_of o.reflog_message }
 
+-- how a fetch is settled
 abbrev pub manner_in : Given → Manner
 manner_in g = manner_of g.remote.tags g.options
 
@@ -42,9 +43,11 @@ taken_in g s t = taken s (wants_in g s t.listed.ref_map) (brought g.options.dry_
 abbrev pub keep_made : Given → Told → Option (List ℕ)
 keep_made g t = keep_of g.setup (manner_in g) t.received
 
+-- what is done with what was told, and what is left
 abbrev pub settled_in : Given → List Worktree → State → Told → Result (Outcome × State) ReceiveError
 settled_in g trees s t = settled g.setup (manner_in g) trees s (wants_in g s t.listed.ref_map) t.listed t.received
 
+-- the same, of a conversation's answer
 abbrev pub settled_by : Given → List Worktree → State → Result (Told × List ℕ) FetchError → Result (Outcome × State) FetchError
 settled_by g trees s (Err e) = Err e
 settled_by g trees s (Ok x) = map_refusal receiving (settled_in g trees s x.0)
@@ -57,18 +60,20 @@ fetched_in g trees s stream = settled_by g trees s (answer_in (bound_of g) (conv
 unfoldable pub requests_in : Given → State → List ℕ → List Line
 requests_in g s stream = sent_in (bound_of g) (conversation g s) stream
 
--- the state that a refusal leaves: as found, or with all that was received where what comes behind the taking is refused
+-- the state that a refusal leaves: as found, or with all that was received where what comes after the taking is refused
 abbrev pub left_by : Given → State → Result (Told × List ℕ) FetchError → State
 left_by g s (Err e) = s
 left_by g s (Ok x) = kept_or s (taken_in g s x.0)
 
+-- the state that a refusal leaves, by what the peer says
 unfoldable pub left_in : Given → State → List ℕ → State
 left_in g s stream = left_by g s (answer_in (bound_of g) (conversation g s) stream)
 
--- the keep file that a refusal leaves: the one that was made, where what comes behind the taking is refused
+-- the keep file that a refusal leaves: the one that was made, where what comes after the taking is refused
 abbrev pub keep_left_by : Given → State → Result (Told × List ℕ) FetchError → Option (List ℕ)
 keep_left_by g s (Err e) = None
 keep_left_by g s (Ok x) = standing (taken_in g s x.0) (keep_made g x.0)
 
+-- the keep file that a refusal leaves, by what the peer says
 unfoldable pub keep_left_in : Given → State → List ℕ → Option (List ℕ)
 keep_left_in g s stream = keep_left_by g s (answer_in (bound_of g) (conversation g s) stream)

@@ -30,27 +30,32 @@ use Rattle.fetch_remote.specs.declared.remote.init.Error.TheVariants as init
 
 -- ---- refusals
 
+-- out of memory
 abbrev pub is_init_memory : InitError → Bool
 is_init_memory init.NoMemory = true
 is_init_memory init.Url = false
 
+-- out of memory
 abbrev pub is_existing_memory : ExistingError → Bool
 is_existing_memory existing.NoMemory = true
 is_existing_memory _ = false
 
+-- out of memory
 abbrev pub is_fetch_memory : FetchError → Bool
 is_fetch_memory for_fetch.NoMemory = true
 is_fetch_memory _ = false
 
--- want of memory stays what it is
+-- out of memory stays what it is
 abbrev pub existing_refusal : FindError → ExistingError
 existing_refusal find.NoMemory = existing.NoMemory
 existing_refusal e = existing.Find e
 
+-- a remote that isn't found, as a refusal of the remote to fetch from
 abbrev pub fetch_refusal : ExistingError → FetchError
 fetch_refusal existing.NoMemory = for_fetch.NoMemory
 fetch_refusal e = for_fetch.FindExisting e
 
+-- a text that is no address, as a refusal of the remote to fetch from
 abbrev pub init_refusal : InitError → FetchError
 init_refusal init.NoMemory = for_fetch.NoMemory
 init_refusal init.Url = for_fetch.Init init.Url
@@ -107,6 +112,7 @@ branch_remote_in sections short direction = option_and_then (of_name sections) (
 
 -- ---- to fetch from
 
+-- whether a category is that of branches
 abbrev pub is_branch : Option Category → Bool
 is_branch (Some categories.LocalBranch) = true
 is_branch _ = false
@@ -117,6 +123,7 @@ branch_at (Some (Symbolic name)) = if is_branch (category_of name) then Some (sh
 branch_at (Some (Object id)) = None
 branch_at None = None
 
+-- the name `HEAD`
 unfoldable pub head : List ℕ
 head = codes "HEAD"
 
@@ -128,6 +135,7 @@ head_branch s = branch_at (map.get s.refs.names head)
 unfoldable pub meant_in : Option (List ℕ) → List Section → Option (Result RemoteValue ExistingError)
 meant_in branch sections = option_or (option_and_then (λ short. branch_remote_in sections short Fetch) branch) (default_in sections Fetch)
 
+-- the remote that is meant, or that there is none
 abbrev pub or_refused : Option (Result RemoteValue ExistingError) → Result RemoteValue FetchError
 or_refused None = Err for_fetch.ExactlyOneRemoteNotAvailable
 or_refused (Some answer) = result_map_both (λ r. r) fetch_refusal answer

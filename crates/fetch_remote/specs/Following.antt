@@ -24,26 +24,30 @@ use Rattle.fetch_remote.specs.declared.find.existing.Error.TheVariants as existi
 use Rattle.fetch_remote.specs.declared.upstream.Error.{Error as UpstreamError}
 use Rattle.fetch_remote.specs.declared.upstream.Error.TheVariants as upstream
 
+-- out of memory
 abbrev pub is_memory : Error → Bool
 is_memory NoMemory = true
 is_memory _ = false
 
+-- out of memory
 abbrev pub is_upstream_memory : UpstreamError → Bool
 is_upstream_memory upstream.NoMemory = true
 is_upstream_memory _ = false
 
 -- ---- refusals of the configuration, told by the repository
 
+-- a refusal of a name
 abbrev pub name_refusal : LookupError → Error
 name_refusal (lookup.Name place) = Name place
 name_refusal (lookup.PushDefault value) = PushDefault value
 name_refusal lookup.NoMemory = NoMemory
 
--- want of memory stays what it is
+-- out of memory stays what it is
 abbrev pub remote_refusal : ExistingError → Error
 remote_refusal existing.NoMemory = NoMemory
 remote_refusal e = Remote e
 
+-- a refusal of an upstream
 abbrev pub upstream_refusal : LookupUpstreamError → UpstreamError
 upstream_refusal (lookup_upstream.BranchCategory name) = upstream.BranchCategory name
 upstream_refusal (lookup_upstream.FindRemote e) = upstream.FindRemote (existing_refusal e)
@@ -53,6 +57,7 @@ upstream_refusal lookup_upstream.NoMemory = upstream.NoMemory
 
 -- ---- what is told of a branch
 
+-- a name, with its refusals
 abbrev pub named : Option (Result (List ℕ) LookupError) → Option (Result (List ℕ) Error)
 named answer = option_map (result_map_both (λ name. name) name_refusal) answer
 
@@ -93,5 +98,6 @@ tracked_in sections name direction lenient = with_name (remote_name_in sections 
 abbrev pub followed : List ℕ × RemoteParts → List ℕ × RemoteValue
 followed p = (p.0, value_of p.1)
 
+-- the branch that a tracking branch follows, and its remote
 abbrev pub upstream_in : List Section → List ℕ → Result (Option (List ℕ × RemoteValue)) UpstreamError
 upstream_in sections tracking = result_map_both (option_map followed) upstream_refusal (upstreams.upstream_in sections tracking)

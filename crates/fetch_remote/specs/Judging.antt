@@ -1,5 +1,6 @@
 -- What becomes of the mapped references.
 use Rattle.std.specs.Prelude.{◌≡◌, Bool, true, false, List, Option, Result, Ok, Err, IfSome}
+use Rattle.fetch_store.specs.Answers.{AnswersUnless}
 use Rattle.fetch_update.specs.Outcomes.{outcome_of}
 use Rattle.fetch_update.specs.Policy.{Policy}
 use Rattle.fetch_update.specs.declared.update.Error.{Error as UpdateError}
@@ -18,16 +19,11 @@ judged_as (Err e) = Err (fetch_of_update e)
 unfoldable pub judged_of : Policy → RefMap → Result Outcome Error
 judged_of p m = judged_as (outcome_of p m.refspecs m.extra_refspecs m.mappings)
 
--- A fault of the worktrees has a count in place of a cause, and want of memory has neither.
+-- A fault of the worktrees has a count in place of a cause, and out of memory has neither.
 abbrev pub is_free_judging : Error → Bool
 is_free_judging (errors.UpdateRefs e) = is_worktree_fault e
 is_free_judging errors.NoMemory = true
 is_free_judging e = false
-
--- what was answered is this, unless the refusal is a free one
-abbrev pub AnswersBy : {X : Type 0} → Result X Error → Result X Error → Type 0
-AnswersBy expected (Ok x) = expected ≡ Ok x
-AnswersBy expected (Err e) = is_free_judging e ≡ false → expected ≡ Err e
 
 -- The list is the one that is told, where one is.
 abbrev pub IsTold : Option (List Worktree) → List Worktree → Type 0
@@ -37,4 +33,4 @@ IsTold told trees = IfSome told (λ known. trees ≡ known)
 pub record Judges (told : Option (List Worktree)) (policy : List Worktree → Policy) (m : RefMap) (result : Result Outcome Error) : Type 0 where
   pub trees : List Worktree
   pub listed_trees : IsTold told trees
-  pub by : AnswersBy (judged_of (policy trees) m) result
+  pub by : AnswersUnless is_free_judging (judged_of (policy trees) m) result

@@ -6,6 +6,7 @@ pub mod Negotiated
 pub mod Paths
 pub mod Repositories
 pub mod Hashing
+pub mod Overriding
 pub mod Finding
 pub mod Following
 pub mod Connecting

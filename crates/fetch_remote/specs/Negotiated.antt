@@ -17,6 +17,7 @@ use Rattle.fetch_remote.specs.Form.{Given}
 use Rattle.fetch_remote.specs.Repositories.{State}
 use Rattle.fetch_remote.specs.Stages.{bound_of, terms_in, pack_stage}
 
+-- What the rounds of a fetch told.
 pub record HasNegotiated (g : Given) (before : State) (l : ListedValue) (lines : List Line) (rounds : List Round) : Type 0 where
   -- The fetch requests are one a round. Each tells the ids acknowledged before it and then its window, the next one of the
   -- settings' algorithm over the objects found, and has `done` exactly where that isn't full; the last alone has it.
@@ -34,6 +35,6 @@ abbrev pub HasNegotiatedBy : Given → State → ListedValue → List Line → O
 HasNegotiatedBy g before l lines None = lines ≡ []
 HasNegotiatedBy g before l lines (Some r) = HasNegotiated g before l lines r.negotiate.rounds
 
--- The rounds that are told were held with one who says this behind the listing, whatever comes after.
+-- The rounds that are told were held with one who says this after the listing, whatever comes after.
 pub record AreHeld (g : Given) (before : State) (l : ListedValue) (behind : List ℕ) (received : Option Received) : Type 0 where
   pub each : (more : List ℕ) → HasNegotiatedBy g before l (sent_in (bound_of g) (pack_stage g before l) (behind ++ more)) received

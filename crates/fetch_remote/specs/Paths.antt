@@ -7,6 +7,7 @@ use Rattle.fetch_store.specs.Id.{bytes_of}
 use Rattle.fetch_config.specs.Contents.{Contents}
 use Rattle.fetch_config.specs.Lookups.{values_of, explicit, last_of}
 
+-- a name in a directory
 abbrev pub in_directory : List ℕ → List ℕ → List ℕ
 in_directory directory name = directory ++ codes "/" ++ name
 

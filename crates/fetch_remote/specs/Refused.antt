@@ -40,12 +40,12 @@ IsRefusedBy now g trees before after files files_left said heard e =
 
 -- ---- where it stands
 
--- The conversation came to its end, with this told, whatever comes behind.
+-- The conversation came to its end, with this told, whatever comes after.
 pub record HasEnded (g : Given) (before : State) (said : List ℕ) (told : Told) : Type 0 where
   pub rest : List ℕ
   pub answered : (more : List ℕ) → answer_in (bound_of g) (conversation g before) (said ++ more) ≡ Ok (told, rest ++ more)
 
--- Behind the conversation, with a pack that could be taken: its keep file was being made, or stood already. The state is as
+-- After the conversation, with a pack that could be taken: its keep file was being made, or stood already. The state is as
 -- found, and the files still tell a tree, where they did.
 pub record IsMaking (g : Given) (before after : State) (files files_left : Option Tree) (said path : List ℕ) : Type 0 where
   pub told : Told
@@ -56,7 +56,7 @@ pub record IsMaking (g : Given) (before after : State) (files files_left : Optio
   pub found : after ≡ before
   pub tree : is_some files_left ≡ is_some files
 
--- Behind the conversation: all that was received was taken, and its keep file stands. The references are as found.
+-- After the conversation: all that was received was taken, and its keep file stands. The references are as found.
 pub record IsTaken (g : Given) (before after : State) (files files_left : Option Tree) (said : List ℕ) : Type 0 where
   pub told : Told
   pub ended : HasEnded g before said told
@@ -83,12 +83,12 @@ IsStanding g before after files files_left said =
 
 -- ---- counted refusals
 
--- The peer failed while the references were listed: it heard a front of that stage's lines, and all is as found.
+-- The peer failed while the references were listed: it heard a prefix of that stage's lines, and all is as found.
 pub record IsCutListing (g : Given) (before after : State) (files files_left : Option Tree) (said heard : List ℕ) : Type 0 where
   pub front : IsFront heard (lines_text (sent_in (bound_of g) (listing_stage g) said))
   pub found : IsFound before after files files_left
 
--- The peer failed behind the listing: it heard all lines of that stage, and a front of the fetch request. All is as found.
+-- The peer failed after the listing: it heard all lines of that stage, and a prefix of the fetch request. All is as found.
 pub record IsCutReceiving (g : Given) (before after : State) (files files_left : Option Tree) (said heard : List ℕ) : Type 0 where
   pub listed : ListedValue
   pub behind : List ℕ
@@ -102,6 +102,7 @@ pub record IsCutReceiving (g : Given) (before after : State) (files files_left :
 abbrev pub interrupted_listing : FetchError
 interrupted_listing = errors.Prepare (prepare.RefMap ref_map.Interrupted)
 
+-- the interrupt said yes from the fetch request on
 abbrev pub interrupted_receiving : FetchError
 interrupted_receiving = errors.Receive receive.Interrupted
 
@@ -113,10 +114,11 @@ unjudged e = errors.Receive (receive.UpdateRefs e)
 abbrev pub unmade : List ℕ → FetchError
 unmade path = errors.Receive (receive.KeepFile path)
 
+-- the keep file couldn't be removed
 abbrev pub unremoved : List ℕ → FetchError
 unremoved path = errors.Receive (receive.RemovePackKeepFile path)
 
--- a refusal behind the references' move
+-- a refusal after the references' move
 abbrev pub is_late : FetchError → Bool
 is_late (errors.Prepare e) = false
 is_late (errors.Receive e) = settling.is_late e
@@ -140,8 +142,9 @@ pub record IsCounted (g : Given) (trees : List Worktree) (before after : State) 
 
 -- ---- the refusal
 
+-- What holds after a fetch that was refused.
 pub record IsRefused (answers : Bool) (old new : Option Talk) (known : Option (List Worktree)) (files files_left : Option Tree) (g : Given) (before after : State) (e : FetchError) : Type 0 where
-  -- What the peer gave in the call is what it said, and it heard a front of the requests for that. Each receive was
+  -- What the peer gave in the call is what it said, and it heard a prefix of the requests for that. Each receive was
   -- made where it had heard all that was to be sent so far, and a reply was still awaited.
   pub said : List ℕ
   pub heard : List ℕ

@@ -52,7 +52,7 @@ abbrev pub HasBrokenLine : Option Tree → List ℕ → ℕ → Type 0
 HasBrokenLine told path line = (text : List ℕ) × Reads told path (Some text) × (broken_line text ≡ Some line)
 
 -- Why the repository wasn't opened again: there is no such file, or its text breaks the grammar. A failed read has its
--- count, and want of memory is free.
+-- count, and out of memory is free.
 abbrev pub IsRefusedAt : Option Tree → List ℕ → OpenError → Type 0
 IsRefusedAt told path (errors.Missing name) = (name ≡ path) × Reads told path None
 IsRefusedAt told path (errors.Config line) = HasBrokenLine told path line
@@ -60,7 +60,7 @@ IsRefusedAt told path errors.Io = ⊤
 IsRefusedAt told path errors.NoMemory = ⊤
 IsRefusedAt told path (errors.Override text) = ⊥
 
--- The files tell the same tree behind a refusal that they answered.
+-- The files tell the same tree after a refusal that they answered.
 abbrev pub KeepsTree : Option Tree → Option Tree → OpenError → Type 0
 KeepsTree before after (errors.Missing name) = after ≡ before
 KeepsTree before after (errors.Config line) = after ≡ before
@@ -68,5 +68,6 @@ KeepsTree before after errors.Io = ⊤
 KeepsTree before after errors.NoMemory = ⊤
 KeepsTree before after (errors.Override text) = ⊤
 
+-- Why a repository wasn't opened again.
 abbrev pub IsReloadRefusal : Option Tree → Setup → OpenError → Type 0
 IsReloadRefusal told setup e = IsRefusedAt told (config_path setup.settings.git_dir) e

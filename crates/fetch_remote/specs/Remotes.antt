@@ -28,10 +28,12 @@ parts_of r = record { name = r.name; urls = r.urls; push_urls = r.push_urls; fet
 abbrev pub nameless : List (List ℕ) → List Spec → Tags → RemoteValue
 nameless urls fetch_specs tags = record { name = None; urls = urls; push_urls = []; fetch_specs = fetch_specs; push_specs = []; tags = tags }
 
+-- the refspecs for a direction
 abbrev pub specs_for : RemoteValue → Direction → List Spec
 specs_for remote Fetch = remote.fetch_specs
 specs_for remote Push = remote.push_specs
 
+-- these, or the others where there are none
 abbrev pub or_others : List (List ℕ) → List (List ℕ) → List (List ℕ)
 or_others [] others = others
 or_others (url ∷ urls) others = url ∷ urls

@@ -12,9 +12,11 @@ use Rattle.fetch_remote.specs.declared.repository.Parts.{Parts}
 use Rattle.fetch_conversation.specs.declared.settings.Settings.{Settings}
 pub use Rattle.fetch_remote.specs.RepositoryValues.{State, Setup, RepositoryValue, logging_of, is_override, with_override, with_overrides, resolved_of}
 
+-- what a fetch may change
 abbrev pub state_of : RepositoryValue → State
 state_of r = r.state
 
+-- the rest of a repository
 abbrev pub setup_of : RepositoryValue → Setup
 setup_of r = r.setup
 
@@ -44,12 +46,15 @@ IsOpenRefusal overrides (errors.Override told) = find (λ text. not (is_override
 IsOpenRefusal overrides errors.NoMemory = ⊤
 IsOpenRefusal overrides e = ⊥
 
+-- the state of the parts
 abbrev pub state_in : Parts → State
 state_in p = record { hash = p.store.hash; objects = p.store.objects; border = p.border; refs = p.refs }
 
+-- the settings of the parts, with this configuration in force
 abbrev pub settings_with : Parts → Contents → Settings
 settings_with p config = record { kind = p.store.hash; config = config; lenient = p.options.lenient_config; git_dir = p.git_dir; committer = p.committer }
 
+-- the setup of the parts, with this configuration in force
 abbrev pub setup_with : Parts → Contents → Setup
 setup_with p config = record {
   base = p.options.base;
@@ -60,6 +65,7 @@ setup_with p config = record {
   logging = logging_of config p.workdir;
 }
 
+-- the setup of the parts, where each override is one
 abbrev pub setup_in : Parts → Option Setup
 setup_in p = option_map (setup_with p) (resolved_of p.options.base p.local p.options.api_config_overrides)
 

@@ -12,7 +12,7 @@ use Rattle.fetch_config.specs.declared.error.Unreadable.{Unreadable}
 use Rattle.fetch_refs.specs.Names.{RefsValue}
 use Rattle.fetch_conversation.specs.declared.settings.Settings.{Settings}
 
--- what a fetch may change: objects of this hash, the commits whose parents are left aside, and the references with their
+-- what a fetch may change: objects of this hash, the commits whose parents are left out, and the references with their
 -- logs and the packed list
 pub record State : Type 0 where
   pub hash : Kind
@@ -29,6 +29,7 @@ pub record Setup : Type 0 where
   pub settings : Settings
   pub logging : Bool
 
+-- a repository as contracts see it
 pub record RepositoryValue : Type 0 where
   pub state : State
   pub setup : Setup
@@ -41,6 +42,7 @@ logs_by (Some (Ok logs)) workdir = logs
 logs_by (Some (Err place)) workdir = is_some workdir
 logs_by None workdir = is_some workdir
 
+-- whether branches are logged
 unfoldable pub logging_of : Contents → Option (List ℕ) → Bool
 logging_of config workdir = logs_by (boolean_of (values_of (codes "core") None (codes "logAllRefUpdates") false config.sections)) workdir
 
@@ -50,6 +52,7 @@ logging_of config workdir = logs_by (boolean_of (values_of (codes "core") None (
 abbrev pub is_override : List ℕ → Bool
 is_override text = is_some (override_of text) && is_none (unkept_place text)
 
+-- whether each of these is an override
 abbrev pub are_overrides : List (List ℕ) → Bool
 are_overrides texts = list_all is_override texts
 

@@ -61,11 +61,12 @@ listing_to g (told.Advertisement greeting refs) = []
 listing_to g (told.Listing refs) = []
 listing_to g (told.Reply reply) = []
 
+-- what is sent after the greeting; nothing where it wasn't read
 abbrev pub listing_behind : Given → Result (Told × List ℕ) Fault → List Line
 listing_behind g (Ok x) = listing_to g x.0
 listing_behind g (Err fault) = []
 
--- what is sent behind the first line, to a server that says this
+-- what is sent after the first line, to a server that says this
 abbrev pub listing_sent : Given → List ℕ → List Line
 listing_sent g stream = listing_behind g (told_at (bound_of g) awaits.Greeting stream)
 
@@ -99,6 +100,7 @@ abbrev pub FetchesWanted : Given → State → ListedValue → List ObjectId →
 FetchesWanted g s l [] lines = lines ≡ []
 FetchesWanted g s l (id ∷ ids) lines = AreFetchRequests g s l lines
 
+-- What is sent after the listing, unless the fetch is refused.
 abbrev pub FetchesUnless : Option ReceiveError → Given → State → ListedValue → List Line → Type 0
 FetchesUnless None g s l lines = FetchesWanted g s l (wants_in g s l.ref_map) lines
 FetchesUnless (Some e) g s l lines = lines ≡ []

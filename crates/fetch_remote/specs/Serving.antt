@@ -1,5 +1,6 @@
 -- What a server writes by which a fetch comes to its end.
-use Rattle.std.specs.Prelude.{◌≡◌, List, [], Some, None}
+use Rattle.std.specs.Prelude.{◌≡◌, true, List, [], Some, None}
+use Rattle.std.specs.Option.{option_map}
 use Rattle.fetch_pack.specs.Reading.{Contents}
 use Rattle.fetch_store.specs.Graph.{graph_of}
 use Rattle.fetch_wire.specs.Greetings.{handshake_of}
@@ -9,6 +10,7 @@ use Rattle.fetch_conversation.specs.ConverseStage.{with_pack}
 use Rattle.fetch_conversation.specs.Conversing.{IsClear}
 use Rattle.fetch_conversation.specs.ListStage.{ListedValue, map_of}
 use Rattle.fetch_conversation.specs.Writing.{Answer, IsAskable, IsListing, IsPacking, negotiated_in}
+use Rattle.fetch_conversation.specs.declared.conversing.Received.{Received}
 use Rattle.fetch_remote.specs.Form.{Given}
 use Rattle.fetch_remote.specs.Repositories.{State}
 use Rattle.fetch_remote.specs.Stages.{Told, bound_of, inquiry_in, terms_in, wants_in}
@@ -22,7 +24,7 @@ pub record IsListed (g : Given) (capabilities : List Capability) (refs : List Re
   pub askable : IsAskable (inquiry_in g) (handshake_of capabilities)
   pub listing : IsListing (bound_of g) (inquiry_in g) capabilities refs
 
--- A server lists these references, nothing is refused behind them, and none of what they name is wanted.
+-- A server lists these references, nothing is refused after them, and none of what they name is wanted.
 pub record IsAllStored (g : Given) (s : State) (capabilities : List Capability) (refs : List Ref) : Type 0 where
   pub listed : IsListed g capabilities refs
   pub clear : IsClear (terms_in g s (listed_by g capabilities refs))
@@ -42,3 +44,17 @@ abbrev pub told_served : Given → State → List Capability → List Ref → An
 told_served g s capabilities refs a answers contents =
     let l = listed_by g capabilities refs in
     record { listed = l; received = Some (with_pack (negotiated_in (terms_in g s l) (graph_of s.objects) a answers) contents) }
+
+-- ---- a dry run
+
+-- the same fetch, as a dry run
+abbrev pub as_dry_run : Given → Given
+as_dry_run g = record g { options = record g.options { dry_run = true } }
+
+-- what was received, but for the pack
+abbrev pub but_its_pack : Received → Received
+but_its_pack r = record r { objects = []; pack = None }
+
+-- what is told where the pack isn't read
+abbrev pub told_dry : Told → Told
+told_dry told = record told { received = option_map but_its_pack told.received }

@@ -1,5 +1,5 @@
 -- What a fetch does with what it received.
-use Rattle.std.specs.Prelude.{◌≡◌, ◌≢◌, ◌⊎◌, ◌||◌, ℕ, Bool, true, false, if◌then◌else◌, List, [], Option, Some, None, Result, Ok, Err, codes, ⊤, slice_get, is_some}
+use Rattle.std.specs.Prelude.{◌≡◌, ◌≢◌, ◌⊎◌, ◌||◌, ℕ, Bool, true, false, if◌then◌else◌, List, Option, Some, None, Result, Ok, Err, codes, slice_get, is_some}
 use Rattle.std.specs.Option.{option_map, option_and_then}
 use Rattle.fetch_store.specs.declared.id.ObjectId.{ObjectId}
 use Rattle.fetch_store.specs.declared.missing.Missing.{Missing}
@@ -38,6 +38,7 @@ use Rattle.fetch_remote.specs.Paths.{keep_path}
 use Rattle.fetch_remote.specs.Repositories.{State, Setup, held, with_pack}
 
 infixl 10 ◌>>=◌
+-- one step after the other, unless the first is refused
 abbrev pub ◌>>=◌ : {A B : Type 0} → Result A Error → (A → Result B Error) → Result B Error
 (Ok x) >>= f = f x
 (Err e) >>= f = Err e
@@ -46,11 +47,13 @@ abbrev pub ◌>>=◌ : {A B : Type 0} → Result A Error → (A → Result B Err
 unfoldable pub usual_action : List ℕ
 usual_action = codes "fetch"
 
+-- what reflogs say where the caller says nothing
 abbrev pub usual_message : RefLogMessage
 usual_message = Prefixed usual_action
 
 -- ---- taking
 
+-- what was received, as a pack with its lines
 abbrev pub pack_of : Received → Pack
 pack_of r = record { objects = r.objects; shallow = r.shallow; unshallow = r.unshallow }
 
@@ -67,10 +70,12 @@ pack_read dry_run r = option_and_then (λ x. x.pack) (brought dry_run r)
 abbrev pub keep_of : Setup → Manner → Option Received → Option (List ℕ)
 keep_of setup how r = made setup.settings.git_dir (pack_read how.dry_run r)
 
+-- unless an id has two objects
 abbrev pub unless_hit : Option ObjectId → Result (Unit {0}) Error
 unless_hit None = Ok tt
 unless_hit (Some id) = Err (errors.Collision id)
 
+-- unless a link would be missing
 abbrev pub unless_missing : Option Missing → Result (Unit {0}) Error
 unless_missing None = Ok tt
 unless_missing (Some link) = Err (errors.Disconnected link)
@@ -113,6 +118,7 @@ moved false packed setup s edits = with_edits packed setup s edits
 abbrev pub pack_told : List ℕ → Updates → ℕ × ObjectId → PackOutcome
 pack_told git_dir updates pack = record { num_objects = pack.0; digest = pack.1; keep_path = kept git_dir updates pack }
 
+-- the status of a fetch outside a dry run that was answered
 abbrev pub told_with : List ℕ → Negotiate → Option (ℕ × ObjectId) → Updates → Status
 told_with git_dir negotiate None updates = statuses.NoPackReceived false (Some negotiate) updates
 told_with git_dir negotiate (Some pack) updates = statuses.Change negotiate (pack_told git_dir updates pack) updates
@@ -123,6 +129,7 @@ status_of git_dir true r updates = statuses.NoPackReceived true (option_map (λ 
 status_of git_dir false None updates = statuses.NoPackReceived false None updates
 status_of git_dir false (Some r) updates = told_with git_dir r.negotiate r.pack updates
 
+-- the outcome of a fetch
 abbrev pub outcome_in : List ℕ → Manner → ListedValue → Option Received → Updates → Outcome
 outcome_in git_dir how listed r updates = record { ref_map = listed.ref_map; handshake = listed.handshake; status = status_of git_dir how.dry_run r updates }
 
@@ -149,6 +156,7 @@ pub record IsSettled (known : Option (List Worktree)) (setup : Setup) (how : Man
 abbrev pub pack_kept : List ℕ → ℕ × ObjectId → Kept
 pack_kept git_dir pack = record { num_objects = pack.0; digest = pack.1; path = keep_path git_dir pack.1 }
 
+-- what was taken
 abbrev pub told_of : List ℕ → Bool → Option Received → Option Taken
 told_of git_dir dry_run None = None
 told_of git_dir dry_run (Some r) = Some (record { negotiate = r.negotiate; pack = option_map (pack_kept git_dir) (pack_read dry_run (Some r)) })
@@ -157,10 +165,12 @@ told_of git_dir dry_run (Some r) = Some (record { negotiate = r.negotiate; pack 
 abbrev pub kept_told : Updates → Kept → PackOutcome
 kept_told updates k = record { num_objects = k.num_objects; digest = k.digest; keep_path = if stays updates k.num_objects then Some k.path else None }
 
+-- the status of a fetch that took this
 abbrev pub told_by : Bool → Negotiate → Option Kept → Updates → Status
 told_by dry_run negotiate None updates = statuses.NoPackReceived dry_run (Some negotiate) updates
 told_by dry_run negotiate (Some k) updates = statuses.Change negotiate (kept_told updates k) updates
 
+-- the status of a fetch, by what was taken
 abbrev pub status_by : Bool → Option Taken → Updates → Status
 status_by dry_run None updates = statuses.NoPackReceived dry_run None updates
 status_by dry_run (Some t) updates = told_by dry_run t.negotiate t.pack updates
@@ -170,9 +180,11 @@ abbrev pub released : Updates → Option Kept → Option (List ℕ)
 released updates None = None
 released updates (Some k) = if stays updates k.num_objects then None else Some k.path
 
+-- the keep file of what was taken
 abbrev pub kept_of : Option Taken → Option Kept
 kept_of taken = option_and_then (λ t. t.pack) taken
 
+-- the keep file that is removed
 abbrev pub released_of : Updates → Option Taken → Option (List ℕ)
 released_of updates taken = released updates (kept_of taken)
 
@@ -182,7 +194,7 @@ IsUnreleased keep e = (path : List ℕ) × (e ≡ errors.RemovePackKeepFile path
 
 -- ---- what a refusal leaves
 
--- the state where the taking was refused, or where what comes behind it was
+-- the state where the taking was refused, or where what comes after it was
 abbrev pub kept_or : State → Result State Error → State
 kept_or before (Ok s) = s
 kept_or before (Err e) = before
@@ -191,11 +203,6 @@ kept_or before (Err e) = before
 abbrev pub standing : Result State Error → Option (List ℕ) → Option (List ℕ)
 standing (Ok s) path = path
 standing (Err e) path = None
-
--- what was answered is this refusal, unless memory ran out
-abbrev pub Fails : {X : Type 0} → Result X Error → Error → Type 0
-Fails expected errors.NoMemory = ⊤
-Fails expected e = expected ≡ Err e
 
 -- a refusal of judging
 abbrev pub IsOfJudging : Error → Type 0
@@ -216,6 +223,7 @@ pub record IsTaken (taking : Result State Error) (keep : Option (List ℕ)) (fil
 
 -- ---- a taking that was refused
 
+-- whether a refusal of the taking is a free one
 abbrev pub is_free_taking : Error → Bool
 is_free_taking (errors.KeepFile path) = true
 is_free_taking errors.NoMemory = true
@@ -227,7 +235,7 @@ pub record IsUntaken (took : Result State Error) (keep : Option (List ℕ)) (fil
   pub making : (path : List ℕ) → e ≡ errors.KeepFile path → IsMaking took keep path files left
   pub stands : (left ≡ files) ⊎ ((path : List ℕ) × IsMaking took keep path files left)
 
--- ---- a fetch that was refused behind its conversation
+-- ---- a fetch that was refused after its conversation
 
 -- a refusal before the keep file is made
 abbrev pub is_early : Error → Bool

@@ -30,9 +30,11 @@ use Rattle.fetch_remote.specs.declared.fetching.fetch_error.FetchError.{FetchErr
 abbrev pub inquiry_of : RemoteValue → Settings → Options → InquiryValue
 inquiry_of r settings options = record { address = address_of r; agent = agent_of settings.config; specs = r.fetch_specs; tags = r.tags; options = options }
 
+-- what the server is asked for its references
 abbrev pub inquiry_in : Given → InquiryValue
 inquiry_in g = inquiry_of g.remote g.setup.settings g.options.map
 
+-- how many bytes a reply may have
 abbrev pub bound_of : Given → ℕ
 bound_of g = g.options.map.max_reply_bytes
 
@@ -57,9 +59,11 @@ terms_in g s l = record {
 
 -- ---- the stages
 
+-- the first stage of a fetch
 abbrev pub listing_stage : Given → Conversation ListedValue PrepareError
 listing_stage g = list_stage (bound_of g) (inquiry_in g)
 
+-- the second stage of a fetch
 abbrev pub pack_stage : Given → State → ListedValue → Conversation (Option Received) ReceiveError
 pack_stage g s l = converse_stage (bound_of g) (graph_of s.objects) (terms_in g s l)
 
@@ -68,6 +72,7 @@ pub record Told : Type 0 where
   pub listed : ListedValue
   pub received : Option Received
 
+-- the second stage, with what was listed before
 unfoldable pub receiving_stage : Given → State → ListedValue → Conversation Told FetchError
 receiving_stage g s l = and_then (told_as receiving (pack_stage g s l)) (λ r. ends (Ok (record { listed = l; received = r })))
 

@@ -37,6 +37,7 @@ use Rattle.fetch_remote.specs.declared.fetching.talking.Talked.{Talked}
 
 -- ---- a remote with its peer
 
+-- the remote of a connection
 abbrev pub remote_of : {P : Type 0} → Connection P → RemoteValue
 remote_of c = c.remote.now
 
@@ -48,7 +49,7 @@ peer_of c = c.peer
 abbrev pub with_peer : {P : Type 0} → Connection P → P → Connection P
 with_peer c last = record c { peer = record (c.peer) { now = last } }
 
--- The connection's peer is lent: it ends as it is left behind the reference.
+-- The connection's peer is lent: it ends as it is left after the reference.
 abbrev pub LendsPeer : (P : RattleType) → MutBor (Connection P.Denot) → MutBor P.Denot → Fml
 LendsPeer P c r = Lends (the_row (record { mir = named 0; lft = [] }) P) P c r (with_peer c.now)
 
@@ -60,6 +61,7 @@ pub record PreparedValue : Type 0 where
   pub listed : Listed
   pub options : FetchOptions
 
+-- what was prepared
 abbrev pub prepared_of : {P : Type 0} → Prepare P Prepared → PreparedValue
 prepared_of p = record { remote = p.remote.now; listed = p.prepared.listed; options = p.prepared.options }
 
@@ -99,7 +101,7 @@ pub record IsUnlisted {P : Type 0} (told : P → Option Talk) (faults : P → Fa
 
 -- ---- the first stage by itself
 
--- The references were listed, whether or not a refspec was named. What was received behind that is let go.
+-- The references were listed, whether or not a refspec was named. What was received after that is let go.
 pub record HasInquired (answers : Bool) (old now : Option Talk) (q : InquiryValue) (l : ListedValue) : Type 0 where
   pub behind : List ℕ
   pub list : Concludes answers q.options.max_reply_bytes old now [] (inquiry_stage q.options.max_reply_bytes q) l behind
@@ -128,6 +130,7 @@ pub record HasReceived (answers : Bool) (mid new : Option Talk) (g : Given) (s :
   pub wants : t.wants ≡ wants_in g s listed.ref_map
   pub pack : Concludes answers (bound_of g) mid new (pending_of listed) (pack_stage g s (shown listed)) t.received (pending_of t.listed)
 
+-- What was received after the listing, or where that broke off.
 abbrev pub TalksOnBy : Bool → Option Talk → Option Talk → Given → State → Listed → Result Talked ReceiveError → Type 0
 TalksOnBy answers mid new g s listed (Ok t) = HasReceived answers mid new g s listed t
 TalksOnBy answers mid new g s listed (Err e) = Breaks is_free_receiving answers (bound_of g) mid new (pending_of listed) (pack_stage g s (shown listed)) e
@@ -137,7 +140,7 @@ pub record TalksOn (answers : Bool) (mid new : Option Talk) (g : Given) (s : Sta
   pub held : TalksOnBy answers mid new g s listed result
 
 -- What a call leaves that goes on with what was listed. In it the peer heard the fetch requests for what it said, and no
--- more, whatever comes behind, and the reply is read in that; the rest is as in the whole fetch.
+-- more, whatever comes after, and the reply is read in that; the rest is as in the whole fetch.
 pub record IsReceived (answers : Bool) (mid new : Option Talk) (known : Option (List Worktree)) (files files_left : Option Tree) (g : Given) (before after : State) (listed : Listed) (outcome : Outcome) : Type 0 where
   pub shows : listed_in outcome ≡ shown listed
   pub received : Option Received

@@ -1,5 +1,5 @@
--- What the call leaves that holds the conversation of a fetch.
-use Rattle.std.specs.Prelude.{◌≡◌, ◌⊎◌, ℕ, Bool, List, [], Option, Result, Ok, Err}
+-- How the conversation of a fetch ended, or where it broke off.
+use Rattle.std.specs.Prelude.{◌≡◌, ℕ, Bool, List, [], Option}
 use Rattle.fetch_wire.specs.Talks.{Talk}
 use Rattle.fetch_conversation.specs.Conversation.{Concludes, Breaks}
 use Rattle.fetch_conversation.specs.Errors.{is_free_listing, is_free_receiving}
@@ -14,7 +14,7 @@ use Rattle.fetch_remote.specs.Stages.{bound_of, wants_in, listing_stage, pack_st
 use Rattle.fetch_remote.specs.declared.fetching.fetch_error.FetchError.{FetchError}
 use Rattle.fetch_remote.specs.declared.fetching.talking.Talked.{Talked}
 
--- Both stages came to their ends, one after the other; behind is what was received and not read after the first.
+-- Both stages came to their ends, one after the other; after is what was received and not read after the first.
 pub record HasTold (answers : Bool) (old new : Option Talk) (g : Given) (s : State) (listed : ListedValue) (received : Option Received) (rest : List ℕ) : Type 0 where
   pub between : Option Talk
   pub behind : List ℕ
@@ -41,10 +41,3 @@ pub record BreaksReceiving (answers : Bool) (old new : Option Talk) (g : Given) 
 pub record HasEnded (answers : Bool) (old new : Option Talk) (g : Given) (s : State) (t : Talked) : Type 0 where
   pub told : HasTold answers old new g s (shown t.listed) t.received (pending_of t.listed)
   pub wants : t.wants ≡ wants_in g s t.listed.ref_map
-
-abbrev pub TalksBy : Bool → Option Talk → Option Talk → Given → State → Result Talked FetchError → Type 0
-TalksBy answers old new g s (Ok t) = HasEnded answers old new g s t
-TalksBy answers old new g s (Err e) = BreaksListing answers old new g e ⊎ BreaksReceiving answers old new g s e
-
-pub record HasTalked (answers : Bool) (old new : Option Talk) (g : Given) (s : State) (result : Result Talked FetchError) : Type 0 where
-  pub held : TalksBy answers old new g s result

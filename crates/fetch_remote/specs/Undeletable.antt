@@ -6,7 +6,7 @@ use Rattle.fetch_remote.specs.declared.delete.Error.{Error}
 use Rattle.fetch_remote.specs.declared.delete.Error.TheVariants as errors
 
 -- The first name that is no local branch, or a fault of the work trees, or the first name that is checked out; each test
--- stands behind those before it. A fault has its count, and want of memory is free.
+-- stands after those before it. A fault has its count, and out of memory is free.
 abbrev pub IsUndeletable : Option (List Worktree) → List (List ℕ) → Error → Type 0
 IsUndeletable trees names (errors.NotLocal name) = find is_foreign names ≡ Some name
 IsUndeletable trees names errors.WorktreeListing = find is_foreign names ≡ None

@@ -35,6 +35,7 @@ pub record AreJudgeable (p : Policy) (m : RefMap) : Type 0 where
 abbrev pub policy_with : Given → List Worktree → State → Told → Policy
 policy_with g trees s told = policy_in (record s { objects = objects_with s.objects (brought g.options.dry_run told.received) }) (manner_in g) trees
 
+-- What the peer says is valid input of this fetch.
 pub record IsValidInput (g : Given) (trees : List Worktree) (s : State) (stream : List ℕ) : Type 0 where
   -- The peer's bytes are replies to the requests of this fetch, by their grammar, and neither the settings nor what the
   -- server offers stand against it.

@@ -4,7 +4,7 @@ use crate::find::existing;
 use fetch_store::Text;
 use thiserror::Error as ThisError;
 
-/// Why the name isn't told.
+/// Why it isn't told what a branch is called on its remote.
 #[derive(Debug, Drop, PartialEq, Eq, ThisError)]
 pub enum Error {
     /// It is no full name.
@@ -42,7 +42,7 @@ impl From<fetch_lookup::branch::Error> for Error {
     }
 }
 
-/// Want of memory stays want of memory.
+/// Out of memory stays out of memory.
 impl From<existing::Error> for Error {
     ghost use Rattle.std.specs.Prelude.{◌≡◌};
     ghost use Rattle.fetch_remote.specs.Following.{remote_refusal};

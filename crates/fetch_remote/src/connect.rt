@@ -92,7 +92,8 @@ impl From<SendFault> for Error {
 }
 
 impl Remote {
-    /// A peer at the remote's first address.
+    /// A peer at the remote's first address. `MissingUrl` comes exactly where it has none, and
+    /// `Connect` only where the maker's count of faults rose.
     pub fn connect<C: Connect>(&self, direction: Direction, maker: &mut C) -> Result<C::Peer, Error>
         ensures missing { IsMissing (slice_get (urls_for self.now direction) 0) direction result }
         ensures cause { IsErrOf result errors.Connect → Rose (C.faults maker.old) (C.faults maker.new) }

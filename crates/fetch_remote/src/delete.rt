@@ -1,4 +1,4 @@
-//! Why branches weren't deleted, or what is left to clean up behind them.
+//! Why branches weren't deleted, or what is left to clean up after them.
 
 ghost use Rattle.std.specs.Prelude.{◌≡◌, IfOk};
 
@@ -18,7 +18,7 @@ pub enum CleanupError {
     Commit,
 }
 
-/// Why branches weren't deleted. Behind `Cleanup` they are gone, and behind `NoMemory` they may be; else all is as before.
+/// Why branches weren't deleted. After `Cleanup` they are gone, and after `NoMemory` they may be; else all is as before.
 #[derive(Debug, Drop, ThisError)]
 pub enum Error {
     /// The first name that isn't below `refs/heads/`.
@@ -105,7 +105,7 @@ impl From<NoMemory> for Error {
     }
 }
 
-/// Want of memory stays want of memory.
+/// Out of memory stays out of memory.
 impl From<OpenError> for Error {
     ghost use Rattle.std.specs.Prelude.{◌≡◌};
     ghost use Rattle.fetch_remote.specs.Deleting.{config_refusal};

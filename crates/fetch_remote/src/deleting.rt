@@ -51,8 +51,10 @@ impl Repository {
     /// the configuration, from the file `config` of the git directory and from memory. A branch that isn't there is no
     /// fault. No name at all is Ok at once.
     ///
-    /// The new text is written to `config.lock`, which is then put in the place of `config`; where the file has no section
-    /// of these branches, it isn't written. All memory but that of these two calls is taken before anything changes.
+    /// The new text is written to `config.lock`, which is then put in the place of `config`; where the file has no
+    /// section of these branches, it isn't written. All memory but that of these two calls is taken before anything
+    /// changes. What each error says, and what it leaves, stands at `delete::Error`. The faults of work trees and files
+    /// come only where their count rose.
     pub fn delete_local_branches<W: Worktrees, F: Files>(
         &mut self,
         alloc: Global,

@@ -28,13 +28,15 @@ ghost use Rattle.fetch_remote.specs.Repositories.{state_of, setup_of};
 ghost use Rattle.fetch_remote.specs.Valid.{HasValidInput};
 ghost use Rattle.fetch_remote.specs.declared.fetching.fetch_error.FetchError.TheVariants as errors;
 
+use crate::fetching::connection::listed_for;
 use crate::fetching::fetch_error::FetchError;
 use crate::fetching::options::FetchOptions;
 use crate::fetching::outcome::Outcome;
-use crate::fetching::settling::{Manner, settle};
-use crate::fetching::talking::talk;
+use crate::fetching::preparing::fetch_on;
+use crate::fetching::settling::Manner;
 use crate::remote::Remote;
 use crate::repository::Repository;
+use fetch_conversation::NoProgress;
 use fetch_refs::PackedRefs;
 use fetch_specs::Tags;
 use fetch_store::{Files, NoMemory, Text};
@@ -50,8 +52,9 @@ impl Remote {
     /// changes nothing. The interrupt is asked once before each receive.
     ///
     /// After an error the references and their logs are as they were found, but for `RemovePackKeepFile`: then they have
-    /// moved. Objects and border are as found, unless the error came behind the taking: then they are with all that was
+    /// moved. Objects and border are as found, unless the error came after the taking: then they are with all that was
     /// received, and the keep file stands. Where a call on the files was refused, these are as that call left them.
+    // Many arguments: the public signature. Each is lent by itself, so that a clause speaks of each before and after.
     pub fn fetch<R: Threads + Sync, P: Peer, I: Interrupt, F: Files, W: Worktrees>(
         &self,
         rt: &R,
@@ -96,9 +99,30 @@ impl Remote {
         ensures open_repo { IsErrOf result (errors.Receive (receive_errors.UpdateRefs update_errors.OpenWorktreeRepo)) → Rose (W.open_repo worktrees.old) (W.open_repo worktrees.new) }
         ensures follow_symref { IsErrOf result (errors.Receive (receive_errors.UpdateRefs update_errors.FollowSymref)) → Rose (W.follow_symref worktrees.old) (W.follow_symref worktrees.new) }
     {
-        let how = manner(alloc, self.fetch_tags(), &options)?;
-        let talked = talk(rt, alloc, self, repo, peer, interrupt, options)?;
-        let outcome = settle(alloc, repo, &how, talked, files, worktrees)?;
+        let FetchOptions {
+            map,
+            dry_run,
+            write_packed_refs_only,
+            reflog_message,
+            shallow,
+        } = options;
+        let mut prepared = listed_for(alloc, self, repo, peer, interrupt, map)?;
+        prepared.options.dry_run = dry_run;
+        prepared.options.write_packed_refs_only = write_packed_refs_only;
+        prepared.options.reflog_message = reflog_message;
+        prepared.options.shallow = shallow;
+        let outcome = fetch_on(
+            rt,
+            alloc,
+            self,
+            prepared,
+            repo,
+            peer,
+            &mut NoProgress,
+            interrupt,
+            files,
+            worktrees,
+        )?;
         Ok(outcome)
     }
 }

@@ -29,7 +29,7 @@ ghost use Rattle.fetch_remote.specs.Form.{Given};
 ghost use Rattle.fetch_remote.specs.Lasting.{updates_in, AcceptsNone, AreAlike, with_packed};
 ghost use Rattle.fetch_remote.specs.Repositories.{RepositoryValue, State, held};
 ghost use Rattle.fetch_remote.specs.Requested.{AsksInOrder};
-ghost use Rattle.fetch_remote.specs.Serving.{listed_by, IsAllStored, IsServed, told_listed, told_served};
+ghost use Rattle.fetch_remote.specs.Serving.{listed_by, IsAllStored, IsServed, told_listed, told_served, as_dry_run, told_dry};
 ghost use Rattle.fetch_remote.specs.Settling.{connected, pack_of};
 ghost use Rattle.fetch_remote.specs.Stages.{wants_in};
 ghost use Rattle.fetch_remote.specs.Valid.{IsTakeable, AreJudgeable, policy_with, IsValidInput};
@@ -48,8 +48,9 @@ pub fn an_honest_pack_is_never_disconnected()
         → connected s (wants_in g s m) (pack_of r) ≡ Ok tt }
 {}
 
-/// What a server writes is valid input of a fetch, whatever comes behind: it lists references of which none is wanted, or it
-/// lists them and answers the requests up to a pack that may be taken. In both cases no mapping may be refused.
+/// What a server writes is valid input of a fetch, whatever comes after: it lists references of which none is wanted, or it
+/// lists them and answers the requests up to a pack that may be taken. What it writes for a fetch is valid input of a dry
+/// run too, whatever the pack links to. In each case no mapping may be refused.
 pub fn what_a_server_serves_is_valid()
     ensures listed { (g : Given) (trees : List Worktree) (s : State) (capabilities : List Capability) (refs : List Ref) (rest : List ℕ) → IsAllStored g s capabilities refs
         → AreJudgeable (policy_with g trees s (told_listed g capabilities refs)) (listed_by g capabilities refs).ref_map
@@ -58,6 +59,9 @@ pub fn what_a_server_serves_is_valid()
         → IfSome (told_served g s capabilities refs a answers contents).received (IsTakeable s (wants_in g s (listed_by g capabilities refs).ref_map))
         → AreJudgeable (policy_with g trees s (told_served g s capabilities refs a answers contents)) (listed_by g capabilities refs).ref_map
         → IsValidInput g trees s (listing_text capabilities refs ++ (answers_text a answers ++ rest)) }
+    ensures dry { (g : Given) (trees : List Worktree) (s : State) (capabilities : List Capability) (refs : List Ref) (a : Answer) (answers : List Answer) (contents : Contents) (rest : List ℕ) → IsServed g s capabilities refs a answers contents
+        → AreJudgeable (policy_with (as_dry_run g) trees s (told_dry (told_served g s capabilities refs a answers contents))) (listed_by g capabilities refs).ref_map
+        → IsValidInput (as_dry_run g) trees s (listing_text capabilities refs ++ (answers_text a answers ++ rest)) }
 {}
 
 /// A fetch only adds to the objects, and a dry run changes nothing.

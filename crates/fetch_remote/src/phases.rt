@@ -14,9 +14,11 @@ ghost use Rattle.fetch_conversation.specs.declared.prepare.Error.TheVariants as 
 ghost use Rattle.fetch_conversation.specs.declared.ref_map.Error.TheVariants as ref_map_errors;
 ghost use Rattle.fetch_remote.specs.Stages.{inquiry_of};
 
+pub use crate::fetching::connection::{inquired, listed_for};
 pub use crate::fetching::judging::judge;
 pub use crate::fetching::keep::{Kept, keep, make_keep, remove_keep};
 pub use crate::fetching::manner;
+pub use crate::fetching::preparing::fetch_on;
 pub use crate::fetching::settling::{Manner, Taken, status};
 use crate::ref_map::Options;
 use crate::remote::Remote;
@@ -63,6 +65,7 @@ pub fn list<P: Peer, I: Interrupt>(
 
 /// Asks for the pack of what is wanted, in rounds that tell which commits are there, and reads it. Where nothing is wanted,
 /// nothing is sent. The interrupt is asked once before each receive. In a dry run the last reply is read up to the pack alone.
+// Many arguments: the public signature of this stage.
 pub fn converse<R: Threads + Sync, P: Peer, I: Interrupt, Q: Progress, O: Objects>(
     rt: &R,
     alloc: Global,

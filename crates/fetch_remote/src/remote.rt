@@ -28,7 +28,7 @@ impl Model for Remote {
 }
 
 impl Remote {
-    /// A nameless remote.
+    /// A nameless remote with these addresses and refspecs to fetch by, this choice of tags, and nothing to push.
     pub fn new(urls: List<Text>, fetch_specs: List<RefSpec>, tags: Tags) -> Remote
         ensures { result ≡ nameless urls fetch_specs tags }
     {
@@ -70,7 +70,7 @@ impl Remote {
         }
     }
 
-    /// The first address.
+    /// The first of the addresses. None where there is none.
     pub fn url(&self, direction: Direction) -> Option<&[u8]>
         ensures { option_map (λ url. url.now) result ≡ slice_get (urls_for self.now direction) 0 }
     {
@@ -80,7 +80,7 @@ impl Remote {
         }
     }
 
-    /// The refspecs, in order.
+    /// The refspecs for a direction, in order.
     pub fn refspecs(&self, direction: Direction) -> &[RefSpec]
         ensures { result.now ≡ specs_for self.now direction }
     {
@@ -90,7 +90,7 @@ impl Remote {
         }
     }
 
-    /// Which tags are fetched beside.
+    /// What a fetch does with tags.
     pub fn fetch_tags(&self) -> Tags
         ensures { result ≡ self.now.tags }
     {

@@ -2,6 +2,7 @@
 
 mod hash;
 pub mod open_error;
+mod overriding;
 pub mod paths;
 pub mod reload;
 pub mod settings;
@@ -55,16 +56,21 @@ impl OpenOptions {
 /// What a repository is made of.
 #[derive(Drop)]
 pub struct Parts {
+    /// The objects, whose hash is the repository's.
     pub store: Store,
+    /// The references with their reflogs, of the same hash.
     pub refs: Refs,
-    /// The commits whose parents are left aside.
+    /// The commits whose parents are left out.
     pub border: Border,
     /// The repository's own configuration.
     pub local: File,
+    /// Who writes the lines of reflogs.
     pub committer: Signature,
+    /// The path of the git directory.
     pub git_dir: Text,
     /// The directory of the work tree, where there is one.
     pub workdir: Option<Text>,
+    /// How it is opened: leniency, overrides, and what comes before the local file.
     pub options: OpenOptions,
 }
 
@@ -125,7 +131,8 @@ pub(crate) struct Resolved {
 }
 
 impl Repository {
-    /// A repository of these parts. Objects and references are of one hash.
+    /// A repository of these parts. Objects and references are of one hash. `Override` tells the first override that
+    /// isn't one, and else the only error is out of memory.
     pub fn from_parts(alloc: Global, parts: Parts) -> Result<Repository, OpenError>
         requires { parts.store.hash ≡ parts.refs.hash }
         ensures state { IfOk result (λ repo. state_of repo ≡ spec.state_in parts) }
@@ -207,7 +214,7 @@ impl Repository {
         &self.refs
     }
 
-    /// The commits whose parents are left aside.
+    /// The commits whose parents are left out.
     pub fn border(&self) -> &Border
         ensures { result.now ≡ (state_of self.now).border }
     {
@@ -238,14 +245,14 @@ impl Repository {
         }
     }
 
-    /// Whether the parents of some commit are left aside.
+    /// Whether the parents of some commit are left out.
     pub fn is_shallow(&self) -> bool
         ensures { IsTrue (not result) ↔ ((state_of self.now).border ≡ set.empty) }
     {
         !self.border().is_empty()
     }
 
-    /// The commits whose parents are left aside. None where the whole history is there.
+    /// The commits whose parents are left out. None where the whole history is there.
     pub fn shallow_commits(&self) -> Option<&Border>
         ensures none { IsNone result ↔ ((state_of self.now).border ≡ set.empty) }
         ensures border { IfSome result (λ border. border.now ≡ (state_of self.now).border) }
@@ -269,7 +276,7 @@ impl Repository {
     /// Whether lines are written into the reflogs of branches: as `core.logAllRefUpdates` says where it can be read, and
     /// else where there is a work tree.
     #[tactic(auto, unfolding(crate::specs::RepositoryValues::logging_of))]
-    pub(crate) fn logs(&self) -> bool
+    pub fn logs(&self) -> bool
         ensures { result ≡ (setup_of self.now).logging }
     {
         match self

@@ -5,7 +5,7 @@ use fetch_specs::FullName;
 use fetch_store::{List, Text};
 use thiserror::Error as ThisError;
 
-/// Why the branch isn't told.
+/// Why it isn't told which branch a tracking branch follows.
 #[derive(Debug, Drop, PartialEq, Eq, ThisError)]
 pub enum Error {
     /// The name isn't below `refs/remotes/`.

@@ -4,6 +4,7 @@ pub mod Connecting
 pub mod Replays
 pub mod Fronts
 pub mod Deleted
+pub mod Playing
 pub mod Unmet
 pub mod Effects
 pub mod Journals
@@ -14,3 +15,14 @@ pub mod SeatSteps
 pub mod Back
 pub mod Turned
 pub mod Starts
+pub mod Saw
+pub mod Named
+pub mod Told
+pub mod Spoken
+pub mod Brought
+pub mod Judged
+pub mod Moved
+pub mod Settled
+pub mod Owned
+pub mod Fetched
+pub mod Places

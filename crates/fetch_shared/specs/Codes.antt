@@ -34,13 +34,16 @@ abbrev mode_from : Bool → RefLog
 mode_from true = AndReference
 mode_from false = Only
 
+-- a mode is the one that its bit names
 pub mode_back : (m : RefLog) → mode_from (touches_reference m) ≡ m
 mode_back AndReference = refl
 mode_back Only = refl
 
+-- a mode, coded
 abbrev pub coded_mode : Coded RefLog
 coded_mode = code_by Bool coded_bool touches_reference mode_from mode_back
 
+-- how a change is logged, coded
 abbrev pub coded_log : Coded LogChange
 coded_log =
     code_by (RefLog × (Bool × List ℕ)) (coded× coded_mode (coded× coded_bool coded_text))
@@ -67,6 +70,7 @@ abbrev join_expected : ℕ ⊎ (Bool × Target) → PreviousValue
 join_expected (inl n) = numbered n
 join_expected (inr p) = matching p.0 p.1
 
+-- an expectation is put together as it was taken apart
 pub expected_back : (e : PreviousValue) → join_expected (split_expected e) ≡ e
 expected_back Any = refl
 expected_back MustExist = refl
@@ -74,6 +78,7 @@ expected_back MustNotExist = refl
 expected_back (MustExistAndMatch target) = refl
 expected_back (ExistingMustMatch target) = refl
 
+-- an expectation, coded
 abbrev pub coded_expected : Coded PreviousValue
 coded_expected = code_by (ℕ ⊎ (Bool × Target)) (coded⊎ coded_ℕ (coded× coded_bool coded_target)) split_expected join_expected expected_back
 
@@ -85,15 +90,18 @@ abbrev join_change : (LogChange × (PreviousValue × Target)) ⊎ (PreviousValue
 join_change (inl p) = Update p.0 p.1.0 p.1.1
 join_change (inr p) = Delete p.0 p.1
 
+-- a change is put together as it was taken apart
 pub change_back : (c : Change) → join_change (split_change c) ≡ c
 change_back (Update log expected new) = refl
 change_back (Delete expected log) = refl
 
+-- a change, coded
 abbrev pub coded_change : Coded Change
 coded_change =
     code_by ((LogChange × (PreviousValue × Target)) ⊎ (PreviousValue × RefLog)) (coded⊎ (coded× coded_log (coded× coded_expected coded_target)) (coded× coded_expected coded_mode))
     split_change join_change change_back
 
+-- an edit, coded
 abbrev pub coded_edit : Coded RefEdit
 coded_edit = code_by (Change × List ℕ) (coded× coded_change coded_text) (λ e. (e.change, e.name)) (λ p. record { change = p.0; name = p.1 }) (λ _. refl)
 
@@ -118,17 +126,20 @@ join_entry (inl p) = entries.Take p.0 p.1.0 p.1.1.0 p.1.1.1
 join_entry (inr (inl p)) = entries.Commit p.0 p.1.0 p.1.1
 join_entry (inr (inr p)) = entries.Delete p.0 p.1
 
+-- an entry is put together as it was taken apart
 pub entry_back : (e : Entry) → join_entry (split_entry e) ≡ e
 entry_back (entries.Take pass ids shallow unshallow) = refl
 entry_back (entries.Commit pass edits committer) = refl
 entry_back (entries.Delete pass names) = refl
 
+-- an entry, coded
 abbrev pub coded_entry : Coded Entry
 coded_entry =
     code_by (Taking ⊎ (Committing ⊎ Deleting))
     (coded⊎ (coded× coded_ℕ (coded× (coded_list coded_id) (coded× (coded_list coded_id) (coded_list coded_id)))) (coded⊎ (coded× coded_ℕ (coded× (coded_list coded_edit) coded_signature)) (coded× coded_ℕ (coded_list coded_text))))
     split_entry join_entry entry_back
 
+-- a shared state, coded
 abbrev pub coded_shared : Coded SharedValue
 coded_shared =
     code_by (RepositoryValue × (RepositoryValue × List Entry)) (coded× coded_repository (coded× coded_repository (coded_list coded_entry)))

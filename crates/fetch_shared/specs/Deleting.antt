@@ -29,7 +29,7 @@ pub record HasDeleted (trees : Option (List Worktree)) (names : List (List ℕ))
   pub free : AreFree trees names
   pub entered : HasEntered names before after receipt
 
--- The first name that is no local branch, a fault of the work trees, or the first name that is checked out; want of memory is
+-- The first name that is no local branch, a fault of the work trees, or the first name that is checked out; out of memory is
 -- free, and nothing else comes.
 abbrev pub IsUndeleted : Option (List Worktree) → List (List ℕ) → SharedError → Type 0
 IsUndeleted trees names (errors.Delete causes.NoMemory) = ⊥

@@ -8,11 +8,12 @@ use Rattle.fetch_remote.specs.declared.fetching.fetch_error.FetchError.TheVarian
 use Rattle.fetch_shared.specs.declared.error.SharedError.{SharedError}
 use Rattle.fetch_shared.specs.declared.error.SharedError.TheVariants as errors
 
--- want of memory stays what it is
+-- out of memory stays what it is
 abbrev pub fetching : FetchError → SharedError
 fetching fetch.NoMemory = errors.NoMemory
 fetching e = errors.Fetch e
 
+-- why branches weren't deleted, as a refusal of a shared repository
 abbrev pub deleting : DeleteError → SharedError
 deleting delete.NoMemory = errors.NoMemory
 deleting e = errors.Delete e
@@ -21,3 +22,8 @@ deleting e = errors.Delete e
 abbrev pub is_of_peer : SharedError → Bool
 is_of_peer (errors.Fetch e) = remote.is_of_peer e
 is_of_peer e = false
+
+-- a yes of the interrupt
+abbrev pub is_yes : SharedError → Bool
+is_yes (errors.Fetch e) = remote.is_yes e
+is_yes e = false

@@ -1,4 +1,4 @@
--- The repository that a front of a journal leaves, up to two objects with one id.
+-- The repository that a prefix of a journal leaves, up to two objects with one id.
 use Rattle.std.specs.Prelude.{◌≡◌, List, None, Some, ⊤}
 use Rattle.std.specs.FinMap as map
 use Rattle.fetch_store.specs.declared.id.Kind.{Kind}
@@ -34,7 +34,7 @@ pub record IsPinned (before now : ObjectMap) : Type 0 where
   pub kept : Grows before now
   pub named : (id : ObjectId) (o : Stored) → map.get before id ≡ None → map.get now id ≡ Some o → id ≡ id_of o.hash o.kind o.bytes
 
--- the repository that a front of the journal leaves
+-- the repository that a prefix of the journal leaves
 pub record IsStateOf (opening : RepositoryValue) (front : List Entry) (r : RepositoryValue) : Type 0 where
   pub told : outline r ≡ replay (outline opening) front
   pub pinned : IsPinned opening.state.objects r.state.objects

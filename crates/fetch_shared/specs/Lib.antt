@@ -2,6 +2,7 @@ pub mod Deletions
 pub mod Machine
 pub mod Replays
 pub mod Fronts
+pub mod Faults
 pub mod Codes
 pub mod Shared
 pub mod Unmet
@@ -15,3 +16,8 @@ pub mod Received
 pub mod Errors
 pub mod Receipts
 pub mod Deleting
+pub mod Seen
+pub mod Talking
+pub mod Bringing
+pub mod Settling
+pub mod Fetching

@@ -43,9 +43,11 @@ pub record State : Type 0 where
   pub repository : RepositoryValue
   pub journal : List Entry
 
+-- a repository with an empty journal
 abbrev pub start : RepositoryValue → State
 start r = record { repository = r; journal = [] }
 
+-- what may be done with a shared repository
 pub data Event : Type 0 where
   Plan : Event
   Snapshot : Event
@@ -73,6 +75,7 @@ refusal s (Take pass wants pack) = take_refusal (held s.repository) wants pack
 refusal s (Commit pass edits committer) = commit_refusal s.repository.state.refs.names edits
 refusal s (Delete pass names) = None
 
+-- The event isn't refused.
 abbrev pub IsAllowed : State → Event → Type 0
 IsAllowed s event = refusal s event ≡ None
 
@@ -93,6 +96,7 @@ effect s (Delete pass names) = entered s (with_refs s.repository (without s.repo
 abbrev pub after : State → Event → State
 after s event = if is_some (refusal s event) then s else effect s event
 
+-- the state after these events
 abbrev pub run : State → List Event → State
 run s [] = s
 run s (event ∷ events) = run (after s event) events

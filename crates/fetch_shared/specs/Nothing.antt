@@ -27,5 +27,6 @@ no_setup = record {
   logging = false;
 }
 
+-- a repository with nothing in it
 abbrev pub nothing : RepositoryValue
 nothing = record { state = nothing_held; setup = no_setup }

@@ -2,6 +2,7 @@
 use Rattle.std.specs.Prelude.{ℕ, ◌+◌, ◌<◌, ◌&&◌, nat_le, nat_lt, List, [], ◌∷◌, if◌then◌else◌}
 use Rattle.fetch_shared.specs.declared.view.Span.{Span}
 
+-- the numbers from the first to before the end
 abbrev pub span : ℕ → ℕ → Span
 span first end = record { first = first; end = end }
 

@@ -37,6 +37,7 @@ pub record Holder : Type 0 where
   pub held : List Span
   pub front : List Entry
 
+-- what a seat of this view is seen as
 abbrev pub holder_of : TableId → View → Holder
 holder_of table v = record { shared = record { table = table; opening = v.opening }; number = v.number; unused = v.unused; held = own v; front = v.front }
 
@@ -60,7 +61,7 @@ pub record IsBack (before after : Holder) : Type 0 where
 -- A turn in which the pass made this event, and what was answered. The turn found a state whose journal goes on from the
 -- pass's front, with no entry more of a number that the pass holds. Ok comes only where the event is allowed there, with
 -- what is told of that state, and then the pass has seen the event's entry, at the end, and what the event leaves is kept.
--- Else it has seen what the turn found, and the refusal is that of the event there, or want of memory.
+-- Else it has seen what the turn found, and the refusal is that of the event there, or out of memory.
 pub record IsTurn {X : Type 0} (before after : Holder) (event : Event) (told : SharedValue → X) (answer : Result X SharedError) : Type 0 where
   pub found : SharedValue
   pub opening : found.opening ≡ before.shared.opening

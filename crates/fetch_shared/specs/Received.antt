@@ -2,5 +2,6 @@
 use Rattle.fetch_store.specs.Honest.{Pack}
 use Rattle.fetch_shared.specs.declared.turns.ReceivedPack.{ReceivedPack}
 
+-- a pack that was read, as a value
 abbrev pub pack_in : ReceivedPack → Pack
 pack_in p = record { objects = p.objects.items; shallow = p.shallow.now; unshallow = p.unshallow.now }

@@ -20,6 +20,7 @@ pub record Outline : Type 0 where
   pub refs : RefsValue
   pub setup : Setup
 
+-- all of a repository but what its objects hold
 abbrev pub outline : RepositoryValue → Outline
 outline r = record { hash = r.state.hash; ids = set_of (map.keys r.state.objects); border = r.state.border; refs = r.state.refs; setup = r.setup }
 

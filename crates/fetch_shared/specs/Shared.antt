@@ -16,14 +16,17 @@ use Rattle.fetch_shared.specs.Fronts.{IsSound, IsStateOf}
 use Rattle.fetch_shared.specs.Machine.{State, Event, effect}
 use Rattle.fetch_shared.specs.Replays.{AllMet, outline}
 
+-- a shared state: what it opened as, what it is now, and its journal
 pub record SharedValue : Type 0 where
   pub opening : RepositoryValue
   pub repository : RepositoryValue
   pub journal : List Entry
 
+-- a repository that was just shared
 abbrev pub opened : RepositoryValue → SharedValue
 opened r = record { opening = r; repository = r; journal = [] }
 
+-- the state of the machine
 abbrev pub state_of : SharedValue → State
 state_of v = record { repository = v.repository; journal = v.journal }
 
@@ -50,7 +53,7 @@ pub record IsKept (v : SharedValue) : Type 0 where
   pub state : IsStateOf v.opening v.journal v.repository
   pub met : AllMet (outline v.opening) v.journal
 
--- want of memory
+-- out of memory
 abbrev pub is_memory : SharedError → Bool
 is_memory errors.NoMemory = true
 is_memory _ = false

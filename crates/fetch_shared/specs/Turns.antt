@@ -21,6 +21,7 @@ abbrev pub own_at : View → Stage → List Span
 own_at v Spent = []
 own_at v _ = span v.number (v.number + 1) ∷ v.unused ∷ v.others
 
+-- the numbers that a view holds of its own
 abbrev pub own : View → List Span
 own v = own_at v v.stage
 
@@ -29,6 +30,7 @@ abbrev pub joined_at : Stage → List Span
 joined_at (Joined held front) = held
 joined_at _ = []
 
+-- the numbers that a view holds
 abbrev pub held_by : View → List Span
 held_by v = own v ++ joined_at v.stage
 
@@ -57,6 +59,7 @@ abbrev pub IsLive : Stage → Type 0
 IsLive Spent = ⊥
 IsLive _ = Unit {0}
 
+-- What is true of a view at its seat.
 pub record Knows (opening : RepositoryValue) (journal : List Entry) (turn holder seat : ℕ) (v : View) : Type 0 where
   pub opened : IsLive v.stage → v.opening ≡ opening
   pub sees : Sees journal (own v) v.front
@@ -89,6 +92,7 @@ pub record IsOrdered (opening : RepositoryValue) (s : State (Option SharedValue)
 abbrev pub newcomer : RepositoryValue → View
 newcomer opening = record { opening = opening; number = 0; unused = span 1 18446744073709551615; others = []; front = []; stage = Resting }
 
+-- the view of a pass that another took in
 abbrev pub spent : View
 spent = record { opening = nothing; number = 0; unused = span 0 0; others = []; front = []; stage = Spent }
 
@@ -98,6 +102,7 @@ Seated = Me (Option SharedValue) View
 abbrev At : Type 0
 At = Step (Option SharedValue)
 
+-- the view without the turn
 abbrev pub resting : View → View
 resting v = record v { stage = Resting }
 
@@ -114,6 +119,7 @@ pub record Finds (v : View) (journal : List Entry) : Type 0 where
   pub sees : Sees journal (own v) v.front
   pub numbered : All (λ e. pass_of e < 18446744073709551615) journal
 
+-- The holder of the turn sees the whole journal.
 abbrev pub Loads : At → Seated → ℕ → Seated → Type 0
 Loads st m found m' = (kept : List Entry) → m.0.stage ≡ Turn kept → (m' ≡ (turning m.0 kept, m.1)) × (found ≡ length kept) × Finds m.0 kept
 
@@ -121,6 +127,7 @@ Loads st m found m' = (kept : List Entry) → m.0.stage ≡ Turn kept → (m' �
 abbrev pub Records : At → Seated → ℕ → Seated → Type 0
 Records st m found m' = (a : SharedValue) → m.1 ≡ (0, Some a) ∷ [] → (m' ≡ (turning m.0 a.journal, m.1)) × (found ≡ length m.0.front)
 
+-- The holder gives the turn back.
 abbrev pub Releases : At → Seated → ℕ → Seated → Type 0
 Releases st m found m' = m' ≡ (resting m.0, [])
 
@@ -129,6 +136,7 @@ pub record IsClear (v : View) : Type 0 where
   pub once : (n : ℕ) → times_held n (own v) ≤ 1
   pub unused : (n : ℕ) → Holds (own v) n → 0 < times_in n v.unused → entries_of n v.front ≡ []
 
+-- A pass knows that its numbers are its own.
 abbrev pub Learns : At → Seated → ℕ → Seated → Type 0
 Learns st m found m' = (m' ≡ m) × IsClear m.0
 
@@ -137,6 +145,7 @@ pub record Extends (held : List Span) (front longer : List Entry) : Type 0 where
   pub begins : Begins front longer
   pub same : (n : ℕ) → Holds held n → entries_of n longer ≡ entries_of n front
 
+-- a view that took another one in, with this front
 abbrev pub settled : View → List Span → List Entry → View
 settled v held front = record v { others = v.others ++ held; front = front; stage = Resting }
 
@@ -145,6 +154,7 @@ abbrev pub AreJoined : Seated → Seated → List Span → List Entry → Type 0
 AreJoined m m' held front = (longer : List Entry) × (m' ≡ (settled m.0 held longer, m.1))
     × Extends (own m.0) m.0.front longer × Extends held front longer × ((longer ≡ m.0.front) ⊎ (longer ≡ front))
 
+-- The pass that was taken in is settled.
 abbrev pub Settles : At → Seated → ℕ → Seated → Type 0
 Settles st m found m' = (held : List Span) (front : List Entry) → m.0.stage ≡ Joined held front → AreJoined m m' held front
 
@@ -152,9 +162,11 @@ Settles st m found m' = (held : List Span) (front : List Entry) → m.0.stage �
 abbrev pub left_part : ℕ → View → View
 left_part count v = record v { unused = span (v.unused.first + count) v.unused.end }
 
+-- what a split gives to the right
 abbrev pub right_part : ℕ → View → View
 right_part count v =
     record { opening = v.opening; number = v.unused.first; unused = span (v.unused.first + 1) (v.unused.first + count); others = []; front = v.front; stage = Resting }
 
+-- a view that has just taken another one in
 abbrev pub both_parts : View → View → View
 both_parts v w = record v { stage = Joined (own w) w.front }

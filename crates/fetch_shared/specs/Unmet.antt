@@ -11,7 +11,7 @@ abbrev pub IsOf : List RefEdit → RefError → Type 0
 IsOf edits (causes.Expectation index found) = index < length edits
 IsOf edits cause = ⊤
 
--- the name of the edit at that place, with what was found; else want of memory, which may come for this too
+-- the name of the edit at that place, with what was found; else out of memory, which may come for this too
 abbrev pub IsTold : List RefEdit → RefError → SharedError → Type 0
 IsTold edits (causes.Expectation index found) e = (e ≡ NoMemory) ⊎ (option_map (λ edit. EditReferences edit.name found) (slice_get edits index) ≡ Some e)
 IsTold edits cause e = e ≡ NoMemory

@@ -20,9 +20,10 @@ use fetch_update::Worktrees;
 use std::alloc::Global;
 use std::sync::Wait;
 
-/// Deletes local branches that are checked out nowhere, with their reflogs, in one turn. A branch that isn't there is no
-/// fault, and the configuration is left alone. No name at all is Ok at once, without a receipt. After an error the journal
-/// has no entry more of the pass.
+/// Deletes local branches that are checked out nowhere, with their reflogs, in one turn. A branch that isn't there is
+/// no fault, and the configuration is left alone. No name at all is Ok at once, without a receipt. After an error the
+/// journal has no entry more of the pass. `Delete` tells the first name that is no local branch, a fault of the work
+/// trees, whose count rose then, or the first branch that is checked out.
 pub fn delete_shared<R: Wait, W: Worktrees>(
     rt: &R,
     alloc: Global,
@@ -55,7 +56,7 @@ pub fn delete_shared<R: Wait, W: Worktrees>(
     }
 }
 
-/// Enters a deletion of these names. Want of memory alone refuses it.
+/// Enters a deletion of these names. Out of memory alone refuses it.
 fn enter<R: Wait>(
     rt: &R,
     alloc: Global,

@@ -70,7 +70,8 @@ pub(crate) fn delete(
     }
 }
 
-fn deletions(alloc: Global, names: &[FullName]) -> Result<Vec<RefEdit>, NoMemory>
+/// The edits that delete these names.
+pub(crate) fn deletions(alloc: Global, names: &[FullName]) -> Result<Vec<RefEdit>, NoMemory>
     ensures { IfOk result (λ edits. edits.items ≡ map deletions.deletion names.now) }
 {
     let mut edits = Vec::with_capacity(alloc, names.len())?;
@@ -93,7 +94,7 @@ fn deletion(name: &FullName) -> Result<RefEdit, NoMemory>
 }
 
 /// Who writes no line.
-fn nobody(alloc: Global) -> Signature {
+pub(crate) fn nobody(alloc: Global) -> Signature {
     Signature {
         name: Text::from(Vec::new(alloc)),
         email: Text::from(Vec::new(alloc)),

@@ -17,16 +17,19 @@ pub enum SharedError {
     /// The repository isn't closed: this is its first missing link.
     #[error("the repository has a link to an object that is not stored")]
     NotClosed {
+        /// The first missing link.
         link: Missing,
     },
     /// The pack would leave a link missing: this is the first.
     #[error("the pack has a link to an object that is not stored")]
     Disconnected {
+        /// The first missing link.
         link: Missing,
     },
     /// Another object has this id.
     #[error("another object has this id")]
     Collision {
+        /// The first such id, in the order of the pack.
         id: ObjectId,
     },
     /// An edit expects something else than what stands at its name.
@@ -87,7 +90,7 @@ fn copy_of(found: &Option<Target>) -> Result<Option<Target>, NoMemory>
     }
 }
 
-/// Want of memory stays want of memory.
+/// Out of memory stays out of memory.
 impl From<FetchError> for SharedError {
     ghost use Rattle.std.specs.Prelude.{◌≡◌};
     ghost use Rattle.fetch_shared.specs.Errors.{fetching};
@@ -102,7 +105,7 @@ impl From<FetchError> for SharedError {
     }
 }
 
-/// Want of memory stays want of memory.
+/// Out of memory stays out of memory.
 impl From<delete::Error> for SharedError {
     ghost use Rattle.std.specs.Prelude.{◌≡◌};
     ghost use Rattle.fetch_shared.specs.Errors.{deleting};

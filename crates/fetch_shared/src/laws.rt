@@ -99,7 +99,7 @@ pub fn a_deletion_takes_names_with_their_reflogs()
     ensures hash { (refs : RefsValue) (names : List (List ℕ)) → (without refs names).hash ≡ refs.hash }
 {}
 
-/// A front of a journal leaves one repository, up to two objects with one id.
+/// A prefix of a journal leaves one repository, up to two objects with one id.
 pub fn a_front_leaves_one_repository()
     ensures { (opening : RepositoryValue) (front : List Entry) (r q : RepositoryValue) → IsStateOf opening front r → IsStateOf opening front q → IsAlike r.state.objects q.state.objects → r ≡ q }
 {}

@@ -13,7 +13,7 @@ pub struct Plan {
     pub place: u64,
     /// The ids that are asked for, in the order of the mappings and each once.
     pub wants: List<ObjectId>,
-    /// The commits whose parents were left aside.
+    /// The commits whose parents were left out.
     pub border: Border,
     /// The stored commits that references peel to, in ascending order and each once.
     pub tips: List<ObjectId>,

@@ -87,8 +87,8 @@ impl SharedRepository {
         &self.settings
     }
 
-    /// Gives the first `numbers` of the unused numbers to a new pass, the least of them as its own. It waits for nobody, and
-    /// takes no memory.
+    /// Gives the first `numbers` of the unused numbers to a new pass, the least of them as its own. It waits for
+    /// nobody, and takes no memory. It is never refused.
     pub fn split(&self, pass: Pass, numbers: u64) -> Result<(Pass, Pass), (Pass, SharedError)>
         requires shared { pass.shared ≡ self.now }
         requires numbers { (1 ≤ numbers) × (pass.unused.first + numbers ≤ pass.unused.end) }
@@ -160,7 +160,7 @@ impl SharedRepository {
     }
 
     /// The repository that the journal leaves, and the journal. It waits for the turn, and takes no memory. Passes that
-    /// still stand are of no further use.
+    /// still stand are of no further use. It is never refused.
     pub fn close<R: Wait>(
         self,
         rt: &R,

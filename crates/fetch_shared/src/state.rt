@@ -68,7 +68,7 @@ impl SharedState {
     }
 
     /// What a fetch with these mappings, tags and depth is to ask with: how many entries there are, its wants, the border,
-    /// the tips and the graph as they are now. The only error is want of memory. It changes nothing.
+    /// the tips and the graph as they are now. The only error is out of memory. It changes nothing.
     pub fn plan(
         &mut self,
         alloc: Global,
@@ -97,6 +97,7 @@ impl SharedState {
     /// `Collision` comes where an id has another object in the repository or earlier in the pack, with the first such id;
     /// else `Disconnected` where the take would leave a link missing, with the first, the wants first of all. After an error
     /// nothing is changed.
+    // Many arguments: the public signature. A pack and its lines are what a reply has.
     pub fn take(
         &mut self,
         alloc: Global,
@@ -158,7 +159,7 @@ impl SharedState {
         Ok(place)
     }
 
-    /// Deletes these names with their reflogs, and tells the place of the entry. The only error is want of memory, and after
+    /// Deletes these names with their reflogs, and tells the place of the entry. The only error is out of memory, and after
     /// it nothing is changed.
     pub fn delete(
         &mut self,
@@ -182,7 +183,7 @@ impl SharedState {
         Ok(place)
     }
 
-    /// How many entries there are, the references and the graph as they are now. The only error is want of memory.
+    /// How many entries there are, the references and the graph as they are now. The only error is out of memory.
     pub fn snapshot(&self, alloc: Global) -> Result<Taken, SharedError>
         ensures taken { IfOk result (λ taken. taken ≡ snapshot_of self.now) }
         ensures memory { IfErr result (λ e. e ≡ errors.NoMemory) }

@@ -18,10 +18,13 @@ impl TableRule<Option<SharedState>, View, Opening<Repository>> for OneTurn {
     ghost first = { λ opening. newcomer opening.value };
 }
 
+/// The table at which the passes of one shared repository sit: two words and the state.
 pub type Desk = Table<Option<SharedState>, View, Opening<Repository>, OneTurn, Global>;
 
+/// The seat of one pass.
 pub type Place = Seat<Option<SharedState>, View>;
 
+/// A try to get the turn.
 pub struct Try;
 
 impl Play<Option<SharedState>, View> for Try {
@@ -30,6 +33,7 @@ impl Play<Option<SharedState>, View> for Try {
     ghost then = { Tries };
 }
 
+/// The holder of the turn reads how many entries there are, and has then seen the whole journal.
 pub struct Load;
 
 impl Play<Option<SharedState>, View> for Load {
@@ -38,6 +42,7 @@ impl Play<Option<SharedState>, View> for Load {
     ghost then = { Loads };
 }
 
+/// The holder of the turn records that the journal has its entry.
 pub struct Record;
 
 impl Play<Option<SharedState>, View> for Record {
@@ -46,6 +51,7 @@ impl Play<Option<SharedState>, View> for Record {
     ghost then = { Records };
 }
 
+/// The holder gives the turn back, and the state with it.
 pub struct Release;
 
 impl Play<Option<SharedState>, View> for Release {
@@ -54,6 +60,7 @@ impl Play<Option<SharedState>, View> for Release {
     ghost then = { Releases };
 }
 
+/// A look at the turn word, which tells a pass that its numbers are its own.
 pub struct Learn;
 
 impl Play<Option<SharedState>, View> for Learn {
@@ -62,6 +69,7 @@ impl Play<Option<SharedState>, View> for Learn {
     ghost then = { Learns };
 }
 
+/// A look after a join: the pass keeps the longer of both fronts.
 pub struct Settle;
 
 impl Play<Option<SharedState>, View> for Settle {
@@ -81,6 +89,7 @@ impl Share for Brand {
     ghost numbers = { 1 };
 }
 
+/// A split: the right part gets the least unused numbers, as many as `C` says, the first as its own.
 pub struct Cut<C> {
     share: PhantomData<C>,
 }
@@ -93,6 +102,7 @@ impl<C: Share> Split<View> for Cut<C> {
     ghost right = { right_part C.numbers };
 }
 
+/// A join: the left pass takes in what the other one holds.
 pub struct Glue;
 
 impl Join<View> for Glue {

@@ -36,6 +36,7 @@ pub struct ReceivedPack<'a> {
 impl SharedRepository {
     /// What a fetch with these mappings, tags and depth is to ask with, as `SharedState::plan` tells it of what the turn
     /// finds.
+    // Many arguments: those of `SharedState::plan`, with the pass and what may wait.
     pub fn plan<R: Wait>(
         &self,
         rt: &R,
@@ -96,6 +97,7 @@ impl SharedRepository {
 
     /// Takes a pack for these wants, as `SharedState::take` does with what the turn finds, and tells what it leaves. Each
     /// id is its object's hash, as it is in a pack that was read.
+    // Long: a pass is taken apart, and put together again after an Ok and after an error.
     pub fn take<R: Wait>(
         &self,
         rt: &R,

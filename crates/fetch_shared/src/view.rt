@@ -7,12 +7,15 @@ use std::collections::LinkedList;
 /// The numbers from `first` to before `end`.
 #[derive(Clone, Copy, Debug)]
 pub struct Span {
+    /// The first number.
     pub first: u64,
+    /// The number after the last one.
     pub end: u64,
 }
 
 /// What a seat at the table is at.
 pub enum Stage {
+    /// It hasn't the turn.
     Resting,
     /// It has the turn, and keeps the journal.
     Turn(LinkedList<Entry>),
@@ -26,11 +29,14 @@ pub enum Stage {
 pub struct View {
     /// What the shared repository opened as.
     pub opening: Repository,
+    /// The number under which it enters into the journal.
     pub number: u64,
+    /// Its numbers that no pass has yet.
     pub unused: Span,
     /// Numbers of passes that it took in.
     pub others: LinkedList<Span>,
     /// The beginning of the journal that it has seen.
     pub front: LinkedList<Entry>,
+    /// What it is at.
     pub stage: Stage,
 }

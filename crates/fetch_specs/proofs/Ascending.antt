@@ -20,7 +20,7 @@ less Less is = refl
 less Equal is = absurd cc
 less Greater is = absurd cc
 
--- what stands before a text stands before all behind it
+-- what stands before a text stands before all after it
 before-all : (a b : List ℕ) (ts : List (List ℕ)) → before a b ≡ true → list_all (before b) ts ≡ true → list_all (before a) ts ≡ true
 before-all a b [] is all = refl
 before-all a b (t ∷ ts) is all =

@@ -26,7 +26,7 @@ or_false : (a b : Bool) → (a || b) ≡ false → (a ≡ false) × (b ≡ false
 or_false true b is = absurd cc
 or_false false b is = (refl, is)
 
--- what stands before a star goes on behind each front without a star
+-- what stands before a star goes on after each prefix without a star
 longer_front : (s : List ℕ) (k : ℕ) → has_star (take k s) ≡ false → (r : List ℕ) × (front_of s ≡ take k s ++ r)
 longer_front [] zero free = ([], refl)
 longer_front [] (suc k) free = ([], refl)
@@ -44,7 +44,7 @@ where_some : (t : Bool) → is_some (where_true t) ≡ true → t ≡ true
 where_some true is = refl
 where_some false is = absurd cc
 
--- a name between a front and a back begins with the front
+-- a name between a prefix and a suffix begins with the prefix
 fronted : (front back name : List ℕ) → is_some (between front back name) ≡ true → starts_with nat_eq name front ≡ true
 fronted front back name is =
     let all = some_where (nat_le (length front + length back) (length name) && starts_with nat_eq name front && ends_with nat_eq name back) _ is in
@@ -88,7 +88,7 @@ no_star_in_head : has_star head ≡ false
 unfolding head
 no_star_in_head = refl
 
--- a source under `refs/` whose front has no star
+-- a source under `refs/` whose prefix has no star
 under_refs : (source name : List ℕ) → starts_with nat_eq source refs ≡ true → has_star (take (second_slash source) source) ≡ false → is_some (taken source name) ≡ true
     → list_any (starts_with nat_eq name) (refs_prefix source) ≡ true
 under_refs source name under free takes =
@@ -116,7 +116,7 @@ under_refs source name under free takes =
         or_true true = refl
         or_true false = refl
 
--- a source that is no id asks for a front of each name that it takes, unless its star is open
+-- a source that is no id asks for a prefix of each name that it takes, unless its star is open
 source_asks : (source name : List ℕ) → is_some (id_named source) ≡ false → has_open_star source ≡ false → is_some (taken source name) ≡ true
     → list_any (starts_with nat_eq name) (source_prefixes source) ≡ true
 source_asks source name no_id closed takes =

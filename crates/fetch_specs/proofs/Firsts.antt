@@ -94,7 +94,7 @@ pub all_from : {X : Type 0} (p : X → Bool) (xs : List X) → ((x : X) → Cont
 all_from p [] each = refl
 all_from p (x ∷ xs) each = and_from (p x) (list_all p xs) (each x (first_in x xs)) (all_from p xs (λ y there. each y (in_rest x xs y there)))
 
--- what stands in front doesn't come behind
+-- what stands in front doesn't come after
 ordered_front : (front : List Match) (x : Match) (back : List Match) (y : Match) → are_ordered (front ++ x ∷ back) ≡ true → Contains front y → comes_before x y ≡ false
 ordered_front [] x back y up there = absurd (none_in y there)
 ordered_front (a ∷ front) x back y up there =

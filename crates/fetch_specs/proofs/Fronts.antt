@@ -1,4 +1,4 @@
--- The longest front of a text that begins a name.
+-- The longest prefix of a text that begins a name.
 use Rattle.std.proofs.Common.{◌≡◌, ℕ, zero, suc, ◌+◌, ◌<◌, ◌≤◌, Bool, true, false, cond, not, ◌&&◌, eqb, List, [], ◌∷◌, ◌++◌, length, take, Some, None, refl, sym, ap, ◌∙◌, arith, append_assoc, append-nil}
 use Rattle.std.specs.List.{list_all, slice_split, onto_first}
 use Rattle.std.specs.Str.{bytes_eq}
@@ -83,7 +83,7 @@ past-step star c b bs k rest false true good anew on follows more = on (more_cor
 past-step star c b bs k rest false false good anew on follows more =
     false_from _ (λ all. let e : true ≡ false = sym (core-from star (c ++ b ∷ []) (take k bs ++ rest) all) ∙ more_core star c b false good follows in cc)
 
--- no front that is longer than what was scanned begins a name
+-- no prefix that is longer than what was scanned begins a name
 pub past : (star : Bool) (c bs : List ℕ) → core star c ≡ true → (k : ℕ) → scan star c bs < k → k ≤ length bs → (rest : List ℕ) → ok star c (take k bs ++ rest) ≡ false
 past star c [] good k more within rest = absurd (omega arith)
 past star c (b ∷ bs) good zero more within rest = absurd (omega arith)
@@ -102,7 +102,7 @@ along-step star c b bs k false true good anew on follows within = on (more_core 
 along-step star c b bs k true false good anew on follows within = absurd (omega arith)
 along-step star c b bs k false false good anew on follows within = absurd (omega arith)
 
--- each front of what was scanned begins one, by a letter
+-- each prefix of what was scanned begins one, by a letter
 pub along : (star : Bool) (c bs : List ℕ) → core star c ≡ true → (k : ℕ) → k ≤ scan star c bs → ok star c (take k bs ++ 97 ∷ []) ≡ true
 along star c [] good zero within = ap (λ (t : Bool). t && true) (component-letter star c good)
 along star c [] good (suc k) within = absurd (omega arith)
@@ -155,7 +155,7 @@ greatest-is passes zero m within here beyond = omega arith
 greatest-is passes (suc n) m within here beyond =
     greatest-step passes n m (passes (suc n)) within here beyond (λ less. greatest-is passes n m less here (λ k more k_in. beyond k more (omega arith))) refl
 
--- a name of a front and a letter
+-- a name of a prefix and a letter
 pub front-letter : (star : Bool) (front : List ℕ) → is_name star (front ++ 97 ∷ []) ≡ ok star [] (front ++ 97 ∷ [])
 unfolding is_name
 front-letter star front =

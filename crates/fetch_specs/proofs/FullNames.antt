@@ -1,4 +1,4 @@
--- The longest front of a text that begins a full name.
+-- The longest prefix of a text that begins a full name.
 use Rattle.std.proofs.Common.{◌≡◌, ℕ, zero, suc, ◌+◌, ◌-◌, ◌<◌, ◌≤◌, Bool, true, false, cond, not, ◌&&◌, ◌||◌, eqb, max, ◌⊎◌, List, [], ◌∷◌, ◌++◌, length, take, drop, Some, None, refl, sym, ap, subst, ◌∙◌, inl, inr, arith, append_assoc, append-nil}
 use Rattle.std.specs.Prelude.{nat_eq, IsTrue}
 use Rattle.std.specs.List.{list_all, starts_with, ends_with, prefix_len}
@@ -42,7 +42,7 @@ starts-capital (a ∷ b ∷ c ∷ []) = ap (λ (t : Bool). eqb 114 a && (eqb 101
 starts-capital (a ∷ b ∷ c ∷ d ∷ []) = ap (λ (t : Bool). eqb 114 a && (eqb 101 b && (eqb 102 c && t))) (none (eqb 115 d) ∙ sym (none (eqb 115 d)))
 starts-capital (a ∷ b ∷ c ∷ d ∷ e ∷ p) = refl
 
--- a front of five bytes or more begins as the text does; a shorter one doesn't begin with `refs/`
+-- a prefix of five bytes or more begins as the text does; a shorter one doesn't begin with `refs/`
 starts-take : (text : List ℕ) (k : ℕ) → starts_with nat_eq text refs ≡ false → starts_with nat_eq (take k text) refs ≡ false
 unfolding refs
 starts-take text zero is = refl
@@ -203,7 +203,7 @@ capital_next front true all =
     filled (a ∷ front) = refl
 capital_next front false all = none (is_name false (front ++ 65 ∷ []))
 
--- a front without `refs/` goes on where it is of capitals, or is a front of `refs/`
+-- a prefix without `refs/` goes on where it is of capitals, or is a prefix of `refs/`
 goes_on-apart : (front : List ℕ) → starts_with nat_eq front refs ≡ false → goes_on front ≡ (list_all is_capital front || starts_with nat_eq refs front)
 goes_on-apart front apart =
     ap (λ (t : Bool). (t || is_full_name (front ++ 65 ∷ [])) || starts_with nat_eq refs front)
@@ -261,7 +261,7 @@ pub empty_place : full_name_trouble [] ≡ Some 0
 unfolding refs
 empty_place = ap (λ (t : Bool). cond t None (Some (full_name_place []))) no_parts ∙ ap Some (place-apart [] refl)
 
--- the front `refs/` is good
+-- the prefix `refs/` is good
 front_good : (rest : List ℕ) → ok false [] (take 5 (refs ++ rest) ++ 97 ∷ []) ≡ true
 unfolding refs lock
 front_good rest = refl
@@ -326,7 +326,7 @@ under_refs text on =
     pointwise_flip : (xs ys : List ℕ) → pointwise nat_eq xs ys ≡ pointwise nat_eq xs ys
     pointwise_flip xs ys = refl
 
--- where neither of a front and a word begins with the other, no text that goes on from the front begins with the word
+-- where neither of a prefix and a word begins with the other, no text that goes on from the prefix begins with the word
 off_word : (word p rest : List ℕ) → starts_with nat_eq p word ≡ false → starts_with nat_eq word p ≡ false → starts_with nat_eq (p ++ rest) word ≡ false
 off_word word [] rest off back = absurd cc
 off_word [] (a ∷ p) rest off back = absurd cc
@@ -349,7 +349,7 @@ refs_a : is_full_name (refs ++ 97 ∷ []) ≡ true
 unfolding is_full_name is_name refs lock
 refs_a = refl
 
--- a front of `refs/` goes on to a name
+-- a prefix of `refs/` goes on to a name
 word_on : (p : List ℕ) → starts_with nat_eq refs p ≡ true → (rest : List ℕ) × IsTrue (is_full_name (p ++ rest))
 word_on p on =
     let whole : refs ≡ p ++ drop (length p) refs = (starts_is Decides-eqb refs p (starts_with nat_eq refs p) refl).0 on in

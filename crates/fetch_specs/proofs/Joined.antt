@@ -1,4 +1,4 @@
--- A short name behind what its category's names begin with.
+-- A short name after what its category's names begin with.
 use Rattle.std.proofs.Common.{◌≡◌, ℕ, ◌+◌, Bool, true, false, cond, not, ◌&&◌, ltb, List, [], ◌∷◌, ◌++◌, length, Option, Some, None, refl, sym, ap, ◌∙◌, arith}
 use Rattle.std.specs.Prelude.{nat_eq, option_map}
 use Rattle.std.specs.List.{starts_with}

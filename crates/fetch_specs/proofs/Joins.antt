@@ -1,4 +1,4 @@
--- A name that begins with a front.
+-- A name that begins with a prefix.
 use Rattle.std.proofs.Common.{◌≡◌, ℕ, Bool, true, false, ◌&&◌, eqb, List, [], ◌∷◌, ◌++◌, ◌-◌, length, take, drop, length-drop, refl, sym, ap, ◌∙◌, arith}
 use Rattle.std.specs.Prelude.{nat_eq}
 use Rattle.std.specs.List.{starts_with}

@@ -48,7 +48,7 @@ to_numbered f i (y ∷ xs) m (suc k) x is gives =
     let e : i + suc k ≡ (i + 1) + k = omega arith in
     Contains-append_right (f i y) (numbered f (i + 1) xs) m (to_numbered f (i + 1) xs m k x is (subst (λ (n : ℕ). Contains (f n x) m) e gives))
 
--- lists in order, one behind the other
+-- lists in order, one after the other
 ordered_append : (xs ys : List Match) → are_ordered xs ≡ true → are_ordered ys ≡ true → ((x y : Match) → Contains xs x → Contains ys y → comes_before y x ≡ false) → are_ordered (xs ++ ys) ≡ true
 ordered_append [] ys up more behind = more
 ordered_append (x ∷ xs) ys up more behind =

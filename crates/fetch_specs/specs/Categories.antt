@@ -4,18 +4,23 @@ use Rattle.std.specs.List.{starts_with, list_any}
 use Rattle.fetch_specs.specs.declared.category.Category.{Category}
 use Rattle.fetch_specs.specs.declared.category.Category.TheVariants.{Tag, LocalBranch, RemoteBranch, Note, PseudoRef}
 
+-- what full names begin with
 unfoldable pub refs : List ℕ
 refs = codes "refs/"
 
+-- what names of tags begin with
 unfoldable pub tags : List ℕ
 tags = codes "refs/tags/"
 
+-- what names of branches begin with
 unfoldable pub heads : List ℕ
 heads = codes "refs/heads/"
 
+-- what names of remote-tracking branches begin with
 unfoldable pub remotes : List ℕ
 remotes = codes "refs/remotes/"
 
+-- what names of notes begin with
 unfoldable pub notes : List ℕ
 notes = codes "refs/notes/"
 
@@ -45,10 +50,11 @@ category_of name =
     else if list_any (λ b. b == 47) name then None
     else Some PseudoRef
 
--- a name without a front, where it has it
+-- a name without a prefix, where it has it
 abbrev pub without : List ℕ → List ℕ → List ℕ
 without front name = if starts_with nat_eq name front then drop (length front) name else name
 
+-- what names of this category begin with
 abbrev pub front_of : Option Category → List ℕ
 front_of (Some category) = prefix_of category
 front_of None = refs

@@ -54,6 +54,7 @@ pub record IsConflict (ms : List Match) (c : Conflict) : Type 0 where
 abbrev pub more_sources : List SourceRef → SourceRef → List SourceRef
 more_sources sources source = if list_any (λ s. is_same_source s source) sources then sources else sources ++ source ∷ []
 
+-- whether a match has this destination
 abbrev pub has_destination : List Match → List ℕ → Bool
 has_destination ms destination = list_any (λ m. is_side destination m.rhs) ms
 

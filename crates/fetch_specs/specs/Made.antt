@@ -33,6 +33,7 @@ places_before i None k (Some l) = true
 places_before i (Some j) k None = false
 places_before i (Some j) k (Some l) = nat_lt i k || (i == k && nat_lt j l)
 
+-- whether a match comes before another, by refspec and then by item
 abbrev pub comes_before : Match → Match → Bool
 comes_before a b = places_before a.spec_index a.item_index b.spec_index b.item_index
 

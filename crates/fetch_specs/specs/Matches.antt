@@ -20,18 +20,23 @@ use Rattle.fetch_specs.specs.Categories.{refs, tags, heads, remotes}
 use Rattle.fetch_specs.specs.Parses.{head, id_named}
 use Rattle.fetch_specs.specs.Specs.{Spec}
 
+-- what a short name of a remote gets at its end
 unfoldable pub slash_head : List ℕ
 slash_head = codes "/HEAD"
 
+-- what a short name of a branch may begin with
 unfoldable pub short_heads : List ℕ
 short_heads = codes "heads/"
 
+-- what a short name of a tag may begin with
 unfoldable pub short_tags : List ℕ
 short_tags = codes "tags/"
 
+-- what a short name of a remote-tracking branch may begin with
 unfoldable pub short_remotes : List ℕ
 short_remotes = codes "remotes/"
 
+-- whether a text has a star
 abbrev pub has_star : List ℕ → Bool
 has_star text = list_any (λ b. b == 42) text
 
@@ -39,10 +44,11 @@ has_star text = list_any (λ b. b == 42) text
 abbrev pub front_of : List ℕ → List ℕ
 front_of pattern = before_first (λ b. b == 42) pattern
 
+-- what follows the star of a pattern
 abbrev pub back_of : List ℕ → List ℕ
 back_of pattern = after_first (λ b. b == 42) pattern
 
--- what stands between a front and a back in a name that has both
+-- what stands between a prefix and a suffix in a name that has both
 abbrev pub between : List ℕ → List ℕ → List ℕ → Option (List ℕ)
 between front back name =
     if nat_le (length front + length back) (length name) && starts_with nat_eq name front && ends_with nat_eq name back
@@ -58,6 +64,7 @@ is_expansion source name =
     bytes_eq source name || bytes_eq (refs ++ source) name || bytes_eq (tags ++ source) name || bytes_eq (heads ++ source) name
     || bytes_eq (remotes ++ source) name || bytes_eq (remotes ++ (source ++ slash_head)) name
 
+-- the empty text, where it is so
 abbrev pub where_true : Bool → Option (List ℕ)
 where_true true = Some []
 where_true false = None
@@ -87,11 +94,13 @@ completed text = missing_front text ++ text
 abbrev pub expanded : List ℕ → List ℕ → List ℕ
 expanded middle destination = completed (with_middle destination middle)
 
+-- whether a refspec is an exclusion
 abbrev pub is_exclusion : Mode → Bool
 is_exclusion Normal = false
 is_exclusion Force = false
 is_exclusion Exclusion = true
 
+-- the id that a source is
 abbrev pub source_id : Option (List ℕ) → Option ObjectId
 source_id source = option_and_then id_named source
 
@@ -108,9 +117,11 @@ takes spec name = not (is_exclusion spec.mode) && not (is_some (source_id spec.s
 abbrev pub excludes : List ℕ → Spec → Bool
 excludes name spec = is_exclusion spec.mode && is_some (source_taken spec.source name)
 
+-- whether an exclusion names this name
 abbrev pub is_excluded : List Spec → List ℕ → Bool
 is_excluded specs name = list_any (excludes name) specs
 
+-- whether an id is of this hash
 abbrev pub is_of : Kind → ObjectId → Bool
 is_of kinds.Sha1 (ids.Sha1 bytes) = true
 is_of kinds.Sha1 (ids.Sha256 bytes) = false
@@ -124,6 +135,7 @@ id_mapping kind i spec (Some id) =
     if is_exclusion spec.mode || not (is_of kind id) then None
     else Some (record { lhs = sources.ObjectId id; rhs = option_map (expanded []) spec.destination; item_index = None; spec_index = i })
 
+-- the match of a source that is an id of this hash
 abbrev pub id_match : Kind → ℕ → Spec → Option Match
 id_match kind i spec = id_mapping kind i spec (source_id spec.source)
 
@@ -134,9 +146,11 @@ mapping_unless excluded i spec j name (Some middle) =
     if is_exclusion spec.mode || is_some (source_id spec.source) || excluded then None
     else Some (record { lhs = sources.FullName name; rhs = option_map (expanded middle) spec.destination; item_index = Some j; spec_index = i })
 
+-- the match of a name with this middle, unless it is excluded
 abbrev pub name_mapping : List Spec → ℕ → Spec → ℕ → List ℕ → Option (List ℕ) → Option Match
 name_mapping specs i spec j name middle = mapping_unless (is_excluded specs name) i spec j name middle
 
+-- the match of a name that a refspec's source takes
 abbrev pub name_match : List Spec → ℕ → Spec → ℕ → List ℕ → Option Match
 name_match specs i spec j name = name_mapping specs i spec j name (source_taken spec.source name)
 
@@ -160,6 +174,7 @@ source_to specs spec text (Some source) (Some destination) =
     if is_exclusion spec.mode || is_some (id_named source) then None
     else option_and_then (λ middle. unless_excluded specs (with_middle source middle)) (given destination text)
 
+-- the source that a refspec's destination gives for this text
 abbrev pub source_given : List Spec → Spec → List ℕ → Option (List ℕ)
 source_given specs spec text = source_to specs spec text spec.source spec.destination
 
@@ -171,6 +186,7 @@ sources_leading specs spec name = filter_map (source_given specs spec) (forms_of
 abbrev pub leading : ℕ → ℕ → List ℕ → List ℕ → Match
 leading i j name source = record { lhs = sources.FullName source; rhs = Some name; item_index = Some j; spec_index = i }
 
+-- the matches of a refspec whose destination leads to a name
 abbrev pub source_matches : List Spec → ℕ → Spec → ℕ → List ℕ → List Match
 source_matches specs i spec j name = map (leading i j name) (sources_leading specs spec name)
 
@@ -188,6 +204,7 @@ numbered f i (x ∷ xs) = f i x ++ numbered f (i + 1) xs
 abbrev pub ids_from : Kind → ℕ → List Spec → List Match
 ids_from kind i specs = numbered (λ i spec. found (id_match kind i spec)) i specs
 
+-- the matches of a refspec for a name
 abbrev pub name_matches : List Spec → ℕ → Spec → ℕ → List ℕ → List Match
 name_matches specs i spec j name = found (name_match specs i spec j name)
 
@@ -204,6 +221,7 @@ abbrev pub source_key : SourceRef → List ℕ
 source_key (sources.FullName name) = 0 ∷ name
 source_key (sources.ObjectId id) = 1 ∷ bytes_of id
 
+-- the key of a destination, which keeps none apart from any text
 abbrev pub destination_key : Option (List ℕ) → List ℕ
 destination_key None = []
 destination_key (Some text) = 0 ∷ text
@@ -238,6 +256,7 @@ key_cmp x y = ordering_then (slice_cmp nat_cmp x.0 y.0) (slice_cmp nat_cmp x.1 y
 abbrev pub added : Bool → List Match → Match → List Match
 added pairs ms m = if list_any (λ x. is_same pairs x m) ms then ms else ms ++ m ∷ []
 
+-- with each of these matches, unless it is there
 abbrev pub added_all : Bool → List Match → List Match → List Match
 added_all pairs ms [] = ms
 added_all pairs ms (n ∷ ns) = added_all pairs (added pairs ms n) ns

@@ -21,6 +21,7 @@ has_pair x y [] = false
 has_pair x y (a ∷ []) = false
 has_pair x y (a ∷ b ∷ bs) = (a == x && b == y) || has_pair x y (b ∷ bs)
 
+-- whether a text has no byte
 abbrev pub is_empty : List ℕ → Bool
 is_empty [] = true
 is_empty (a ∷ others) = false
@@ -33,6 +34,7 @@ is_special b = b == 126 || b == 94 || b == 58 || b == 63 || b == 91 || b == 92
 abbrev pub may_stand : Bool → ℕ → Bool
 may_stand star b = nat_lt 32 b && not (b == 127) && not (is_special b) && (star || not (b == 42))
 
+-- what no part of a name ends with
 unfoldable pub lock : List ℕ
 lock = codes ".lock"
 
@@ -63,18 +65,19 @@ abbrev pub greatest : (ℕ → Bool) → ℕ → ℕ
 greatest passes zero = zero
 greatest passes (suc n) = if passes (suc n) then suc n else greatest passes n
 
--- the length of the longest front that a letter makes a name
+-- the length of the longest prefix that a letter makes a name
 unfoldable pub name_place : Bool → List ℕ → ℕ
 name_place star text = greatest (λ k. is_name star (take k text ++ 97 ∷ [])) (length text)
 
--- whether a front goes on as a full name: by a small letter, by a capital, or as `refs/` does
+-- whether a prefix goes on as a full name: by a small letter, by a capital, or as `refs/` does
 abbrev pub goes_on : List ℕ → Bool
 goes_on front = is_full_name (front ++ 97 ∷ []) || is_full_name (front ++ 65 ∷ []) || starts_with nat_eq refs front
 
+-- the length of the longest prefix that goes on to a full name
 unfoldable pub full_name_place : List ℕ → ℕ
 full_name_place text = greatest (λ k. goes_on (take k text)) (length text)
 
--- the place is the length of the longest front that begins some valid text
+-- the place is the length of the longest prefix that begins some valid text
 pub record IsLongestBeginning (valid : List ℕ → Bool) (text : List ℕ) (place : ℕ) : Type 0 where
   pub within : place ≤ length text
   pub begins : (rest : List ℕ) × IsTrue (valid (take place text ++ rest))
@@ -84,5 +87,6 @@ pub record IsLongestBeginning (valid : List ℕ → Bool) (text : List ℕ) (pla
 abbrev pub name_trouble : Bool → List ℕ → Option ℕ
 name_trouble star text = if is_name star text then None else Some (name_place star text)
 
+-- where a text stops being a full name
 abbrev pub full_name_trouble : List ℕ → Option ℕ
 full_name_trouble text = if is_full_name text then None else Some (full_name_place text)

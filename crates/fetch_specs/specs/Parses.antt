@@ -19,9 +19,11 @@ abbrev pub either_id : Option ObjectId → Option ObjectId → Option ObjectId
 either_id (Some id) other = Some id
 either_id None other = other
 
+-- the id that a text is, of either hash
 unfoldable pub id_named : List ℕ → Option ObjectId
 id_named text = either_id (id_in_hex kinds.Sha1 text) (id_in_hex kinds.Sha256 text)
 
+-- the name `HEAD`
 unfoldable pub head : List ℕ
 head = codes "HEAD"
 
@@ -57,6 +59,7 @@ abbrev pub source_trouble : Option (List ℕ) → Option ℕ
 source_trouble None = None
 source_trouble (Some text) = if is_some (id_named text) then None else name_trouble true text
 
+-- where a destination stops being a name
 abbrev pub destination_trouble : Option (List ℕ) → Option ℕ
 destination_trouble None = None
 destination_trouble (Some text) = name_trouble true text
@@ -79,6 +82,7 @@ abbrev pub sides : Operation → Mode → ℕ → List ℕ → ℕ → List ℕ 
 sides operation mode mark source at destination =
     judged (record { operation = operation; mode = mode; source = source_of operation source; destination = side_of destination }) mark at
 
+-- the sides of a text that is cut at its colon, if it has one
 abbrev pub cut : Operation → Mode → ℕ → List ℕ → Option ℕ → Result Spec SpecError
 cut operation mode mark body None = sides operation mode mark body (mark + length body) []
 cut operation mode mark body (Some i) = sides operation mode mark (take i body) (mark + i + 1) (drop (i + 1) body)
@@ -102,6 +106,7 @@ parsed operation text =
     else if first_is 43 text then divided operation Force 1 (drop 1 text)
     else divided operation Normal 0 text
 
+-- the mark of a mode
 abbrev pub mark_of : Mode → List ℕ
 mark_of Normal = []
 mark_of Force = 43 ∷ []

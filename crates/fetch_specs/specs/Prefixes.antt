@@ -39,7 +39,7 @@ abbrev pub expansions : List ℕ → List (List ℕ)
 expansions source =
     source ∷ (refs ++ source) ∷ (tags ++ source) ∷ (heads ++ source) ∷ (remotes ++ source) ∷ (remotes ++ (source ++ slash_head)) ∷ []
 
--- what a source asks for: `HEAD`, a front under `refs/`, or what it may stand for; an id asks for nothing, and a star elsewhere has no prefix
+-- what a source asks for: `HEAD`, a prefix under `refs/`, or what it may stand for; an id asks for nothing, and a star elsewhere has no prefix
 abbrev pub source_prefixes : List ℕ → List (List ℕ)
 source_prefixes source =
     if is_some (id_named source) then []
@@ -48,21 +48,25 @@ source_prefixes source =
     else if has_star source then []
     else expansions source
 
+-- what a source asks for, where there is one
 abbrev pub side_prefixes : Option (List ℕ) → List (List ℕ)
 side_prefixes None = []
 side_prefixes (Some source) = source_prefixes source
 
+-- what a refspec asks for
 abbrev pub spec_prefixes : Spec → List (List ℕ)
 spec_prefixes spec = if is_exclusion spec.mode then [] else side_prefixes spec.source
 
+-- texts put into an ascending list, each once
 abbrev pub put_all : List (List ℕ) → List (List ℕ) → List (List ℕ)
 put_all into [] = into
 put_all into (text ∷ texts) = put_all (put text into) texts
 
--- whether a source has a star with no front `refs/x/` before it
+-- whether a source has a star with no prefix `refs/x/` before it
 abbrev pub has_open_star : List ℕ → Bool
 has_open_star source = if starts_with nat_eq source refs then has_star (take (second_slash source) source) else has_star source
 
+-- whether a source's star is open
 abbrev pub is_open_side : Option (List ℕ) → Bool
 is_open_side None = false
 is_open_side (Some source) = has_open_star source
@@ -89,7 +93,7 @@ pub record IsListing (specs : List Spec) (texts : List (List ℕ)) : Type 0 wher
 abbrev pub IsAskedFor : List (List ℕ) → List ℕ → Type 0
 IsAskedFor prefixes name = (prefixes ≡ []) ⊎ IsTrue (list_any (starts_with nat_eq name) prefixes)
 
--- a text is a source's front `refs/x/`, where x has neither a star nor a slash
+-- a text is a source's prefix `refs/x/`, where x has neither a star nor a slash
 pub record IsPlainFront (source text : List ℕ) : Type 0 where
   pub name : List ℕ
   pub rest : List ℕ

@@ -11,6 +11,7 @@ may_end c = not (ends_with nat_eq c lock) && not (is_empty c)
 abbrev pub may_extend : Bool → List ℕ → ℕ → Bool
 may_extend star c b = may_stand star b && not (last_is 46 c && b == 46) && not (last_is 64 c && b == 123) && not (is_empty c && b == 46)
 
+-- whether a byte may follow another
 abbrev pub may_follow : Bool → List ℕ → ℕ → Bool
 may_follow star c b = if b == 47 then may_end c else may_extend star c b
 
@@ -28,7 +29,7 @@ abbrev pub last_part : List ℕ → List ℕ → List ℕ
 last_part c [] = c
 last_part c (b ∷ bs) = last_part (onward c b) bs
 
--- how many bytes a text has in common with a word's front
+-- how many bytes a text has in common with a word's prefix
 abbrev pub common : List ℕ → List ℕ → ℕ
 common [] text = 0
 common (x ∷ word) [] = 0

@@ -3,7 +3,7 @@
 ghost use Rattle.std.specs.Prelude.{◌≡◌};
 ghost use Rattle.fetch_specs.specs.Categories.{prefix_of};
 
-/// What a full name is for, by its front.
+/// What a full name is for, by its prefix.
 #[derive(Clone, Copy, Debug, PartialEq, Eq)]
 pub enum Category {
     /// `refs/tags/`

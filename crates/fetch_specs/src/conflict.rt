@@ -35,7 +35,7 @@ impl Conflict {
 }
 
 /// The destinations that two different sources lead to, in the order in which they first appear. An
-/// id and a name are different sources.
+/// id and a name are different sources. The only error is out of memory.
 pub fn validate(alloc: Global, matches: &[Match]) -> Result<Vec<Conflict>, SpecError>
     ensures conflicts { IfOk result (λ found. found.items ≡ conflicts_of matches.now) }
     ensures memory { IsOkUnless result errors.NoMemory }

@@ -92,7 +92,7 @@ pub fn name_trouble(star: bool, text: &[u8]) -> Option<usize>
     }
 }
 
-/// How many bytes a text has in common with a word's front.
+/// How many bytes a text has in common with a word's prefix.
 fn common(word: &[u8], text: &[u8]) -> usize
     ensures common { result ≡ scan.common word.now text.now }
     ensures within { result ≤ length word.now }

@@ -71,7 +71,7 @@ pub fn each_name_taken_is_asked_for()
     ensures { (specs : List Spec) (spec : Spec) (name : List ℕ) → Contains specs spec → IsTrue (takes spec name) → IsAskedFor (prefixes_of specs) name }
 {}
 
-/// An exclusion and an id ask for nothing, and a source with a star asks at most for its front
+/// An exclusion and an id ask for nothing, and a source with a star asks at most for its prefix
 /// `refs/x/`, where the star stands after it.
 pub fn what_a_refspec_asks_for()
     ensures exclusion { (spec : Spec) → IsTrue (is_exclusion spec.mode) → (spec_prefixes spec ≡ []) × (asks_for_all spec ≡ false) }

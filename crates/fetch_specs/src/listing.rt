@@ -20,9 +20,9 @@ use fetch_store::{NoMemory, Text};
 use std::alloc::Global;
 use std::cmp::Ordering;
 
-/// What a listing is to be asked for, sorted and each prefix once. No prefix asks for everything: so it is
-/// where a star has no `refs/x/` before it, for a name that it takes need not begin with a prefix of
-/// another refspec.
+/// What a listing is to be asked for, sorted and each prefix once. No prefix asks for everything: so it is where a star
+/// has no `refs/x/` before it, for a name that it takes need not begin with a prefix of another refspec. The only error
+/// is out of memory.
 #[tactic(auto, unfolding(crate::specs::Prefixes::prefixes_of))]
 pub fn prefixes(alloc: Global, specs: &[RefSpec]) -> Result<Vec<Text>, SpecError>
     ensures prefixes { IfOk result (λ texts. texts.items ≡ prefixes_of specs.now) }
@@ -106,7 +106,7 @@ fn put_source(alloc: Global, texts: &mut Vec<Text>, source: &[u8]) -> Result<(),
     put_expansions(alloc, texts, source)
 }
 
-/// Puts the front of a source up to its second slash.
+/// Puts the prefix of a source up to its second slash.
 fn put_front(alloc: Global, texts: &mut Vec<Text>, source: &[u8]) -> Result<(), NoMemory>
     ensures { OnOk result (texts.new.items ≡ put_all texts.old.items (words.refs_prefix source.now)) }
 {

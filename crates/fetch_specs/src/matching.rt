@@ -58,8 +58,8 @@ impl<'a> MatchGroup<'a> {
         MatchGroup { specs }
     }
 
-    /// What the refspecs map of the items: first the sources that are ids of this kind, then refspec by
-    /// refspec and item by item, each pair of source and destination once.
+    /// What the refspecs map of the items: first the sources that are ids of this kind, then refspec by refspec and
+    /// item by item, each pair of source and destination once. The only error is out of memory.
     pub fn match_lhs(
         &self,
         alloc: Global,
@@ -75,9 +75,9 @@ impl<'a> MatchGroup<'a> {
         Ok(found.into_matches())
     }
 
-    /// The sources that lead to the items, refspec by refspec and item by item, each source once. Where
-    /// several sources of a refspec lead to an item, the one that the full destination gives comes first,
-    /// then the one of it without `refs/`, then the one of it without `refs/heads/`.
+    /// The sources that lead to the items, refspec by refspec and item by item, each source once. Where several sources
+    /// of a refspec lead to an item, the one that the full destination gives comes first, then the one of it without
+    /// `refs/`, then the one of it without `refs/heads/`. The only error is out of memory.
     pub fn match_rhs(&self, alloc: Global, items: &[Item]) -> Result<Vec<Match>, SpecError>
         ensures sources { IfOk result (λ found. found.items ≡ sources_of self.now (map (λ item. item.full_ref_name) items.now)) }
         ensures memory { IsOkUnless result errors.NoMemory }

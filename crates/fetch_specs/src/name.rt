@@ -47,7 +47,7 @@ impl Model for PartialName {
 }
 
 impl FullName {
-    /// Reads a full name.
+    /// Reads a full name. `Invalid` comes exactly where the text is none.
     pub fn new(alloc: Global, text: &[u8]) -> Result<FullName, NameError>
         ensures name { IfOk result (λ name. name ≡ text.now) }
         ensures verdict { MatchOption (full_name_trouble text.now) (IsOkUnless result errors.NoMemory) (λ place. result ≡ Err (errors.Invalid place)) }
@@ -68,7 +68,7 @@ impl FullName {
         self.text.as_bytes()
     }
 
-    /// What the name is for, where its front says so.
+    /// What the name is for, where its prefix says so.
     #[tactic(auto, unfolding(crate::specs::Categories::tags, crate::specs::Categories::heads, crate::specs::Categories::remotes, crate::specs::Categories::notes))]
     pub fn category(&self) -> Option<Category>
         ensures { result ≡ category_of self.now }
@@ -108,7 +108,7 @@ impl FullName {
 }
 
 impl PartialName {
-    /// Reads a name, full or short.
+    /// Reads a name, full or short. `Invalid` comes exactly where the text is none.
     pub fn new(alloc: Global, text: &[u8]) -> Result<PartialName, NameError>
         ensures name { IfOk result (λ name. name ≡ text.now) }
         ensures verdict { MatchOption (name_trouble false text.now) (IsOkUnless result errors.NoMemory) (λ place. result ≡ Err (errors.Invalid place)) }
@@ -140,7 +140,8 @@ impl PartialName {
 }
 
 impl Category {
-    /// The full name that the category's prefix and a short name make.
+    /// The full name that the category's prefix and a short name make. `Invalid` comes exactly where
+    /// that is no name, with the place in the whole text.
     pub fn to_full_name(self, alloc: Global, short: &[u8]) -> Result<FullName, NameError>
         ensures name { IfOk result (λ name. name ≡ prefix_of self ++ short.now) }
         ensures verdict { MatchOption (full_name_trouble (prefix_of self ++ short.now)) (IsOkUnless result errors.NoMemory) (λ place. result ≡ Err (errors.Invalid place)) }

@@ -42,7 +42,7 @@ fn star_or_end(pattern: &[u8]) -> usize
     pattern.iter().take_while(|b| **b != b'*').count()
 }
 
-/// What stands between a front and a back in a name that has both.
+/// What stands between a prefix and a suffix in a name that has both.
 pub fn between<'a>(front: &[u8], back: &[u8], name: &'a [u8]) -> Option<&'a [u8]>
     ensures { option_copied result ≡ spec.between front.now back.now name.now }
 {
@@ -63,7 +63,7 @@ fn is_full(source: &[u8]) -> bool
     source == b"HEAD".as_slice() || source.starts_with(b"refs/")
 }
 
-/// Whether a name is a front and a text.
+/// Whether a name is a prefix and a text.
 fn is_joined(front: &[u8], text: &[u8], name: &[u8]) -> bool
     ensures { result ≡ bytes_eq (front.now ++ text.now) name.now }
 {
@@ -74,7 +74,7 @@ fn is_joined(front: &[u8], text: &[u8], name: &[u8]) -> bool
     text == behind
 }
 
-/// Whether a name is a front, a text and a back.
+/// Whether a name is a prefix, a text and a suffix.
 fn is_wrapped(front: &[u8], text: &[u8], back: &[u8], name: &[u8]) -> bool
     ensures { result ≡ bytes_eq (front.now ++ (text.now ++ back.now)) name.now }
 {

@@ -39,7 +39,8 @@ impl Model for RefSpec {
     ghost inverse = { λ s. record { operation = s.operation; mode = s.mode; source = s.source; destination = s.destination } };
 }
 
-/// Reads a refspec.
+/// Reads a refspec. A refusal tells what the text breaks, as `SpecError` says it; out of memory
+/// comes for no text that is refused.
 pub fn parse(alloc: Global, text: &[u8], operation: Operation) -> Result<RefSpec, SpecError>
     ensures spec { IfOk result (λ spec. parsed operation text.now ≡ Ok spec) }
     ensures refused { IfErr (parsed operation text.now) (λ e. result ≡ Err e) }
@@ -110,7 +111,7 @@ impl RefSpec {
         self.mode == Mode::Exclusion
     }
 
-    /// The text of the refspec, which says the same again.
+    /// The text of the refspec, which says the same again. The only error is out of memory.
     pub fn to_bstring(&self, alloc: Global) -> Result<Text, SpecError>
         ensures text { IfOk result (λ text. text ≡ printed self.now) }
         ensures again { IfOk result (λ text. parsed self.now.operation text ≡ Ok self.now) }

@@ -36,7 +36,7 @@ impl Default for Tags {
 
 impl Tags {
     /// The refspec that brings all tags, where tags are to come: those that a fetch doesn't need are
-    /// left out later.
+    /// left out later. The only error is out of memory.
     pub fn to_refspec(self, alloc: Global) -> Result<Option<RefSpec>, SpecError>
         ensures spec { IfOk result (λ spec. spec ≡ tag_spec_of self) }
         ensures memory { IsOkUnless result errors.NoMemory }

@@ -1,4 +1,4 @@
--- What more bytes behind a buffer leave, and what an index over it tells.
+-- What more bytes after a buffer leave, and what an index over it tells.
 use Rattle.std.proofs.Common.{◌≡◌, ℕ, ◌+◌, ◌<◌, ◌≤◌, Bool, true, false, cond, List, [], ◌∷◌, ◌++◌, map, length, get_or, take, drop, take_all, Option, Some, None, All, Contains, refl, sym, ap, ap₂, subst, ◌∙◌, arith}
 use Rattle.std.specs.Prelude.{option_map, is_some}
 use Rattle.std.specs.Ordering.{eq_by_cmp}
@@ -62,7 +62,7 @@ lent_in_order hash buffer index rise = viewed_in_order (lent hash buffer) index 
 pub get-lent : (hash : Kind) (buffer : List ℕ) (index : Index) (q : ObjectId) → get (map_of (entries_in hash buffer index)) q ≡ option_map (lent hash buffer) (find id_cmp q index)
 get-lent hash buffer index q = get-map_of (entries_in hash buffer index) q ∙ found (lent hash buffer) q index
 
--- ---- a list that is put behind a buffer, one object after the other
+-- ---- a list that is put after a buffer, one object after the other
 pub appended_none : (hash : Kind) (index : Index) (buffer : List ℕ) → IsIndexed hash buffer index → IsAppended hash index buffer buffer [] []
 appended_none hash index buffer i = record { kept = i; same = refl; lent = All-nil (IsLent hash buffer); from = All-nil (Contains []); first = λ q. refl }
 

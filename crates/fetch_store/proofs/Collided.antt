@@ -44,7 +44,7 @@ past_front m (e ∷ front) rest h =
     let both = choice_none (clashes (get m e.0) e.1) e.0 (collision (add m e) front) h in
     ap (λ b. cond b (Some e.0) (collision (add m e) (front ++ rest))) both.0 ∙ past_front (add m e) front rest both.1
 
--- ---- one entry behind a list whose entries don't differ
+-- ---- one entry after a list whose entries don't differ
 module _ (m : ObjectMap) (front : Entries) (e : ObjectId × Stored) (none : collision m front ≡ None) where
   here : get (add_all m front) e.0 ≡ first_some (get m e.0) (find id_cmp e.0 front)
   here = get-add_all m front e.0

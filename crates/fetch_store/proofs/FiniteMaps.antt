@@ -35,7 +35,7 @@ T-true : {b : Bool} → IsTrue b → T b
 T-true {b} h = subst T (sym h) tt
 
 module _ {K X : Type 0} {R : K → K → Ordering} (o : IsTotalOrder R) where
-  -- a key behind all others goes to the end
+  -- a key after all others goes to the end
   pub insert-last : (es : List (K × X)) (k : K) (v : X) (rest : List (K × X)) → IsStrictlySortedBy R (keys_of (es ++ (k, v) ∷ rest)) → insert_entry R es k v ≡ es ++ (k, v) ∷ []
   unfolding IsStrictlySortedBy
   insert-last [] k v rest s = refl

@@ -49,7 +49,7 @@ parts c bytes x true lt e =
     subst (λ (y : List ℕ × List ℕ). (bytes ≡ y.0 ++ c ∷ y.1) × IsWithout c y.1) (some_is (take (length bytes - n - 1) bytes, drop (length bytes - n) bytes) x e) (whole c bytes within, later c bytes within)
 parts c bytes x false lt e = absurd cc
 
--- the length behind the last c
+-- the length after the last c
 behind_last : (c : ℕ) (before behind : List ℕ) → IsWithout c behind → suffix_len (λ b. not (eqb b c)) (before ++ c ∷ behind) ≡ length behind
 behind_last c before behind none =
     let text : List ℕ = before ++ c ∷ behind in

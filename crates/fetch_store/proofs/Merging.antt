@@ -174,7 +174,7 @@ module _ {X : Type 0} where
             let rise : T (is_sorted id_cmp (front ++ x ∷ done)) = subst (λ l. T (is_sorted id_cmp l)) (ap (λ l. l ++ done) some.2 ∙ append_assoc front (x ∷ []) done) m.olds_rise in
             subst (λ l. T (is_sorted id_cmp l)) (sym (ap (λ l. l ++ y ∷ done) some.2 ∙ append_assoc front (x ∷ []) (y ∷ done))) (between front done x y rise lt next)
 
-  -- ---- in a list where what is merged stands behind what is left
+  -- ---- in a list where what is merged stands after what is left
   pub start : (A olds news : List (ObjectId × X)) (k e : ℕ) → A ≡ olds ++ news → k ≡ length olds → e ≡ length A → IsInOrder olds → IsInOrder news → All (λ e. find id_cmp e.0 olds ≡ None) news → IsMerging (take k A) news (drop e A) (olds ++ news)
   start A olds news k e is ks es rise rises apart =
       let front : take k A ≡ olds = ap (λ n. take n A) ks ∙ ap (take (length olds)) is ∙ take-append_seam olds news in

@@ -21,7 +21,7 @@ bind_some None f y e = absurd cc
 pub some_is : {A : Type 0} (x y : A) → Some x ≡ Some y → x ≡ y
 some_is x y e = cc
 
--- a value behind a test
+-- a value after a test
 pub tested : {A : Type 0} (b : Bool) (x y : A) → cond b (Some x) None ≡ Some y → x ≡ y
 tested true x y e = cc
 tested false x y e = absurd cc

@@ -70,7 +70,7 @@ none_by text e (inr (before, behind, whole, none)) = let s = (splits 47 text).on
 pub parts-none : (text : List ℕ) → split_first 47 text ≡ None → parts_of text ≡ filter is_part (text ∷ []) ++ []
 parts-none text e = ap (filter is_part) (none_by text e (without_or_slash text)) ∙ first_part text []
 
--- what is behind two paths, one after the other
+-- what follows two paths, one after the other
 pub after-append : (a b path : Path) → after_path (a ++ b) path ≡ option_and_then (after_path b) (after_path a path)
 after-append [] b path = refl
 after-append (part ∷ a) b [] = refl
@@ -81,7 +81,7 @@ after-append (part ∷ a) b (first ∷ path) = by_test (bytes_eq part first) (af
     by_test true e = e
     by_test false e = refl
 
--- nothing is behind a path that is the same
+-- nothing is after a path that is the same
 abbrev pub is_end : Option Path → Bool
 is_end None = false
 is_end (Some []) = true
@@ -113,7 +113,7 @@ empty-end (part ∷ rest) = grind (arith, common_steps)
 pub same-some : (a path rest : Path) (b : Bool) → Some rest ≡ after_path a path → b ≡ (length rest == 0) → b ≡ is_same_path a path
 same-some a path rest b e is = is ∙ empty-end rest ∙ ap is_end e ∙ sym (same-after a path)
 
--- the first of the pieces, and what is behind it
+-- the first of the pieces, and what follows it
 pub after-piece : (piece : List ℕ) (parts own : Path) (text : List ℕ) (behind : Path) → parts ≡ filter is_part (piece ∷ []) ++ behind
     → after_path parts own ≡ option_and_then (after_path behind) (after_path (filter is_part (piece ∷ [])) own)
 after-piece piece parts own text behind is = ap (λ (a : Path). after_path a own) is ∙ after-append (filter is_part (piece ∷ [])) behind own

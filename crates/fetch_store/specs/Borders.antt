@@ -1,4 +1,4 @@
--- Borders: finite sets of the commits whose parents are left aside.
+-- Borders: finite sets of the commits whose parents are left out.
 use Rattle.std.specs.Prelude.{List, map}
 use Rattle.std.specs.Coded.{Coded}
 use Rattle.std.specs.FinMap as finmap
@@ -7,9 +7,11 @@ use Rattle.fetch_store.specs.declared.id.ObjectId.{ObjectId}
 use Rattle.fetch_store.specs.Stores.{id_cmp}
 use Rattle.fetch_store.specs.Codes.{coded_id}
 
+-- a set of ids
 abbrev pub IdSet : Type 0
 IdSet = set.FinSet id_cmp
 
+-- a set of ids, coded
 abbrev pub coded_ids : Coded IdSet
 coded_ids = set.code {R = id_cmp} coded_id
 

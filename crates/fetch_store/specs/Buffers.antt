@@ -13,9 +13,11 @@ use Rattle.fetch_store.specs.Entries.{IsInOrder}
 abbrev pub lent : Kind → List ℕ → Span → Stored
 lent hash buffer s = record { hash = hash; kind = s.kind; bytes = take s.length (drop s.start buffer) }
 
+-- ids with the places of their objects
 abbrev pub Index : Type 0
 Index = List (ObjectId × Span)
 
+-- the objects of an index, read from the buffer
 abbrev pub entries_in : Kind → List ℕ → Index → Entries
 entries_in hash buffer index = map (λ e. (e.0, lent hash buffer e.1)) index
 

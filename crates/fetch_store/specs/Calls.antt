@@ -11,6 +11,6 @@ pub record CallList : Type 0 where
 abbrev pub one_more : ℕ → ℕ
 one_more n = min (n + 1) (2 ^ 64 - 1)
 
--- so many faults, which are possible where a call is listed
+-- that many faults, which are possible where a call is listed
 abbrev pub faults_of : CallList → ℕ → Faults
 faults_of calls count = record { count = count; possible = nat_lt 0 (length calls.listed) }

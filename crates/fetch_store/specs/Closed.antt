@@ -10,20 +10,24 @@ use Rattle.fetch_store.specs.Objects.{Stored, links_of, parents_of, others_of, i
 use Rattle.fetch_store.specs.Stores.{ObjectMap}
 use Rattle.fetch_store.specs.Borders.{IdSet}
 
--- the objects, and the commits whose parents are left aside
+-- the objects, and the commits whose parents are left out
 pub record Holding : Type 0 where
   pub objects : ObjectMap
   pub border : IdSet
 
+-- these objects and this border
 abbrev pub holding : ObjectMap → IdSet → Holding
 holding objects border = record { objects = objects; border = border }
 
+-- the ids that an object links to
 abbrev pub links : Stored → List ObjectId
 links o = links_of o.hash o.kind o.bytes
 
+-- the parents of a commit, and of nothing else
 abbrev pub parents : Stored → List ObjectId
 parents o = parents_of o.hash o.kind o.bytes
 
+-- the links that are no parents
 abbrev pub others : Stored → List ObjectId
 others o = others_of o.hash o.kind o.bytes
 
@@ -35,13 +39,16 @@ links_within border id o = if set.contains border id then others o else links o
 abbrev pub links_at : Holding → ObjectId → List ObjectId
 links_at h id = option_map_or (links_within h.border id) (map.get h.objects id) []
 
+-- something is stored at the id
 abbrev pub IsStored : ObjectMap → ObjectId → Type 0
 IsStored objects id = IsSome (map.get objects id)
 
+-- whether what stands at an id is a commit
 abbrev pub is_commit : Option Stored → Bool
 is_commit None = false
 is_commit (Some o) = is_kind o.kind Commit
 
+-- a commit is stored at the id
 abbrev pub IsCommit : ObjectMap → ObjectId → Type 0
 IsCommit objects id = IsTrue (is_commit (map.get objects id))
 
@@ -49,6 +56,7 @@ IsCommit objects id = IsTrue (is_commit (map.get objects id))
 pub record AreAllOf (hash : Kind) (objects : ObjectMap) : Type 0 where
   pub each : (id : ObjectId) (o : Stored) → map.get objects id ≡ Some o → o.hash ≡ hash
 
+-- No link leads to what isn't stored.
 pub record IsClosed (h : Holding) : Type 0 where
   -- each link of each stored object is stored, parents of border commits aside
   pub linked : (id : ObjectId) (o : Stored) → map.get h.objects id ≡ Some o → All (IsStored h.objects) (links_within h.border id o)

@@ -31,6 +31,7 @@ pub record IsCommit (hash : Kind) (c : CommitParts) : Type 0 where
   pub fits : digits_value 10 c.seconds < 2 ^ 63
   pub offset : IsTrue (is_offset c.offset)
 
+-- the line of a parent
 abbrev pub parent_line : List ℕ → List ℕ
 parent_line id = line (codes "parent " ++ id)
 

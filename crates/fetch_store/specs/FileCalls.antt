@@ -31,6 +31,7 @@ pub record MemoryTree : Type 0 where
 abbrev pub called : CallList → CallList
 called calls = record { listed = calls.listed; next = one_more calls.next }
 
+-- out of memory
 abbrev pub is_memory : FileError → Bool
 is_memory errors.Failed = false
 is_memory errors.NoMemory = true

@@ -5,6 +5,7 @@ use Rattle.fetch_store.specs.Distinct.{with_distinct}
 use Rattle.fetch_store.specs.Spread.{Nexts, next_to}
 use Rattle.fetch_store.specs.Stores.{id_cmp}
 
+-- with all of these ids, each once
 abbrev pub with_each : List ObjectId → List ObjectId → List ObjectId
 with_each found [] = found
 with_each found (id ∷ ids) = with_each (with_distinct id_cmp (λ (key : ObjectId). key) found id) ids

@@ -41,6 +41,7 @@ parent_or_author hash line rest =
     then Some (record { part = Author; expected = expect.CommitterLine; rest = rest })
     else option_map (λ id. record { part = Parent id; expected = expect.ParentOrAuthor; rest = rest }) (id_after hash (codes "parent ") line)
 
+-- the kind that has this name
 abbrev pub kind_named : List ℕ → Option ObjectKind
 kind_named name =
     if bytes_eq name (codes "commit") then Some objects.Commit

@@ -11,6 +11,7 @@ use Rattle.fetch_store.specs.Objects.{Stored, links_of, parents_of, seconds_of, 
 use Rattle.fetch_store.specs.Codes.{coded_id, coded_object_kind}
 use Rattle.fetch_store.specs.Stores.{id_cmp, ObjectMap}
 
+-- what a graph keeps of an object
 pub record Node : Type 0 where
   pub kind : ObjectKind
   -- of a commit
@@ -19,12 +20,15 @@ pub record Node : Type 0 where
   -- of a tag
   pub target : Option ObjectId
 
+-- what a tag names
 abbrev pub target_of : Stored → Option ObjectId
 target_of o = if is_kind o.kind Tag then slice_get (links_of o.hash o.kind o.bytes) 0 else None
 
+-- what a graph keeps of a stored object
 abbrev pub node_of : Stored → Node
 node_of o = record { kind = o.kind; parents = parents_of o.hash o.kind o.bytes; seconds = seconds_of o.hash o.kind o.bytes; target = target_of o }
 
+-- nodes by id
 abbrev pub Graph : Type 0
 Graph = finmap.FinMap id_cmp Node
 
@@ -36,10 +40,12 @@ is_commit_at g id = option_map_or (λ n. is_kind n.kind Commit) (finmap.get g id
 abbrev pub graph_of : ObjectMap → Graph
 graph_of m = finmap.from_sorted (map (λ e. (e.0, node_of e.1)) (finmap.entries m))
 
+-- a node, coded
 abbrev pub coded_node : Coded Node
 coded_node =
     code_by (ObjectKind × (List ObjectId × (Option ℕ × Option ObjectId))) (coded× coded_object_kind (coded× (coded_list coded_id) (coded× (coded_option coded_ℕ) (coded_option coded_id))))
     (λ n. (n.kind, (n.parents, (n.seconds, n.target)))) (λ p. record { kind = p.0; parents = p.1.0; seconds = p.1.1.0; target = p.1.1.1 }) (λ _. refl)
 
+-- a graph, coded
 abbrev pub coded_graph : Coded Graph
 coded_graph = finmap.code {R = id_cmp} coded_id coded_node

@@ -37,6 +37,8 @@ pub record IsDeepened (r : Request) (pack : Pack) (id : ObjectId) : Type 0 where
   pub sent : IsTrue (set.contains r.held.border id)
   pub parents : (o : Stored) → map.get r.held.objects id ≡ Some o → All (IsThere r pack) (parents o)
 
+-- What is wanted is there, and so is each link of the pack's objects. Shallow lines name commits that are there, and
+-- unshallow lines commits of the border that was sent whose parents are.
 pub record IsHonest (r : Request) (pack : Pack) : Type 0 where
   pub wants : All (IsThere r pack) r.wants
   -- each link of an object of the pack is there, parents of commits in the merged border aside

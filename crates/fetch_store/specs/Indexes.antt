@@ -9,5 +9,6 @@ use Rattle.fetch_store.specs.declared.id.ObjectId.{ObjectId}
 use Rattle.fetch_store.specs.Objects.{Stored}
 use Rattle.fetch_store.specs.Stores.{id_cmp, Entries}
 
+-- The index has the first entry of each id.
 pub record IsIndexOf (es : Entries) (index : BTreeMap ObjectId (Bor Stored)) : Type 0 where
   pub each : (q : ObjectId) → option_copied (tree.get id_cmp index q) ≡ find id_cmp q es

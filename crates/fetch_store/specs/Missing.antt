@@ -9,6 +9,7 @@ use Rattle.fetch_store.specs.Borders.{IdSet, ids_of}
 use Rattle.fetch_store.specs.Closed.{Holding, is_commit, links_within, links_at, parents}
 use Rattle.fetch_store.specs.Honest.{Pack, taken}
 
+-- this link
 abbrev pub missing_link : ObjectId → ObjectId → Missing
 missing_link from to = record { from = from; to = to }
 
@@ -16,6 +17,7 @@ missing_link from to = record { from = from; to = to }
 abbrev pub unstored : ObjectMap → ObjectId → List ObjectId → List Missing
 unstored objects from ids = map (missing_link from) (filter (λ to. not (fin.contains_key objects to)) ids)
 
+-- the parents of what is stored at an id
 abbrev pub parents_at : ObjectMap → ObjectId → List ObjectId
 parents_at objects id = option_map_or parents (fin.get objects id) []
 
@@ -35,12 +37,15 @@ unknown_in objects ids = map (λ id. missing_link id id) (filter (λ id. not (is
 abbrev pub orphaned_in : ObjectMap → List ObjectId → List Missing
 orphaned_in objects ids = flat_map (λ id. unstored objects id (parents_at objects id)) ids
 
+-- the links of a pack's objects that lead to nothing
 abbrev pub unlinked : Holding → Pack → List Missing
 unlinked h pack = unlinked_in h.objects h.border pack.objects
 
+-- the shallow lines that name no commit
 abbrev pub unknown : Holding → Pack → List Missing
 unknown h pack = unknown_in h.objects pack.shallow
 
+-- the unshallow lines whose commits would lack a parent
 abbrev pub orphaned : Holding → Pack → List Missing
 orphaned h pack = orphaned_in h.objects pack.unshallow
 

@@ -10,6 +10,7 @@ use Rattle.std.specs.declared.cmp.Ordering.{Ordering}
 abbrev pub Path : Type 0
 Path = List (List ℕ)
 
+-- whether the path is that of the root
 abbrev pub is_root : Path → Bool
 is_root [] = true
 is_root (part ∷ path) = false
@@ -18,6 +19,7 @@ is_root (part ∷ path) = false
 abbrev pub path_cmp : Path → Path → Ordering
 path_cmp = slice_cmp (slice_cmp nat_cmp)
 
+-- whether a piece is a part of a path: it isn't empty
 abbrev pub is_part : List ℕ → Bool
 is_part [] = false
 is_part (c ∷ cs) = true

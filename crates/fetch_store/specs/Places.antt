@@ -19,6 +19,7 @@ pub record Signature : Type 0 where
   pub seconds : List ℕ
   pub offset : List ℕ
 
+-- What a committer's line says: a name, seconds that fit, and an offset.
 pub record IsSignature (s : Signature) : Type 0 where
   pub who : IsWithout 10 s.who
   pub decimal : IsTrue (is_decimal s.seconds)
@@ -26,6 +27,7 @@ pub record IsSignature (s : Signature) : Type 0 where
   pub fits : digits_value 10 s.seconds < 2 ^ 63
   pub offset : IsTrue (is_offset s.offset)
 
+-- a signature as it is written
 abbrev pub signature_text : Signature → List ℕ
 signature_text s = s.who ++ 32 ∷ (s.seconds ++ 32 ∷ s.offset)
 
@@ -33,15 +35,19 @@ signature_text s = s.who ++ 32 ∷ (s.seconds ++ 32 ∷ s.offset)
 abbrev pub IsIdLine : Kind → List ℕ → List ℕ → Type 0
 IsIdLine hash word piece = (id : List ℕ) × IsHexId hash id × (piece ≡ line (word ++ id))
 
+-- a line `author`
 abbrev pub IsAuthorLine : List ℕ → Type 0
 IsAuthorLine piece = (author : List ℕ) × IsWithout 10 author × (piece ≡ line (codes "author " ++ author))
 
+-- a line `committer`
 abbrev pub IsCommitterLine : List ℕ → Type 0
 IsCommitterLine piece = (s : Signature) × IsSignature s × (piece ≡ line (codes "committer " ++ signature_text s))
 
+-- a line `type`
 abbrev pub IsTypeLine : List ℕ → Type 0
 IsTypeLine piece = (kind : ObjectKind) × (piece ≡ line (codes "type " ++ name_of kind))
 
+-- an entry of a tree
 abbrev pub IsEntryText : Kind → List ℕ → Type 0
 IsEntryText hash piece = (e : TreeEntry) × IsEntry hash e × (piece ≡ entry_text e)
 

@@ -9,6 +9,7 @@ use Rattle.fetch_store.specs.Closed.{Holding, links_within}
 abbrev pub Nexts : Type 0
 Nexts = ObjectId → Option (List ObjectId)
 
+-- the ids one step away from an id
 abbrev pub next_to : Nexts → ObjectId → List ObjectId
 next_to nexts id = option_map_or (λ (ids : List ObjectId). ids) (nexts id) []
 
@@ -29,7 +30,7 @@ pub record IsWithin (nexts : Nexts) (starts : List ObjectId) (limit : Option ℕ
   pub path : IsPath nexts start rest id
   pub few : IfSome limit (λ n. length rest ≤ n)
 
--- one step on from what is within so many steps
+-- one step on from what is within that many steps
 abbrev pub IsOneOn : Nexts → List ObjectId → ℕ → ObjectId → Type 0
 IsOneOn nexts starts n id = (from : ObjectId) × IsWithin nexts starts (Some n) from × IsNext nexts from id
 

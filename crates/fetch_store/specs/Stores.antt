@@ -21,6 +21,7 @@ id_cmp (ids.Sha1 a) (ids.Sha256 b) = Less
 id_cmp (ids.Sha256 a) (ids.Sha1 b) = Greater
 id_cmp (ids.Sha256 a) (ids.Sha256 b) = slice_cmp nat_cmp a b
 
+-- stored objects by id
 abbrev pub ObjectMap : Type 0
 ObjectMap = map.FinMap id_cmp Stored
 
@@ -31,11 +32,13 @@ pub record StoreValue : Type 0 where
   pub spare : ℕ
   pub spare_bytes : ℕ
 
+-- a store, coded
 abbrev pub coded_store : Coded StoreValue
 coded_store =
     code_by (Kind × (ObjectMap × (ℕ × ℕ))) (coded× coded_kind (coded× (map.code {R = id_cmp} coded_id coded_stored) (coded× coded_ℕ coded_ℕ)))
     (λ s. (s.hash, (s.objects, (s.spare, s.spare_bytes)))) (λ p. record { hash = p.0; objects = p.1.0; spare = p.1.1.0; spare_bytes = p.1.1.1 }) (λ _. refl)
 
+-- objects with their ids, in order
 abbrev pub Entries : Type 0
 Entries = List (ObjectId × Stored)
 
@@ -55,6 +58,7 @@ payload_len os = sum_by (λ o. length o.1.bytes) os
 abbrev pub add : ObjectMap → ObjectId × Stored → ObjectMap
 add m o = if map.contains_key m o.0 then m else map.insert m o.0 o.1
 
+-- with all of these objects, one after the other
 abbrev pub add_all : ObjectMap → Entries → ObjectMap
 add_all m [] = m
 add_all m (o ∷ os) = add_all (add m o) os

@@ -20,6 +20,7 @@ pub record TagParts : Type 0 where
   pub kind : ObjectKind
   pub rest : List ℕ
 
+-- a text with its line feed
 abbrev pub line : List ℕ → List ℕ
 line text = text ++ 10 ∷ []
 

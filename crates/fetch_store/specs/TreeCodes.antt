@@ -16,16 +16,20 @@ abbrev node_from : Option (List ℕ) → TreeNode
 node_from (Some bytes) = File bytes
 node_from None = Directory
 
+-- a node is the one that its bytes, or none, name
 pub node_back : (n : TreeNode) → node_from (bytes_or_none n) ≡ n
 node_back (File bytes) = refl
 node_back Directory = refl
 
+-- a node, coded
 abbrev pub coded_node : Coded TreeNode
 coded_node = code_by (Option (List ℕ)) (coded_option (coded_list coded_ℕ)) bytes_or_none node_from node_back
 
+-- a tree, coded
 abbrev pub coded_tree : Coded Tree
 coded_tree = map.code {R = path_cmp} (coded_list (coded_list coded_ℕ)) coded_node
 
+-- files in memory, coded
 abbrev pub coded_memory : Coded MemoryTree
 coded_memory =
     code_by (Tree × (List ℕ × (ℕ × ℕ))) (coded× coded_tree (coded× (coded_list coded_ℕ) (coded× coded_ℕ coded_ℕ)))

@@ -17,15 +17,18 @@ Tree = map.FinMap path_cmp TreeNode
 abbrev pub node_at : Tree → Path → Option TreeNode
 node_at t path = if is_root path then Some Directory else map.get t path
 
+-- what a node is
 abbrev pub kind_of : TreeNode → Node
 kind_of (File bytes) = nodes.File
 kind_of Directory = nodes.Directory
 
+-- whether a file stands there
 abbrev pub is_file : Option TreeNode → Bool
 is_file (Some (File bytes)) = true
 is_file (Some Directory) = false
 is_file None = false
 
+-- whether a directory stands there
 abbrev pub is_directory : Option TreeNode → Bool
 is_directory (Some (File bytes)) = false
 is_directory (Some Directory) = true
@@ -48,10 +51,12 @@ name_behind (Some []) = None
 name_behind (Some (name ∷ [])) = Some name
 name_behind (Some (name ∷ next ∷ path)) = None
 
+-- the name, where there is one
 abbrev pub if_name : Option (List ℕ) → List (List ℕ)
 if_name None = []
 if_name (Some name) = name ∷ []
 
+-- the names right below a path, of all these paths
 abbrev pub names_behind : Path → List Path → List (List ℕ)
 names_behind path keys = filter_map (λ key. name_behind (after_path path key)) keys
 
@@ -71,6 +76,7 @@ bytes_in None = Some None
 bytes_in (Some (File bytes)) = Some (Some bytes)
 bytes_in (Some Directory) = None
 
+-- what a file has, or that there is none; a refusal where a file stands above it, or a directory at it
 abbrev pub read_in : Tree → Path → Option (Option (List ℕ))
 read_in t path = if is_blocked t path then None else bytes_in (node_at t path)
 
@@ -80,6 +86,7 @@ names_in t path = if is_directory (node_at t path) then Some (names_behind path 
 
 -- ---- calls that change the tree
 
+-- with a directory, unless something stands there
 abbrev pub with_directory : Tree → Path → Tree
 with_directory t path = if is_some (node_at t path) then t else map.insert t path Directory
 
@@ -88,6 +95,7 @@ abbrev pub with_each : Tree → List Path → Tree
 with_each t [] = t
 with_each t (path ∷ paths) = with_each (with_directory t path) paths
 
+-- with a directory and all above it; None where a file is in the way
 abbrev pub with_directories : Tree → Path → Option Tree
 with_directories t path = if is_blocked t path || is_file (node_at t path) then None else Some (with_each t (parents_of path ++ path ∷ []))
 
@@ -106,9 +114,11 @@ moved t None from to = None
 moved t (Some bytes) from to =
     if is_directory (node_at t to) || not (is_directory (node_at t (parent_of to))) then None else Some (map.insert (map.remove t from) to (File bytes))
 
+-- with a file moved to another path; None where there is no such file, or something is in the way
 abbrev pub renamed : Tree → Path → Path → Option Tree
 renamed t from to = moved t (file_in (node_at t from)) from to
 
+-- without a file; None where there is none
 abbrev pub without_file : Tree → Path → Option Tree
 without_file t path = if is_file (node_at t path) then Some (map.remove t path) else None
 

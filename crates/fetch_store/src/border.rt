@@ -1,4 +1,4 @@
-//! The shallow border: the commits whose parents are left aside, as Git lists them in its file `shallow`.
+//! The shallow border: the commits whose parents are left out, as Git lists them in its file `shallow`.
 
 ghost use Rattle.std.specs.Prelude.{◌≡◌, ◌↔◌, ◌++◌, not, filter, IsTrue, IfOk, IfErr, OnOk};
 ghost use Rattle.std.specs.List.Sorted.{IsStrictlySortedBy};
@@ -67,7 +67,7 @@ impl Border {
         self.ids.as_slice()
     }
 
-    /// Whether there is no commit, so that nothing is left aside.
+    /// Whether there is no commit, so that nothing is left out.
     pub fn is_empty(&self) -> bool
         ensures { IsTrue result ↔ (self.now ≡ set.empty) }
     {

@@ -24,7 +24,7 @@ pub fn lend<'a>(hash: Kind, buffer: &'a [u8], span: &Span) -> ObjectRef<'a>
     ObjectRef::new(hash, span.kind, &buffer[span.start..end])
 }
 
-/// How many bytes the objects have. So many can't be counted only where there is no memory for them.
+/// How many bytes the objects have. `NoMemory` where a `usize` can't count them: there is no memory for them either.
 pub fn payload_len(objects: &[(ObjectId, Object)]) -> Result<usize, NoMemory>
     ensures { IfOk result (λ n. n ≡ spec.payload_len objects.now) }
 {

@@ -72,7 +72,7 @@ impl FilePath {
         self.parts.len()
     }
 
-    /// The path of the first parts, so many.
+    /// The path of the first parts, that many.
     pub(crate) fn prefix(&self, depth: usize) -> Result<FilePath, NoMemory>
         requires { depth ≤ length self.now }
         ensures { IfOk result (λ path. path ≡ take depth self.now) }

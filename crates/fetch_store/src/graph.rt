@@ -78,7 +78,7 @@ impl Model for Graph {
 }
 
 impl Graph {
-    /// The graph of a store.
+    /// The graph of a store. The only error is out of memory.
     pub fn of(alloc: Global, store: &Store) -> Result<Graph, StoreError>
         ensures graph { IfOk result (λ graph. graph ≡ graph_of store.now.objects) }
         ensures memory { IfErr result (λ e. e ≡ errors.NoMemory) }
@@ -88,7 +88,8 @@ impl Graph {
         Ok(Graph { nodes })
     }
 
-    /// The graph that the store would have with the list added. The store stays as it is.
+    /// The graph that the store would have with the list added. The store stays as it is. The only
+    /// error is out of memory.
     pub fn of_added(
         alloc: Global,
         store: &Store,

@@ -33,7 +33,8 @@ impl Model for Object {
 }
 
 impl Object {
-    /// Reads an object's bytes.
+    /// Reads an object's bytes. `MalformedObject` comes exactly where they aren't in the grammar of
+    /// that kind, with the place of the part that isn't.
     pub fn parse(kind: Kind, object_kind: ObjectKind, bytes: Vec<u8>) -> Result<Object, StoreError>
         ensures accepted { IsOk result ↔ spec.IsObject kind object_kind bytes.items }
         ensures object { IfOk result (λ o. o ≡ record { hash = kind; kind = object_kind; bytes = bytes.items }) }

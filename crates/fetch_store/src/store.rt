@@ -105,7 +105,7 @@ impl Store {
         }
     }
 
-    /// The stored ids, each once, in ascending order.
+    /// The stored ids, each once, in ascending order. The only error is out of memory.
     pub fn ids(&self, alloc: Global) -> Result<Vec<ObjectId>, StoreError>
         ensures ids { IfOk result (λ ids. ids.items ≡ map.keys self.now.objects) }
         ensures ascending { IfOk result (λ ids. IsStrictlySortedBy id_cmp ids.items) }
@@ -163,6 +163,7 @@ impl Store {
 
     /// Whether each id of the list has this object, and no other, in the store and earlier in the list. It keeps an
     /// index of the list where there is memory for one, and answers the same, but more slowly, where there is none.
+    /// `Collision` tells the first id that has another.
     pub fn check(&self, objects: &[(ObjectId, Object)]) -> Result<(), StoreError>
         ensures { MatchOption (collision self.now.objects objects.now) (result ≡ Ok tt) (λ id. result ≡ Err (errors.Collision id)) }
     {
@@ -183,7 +184,8 @@ impl Store {
         }
     }
 
-    /// Makes room for the list: for its objects and for their bytes.
+    /// Makes room for the list: for its objects and for their bytes. The only error is out of memory, and after it the
+    /// store is as before.
     pub fn reserve(&mut self, objects: &[(ObjectId, Object)]) -> Result<(), StoreError>
         ensures room { OnOk result (length objects.now ≤ self.new.spare) }
         ensures room_for_bytes { OnOk result (payload_len objects.now ≤ self.new.spare_bytes) }
@@ -222,7 +224,8 @@ impl Store {
         self.spare_bytes -= self.buffer.len() - bytes;
     }
 
-    /// Adds the list, or nothing of it.
+    /// Adds the list, or nothing of it. `Collision` comes exactly where an id has another object in the store or
+    /// earlier in the list, with the first such id. After an error the store is as before.
     pub fn add_all(&mut self, objects: Vec<(ObjectId, Object)>) -> Result<(), StoreError>
         requires { AreOf self.old.hash objects.items }
         ensures ok { OnOk result ((self.new.objects ≡ spec.add_all self.old.objects objects.items) × (self.new.hash ≡ self.old.hash)) }

@@ -86,7 +86,7 @@ Contains-cases x xs y h = elim (Contains-append_cases (x ∷ []) xs y h) [ inl o
 
 -- ---- steps
 
--- one entry, which may be seen before or behind
+-- one entry, which may be seen before or after
 term : (x y : Bool) (c ra rb : ℕ) → (x ≡ true → y ≡ true) → rb ≤ ra → cond y 0 c + rb ≤ cond x 0 c + ra
 term true true c ra rb h le = omega arith
 term true false c ra rb h le = absurd (let no = h refl in cc)

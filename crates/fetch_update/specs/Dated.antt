@@ -12,6 +12,7 @@ use Rattle.fetch_store.specs.Objects.{is_kind}
 abbrev pub commit_at : Graph → ObjectId → Option Node
 commit_at g id = option_and_then (λ n. if is_kind n.kind Commit then Some n else None) (get g id)
 
+-- a commit is stored at the id
 abbrev pub IsCommit : Graph → ObjectId → Type 0
 IsCommit g id = IsSome (commit_at g id)
 
@@ -50,12 +51,15 @@ pub record IsPathAbove (g : Graph) (limit : ℕ) (from to : ObjectId) (path : Li
 abbrev pub IsDatedPath : Graph → ObjectId → ObjectId → List ObjectId → Type 0
 IsDatedPath g from to path = IsPathAbove g (seconds_at g to) from to path
 
+-- A dated path leads from one commit to the other.
 abbrev pub HasDatedPath : Graph → ObjectId → ObjectId → Type 0
 HasDatedPath g from to = (path : List ObjectId) × IsDatedPath g from to path
 
+-- the commits of a graph
 abbrev pub stored_commits : Graph → List (ObjectId × Node)
 stored_commits g = filter (λ e. is_kind e.1.kind Commit) (entries g)
 
+-- how many commits a graph has
 abbrev pub commit_count : Graph → ℕ
 commit_count g = length (stored_commits g)
 

@@ -17,9 +17,11 @@ not_found_text id = codes "rejected (" ++ encode_lower (bytes_of id) ++ codes " 
 unfoldable pub directories_text : List (List ℕ) → List ℕ
 directories_text dirs = join_by (λ dir. dir) comma_space (filter is_utf8 dirs)
 
+-- the text of a branch that is checked out
 unfoldable pub checked_out_text : List (List ℕ) → List ℕ
 checked_out_text dirs = codes "rejected (cannot write into checked-out branch at \"" ++ directories_text dirs ++ codes "\")"
 
+-- how a mode is displayed
 abbrev pub mode_text : Mode → List ℕ
 mode_text modes.NoChangeNeeded = codes "up-to-date"
 mode_text modes.FastForward = codes "fast-forward"

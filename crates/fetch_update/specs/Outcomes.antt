@@ -43,6 +43,7 @@ abbrev pub verdicts_from : Policy → List Spec → List Spec → ℕ → List M
 verdicts_from p specs extra i [] = Ok []
 verdicts_from p specs extra i (m ∷ ms) = judged p i m (spec_at m.spec_index specs extra) (verdicts_from p specs extra (i + 1) ms)
 
+-- the edits of verdicts, in order
 abbrev pub edits_of : Verdicts → List RefEdit
 edits_of vs = filter_map (λ v. v.1.edit) vs
 
@@ -51,6 +52,7 @@ abbrev pub keeps_target : Names → List RefEdit → List ℕ → List ℕ → B
 keeps_target names edits found wanted =
     not (bytes_eq found wanted) && finmap.contains_key names found && not (finmap.contains_key names wanted) && not (list_any (λ e. bytes_eq e.name wanted) edits)
 
+-- what a reflog says where nothing changes
 unfoldable pub no_op : List ℕ
 no_op = codes "no-op"
 
@@ -59,6 +61,7 @@ abbrev pub is_kept_at : Names → List RefEdit → PreviousValue → Target → 
 is_kept_at names edits (MustExistAndMatch (Symbolic found)) (Symbolic wanted) = keeps_target names edits found wanted
 is_kept_at names edits expected new = false
 
+-- whether a change is an update of an unborn reference that keeps its target
 abbrev pub is_kept : Names → List RefEdit → Change → Bool
 is_kept names edits (Writes log expected new) = is_kept_at names edits expected new
 is_kept names edits (Delete expected log) = false
@@ -68,6 +71,7 @@ abbrev pub no_op_write : LogChange → PreviousValue → Target → Change
 no_op_write log (MustExistAndMatch found) new = Writes (record log { message = no_op }) (MustExistAndMatch found) found
 no_op_write log expected new = Writes log expected new
 
+-- a change that keeps what is there
 abbrev pub no_op_change : Change → Change
 no_op_change (Writes log expected new) = no_op_write log expected new
 no_op_change (Delete expected log) = Delete expected log
@@ -81,18 +85,21 @@ abbrev pub adjusted : Names → List RefEdit → Verdict → Option RefEdit → 
 adjusted names edits v None = v
 adjusted names edits v (Some e) = if is_kept names edits e.change then kept e else v
 
--- the updates, where so many edits stand before them
+-- the updates, where that many edits stand before them
 abbrev pub updates_from : ℕ → Verdicts → List Update
 updates_from n [] = []
 updates_from n (v ∷ vs) =
     record { mode = v.1.mode; type_change = v.1.type_change; edit_index = option_map (λ _. n) v.1.edit; mapping_index = v.0 } ∷ updates_from (if is_some v.1.edit then n + 1 else n) vs
 
+-- verdicts, once those of all mappings are known
 abbrev pub settled : Names → Verdicts → Verdicts
 settled names vs = map (λ v. (v.0, adjusted names (edits_of vs) v.1 v.1.edit)) vs
 
+-- an outcome of these verdicts
 abbrev pub outcome_in : Verdicts → Outcome
 outcome_in vs = record { edits = edits_of vs; updates = updates_from 0 vs }
 
+-- an outcome, unless a mapping is refused
 abbrev pub outcome_from : Names → Result Verdicts Error → Result Outcome Error
 outcome_from names (Err e) = Err e
 outcome_from names (Ok vs) = Ok (outcome_in (settled names vs))

@@ -14,9 +14,11 @@ use Rattle.fetch_update.specs.declared.update.Update.{Update}
 abbrev pub Pair : Type 0
 Pair = Update × Mapping × Option Spec × Option RefEdit
 
+-- an update with its mapping, refspec and edit
 abbrev pub pair_of : List Spec → List Spec → List RefEdit → Update → Mapping → Pair
 pair_of specs extra edits u m = (u, m, spec_at m.spec_index specs extra, option_and_then (λ i. slice_get edits i) u.edit_index)
 
+-- a pair in front of others, where the mapping is there
 abbrev pub onto : List Spec → List Spec → List RefEdit → Update → Option Mapping → List Pair → List Pair
 onto specs extra edits u None rest = []
 onto specs extra edits u (Some m) rest = pair_of specs extra edits u m ∷ rest

@@ -64,30 +64,39 @@ pub record Policy : Type 0 where
 
 -- ---- words
 
+-- what a reflog says of a new tag
 unfoldable pub storing_tag : List ℕ
 storing_tag = codes "storing tag"
 
+-- what a reflog says of a new branch
 unfoldable pub storing_head : List ℕ
 storing_head = codes "storing head"
 
+-- what a reflog says of another new reference
 unfoldable pub storing_ref : List ℕ
 storing_ref = codes "storing ref"
 
+-- what a reflog says of an unborn reference that changes
 unfoldable pub change_unborn : List ℕ
 change_unborn = codes "change unborn ref"
 
+-- what a reflog says where nothing is to change
 unfoldable pub no_update : List ℕ
 no_update = codes "no update will be performed"
 
+-- what a reflog says of a tag that moves
 unfoldable pub updating_tag : List ℕ
 updating_tag = codes "updating tag"
 
+-- what a reflog says of a guess in a dry run
 unfoldable pub guessed : List ℕ
 guessed = codes "fast-forward (guessed in dry-run)"
 
+-- what a reflog says of a fast-forward
 unfoldable pub fast_forward : List ℕ
 fast_forward = codes "fast-forward"
 
+-- what a reflog says of a forced update
 unfoldable pub forced_update : List ℕ
 forced_update = codes "forced-update"
 
@@ -111,20 +120,24 @@ abbrev pub value_of : Source → Target
 value_of (sources.ObjectId id) = targets.Object id
 value_of (sources.Ref reference) = value_in reference
 
+-- whether a refspec has a plus
 abbrev pub is_forced : SpecMode → Bool
 is_forced spec_modes.Normal = false
 is_forced spec_modes.Force = true
 is_forced spec_modes.Exclusion = false
 
+-- whether tags come along with the history
 abbrev pub is_included : Tags → Bool
 is_included wanted_tags.All = false
 is_included wanted_tags.Included = true
 is_included wanted_tags.None = false
 
+-- whether a category is that of tags
 abbrev pub is_category : Category → Bool
 is_category categories.Tag = true
 is_category other = false
 
+-- whether a name is that of a tag
 abbrev pub is_tag_category : Option Category → Bool
 is_tag_category None = false
 is_tag_category (Some c) = is_category c
@@ -133,18 +146,22 @@ is_tag_category (Some c) = is_category c
 abbrev pub is_tag : List ℕ → Bool
 is_tag name = is_tag_category (category_of name)
 
+-- what a reflog says of a new reference of this category
 abbrev pub storing_in : Option Category → List ℕ
 storing_in None = storing_ref
 storing_in (Some categories.Tag) = storing_tag
 storing_in (Some categories.LocalBranch) = storing_head
 storing_in (Some other) = storing_ref
 
+-- what a reflog says of a new reference of this name
 abbrev pub storing : List ℕ → List ℕ
 storing name = storing_in (category_of name)
 
+-- whether something is stored at an id
 abbrev pub is_stored : Graph → ObjectId → Bool
 is_stored g id = is_some (finmap.get g id)
 
+-- whether a commit is stored at an id
 abbrev pub is_commit : Graph → ObjectId → Bool
 is_commit g id = is_some (commit_at g id)
 
@@ -154,6 +171,7 @@ is_commit g id = is_some (commit_at g id)
 abbrev pub nothing : Mode → Verdict
 nothing mode = record { mode = mode; type_change = None; edit = None }
 
+-- the edit that writes a value, with what happened
 abbrev pub edit_of : RefLogMessage → List ℕ → PreviousValue → Target → List ℕ → RefEdit
 edit_of message name expects value happened =
     record { change = changes.Update (record { mode = logs.AndReference; force_create_reflog = false; message = message_text message happened }) expects value; name = name }
@@ -185,6 +203,7 @@ written message place mode happened = record {
   edit = Some (edit_of message place.name (expected.MustExistAndMatch place.found) place.value happened);
 }
 
+-- the verdict of a reference that isn't there yet
 abbrev pub created : RefLogMessage → List ℕ → Target → Verdict
 created message name value = record { mode = modes.New; type_change = None; edit = Some (edit_of message name (expected.ExistingMustMatch value) value (storing name)) }
 
@@ -193,6 +212,7 @@ abbrev pub checked : Target → Result Target Error
 checked (targets.Object id) = Ok (targets.Object id)
 checked (targets.Symbolic name) = if is_full_name name then Ok (targets.Symbolic name) else Err (errors.InvalidRefName name)
 
+-- a verdict, unless a check is refused
 abbrev pub after_check : Result Target Error → Verdict → Result Verdict Error
 after_check (Ok value) v = Ok v
 after_check (Err e) v = Err e
@@ -243,6 +263,7 @@ unfoldable pub at_name : Policy → Spec → Mapping → List ℕ → Option Tar
 at_name p s m name None = if_valid (value_of m.remote) (created p.message name (value_of m.remote))
 at_name p s m name (Some found) = at_place p (place_of s m name found)
 
+-- the verdict of a mapping with this destination
 unfoldable pub at_destination : Policy → Spec → Mapping → Option (List ℕ) → Result Verdict Error
 at_destination p s m None = Ok (nothing modes.NoChangeNeeded)
 at_destination p s m (Some name) = if is_full_name name then at_name p s m name (finmap.get p.names name) else Err (errors.FindReference name)
@@ -252,13 +273,16 @@ unfoldable pub unsent : Policy → Target → Option ObjectId
 unsent p (targets.Symbolic name) = None
 unsent p (targets.Object id) = if p.dry_run || is_stored p.graph id then None else Some id
 
+-- the mode of a source that the server didn't send
 unfoldable pub unsent_mode : Tags → Spec → ObjectId → Mode
 unsent_mode tags s id = if is_included tags && is_tag_spec s then modes.ImplicitTagNotSentByRemote else modes.RejectedSourceObjectNotFound id
 
+-- that mode, where a source wasn't sent
 abbrev pub unless_unsent : Policy → Spec → Option ObjectId → Result Verdict Error → Result Verdict Error
 unless_unsent p s None otherwise = otherwise
 unless_unsent p s (Some id) otherwise = Ok (nothing (unsent_mode p.tags s id))
 
+-- the verdict of a mapping by itself
 unfoldable pub verdict_of : Policy → Spec → Mapping → Result Verdict Error
 verdict_of p s m = unless_unsent p s (unsent p (value_of m.remote)) (at_destination p s m m.local)
 

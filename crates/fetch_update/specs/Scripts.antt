@@ -41,6 +41,6 @@ counted other s = s
 abbrev pub after_call : Script → Script
 after_call s = counted (fault_at s) (record s { next = one_more s.next })
 
--- so many faults, which are possible where a call is listed
+-- that many faults, which are possible where a call is listed
 abbrev pub faults_of : Script → ℕ → Faults
 faults_of s count = record { count = count; possible = nat_lt 0 (length s.failing) }

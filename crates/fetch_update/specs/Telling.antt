@@ -21,6 +21,7 @@ use Rattle.fetch_update.specs.Writes.{gives}
 
 -- ---- reflogs
 
+-- what a change logs
 abbrev pub log_of : Change → Option LogChange
 log_of (Writes log expected new) = Some log
 log_of (Delete expected log) = None

@@ -18,9 +18,11 @@ pub record State : Type 0 where
   pub seen : List ObjectId
   pub waiting : List (ℕ × ObjectId)
 
+-- what a walk has seen, and what waits
 abbrev pub state : Walk → State
 state w = record { seen = w.seen.keys; waiting = heap_items w.waiting }
 
+-- whether a list has an id
 abbrev pub has : List ObjectId → ObjectId → Bool
 has ids id = list_any (λ k. eq_by_cmp id_cmp id k) ids
 
@@ -28,6 +30,7 @@ has ids id = list_any (λ k. eq_by_cmp id_cmp id k) ids
 abbrev pub IsDated : Graph → ℕ → ObjectId → Type 0
 IsDated g limit id = IsCommit g id × (limit ≤ seconds_at g id)
 
+-- The commit waits.
 abbrev pub IsWaiting : State → ObjectId → Type 0
 IsWaiting s id = (seconds : ℕ) × Contains s.waiting (seconds, id)
 

@@ -9,6 +9,7 @@ use Rattle.fetch_refs.specs.declared.edit.PreviousValue.TheVariants.{MustExistAn
 use Rattle.fetch_refs.specs.declared.target.Target.{Target}
 use Rattle.fetch_refs.specs.Edits.{written}
 
+-- the value that a change leaves
 abbrev pub new_of : Change → Option Target
 new_of (changes.Update log expected new) = Some new
 new_of (changes.Delete expected log) = None

@@ -39,7 +39,7 @@ pub fn is_dated_ancestor<O: Objects, L: Ledger>(
     Ok(false)
 }
 
-/// The same, where nobody counts.
+/// Whether a dated path leads from one commit to the other: `is_dated_ancestor`, where nobody counts the steps.
 pub fn has_dated_path<O: Objects>(
     alloc: Global,
     objects: &O,

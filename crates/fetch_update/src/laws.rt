@@ -40,8 +40,9 @@ use fetch_store::Objects;
 use fetch_wire::Mapping;
 use std::alloc::Global;
 
-/// What becomes of each mapping by the update policy, and the edits that carry it out. Nothing is
-/// changed. In a dry run no object of the remote is asked for.
+/// What becomes of each mapping by the update policy, and the edits that carry it out. Nothing is changed. In a dry run
+/// no object of the remote is asked for. A refusal is that of the first mapping that has one.
+// Many arguments: the public signature. The policy looks at all of these.
 #[tactic(auto, unfolding(crate::specs::Outcomes::outcome_of))]
 pub fn update<O: Objects>(
     alloc: Global,

@@ -188,7 +188,7 @@ peel_step h before r id has of_kind =
     name_step h (before ++ unpeeled r ∷ []) next.Reference id (name_in r ++ codes "^{}") (Some (name_in r)) (reading.Advertisement h (before ++ r ∷ []) next.Peeled) of_kind (peel_read (name_in r))
     (ap (option_map (λ refs. reading.Advertisement h refs next.Peeled)) (peel_told h before r id has))
 
--- what may come behind a reference
+-- what may come after a reference
 abbrev behind_ref : Option ObjectId → Advertised
 behind_ref None = next.Reference
 behind_ref (Some id) = next.Peeled

@@ -63,7 +63,7 @@ none_told : (b : Bool) → if_told b None ≡ None
 none_told true = refl
 none_told false = refl
 
--- behind a trouble none is read
+-- after a trouble none is read
 pub unread : (s : SessionState) (piece : List ℕ) → (refusal_of s ≡ None → ⊥) → IsAlike s (fed s piece)
 unread s piece refuses = by_trouble s.trouble refl
   where

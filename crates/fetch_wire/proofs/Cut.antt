@@ -17,7 +17,7 @@ enough (suc n) (suc m) size (b ∷ bytes) some le le' =
     let few = length-drop size (b ∷ bytes) in
     ap (λ (l : List (List ℕ)). take size (b ∷ bytes) ∷ l) (enough n m size (drop size (b ∷ bytes)) some (omega arith) (omega arith))
 
--- the first piece, and those behind it
+-- the first piece, and those after it
 pub cut : (size : ℕ) (bytes : List ℕ) → 0 < size → 0 < length bytes → in_pieces size bytes ≡ take size bytes ∷ in_pieces size (drop size bytes)
 unfolding pieces_within
 cut size [] some full = absurd (omega arith)

@@ -95,7 +95,7 @@ smaller_by f line (Err (Short place)) is need = absurd (cc)
 smaller_by f line (Err (Broken place)) is need = absurd (cc)
 smaller_by f line (Err TooLong) is need = absurd (cc)
 
--- a line that was read is behind
+-- a line that was read is over
 pub smaller : (f : Feeding) (line : Line) → next_in f ≡ Ok (Some line) → length (behind_next f).pending < length f.pending
 smaller f line need = smaller_by f line (found_in f) refl need
 

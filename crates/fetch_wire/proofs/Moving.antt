@@ -26,7 +26,7 @@ pub first_tells : {S T : Type 0} (step : S → Line → Step S T) (s t : S) (lin
 first_tells step s t line [] x goes_on tells = absurd tells
 first_tells step s t line (next ∷ lines) x goes_on tells = (t, goes_on, tells)
 
--- what comes behind them tells the same
+-- what comes after them tells the same
 pub moves_tell : {S T : Type 0} (step : S → Line → Step S T) (s u : S) (lines others : List Line) (x : T) → Moves step s lines u → Tells step u others x → Tells step s (lines ++ others) x
 moves_tell step s u [] others x is tells = subst (λ t. Tells step t others x) (sym is) tells
 moves_tell step s u (line ∷ lines) others x (t, goes_on, more) tells = first_tells step s t line (lines ++ others) x goes_on (moves_tell step t u lines others x more tells)

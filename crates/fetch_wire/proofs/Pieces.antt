@@ -19,7 +19,7 @@ pub concat-append : (xs ys : List (List ℕ)) → concat (xs ++ ys) ≡ concat x
 concat-append [] ys = refl
 concat-append (x ∷ xs) ys = ap (λ (l : List ℕ). x ++ l) (concat-append xs ys) ∙ sym (append_assoc x (concat xs) (concat ys))
 
--- a piece that was given whole is behind: the next begins
+-- a piece that was given whole is over: the next begins
 pub given_next : (pieces : List (List ℕ)) (piece : ℕ) → piece < length pieces → given_of pieces (piece + 1) 0 ≡ given_of pieces piece (length (get_or pieces piece []))
 given_next pieces piece lt =
     let e = take_more pieces piece [] lt in
@@ -40,7 +40,7 @@ all_pieces pieces = without_none pieces
 pub pieces_at : (pieces : List (List ℕ)) (piece offset : ℕ) → piece < length pieces → pieces_from pieces piece offset ≡ drop offset (get_or pieces piece []) ∷ drop (piece + 1) pieces
 pieces_at pieces piece offset lt = ap (without offset) (drop_more pieces piece [] lt)
 
--- behind the last piece nothing is left
+-- after the last piece nothing is left
 pub none_left : (pieces : List (List ℕ)) (piece offset : ℕ) → length pieces ≤ piece → pieces_from pieces piece offset ≡ []
 none_left pieces piece offset le = ap (without offset) (drop_all piece pieces le)
 
@@ -50,7 +50,7 @@ concat-from_first [] = refl
 concat-from_first ([] ∷ pieces) = concat-from_first pieces
 concat-from_first ((b ∷ bytes) ∷ pieces) = refl
 
--- a place behind a whole piece is the front of the next
+-- a place after a whole piece is the front of the next
 pub step_left : (pieces left : List (List ℕ)) (piece offset : ℕ) → piece < length pieces → offset ≡ length (get_or pieces piece []) → from_first (pieces_from pieces piece offset) ≡ from_first left
     → from_first (pieces_from pieces (piece + 1) 0) ≡ from_first left
 step_left pieces left piece offset lt is so_far =
@@ -118,7 +118,7 @@ gives answers pieces left piece offset n heard given got before now lt is same_g
       same_rule = refl;
     }
 
--- what is left behind n bytes of a piece
+-- what is left after n bytes of a piece
 pub left_behind : (pieces left : List (List ℕ)) (piece offset n : ℕ) → piece < length pieces → pieces_from pieces piece offset ≡ from_first left → pieces_from pieces piece (offset + n) ≡ without n (from_first left)
 left_behind pieces left piece offset n lt same =
     pieces_at pieces piece (offset + n) lt ∙ ap (λ (l : List ℕ). l ∷ drop (piece + 1) pieces) (sym (drop-drop n offset (get_or pieces piece []))) ∙ ap (without n) (sym (pieces_at pieces piece offset lt) ∙ same)

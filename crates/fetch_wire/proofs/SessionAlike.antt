@@ -32,7 +32,7 @@ taking_alike i j piece h = record {
   resting = λ none. ap (taking piece) (h.resting none);
 }
 
--- what is left behind a reply
+-- what is left after a reply
 abbrev left_at : SessionState → ℕ → List ℕ → SessionState
 left_at s bound bytes = record s { intake = record { bound = bound; place = 0; pending = bytes; reading = None } }
 

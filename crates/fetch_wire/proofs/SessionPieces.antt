@@ -94,7 +94,7 @@ listing_within (suc n) bound (reading.Reply asked part reply) place bytes l = ab
 no_greeting : (bound : ℕ) (kind : Kind) (bytes : List ℕ) → IsNoGreeting (told_from bound (reading.Listing kind []) 0 bytes)
 no_greeting bound kind bytes = listing_within (suc (length bytes)) bound (reading.Listing kind []) 0 bytes tt
 
--- so behind a listing nothing is asked
+-- so after a listing nothing is asked
 asks_nothing : (s : SessionState) (found : Result (Told × List ℕ) Fault) → told_with s.intake [] ≡ Some found → IsNoGreeting found → read_one rests (after_told asks s (Some found)) ≡ after_told rests s (Some found)
 asks_nothing s (Ok (told.Greeting h, rest)) is none = absurd none
 asks_nothing s (Ok (told.Advertisement h refs, rest)) is none = refl
@@ -133,7 +133,7 @@ nothing_told i none = rw none refl
 
 -- ---- the session
 
--- with these bytes behind what it took
+-- with these bytes after what it took
 abbrev with_taken : SessionState → List ℕ → SessionState
 with_taken s piece = record s { intake = taking piece s.intake }
 

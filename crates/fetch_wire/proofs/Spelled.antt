@@ -190,7 +190,7 @@ capability_told said c is = by_split (split_first 61 said) refl is
 tellable : (c : Capability) (said : List ℕ) (line : Line) → WasTold c said → IsText said line → IsTellable c
 tellable c said line w is = record { named = w.named; plain = w.plain; known = w.known; no_error = ap (λ (t : List ℕ). is_error (t ++ 10 ∷ [])) (sym w.text) ∙ told_no_error said line is }
 
--- capabilities behind those that were told before
+-- capabilities after those that were told before
 record Capable (before : List Capability) (lines : List Line) (x : Told) : Type 0 where
   capabilities : List Capability
   tellable : All IsTellable capabilities

@@ -82,9 +82,9 @@ ad_line h before allowed said t is = by_shallow (shallow_in h.object_hash said) 
     by_shallow (Some id) e g = let s = shallow_told h.object_hash said id e in shallow allowed s.0 id s.1 s.2 (some_is _ _ g)
     by_shallow None e g = by_named (id_and_name h.object_hash said) refl g
 
--- ---- the lines behind
+-- ---- the lines after
 
--- references behind those that were told before, and the border
+-- references after those that were told before, and the border
 record More (h : Handshake) (before : List Ref) (lines : List Line) (x : Told) : Type 0 where
   refs : List Ref
   others : List (List ℕ)
@@ -101,7 +101,7 @@ record Border (h : Handshake) (before : List Ref) (lines : List Line) (x : Told)
   shallow : AreShallow h.object_hash border
   told : x ≡ tolds.Advertisement h before
 
--- the last reference, with what it peels to, and those behind it
+-- the last reference, with what it peels to, and those after it
 record Last (h : Handshake) (front : List Ref) (r : Ref) (lines : List Line) (x : Told) : Type 0 where
   own : Ref
   behind : List (List ℕ)
@@ -141,7 +141,7 @@ at_end h before nexts.Reference line x flush is = λ front r id name was fr. rec
   told = sym is ∙ ap (tolds.Advertisement h) was;
 }
 
--- one reference more, which the lines behind it complete
+-- one reference more, which the lines after it complete
 one_more : (h : Handshake) (before : List Ref) (said : List ℕ) (line : Line) (lines : List Line) (x : Told) (r : Ref) (id : ObjectId) (name : List ℕ) → IsText said line → IsNamed h.object_hash id name said → before_peel name ≡ None → IsFresh h r id name
     → Last h before r lines x → More h before (line ∷ lines) x
 one_more h before said line lines x r id name is named whole fr l = record {
@@ -253,7 +253,7 @@ goes_all h before allowed (line ∷ next ∷ lines) x (t, goes_on, tells) =
 
 -- ---- the first line
 
--- what the first line tells, and the lines behind it
+-- what the first line tells, and the lines after it
 record Advertises (said : List ℕ) (line : Line) (lines : List Line) (x : Told) : Type 0 where
   handshake : Handshake
   refs : List Ref

@@ -40,7 +40,7 @@ pub record Worded (text word : List ℕ) (others : List (List ℕ)) : Type 0 whe
   pub first : IsWithout 32 word
   pub all : All (IsWithout 32) others
 
--- the first word of a text, and those behind it
+-- the first word of a text, and those after it
 pub record Wording (text : List ℕ) : Type 0 where
   pub word : List ℕ
   pub others : List (List ℕ)
@@ -234,7 +234,7 @@ listed_ref kind before said r is = by_ref (ref_in kind said) refl is
     by_ref None e h = absurd cc
     by_ref (Some s) e h = ref_told kind said r (e ∙ ap Some (new_is before s r h))
 
--- references behind those that were told before
+-- references after those that were told before
 pub record Listed (kind : Kind) (before : List Ref) (lines : List Line) (x : Told) : Type 0 where
   pub refs : List Ref
   pub said : List (List ℕ)

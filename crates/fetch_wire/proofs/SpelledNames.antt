@@ -74,7 +74,7 @@ no_error_in (a ∷ b ∷ c ∷ d ∷ word) none = by_space (32 == d) refl
     by_space false is = by_all (69 == a) (82 == b) (82 == c)
     by_space true is = absurd (space_not (a == 32) (b == 32) (c == 32) (d == 32) (ap (λ (x : ℕ). x == 32) (sym (eqb-true _ _ is))) none)
 
--- capabilities of words behind those before them
+-- capabilities of words after those before them
 record Capabilities (found : List Capability) (all : List (List ℕ)) (more : List Capability) : Type 0 where
   capabilities : List Capability
   is : more ≡ found ++ capabilities
@@ -109,7 +109,7 @@ capable found ((b ∷ bytes) ∷ others) more whole is = by (with_word found (b 
           tellable = All-cons IsTellable one.0 rest.capabilities (record { named = w.named; plain = w.plain; known = w.known; no_error = no_error }) rest.tellable;
         }
 
--- what the text behind the NUL tells
+-- what the text after the NUL tells
 pub record Offered (capabilities : List Capability) (said : List ℕ) : Type 0 where
   pub words : AreWords (map capability_text capabilities) said
   pub tellable : All IsTellable capabilities

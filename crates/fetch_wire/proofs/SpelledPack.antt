@@ -27,7 +27,7 @@ exactly a b is = (bytes_eq-Decides a b).0 is
 
 -- ---- bands
 
--- bands behind what was read of the pack
+-- bands after what was read of the pack
 record Banded (asked : AskedReply) (reply : FetchReply) (pack : List ℕ) (progress : List (List ℕ)) (lines : List Line) (x : Told) : Type 0 where
   bands : List Band
   is : lines ≡ map band_line bands ++ Flush ∷ []

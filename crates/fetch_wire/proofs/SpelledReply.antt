@@ -35,7 +35,7 @@ record OneMove (asked : AskedReply) (ids shallow unshallow : List ObjectId) (sai
   is : IsMove asked.kind move
   goes_on : reading.Reply asked parts.ShallowInfo (bare ids (shallow ++ coming (move ∷ [])) (unshallow ++ leaving (move ∷ []))) ≡ t
 
--- digits behind a word
+-- digits after a word
 record IdBehind (kind : Kind) (word said : List ℕ) (id : ObjectId) : Type 0 where
   digits : List ℕ
   text : said ≡ word ++ digits
@@ -79,7 +79,7 @@ leaving_more : (move : Move) (moves : List Move) → leaving (move ∷ []) ++ le
 leaving_more (Comes digits id) moves = refl
 leaving_more (Leaves digits id) moves = refl
 
--- moves behind those that were told before, and the pack behind them
+-- moves after those that were told before, and the pack after them
 record Moved (asked : AskedReply) (ids shallow unshallow : List ObjectId) (lines : List Line) (x : Told) : Type 0 where
   moves : List Move
   front : List Line
@@ -279,7 +279,7 @@ ready_never_ends asked reply Flush x = λ is. cc
 ready_never_ends asked reply Delim x = λ is. cc
 ready_never_ends asked reply End x = λ is. cc
 
--- words behind those that were told before, up to the flush, or up to `ready` and its delimiter
+-- words after those that were told before, up to the flush, or up to `ready` and its delimiter
 data Acked (asked : AskedReply) (ids : List ObjectId) (lines : List Line) (x : Told) : Type 0 where
   flushed : (words : List Acknowledgment) (front : List Line) → lines ≡ front ++ Flush ∷ [] → AreTexts (map acknowledgment_text words) front → All (IsAcknowledgment asked) words
       → x ≡ tolds.Reply (record no_reply { acknowledged = ids ++ acknowledged_by words; last = false }) → Acked asked ids lines x

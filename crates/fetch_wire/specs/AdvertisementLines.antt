@@ -23,11 +23,12 @@ joined (word ∷ others) = word ++ spaced others
 abbrev pub named_text : Option ObjectId → List ℕ → List ℕ
 named_text id name = id_text id ++ 32 ∷ name
 
--- what a tag peels to, under its name with `^{}` behind it
+-- what a tag peels to, under its name with `^{}` after it
 abbrev pub peel_texts : List ℕ → Option ObjectId → List (List ℕ)
 peel_texts name None = []
 peel_texts name (Some id) = named_text (Some id) (name ++ codes "^{}") ∷ []
 
+-- the texts of a reference: its own, and that of what its tag peels to
 abbrev pub advertised_texts : Ref → List (List ℕ)
 advertised_texts r = named_text (id_in r) (name_in r) ∷ peel_texts (name_in r) (peeled_in r)
 

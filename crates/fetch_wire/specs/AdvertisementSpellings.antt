@@ -19,7 +19,7 @@ some_words [] = []
 some_words ([] ∷ others) = some_words others
 some_words ((b ∷ bytes) ∷ others) = (b ∷ bytes) ∷ some_words others
 
--- a text is these words, with one space or more between each two, and maybe before and behind them
+-- a text is these words, with one space or more between each two, and maybe before and after them
 pub record AreWords (words : List (List ℕ)) (said : List ℕ) : Type 0 where
   pub all : List (List ℕ)
   pub text : said ≡ joined all
@@ -38,7 +38,7 @@ ArePeels kind name None said = said ≡ []
 ArePeels kind name (Some id) [] = ⊥
 ArePeels kind name (Some id) (text ∷ others) = IsNamed kind id (name ++ codes "^{}") text × (others ≡ [])
 
--- A text is this reference, with the one behind it that tells what its tag peels to: the name isn't empty and doesn't end
+-- A text is this reference, with the one after it that tells what its tag peels to: the name isn't empty and doesn't end
 -- in `^{}`, and the capabilities tell the target.
 pub record IsAdvertised (handshake : Handshake) (reference : Ref) (own : List ℕ) (behind : List (List ℕ)) : Type 0 where
   pub id : ObjectId
@@ -56,7 +56,7 @@ AreAdvertised handshake (r ∷ refs) [] = ⊥
 AreAdvertised handshake (r ∷ refs) (own ∷ said) =
     (behind : List (List ℕ)) × (others : List (List ℕ)) × (said ≡ behind ++ others) × IsAdvertised handshake r own behind × AreAdvertised handshake refs others
 
--- The first text without its capabilities, and the texts behind it: the references, or a name that is none with the null id.
+-- The first text without its capabilities, and the texts after it: the references, or a name that is none with the null id.
 abbrev pub AreReferences : Handshake → List Ref → List ℕ → List (List ℕ) → Type 0
 AreReferences handshake [] first others = ((id : ObjectId) × (is_null id ≡ true) × IsNamed handshake.object_hash id (codes "capabilities^{}") first) × (others ≡ [])
 AreReferences handshake (r ∷ refs) first others = AreAdvertised handshake (r ∷ refs) (first ∷ others)
@@ -66,7 +66,7 @@ abbrev pub AreShallow : Kind → List (List ℕ) → Type 0
 AreShallow kind [] = ⊤
 AreShallow kind (text ∷ texts) = ((digits : List ℕ) × (id : ObjectId) × (text ≡ codes "shallow " ++ digits) × Spells kind digits id) × AreShallow kind texts
 
--- `version 1`, which may be missing, the references, of which the first text tells the capabilities behind a NUL, commits of
+-- `version 1`, which may be missing, the references, of which the first text tells the capabilities after a NUL, commits of
 -- the border, and the flush. No name stands twice.
 pub record IsAdvertisement (handshake : Handshake) (refs : List Ref) (lines : List Line) : Type 0 where
   pub made : handshake ≡ handshake_1 handshake.capabilities

@@ -25,6 +25,7 @@ use Rattle.fetch_wire.specs.FetchReplies.{shallow_in}
 use Rattle.fetch_wire.specs.Stepping.{Step, goes, or_breaks}
 use Rattle.fetch_wire.specs.Words.{words}
 
+-- whether a text names version 1
 unfoldable pub is_version_1 : List ℕ → Bool
 is_version_1 text = bytes_eq text (codes "version 1")
 
@@ -33,7 +34,7 @@ abbrev pub with_word : List Capability → List ℕ → Option (List Capability)
 with_word found [] = Some found
 with_word found (c ∷ cs) = option_map (λ capability. found ++ capability ∷ []) (option_and_then if_known (capability_in (c ∷ cs)))
 
--- the capabilities of words, behind those before them
+-- the capabilities of words, after those before them
 abbrev pub with_words : List Capability → List (List ℕ) → Option (List Capability)
 with_words found [] = Some found
 with_words found (word ∷ others) = option_and_then (λ more. with_words more others) (with_word found word)
@@ -42,6 +43,7 @@ with_words found (word ∷ others) = option_and_then (λ more. with_words more o
 abbrev pub handshake_1 : List Capability → Handshake
 handshake_1 capabilities = record { version = V1; capabilities = capabilities; object_hash = fold hash_after Sha1 capabilities }
 
+-- whether a capability makes a name symbolic
 unfoldable pub is_symref : Capability → Bool
 is_symref capability = bytes_eq capability.name (codes "symref")
 
@@ -72,9 +74,11 @@ id_and_name kind text = option_and_then (λ parts. option_map (λ id. (id, parts
 unfoldable pub before_peel : List ℕ → Option (List ℕ)
 before_peel name = if bytes_eq (drop (length name - 3) name) (codes "^{}") then Some (take (length name - 3) name) else None
 
+-- whether a name is the one that stands for no reference
 unfoldable pub is_no_name : List ℕ → Bool
 is_no_name name = bytes_eq name (codes "capabilities^{}")
 
+-- whether an id is the null id
 unfoldable pub is_null : ObjectId → Bool
 is_null id = list_all (λ b. b == 0) (bytes_of id)
 
@@ -97,7 +101,7 @@ with_peel id name [] = None
 with_peel id name (r ∷ []) = if bytes_eq (name_in r) name then Some (peeled_to id r ∷ []) else None
 with_peel id name (r ∷ s ∷ others) = option_map (λ more. r ∷ more) (with_peel id name (s ∷ others))
 
--- a line `<id> <name>`, or `<id> <name>^{}` behind the line of that name
+-- a line `<id> <name>`, or `<id> <name>^{}` after the line of that name
 abbrev pub at_name : Handshake → List Ref → Advertised → ObjectId → List ℕ → Option (List ℕ) → Option Reading
 at_name handshake before next.Reference id name None = option_map (λ r. reading.Advertisement handshake (before ++ r ∷ []) next.Reference) (advertised handshake before id name)
 at_name handshake before next.Reference id name (Some short) = option_map (λ refs. reading.Advertisement handshake refs next.Peeled) (with_peel id short before)
@@ -105,6 +109,7 @@ at_name handshake before next.Peeled id name None = option_map (λ r. reading.Ad
 at_name handshake before next.Peeled id name (Some short) = None
 at_name handshake before next.Shallow id name short = None
 
+-- the reading after the text of a reference
 abbrev pub at_reference : Handshake → List Ref → Advertised → List ℕ → Option Reading
 at_reference handshake before allowed text =
     option_and_then (λ x. at_name handshake before allowed x.0 x.1 (before_peel x.1)) (id_and_name handshake.object_hash text)

@@ -26,9 +26,11 @@ at_greeting text =
     if is_version_2 text then goes (reading.Capabilities []) else (
     if is_version_1 text then goes reading.Version else or_breaks (at_first text) (λ s. goes s))
 
+-- the reading after a line of a greeting
 abbrev pub at_capability : List Capability → List ℕ → Step Reading Told
 at_capability before text = or_breaks (option_and_then if_known (capability_in text)) (λ c. goes (reading.Capabilities (before ++ c ∷ [])))
 
+-- the reading after a line of a listing
 abbrev pub at_listed : Kind → List Ref → List ℕ → Step Reading Told
 at_listed kind before text = or_breaks (option_and_then (if_new before) (ref_in kind text)) (λ r. goes (reading.Listing kind (before ++ r ∷ [])))
 
@@ -47,11 +49,11 @@ step_of (reading.Advertisement handshake before next) line = by_line (ends (told
 step_of (reading.Listing kind before) line = by_line (ends (told.Listing before)) breaks (at_listed kind before) line
 step_of (reading.Reply asked part reply) line = reply_step asked part reply line
 
--- What bytes tell, read on from what was told before this place, and what is behind.
+-- What bytes tell, read on from what was told before this place, and what follows.
 abbrev pub told_from : ℕ → Reading → ℕ → List ℕ → Result (Told × List ℕ) Fault
 told_from bound reading place bytes = read_by step_of bound reading place bytes
 
--- What bytes tell of the reply that is awaited, of bounded length, and what is behind the reply; or else the first
+-- What bytes tell of the reply that is awaited, of bounded length, and what follows the reply; or else the first
 -- trouble: they end within it, a line breaks the grammar, its digits pass the bound, or the server says that it fails.
 abbrev pub told_at : ℕ → Await → List ℕ → Result (Told × List ℕ) Fault
 told_at bound awaited bytes = told_from bound (start_of awaited) 0 bytes

@@ -22,6 +22,7 @@ pub data Band : Type 0 where
   Piece : List ℕ → Band
   Progress : List ℕ → Band
 
+-- a band as a line
 abbrev pub band_line : Band → Line
 band_line (Piece bytes) = Payload (1 ∷ bytes)
 band_line (Progress text) = Payload (2 ∷ text)
@@ -54,6 +55,7 @@ first_tells step s t line (next ∷ lines) x goes_on tells = (t, goes_on, tells)
 abbrev pub behind : FetchReply → List ℕ → List (List ℕ) → FetchReply
 behind reply pack progress = record reply { pack = Some pack; progress = progress }
 
+-- Bands tell the pack and the progress texts that they have, after those that were read.
 pub bands_tell : (asked : AskedReply) (reply : FetchReply) (pack : List ℕ) (progress : List (List ℕ)) (bands : List Band)
     → Tells step_of (reading.Reply asked Bands (behind reply pack progress)) (map band_line bands ++ Flush ∷ []) (told.Reply (behind reply (pack ++ concat (pieces_of bands)) (progress ++ texts_of bands)))
 unfolding step_of

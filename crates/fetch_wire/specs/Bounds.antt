@@ -11,7 +11,7 @@ Moves step s [] t = s ≡ t
 Moves {S} step s (line ∷ lines) t = (u : S) × (step s line ≡ goes u) × Moves step u lines t
 
 -- The next line's four digits write a number that a line may have, and by it the line, which has four bytes at least,
--- ends behind the last byte that a reply may have.
+-- ends after the last byte that a reply may have.
 pub record PassesBound (bound place : ℕ) (bytes : List ℕ) : Type 0 where
   pub digits : List ℕ
   pub behind : List ℕ
@@ -23,7 +23,7 @@ pub record PassesBound (bound place : ℕ) (bytes : List ℕ) : Type 0 where
   pub fits : count ≤ 65520
   pub far : bound < place + max count 4
 
--- Lines move a reading on, and the digits of the line behind them pass the bound.
+-- Lines move a reading on, and the digits of the line after them pass the bound.
 abbrev pub IsTooLong : {S T : Type 0} → (S → Line → Step S T) → ℕ → S → List ℕ → Type 0
 IsTooLong {S} step bound s bytes =
     (lines : List Line) × (behind : List ℕ) × (t : S) × Writes bound 0 lines behind bytes × Moves step s lines t × PassesBound bound (sum_by line_len lines) behind

@@ -1,7 +1,7 @@
 -- Bytes that are cut into pieces.
 use Rattle.std.specs.Prelude.{ℕ, zero, suc, List, [], ◌∷◌, length, take, drop}
 
--- at most so many pieces
+-- at most that many pieces
 unfoldable pub pieces_within : ℕ → ℕ → List ℕ → List (List ℕ)
 pieces_within zero size bytes = []
 pieces_within (suc n) size [] = []

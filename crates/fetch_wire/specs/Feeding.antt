@@ -16,7 +16,7 @@ pub record Feeding : Type 0 where
   pub place : ℕ
   pub pending : List ℕ
 
--- the same, with more bytes behind
+-- the same, with more bytes after
 abbrev pub fed : Feeding → List ℕ → Feeding
 fed feeding more = record feeding { pending = feeding.pending ++ more }
 
@@ -32,6 +32,7 @@ abbrev pub left_by : Feeding → Result (Line × List ℕ) Trouble → Feeding
 left_by feeding (Ok x) = record feeding { place = feeding.place + line_len x.0; pending = x.1 }
 left_by feeding (Err trouble) = feeding
 
+-- the line that comes next, or why there is none
 abbrev pub found_in : Feeding → Result (Line × List ℕ) Trouble
 found_in feeding = line_at feeding.bound feeding.place feeding.pending
 
@@ -39,6 +40,7 @@ found_in feeding = line_at feeding.bound feeding.place feeding.pending
 abbrev pub next_in : Feeding → Result (Option Line) Trouble
 next_in feeding = need_in (found_in feeding)
 
+-- the reader after its next line
 abbrev pub behind_next : Feeding → Feeding
 behind_next feeding = left_by feeding (found_in feeding)
 

@@ -13,7 +13,7 @@ stays_by feeding more (Err (Short place)) longer h settled = absurd (settled pla
 stays_by feeding more (Err (Broken place)) longer h settled = rw (h settled) (refl, refl)
 stays_by feeding more (Err TooLong) longer h settled = rw (h settled) (refl, refl)
 
--- What is given before more bytes are fed is what is given behind, and the same is left.
+-- What is given before more bytes are fed is what is given after, and the same is left.
 pub next_stays : (feeding : Feeding) (more : List ℕ) → IsSettled (found_in feeding)
     → (next_in (fed feeding more) ≡ next_in feeding) × (behind_next (fed feeding more) ≡ fed (behind_next feeding) more)
 next_stays feeding more settled = stays_by feeding more (found_in feeding) (found_in (fed feeding more)) (line_at-more feeding.bound feeding.place feeding.pending more) settled

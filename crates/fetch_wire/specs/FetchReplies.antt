@@ -24,18 +24,23 @@ use Rattle.fetch_wire.specs.Steps.{by_line, by_text}
 abbrev pub no_reply : FetchReply
 no_reply = record { acknowledged = []; shallow = []; unshallow = []; pack = None; progress = []; last = true }
 
+-- whether a text begins the acknowledgments
 unfoldable pub is_acknowledgments : List ℕ → Bool
 is_acknowledgments text = bytes_eq text (codes "acknowledgments")
 
+-- whether a text acknowledges nothing
 unfoldable pub is_nak : List ℕ → Bool
 is_nak text = bytes_eq text (codes "NAK")
 
+-- whether a text says that the pack follows
 unfoldable pub is_ready : List ℕ → Bool
 is_ready text = bytes_eq text (codes "ready")
 
+-- whether a text begins the pack
 unfoldable pub is_packfile : List ℕ → Bool
 is_packfile text = bytes_eq text (codes "packfile")
 
+-- whether a text begins the moves of the border
 unfoldable pub is_shallow_info : List ℕ → Bool
 is_shallow_info text = bytes_eq text (codes "shallow-info")
 
@@ -43,6 +48,7 @@ is_shallow_info text = bytes_eq text (codes "shallow-info")
 abbrev pub has_id : ObjectId → List ObjectId → Bool
 has_id id ids = list_any (λ x. bytes_eq (bytes_of x) (bytes_of id)) ids
 
+-- an id, where it is one of the haves
 abbrev pub if_have : List ObjectId → ObjectId → Option ObjectId
 if_have haves id = if has_id id haves then Some id else None
 
@@ -79,7 +85,7 @@ at_acknowledgment asked reply text =
     if is_ready text then goes (reading.Reply asked Ready reply) else or_breaks (acknowledged_in asked text)
     (λ id. goes (reading.Reply asked Acknowledgments (record reply { acknowledged = reply.acknowledged ++ id ∷ [] }))))
 
--- behind `ready`: the delimiter alone
+-- after `ready`: the delimiter alone
 abbrev pub behind_ready : AskedReply → FetchReply → Line → Step Reading Told
 behind_ready asked reply (Payload payload) = breaks
 behind_ready asked reply Flush = breaks
@@ -92,7 +98,7 @@ at_change asked reply (Some id) unshallow = goes (reading.Reply asked ShallowInf
 at_change asked reply None (Some id) = goes (reading.Reply asked ShallowInfo (record reply { unshallow = reply.unshallow ++ id ∷ [] }))
 at_change asked reply None None = breaks
 
--- the pack with more bytes behind it
+-- the pack with more bytes after it
 abbrev pub with_bytes : Option (List ℕ) → List ℕ → Option (List ℕ)
 with_bytes None bytes = Some bytes
 with_bytes (Some pack) bytes = Some (pack ++ bytes)
@@ -104,6 +110,7 @@ by_band asked reply band bytes =
     if band == 2 then goes (reading.Reply asked Bands (record reply { progress = reply.progress ++ bytes ∷ [] })) else (
     if band == 3 then says bytes else breaks))
 
+-- the reading after a line of the pack
 abbrev pub at_band : AskedReply → FetchReply → Line → Step Reading Told
 at_band asked reply (Payload (band ∷ bytes)) = by_band asked reply band bytes
 at_band asked reply (Payload []) = breaks

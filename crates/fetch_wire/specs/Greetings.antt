@@ -21,6 +21,7 @@ abbrev pub key_and_value : List ℕ → Option (List ℕ × List ℕ) → Option
 key_and_value text None = if_key text None
 key_and_value text (Some parts) = if_key parts.0 (Some parts.1)
 
+-- the capability of a text, where its key isn't empty
 unfoldable pub capability_in : List ℕ → Option Capability
 capability_in text = key_and_value text (split_first 61 text)
 
@@ -28,6 +29,7 @@ capability_in text = key_and_value text (split_first 61 text)
 unfoldable pub format_in : List ℕ → Option Kind
 format_in text = if bytes_eq text (codes "sha1") then Some Sha1 else (if bytes_eq text (codes "sha256") then Some Sha256 else None)
 
+-- whether a capability names the hash
 unfoldable pub is_format : Capability → Bool
 is_format capability = bytes_eq capability.name (codes "object-format")
 
@@ -39,6 +41,7 @@ format_of capability = option_and_then format_in capability.value
 abbrev pub is_known : Capability → Bool
 is_known capability = not (is_format capability) || is_some (format_of capability)
 
+-- a capability, unless it names a hash that is unknown
 abbrev pub if_known : Capability → Option Capability
 if_known capability = if is_known capability then Some capability else None
 
@@ -55,6 +58,7 @@ hash_after kind capability = if is_format capability then option_map_or (λ k. k
 abbrev pub handshake_of : List Capability → Handshake
 handshake_of capabilities = record { version = V2; capabilities = capabilities; object_hash = fold hash_after Sha1 capabilities }
 
+-- whether a text names version 2
 unfoldable pub is_version_2 : List ℕ → Bool
 is_version_2 text = bytes_eq text (codes "version 2")
 

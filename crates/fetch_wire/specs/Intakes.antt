@@ -32,9 +32,11 @@ is_read bound place bytes (Some reading) = is_short_at place (told_from bound re
 abbrev pub resting : List ℕ → Intake → Intake
 resting bytes i = record { bound = i.bound; place = 0; pending = bytes; reading = None }
 
+-- an intake that begins to await a reply
 abbrev pub awaiting : Await → Intake → Intake
 awaiting await i = record i { place = 0; reading = Some (start_of await) }
 
+-- an intake with more bytes
 abbrev pub taking : List ℕ → Intake → Intake
 taking piece i = record i { pending = i.pending ++ piece }
 

@@ -104,6 +104,7 @@ not_chosen : (place : ℕ) (b : Bool) (x : Line × List ℕ) → short_or_broken
 not_chosen place true x is = cc
 not_chosen place false x is = cc
 
+-- What is read as a line is one.
 pub line_at-is : (bound place : ℕ) (bytes rest : List ℕ) (line : Line) → line_at bound place bytes ≡ Ok (line, rest) → IsLine bound place line rest bytes
 unfolding line_at
 line_at-is bound place (a ∷ b ∷ c ∷ d ∷ bytes) rest line is = announced-is bound place (number_in (a ∷ b ∷ c ∷ d ∷ [])) bytes rest (a ∷ b ∷ c ∷ d ∷ []) line refl refl is

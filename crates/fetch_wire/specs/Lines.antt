@@ -10,6 +10,7 @@ use Rattle.fetch_wire.specs.declared.lines.line.Line.{Line}
 use Rattle.fetch_wire.specs.declared.lines.line.Line.TheVariants.{Payload, Flush, Delim, End}
 
 infixl 10 ◌>>=◌
+-- one reading after the other, unless the first is refused
 abbrev pub ◌>>=◌ : {A B E : Type 0} → Result A E → (A → Result B E) → Result B E
 (Ok x) >>= f = f x
 (Err e) >>= f = Err e
@@ -27,7 +28,7 @@ number_in digits = option_map (λ bytes. slice_index bytes 0 * 256 + slice_index
 abbrev pub is_no_line : ℕ → Bool
 is_no_line count = count == 3 || nat_lt 65520 count
 
--- the line that a number announces which counts the digits and the payload, and what is behind the line
+-- the line that a number announces which counts the digits and the payload, and what follows the line
 abbrev pub line_counted : ℕ → ℕ → List ℕ → Result (Line × List ℕ) Trouble
 line_counted zero place rest = Ok (Flush, rest)
 line_counted (suc zero) place rest = Ok (Delim, rest)
@@ -43,7 +44,7 @@ announced bound place (Some count) rest =
     if is_no_line count then Err (Broken place) else (
     if nat_lt bound (place + max count 4) then Err TooLong else line_counted count place rest)
 
--- The line that the bytes begin with, and what is behind it. Fewer than four bytes may yet become digits.
+-- The line that the bytes begin with, and what follows it. Fewer than four bytes may yet become digits.
 unfoldable pub line_at : ℕ → ℕ → List ℕ → Result (Line × List ℕ) Trouble
 line_at bound place (a ∷ b ∷ c ∷ d ∷ rest) = announced bound place (number_in (a ∷ b ∷ c ∷ d ∷ [])) rest
 line_at bound place bytes = if list_all is_hex_digit bytes then Err (Short place) else Err (Broken place)

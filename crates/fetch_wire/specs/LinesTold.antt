@@ -19,6 +19,7 @@ Tells step s [] told = ⊥
 Tells step s (line ∷ []) told = step s line ≡ ends told
 Tells step s (line ∷ next ∷ lines) told = (t : _) × (step s line ≡ goes t) × Tells step t (next ∷ lines) told
 
+-- Lines that tell something are told by the bytes that write them.
 pub lines_tell : {S T : Type 0} (step : S → Line → Step S T) (bound place : ℕ) (s : S) (lines : List Line) (rest bytes : List ℕ) (told : T) → Writes bound place lines rest bytes → Tells step s lines told → read_by step bound s place bytes ≡ Ok (told, rest)
 lines_tell step bound place s [] rest bytes told writes tells = absurd tells
 lines_tell step bound place s (line ∷ []) rest bytes told (behind, is, same) tells =

@@ -20,6 +20,7 @@ use Rattle.fetch_wire.specs.Words.{words}
 abbrev pub Attributes : Type 0
 Attributes = Option (List ℕ) × Option ObjectId
 
+-- no attribute was met
 abbrev pub no_attributes : Attributes
 no_attributes = (None, None)
 
@@ -28,6 +29,7 @@ abbrev pub with_target : Attributes → List ℕ → Option Attributes
 with_target found [] = None
 with_target found (c ∷ cs) = Some (Some (c ∷ cs), found.1)
 
+-- the attributes with what a tag peels to
 abbrev pub with_peeled : Attributes → ObjectId → Attributes
 with_peeled found id = (found.0, Some id)
 
@@ -68,6 +70,7 @@ named_by kind id ((c ∷ cs) ∷ attributes) = option_and_then (ref_with (c ∷ 
 abbrev pub ref_in : Kind → List ℕ → Option Ref
 ref_in kind text = option_and_then (λ parts. option_and_then (λ id. named_by kind id (words parts.1)) (id_or_unborn kind parts.0)) (split_first 32 text)
 
+-- whether a reference of this name was listed before
 abbrev pub is_listed : List Ref → Ref → Bool
 is_listed before reference = list_any (λ r. bytes_eq (name_in r) (name_in reference)) before
 

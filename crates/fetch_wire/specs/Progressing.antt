@@ -26,7 +26,7 @@ pub record IsShortBehind (before now : Feeding) (reading next : Reading) : Type 
   pub told : (more : List ℕ) → told_of now next more ≡ told_of before reading more
   pub short : told_of now next [] ≡ Err (Short now.place)
 
--- The reply is whole, and the reader has what stands behind it.
+-- The reply is whole, and the reader has what follows it.
 pub record IsWholeBehind (before now : Feeding) (reading : Reading) (t : Told) : Type 0 where
   pub bound : now.bound ≡ before.bound
   pub told : (more : List ℕ) → told_of before reading more ≡ Ok (t, now.pending ++ more)
@@ -37,7 +37,7 @@ pub record IsRefusedBehind (before now : Feeding) (reading : Reading) (fault : F
   pub told : (more : List ℕ) → told_of before reading more ≡ Err fault
   pub lasting : is_lasting fault ≡ true
 
--- how far a reply was read, and what the reader has behind it
+-- how far a reply was read, and what the reader has after it
 abbrev pub Goes : Feeding → Reading → Feeding → Progress → Type 0
 Goes before reading now (On next) = IsShortBehind before now reading next
 Goes before reading now (Whole t) = IsWholeBehind before now reading t
@@ -59,16 +59,18 @@ pub record ReplyReading : Type 0 where
   pub pending : List ℕ
   pub progress : Option Progress
 
+-- what the bytes tell from this progress on
 abbrev pub tells_by : ℕ → ℕ → List ℕ → Option Progress → Option (Result (Told × List ℕ) Fault)
 tells_by bound place bytes None = None
 tells_by bound place bytes (Some (On reading)) = Some (told_from bound reading place bytes)
 tells_by bound place bytes (Some (Whole t)) = Some (Ok (t, bytes))
 tells_by bound place bytes (Some (Refused fault)) = Some (Err fault)
 
--- What all that was fed tells with these bytes behind it.
+-- What all that was fed tells with these bytes after it.
 abbrev pub tells : ReplyReading → List ℕ → Option (Result (Told × List ℕ) Fault)
 tells r more = tells_by r.bound r.place (r.pending ++ more) r.progress
 
+-- whether a reply ends at this place within a line
 abbrev pub is_short_at : ℕ → Result (Told × List ℕ) Fault → Bool
 is_short_at place (Ok x) = false
 is_short_at place (Err (Short p)) = p == place

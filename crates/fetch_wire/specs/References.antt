@@ -7,6 +7,7 @@ use Rattle.fetch_wire.specs.declared.listings.reference.Ref.TheVariants.{Direct,
 use Rattle.fetch_wire.specs.declared.listings.reference.Source.{Source}
 use Rattle.fetch_wire.specs.declared.listings.reference.Source.TheVariants as sources
 
+-- the name of a reference
 abbrev pub name_in : Ref → List ℕ
 name_in (Direct name object) = name
 name_in (Symbolic name target tag object) = name
@@ -36,6 +37,7 @@ target_in (Symbolic name target tag object) = Some target
 target_in (Peeled name tag object) = None
 target_in (Unborn name target) = Some target
 
+-- the id of a source, of a tag before what it peels to
 abbrev pub source_id : Source → Option ObjectId
 source_id (sources.ObjectId id) = Some id
 source_id (sources.Ref reference) = id_in reference
@@ -45,10 +47,12 @@ abbrev pub source_peeled : Source → Option ObjectId
 source_peeled (sources.ObjectId id) = Some id
 source_peeled (sources.Ref reference) = option_or (peeled_in reference) (id_in reference)
 
+-- the name of a source that is a reference
 abbrev pub source_name : Source → Option (List ℕ)
 source_name (sources.ObjectId id) = None
 source_name (sources.Ref reference) = Some (name_in reference)
 
+-- the name that a source names
 abbrev pub source_target : Source → Option (List ℕ)
 source_target (sources.ObjectId id) = None
 source_target (sources.Ref reference) = target_in reference

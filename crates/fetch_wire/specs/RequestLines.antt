@@ -22,7 +22,7 @@ is_plain_pack line = bytes_eq line plain_pack || bytes_eq line plain_pack_2
 abbrev pub pack_place : List (List ℕ) → ℕ
 pack_place lines = unwrap_or (position is_plain_pack lines) (length lines)
 
--- the delimiter before the line `plain-pack` or `plain-pack-2`, and the haves, `done` and the flush behind all
+-- the delimiter before the line `plain-pack` or `plain-pack-2`, and the haves, `done` and the flush after all
 unfoldable pub request_lines : Request → List Line
 request_lines r =
     let place = pack_place r.lines in

@@ -13,11 +13,12 @@ use Rattle.fetch_wire.specs.RequestWords.{agent_word, agent_is, format_word, for
 abbrev pub text_line : List ℕ → Line
 text_line text = Payload (text ++ 10 ∷ [])
 
--- `name` or `name=value`, with a NUL behind it
+-- `name` or `name=value`, with a NUL after it
 abbrev pub parameter_text : List ℕ × Option (List ℕ) → List ℕ
 parameter_text (name, None) = name ++ 0 ∷ []
 parameter_text (name, Some value) = name ++ 61 ∷ value ++ 0 ∷ []
 
+-- parameters as they are sent
 abbrev pub parameters_text : List (List ℕ × Option (List ℕ)) → List ℕ
 parameters_text parameters = flat_map parameter_text parameters
 
@@ -37,6 +38,7 @@ sent texts = map text_line texts
 abbrev pub when : Bool → List ℕ → List (List ℕ)
 when condition text = if condition then text ∷ [] else []
 
+-- Git's name of a hash
 unfoldable pub kind_text : Kind → List ℕ
 kind_text Sha1 = codes "sha1"
 kind_text Sha256 = codes "sha256"
@@ -47,6 +49,7 @@ head_texts handshake agent =
     when (offers agent_word handshake.capabilities) (agent_is ++ agent_text agent)
     ++ when (offers format_word handshake.capabilities) (format_is ++ kind_text handshake.object_hash)
 
+-- the command of a listing request
 unfoldable pub listing_word : List ℕ
 listing_word = codes "command=ls-refs"
 
@@ -55,6 +58,7 @@ unfoldable pub detail_texts : Handshake → List (List ℕ)
 detail_texts handshake =
     codes "symrefs" ∷ codes "peel" ∷ when (has_word (codes "unborn") (value_of (codes "ls-refs") handshake.capabilities)) (codes "unborn")
 
+-- the line of a prefix
 unfoldable pub prefix_text : List ℕ → List ℕ
 prefix_text prefix = codes "ref-prefix " ++ prefix
 

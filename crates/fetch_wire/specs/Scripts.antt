@@ -23,7 +23,7 @@ pub record Asking : Type 0 where
   pub calls : CallList
   pub said_yes : ℕ
 
--- The call is listed that comes so many calls after the next one.
+-- The call is listed that comes that many calls after the next one.
 abbrev pub IsListed : CallList → ℕ → Type 0
 IsListed calls n = Contains calls.listed (calls.next + n) × (calls.next + n < 2 ^ 64 - 1)
 
@@ -38,7 +38,7 @@ abbrev pub first_of : List (List ℕ) → List ℕ
 first_of [] = []
 first_of (piece ∷ pieces) = piece
 
--- the pieces without so many bytes at the front of the first
+-- the pieces without that many bytes at the front of the first
 abbrev pub without : ℕ → List (List ℕ) → List (List ℕ)
 without n [] = []
 without n (piece ∷ pieces) = drop n piece ∷ pieces

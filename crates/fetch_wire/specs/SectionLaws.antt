@@ -17,7 +17,7 @@ use Rattle.fetch_wire.specs.declared.lines.section.Trouble.TheVariants.{Short, B
 use Rattle.fetch_wire.specs.declared.lines.line.Line.{Line}
 use Rattle.fetch_wire.specs.Lines.{◌>>=◌, is_no_line, line_counted, announced, number_in, line_at}
 
--- more bytes behind what a reading found
+-- more bytes after what a reading found
 abbrev pub with_more : {A : Type 0} → Result (A × List ℕ) Trouble → List ℕ → Result (A × List ℕ) Trouble
 with_more found more = found >>= λ x. Ok (x.0, x.1 ++ more)
 
@@ -65,7 +65,7 @@ unfolding number_in
 no_number-by_digit digits wrong =
     no_number (decode_sized digits 2) (λ ok. let all = list_all-from_AllPass is_hex_digit digits ((IsOk-decode_sized digits 2).0 ok).1 in cc)
 
--- a front that isn't all digits
+-- a prefix that isn't all digits
 wrong_front : (bytes more : List ℕ) → list_all is_hex_digit bytes ≡ false → list_all is_hex_digit (bytes ++ more) ≡ false
 wrong_front bytes more wrong = list_all-append is_hex_digit bytes more ∙ rw wrong refl
 
@@ -74,6 +74,7 @@ wrong_four bytes more lt wrong =
     let k : 4 ≡ length bytes + (4 - length bytes) = omega arith in
     rw (k, take-append-add bytes more (4 - length bytes)) (wrong_front bytes (take (4 - length bytes) more) wrong)
 
+-- bytes too few for a line, or none that begin one
 abbrev pub short_or_broken : ℕ → Bool → Result (Line × List ℕ) Trouble
 short_or_broken place b = if b then Err (Short place) else Err (Broken place)
 
@@ -101,6 +102,7 @@ short_line : (bound place : ℕ) (bytes more : List ℕ) → length bytes < 4 �
 short_line bound place bytes more lt true all is settled = absurd (settled place is)
 short_line bound place bytes more lt false wrong is settled = rw is (broken-more bound place bytes more (bytes ++ more) refl lt wrong)
 
+-- A line that was read, or refused for good, is the same with more bytes after it.
 pub line_at-more : (bound place : ℕ) (bytes more : List ℕ) → IsSettled (line_at bound place bytes) → line_at bound place (bytes ++ more) ≡ with_more (line_at bound place bytes) more
 unfolding line_at
 line_at-more bound place (a ∷ b ∷ c ∷ d ∷ rest) more settled = announced-more bound place (number_in (a ∷ b ∷ c ∷ d ∷ [])) rest more settled

@@ -27,6 +27,7 @@ abbrev pub with_value : List ℕ → Option (List ℕ) → List ℕ
 with_value name None = name
 with_value name (Some value) = name ++ 61 ∷ value
 
+-- a capability as a server writes it
 abbrev pub capability_text : Capability → List ℕ
 capability_text c = with_value c.name c.value
 
@@ -49,10 +50,12 @@ abbrev pub id_text : Option ObjectId → List ℕ
 id_text None = codes "unborn"
 id_text (Some id) = encode_lower (bytes_of id)
 
+-- the attribute of a name that is named
 abbrev pub target_words : Option (List ℕ) → List (List ℕ)
 target_words None = []
 target_words (Some target) = (codes "symref-target:" ++ target) ∷ []
 
+-- the attribute of what a tag peels to
 abbrev pub peeled_words : Option ObjectId → List (List ℕ)
 peeled_words None = []
 peeled_words (Some id) = (codes "peeled:" ++ encode_lower (bytes_of id)) ∷ []
@@ -94,7 +97,7 @@ abbrev pub acknowledged_texts : List ObjectId → List (List ℕ)
 acknowledged_texts [] = codes "NAK" ∷ []
 acknowledged_texts (id ∷ ids) = id_lines (codes "ACK ") (id ∷ ids)
 
--- a reply behind which more haves may come
+-- a reply after which more haves may come
 abbrev pub round_lines : List ObjectId → List Line
 round_lines ids = sent (codes "acknowledgments" ∷ acknowledged_texts ids) ++ Flush ∷ []
 
@@ -127,6 +130,7 @@ change_lines (Some change) =
 abbrev pub last_lines : Option BorderChange → List Band → List Line
 last_lines change bands = change_lines change ++ pack_lines bands
 
+-- a reply with the moves of the border, where there are any
 abbrev pub with_change : Option BorderChange → FetchReply → FetchReply
 with_change None reply = reply
 with_change (Some change) reply = record reply { shallow = change.shallow; unshallow = change.unshallow }

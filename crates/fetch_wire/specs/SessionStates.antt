@@ -75,6 +75,7 @@ keeps (told.Advertisement h refs) s = record s { handshake = Some h; refs = Some
 keeps (told.Listing refs) s = record s { refs = Some refs }
 keeps (told.Reply reply) s = record s { reply = Some reply }
 
+-- the capability that lists references
 unfoldable pub listing_feature : List ℕ
 listing_feature = codes "ls-refs"
 
@@ -90,7 +91,7 @@ asks_listing h s =
     let lines = listing_lines h s.agent s.prefixes in
     listing_by (first_too_long lines) (offers listing_feature h.capabilities) h lines s
 
--- behind a greeting of version 2 the references are asked for
+-- after a greeting of version 2 the references are asked for
 abbrev pub asks : Told → SessionState → SessionState
 asks (told.Greeting h) s = asks_listing h s
 asks (told.Advertisement h refs) s = s
@@ -116,15 +117,16 @@ after_told asking s (Some (Err (faults.Said text))) = failing (errors.ServerErro
 abbrev pub read_one : (Told → SessionState → SessionState) → SessionState → SessionState
 read_one asking s = after_told asking s (told_with s.intake [])
 
--- Reads on as far as replies are whole: behind a greeting the listing, and behind each other reply none is awaited.
+-- Reads on as far as replies are whole: after a greeting the listing, and after each other reply none is awaited.
 abbrev pub read_on : SessionState → SessionState
 read_on s = read_one rests (read_one asks s)
 
+-- a session that is fed a piece, unless it refuses
 abbrev pub fed_by : Option WireError → SessionState → List ℕ → SessionState
 fed_by (Some e) s piece = s
 fed_by None s piece = read_on (record s { intake = taking piece s.intake })
 
--- More bytes came. Behind a trouble none is read.
+-- More bytes came. After a trouble none is read.
 abbrev pub fed : SessionState → List ℕ → SessionState
 fed s piece = fed_by s.trouble s piece
 
@@ -139,6 +141,7 @@ pub record IsAlike (a b : SessionState) : Type 0 where
 abbrev pub is_all_sent : SessionState → Bool
 is_all_sent s = length s.outgoing == 0
 
+-- a trouble, once all is sent
 abbrev pub if_told : Bool → Option WireError → Option WireError
 if_told true trouble = trouble
 if_told false trouble = None
@@ -148,6 +151,7 @@ if_told false trouble = None
 abbrev pub refusal_of : SessionState → Option WireError
 refusal_of s = if_told (s.refused || is_all_sent s) s.trouble
 
+-- whose turn it is
 abbrev pub turn_by : Option WireError → Bool → Bool → Turn
 turn_by (Some e) all_sent awaits = turns.Failed
 turn_by None false awaits = turns.Send
@@ -158,17 +162,18 @@ turn_by None true false = turns.Idle
 abbrev pub turn_of : SessionState → Turn
 turn_of s = turn_by (refusal_of s) (is_all_sent s) (is_some s.intake.reading)
 
--- What was fed behind the replies read is a proper prefix of the awaited one, and no digits in it pass the bound.
+-- What was fed after the replies read is a proper prefix of the awaited one, and no digits in it pass the bound.
 abbrev pub IsAwaiting : SessionState → Type 0
 IsAwaiting s = (place : ℕ) × (told_with s.intake [] ≡ Some (Err (faults.Short place)))
 
--- want of memory
+-- out of memory
 abbrev pub is_memory : WireError → Bool
 is_memory errors.NoMemory = true
 is_memory _ = false
 
 -- ---- calls
 
+-- a session after the peer's bytes ended
 abbrev pub after_end : SessionState → Option WireError → Option (Result (Told × List ℕ) Fault) → SessionState
 after_end s (Some e) found = record s { refused = true }
 after_end s None None = s
@@ -179,6 +184,7 @@ after_end s None (Some (Err fault)) = record (failing (error_of s.intake.bound f
 abbrev pub ended : SessionState → SessionState
 ended s = after_end s s.trouble (told_with s.intake [])
 
+-- the hash of a greeting, SHA-1 before it was read
 abbrev pub kind_of : Option Handshake → Kind
 kind_of None = Sha1
 kind_of (Some h) = h.object_hash
@@ -200,7 +206,7 @@ stored found.Nothing s = s
 stored (found.Told t) s = keeps t s
 stored (found.Fault fault) s = record s { trouble = Some (error_of s.intake.bound fault) }
 
--- and behind a greeting the references are asked for
+-- and after a greeting the references are asked for
 abbrev pub Takes : Found → SessionState → SessionState → Type 0
 Takes found.Nothing s now = now ≡ s
 Takes (found.Told (told.Greeting h)) s now = IsAlike now (read_one rests (asks_listing h (keeps (told.Greeting h) s)))

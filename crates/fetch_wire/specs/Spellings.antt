@@ -23,7 +23,7 @@ use Rattle.fetch_wire.specs.Texts.{is_error, without_lf}
 
 -- ---- texts and ids
 
--- A line is this text, with a line feed behind it or without one. It isn't that of a server that fails.
+-- A line is this text, with a line feed after it or without one. It isn't that of a server that fails.
 pub record IsText (said : List ℕ) (line : Line) : Type 0 where
   pub payload : List ℕ
   pub is : line ≡ Payload payload
@@ -37,7 +37,7 @@ AreTexts [] (line ∷ lines) = ⊥
 AreTexts (text ∷ texts) [] = ⊥
 AreTexts (text ∷ texts) (line ∷ lines) = IsText text line × AreTexts texts lines
 
--- lines are these texts, and a flush behind them
+-- lines are these texts, and a flush after them
 abbrev pub AreFlushed : List (List ℕ) → List Line → Type 0
 AreFlushed texts lines = (front : List Line) × (lines ≡ front ++ Flush ∷ []) × AreTexts texts front
 
@@ -55,12 +55,13 @@ pub record IsGreeting (handshake : Handshake) (lines : List Line) : Type 0 where
 
 -- ---- a listing
 
--- what stands behind a name: a target, digits of the id that a tag peels to, or a word that tells nothing
+-- what follows a name: a target, digits of the id that a tag peels to, or a word that tells nothing
 pub data Attribute : Type 0 where
   Target : List ℕ → Attribute
   Peels : List ℕ → ObjectId → Attribute
   Other : List ℕ → Attribute
 
+-- an attribute as it is written
 abbrev pub attribute_text : Attribute → List ℕ
 attribute_text (Target target) = codes "symref-target:" ++ target
 attribute_text (Peels digits id) = codes "peeled:" ++ digits
@@ -124,6 +125,7 @@ pub data Acknowledgment : Type 0 where
   Nak : Acknowledgment
   Ack : List ℕ → ObjectId → Acknowledgment
 
+-- an acknowledgment as it is written
 abbrev pub acknowledgment_text : Acknowledgment → List ℕ
 acknowledgment_text Nak = codes "NAK"
 acknowledgment_text (Ack digits id) = codes "ACK " ++ digits
@@ -133,6 +135,7 @@ abbrev pub IsAcknowledgment : AskedReply → Acknowledgment → Type 0
 IsAcknowledgment asked Nak = ⊤
 IsAcknowledgment asked (Ack digits id) = Spells asked.kind digits id × (has_id id asked.haves ≡ true)
 
+-- the ids that are acknowledged, in order
 abbrev pub acknowledged_by : List Acknowledgment → List ObjectId
 acknowledged_by [] = []
 acknowledged_by (Nak ∷ others) = acknowledged_by others
@@ -143,19 +146,23 @@ pub data Move : Type 0 where
   Comes : List ℕ → ObjectId → Move
   Leaves : List ℕ → ObjectId → Move
 
+-- a move of the border as it is written
 abbrev pub move_text : Move → List ℕ
 move_text (Comes digits id) = codes "shallow " ++ digits
 move_text (Leaves digits id) = codes "unshallow " ++ digits
 
+-- The digits of a move spell its id.
 abbrev pub IsMove : Kind → Move → Type 0
 IsMove kind (Comes digits id) = Spells kind digits id
 IsMove kind (Leaves digits id) = Spells kind digits id
 
+-- the commits that join the border, in order
 abbrev pub coming : List Move → List ObjectId
 coming [] = []
 coming (Comes digits id ∷ others) = id ∷ coming others
 coming (Leaves digits id ∷ others) = coming others
 
+-- the commits that leave the border, in order
 abbrev pub leaving : List Move → List ObjectId
 leaving [] = []
 leaving (Comes digits id ∷ others) = leaving others
@@ -186,7 +193,7 @@ all_moves (Some moves) = moves
 abbrev pub pack_in : Bool → List Band → Option (List ℕ)
 pack_in reads bands = if reads then Some (concat (pieces_of bands)) else None
 
--- The rest of a reply behind these acknowledgments: the moves of the border, and the pack.
+-- The rest of a reply after these acknowledgments: the moves of the border, and the pack.
 pub record IsRest (asked : AskedReply) (acknowledged : List ObjectId) (reply : FetchReply) (lines : List Line) : Type 0 where
   pub moves : Option (List Move)
   pub bands : List Band
@@ -204,7 +211,7 @@ pub record IsRest (asked : AskedReply) (acknowledged : List ObjectId) (reply : F
     last = true;
   }
 
--- `acknowledgments` with these words behind it
+-- `acknowledgments` with these words after it
 abbrev pub AreAcknowledged : AskedReply → List Acknowledgment → List (List ℕ) → List Line → Type 0
 AreAcknowledged asked acknowledgments more lines =
     AreTexts (codes "acknowledgments" ∷ map acknowledgment_text acknowledgments ++ more) lines × All (IsAcknowledgment asked) acknowledgments
@@ -217,7 +224,7 @@ pub record IsRound (asked : AskedReply) (reply : FetchReply) (lines : List Line)
   pub acknowledged : AreAcknowledged asked acknowledgments [] front
   pub told : reply ≡ record no_reply { acknowledged = acknowledged_by acknowledgments; last = false }
 
--- A reply to a request without `done` that ends the rounds by `ready`: its rest stands behind a delimiter.
+-- A reply to a request without `done` that ends the rounds by `ready`: its rest stands after a delimiter.
 pub record IsReady (asked : AskedReply) (reply : FetchReply) (lines : List Line) : Type 0 where
   pub acknowledgments : List Acknowledgment
   pub front : List Line

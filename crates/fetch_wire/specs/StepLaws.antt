@@ -13,7 +13,7 @@ use Rattle.fetch_wire.specs.LineLaws.{line_at-len, least}
 use Rattle.fetch_wire.specs.SectionLaws as section
 use Rattle.fetch_wire.specs.Stepping.{Step, goes, ends, breaks, says, after_step, after_line, read_within, read_by}
 
--- more bytes behind what a reading found
+-- more bytes after what a reading found
 abbrev pub with_more : {A : Type 0} → Result (A × List ℕ) Fault → List ℕ → Result (A × List ℕ) Fault
 with_more found more = found >>= λ x. Ok (x.0, x.1 ++ more)
 
@@ -21,7 +21,7 @@ with_more found more = found >>= λ x. Ok (x.0, x.1 ++ more)
 abbrev pub IsSettled : {A : Type 0} → Result A Fault → Type 0
 IsSettled found = (place : ℕ) → found ≢ Err (Short place)
 
--- what a line does, and the reading of what is behind it
+-- what a line does, and the reading of what follows it
 abbrev pub line_then : {S T : Type 0} → (S → Line → Step S T) → ℕ → S → ℕ → Line → List ℕ → Result (T × List ℕ) Fault
 line_then step bound s place line rest = after_step place rest (λ t. read_by step bound t (place + line_len line) rest) (step s line)
 
@@ -88,7 +88,7 @@ line-step step (suc n) bound place s bytes (Ok x) is len =
     after_step-same place x.1 (λ t. read_within (suc n) step bound t (place + line_len x.0) x.1) (λ t. read_by step bound t (place + line_len x.0) x.1) (step s x.0)
     (λ t. enough step n (length x.1) bound (place + line_len x.0) t x.1 (omega (arith, line_at-len bound place bytes x.1 x.0 is, least x.0)) (omega arith))
 
--- A text is its first line, and what is behind it.
+-- A text is its first line, and what follows it.
 pub read_by-step : {S T : Type 0} (step : S → Line → Step S T) (bound place : ℕ) (s : S) (bytes : List ℕ) → read_by step bound s place bytes ≡ after_line (line_at bound place bytes) (line_then step bound s place)
 unfolding read_within
 read_by-step step bound place s bytes = line-step step (length bytes) bound place s bytes (line_at bound place bytes) refl refl
@@ -101,7 +101,7 @@ unless_short (Err (Broken place)) more others = Err (Broken place)
 unless_short (Err TooLong) more others = Err TooLong
 unless_short (Err (Said text)) more others = Err (Said text)
 
--- What pieces tell behind the bytes so far, where reading is tried as soon as each of them comes.
+-- What pieces tell after the bytes so far, where reading is tried as soon as each of them comes.
 abbrev pub in_pieces : {A : Type 0} → (List ℕ → Result (A × List ℕ) Fault) → List ℕ → List (List ℕ) → Result (A × List ℕ) Fault
 in_pieces read so_far [] = read so_far
 in_pieces read so_far (piece ∷ pieces) = unless_short (read so_far) (piece ++ concat pieces) (in_pieces read (so_far ++ piece) pieces)

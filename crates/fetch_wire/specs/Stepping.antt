@@ -33,18 +33,18 @@ after_step place rest others (ends t) = Ok (t, rest)
 after_step place rest others breaks = Err (Broken place)
 after_step place rest others (says text) = Err (Said text)
 
--- a line that was found, and what is behind it
+-- a line that was found, and what follows it
 abbrev pub after_line : {A : Type 0} → Result (Line × List ℕ) Trouble → (Line → List ℕ → Result A Fault) → Result A Fault
 after_line (Err trouble) f = Err (fault_of trouble)
 after_line (Ok x) f = f x.0 x.1
 
--- at most so many lines
+-- at most that many lines
 unfoldable pub read_within : {S T : Type 0} → ℕ → (S → Line → Step S T) → ℕ → S → ℕ → List ℕ → Result (T × List ℕ) Fault
 read_within zero step bound s place bytes = Err (Short place)
 read_within (suc n) step bound s place bytes =
     after_line (line_at bound place bytes) (λ line rest. after_step place rest (λ t. read_within n step bound t (place + line_len line) rest) (step s line))
 
--- What bytes at this place of a reply of bounded length tell, read line by line from this state, and what is behind.
+-- What bytes at this place of a reply of bounded length tell, read line by line from this state, and what follows.
 -- At each line come its digits, then the bound, then the grammar, and the first line in order decides. Each line has a
 -- byte, so there are no more lines than bytes.
 abbrev pub read_by : {S T : Type 0} → (S → Line → Step S T) → ℕ → S → ℕ → List ℕ → Result (T × List ℕ) Fault

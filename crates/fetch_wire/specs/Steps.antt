@@ -5,7 +5,7 @@ use Rattle.fetch_wire.specs.declared.lines.line.Line.TheVariants.{Payload, Flush
 use Rattle.fetch_wire.specs.Stepping.{Step, breaks, says}
 use Rattle.fetch_wire.specs.Texts.{without_lf, is_error}
 
--- what the server says behind `ERR `
+-- what the server says after `ERR `
 abbrev pub error_text : List ℕ → List ℕ
 error_text payload = drop 4 (without_lf payload)
 

@@ -6,6 +6,7 @@ abbrev pub before_first : ℕ → List (List ℕ) → List (List ℕ)
 before_first b [] = (b ∷ []) ∷ []
 before_first b (word ∷ others) = (b ∷ word) ∷ others
 
+-- the words of a text, which stand between spaces
 abbrev pub words : List ℕ → List (List ℕ)
 words [] = [] ∷ []
 words (b ∷ bytes) = if b == 32 then [] ∷ words bytes else before_first b (words bytes)

@@ -19,7 +19,7 @@ count_of Flush = 0
 count_of Delim = 1
 count_of End = 2
 
--- what stands behind a line's digits
+-- what follows a line's digits
 abbrev pub payload_of : Line → List ℕ
 payload_of (Payload payload) = payload
 payload_of Flush = []
@@ -43,7 +43,7 @@ abbrev pub first_too_long : List Line → Option ℕ
 first_too_long [] = None
 first_too_long (line ∷ lines) = option_or (too_long_in line) (first_too_long lines)
 
--- a refusal tells this length, or want of memory
+-- a refusal tells this length, or out of memory
 abbrev pub TellsTooLong : Option ℕ → WireError → Type 0
 TellsTooLong found errors.NoMemory = ⊤
 TellsTooLong found (errors.LineTooLong n) = found ≡ Some n

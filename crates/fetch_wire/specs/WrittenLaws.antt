@@ -12,6 +12,7 @@ use Rattle.fetch_wire.specs.Lines.{line_counted, announced, number_in, line_at, 
 use Rattle.fetch_wire.specs.LineLaws.{IsLine}
 use Rattle.fetch_wire.specs.Written.{four_digits, count_of, payload_of, line_text, too_long_in}
 
+-- Four digits begin the line that they announce.
 pub digits_four : (bound place : ℕ) (digits bytes : List ℕ) → length digits ≡ 4 → line_at bound place (digits ++ bytes) ≡ announced bound place (number_in digits) bytes
 unfolding line_at
 digits_four bound place (a ∷ b ∷ c ∷ d ∷ []) bytes four = refl
@@ -90,5 +91,6 @@ written-is bound place line rest proper fits within =
       proper = proper;
     }
 
+-- A line that is written, and fits, is read back.
 pub written-line_at : (bound place : ℕ) (line : Line) (rest : List ℕ) → line ≢ End → too_long_in line ≡ None → place + line_len line ≤ bound → line_at bound place (line_text line ++ rest) ≡ Ok (line, rest)
 written-line_at bound place line rest proper fits within = is-line_at bound place (line_text line ++ rest) rest line (written-is bound place line rest proper fits within)

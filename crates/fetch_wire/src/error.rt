@@ -13,7 +13,7 @@ pub enum WireError {
     /// before it is whole.
     #[error("malformed line at byte {place} of the reply")]
     Malformed { place: usize },
-    /// The server says that it fails. The text is what stands behind `ERR `, without a line feed at its end, or all
+    /// The server says that it fails. The text is what follows `ERR `, without a line feed at its end, or all
     /// bytes of band 3.
     #[error("the server says {text:?}")]
     ServerError { text: Text },

@@ -73,7 +73,7 @@ pub fn replies_are_read_in_pieces()
         → reply.in_pieces (told_at bound awaited) [] pieces ≡ told_at bound awaited (concat pieces) }
 {}
 
-/// A reply is what its first line does, and what is behind that line.
+/// A reply is what its first line does, and what comes after that line.
 pub fn replies_are_read_line_by_line()
     ensures { (bound : ℕ) (reading : Reading) (place : ℕ) (bytes : List ℕ)
         → told_from bound reading place bytes ≡ after_line (line_at bound place bytes) (reply.line_then step_of bound reading place) }
@@ -101,7 +101,7 @@ pub fn written_lines_are_read()
         → place + line_len line ≤ bound → line_at bound place (line_text line ++ rest) ≡ Ok (line, rest) }
 {}
 
-/// Lines that tell a reply tell it in any case of their digits, whatever comes behind.
+/// Lines that tell a reply tell it in any case of their digits, whatever comes after.
 pub fn replies_are_read_in_either_case()
     ensures { (bound : ℕ) (awaited : Await) (lines : List Line) (told : Told) (rest bytes : List ℕ)
         → Writes bound 0 lines rest bytes → Tells step_of (start_of awaited) lines told → told_at bound awaited bytes ≡ Ok (told, rest) }
@@ -113,7 +113,7 @@ pub fn references_are_named_once()
         → NamesOnce told }
 {}
 
-/// A line that a reader gave, or refused, before more bytes were fed is the one that it gives or refuses behind them,
+/// A line that a reader gave, or refused, before more bytes were fed is the one that it gives or refuses after them,
 /// and it leaves the same.
 pub fn lines_stay()
     ensures { (feeding : Feeding) (more : List ℕ) → IsSettled (found_in feeding)
@@ -164,7 +164,7 @@ pub fn sending_and_feeding_commute()
         ≡ record (session.fed s piece) { outgoing = drop n (session.fed s piece).outgoing } }
 {}
 
-/// Lines that tell a reply, and fit, tell it as they are written, whatever comes behind.
+/// Lines that tell a reply, and fit, tell it as they are written, whatever comes after.
 pub fn replies_are_read_as_written()
     ensures { (bound : ℕ) (awaited : Await) (lines : List Line) (told : Told) (rest : List ℕ)
         → Tells step_of (start_of awaited) lines told → first_too_long lines ≡ None → sum_by line_len lines ≤ bound
@@ -222,13 +222,13 @@ pub fn ready_replies_are_read_back()
         → Tells step_of (start_of (Reply asked)) (ready_lines ids change bands) (told.Reply (record (at_last change bands) { acknowledged = ids })) }
 {}
 
-/// What bytes tell of a reply is told by lines, which they write with digits of either case before what is behind them.
+/// What bytes tell of a reply is told by lines, which they write with digits of either case before what follows them.
 pub fn replies_that_are_read_are_lines()
     ensures { (bound : ℕ) (awaited : Await) (bytes rest : List ℕ) (told : Told) → told_at bound awaited bytes ≡ Ok (told, rest)
         → (lines : List Line) × Writes bound 0 lines rest bytes × Tells step_of (start_of awaited) lines told }
 {}
 
-/// A reply is too long exactly where its first lines go on, and the digits of the line behind them pass the bound.
+/// A reply is too long exactly where its first lines go on, and the digits of the line after them pass the bound.
 pub fn replies_that_are_too_long()
     ensures { (bound : ℕ) (awaited : Await) (bytes : List ℕ) → (told_at bound awaited bytes ≡ Err fault.TooLong) ↔ IsTooLong step_of bound (start_of awaited) bytes }
 {}

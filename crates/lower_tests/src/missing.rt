@@ -145,7 +145,7 @@ fn an_unshallow_line_asks_for_the_parents(rt: HostRuntime) -> Result<(), Fail> {
     Ok(())
 }
 
-/// In a pack the parents of a commit that enters the border are left aside.
+/// In a pack the parents of a commit that enters the border are left out.
 #[test]
 fn parents_of_the_border_are_left_aside(rt: HostRuntime) -> Result<(), Fail> {
     let alloc = rt.alloc();

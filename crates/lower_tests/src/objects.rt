@@ -169,6 +169,7 @@ fn a_border_is_merged(rt: HostRuntime) -> Result<(), Fail> {
 }
 
 /// A commit and the empty tree.
+// Long: one store, asked at three times.
 #[test]
 fn a_closed_store_is_told(rt: HostRuntime) -> Result<(), Fail> {
     let alloc = rt.alloc();

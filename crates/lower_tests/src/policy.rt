@@ -148,6 +148,7 @@ pub(crate) fn told(alloc: Global, outcome: &Outcome) -> Result<Text, Fail> {
 }
 
 /// A branch that moved, with and without a plus, and the same in a dry run.
+// Long: a table of cases.
 #[test]
 fn a_branch_moves_along_a_dated_path(rt: HostRuntime) -> Result<(), Fail> {
     let alloc = rt.alloc();
@@ -344,6 +345,7 @@ fn a_symbolic_reference_gets_the_id(rt: HostRuntime) -> Result<(), Fail> {
 }
 
 /// Unborn references, here and there.
+// Long: a table of cases.
 #[test]
 fn unborn_references_are_told(rt: HostRuntime) -> Result<(), Fail> {
     let alloc = rt.alloc();

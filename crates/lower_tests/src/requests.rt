@@ -40,6 +40,7 @@ fn handshake(alloc: Global) -> Result<Handshake, Fail> {
 }
 
 /// The lines stand in the order of Git's protocol, and an acknowledged id is sent once, before the window.
+// Long: one request, whose lines are looked at one by one.
 #[test]
 fn a_request_has_its_lines_in_order(rt: HostRuntime) -> Result<(), Fail> {
     let alloc = rt.alloc();

@@ -3,7 +3,7 @@
 use crate::opening::open;
 use crate::saying::split_word;
 use crate::setting::Setting;
-use crate::{branches, connecting, deleting, finding, saving};
+use crate::{branches, connecting, deleting, finding, overriding, saving};
 use fetch_remote::Repository;
 use fetch_store::NoMemory;
 use std::alloc::Global;
@@ -41,6 +41,9 @@ pub(crate) fn ask(
     };
     let (what, rest) = split_word(question);
     if ask_of(alloc, setting, &repo, what, rest, out)? {
+        return Ok(true);
+    }
+    if overriding::ask(alloc, setting, what, rest, out)? {
         return Ok(true);
     }
     deleting::ask(alloc, setting, &mut repo, what, rest, out)

@@ -7,6 +7,7 @@ mod connecting;
 mod deleting;
 mod finding;
 mod opening;
+mod overriding;
 mod refusals;
 mod saving;
 mod saying;

@@ -3,6 +3,7 @@
 ghost use Rattle.std.specs.Prelude.{◌≡◌, IfOk};
 
 use crate::setting::{Setting, name_of};
+use crate::{finding, refusals};
 use fetch_config::{ConfigError, File, Meta, Origin};
 use fetch_refs::{
     Change, LogChange, PackedRefs, PreviousValue, RefEdit, RefLog, Refs, Signature, Target,
@@ -53,11 +54,15 @@ pub(crate) fn config_of(alloc: Global, text: &[u8]) -> Result<Option<File>, NoMe
     }
 }
 
-fn options(alloc: Global, is_lenient: bool) -> Result<OpenOptions, NoMemory> {
+fn options(
+    alloc: Global,
+    is_lenient: bool,
+    overrides: List<Text>,
+) -> Result<OpenOptions, NoMemory> {
     match File::new(alloc, meta(Origin::Global)) {
         Ok(base) => Ok(OpenOptions {
             lenient_config: is_lenient,
-            api_config_overrides: List::new(alloc),
+            api_config_overrides: overrides,
             base,
         }),
         Err(_) => Err(NoMemory),
@@ -94,7 +99,7 @@ fn edits(alloc: Global, setting: &Setting) -> Result<Vec<RefEdit>, NoMemory> {
     Ok(edits)
 }
 
-fn parts(alloc: Global, local: File, is_lenient: bool) -> Result<Parts, NoMemory>
+fn parts(alloc: Global, local: File, options: OpenOptions) -> Result<Parts, NoMemory>
     ensures { IfOk result (λ parts. parts.store.hash ≡ parts.refs.hash) }
 {
     Ok(Parts {
@@ -105,15 +110,31 @@ fn parts(alloc: Global, local: File, is_lenient: bool) -> Result<Parts, NoMemory
         committer: signature(alloc)?,
         git_dir: Text::new(alloc, b"/w/.git")?,
         workdir: Some(Text::new(alloc, b"/w")?),
-        options: options(alloc, is_lenient)?,
+        options,
     })
 }
 
 /// A repository with this configuration and without references. There are no overrides, so memory alone may refuse it.
 fn empty(alloc: Global, local: File, is_lenient: bool) -> Result<Repository, NoMemory> {
-    match Repository::from_parts(alloc, parts(alloc, local, is_lenient)?) {
+    let options = options(alloc, is_lenient, List::new(alloc))?;
+    match Repository::from_parts(alloc, parts(alloc, local, options)?) {
         Ok(repo) => Ok(repo),
         Err(_) => Err(NoMemory),
+    }
+}
+
+/// Opens a repository with this configuration and these overrides, and tells its remotes.
+pub(crate) fn tell_overridden(
+    alloc: Global,
+    local: File,
+    is_lenient: bool,
+    overrides: Vec<Text>,
+    out: &mut Vec<u8>,
+) -> Result<(), NoMemory> {
+    let options = options(alloc, is_lenient, List::from(overrides))?;
+    match Repository::from_parts(alloc, parts(alloc, local, options)?) {
+        Ok(repo) => finding::names(alloc, &repo, out),
+        Err(e) => refusals::opened(out, &e),
     }
 }
 
@@ -140,7 +161,7 @@ pub(crate) fn open(alloc: Global, setting: &Setting) -> Result<Option<Repository
     Ok(Some(repo))
 }
 
-/// The calls that fail, behind the one that sets the files up.
+/// The calls that fail, after the one that sets the files up.
 fn failing(alloc: Global, calls: &[u64]) -> Result<Vec<u64>, NoMemory> {
     let mut failing = Vec::new(alloc);
     for call in calls {

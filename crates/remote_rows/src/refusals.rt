@@ -9,7 +9,7 @@ use fetch_specs::{FullName, SpecError};
 use fetch_store::{NoMemory, Text};
 use itoa::Buffer;
 
-/// A refusal with these words behind it.
+/// A refusal with these words after it.
 pub(crate) fn refused(out: &mut Vec<u8>, words: &[&[u8]]) -> Result<(), NoMemory> {
     out.extend_from_slice(b"refused ")?;
     say(out, words)

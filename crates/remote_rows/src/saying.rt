@@ -3,7 +3,7 @@
 use fetch_specs::RefSpec;
 use fetch_store::{NoMemory, Text, split_first};
 
-/// The first word of a line, and what stands behind its space.
+/// The first word of a line, and what follows its space.
 pub(crate) fn split_word(line: &[u8]) -> (&[u8], &[u8]) {
     match split_first(b' ', line) {
         Some((word, rest)) => (word, rest),
@@ -48,7 +48,7 @@ pub(crate) fn say_specs(out: &mut Vec<u8>, word: &[u8], specs: &[RefSpec]) -> Re
     Ok(())
 }
 
-/// The lines of a text, each behind a bar.
+/// The lines of a text, each after a bar.
 pub(crate) fn say_lines(out: &mut Vec<u8>, text: &[u8]) -> Result<(), NoMemory> {
     let mut rest = text;
     for _ in 0..text.len() {

@@ -15,7 +15,7 @@ struct Row<'a> {
     scene: &'a [u8],
 }
 
-/// The row at the front, and what stands behind it. A row is the number of its scene's bytes, a space, what it shows and
+/// The row at the front, and what follows it. A row is the number of its scene's bytes, a space, what it shows and
 /// a line feed; then the scene, and a line feed.
 fn row_at(bytes: &[u8]) -> Option<(Row<'_>, &[u8])> {
     let (line, rest) = split_first(b'\n', bytes)?;
@@ -49,7 +49,7 @@ fn tell(
     Ok(())
 }
 
-/// What all rows tell. None where something stands behind them that is no row.
+/// What all rows tell. None where something stands after them that is no row.
 fn tell_all(
     rt: &(impl Threads + Sync),
     alloc: Global,

@@ -17,7 +17,7 @@ const LINES: [(usize, usize); 10] = [
     (314, 160),
 ];
 
-/// The place of the line that isn't whole, where the peer ends behind so many bytes.
+/// The place of the line that isn't whole, where the peer ends after that many bytes.
 fn place_of(length: usize) -> usize {
     let mut place = 0;
     for (start, within) in LINES {

@@ -34,7 +34,7 @@ pub trait Sink {
     /// How often a call failed.
     ghost faults: { Self → Faults };
 
-    /// Takes the bytes. At a refusal a front of them may have been taken.
+    /// Takes the bytes. At a refusal a prefix of them may have been taken.
     fn write_all(&mut self, bytes: &[u8]) -> Result<(), SendFault>
         ensures bytes { Takes (taken self.old) (taken self.new) result bytes.now }
         ensures counts { Counts (faults self.old) (faults self.new) }

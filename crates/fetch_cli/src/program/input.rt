@@ -18,11 +18,13 @@ const PIECE: usize = 1 << 16;
 /// Why a source wasn't read to its end.
 #[derive(Clone, Copy, Debug, PartialEq, Eq, Error)]
 pub enum ReadError {
+    /// The source failed.
     #[error("the input can't be read")]
     Failed,
     /// The input has more bytes than a scene may have.
     #[error("the input is longer than {} bytes", MAX_SCENE)]
     TooLong,
+    /// Memory ran out.
     #[error("out of memory")]
     NoMemory,
 }

@@ -12,7 +12,7 @@ use fetch_wire::SendFault;
 use std::alloc::Global;
 use std::marker::Model;
 
-/// Copies what stands behind this place to the front of `into`, as far as it fits.
+/// Copies what follows this place to the front of `into`, as far as it fits.
 fn copy_from(bytes: &[u8], place: usize, into: &mut [u8]) -> usize
     requires { place ≤ length bytes.now }
     ensures bound { result ≤ length into.new }

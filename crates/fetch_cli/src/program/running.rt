@@ -142,7 +142,7 @@ fn answer<R: Threads + Sync, S: Source>(
     }
 }
 
-/// Runs the program with the words behind its name, and answers its status: 0 where the fetch, or that of a bench, was
+/// Runs the program with the words after its name, and answers its status: 0 where the fetch, or that of a bench, was
 /// done, or help or the version was asked for; 1 where it was refused; 2 where the source failed, and 3 where the sink
 /// did; 4 where the words or the scene are malformed; 5 where memory ran out.
 pub fn run<R: Threads + Sync, S: Source, K: Sink>(

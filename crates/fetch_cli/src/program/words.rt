@@ -13,7 +13,7 @@ pub const MAX_BENCH: usize = 100_000;
 pub enum Command {
     /// Fetch what the scene at standard input says, and report.
     Fetch,
-    /// Fetch the second half of a line of so many commits, from 1 to 100,000, and sum up.
+    /// Fetch the second half of a line of that many commits, from 1 to 100,000, and sum up.
     Bench(usize),
     /// Tell how the program is used.
     Help,
@@ -76,7 +76,7 @@ fn count_in(word: &[u8]) -> Option<usize>
     }
 }
 
-/// What the words behind `bench` ask for.
+/// What the words after `bench` ask for.
 fn bench(words: &[Vec<u8>]) -> Result<Command, usize>
     ensures command { result ≡ spec.bench_of (map (λ word. word.items) words.now) }
     ensures within { IfOk result spec.IsWithin }
@@ -96,7 +96,7 @@ fn bench(words: &[Vec<u8>]) -> Result<Command, usize>
     }
 }
 
-/// What the words ask for, or the number of the first that is wrong or lacking, from 1 on. These are the words behind
+/// What the words ask for, or the number of the first that is wrong or lacking, from 1 on. These are the words after
 /// the program's name.
 #[tactic(auto, unfolding(crate::specs::Words::command_of))]
 pub fn read_command(words: &[Vec<u8>]) -> Result<Command, usize>

@@ -1,4 +1,4 @@
-//! The lines of a report. Each call puts a line behind what is there; after an error a part of it may stand there.
+//! The lines of a report. Each call puts a line after what is there; after an error a part of it may stand there.
 
 ghost use Rattle.std.specs.Prelude.{◌≡◌, ◌<◌, ◌++◌, decimal, OnOk};
 ghost use Rattle.std.specs.List.{flat_map};
@@ -85,7 +85,8 @@ pub fn append_hex(out: &mut Vec<u8>, id: &ObjectId) -> Result<(), NoMemory>
     Ok(())
 }
 
-pub(crate) fn append_number(out: &mut Vec<u8>, n: usize) -> Result<(), NoMemory>
+/// A number.
+pub fn append_number(out: &mut Vec<u8>, n: usize) -> Result<(), NoMemory>
     ensures { OnOk result (out.new.items ≡ out.old.items ++ decimal n) }
 {
     let mut buffer = Buffer::new();
@@ -93,8 +94,9 @@ pub(crate) fn append_number(out: &mut Vec<u8>, n: usize) -> Result<(), NoMemory>
     Ok(())
 }
 
+/// What a reference points to, as in a line of references.
 #[tactic(auto, unfolding(crate::specs::ReportLines::target_text))]
-pub(crate) fn append_target(out: &mut Vec<u8>, target: &TargetRef<'_>) -> Result<(), NoMemory>
+pub fn append_target(out: &mut Vec<u8>, target: &TargetRef<'_>) -> Result<(), NoMemory>
     ensures { OnOk result (out.new.items ≡ out.old.items ++ spec.target_text (seen target.now)) }
 {
     match target {

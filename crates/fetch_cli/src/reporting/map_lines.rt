@@ -38,7 +38,7 @@ fn append_destination(out: &mut Vec<u8>, destination: &Option<Text>) -> Result<(
     Ok(())
 }
 
-/// A mode, as it is displayed. What is written into memory fails for want of memory alone.
+/// A mode, as it is displayed. What is written into memory fails only where memory runs out.
 fn append_mode(out: &mut Vec<u8>, mode: &Mode) -> Result<(), NoMemory>
     ensures { OnOk result (out.new.items ≡ out.old.items ++ mode_text mode.now) }
 {

@@ -6,29 +6,32 @@ ghost use Rattle.fetch_store.specs.Stores.{AreOf, add_all};
 ghost use Rattle.fetch_refs.specs.Logs.{after};
 ghost use Rattle.fetch_refs.specs.declared.edit.PackedRefs.TheVariants.{Never};
 ghost use Rattle.fetch_remote.specs.Remotes.{nameless};
-ghost use Rattle.fetch_remote.specs.Repositories.{state_of, setup_of, logging_of};
+ghost use Rattle.fetch_remote.specs.Repositories.{state_of, setup_of};
 ghost use Rattle.fetch_cli.specs.Opened as opened;
 ghost use Rattle.fetch_cli.specs.Report as spec;
 
 use crate::scene::Scene;
+use crate::scene::local::Local;
 use crate::scene::options::SceneOptions;
 use crate::scene::references::Reference;
+use crate::scene::remote_part::RemotePart;
 use fetch_config::{ConfigError, File};
 use fetch_refs::{Change, LogChange, PackedRefs, PreviousValue, RefEdit, RefLog, Refs, Signature};
 use fetch_remote::{FetchOptions, OpenOptions, Parts, Remote, Repository, ref_map};
 use fetch_specs::RefSpec;
-use fetch_store::{Border, Kind, List, NoMemory, Object, ObjectId, Store, Text};
+use fetch_store::{Kind, List, NoMemory, Object, ObjectId, Store, Text};
 use fetch_update::Worktree;
 use std::alloc::Global;
 
 /// A repository and a remote, as a scene says; and how it is to be fetched, what is checked out, and what the peer says.
 #[derive(Drop)]
-pub(crate) struct Setting {
-    pub(crate) repo: Repository,
-    pub(crate) remote: Remote,
-    pub(crate) options: FetchOptions,
-    pub(crate) worktrees: List<Worktree>,
-    pub(crate) pieces: List<Text>,
+pub struct Setting {
+    pub repo: Repository,
+    pub remote: Remote,
+    pub options: FetchOptions,
+    pub worktrees: List<Worktree>,
+    /// What the peer says, piece by piece.
+    pub pieces: List<Text>,
 }
 
 /// Who writes the lines of reflogs.
@@ -156,45 +159,44 @@ fn options_of(options: SceneOptions, extra: List<RefSpec>) -> FetchOptions
     }
 }
 
-fn remote_of(
-    alloc: Global,
-    address: Text,
-    specs: List<RefSpec>,
-    tags: fetch_specs::Tags,
-) -> Result<Remote, NoMemory>
-    ensures { IfOk result (λ remote. remote ≡ nameless (address ∷ []) specs tags) }
+/// The remote of a scene, with its one address, and how it is fetched from.
+pub fn set_up_remote(alloc: Global, remote: RemotePart) -> Result<(Remote, FetchOptions), NoMemory>
+    ensures remote { IfOk result (λ x. x.0 ≡ nameless (remote.address ∷ []) remote.specs remote.tags) }
+    ensures options { IfOk result (λ x. x.1 ≡ spec.fetch_options remote.options remote.extra) }
 {
     let mut urls = List::new(alloc);
-    urls.push(address)?;
-    Ok(Remote::new(urls, specs, tags))
+    urls.push(remote.address)?;
+    Ok((
+        Remote::new(urls, remote.specs, remote.tags),
+        options_of(remote.options, remote.extra),
+    ))
 }
 
-/// The repository of a scene. There are no overrides, so that memory alone may refuse it.
+/// The repository of these parts, and its work trees. There are no overrides, so that memory alone may refuse it.
 fn open(
     alloc: Global,
     store: Store,
     refs: Refs,
-    border: Border,
-    config: File,
     committer: Signature,
-    git_dir: Text,
-    workdir: Option<Text>,
-    lenient: bool,
-) -> Result<Repository, NoMemory>
-    requires { store.hash ≡ refs.hash }
-    ensures state { IfOk result (λ repo. state_of repo ≡ record { hash = store.hash; objects = store.objects; border = border; refs = refs }) }
-    ensures setup { IfOk result (λ repo. setup_of repo ≡ record {
-      base = record { meta = config.meta; sections = [] };
-      local = config;
-      overrides = [];
-      workdir = workdir;
-      settings = record { kind = store.hash; config = config; lenient = lenient; git_dir = git_dir; committer = committer };
-      logging = logging_of config workdir;
-    }) }
+    local: Local,
+) -> Result<(Repository, List<Worktree>), NoMemory>
+    requires refs { store.hash ≡ refs.hash }
+    requires hash { store.hash ≡ local.head.hash }
+    requires committer { committer ≡ spec.committer }
+    ensures state { IfOk result (λ x. state_of x.0 ≡ record { hash = store.hash; objects = store.objects; border = local.border; refs = refs }) }
+    ensures setup { IfOk result (λ x. setup_of x.0 ≡ spec.setup_in local.head local.config) }
+    ensures worktrees { IfOk result (λ x. x.1 ≡ local.worktrees) }
 {
+    let Local {
+        head,
+        border,
+        config,
+        worktrees,
+        ..
+    } = local;
     let base = base_of(alloc, &config)?;
     let options = OpenOptions {
-        lenient_config: lenient,
+        lenient_config: head.lenient,
         api_config_overrides: List::new(alloc),
         base,
     };
@@ -204,43 +206,49 @@ fn open(
         border,
         local: config,
         committer,
-        git_dir,
-        workdir,
+        git_dir: head.git_dir,
+        workdir: head.workdir,
         options,
     };
     match Repository::from_parts(alloc, parts) {
-        Ok(repo) => Ok(repo),
+        Ok(repo) => Ok((repo, worktrees)),
         Err(_) => Err(NoMemory),
     }
 }
 
-/// Sets up what a scene says.
-pub(crate) fn set_up(alloc: Global, scene: Scene) -> Result<Setting, NoMemory>
+/// The repository that a scene says, and its work trees. The objects are of its hash, as those that are read are.
+pub fn set_up_local(
+    alloc: Global,
+    local: Local,
+    objects: List<(ObjectId, Object)>,
+) -> Result<(Repository, List<Worktree>), NoMemory>
+    requires { AreOf local.head.hash objects }
+    ensures state { IfOk result (λ x. state_of x.0 ≡ spec.found_in local.head.hash objects local.border local.refs) }
+    ensures setup { IfOk result (λ x. setup_of x.0 ≡ spec.setup_in local.head local.config) }
+    ensures worktrees { IfOk result (λ x. x.1 ≡ local.worktrees) }
+{
+    let committer = committer(alloc)?;
+    let refs = refs_of(alloc, local.head.hash, local.refs.as_slice(), &committer)?;
+    let store = store_of(alloc, local.head.hash, objects.into_vec())?;
+    open(alloc, store, refs, committer, local)
+}
+
+/// Sets up what a scene says. Its objects are of its hash, as those that are read are.
+pub fn set_up(alloc: Global, scene: Scene) -> Result<Setting, NoMemory>
     requires { AreOf scene.hash scene.objects }
     ensures given { IfOk result (λ s. record { remote = s.remote; options = s.options; setup = setup_of s.repo } ≡ spec.given_of scene) }
     ensures found { IfOk result (λ s. state_of s.repo ≡ spec.found_of scene) }
     ensures worktrees { IfOk result (λ s. s.worktrees ≡ scene.worktrees) }
     ensures pieces { IfOk result (λ s. s.pieces ≡ scene.pieces) }
 {
-    let committer = committer(alloc)?;
-    let refs = refs_of(alloc, scene.hash, scene.refs.as_slice(), &committer)?;
-    let store = store_of(alloc, scene.hash, scene.objects.into_vec())?;
-    let repo = open(
-        alloc,
-        store,
-        refs,
-        scene.border,
-        scene.config,
-        committer,
-        scene.git_dir,
-        scene.workdir,
-        scene.lenient,
-    )?;
+    let (local, objects, remote, pieces) = scene.into_parts();
+    let (repo, worktrees) = set_up_local(alloc, local, objects)?;
+    let (remote, options) = set_up_remote(alloc, remote)?;
     Ok(Setting {
         repo,
-        remote: remote_of(alloc, scene.address, scene.specs, scene.tags)?,
-        options: options_of(scene.options, scene.extra),
-        worktrees: scene.worktrees,
-        pieces: scene.pieces,
+        remote,
+        options,
+        worktrees,
+        pieces,
     })
 }

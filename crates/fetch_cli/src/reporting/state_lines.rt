@@ -14,7 +14,8 @@ use fetch_refs::{LogLine, Refs};
 use fetch_remote::Repository;
 use fetch_store::{NoMemory, ObjectId, Store, StoreError};
 
-fn append_refs(out: &mut Vec<u8>, refs: &Refs) -> Result<(), NoMemory>
+/// The references, by ascending name.
+pub fn append_refs(out: &mut Vec<u8>, refs: &Refs) -> Result<(), NoMemory>
     ensures { OnOk result (out.new.items ≡ out.old.items ++ spec.ref_lines refs.now.names) }
 {
     let mut entries = refs.iter();
@@ -57,7 +58,8 @@ fn append_logs(out: &mut Vec<u8>, refs: &Refs) -> Result<(), NoMemory>
     }
 }
 
-fn append_commits(out: &mut Vec<u8>, commits: &[ObjectId]) -> Result<(), NoMemory>
+/// The commits of a border.
+pub fn append_commits(out: &mut Vec<u8>, commits: &[ObjectId]) -> Result<(), NoMemory>
     ensures { OnOk result (out.new.items ≡ out.old.items ++ flat_map border_line commits.now) }
 {
     for id in commits {
@@ -75,12 +77,13 @@ fn append_each_id(out: &mut Vec<u8>, ids: &[ObjectId]) -> Result<(), NoMemory>
     Ok(())
 }
 
-fn append_ids(out: &mut Vec<u8>, store: &Store) -> Result<(), NoMemory>
+/// The ids of the stored objects, ascending.
+pub fn append_ids(out: &mut Vec<u8>, store: &Store) -> Result<(), NoMemory>
     ensures { OnOk result (out.new.items ≡ out.old.items ++ flat_map id_line (map.keys store.now.objects)) }
 {
     match store.ids(*out.allocator()) {
         Ok(ids) => append_each_id(out, &ids),
-        // Ids are refused for nothing but want of memory.
+        // Ids are refused only where memory runs out.
         Err(
             StoreError::NoMemory
             | StoreError::BadHex { .. }
@@ -92,7 +95,7 @@ fn append_ids(out: &mut Vec<u8>, store: &Store) -> Result<(), NoMemory>
 
 /// The references, their reflogs, the border and the ids.
 #[tactic(auto, unfolding(crate::specs::Report::state_lines))]
-pub(crate) fn append_state(out: &mut Vec<u8>, repo: &Repository) -> Result<(), NoMemory>
+pub fn append_state(out: &mut Vec<u8>, repo: &Repository) -> Result<(), NoMemory>
     ensures { OnOk result (out.new.items ≡ out.old.items ++ spec.state_lines (state_of repo.now)) }
 {
     append_refs(out, repo.refs())?;

@@ -76,7 +76,7 @@ fn sum_up(
     }
 }
 
-/// Fetches as a scene says, and sums up as a bench of so many commits: the status, which is 0 where the fetch was done and
+/// Fetches as a scene says, and sums up as a bench of that many commits: the status, which is 0 where the fetch was done and
 /// 1 where it was refused, and what became of each mapping with how many objects and references there are, or why it was
 /// refused.
 ///

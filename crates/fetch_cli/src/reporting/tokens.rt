@@ -8,12 +8,13 @@ use crate::reporting::lines::{append_hex, append_number, append_target};
 use fetch_pack::PackError;
 use fetch_refs::{RefError, Target};
 use fetch_remote::{FetchError, fetch, prepare, ref_map};
-use fetch_store::{Kind, NoMemory, ObjectId};
+use fetch_store::{Kind, NoMemory, ObjectId, Text};
 use fetch_update::update;
 use fetch_wire::WireError;
 
+/// A name, and the text that it keeps.
 #[tactic(auto, unfolding(crate::specs::Tokens::keeping))]
-fn append_text(out: &mut Vec<u8>, word: &[u8], text: &[u8]) -> Result<(), NoMemory>
+pub fn append_text(out: &mut Vec<u8>, word: &[u8], text: &[u8]) -> Result<(), NoMemory>
     ensures { OnOk result (out.new.items ≡ out.old.items ++ spec.keeping word.now text.now) }
 {
     out.extend_from_slice(word)?;
@@ -22,8 +23,15 @@ fn append_text(out: &mut Vec<u8>, word: &[u8], text: &[u8]) -> Result<(), NoMemo
     Ok(())
 }
 
+fn append_value(out: &mut Vec<u8>, word: &[u8], value: &Text) -> Result<(), NoMemory>
+    ensures { OnOk result (out.new.items ≡ out.old.items ++ spec.keeping word.now value.now) }
+{
+    append_text(out, word, value.as_bytes())
+}
+
+/// A name, and the number that it keeps.
 #[tactic(auto, unfolding(crate::specs::Tokens::keeping))]
-fn append_count(out: &mut Vec<u8>, word: &[u8], n: usize) -> Result<(), NoMemory>
+pub fn append_count(out: &mut Vec<u8>, word: &[u8], n: usize) -> Result<(), NoMemory>
     ensures { OnOk result (out.new.items ≡ out.old.items ++ spec.keeping word.now (decimal n)) }
 {
     out.extend_from_slice(word)?;
@@ -31,8 +39,9 @@ fn append_count(out: &mut Vec<u8>, word: &[u8], n: usize) -> Result<(), NoMemory
     append_number(out, n)
 }
 
+/// A name, and the id that it keeps.
 #[tactic(auto, unfolding(crate::specs::Tokens::keeping))]
-fn append_digits(out: &mut Vec<u8>, word: &[u8], id: &ObjectId) -> Result<(), NoMemory>
+pub fn append_digits(out: &mut Vec<u8>, word: &[u8], id: &ObjectId) -> Result<(), NoMemory>
     ensures { OnOk result (out.new.items ≡ out.old.items ++ spec.keeping word.now (hex_of id.now)) }
 {
     out.extend_from_slice(word)?;
@@ -40,7 +49,8 @@ fn append_digits(out: &mut Vec<u8>, word: &[u8], id: &ObjectId) -> Result<(), No
     append_hex(out, id)
 }
 
-fn append_word(out: &mut Vec<u8>, word: &[u8]) -> Result<(), NoMemory>
+/// A name that keeps nothing.
+pub fn append_word(out: &mut Vec<u8>, word: &[u8]) -> Result<(), NoMemory>
     ensures { OnOk result (out.new.items ≡ out.old.items ++ word.now) }
 {
     out.extend_from_slice(word)?;
@@ -73,8 +83,9 @@ fn append_wire(out: &mut Vec<u8>, refusal: &WireError) -> Result<(), NoMemory>
     }
 }
 
+/// A name, and the two ids that it keeps.
 #[tactic(auto, unfolding(crate::specs::Tokens::keeping))]
-fn append_both(
+pub fn append_both(
     out: &mut Vec<u8>,
     word: &[u8],
     first: &ObjectId,
@@ -104,8 +115,9 @@ fn append_pack(out: &mut Vec<u8>, refusal: &PackError) -> Result<(), NoMemory>
     }
 }
 
+/// What stands at a name, or `none`.
 #[tactic(auto, unfolding(crate::specs::Tokens::found_text))]
-fn append_found(out: &mut Vec<u8>, found: &Option<Target>) -> Result<(), NoMemory>
+pub fn append_found(out: &mut Vec<u8>, found: &Option<Target>) -> Result<(), NoMemory>
     ensures { OnOk result (out.new.items ≡ out.old.items ++ spec.found_text found.now) }
 {
     match found {
@@ -243,17 +255,13 @@ fn append_receive(out: &mut Vec<u8>, refusal: &fetch::Error) -> Result<(), NoMem
         fetch::Error::Disconnected { link } => {
             append_both(out, b"Disconnected", &link.from, &link.to)
         }
-        fetch::Error::RejectShallowRemoteConfig { value } => append_text(
-            out,
-            b"RejectShallowRemoteConfig",
-            value.as_bytes(),
-        ),
-        fetch::Error::NegotiationAlgorithmConfig { value } => append_text(
-            out,
-            b"NegotiationAlgorithmConfig",
-            value.as_bytes(),
-        ),
-        fetch::Error::PackThreads { value } => append_text(out, b"PackThreads", value.as_bytes()),
+        fetch::Error::RejectShallowRemoteConfig { value } => {
+            append_value(out, b"RejectShallowRemoteConfig", value)
+        }
+        fetch::Error::NegotiationAlgorithmConfig { value } => {
+            append_value(out, b"NegotiationAlgorithmConfig", value)
+        }
+        fetch::Error::PackThreads { value } => append_value(out, b"PackThreads", value),
         fetch::Error::Fetch(e) => append_wire(out, e),
         fetch::Error::Client => append_word(out, b"Client"),
         fetch::Error::Interrupted => append_word(out, b"Interrupted"),
@@ -262,13 +270,11 @@ fn append_receive(out: &mut Vec<u8>, refusal: &fetch::Error) -> Result<(), NoMem
         }
         fetch::Error::Pack(e) => append_pack(out, e),
         fetch::Error::Collision { id } => append_digits(out, b"Collision", id),
-        fetch::Error::KeepFile { path } => append_text(out, b"KeepFile", path.as_bytes()),
+        fetch::Error::KeepFile { path } => append_value(out, b"KeepFile", path),
         fetch::Error::UpdateRefs(e) => append_update(out, e),
-        fetch::Error::RemovePackKeepFile { path } => append_text(
-            out,
-            b"RemovePackKeepFile",
-            path.as_bytes(),
-        ),
+        fetch::Error::RemovePackKeepFile { path } => {
+            append_value(out, b"RemovePackKeepFile", path)
+        }
         fetch::Error::NoMemory => append_word(out, b"NoMemory"),
     }
 }

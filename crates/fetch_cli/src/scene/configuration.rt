@@ -51,7 +51,7 @@ impl ReadsLine for ConfigLine {
     }
 }
 
-/// The lines, each with a line feed behind.
+/// The lines, each with a line feed after.
 fn joined(alloc: Global, lines: &[Text]) -> Result<Vec<u8>, NoMemory>
     ensures { IfOk result (λ bytes. bytes.items ≡ spec.text_of lines.now) }
 {
@@ -84,7 +84,7 @@ fn file_in(alloc: Global, text: &[u8]) -> Result<Result<File, usize>, NoMemory>
     }
 }
 
-/// Where the line behind so many others stands.
+/// Where the line after that many others stands.
 fn place_behind(count: usize, lines: &[Placed<'_>], last: usize) -> usize
     ensures { result ≡ first_place (drop count lines.now) last }
 {

@@ -11,6 +11,7 @@ pub enum SceneFault {
     /// stands where another is wanted, or that isn't whole.
     #[error("malformed {place}")]
     Malformed { place: usize },
+    /// Memory ran out.
     #[error("out of memory")]
     NoMemory,
 }

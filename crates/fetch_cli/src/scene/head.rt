@@ -13,10 +13,14 @@ use std::alloc::Global;
 
 /// What the head of a scene says.
 #[derive(Drop)]
-pub(crate) struct Head {
+pub struct Head {
+    /// The hash of its ids.
     pub hash: Kind,
+    /// The Git directory.
     pub git_dir: Text,
+    /// The work tree, where there is one.
     pub workdir: Option<Text>,
+    /// Whether settings that can't be read count as absent.
     pub lenient: bool,
 }
 

@@ -93,6 +93,7 @@ impl ReadsLine for Flush {
 /// A line that tells a commit of the border.
 #[derive(Drop)]
 pub(crate) struct BorderLine {
+    /// The hash of the ids.
     pub hash: Kind,
 }
 

@@ -44,7 +44,7 @@ pub(crate) fn read_each<R: ReadsLine>(
     Ok(List::from(items))
 }
 
-/// What each line at the front gives that begins with the word, and the lines behind these.
+/// What each line at the front gives that begins with the word, and the lines after these.
 pub(crate) fn read_group<'a, R: ReadsLine>(
     alloc: Global,
     word: &[u8],

@@ -12,7 +12,7 @@ use std::marker::Model;
 
 /// A line and the place where it begins.
 #[derive(Drop)]
-pub(crate) struct Placed<'a> {
+pub struct Placed<'a> {
     place: usize,
     line: LineRef<'a>,
 }
@@ -111,9 +111,9 @@ fn without_line_feed(text: &[u8]) -> &[u8]
     }
 }
 
-/// Lines that follow each other, and the place behind the last of them.
+/// Lines that follow each other, and the place after the last of them.
 #[derive(Drop)]
-pub(crate) struct Lines<'a> {
+pub struct Lines<'a> {
     lines: &'a [Placed<'a>],
     last: usize,
 }
@@ -138,7 +138,7 @@ impl<'a> Lines<'a> {
         }
     }
 
-    /// The lines, and the place behind the last of them.
+    /// The lines, and the place after the last of them.
     pub(crate) fn into_parts(self) -> (&'a [Placed<'a>], usize)
         ensures lines { result.0.now ≡ self.entry.lines }
         ensures last { result.1 ≡ self.entry.last }
@@ -148,7 +148,7 @@ impl<'a> Lines<'a> {
     }
 
     /// Lines that follow each other.
-    pub(crate) fn from_parts(lines: &'a [Placed<'a>], last: usize) -> Lines<'a>
+    pub fn from_parts(lines: &'a [Placed<'a>], last: usize) -> Lines<'a>
         ensures lines { result.lines ≡ lines.now }
         ensures last { result.last ≡ last }
     {
@@ -165,7 +165,7 @@ impl<'a> Lines<'a> {
         }
     }
 
-    /// The lines at the front that begin with the word, and those behind them.
+    /// The lines at the front that begin with the word, and those after them.
     #[tactic(auto, using(crate::proofs::EachLine::group_within))]
     pub(crate) fn group(self, word: &[u8]) -> (&'a [Placed<'a>], Lines<'a>)
         ensures group { result.0.now ≡ spec.group_of (spec.value_of word.now) self.entry }
@@ -176,7 +176,7 @@ impl<'a> Lines<'a> {
         (group, Lines { lines, last })
     }
 
-    /// The payloads at the front, and the lines behind them.
+    /// The payloads at the front, and the lines after them.
     #[tactic(auto, using(crate::proofs::EachLine::group_within))]
     pub(crate) fn payloads(self) -> (&'a [Placed<'a>], Lines<'a>)
         ensures group { result.0.now ≡ spec.group_of spec.payload_of self.entry }

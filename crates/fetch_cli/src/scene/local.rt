@@ -20,11 +20,16 @@ use std::alloc::Global;
 
 /// The repository of a scene, without its objects.
 #[derive(Drop)]
-pub(crate) struct Local {
+pub struct Local {
+    /// Its hash, its directories, and whether it is lenient.
     pub head: Head,
+    /// The references. No name comes twice.
     pub refs: List<Reference>,
+    /// The commits whose parents are left out.
     pub border: Border,
+    /// The repository's own configuration, which is trusted.
     pub config: File,
+    /// Which branches are checked out, and where.
     pub worktrees: List<Worktree>,
 }
 
@@ -37,12 +42,9 @@ fn border_of(alloc: Global, ids: List<ObjectId>) -> Result<Border, NoMemory>
     }
 }
 
-/// Reads the repository of a scene, and the delimiter behind it.
+/// Reads the repository of a scene, and the delimiter after it. `Malformed` tells the first line that breaks the grammar.
 #[tactic(auto, unfolding(crate::specs::Scene::local_of))]
-pub(crate) fn read_local<'a>(
-    alloc: Global,
-    lines: Lines<'a>,
-) -> Result<(Local, Lines<'a>), SceneFault>
+pub fn read_local<'a>(alloc: Global, lines: Lines<'a>) -> Result<(Local, Lines<'a>), SceneFault>
     ensures { Gives result (local_of lines.entry) }
 {
     let (head, lines) = read_head(alloc, lines)?;

@@ -57,9 +57,10 @@ fn read_objects_in<R: Threads + Sync>(
     }
 }
 
-/// Reads the objects of a scene, and the delimiter behind them.
+/// Reads the objects of a scene, and the delimiter after them. A pack that breaks is `Malformed` at its first payload, or at
+/// the line after it where it has none.
 #[tactic(auto, unfolding(crate::specs::Scene::objects_of))]
-pub(crate) fn read_objects<'a, R: Threads + Sync>(
+pub fn read_objects<'a, R: Threads + Sync>(
     rt: &R,
     alloc: Global,
     hash: Kind,

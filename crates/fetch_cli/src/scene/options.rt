@@ -33,13 +33,19 @@ pub(crate) enum SceneOption {
 /// The options of a scene.
 #[derive(Debug, Drop)]
 pub struct SceneOptions {
+    /// Whether nothing is to be changed.
     pub dry_run: bool,
+    /// Whether references are written into the packed list.
     pub packed_only: bool,
     /// Whether the remote is asked for the references alone that the refspecs may match.
     pub filter: bool,
+    /// What becomes of the border.
     pub shallow: Shallow,
+    /// What the first line says besides the address, in order.
     pub parameters: List<(Text, Option<Text>)>,
+    /// The most bytes of a reply.
     pub bound: ReplyBound,
+    /// What the lines of reflogs say, where it isn't the usual.
     pub message: Option<RefLogMessage>,
 }
 

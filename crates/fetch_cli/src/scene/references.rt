@@ -17,7 +17,9 @@ use std::alloc::Global;
 /// A reference of a scene.
 #[derive(Debug, Drop)]
 pub struct Reference {
+    /// Its name.
     pub name: FullName,
+    /// What it points to.
     pub target: Target,
 }
 

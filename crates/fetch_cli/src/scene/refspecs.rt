@@ -20,7 +20,7 @@ pub(crate) fn refspec(alloc: Global, text: &[u8]) -> Result<Option<RefSpec>, NoM
     }
 }
 
-/// A line of a refspec, behind this word.
+/// A line of a refspec, after this word.
 #[derive(Drop)]
 pub(crate) struct RefSpecLine(pub &'static [u8]);
 

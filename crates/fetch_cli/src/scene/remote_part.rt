@@ -16,17 +16,22 @@ use std::alloc::Global;
 
 /// The remote of a scene, and how to fetch from it.
 #[derive(Drop)]
-pub(crate) struct RemotePart {
+pub struct RemotePart {
+    /// Its one address.
     pub address: Text,
+    /// Its refspecs.
     pub specs: List<RefSpec>,
+    /// Which tags are fetched.
     pub tags: Tags,
+    /// Refspecs for this fetch alone.
     pub extra: List<RefSpec>,
+    /// What all options say together.
     pub options: SceneOptions,
 }
 
-/// Reads the remote of a scene, and the delimiter behind it.
+/// Reads the remote of a scene, and the delimiter after it. `Malformed` tells the first line that breaks the grammar.
 #[tactic(auto, unfolding(crate::specs::Scene::remote_of))]
-pub(crate) fn read_remote<'a>(
+pub fn read_remote<'a>(
     alloc: Global,
     lines: Lines<'a>,
 ) -> Result<(RemotePart, Lines<'a>), SceneFault>

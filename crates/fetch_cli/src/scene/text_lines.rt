@@ -11,7 +11,7 @@ use fetch_store::NoMemory;
 use fetch_wire::{LineRef, line_in};
 use std::alloc::Global;
 
-/// The line at a place, and the place behind it.
+/// The line at a place, and the place after it.
 #[tactic(auto, unfolding(crate::specs::SceneLines::line_found))]
 fn line_at(bytes: &[u8], place: usize) -> Option<(LineRef<'_>, usize)>
     requires within { place ≤ length bytes.now }
@@ -26,8 +26,8 @@ fn line_at(bytes: &[u8], place: usize) -> Option<(LineRef<'_>, usize)>
     }
 }
 
-/// The lines of a text up to where it has no more, and that place.
-pub(crate) fn read_lines(alloc: Global, bytes: &[u8]) -> Result<(Vec<Placed<'_>>, usize), NoMemory>
+/// The lines of a text up to where it has no more, and that place. The text is no longer than a scene may be.
+pub fn read_lines(alloc: Global, bytes: &[u8]) -> Result<(Vec<Placed<'_>>, usize), NoMemory>
     requires { length bytes.now ≤ 2 ^ 30 }
     ensures { IfOk result (λ x. record { lines = x.0.items; last = x.1 } ≡ spec.lines_of bytes.now) }
 {

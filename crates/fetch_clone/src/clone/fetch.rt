@@ -16,6 +16,7 @@ pub enum Error {
     /// The first override that isn't one.
     #[error("an override isn't `section.key=value`, or can't be kept")]
     ParseConfig {
+        /// The override, as it was given.
         text: Text,
     },
     /// The remote can't be called so.
@@ -27,6 +28,7 @@ pub enum Error {
     /// The closure for the peer refused.
     #[error("the connection was refused by the caller")]
     RemoteConnection {
+        /// What the closure said.
         text: Text,
     },
     /// The references weren't listed.
@@ -35,27 +37,33 @@ pub enum Error {
     /// The remote has no such reference.
     #[error("no reference of the remote is called so")]
     RefNameMissing {
+        /// The ref name that was asked for.
         wanted: PartialName,
     },
     /// Several references may be meant.
     #[error("several references of the remote may be meant")]
     RefNameAmbiguous {
+        /// The ref name that was asked for.
         wanted: PartialName,
+        /// The names of those that may be meant.
         candidates: List<Text>,
     },
     /// The remote's `HEAD` leads to a text that is no full name.
     #[error("the remote's HEAD leads to no name")]
     InvalidHeadRef {
+        /// The text.
         head_ref_name: Text,
     },
     /// The reference that is meant has no full name.
     #[error("the reference has no full name")]
     ReferenceName {
+        /// The name of that reference.
         name: Text,
     },
     /// The closure for the remote refused.
     #[error("the remote was refused by the caller")]
     RemoteConfiguration {
+        /// What the closure said.
         text: Text,
     },
     /// The remote can't be saved.
@@ -73,6 +81,7 @@ pub enum Error {
     /// The revision isn't mapped.
     #[error("the remote has no such revision")]
     RevisionMissing {
+        /// The revision that was asked for.
         wanted: Text,
     },
     /// The configuration couldn't be read or written for another hash.
@@ -84,11 +93,13 @@ pub enum Error {
     /// The revision's object isn't stored.
     #[error("the revision isn't stored")]
     FindRevision {
+        /// The id that the revision is mapped to.
         id: ObjectId,
     },
     /// The revision's object leads to no commit.
     #[error("the revision is no commit")]
     PeelRevision {
+        /// The id that the revision is mapped to.
         id: ObjectId,
     },
     /// Memory ran out.

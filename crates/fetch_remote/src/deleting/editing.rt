@@ -12,8 +12,9 @@ use fetch_refs::{PackedRefs, RefEdit, RefError, Refs, Signature};
 use fetch_store::NoMemory;
 
 impl Repository {
-    /// Tests what each edit expects of the references, and makes the edits, as `Refs::prepare` and a commit do. Branches
-    /// are logged where the repository logs them. After an error the repository is as before.
+    /// Tests what each edit expects of the references, and makes the edits, as `Refs::prepare` and a commit do.
+    /// Branches are logged where the repository logs them. After an error the repository is as before. `Expectation`
+    /// tells the first edit whose expectation fails.
     pub fn edit_refs(
         &mut self,
         edits: &[RefEdit],

@@ -60,7 +60,7 @@ impl<'a, P: Peer> Connection<'a, P> {
     }
 
     /// Asks for the greeting, then for the listing, and maps what is listed, also where no refspec is named. The interrupt is
-    /// asked once before each receive. The peer is left behind what was heard and given.
+    /// asked once before each receive. The peer is left with what it heard and gave.
     pub fn ref_map<I: Interrupt>(
         self,
         alloc: Global,
@@ -85,7 +85,7 @@ impl<'a, P: Peer> Connection<'a, P> {
 
     /// Asks for the greeting, then for the listing, and maps what is listed, to fetch it. The interrupt is asked once before each
     /// receive. The fetch is no dry run, writes loose references and the usual message, and doesn't change the depth, until
-    /// that is chosen. After an error the peer is left behind what was heard and given.
+    /// that is chosen. After an error the peer is left with what it heard and gave.
     pub fn prepare_fetch<I: Interrupt>(
         self,
         alloc: Global,
@@ -118,8 +118,9 @@ impl<'a, P: Peer> Connection<'a, P> {
     }
 }
 
-/// Lists the references of a remote and maps them, also where no refspec is named.
-fn inquired<P: Peer, I: Interrupt>(
+/// Lists the references of a remote and maps them, also where no refspec is named. The interrupt is asked once before each
+/// receive.
+pub fn inquired<P: Peer, I: Interrupt>(
     alloc: Global,
     remote: &Remote,
     repo: &Repository,
@@ -160,8 +161,9 @@ fn listing_error(e: prepare::Error) -> ref_map::Error
     }
 }
 
-/// Lists the references of a remote and maps them, to fetch them.
-fn listed_for<P: Peer, I: Interrupt>(
+/// Lists the references of a remote and maps them, to fetch them. The interrupt is asked once before each receive. The fetch is
+/// no dry run, writes loose references and the usual message, and doesn't change the depth, until that is chosen.
+pub fn listed_for<P: Peer, I: Interrupt>(
     alloc: Global,
     remote: &Remote,
     repo: &Repository,

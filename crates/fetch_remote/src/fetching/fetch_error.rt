@@ -7,7 +7,7 @@ use crate::{fetch, prepare};
 use fetch_store::NoMemory;
 use thiserror::Error;
 
-/// Why a fetch was refused. References and reflogs are as found, unless a keep file couldn't be removed behind them.
+/// Why a fetch was refused. References and reflogs are as found, unless a keep file couldn't be removed once they had moved.
 #[derive(Debug, Drop, Error)]
 pub enum FetchError {
     /// Before a pack was asked for: the objects are as they were found.
@@ -16,6 +16,7 @@ pub enum FetchError {
     /// From the fetch request on.
     #[error(transparent)]
     Receive(fetch::Error),
+    /// Memory ran out, in whichever step.
     #[error("out of memory")]
     NoMemory,
 }
@@ -44,7 +45,7 @@ impl FetchError {
     }
 }
 
-/// Want of memory stays want of memory.
+/// Out of memory stays out of memory.
 impl From<prepare::Error> for FetchError {
     ghost use Rattle.std.specs.Prelude.{◌≡◌};
     ghost use Rattle.fetch_remote.specs.Errors.{preparing};
@@ -59,7 +60,7 @@ impl From<prepare::Error> for FetchError {
     }
 }
 
-/// Want of memory stays want of memory.
+/// Out of memory stays out of memory.
 impl From<fetch::Error> for FetchError {
     ghost use Rattle.std.specs.Prelude.{◌≡◌};
     ghost use Rattle.fetch_remote.specs.Errors.{receiving};

@@ -17,6 +17,7 @@ use std::alloc::Global;
 
 /// What becomes of each mapped reference, and the edits that carry it out. The work trees are asked once, and nothing is
 /// changed.
+// Many arguments: the public signature of this stage.
 pub fn judge<O: Objects, W: Worktrees>(
     alloc: Global,
     refs: &Refs,

@@ -25,6 +25,7 @@ use std::alloc::Global;
 pub struct Kept {
     /// How many objects it has, each as often as it comes.
     pub num_objects: u32,
+    /// The digest of the pack, after which the file is named.
     pub digest: ObjectId,
     /// Where the keep file stands.
     pub path: Text,

@@ -12,9 +12,11 @@ use std::alloc::Global;
 /// How a fetch is to be done.
 #[derive(Debug, Drop)]
 pub struct FetchOptions {
+    /// How references are listed and mapped.
     pub map: ref_map::Options,
     /// Tell what would become of the references, and change nothing.
     pub dry_run: bool,
+    /// Write ids into the packed list, and not as loose references.
     pub write_packed_refs_only: bool,
     /// What the reflogs say; without it, `fetch` and what happened.
     pub reflog_message: Option<RefLogMessage>,

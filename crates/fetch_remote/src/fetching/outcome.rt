@@ -12,6 +12,7 @@ use fetch_wire::{Handshake, RefMap};
 pub struct PackOutcome {
     /// How many objects it has, each as often as it comes.
     pub num_objects: u32,
+    /// The digest at the pack's end, of the repository's hash.
     pub digest: ObjectId,
     /// The keep file that stays.
     pub keep_path: Option<Text>,
@@ -44,14 +45,20 @@ fn copy_negotiate(negotiate: &Option<Negotiate>) -> Result<Option<Negotiate>, No
 pub enum Status {
     /// None was asked for.
     NoPackReceived {
+        /// Whether the fetch was a dry run.
         dry_run: bool,
         /// Absent where no request was sent.
         negotiate: Option<Negotiate>,
+        /// An update for each mapping, in order, and the edits.
         update_refs: update::Outcome,
     },
+    /// A pack was asked for, and taken.
     Change {
+        /// The rounds that were held, one for each request.
         negotiate: Negotiate,
+        /// The pack.
         write_pack_bundle: PackOutcome,
+        /// An update for each mapping, in order, and the edits.
         update_refs: update::Outcome,
     },
 }
@@ -87,8 +94,11 @@ impl Status {
 /// What a fetch found, and what it did.
 #[derive(Debug, Drop)]
 pub struct Outcome {
+    /// The references listed, and what they are mapped to.
     pub ref_map: RefMap,
+    /// What the greeting said.
     pub handshake: Handshake,
+    /// What was received, and what became of the references.
     pub status: Status,
 }
 

@@ -9,8 +9,8 @@ use fetch_conversation::Listed;
 /// What a fetch is prepared with: what was listed, with the conversation that goes on, and how the fetch is to be done.
 #[derive(Drop)]
 pub struct Prepared {
-    pub(crate) listed: Listed,
-    pub(crate) options: FetchOptions,
+    pub listed: Listed,
+    pub options: FetchOptions,
     ghost ready: { IsReady listed },
     ghost bound: { listed.session.intake.bound ≡ options.map.max_reply_bytes },
 }

@@ -113,6 +113,7 @@ impl<'a, P: Peer> Prepare<'a, P> {
     /// each receive.
     ///
     /// After an error references, reflogs, objects, border and files are as `Remote::fetch` leaves them.
+    // Many arguments: the public signature, that of a fetch without its options.
     pub fn receive<R: Threads + Sync, Q: Progress, I: Interrupt, F: Files, W: Worktrees>(
         self,
         rt: &R,
@@ -170,8 +171,11 @@ impl<'a, P: Peer> Prepare<'a, P> {
     }
 }
 
-/// Asks for what is wanted of what was listed, and settles what is received.
-fn fetch_on<R: Threads + Sync, P: Peer, Q: Progress, I: Interrupt, F: Files, W: Worktrees>(
+/// Asks for what is wanted of what was listed, and settles what is received. The interrupt is asked once before each receive.
+///
+/// After an error references, reflogs, objects, border and files are as `Remote::fetch` leaves them.
+// Many arguments: those of `receive`, with what was prepared.
+pub fn fetch_on<R: Threads + Sync, P: Peer, Q: Progress, I: Interrupt, F: Files, W: Worktrees>(
     rt: &R,
     alloc: Global,
     remote: &Remote,

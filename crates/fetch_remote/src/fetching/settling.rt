@@ -2,6 +2,7 @@
 
 ghost use Rattle.std.specs.Prelude.{◌≡◌, ℕ, true, false, is_some, IfOk, IfErr, IfSome, IsErrOf, List, OnOk, OnErr, Some, None, Ok};
 ghost use Rattle.std.specs.Option.{option_map};
+ghost use Rattle.fetch_store.specs.Answers.{AnswersBy, AnswersUnless};
 ghost use Rattle.fetch_store.specs.Faults.{Rose, Counts};
 ghost use Rattle.fetch_store.specs.FileCalls.{IsRefused};
 ghost use Rattle.fetch_store.specs.Collisions.{HasDistinctIds};
@@ -10,11 +11,12 @@ ghost use Rattle.fetch_refs.specs.Expectations.{refusal_of};
 ghost use Rattle.fetch_update.specs.declared.update.Error.TheVariants as update_errors;
 ghost use Rattle.fetch_conversation.specs.ListStage.{shown};
 ghost use Rattle.fetch_conversation.specs.declared.fetch.Error.TheVariants as errors;
+ghost use Rattle.fetch_remote.specs.Errors.{is_memory};
 ghost use Rattle.fetch_remote.specs.Judging.{Judges};
 ghost use Rattle.fetch_remote.specs.Keeping.{AreFiles, made, made_in, with_keep, without_keep, left_tree};
 ghost use Rattle.fetch_remote.specs.Repositories.{state_of, setup_of};
 ghost use Rattle.fetch_remote.specs.Settling as spec;
-ghost use Rattle.fetch_remote.specs.Settling.{taken, brought, pack_read, policy_in, is_early, Fails, IsOfJudging, IsSettled, IsUnsettled, IsUntaken};
+ghost use Rattle.fetch_remote.specs.Settling.{taken, brought, pack_read, policy_in, is_early, IsOfJudging, IsSettled, IsUnsettled, IsUntaken};
 
 use crate::fetch;
 use crate::fetching::judging::judge;
@@ -46,6 +48,7 @@ pub struct Manner {
 /// What the outcome tells of what was received.
 #[derive(Drop)]
 pub struct Taken {
+    /// The rounds that were held, one for each request.
     pub negotiate: Negotiate,
     /// With the keep file that was made.
     pub pack: Option<Kept>,
@@ -183,9 +186,8 @@ fn may_take(
     received: &Received,
 ) -> Result<(), fetch::Error>
     requires { HasDistinctIds received.now.objects }
-    ensures ok { OnOk result (taken (state_of repo.now) wants.now (Some received.now) ≡ Ok (spec.after_take (state_of repo.now) (spec.pack_of received.now))) }
+    ensures answer { AnswersBy (λ _. spec.after_take (state_of repo.now) (spec.pack_of received.now)) is_memory (taken (state_of repo.now) wants.now (Some received.now)) result }
     ensures checked { OnOk result (spec.checked (state_of repo.now) (spec.pack_of received.now) ≡ Ok tt) }
-    ensures refused { IfErr result (λ e. Fails (taken (state_of repo.now) wants.now (Some received.now)) e) }
 {
     check(repo, received)?;
     check_links(alloc, repo, wants, received)
@@ -210,8 +212,7 @@ fn check_links(
     wants: &[ObjectId],
     received: &Received,
 ) -> Result<(), fetch::Error>
-    ensures ok { OnOk result (spec.connected (state_of repo.now) wants.now (spec.pack_of received.now) ≡ Ok tt) }
-    ensures refused { IfErr result (λ e. Fails (spec.connected (state_of repo.now) wants.now (spec.pack_of received.now)) e) }
+    ensures { AnswersUnless is_memory (spec.connected (state_of repo.now) wants.now (spec.pack_of received.now)) result }
 {
     let take = Take {
         wants,

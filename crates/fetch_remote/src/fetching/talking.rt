@@ -8,22 +8,16 @@ ghost use Rattle.fetch_conversation.specs.ListStage.{IsReady};
 ghost use Rattle.fetch_conversation.specs.Errors.{is_stopped};
 ghost use Rattle.fetch_conversation.specs.Receiving.{IsHeeded};
 ghost use Rattle.fetch_conversation.specs.declared.fetch.Error.TheVariants as receive_errors;
-ghost use Rattle.fetch_conversation.specs.declared.prepare.Error.TheVariants as prepare_errors;
-ghost use Rattle.fetch_conversation.specs.declared.ref_map.Error.TheVariants as ref_map_errors;
-ghost use Rattle.fetch_remote.specs.Errors.{is_yes};
 ghost use Rattle.fetch_remote.specs.Repositories.{state_of, setup_of};
 ghost use Rattle.fetch_remote.specs.Stages as spec;
 ghost use Rattle.fetch_remote.specs.Steps.{TalksOn};
-ghost use Rattle.fetch_remote.specs.Talking.{HasTalked};
-ghost use Rattle.fetch_remote.specs.declared.fetching.fetch_error.FetchError.TheVariants as errors;
 
 use crate::fetch;
-use crate::fetching::fetch_error::FetchError;
 use crate::fetching::options::FetchOptions;
-use crate::phases::{converse, list};
+use crate::phases::converse;
 use crate::remote::Remote;
 use crate::repository::Repository;
-use fetch_conversation::{Listed, NoProgress, Progress, Received, View};
+use fetch_conversation::{Listed, Progress, Received, View};
 use fetch_negotiate::{Shallow, tips, wants};
 use fetch_specs::Tags;
 use fetch_store::{List, NoMemory, ObjectId};
@@ -37,58 +31,6 @@ pub(crate) struct Talked {
     pub(crate) listed: Listed,
     pub(crate) wants: List<ObjectId>,
     pub(crate) received: Option<Received>,
-}
-
-/// Holds the conversation of a fetch.
-pub(crate) fn talk<R: Threads + Sync, P: Peer, I: Interrupt>(
-    rt: &R,
-    alloc: Global,
-    remote: &Remote,
-    repo: &Repository,
-    peer: &mut P,
-    interrupt: &mut I,
-    options: FetchOptions,
-) -> Result<Talked, FetchError>
-    ensures held { HasTalked P.answers (P.told peer.old) (P.told peer.new) (record { remote = remote.now; options = options; setup = setup_of repo.now }) (state_of repo.now) result }
-    ensures of_kind { IfOk result (λ t. IfSome t.received (λ r. AreOf (state_of repo.now).hash r.objects)) }
-    ensures distinct { IfOk result (λ t. IfSome t.received (λ r. HasDistinctIds r.objects)) }
-    ensures counts { Counts (P.faults peer.old) (P.faults peer.new) }
-    ensures transport { IsErrOf result (errors.Prepare (prepare_errors.RefMap ref_map_errors.Transport)) → Rose (P.faults peer.old) (P.faults peer.new) }
-    ensures client { IsErrOf result (errors.Receive receive_errors.Client) → Rose (P.faults peer.old) (P.faults peer.new) }
-    ensures asked { Counts (I.yes interrupt.old) (I.yes interrupt.new) }
-    ensures interrupted { IsErrOf result (errors.Prepare (prepare_errors.RefMap ref_map_errors.Interrupted)) → Rose (I.yes interrupt.old) (I.yes interrupt.new) }
-    ensures stopped { IsErrOf result (errors.Receive receive_errors.Interrupted) → Rose (I.yes interrupt.old) (I.yes interrupt.new) }
-    ensures uninterrupted { OnOk result ((I.yes interrupt.new).count ≡ (I.yes interrupt.old).count) }
-    ensures questions { IsHeeded is_yes (I.will_stop interrupt.old) (I.will_stop interrupt.new) (P.told peer.old) (P.told peer.new) result }
-{
-    let FetchOptions {
-        map,
-        shallow,
-        dry_run,
-        ..
-    } = options;
-    let mut listed = list(alloc, remote, repo.settings(), peer, interrupt, map)?;
-    let tags = remote.fetch_tags();
-    let view = view(alloc, repo, &listed.ref_map, tags, &shallow)?;
-    let received = converse(
-        rt,
-        alloc,
-        &mut listed,
-        repo.settings(),
-        &view,
-        repo.store(),
-        tags,
-        &shallow,
-        dry_run,
-        peer,
-        &mut NoProgress,
-        interrupt,
-    )?;
-    Ok(Talked {
-        listed,
-        wants: view.wants,
-        received,
-    })
 }
 
 /// Holds the second stage of a fetch whose references were listed.

@@ -24,7 +24,7 @@ pub enum Error {
     NoMemory,
 }
 
-/// Want of memory stays want of memory.
+/// Out of memory stays out of memory.
 impl From<find::Error> for Error {
     ghost use Rattle.std.specs.Prelude.{◌≡◌};
     ghost use Rattle.fetch_remote.specs.Finding.{existing_refusal};

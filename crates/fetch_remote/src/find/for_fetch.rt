@@ -21,7 +21,7 @@ pub enum Error {
     NoMemory,
 }
 
-/// Want of memory stays want of memory.
+/// Out of memory stays out of memory.
 impl From<existing::Error> for Error {
     ghost use Rattle.std.specs.Prelude.{◌≡◌};
     ghost use Rattle.fetch_remote.specs.Finding.{fetch_refusal};
@@ -36,7 +36,7 @@ impl From<existing::Error> for Error {
     }
 }
 
-/// Want of memory stays want of memory.
+/// Out of memory stays out of memory.
 impl From<init::Error> for Error {
     ghost use Rattle.std.specs.Prelude.{◌≡◌};
     ghost use Rattle.fetch_remote.specs.Finding.{init_refusal};

@@ -94,9 +94,10 @@ impl Remote {
     }
 
     /// Saves the remote under its name: in all sections `remote "<name>"` the addresses, the choice of tags and the
-    /// refspecs go, and what they are now is written into the last such section of the file itself, or into a new one at
-    /// the end. A new one is used also where addresses of other files are to be cleared, by an empty address before the
-    /// others. After an error the file is as before.
+    /// refspecs go, and what they are now is written into the last such section of the file itself, or into a new one
+    /// at the end. A new one is used also where addresses of other files are to be cleared, by an empty address before
+    /// the others. After an error the file is as before. `NameMissing` comes where it has no name, and then `Value`
+    /// where a configuration can't keep one of the texts.
     pub fn save_to(&self, alloc: Global, config: &mut File) -> Result<(), Error>
         ensures answer { AnswersUnless saving.is_memory (saving.save_verdict self.now.name (parts_of self.now)) result }
         ensures saved { OnOk result (IfSome self.now.name (λ name. config.new ≡ saving.saved config.old (text_of name) (parts_of self.now))) }
@@ -106,6 +107,7 @@ impl Remote {
     }
 
     /// Saves the remote under a valid name, which it then has. After an error the file and the remote are as before.
+    /// `Name` comes first, where the name isn't valid.
     pub fn save_as_to(
         &mut self,
         alloc: Global,

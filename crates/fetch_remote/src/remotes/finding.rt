@@ -46,7 +46,8 @@ impl Repository {
         at(alloc, address)
     }
 
-    /// The remote that trusted sections `remote "<name>"` tell. None exactly where there is no such section.
+    /// The remote that trusted sections `remote "<name>"` tell. None exactly where there is no such section. An error
+    /// tells what of these sections can't be read: `TagOpt` first, then `Url`, then `RefSpec`.
     pub fn try_find_remote(
         &self,
         alloc: Global,
@@ -70,7 +71,8 @@ impl Repository {
         sought(alloc, self.config(), name_or_url)
     }
 
-    /// The remote that trusted sections `remote "<name>"` tell, of which there has to be one.
+    /// The remote that trusted sections `remote "<name>"` tell, of which there has to be one. Else `NotFound` tells the
+    /// name.
     pub fn find_remote(&self, alloc: Global, name_or_url: &[u8]) -> Result<Remote, existing::Error>
         ensures { AnswersUnless spec.is_existing_memory (spec.existing_in (sections_of self.now) name_or_url.now) result }
     {
@@ -102,7 +104,8 @@ impl Repository {
     }
 
     /// The remote to fetch from. A text names it, or is its address. Where there is no text, it is the remote of the
-    /// branch that `HEAD` names, or else the default one.
+    /// branch that `HEAD` names, or else the default one. `ExactlyOneRemoteNotAvailable` comes where there is none of
+    /// these, and `Init` where the text is neither a name nor an address.
     pub fn find_fetch_remote(
         &self,
         alloc: Global,

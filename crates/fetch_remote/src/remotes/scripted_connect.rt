@@ -13,7 +13,7 @@ use std::alloc::Global;
 use std::collections::VecDeque;
 use std::marker::Model;
 
-/// A maker that hands out these peers in order, and peers without pieces behind the last one. The calls whose numbers
+/// A maker that hands out these peers in order, and peers without pieces after the last one. The calls whose numbers
 /// are listed fail, where numbers count the calls of `make` from 0.
 #[derive(Drop)]
 pub struct ScriptedConnect {

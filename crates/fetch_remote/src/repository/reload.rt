@@ -19,8 +19,10 @@ use fetch_store::{FileError, Files, Text};
 use std::alloc::Global;
 
 impl Repository {
-    /// Reads the file `config` in the git directory in place of the local file, under that file's metadata, and resolves
-    /// configuration, settings and logging anew. After an error the repository is as before.
+    /// Reads the file `config` in the git directory in place of the local file, under that file's metadata, and
+    /// resolves configuration, settings and logging anew. After an error the repository is as before. `Missing` comes
+    /// where there is no such file, `Config` with the first line that breaks the grammar, and `Io` only where the
+    /// files' count of faults rose.
     pub fn reload<F: Files>(&mut self, alloc: Global, files: &mut F) -> Result<(), OpenError>
         ensures state { state_of self.new ≡ state_of self.old }
         ensures ok { OnOk result (HasReloaded (F.told files.old) (setup_of self.old) (setup_of self.new)) }
@@ -40,7 +42,7 @@ impl Repository {
     }
 }
 
-/// Reads a configuration file that has to be there, under this metadata.
+/// Reads a configuration file that has to be there, under this metadata. The errors are those of `Repository::reload`.
 pub fn read_configuration<F: Files>(
     alloc: Global,
     files: &mut F,

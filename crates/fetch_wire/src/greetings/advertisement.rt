@@ -240,7 +240,7 @@ fn read_if(found: Option<Reading>) -> Read
     }
 }
 
-/// Reads a text behind the first reference.
+/// Reads a text after the first reference.
 fn read_reference(
     alloc: Global,
     handshake: Handshake,
@@ -260,7 +260,7 @@ fn read_reference(
     }
 }
 
-/// Reads a line behind the first reference.
+/// Reads a line after the first reference.
 pub(crate) fn read_advertised(
     alloc: Global,
     handshake: Handshake,
@@ -318,7 +318,7 @@ pub(crate) fn first_reference(alloc: Global, text: &[u8]) -> Result<Read, NoMemo
     }
 }
 
-/// Reads the line behind `version 1`.
+/// Reads the line after `version 1`.
 pub(crate) fn read_first(alloc: Global, saying: Saying<'_>) -> Result<Read, NoMemory>
     ensures { IfOk result (λ read. step_in read ≡ by_saying breaks breaks (λ text. or_breaks (at_first text) (λ s. goes s)) saying.entry) }
 {

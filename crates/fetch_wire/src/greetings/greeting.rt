@@ -1,4 +1,4 @@
-//! What a server says first.
+//! The capabilities of a greeting: how each is read, and what they say together.
 
 ghost use Rattle.std.specs.Prelude.{◌≡◌, IfOk, fold, option_and_then};
 ghost use Rattle.std.specs.Option.{option_copied};
@@ -73,7 +73,7 @@ impl Capability {
         !self.is_object_format() || self.object_format().is_some()
     }
 
-    /// The hash that holds behind it, where this one held before.
+    /// The hash that holds after it, where this one held before.
     fn hash_after(&self, kind: Kind) -> Kind
         ensures { result ≡ hash_after kind self.now }
     {

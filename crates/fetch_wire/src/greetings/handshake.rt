@@ -1,4 +1,4 @@
-//! What a server says first.
+//! What a greeting says, as a record.
 
 ghost use Rattle.std.specs.Prelude.{◌≡◌, IfOk};
 ghost use Rattle.std.specs.Option.{option_copied};
@@ -10,14 +10,18 @@ use fetch_store::{Kind, List, NoMemory, Text, TryClone};
 /// The protocol that a server speaks.
 #[derive(Clone, Copy, Debug, PartialEq, Eq)]
 pub enum Version {
+    /// Version 1: the greeting lists the references itself.
     V1,
+    /// Version 2: the greeting has capabilities alone, and references are asked for.
     V2,
 }
 
 /// What a server offers: a key, with a value where it tells one.
 #[derive(Debug, Drop, PartialEq, Eq)]
 pub struct Capability {
+    /// The key, which is not empty.
     pub name: Text,
+    /// What follows the first `=`, empty or not. None without a `=`.
     pub value: Option<Text>,
 }
 
@@ -52,8 +56,11 @@ impl TryClone for Capability {
 /// What a server's greeting says: the capabilities in the order of their lines, and the hash of its ids.
 #[derive(Debug, Drop)]
 pub struct Handshake {
+    /// The version of the protocol.
     pub version: Version,
+    /// All capabilities, repeated keys too. Of a key that is repeated the last counts.
     pub capabilities: List<Capability>,
+    /// The hash that `object-format` names, SHA-1 without that line.
     pub object_hash: Kind,
 }
 

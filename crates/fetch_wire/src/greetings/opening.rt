@@ -75,7 +75,7 @@ fn add_capability(alloc: Global, before: List<Capability>, text: &[u8]) -> Resul
     }
 }
 
-/// Reads a line behind `version 2`.
+/// Reads a line after `version 2`.
 pub(crate) fn read_capability(
     alloc: Global,
     before: List<Capability>,

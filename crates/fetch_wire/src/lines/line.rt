@@ -9,6 +9,7 @@ use std::alloc::Global;
 /// A pkt-line whose payload is lent.
 #[derive(Clone, Copy, Debug, PartialEq, Eq)]
 pub enum LineRef<'a> {
+    /// The bytes after the four digits.
     Payload(&'a [u8]),
     /// The end of a reply or a request.
     Flush,
@@ -35,9 +36,13 @@ impl LineRef<'_> {
 /// A pkt-line.
 #[derive(Debug, Drop, PartialEq, Eq)]
 pub enum Line {
+    /// The bytes after the four digits.
     Payload(Text),
+    /// `0000`: the end of a reply or a request.
     Flush,
+    /// `0001`: what divides the parts of a reply or a request.
     Delim,
+    /// `0002`: the end of a response, which no reply has here.
     End,
 }
 

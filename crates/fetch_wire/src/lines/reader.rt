@@ -97,7 +97,7 @@ impl LineReader {
         })
     }
 
-    /// Takes the next bytes. Want of memory alone is an error, and leaves the reader as it was.
+    /// Takes the next bytes. Out of memory is the only error, and leaves the reader as it was.
     pub fn feed(&mut self, piece: &[u8]) -> Result<(), WireError>
         ensures ok { OnOk result (self.new ≡ fed self.old piece.now) }
         ensures err { OnErr result (self.new ≡ self.old) }

@@ -95,7 +95,8 @@ fn line_behind(
     }
 }
 
-/// The line that the bytes at this place begin with, and how many of the bytes it takes.
+/// The line that the bytes at this place begin with, and how many of the bytes it takes. A refusal is the one that
+/// these digits give, and the bound, at that place.
 #[tactic(auto, unfolding(crate::specs::Lines::line_at))]
 pub fn line_in(bound: usize, place: usize, bytes: &[u8]) -> Result<(LineRef<'_>, usize), Trouble>
     requires { place < 2 ^ 32 }

@@ -7,7 +7,7 @@ ghost use Rattle.fetch_wire.specs.Greetings.{has_word_in};
 
 use fetch_store::split_first;
 
-/// The first word of a text, and what stands behind the space that ends it.
+/// The first word of a text, and what follows the space that ends it.
 pub(crate) fn next_word(text: &[u8]) -> (&[u8], Option<&[u8]>)
     ensures words { words text.now ≡ result.0.now ∷ words_in (option_copied result.1) }
     ensures shorter { IfSome result.1 (λ rest. length rest.now < length text.now) }

@@ -23,7 +23,7 @@ fn digits(count: usize) -> [u8; 4]
     digits
 }
 
-/// The number that the digits of a line write, and what stands behind them.
+/// The number that the digits of a line write, and what follows them.
 fn parts(line: LineRef<'_>) -> (usize, &[u8])
     requires { length (payload_of (line_of line)) ≤ 65516 }
     ensures count { result.0 ≡ count_of (line_of line.entry) }

@@ -56,6 +56,7 @@ fn attributes(kind: Kind, text: Option<&[u8]>) -> Option<Attributes<'_>>
 }
 
 /// The reference with this name, id and attributes. An unborn one has a target.
+// Long: one arm for each kind of reference, a field a line.
 pub(crate) fn make_ref(
     alloc: Global,
     name: &[u8],

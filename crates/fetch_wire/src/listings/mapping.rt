@@ -11,7 +11,9 @@ use fetch_store::{Kind, List, NoMemory, Text, TryClone};
 /// Which refspec made a mapping: one of the remote's, or one of the extra ones.
 #[derive(Clone, Copy, Debug, PartialEq, Eq)]
 pub enum SpecIndex {
+    /// The index of one of the remote's refspecs.
     ExplicitInRemote(usize),
+    /// The index of one of the extra refspecs.
     Implicit(usize),
 }
 
@@ -34,8 +36,11 @@ impl SpecIndex {
 /// What is fetched, where it goes, and which refspec says so.
 #[derive(Debug, Drop, PartialEq, Eq)]
 pub struct Mapping {
+    /// What is fetched.
     pub remote: Source,
+    /// The local reference that it goes to; its completed name may be no valid one. None where it is fetched alone.
     pub local: Option<Text>,
+    /// The refspec that made the mapping.
     pub spec_index: SpecIndex,
 }
 
@@ -61,10 +66,15 @@ impl TryClone for Mapping {
 /// The references of a remote, the refspecs, and the mappings that they make.
 #[derive(Debug, Drop)]
 pub struct RefMap {
+    /// First those of ids, then refspec by refspec and reference by reference. No destination has two sources.
     pub mappings: List<Mapping>,
+    /// The remote's refspecs, which `ExplicitInRemote` counts.
     pub refspecs: List<RefSpec>,
+    /// The extra refspecs, which `Implicit` counts. That of the tags is at their end, unless it was among them.
     pub extra_refspecs: List<RefSpec>,
+    /// All references that the server listed, in its order.
     pub remote_refs: List<Ref>,
+    /// The hash of the ids.
     pub object_hash: Kind,
 }
 

@@ -11,25 +11,36 @@ use fetch_store::{NoMemory, ObjectId, Text, TryClone};
 pub enum Ref {
     /// It has the id of an object.
     Direct {
+        /// Its name.
         full_ref_name: Text,
+        /// The id.
         object: ObjectId,
     },
     /// It names another reference. Where that one has a tag's id, `object` is what the tag peels to.
     Symbolic {
+        /// Its name.
         full_ref_name: Text,
+        /// The name that it names.
         target: Text,
+        /// The tag's id, where that reference has one.
         tag: Option<ObjectId>,
+        /// That reference's id, or what its tag peels to.
         object: ObjectId,
     },
     /// It has a tag's id, and `object` is what the tag peels to.
     Peeled {
+        /// Its name.
         full_ref_name: Text,
+        /// The tag's id.
         tag: ObjectId,
+        /// What the tag peels to.
         object: ObjectId,
     },
     /// It names a reference that isn't there.
     Unborn {
+        /// Its name.
         full_ref_name: Text,
+        /// The name that it names.
         target: Text,
     },
 }
@@ -133,7 +144,9 @@ impl TryClone for Ref {
 /// What a mapping takes from the remote: an object, or a reference.
 #[derive(Debug, Drop, PartialEq, Eq)]
 pub enum Source {
+    /// An object, which a refspec names by its id.
     ObjectId(ObjectId),
+    /// A reference that the server lists.
     Ref(Ref),
 }
 

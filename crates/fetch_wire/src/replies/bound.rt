@@ -26,7 +26,7 @@ impl ReplyBound {
     /// The greatest bound.
     pub const GREATEST: u32 = 1 << 30;
 
-    /// A bound of so many bytes, where it is in range.
+    /// A bound of that many bytes, where it is in range.
     pub fn new(bytes: u32) -> Option<ReplyBound>
         ensures in_range { IsSome result ↔ ((1 ≤ bytes) × (bytes ≤ 1073741824)) }
         ensures bytes { IfSome result (λ bound. bound ≡ bytes) }

@@ -172,7 +172,7 @@ fn change(asked: AskedReply, reply: FetchReply, text: &[u8]) -> Result<Read, NoM
     Ok(Read::On(Reading::Reply(asked, Part::ShallowInfo, reply)))
 }
 
-/// The pack with more bytes behind it.
+/// The pack with more bytes after it.
 fn with_bytes(alloc: Global, pack: Option<Text>, bytes: &[u8]) -> Result<Text, NoMemory>
     ensures { IfOk result (λ text. Some text ≡ with_bytes pack bytes.now) }
 {
@@ -222,7 +222,7 @@ fn read_band(
     }
 }
 
-/// Reads a line behind `acknowledgments`.
+/// Reads a line after `acknowledgments`.
 fn read_acknowledgment(
     alloc: Global,
     asked: AskedReply,
@@ -243,7 +243,7 @@ fn read_acknowledgment(
     }
 }
 
-/// Reads a line behind `shallow-info`.
+/// Reads a line after `shallow-info`.
 fn read_change(
     alloc: Global,
     asked: AskedReply,
@@ -260,7 +260,7 @@ fn read_change(
     }
 }
 
-/// Reads the line behind `ready`.
+/// Reads the line after `ready`.
 fn read_ready(asked: AskedReply, reply: FetchReply, line: LineRef<'_>) -> Read
     ensures { step_in result ≡ behind_ready asked reply (line_of line.entry) }
 {

@@ -36,11 +36,11 @@ pub(crate) enum Part {
     Beginning,
     /// An acknowledgment, `ready`, or the flush.
     Acknowledgments,
-    /// The delimiter behind `ready`.
+    /// The delimiter after `ready`.
     Ready,
     /// `shallow-info` or `packfile`.
     Rest,
-    /// A change of the border, or the delimiter behind them.
+    /// A change of the border, or the delimiter after them.
     ShallowInfo,
     /// `packfile`.
     Packfile,

@@ -11,7 +11,7 @@ use std::alloc::Global;
 use std::marker::Model;
 
 /// A reader of one reply, whose bytes are fed in pieces. It reads as soon as a line is whole. Contracts see what all
-/// that was fed tells, with any bytes behind it.
+/// that was fed tells, with any bytes after it.
 #[derive(Drop)]
 pub struct ReplyReader {
     lines: LineReader,
@@ -58,7 +58,7 @@ impl ReplyReader {
         })
     }
 
-    /// Takes the next bytes, and reads on as far as lines are whole. Want of memory alone is an error: nothing is known
+    /// Takes the next bytes, and reads on as far as lines are whole. Out of memory is the only error: nothing is known
     /// of the reply then, and each later call answers it again.
     pub fn feed(&mut self, piece: &[u8]) -> Result<(), WireError>
         ensures fed { OnOk result ((more : List ℕ) → tells self.new more ≡ tells self.old (piece.now ++ more)) }
@@ -102,7 +102,7 @@ impl ReplyReader {
         self.lines.place()
     }
 
-    /// The bytes behind the reply, once it is whole. They belong to the next one.
+    /// The bytes after the reply, once it is whole. They belong to the next one.
     pub fn rest(&self) -> &[u8]
         ensures { (told : Told) (rest : List ℕ) → tells self.now [] ≡ Some (Ok (told, rest)) → result.now ≡ rest }
     {

@@ -41,7 +41,7 @@ fn begins_with_error(payload: &[u8]) -> bool
     payload.starts_with(b"ERR ")
 }
 
-/// What the server says behind `ERR `.
+/// What the server says after `ERR `.
 fn error_text(payload: &[u8]) -> &[u8]
     ensures { result.now ≡ error_text payload.now }
 {

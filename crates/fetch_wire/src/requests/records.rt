@@ -9,8 +9,11 @@ use std::alloc::Global;
 /// What one round asks: text lines without their line feeds, the haves, and whether the rounds end.
 #[derive(Debug, Drop)]
 pub struct Request {
+    /// The text lines before the haves: words, `shallow`, depth and `want` lines.
     pub lines: List<Text>,
+    /// What is told to be there, a `have` line each.
     pub haves: List<ObjectId>,
+    /// Whether `done` ends the request.
     pub done: bool,
 }
 

@@ -14,7 +14,7 @@ use fetch_store::{NoMemory, ObjectId, Text};
 use std::alloc::Global;
 
 impl Request {
-    /// The lines that a request is sent by: a delimiter before the line `plain-pack` or `plain-pack-2`, or behind all lines
+    /// The lines that a request is sent by: a delimiter before the line `plain-pack` or `plain-pack-2`, or after all lines
     /// where neither stands, the haves, `done` where it is set, and a flush.
     #[tactic(auto, unfolding(crate::specs::RequestLines::request_lines))]
     pub fn to_lines(&self, alloc: Global) -> Result<Vec<Line>, NoMemory>

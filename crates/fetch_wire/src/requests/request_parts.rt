@@ -10,7 +10,7 @@ use crate::lines::line::Line;
 use fetch_store::{Kind, NoMemory, Text};
 use std::alloc::Global;
 
-/// Appends `name` or `name=value`, with a NUL behind it.
+/// Appends `name` or `name=value`, with a NUL after it.
 fn append_parameter(out: &mut Vec<u8>, parameter: &(Text, Option<Text>)) -> Result<(), NoMemory>
     ensures { OnOk result (out.new.items ≡ out.old.items ++ parameter_text parameter.now) }
 {
@@ -62,7 +62,7 @@ pub fn agent_text(alloc: Global, agent: &[u8]) -> Result<Text, NoMemory>
     Ok(Text::from(text))
 }
 
-/// The text line of a word and what is behind it.
+/// The text line of a word and what follows it.
 pub fn text_line(alloc: Global, word: &[u8], value: &[u8]) -> Result<Line, NoMemory>
     ensures { IfOk result (λ line. line ≡ text_line (word.now ++ value.now)) }
 {
@@ -83,7 +83,7 @@ fn kind_text(kind: Kind) -> &'static [u8]
     }
 }
 
-/// The text of a word and what is behind it.
+/// The text of a word and what follows it.
 pub fn joined(alloc: Global, word: &[u8], rest: &[u8]) -> Result<Text, NoMemory>
     ensures { IfOk result (λ text. text ≡ word.now ++ rest.now) }
 {
@@ -92,7 +92,7 @@ pub fn joined(alloc: Global, word: &[u8], rest: &[u8]) -> Result<Text, NoMemory>
     Ok(Text::from(bytes))
 }
 
-/// Appends the text of a word and what is behind it, where the condition holds.
+/// Appends the text of a word and what follows it, where the condition holds.
 pub fn append_when(
     alloc: Global,
     texts: &mut Vec<Text>,

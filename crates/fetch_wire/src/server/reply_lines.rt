@@ -95,7 +95,7 @@ pub fn last_lines(
     Ok(lines)
 }
 
-/// The reply that ends the rounds by itself: these haves are acknowledged, and what `last_lines` has stands behind
+/// The reply that ends the rounds by itself: these haves are acknowledged, and what `last_lines` has stands after
 /// `ready`.
 pub fn ready_lines(
     alloc: Global,

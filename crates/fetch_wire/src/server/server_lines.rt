@@ -75,7 +75,7 @@ pub(crate) fn id_text(alloc: Global, id: Option<&ObjectId>) -> Result<Text, NoMe
     }
 }
 
-/// Appends a space, a word and what is behind it.
+/// Appends a space, a word and what follows it.
 pub(crate) fn append_word(out: &mut Vec<u8>, word: &[u8], rest: &[u8]) -> Result<(), NoMemory>
     ensures { OnOk result (out.new.items ≡ out.old.items ++ 32 ∷ (word.now ++ rest.now)) }
 {

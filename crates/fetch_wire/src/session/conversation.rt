@@ -123,7 +123,7 @@ impl Session {
         })
     }
 
-    /// Whose turn it is.
+    /// Whose turn it is: a refusal comes first, then what is to be sent, then a reply that is awaited.
     pub fn poll(&self) -> Turn
         ensures turn { result ≡ spec.turn_of self.now }
         ensures receives { result ≡ turns.Receive → spec.IsAwaiting self.now }
@@ -153,14 +153,14 @@ impl Session {
         self.trouble.is_some() && (self.refused || self.is_all_sent())
     }
 
-    /// What is to be sent.
+    /// What is to be sent, in order. It is empty where nothing is.
     pub fn outgoing(&self) -> &[u8]
         ensures { result.now ≡ self.now.outgoing }
     {
         &self.outgoing[self.sent..]
     }
 
-    /// So many of the outgoing bytes were sent.
+    /// The first `count` of the outgoing bytes were sent.
     pub fn sent(&mut self, count: usize)
         requires { count ≤ length self.old.outgoing }
         ensures { self.new ≡ record self.old { outgoing = drop count self.old.outgoing } }
@@ -185,7 +185,7 @@ impl Session {
         }
     }
 
-    /// The references, handed over without a copy once the listing was read whole: the session has none behind it.
+    /// The references, handed over without a copy once the listing was read whole: the session has none after it.
     pub fn take_refs(&mut self) -> Option<List<Ref>>
         ensures taken { result ≡ self.old.refs }
         ensures left { self.new ≡ record self.old { refs = None } }
@@ -200,7 +200,7 @@ impl Session {
         self.reply.as_ref()
     }
 
-    /// What stands of a refusal, or want of memory in its place.
+    /// What stands of a refusal, or out of memory in its place.
     fn answer(&self) -> Result<(), WireError>
         ensures refusal { RefusesUnless spec.is_memory (spec.refusal_of self.now) result }
         ensures ok { spec.refusal_of self.now ≡ None → result ≡ Ok tt }
@@ -302,7 +302,7 @@ impl Session {
         }
     }
 
-    /// Keeps what was found of the awaited reply. Behind a greeting of version 2 the references are asked for.
+    /// Keeps what was found of the awaited reply. After a greeting of version 2 the references are asked for.
     fn take(&mut self, found: Found) -> Result<(), NoMemory>
         ensures { OnOk result (spec.Takes found self.old self.new) }
     {
@@ -352,7 +352,7 @@ impl Session {
 
     /// Takes the next bytes of the peer, and reads on as far as replies are whole. A refusal stands where all is sent
     /// and the awaited reply breaks its grammar, passes the bound or is the server's own refusal, where a greeting lists
-    /// nothing, or where the listing request doesn't fit; each later call answers it again. Want of memory is such a
+    /// nothing, or where the listing request doesn't fit; each later call answers it again. Out of memory is such a
     /// refusal too: what this call answers first is what stands.
     pub fn feed(&mut self, piece: &[u8]) -> Result<(), WireError>
         ensures fed { result ≢ Err errors.NoMemory → spec.IsAlike self.new (spec.fed self.old piece.now) }
@@ -423,7 +423,7 @@ impl Session {
     }
 
     /// Sends a request, and awaits its reply: up to the line `packfile` alone where the pack isn't read. What was fed
-    /// ahead may be that reply. `LineTooLong` and want of memory leave the session as it was.
+    /// ahead may be that reply. `LineTooLong` and out of memory leave the session as it was.
     pub fn request(&mut self, request: &Request, read_pack: bool) -> Result<(), WireError>
         requires { (spec.turn_of self.old ≡ turns.Idle) ⊎ (spec.turn_of self.old ≡ turns.Failed) }
         ensures requested { OnOk result (spec.IsAlike self.new (spec.requested self.old request.now read_pack)) }

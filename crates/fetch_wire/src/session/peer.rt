@@ -10,24 +10,26 @@ use thiserror::Error;
 /// Why bytes weren't sent.
 #[derive(Clone, Copy, Debug, PartialEq, Eq, Error)]
 pub enum SendFault {
+    /// The other side failed. Its count of faults rose.
     #[error("the other side failed")]
     Failed,
+    /// Memory ran out, which is no fault of the other side.
     #[error("out of memory")]
     NoMemory,
 }
 
 /// The other end of a conversation.
 pub trait Peer {
-    /// What it heard, what it gave and what it has still to give, and each receive that was made of it, where it tells
+    /// What it received, what it gave and what it has still to give, and each receive that was made of it, where it tells
     /// them.
     ghost told: { Self → Option Talk };
 
     ghost faults: { Self → Faults };
 
-    /// Whether what it hears may add to what it has still to give.
+    /// Whether what it receives may add to what it has still to give.
     ghost answers: { Bool };
 
-    /// At a refusal a front of the bytes may have been heard.
+    /// Sends all of the bytes. At a refusal a prefix of them may have been received.
     fn send(&mut self, bytes: &[u8]) -> Result<(), SendFault>
         ensures talk { Sends answers (told self.old) (told self.new) result bytes.now }
         ensures receives { Makes (told self.old) (told self.new) [] }

@@ -14,7 +14,7 @@ use opening_value::Openings;
 use std::alloc::Global;
 use std::marker::Model;
 
-/// What a scripted peer heard, and how far it gave its pieces: up to an offset in one of them.
+/// What a scripted peer received, and how far it gave its pieces: up to an offset in one of them.
 #[derive(Debug, Drop)]
 struct Said {
     pieces: Vec<Text>,
@@ -24,7 +24,7 @@ struct Said {
 }
 
 /// A peer that gives these pieces, whatever it hears, one piece at most for each `receive`. The calls whose numbers
-/// are listed fail, where numbers count its calls of both kinds from 0. Contracts see what it heard and gave, the pieces
+/// are listed fail, where numbers count its calls of both kinds from 0. Contracts see what it received and gave, the pieces
 /// still to be given, its receives, and its calls.
 #[derive(Debug, Drop)]
 pub struct ScriptedPeer {
@@ -76,7 +76,7 @@ impl ScriptedPeer {
         }
     }
 
-    /// A peer that heard and gave the same, and has the same still to give and to fail at.
+    /// A peer that received and gave the same, and has the same still to give and to fail at.
     pub fn try_clone(&self) -> Result<ScriptedPeer, NoMemory>
         ensures { IfOk result (λ copy. copy ≡ self.now) }
     {
@@ -94,7 +94,7 @@ impl ScriptedPeer {
         })
     }
 
-    /// What it heard so far.
+    /// The bytes that it received so far.
     pub fn heard(&self) -> &[u8]
         ensures { result.now ≡ self.now.heard }
     {
@@ -120,7 +120,7 @@ fn next_place(pieces: &[Text], piece: usize, offset: usize) -> (usize, usize)
     (piece, offset)
 }
 
-/// Copies what stands behind this place to the front of `into`, as far as it fits.
+/// Copies what follows this place to the front of `into`, as far as it fits.
 fn copy_from(bytes: &[u8], place: usize, into: &mut [u8]) -> usize
     requires { place ≤ length bytes.now }
     ensures count { result ≡ min (length into.new) (length bytes.now - place) }

@@ -4,7 +4,7 @@ use Rattle.fetch_update.specs.Policy.{Policy, policy_over}
 use Rattle.fetch_update.specs.declared.worktrees.Worktree.{Worktree}
 use Rattle.fetch_update.specs.declared.update.Error.TheVariants as update
 use Rattle.fetch_conversation.specs.declared.fetch.Error.TheVariants as errors
-use Rattle.fetch_remote.proofs.Judged.{told_refusal, tells_no_fault, judged_yes, same_told, at_slices}
+use Rattle.fetch_remote.proofs.Judged.{told_free, told_refusal, tells_no_fault, judged_yes, same_told, at_slices}
 use Rattle.fetch_remote.proofs.Settled.{list_of, list_told}
 use Rattle.fetch_remote.proofs.fetching.judging.judge.Goals as goal
 
@@ -13,7 +13,7 @@ returns-in_err-trees-clause-judged g c =
     let p = err_from_is_err_and c.from_residual.result c.from_residual.ensures.1 in
     let free = c.in_err-trees.ensures.refused in
     let known = g.W.Worktrees.told c.args.worktrees.now in
-    rw (p.1, p.2) (record { trees = list_of known; listed_trees = list_told known; by = λ sure. absurd (cc (free, sure)) })
+    rw (p.1, p.2) (record { trees = list_of known; listed_trees = list_told known; by = told_free _ c.in_err-trees.field-0.0 free })
 
 pub returns-in_err-outcome-clause-judged : goal.returns-in_err-outcome-clause-judged
 returns-in_err-outcome-clause-judged g c =

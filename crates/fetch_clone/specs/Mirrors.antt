@@ -1,0 +1,53 @@
+-- A remote's section is written into the file `config` of a repository.
+use Rattle.std.specs.Prelude.{◌≡◌, ℕ, Bool, List, [], Option, Some, None, ⊤, Result, Ok, Err}
+use Rattle.fetch_store.specs.FileCalls.{IsRefused}
+use Rattle.fetch_store.specs.Paths.{parts_of as parts_of_path}
+use Rattle.fetch_store.specs.Trees.{Tree, read_in, written}
+use Rattle.fetch_config.specs.Contents.{Contents}
+use Rattle.fetch_config.specs.Print.{text_of}
+use Rattle.fetch_lookup.specs.Saved.{saved, save_as_verdict}
+use Rattle.fetch_remote.specs.Paths.{config_path}
+use Rattle.fetch_remote.specs.Reloads.{HasRead, IsRefusedAt}
+use Rattle.fetch_remote.specs.Remotes.{RemoteValue, parts_of}
+use Rattle.fetch_remote.specs.RepositoryValues.{Setup}
+use Rattle.fetch_remote.specs.declared.repository.open_error.OpenError.TheVariants as opening
+use Rattle.fetch_clone.specs.Creation.{TellsStill}
+use Rattle.fetch_clone.specs.Heading.{IsWritten}
+use Rattle.fetch_clone.specs.Replacing.{replaced}
+use Rattle.fetch_clone.specs.declared.clone.fetch.Error.{Error}
+use Rattle.fetch_clone.specs.declared.clone.fetch.Error.TheVariants as errors
+
+-- what a remote is saved as by itself
+abbrev pub section_of : Setup → RemoteValue → List ℕ → Contents
+section_of setup remote name = saved (record { meta = setup.local.meta; sections = [] }) name (parts_of remote)
+
+abbrev pub path_of : Setup → List ℕ
+path_of setup = config_path setup.settings.git_dir
+
+-- The file `config` was read, and written anew with these sections in place of those of their names and subsections.
+pub record IsMirrored (told : Option Tree) (setup : Setup) (now : Option Tree) (section : Contents) : Type 0 where
+  pub local : Contents
+  pub read : HasRead told (path_of setup) setup.local.meta local
+  pub written : IsWritten told setup.settings.git_dir (replaced section.sections local) now
+
+-- The file was read, and couldn't be written.
+pub record IsUnmirrored (may_fail : Bool) (told : Option Tree) (setup : Setup) (section : Contents) (now : Option Tree) : Type 0 where
+  pub local : Contents
+  pub read : HasRead told (path_of setup) setup.local.meta local
+  pub tree : TellsStill told now
+  pub refused : IsRefused may_fail told (λ t. written t (parts_of_path (path_of setup)) (text_of (replaced section.sections local).sections))
+
+-- The remote can't be saved; the file is missing, can't be read or breaks the grammar; or it can't be written.
+abbrev pub IsMirrorRefusal : Bool → Option Tree → Setup → RemoteValue → List ℕ → Option Tree → Error → Type 0
+IsMirrorRefusal may_fail told setup remote name now errors.NoMemory = TellsStill told now
+IsMirrorRefusal may_fail told setup remote name now (errors.SaveConfig e) = (now ≡ told) × (save_as_verdict name (parts_of remote) ≡ Err e)
+IsMirrorRefusal may_fail told setup remote name now (errors.LoadConfig opening.Io) = TellsStill told now × IsRefused may_fail told (λ t. read_in t (parts_of_path (path_of setup)))
+IsMirrorRefusal may_fail told setup remote name now (errors.LoadConfig e) = (now ≡ told) × IsRefusedAt told (path_of setup) e
+IsMirrorRefusal may_fail told setup remote name now errors.SaveConfigIo = IsUnmirrored may_fail told setup (section_of setup remote name) now
+IsMirrorRefusal may_fail told setup remote name now e = ⊥
+
+-- why a remote isn't saved by itself
+abbrev pub IsUnsavedAs : RemoteValue → List ℕ → Error → Type 0
+IsUnsavedAs remote name errors.NoMemory = ⊤
+IsUnsavedAs remote name (errors.SaveConfig e) = save_as_verdict name (parts_of remote) ≡ Err e
+IsUnsavedAs remote name e = ⊥

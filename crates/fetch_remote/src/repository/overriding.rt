@@ -1,0 +1,40 @@
+//! A repository that is opened with other overrides.
+
+ghost use Rattle.std.specs.Prelude.{◌≡◌, IfErr, OnOk, OnErr, Some, true};
+ghost use Rattle.fetch_remote.specs.Overriding.{overridden};
+ghost use Rattle.fetch_remote.specs.Repositories.{state_of, setup_of, IsOpenRefusal};
+ghost use Rattle.fetch_remote.specs.RepositoryValues.{are_overrides};
+
+use super::Repository;
+use crate::remotes::resolving::resolved;
+use crate::repository::open_error::OpenError;
+use fetch_store::{List, Text};
+use std::alloc::Global;
+
+impl Repository {
+    /// The overrides, each `section.key=value` or `section.subsection.key=value`. They come last.
+    pub fn overrides(&self) -> &[Text]
+        ensures { result.now ≡ (setup_of self.now).overrides }
+    {
+        self.overrides.as_slice()
+    }
+
+    /// Puts overrides in place of those that the repository has, and resolves configuration, settings and logging anew. The
+    /// first that isn't one is told. After an error the repository is as before.
+    pub fn replace_overrides(
+        &mut self,
+        alloc: Global,
+        overrides: List<Text>,
+    ) -> Result<(), OpenError>
+        ensures state { state_of self.new ≡ state_of self.old }
+        ensures ok { OnOk result (overridden (setup_of self.old) overrides ≡ Some (setup_of self.new)) }
+        ensures accepted { OnOk result (are_overrides overrides ≡ true) }
+        ensures refused { IfErr result (IsOpenRefusal overrides) }
+        ensures err { OnErr result (setup_of self.new ≡ setup_of self.old) }
+    {
+        let config = resolved(alloc, &self.base, &self.local, overrides.as_slice())?;
+        self.overrides = overrides;
+        self.settings.config = config;
+        Ok(())
+    }
+}

@@ -1,0 +1,74 @@
+-- What a pass brought in a turn.
+use Rattle.std.proofs.Common.{◌≡◌, ◌⊎◌, ℕ, Bool, true, false, List, [], ◌∷◌, ◌++◌, length, map, Option, None, Some, Ok, Err, refl, sym, ap, ◌∙◌, inl, inr}
+use Rattle.std.specs.Option.{option_map}
+use Rattle.std.proofs.lemmas.List.{append-nil}
+use Rattle.fetch_store.specs.declared.id.ObjectId.{ObjectId}
+use Rattle.fetch_conversation.specs.declared.conversing.Received.{Received}
+use Rattle.fetch_conversation.specs.declared.negotiate.Negotiate.{Negotiate}
+use Rattle.fetch_remote.specs.Settling.{brought, pack_of}
+use Rattle.fetch_shared.specs.declared.bringing.Brought.{Brought}
+use Rattle.fetch_shared.specs.declared.entry.Entry.{Entry}
+use Rattle.fetch_shared.specs.declared.error.SharedError.{SharedError}
+use Rattle.fetch_shared.specs.declared.error.SharedError.TheVariants as errors
+use Rattle.fetch_shared.specs.declared.plan.Taken.{Taken}
+use Rattle.fetch_shared.specs.Bringing.{take_entries, HasSeen, HasLooked, HasBrought, IsUnbrought}
+use Rattle.fetch_shared.specs.Journals.{entries_of}
+use Rattle.fetch_shared.specs.Machine.Event.{Take, Snapshot}
+use Rattle.fetch_shared.specs.Passes.{Holder, IsBack, IsTurn}
+use Rattle.fetch_shared.specs.Seen.{IsRefusedAt}
+use Rattle.fetch_shared.specs.Shared.{SharedValue, done, snapshot_of}
+use Rattle.fetch_shared.proofs.Saw.{saw, refuses}
+
+pub has_looked : (before after : Holder) (negotiate : Option Negotiate) (taken : Taken) → IsBack before after → IsTurn before after Snapshot snapshot_of (Ok taken) → entries_of before.number after.front ≡ entries_of before.number before.front
+    → HasLooked before after negotiate (record { taken = taken; negotiate = negotiate; pack = None })
+has_looked before after negotiate taken back t same = record {
+  saw = record {
+    seen = done t.found Snapshot;
+    at = saw before after Snapshot snapshot_of taken taken.place back t (sym (ap (λ (x : Taken). x.place) t.tells));
+    front = t.entered;
+    taken = t.tells;
+    added = same ∙ sym (append-nil (entries_of before.number before.front));
+  };
+  negotiate_is = refl;
+  pack = refl;
+}
+
+pub has_taken : (before after : Holder) (wants : List ObjectId) (r : Received) (taken : Taken) → IsBack before after
+    → IsTurn before after (Take before.number wants (pack_of r)) (λ v. snapshot_of (done v (Take before.number wants (pack_of r)))) (Ok taken)
+    → entries_of before.number after.front ≡ entries_of before.number before.front ++ take_entries before.number (Some r)
+    → HasBrought before after false (Some r) (record { taken = taken; negotiate = Some r.negotiate; pack = r.pack })
+has_taken before after wants r taken back t added = record {
+  saw = record {
+    seen = done t.found (Take before.number wants (pack_of r));
+    at = saw before after (Take before.number wants (pack_of r)) (λ v. snapshot_of (done v (Take before.number wants (pack_of r)))) taken taken.place back t (sym (ap (λ (x : Taken). x.place) t.tells));
+    front = t.entered;
+    taken = t.tells;
+    added = added;
+  };
+  negotiate_is = refl;
+  pack = refl;
+}
+
+pub untaken : (before after : Holder) (wants : List ObjectId) (r : Received) (e : SharedError) → IsBack before after
+    → IsTurn before after (Take before.number wants (pack_of r)) (λ v. snapshot_of (done v (Take before.number wants (pack_of r)))) (Err e)
+    → entries_of before.number after.front ≡ entries_of before.number before.front → IsUnbrought before after false wants (Some r) e
+untaken before after wants r e back t none = record {
+  none = none;
+  why = by (refuses before after (Take before.number wants (pack_of r)) (λ v. snapshot_of (done v (Take before.number wants (pack_of r)))) e back t);
+}
+  where
+    by : (e ≡ errors.NoMemory) ⊎ IsRefusedAt before.shared.opening before.front after.front (Take before.number wants (pack_of r)) e
+        → (e ≡ errors.NoMemory) ⊎ ((reply : Received) × (brought false (Some r) ≡ Some reply) × IsRefusedAt before.shared.opening before.front after.front (Take before.number wants (pack_of reply)) e)
+    by (inl is) = inl is
+    by (inr refused) = inr (r, refl, refused)
+
+-- in a dry run, and where nothing was received, nothing is taken
+pub looked_dry : (before after : Holder) (r : Received) (b : Brought) → HasLooked before after (Some r.negotiate) b → HasBrought before after true (Some r) b
+looked_dry before after r b h = record { saw = h.saw; negotiate_is = h.negotiate_is; pack = h.pack }
+
+pub looked_none : (before after : Holder) (dry_run : Bool) (b : Brought) → HasLooked before after None b → HasBrought before after dry_run None b
+looked_none before after true b h = record { saw = h.saw; negotiate_is = h.negotiate_is; pack = h.pack }
+looked_none before after false b h = record { saw = h.saw; negotiate_is = h.negotiate_is; pack = h.pack }
+
+pub unlooked : (before after : Holder) (dry_run : Bool) (wants : List ObjectId) (r : Option Received) (e : SharedError) → e ≡ errors.NoMemory → entries_of before.number after.front ≡ entries_of before.number before.front → IsUnbrought before after dry_run wants r e
+unlooked before after dry_run wants r e is none = record { none = none; why = inl is }

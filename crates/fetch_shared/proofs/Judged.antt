@@ -1,0 +1,29 @@
+-- What a refusal behind the taking is one of.
+use Rattle.std.proofs.Common.{◌≡◌, ◌⊎◌, List, ℕ, Option, Err, refl, sym, subst, inl, inr}
+use Rattle.fetch_store.specs.Trees.{Tree}
+use Rattle.fetch_update.specs.declared.update.Error.{Error as UpdateError}
+use Rattle.fetch_conversation.specs.declared.fetch.Error.{Error}
+use Rattle.fetch_conversation.specs.declared.fetch.Error.TheVariants as receive
+use Rattle.fetch_remote.specs.Keeping.{IsUnmade}
+use Rattle.fetch_remote.specs.Settling as remote
+use Rattle.fetch_shared.specs.Settling.{IsOfJudging}
+
+-- the keep file couldn't be made, or memory ran out
+pub unmade_only : (keep : Option (List ℕ)) (files left : Option Tree) (e : Error) → IsUnmade keep files left e → IsOfJudging e
+unmade_only keep files left e h = by h.why
+  where
+    by : (e ≡ receive.KeepFile h.path) ⊎ (e ≡ receive.NoMemory) → IsOfJudging e
+    by (inl is) = subst IsOfJudging (sym is) tt
+    by (inr is) = subst IsOfJudging (sym is) tt
+
+pub unmade_never : (keep : Option (List ℕ)) (files left : Option Tree) (e : Error) (cause : UpdateError) → IsUnmade keep files left e → e ≡ receive.UpdateRefs cause → ⊥
+unmade_never keep files left e cause h is = by h.why
+  where
+    by : (e ≡ receive.KeepFile h.path) ⊎ (e ≡ receive.NoMemory) → ⊥
+    by (inl other) = absurd (cc)
+    by (inr other) = absurd (cc)
+
+-- a refusal of the policy or of the work trees, or memory ran out
+pub judging_only : (e : Error) → remote.IsOfJudging e → IsOfJudging e
+judging_only e (inl is) = subst IsOfJudging (sym is) tt
+judging_only e (inr (cause, is)) = subst IsOfJudging (sym is) tt

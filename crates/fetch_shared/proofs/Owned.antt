@@ -1,0 +1,80 @@
+-- Refusals that a shared repository makes by itself: none of them is one of a fetch.
+use Rattle.std.proofs.Common.{◌≡◌, ◌⊎◌, ℕ, Bool, false, true, List, Option, Some, refl, sym, ap, ◌∙◌, subst, inl, inr}
+use Rattle.fetch_store.specs.declared.id.ObjectId.{ObjectId}
+use Rattle.fetch_store.specs.declared.missing.Missing.{Missing}
+use Rattle.fetch_refs.specs.declared.edit.RefEdit.{RefEdit}
+use Rattle.fetch_refs.specs.declared.log.Signature.{Signature}
+use Rattle.fetch_refs.specs.declared.target.Target.{Target}
+use Rattle.fetch_conversation.specs.declared.conversing.Received.{Received}
+use Rattle.fetch_conversation.specs.declared.fetch.Error.{Error as ReceiveError}
+use Rattle.fetch_conversation.specs.declared.fetch.Error.TheVariants as receive
+use Rattle.fetch_remote.specs.Errors.{receiving}
+use Rattle.fetch_remote.specs.Settling.{brought, pack_of}
+use Rattle.fetch_remote.specs.declared.fetching.fetch_error.FetchError.{FetchError}
+use Rattle.fetch_shared.specs.declared.error.SharedError.{SharedError}
+use Rattle.fetch_shared.specs.declared.error.SharedError.TheVariants as errors
+use Rattle.fetch_shared.specs.Bringing.{IsUnbrought}
+use Rattle.fetch_shared.specs.Errors.{fetching}
+use Rattle.fetch_shared.specs.Machine.{held}
+use Rattle.fetch_shared.specs.Machine.Event.{Take, Commit}
+use Rattle.fetch_shared.specs.Passes.{Holder}
+use Rattle.fetch_shared.specs.Seen.{IsRefusedAt}
+use Rattle.fetch_shared.specs.Settling.{IsUnmoved, IsOfJudging, is_early}
+use Rattle.fetch_shared.proofs.Settled.{take_refused, commit_refused}
+
+pub unbrought_own : (before after : Holder) (dry_run : Bool) (wants : List ObjectId) (r : Option Received) (e : SharedError) (x : FetchError) → IsUnbrought before after dry_run wants r e → e ≡ errors.Fetch x → ⊥
+unbrought_own before after dry_run wants r e x h is = by h.why
+  where
+    hit_or_gap : ((id : ObjectId) × (e ≡ errors.Collision id)) ⊎ ((link : Missing) × (e ≡ errors.Disconnected link)) → ⊥
+    hit_or_gap (inl (id, other)) = absurd (cc)
+    hit_or_gap (inr (link, other)) = absurd (cc)
+
+    by : (e ≡ errors.NoMemory) ⊎ ((reply : Received) × (brought dry_run r ≡ Some reply) × IsRefusedAt before.shared.opening before.front after.front (Take before.number wants (pack_of reply)) e) → ⊥
+    by (inl other) = absurd (cc)
+    by (inr (reply, same, refused)) = hit_or_gap (take_refused (held refused.found.repository) wants (pack_of reply) e refused.cause)
+
+unmoved_is : (dry_run : Bool) (before after : Holder) (edits : List RefEdit) (committer : Signature) (e : SharedError) → IsUnmoved dry_run before after edits committer e
+    → (e ≡ errors.NoMemory) ⊎ ((name : List ℕ) × (found : Option Target) × (e ≡ errors.EditReferences name found))
+unmoved_is dry_run before after edits committer e h = by h.why
+  where
+    by : (e ≡ errors.NoMemory) ⊎ ((dry_run ≡ false) × IsRefusedAt before.shared.opening before.front after.front (Commit before.number edits committer) e)
+        → (e ≡ errors.NoMemory) ⊎ ((name : List ℕ) × (found : Option Target) × (e ≡ errors.EditReferences name found))
+    by (inl is) = inl is
+    by (inr (wet, refused)) = inr (commit_refused refused.found.repository.state.refs.names edits e refused.cause)
+
+pub unmoved_own : (dry_run : Bool) (before after : Holder) (edits : List RefEdit) (committer : Signature) (e : SharedError) (x : FetchError) → IsUnmoved dry_run before after edits committer e → e ≡ errors.Fetch x → ⊥
+unmoved_own dry_run before after edits committer e x h is = by (unmoved_is dry_run before after edits committer e h)
+  where
+    by : (e ≡ errors.NoMemory) ⊎ ((name : List ℕ) × (found : Option Target) × (e ≡ errors.EditReferences name found)) → ⊥
+    by (inl other) = absurd (cc)
+    by (inr (name, found, other)) = absurd (cc)
+
+-- a refusal of the edits comes behind the keep file
+pub unmoved_late : (dry_run : Bool) (before after : Holder) (edits : List RefEdit) (committer : Signature) (e : SharedError) → IsUnmoved dry_run before after edits committer e → is_early e ≡ true → ⊥
+unmoved_late dry_run before after edits committer e h early = by (unmoved_is dry_run before after edits committer e h)
+  where
+    by : (e ≡ errors.NoMemory) ⊎ ((name : List ℕ) × (found : Option Target) × (e ≡ errors.EditReferences name found)) → ⊥
+    by (inl is) = let k : is_early errors.NoMemory ≡ true = subst (λ (x : SharedError). is_early x ≡ true) is early in absurd (cc (k))
+    by (inr (name, found, is)) = let k : is_early (errors.EditReferences name found) ≡ true = subst (λ (x : SharedError). is_early x ≡ true) is early in absurd (cc (k))
+
+-- and so does one of judging
+pub judging_late : (cause : ReceiveError) (e : SharedError) → e ≡ fetching (receiving cause) → IsOfJudging cause → is_early e ≡ true → ⊥
+judging_late cause e told h early = by cause h (subst (λ (x : SharedError). is_early x ≡ true) told early)
+  where
+    by : (x : ReceiveError) → IsOfJudging x → is_early (fetching (receiving x)) ≡ true → ⊥
+    by (receive.KeepFile path) k is = absurd (cc)
+    by (receive.UpdateRefs cause') k is = absurd (cc)
+    by receive.NoMemory k is = absurd (cc)
+    by (receive.NoMapping specs count) k is = absurd k
+    by (receive.IncompatibleObjectHash local remote) k is = absurd k
+    by (receive.Disconnected link) k is = absurd k
+    by (receive.RejectShallowRemoteConfig value) k is = absurd k
+    by (receive.NegotiationAlgorithmConfig value) k is = absurd k
+    by (receive.PackThreads value) k is = absurd k
+    by (receive.Fetch x) k is = absurd k
+    by receive.Client k is = absurd k
+    by receive.Interrupted k is = absurd k
+    by (receive.RejectShallowRemote id) k is = absurd k
+    by (receive.Pack x) k is = absurd k
+    by (receive.Collision id) k is = absurd k
+    by (receive.RemovePackKeepFile path) k is = absurd k

@@ -1,0 +1,95 @@
+use Rattle.std.proofs.Common.{None, Some, refl, sym, ap, ◌∙◌}
+use Rattle.fetch_conversation.specs.ListStage.{shown}
+use Rattle.fetch_conversation.specs.declared.fetch.Error.TheVariants as receive
+use Rattle.fetch_update.specs.declared.update.Error.TheVariants as update
+use Rattle.fetch_shared.specs.Fetching.{Call}
+use Rattle.fetch_shared.specs.Passes.{Which}
+use Rattle.fetch_shared.specs.Settling.{Matter}
+use Rattle.fetch_shared.specs.Talking.{Line, given_to}
+use Rattle.fetch_shared.proofs.Back.{back_trans}
+use Rattle.fetch_shared.proofs.Fetched.{silent, ran_out, broken, broken_other, stopped, fetched}
+use Rattle.fetch_shared.proofs.Places.{receipt_none, receipt_broken, receipt_settled, receipt_unsettled}
+use Rattle.fetch_shared.proofs.Saw.{back_self}
+use Rattle.fetch_shared.proofs.fetching.fetch_shared.Goals as goal
+
+pub returns-in-Err-clause-back : goal.returns-in-Err-clause-back
+returns-in-Err-clause-back g c = back_self c.args.pass
+
+pub returns-in-Err-clause-receipt : goal.returns-in-Err-clause-receipt
+returns-in-Err-clause-receipt g c = rw (c.receipt.ensures, c.number-number.ensures) (receipt_none c.args.pass c.args.pass)
+
+pub returns-in-Err-clause-refused : goal.returns-in-Err-clause-refused
+returns-in-Err-clause-refused g c =
+    let talk = g.P.Peer.told c.args.peer.now in
+    let line : Line = record { answers = g.P.Peer.answers; old = talk; new = talk } in
+    let call : Call = record { given = given_to c.args.remote.now c.args.options c.args.pass; before = c.args.pass; after = c.args.pass; known = g.W.Worktrees.told c.args.worktrees.now; files = g.F.Files.told c.args.files.now; left = g.F.Files.told c.args.files.now } in
+    rw (c.receipt.ensures, c.number-number.ensures) (ran_out line call refl refl refl (λ s. silent g.P.Peer.answers talk call.given s))
+
+pub returns-in-Err-answer-clause-receipt : goal.returns-in-Err-answer-clause-receipt
+returns-in-Err-answer-clause-receipt g c =
+    rw (c.receipt-in-Err-answer.ensures, c.number-number.ensures) (receipt_broken _ _ c.args.pass c.in-Err-answer.pass c.in-Err-answer.planned c.in-Err-answer.e c.in-Err-answer.ensures.broken)
+
+pub returns-in-Err-answer-clause-refused : goal.returns-in-Err-answer-clause-refused
+returns-in-Err-answer-clause-refused g c =
+    let line : Line = record { answers = g.P.Peer.answers; old = g.P.Peer.told c.args.peer.now; new = g.P.Peer.told c.talk-answer.new.peer } in
+    let call : Call = record { given = given_to c.args.remote.now c.args.options c.args.pass; before = c.args.pass; after = c.in-Err-answer.pass; known = g.W.Worktrees.told c.args.worktrees.now; files = g.F.Files.told c.args.files.now; left = g.F.Files.told c.args.files.now } in
+    rw (c.receipt-in-Err-answer.ensures, c.number-number.ensures) (broken line call refl c.in-Err-answer.ensures.none c.in-Err-answer.planned c.in-Err-answer.e c.in-Err-answer.ensures.broken)
+
+pub returns-in-Ok-settle-clause-back : goal.returns-in-Ok-settle-clause-back
+returns-in-Ok-settle-clause-back g c = back_trans _ _ _ c.in-Ok-answer.ensures.back c.in-Ok-settle.ensures.back
+
+pub returns-clause-back : goal.returns-clause-back
+returns-clause-back g c = back_trans _ _ _ c.in-Ok-answer.ensures.back c.in-Err-settle.ensures.back
+
+pub returns-in-Ok-settle-clause-receipt : goal.returns-in-Ok-settle-clause-receipt
+returns-in-Ok-settle-clause-receipt g c =
+    rw (c.receipt-receipt.ensures, c.number-number.ensures)
+    (receipt_settled _ _ c.args.pass c.in-Ok-answer.talked.0 c.in-Ok-settle.pass c.in-Ok-answer.talked.1 c.in-Ok-answer.talked.2 c.in-Ok-answer.ensures.talked c.in-Ok-settle.ensures.back _ _ c.in-Ok-settle.judged c.in-Ok-settle.place c.in-Ok-settle.outcome refl refl c.in-Ok-settle.ensures.settled)
+
+pub returns-clause-receipt : goal.returns-clause-receipt
+returns-clause-receipt g c =
+    rw (c.receipt-receipt-in-Err-settle.ensures, c.number-number.ensures)
+    (receipt_unsettled _ _ c.args.pass c.in-Ok-answer.talked.0 c.in-Err-settle.pass c.in-Ok-answer.talked.1 c.in-Ok-answer.talked.2 c.in-Ok-answer.ensures.talked c.in-Err-settle.ensures.back _ _ c.in-Err-settle.judged c.in-Err-settle.place c.in-Err-settle.e refl refl c.in-Err-settle.ensures.refused)
+
+pub returns-in-Ok-settle-clause-fetched : goal.returns-in-Ok-settle-clause-fetched
+returns-in-Ok-settle-clause-fetched g c =
+    let line : Line = record { answers = g.P.Peer.answers; old = g.P.Peer.told c.args.peer.now; new = g.P.Peer.told c.talk-answer.new.peer } in
+    let call : Call = record { given = given_to c.args.remote.now c.args.options c.args.pass; before = c.args.pass; after = c.in-Ok-settle.pass; known = g.W.Worktrees.told c.args.worktrees.now; files = g.F.Files.told c.args.files.now; left = g.F.Files.told c.settle.new.files } in
+    let t = c.in-Ok-answer.talked.2 in
+    let m : Matter = record { setup = c.args.shared.now.opening.setup; how = c.in-Ok.how; wants = t.wants; told = record { listed = shown t.listed; received = t.received } } in
+    let how = rw c.fetch_tags.ensures at c.in-Ok.ensures in
+    rw (c.receipt-receipt.ensures, c.number-number.ensures)
+    (fetched line call c.in-Ok-answer.talked.0 c.in-Ok-answer.talked.1 t c.in-Ok-answer.ensures.talked c.in-Ok-answer.ensures.back c.in-Ok-answer.ensures.none c.in-Ok-settle.ensures.back
+    m (ap (λ (w : Which). w.opening.setup) (sym c.requires)) how refl refl c.in-Ok-settle.judged c.in-Ok-settle.place c.in-Ok-settle.outcome c.in-Ok-settle.ensures.settled)
+
+pub returns-clause-refused : goal.returns-clause-refused
+returns-clause-refused g c =
+    let line : Line = record { answers = g.P.Peer.answers; old = g.P.Peer.told c.args.peer.now; new = g.P.Peer.told c.talk-answer.new.peer } in
+    let call : Call = record { given = given_to c.args.remote.now c.args.options c.args.pass; before = c.args.pass; after = c.in-Err-settle.pass; known = g.W.Worktrees.told c.args.worktrees.now; files = g.F.Files.told c.args.files.now; left = g.F.Files.told c.settle.new.files } in
+    let t = c.in-Ok-answer.talked.2 in
+    let m : Matter = record { setup = c.args.shared.now.opening.setup; how = c.in-Ok.how; wants = t.wants; told = record { listed = shown t.listed; received = t.received } } in
+    let how = rw c.fetch_tags.ensures at c.in-Ok.ensures in
+    rw (c.receipt-receipt-in-Err-settle.ensures, c.number-number.ensures)
+    (stopped line call c.in-Ok-answer.talked.0 c.in-Ok-answer.talked.1 t c.in-Ok-answer.ensures.talked c.in-Ok-answer.ensures.back c.in-Ok-answer.ensures.none c.in-Err-settle.ensures.back
+    m (ap (λ (w : Which). w.opening.setup) (sym c.requires)) how refl refl c.in-Err-settle.judged c.in-Err-settle.place c.in-Err-settle.e c.in-Err-settle.ensures.refused)
+
+pub returns-in-Err-answer-clause-keep_file : goal.returns-in-Err-answer-clause-keep_file
+returns-in-Err-answer-clause-keep_file g c path is = absurd (broken_other _ _ _ _ _ _ c.in-Err-answer.ensures.broken (receive.KeepFile path) (λ h. h) refl is)
+
+pub returns-in-Err-answer-clause-in_the_way : goal.returns-in-Err-answer-clause-in_the_way
+returns-in-Err-answer-clause-in_the_way g c path is = absurd (broken_other _ _ _ _ _ _ c.in-Err-answer.ensures.broken (receive.KeepFile path) (λ h. h) refl is)
+
+pub returns-in-Err-answer-clause-remove_keep_file : goal.returns-in-Err-answer-clause-remove_keep_file
+returns-in-Err-answer-clause-remove_keep_file g c path is = absurd (broken_other _ _ _ _ _ _ c.in-Err-answer.ensures.broken (receive.RemovePackKeepFile path) (λ h. h) refl is)
+
+pub returns-in-Err-answer-clause-removable : goal.returns-in-Err-answer-clause-removable
+returns-in-Err-answer-clause-removable g c path is = absurd (broken_other _ _ _ _ _ _ c.in-Err-answer.ensures.broken (receive.RemovePackKeepFile path) (λ h. h) refl is)
+
+pub returns-in-Err-answer-clause-listing : goal.returns-in-Err-answer-clause-listing
+returns-in-Err-answer-clause-listing g c is = absurd (broken_other _ _ _ _ _ _ c.in-Err-answer.ensures.broken (receive.UpdateRefs update.WorktreeListing) (λ h. h) refl is)
+
+pub returns-in-Err-answer-clause-open_repo : goal.returns-in-Err-answer-clause-open_repo
+returns-in-Err-answer-clause-open_repo g c is = absurd (broken_other _ _ _ _ _ _ c.in-Err-answer.ensures.broken (receive.UpdateRefs update.OpenWorktreeRepo) (λ h. h) refl is)
+
+pub returns-in-Err-answer-clause-follow_symref : goal.returns-in-Err-answer-clause-follow_symref
+returns-in-Err-answer-clause-follow_symref g c is = absurd (broken_other _ _ _ _ _ _ c.in-Err-answer.ensures.broken (receive.UpdateRefs update.FollowSymref) (λ h. h) refl is)

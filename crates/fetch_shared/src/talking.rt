@@ -1,0 +1,156 @@
+//! The conversation of a fetch over a plan.
+
+ghost use Rattle.std.specs.Prelude.{◌≡◌, IfOk, IfErr, IfSome, MatchResult, OnOk};
+ghost use Rattle.fetch_store.specs.Faults.{Rose, Counts};
+ghost use Rattle.fetch_store.specs.Stores.{AreOf};
+ghost use Rattle.fetch_pack.specs.Once.{AreNamed};
+ghost use Rattle.fetch_conversation.specs.Receiving.{IsHeeded};
+ghost use Rattle.fetch_remote.specs.Errors.{preparing, receiving};
+ghost use Rattle.fetch_shared.specs.Errors.{fetching, is_yes};
+ghost use Rattle.fetch_shared.specs.Journals.{entries_of};
+ghost use Rattle.fetch_shared.specs.Passes.{IsBack};
+ghost use Rattle.fetch_shared.specs.Shared.{plan_of};
+ghost use Rattle.fetch_shared.specs.Talking.{HasBroken, HasPlanned, HasTalked, client, given_to, interrupted, stopped, transport};
+ghost use Rattle.fetch_shared.specs.declared.error.SharedError.TheVariants as errors;
+
+use crate::error::SharedError;
+use crate::pass::Pass;
+use crate::plan::Plan;
+use crate::shared::SharedRepository;
+use fetch_conversation::{Listed, NoProgress, Received, View};
+use fetch_negotiate::Shallow;
+use fetch_remote::phases::{converse, list};
+use fetch_remote::{FetchError, FetchOptions, Remote, fetch, prepare};
+use fetch_specs::Tags;
+use fetch_store::{List, ObjectId};
+use fetch_wire::{Interrupt, Peer, RefMap};
+use std::alloc::Global;
+use std::sync::Wait;
+use std::thread::Threads;
+
+/// What a conversation brought: what was listed, what was wanted of it, and what was received.
+#[derive(Drop)]
+pub(crate) struct Talked {
+    pub(crate) listed: Listed,
+    pub(crate) wants: List<ObjectId>,
+    pub(crate) received: Option<Received>,
+}
+
+/// Lists the references, plans in a turn, and asks for the pack by the plan, outside the turn. Tells how many entries the
+/// plan saw, where one was made.
+pub(crate) fn talk<R: Threads + Wait + Sync, P: Peer, I: Interrupt>(
+    rt: &R,
+    alloc: Global,
+    shared: &SharedRepository,
+    pass: Pass,
+    remote: &Remote,
+    peer: &mut P,
+    interrupt: &mut I,
+    options: FetchOptions,
+) -> Result<(Pass, u64, Talked), (Pass, Option<u64>, SharedError)>
+    requires { pass.shared ≡ shared.now }
+    ensures back { MatchResult result (λ r. IsBack pass r.0) (λ r. IsBack pass r.0) }
+    ensures none { MatchResult result (λ r. entries_of pass.number r.0.front ≡ entries_of pass.number pass.front) (λ r. entries_of pass.number r.0.front ≡ entries_of pass.number pass.front) }
+    ensures talked { IfOk result (λ r. HasTalked (record { answers = P.answers; old = P.told peer.old; new = P.told peer.new }) (given_to remote.now options pass) pass r.0 r.1 r.2) }
+    ensures broken { IfErr result (λ r. HasBroken (record { answers = P.answers; old = P.told peer.old; new = P.told peer.new }) (given_to remote.now options pass) pass r.0 r.1 r.2) }
+    ensures of_kind { IfOk result (λ r. IfSome r.2.received (λ x. AreOf pass.shared.opening.state.hash x.objects)) }
+    ensures named { IfOk result (λ r. IfSome r.2.received (λ x. AreNamed x.objects)) }
+    ensures counts { Counts (P.faults peer.old) (P.faults peer.new) }
+    ensures transport { IfErr result (λ r. r.2 ≡ transport → Rose (P.faults peer.old) (P.faults peer.new)) }
+    ensures client { IfErr result (λ r. r.2 ≡ client → Rose (P.faults peer.old) (P.faults peer.new)) }
+    ensures asked { Counts (I.yes interrupt.old) (I.yes interrupt.new) }
+    ensures interrupted { IfErr result (λ r. r.2 ≡ interrupted → Rose (I.yes interrupt.old) (I.yes interrupt.new)) }
+    ensures stopped { IfErr result (λ r. r.2 ≡ stopped → Rose (I.yes interrupt.old) (I.yes interrupt.new)) }
+    ensures uninterrupted { OnOk result ((I.yes interrupt.new).count ≡ (I.yes interrupt.old).count) }
+    ensures questions { IsHeeded (λ r. is_yes r.2) (I.will_stop interrupt.old) (I.will_stop interrupt.new) (P.told peer.old) (P.told peer.new) result }
+{
+    let FetchOptions {
+        map,
+        shallow,
+        dry_run,
+        ..
+    } = options;
+    let mut listed = match list(alloc, remote, shared.settings(), peer, interrupt, map) {
+        Ok(listed) => listed,
+        Err(cause) => return Err((pass, None, unlisted(cause))),
+    };
+    let tags = remote.fetch_tags();
+    let (pass, plan) = match planned(rt, alloc, shared, pass, &listed.ref_map, tags, &shallow) {
+        Ok(planned) => planned,
+        Err((pass, e)) => return Err((pass, None, e)),
+    };
+    let Plan {
+        place,
+        wants,
+        border,
+        tips,
+        graph,
+    } = plan;
+    let view = View {
+        wants,
+        border,
+        tips,
+    };
+    let answer = converse(
+        rt,
+        alloc,
+        &mut listed,
+        shared.settings(),
+        &view,
+        &graph,
+        tags,
+        &shallow,
+        dry_run,
+        peer,
+        &mut NoProgress,
+        interrupt,
+    );
+    match answer {
+        Ok(received) => {
+            let talked = Talked {
+                listed,
+                wants: view.wants,
+                received,
+            };
+            Ok((pass, place, talked))
+        }
+        Err(cause) => Err((pass, Some(place), unreceived(cause))),
+    }
+}
+
+/// A refusal of the listing, as it is told.
+fn unlisted(cause: prepare::Error) -> SharedError
+    ensures { result ≡ fetching (preparing cause) }
+{
+    SharedError::from(FetchError::from(cause))
+}
+
+/// A refusal after the listing, as it is told.
+pub(crate) fn unreceived(cause: fetch::Error) -> SharedError
+    ensures { result ≡ fetching (receiving cause) }
+{
+    SharedError::from(FetchError::from(cause))
+}
+
+/// The plan of a turn. Want of memory alone refuses it.
+fn planned<R: Wait>(
+    rt: &R,
+    alloc: Global,
+    shared: &SharedRepository,
+    pass: Pass,
+    ref_map: &RefMap,
+    tags: Tags,
+    shallow: &Shallow,
+) -> Result<(Pass, Plan), (Pass, SharedError)>
+    requires { pass.shared ≡ shared.now }
+    ensures back { MatchResult result (λ r. IsBack pass r.0) (λ r. IsBack pass r.0) }
+    ensures none { MatchResult result (λ r. entries_of pass.number r.0.front ≡ entries_of pass.number pass.front) (λ r. entries_of pass.number r.0.front ≡ entries_of pass.number pass.front) }
+    ensures planned { IfOk result (λ r. HasPlanned pass r.0 (λ v. plan_of v ref_map.now tags shallow.now) r.1) }
+    ensures memory { IfErr result (λ r. r.1 ≡ errors.NoMemory) }
+{
+    let (pass, answer) = shared.plan(rt, alloc, pass, ref_map, tags, shallow);
+    match answer {
+        Ok(plan) => Ok((pass, plan)),
+        Err(e) => Err((pass, e)),
+    }
+}

@@ -1,0 +1,107 @@
+"""What is long, undocumented, or named in a document and nowhere else."""
+
+import importlib.machinery
+import importlib.util
+import os
+import sys
+import tempfile
+import unittest
+
+TOOLS = os.path.join(os.path.dirname(os.path.abspath(__file__)), "..")
+
+
+def tool(name):
+    """A tool as a module."""
+    module = name.replace("-", "_")
+    loader = importlib.machinery.SourceFileLoader(module, os.path.join(TOOLS, name))
+    found = importlib.util.module_from_spec(importlib.util.spec_from_loader(module, loader))
+    sys.modules[module] = found
+    wrote, sys.dont_write_bytecode = sys.dont_write_bytecode, True
+    try:
+        loader.exec_module(found)
+    finally:
+        sys.dont_write_bytecode = wrote
+    return found
+
+
+SURVEY, DEAD_NAMES = tool("survey"), tool("dead-names")
+
+CODE = """\
+//! A file.
+
+/// Of a peer.
+pub trait Peer {
+    /// With a comment.
+    fn send(&mut self);
+
+    fn receive(&mut self);
+}
+
+/// Of a fault.
+pub enum Fault {
+    /// With a comment.
+    Failed { path: Text },
+    Late { path: Text },
+    Lost(u64),
+}
+
+/// Of a line.
+pub struct Line {
+    pub text: Text,
+}
+
+// Many arguments: it is a test.
+fn seven(a: u8, b: u8, c: u8, d: u8, e: u8, f: u8, g: Map<u8, u8>) {}
+
+fn eight(a: u8, b: u8, c: u8, d: u8, e: u8, f: u8, g: u8, h: u8) {}
+"""
+
+
+DEFINITIONS = """\
+-- Definitions.
+use a.{b}
+pub mod c
+
+-- with a comment
+abbrev pub one : Type 0
+one = two
+
+pub record Two : Type 0 where
+  pub field : one
+"""
+
+
+class Survey(unittest.TestCase):
+    def setUp(self):
+        self.lines = [SURVEY.Line(number, text) for number, text in enumerate(CODE.splitlines(), 1)]
+
+    def test_what_has_no_doc_comment(self):
+        found = [each.split(": ")[1].split()[0] for each in SURVEY.undocumented("a.rt", self.lines)]
+        self.assertEqual(found, ["receive", "Late", "Lost", "text"])
+
+    def test_a_reason_stands_for_the_arguments(self):
+        self.assertEqual([each.partition(": ")[2] for each in SURVEY.functions("a.rt", self.lines)],
+                         ["eight has 8 arguments"])
+
+    def test_definitions_without_a_comment(self):
+        lines = [SURVEY.Line(number, text) for number, text in enumerate(DEFINITIONS.splitlines(), 1)]
+        self.assertEqual(list(SURVEY.uncommented("A.antt", lines)), ["A.antt:9: Two has no comment"])
+
+
+class DeadNames(unittest.TestCase):
+    def test_what_is_named_and_not_there(self):
+        with tempfile.TemporaryDirectory() as folder:
+            document = os.path.join(folder, "README.md")
+            with open(document, "w", encoding="utf-8") as file:
+                file.write("`Peer::send`, `Peer::lost`, `lines/line.rt`, `lines/no.rt`\n    `example`\n[a](none.md) docs/no.md\n")
+            found = DEAD_NAMES.dead_in(document, ["crates/a/src/lines/line.rt"], {"Peer", "send"})
+            self.assertEqual([each.partition(":")[2] for each in found],
+                             ["1: no name lost", "1: no file lines/no.rt", "3: no file none.md", "3: no file docs/no.md"])
+
+    def test_the_documents(self):
+        self.addCleanup(os.chdir, os.getcwd())
+        self.assertEqual(DEAD_NAMES.main([]), 0)
+
+
+if __name__ == "__main__":
+    unittest.main()
