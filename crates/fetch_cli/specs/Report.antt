@@ -86,6 +86,7 @@ found_in hash objects border refs = record {
   refs = record { hash = hash; names = with_references map.empty refs; logs = map.empty; packed = map.empty };
 }
 
+-- the state of the repository that a scene says
 abbrev pub found_of : Scene → State
 found_of s = found_in s.hash s.objects s.border s.refs
 

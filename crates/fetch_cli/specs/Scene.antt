@@ -120,6 +120,7 @@ local_in s = record {
 abbrev pub remote_in : Scene → RemotePart
 remote_in s = record { address = s.address; specs = s.specs; tags = s.tags; extra = s.extra; options = s.options }
 
+-- the scene that these lines are, or the place where they break its grammar
 abbrev pub scene_in : ℕ → Lines → Result Scene ℕ
 scene_in len ls = do
   local ← local_of ls

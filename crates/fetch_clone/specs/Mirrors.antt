@@ -21,6 +21,7 @@ use Rattle.fetch_clone.specs.declared.clone.fetch.Error.TheVariants as errors
 abbrev pub section_of : Setup → RemoteValue → List ℕ → Contents
 section_of setup remote name = saved (record { meta = setup.local.meta; sections = [] }) name (parts_of remote)
 
+-- where the file `config` is
 abbrev pub path_of : Setup → List ℕ
 path_of setup = config_path setup.settings.git_dir
 

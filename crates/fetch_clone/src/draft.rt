@@ -41,6 +41,7 @@ pub struct Draft {
     pub free: bool,
     /// The repository, until the clone has succeeded.
     pub repo: Option<Repository>,
+    /// What was chosen by the builders.
     pub choices: Choices,
     /// Whether a closure for the remote was set by the builder.
     pub configures_remote: bool,

@@ -11,6 +11,7 @@ use Rattle.fetch_conversation.specs.Errors.{fetch_of_update, is_worktree_fault}
 use Rattle.fetch_conversation.specs.declared.fetch.Error.{Error}
 use Rattle.fetch_conversation.specs.declared.fetch.Error.TheVariants as errors
 
+-- a refusal of the policy, as a fetch tells it
 abbrev pub judged_as : Result Outcome UpdateError → Result Outcome Error
 judged_as (Ok outcome) = Ok outcome
 judged_as (Err e) = Err (fetch_of_update e)

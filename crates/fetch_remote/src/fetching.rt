@@ -55,6 +55,7 @@ impl Remote {
     /// moved. Objects and border are as found, unless the error came after the taking: then they are with all that was
     /// received, and the keep file stands. Where a call on the files was refused, these are as that call left them.
     // Many arguments: the public signature. Each is lent by itself, so that a clause speaks of each before and after.
+    // Long: one line an option and an argument.
     pub fn fetch<R: Threads + Sync, P: Peer, I: Interrupt, F: Files, W: Worktrees>(
         &self,
         rt: &R,

@@ -60,6 +60,7 @@ course_in c planned = record {
 abbrev pub matter_in : Given → State → Told → Matter
 matter_in g s told = record { setup = g.setup; how = manner_in g; wants = wants_in g s told.listed.ref_map; told = told }
 
+-- the receipt of this pass, with these places
 abbrev pub receipt_of : Holder → Option ℕ → Option ℕ → Option ℕ → Receipt
 receipt_of p planned judged place = record { pass = p.number; planned = planned; judged = judged; place = place }
 
@@ -83,6 +84,7 @@ pub record IsTold (line : Line) (c : Call) (planned judged : State) (trees : Lis
   pub written : IsWritten c.given trees judged judged outcome verdicts.updates
   pub kept : IsKept c.given c.files c.left read.received verdicts.updates outcome
 
+-- A fetch over a shared repository that was done.
 pub record IsSharedFetch (line : Line) (c : Call) (receipt : Receipt) (outcome : Outcome) : Type 0 where
   -- What was asked for by the plan was received,
   pub count : ℕ

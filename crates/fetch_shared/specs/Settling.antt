@@ -60,6 +60,7 @@ pub record Course : Type 0 where
   pub files : Option Tree
   pub left : Option Tree
 
+-- the course from a pass as it was to the pass as it came back
 abbrev pub course_of : Holder → Holder → Option (List Worktree) → Option Tree → Option Tree → Course
 course_of before after known files left = record {
   opening = before.shared.opening;
@@ -188,6 +189,7 @@ pub record ForgotLate (m : Matter) (c : Course) (judged : Option ℕ) : Type 0 w
   pub added : entries_of c.number c.front ≡ c.own ++ take_entries c.number (reply_in m)
   pub kept : ((path : List ℕ) × (keep_in m ≡ Some path) × (is_some c.left ≡ is_some c.files)) ⊎ AreFiles c.files c.left (with_keep (keep_in m))
 
+-- Memory ran out, before the taking or after it; no commit is entered.
 pub record IsForgotten (m : Matter) (c : Course) (judged place : Option ℕ) : Type 0 where
   pub unplaced : place ≡ None
   pub stands : ForgotEarly c judged ⊎ ForgotLate m c judged
@@ -205,18 +207,23 @@ IsUnsettled m c judged place e = ⊥
 
 -- ---- refusals that have a count
 
+-- the keep file couldn't be made
 abbrev pub unmade : List ℕ → SharedError
 unmade path = errors.Fetch (fetch.Receive (receive.KeepFile path))
 
+-- the keep file couldn't be removed
 abbrev pub unremoved : List ℕ → SharedError
 unremoved path = errors.Fetch (fetch.Receive (receive.RemovePackKeepFile path))
 
+-- the work trees couldn't be listed
 abbrev pub unlisted : SharedError
 unlisted = errors.Fetch (fetch.Receive (receive.UpdateRefs update.WorktreeListing))
 
+-- the repository of a work tree couldn't be opened
 abbrev pub unopened : SharedError
 unopened = errors.Fetch (fetch.Receive (receive.UpdateRefs update.OpenWorktreeRepo))
 
+-- a symbolic reference of a work tree couldn't be followed
 abbrev pub unfollowed : SharedError
 unfollowed = errors.Fetch (fetch.Receive (receive.UpdateRefs update.FollowSymref))
 
@@ -245,6 +252,7 @@ kept_of git_dir b = option_map (λ n. record { negotiate = n; pack = option_map 
 abbrev pub policy_by : Brought → Manner → List Worktree → Policy
 policy_by b how trees = policy_over b.taken.refs.names b.taken.graph how.message how.tags how.dry_run trees
 
+-- The keep file stands where one was made, and each mapping has its verdict over what the taking left.
 pub record HasVerdicts (known : Option (List Worktree)) (files left : Option Tree) (git_dir : List ℕ) (how : Manner) (map : RefMap) (b : Brought) (v : Verdicts) : Type 0 where
   pub taken : v.taken ≡ kept_of git_dir b
   pub count : v.judged ≡ b.taken.place
@@ -266,6 +274,7 @@ pub record StopsJudging (known : Option (List Worktree)) (files left : Option Tr
   pub listed_trees : IsTold known trees
   pub by : AnswersUnless {A = Updates} is_free_judging (judged_of (policy_by b how trees) map) (Err s.cause)
 
+-- why there are no verdicts
 abbrev pub IsStop : Option (List Worktree) → Option Tree → Option Tree → List ℕ → Manner → RefMap → Brought → Stop → Type 0
 IsStop known files left git_dir how map b s = StopsMaking files left git_dir b s ⊎ StopsJudging known files left git_dir how map b s
 

@@ -76,19 +76,24 @@ pub record BrokeReceiving (line : Line) (g : Given) (before after : Holder) (pla
   pub told : e ≡ fetching cause
   pub broke : BreaksReceiving line.answers line.old line.new g seen.repository.state cause
 
+-- the conversation broke off while listing, while planning, or while receiving
 abbrev pub HasBroken : Line → Given → Holder → Holder → Option ℕ → SharedError → Type 0
 HasBroken line g before after planned e = BrokeListing line g planned e ⊎ (BrokePlanning line g planned e ⊎ BrokeReceiving line g before after planned e)
 
 -- ---- refusals that have a count: faults of the peer, and a yes of the interrupt
 
+-- the peer failed while listing
 abbrev pub transport : SharedError
 transport = errors.Fetch (fetch.Prepare (prepare.RefMap ref_map.Transport))
 
+-- the interrupt said yes while listing
 abbrev pub interrupted : SharedError
 interrupted = errors.Fetch (fetch.Prepare (prepare.RefMap ref_map.Interrupted))
 
+-- the peer failed after the listing
 abbrev pub client : SharedError
 client = errors.Fetch (fetch.Receive receive.Client)
 
+-- the interrupt said yes after the listing
 abbrev pub stopped : SharedError
 stopped = errors.Fetch (fetch.Receive receive.Interrupted)

@@ -34,6 +34,7 @@ use std::thread::Threads;
 ///
 /// After an error the journal has none of the pass's own entries more but the take's, and the commit's where the keep file
 /// couldn't be removed.
+// Many arguments: the public signature, that of `Remote::fetch` with a pass.
 pub fn fetch_shared<R: Threads + Wait + Sync, P: Peer, I: Interrupt, F: Files, W: Worktrees>(
     rt: &R,
     alloc: Global,

@@ -50,6 +50,8 @@ struct Stop {
 /// Takes what was received in a turn, makes its keep file, judges the mapped references over what that turn leaves, moves
 /// them in another turn, and removes the keep file unless it stays. In a dry run nothing is made or taken and nothing
 /// moves.
+// Many arguments: what a stage is given, with what is lent to it.
+// Long: each stage hands the pass back at its refusal.
 pub(crate) fn settle<R: Wait, F: Files, W: Worktrees>(
     rt: &R,
     alloc: Global,
@@ -128,6 +130,8 @@ fn found(listed: Listed) -> (RefMap, Handshake)
 }
 
 /// Makes the keep file of a pack that was taken, and judges the mapped references over what the taking left.
+// Many arguments: each is lent by itself.
+// Long: its clauses on each of the files and the work trees.
 fn judge_over<F: Files, W: Worktrees>(
     alloc: Global,
     settings: &Settings,

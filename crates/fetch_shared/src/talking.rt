@@ -38,6 +38,8 @@ pub(crate) struct Talked {
 
 /// Lists the references, plans in a turn, and asks for the pack by the plan, outside the turn. Tells how many entries the
 /// plan saw, where one was made.
+// Many arguments: those of the fetch.
+// Long: each stage hands the pass back at its refusal.
 pub(crate) fn talk<R: Threads + Wait + Sync, P: Peer, I: Interrupt>(
     rt: &R,
     alloc: Global,
@@ -132,7 +134,8 @@ pub(crate) fn unreceived(cause: fetch::Error) -> SharedError
     SharedError::from(FetchError::from(cause))
 }
 
-/// The plan of a turn. Want of memory alone refuses it.
+/// The plan of a turn. Out of memory alone refuses it.
+// Many arguments: what a plan is of, and the turn's.
 fn planned<R: Wait>(
     rt: &R,
     alloc: Global,

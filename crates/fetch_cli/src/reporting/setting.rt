@@ -26,9 +26,13 @@ use std::alloc::Global;
 /// A repository and a remote, as a scene says; and how it is to be fetched, what is checked out, and what the peer says.
 #[derive(Drop)]
 pub struct Setting {
+    /// The repository that fetches.
     pub repo: Repository,
+    /// The remote that is fetched from.
     pub remote: Remote,
+    /// How it is fetched.
     pub options: FetchOptions,
+    /// Where branches are checked out.
     pub worktrees: List<Worktree>,
     /// What the peer says, piece by piece.
     pub pieces: List<Text>,
