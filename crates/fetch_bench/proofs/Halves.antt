@@ -8,6 +8,7 @@ use Rattle.std.proofs.lemmas.List.FromFn.{length-map-range_with_len}
 use Rattle.hex.specs.Hex.{lower_digits}
 use Rattle.hex.proofs.HexLemmas.{length-encode_with}
 use Rattle.fetch_store.specs.Hashing.{header}
+use Rattle.fetch_store.specs.Digits.{hex_of}
 use Rattle.fetch_store.specs.Id.{bytes_of}
 use Rattle.fetch_store.specs.Objects.{Stored}
 use Rattle.fetch_store.specs.Stores.{AreOf, Entries}
@@ -17,7 +18,7 @@ use Rattle.fetch_store.specs.declared.object_kind.ObjectKind.TheVariants.{Commit
 use Rattle.fetch_store.proofs.Digests.{length-digest}
 use Rattle.fetch_pack.specs.Records.{Fits, pack_text, payloads_of, payload_of}
 use Rattle.fetch_pack.specs.declared.version.PackVersion.TheVariants.{V1}
-use Rattle.fetch_bench.specs.Commits.{under_its_id, digits_of, signature, text_of, commit_after, commits_after, line_of, tip, tree_id}
+use Rattle.fetch_bench.specs.Commits.{under_its_id, signature, text_of, commit_after, commits_after, line_of, tip, tree_id}
 use Rattle.fetch_bench.specs.Served.{branches, stream_of}
 use Rattle.fetch_bench.specs.Generated.{second_half, server_stream}
 use Rattle.fetch_bench.proofs.Texts.{parent_lines, text_is}
@@ -40,7 +41,7 @@ without_ids (o ∷ os) = ap (λ (l : List Stored). o ∷ l) (without_ids os)
 
 -- ---- lengths
 
-length-digits : (message : ObjectId) → length (digits_of message) ≡ 2 * length (bytes_of message)
+length-digits : (message : ObjectId) → length (hex_of message) ≡ 2 * length (bytes_of message)
 length-digits id = length-encode_with lower_digits (bytes_of id)
 
 length-line : (text : List ℕ) → length (line text) ≡ length text + 1
@@ -56,9 +57,9 @@ length-signature n small =
 length-parents : (parent : Option ObjectId) → IfSome parent (λ id. length (bytes_of id) ≡ 20) → length (parent_lines parent) ≤ 48
 length-parents None whole = omega arith
 length-parents (Some id) whole =
-    let text = codes "parent " ++ digits_of id in
+    let text = codes "parent " ++ hex_of id in
     let all : length (line text ++ []) ≡ length (line text) + 0 = length-append (line text) [] in
-    let parts : length text ≡ 7 + length (digits_of id) = length-append (codes "parent ") (digits_of id) in
+    let parts : length text ≡ 7 + length (hex_of id) = length-append (codes "parent ") (hex_of id) in
     let len : length (parent_lines (Some id)) ≤ 48 = omega (arith, all, parts, length-line text, length-digits id, whole) in
     len
 
@@ -69,13 +70,13 @@ length-parts a b c d e = omega (arith, length-append a (b ++ (c ++ (d ++ e))), l
 -- a commit is short
 short_text : (parent : Option ObjectId) (n : ℕ) → IfSome parent (λ id. length (bytes_of id) ≡ 20) → n ≤ 100000 → length (text_of parent n) < 2 ^ 32
 short_text parent n whole small =
-    let tree = codes "tree " ++ digits_of tree_id in
+    let tree = codes "tree " ++ hex_of tree_id in
     let author = codes "author " ++ signature n in
     let committer = codes "committer " ++ signature n in
     let message = codes "\n" ++ decimal n in
     let all : length (text_of parent n) ≡ length (line tree) + (length (parent_lines parent) + (length (line author) + (length (line committer) + length (line message)))) =
     ap length (text_is parent n) ∙ length-parts (line tree) (parent_lines parent) (line author) (line committer) (line message) in
-    let t : length tree ≡ 5 + length (digits_of tree_id) = length-append (codes "tree ") (digits_of tree_id) in
+    let t : length tree ≡ 5 + length (hex_of tree_id) = length-append (codes "tree ") (hex_of tree_id) in
     let w : length (bytes_of tree_id) ≡ 20 = length-digest Sha1 (header Tree 0 ++ []) in
     let a : length author ≡ 7 + length (signature n) = length-append (codes "author ") (signature n) in
     let c : length committer ≡ 10 + length (signature n) = length-append (codes "committer ") (signature n) in

@@ -5,7 +5,8 @@ use Rattle.std.specs.List.{flat_map}
 use Rattle.fetch_store.specs.CommitTexts.{commit_text, parent_line}
 use Rattle.fetch_store.specs.Texts.{line}
 use Rattle.fetch_store.specs.declared.id.ObjectId.{ObjectId}
-use Rattle.fetch_bench.specs.Commits.{digits_of, signature, text_of, tree_id}
+use Rattle.fetch_store.specs.Digits.{hex_of}
+use Rattle.fetch_bench.specs.Commits.{signature, text_of, tree_id}
 
 -- a word, a text and a line feed are a line
 pub line_is : (word text out a b c : List ℕ) → a ≡ out ++ word → b ≡ a ++ text → c ≡ b ++ 10 ∷ [] → c ≡ out ++ line (word ++ text)
@@ -17,10 +18,10 @@ unfolding signature
 who_is number = simp append_assoc
 
 abbrev pub parent_lines : Option ObjectId → List ℕ
-parent_lines parent = flat_map parent_line (option_to_list (option_map digits_of parent))
+parent_lines parent = flat_map parent_line (option_to_list (option_map hex_of parent))
 
 pub text_is : (parent : Option ObjectId) (number : ℕ)
-    → text_of parent number ≡ line (codes "tree " ++ digits_of tree_id) ++ (parent_lines parent ++ (line (codes "author " ++ signature number) ++ (line (codes "committer " ++ signature number) ++ line (codes "\n" ++ decimal number))))
+    → text_of parent number ≡ line (codes "tree " ++ hex_of tree_id) ++ (parent_lines parent ++ (line (codes "author " ++ signature number) ++ (line (codes "committer " ++ signature number) ++ line (codes "\n" ++ decimal number))))
 unfolding text_of commit_text
 text_is parent number = rw (← who_is number) refl
 
@@ -29,8 +30,8 @@ five out v w x y z a b c d e first second third fourth fifth = rw (fifth, fourth
 
 -- the lines of a commit are its text
 pub text_grows : (out a b c d e : List ℕ) (tree : ObjectId) (parent : Option ObjectId) (number : ℕ) → tree ≡ tree_id
-    → a ≡ out ++ line (codes "tree " ++ digits_of tree) → b ≡ a ++ parent_lines parent → c ≡ b ++ line (codes "author " ++ signature number) → d ≡ c ++ line (codes "committer " ++ signature number)
+    → a ≡ out ++ line (codes "tree " ++ hex_of tree) → b ≡ a ++ parent_lines parent → c ≡ b ++ line (codes "author " ++ signature number) → d ≡ c ++ line (codes "committer " ++ signature number)
     → e ≡ d ++ line (codes "\n" ++ decimal number) → e ≡ out ++ text_of parent number
 text_grows out a b c d e tree parent number same is_a is_b is_c is_d is_e =
-    let first = is_a ∙ ap (λ (id : ObjectId). out ++ line (codes "tree " ++ digits_of id)) same in
+    let first = is_a ∙ ap (λ (id : ObjectId). out ++ line (codes "tree " ++ hex_of id)) same in
     five out _ _ _ _ _ a b c d e first is_b is_c is_d is_e ∙ ap (λ (text : List ℕ). out ++ text) (sym (text_is parent number))

@@ -1,10 +1,9 @@
 -- A line of commits over the empty tree, one after the other. They are told by how many stand before them.
 use Rattle.std.specs.Prelude.{ℕ, zero, suc, ◌+◌, List, [], ◌∷◌, ◌++◌, map, codes, decimal, Option, Some, None, option_to_list, option_map}
 use Rattle.std.specs.List.{range_with_len}
-use Rattle.hex.specs.Hex.{encode_lower}
 use Rattle.fetch_store.specs.CommitTexts.{CommitParts, commit_text}
 use Rattle.fetch_store.specs.Hashing.{id_of}
-use Rattle.fetch_store.specs.Id.{bytes_of}
+use Rattle.fetch_store.specs.Digits.{hex_of}
 use Rattle.fetch_store.specs.Objects.{Stored}
 use Rattle.fetch_store.specs.Stores.{Entries}
 use Rattle.fetch_store.specs.declared.id.Kind.TheVariants.{Sha1}
@@ -23,10 +22,6 @@ empty_tree = record { hash = Sha1; kind = Tree; bytes = [] }
 abbrev pub tree_id : ObjectId
 tree_id = id_of Sha1 Tree []
 
--- an id in hexadecimal digits
-abbrev pub digits_of : ObjectId → List ℕ
-digits_of id = encode_lower (bytes_of id)
-
 -- who wrote the commit of a number, and when: that many seconds after 1970
 unfoldable pub signature : ℕ → List ℕ
 signature number = codes "A <a@x> " ++ decimal number ++ codes " +0000"
@@ -34,8 +29,8 @@ signature number = codes "A <a@x> " ++ decimal number ++ codes " +0000"
 -- The commit of a number has the empty tree and this parent, and its number as its message.
 abbrev pub parts : Option ObjectId → ℕ → CommitParts
 parts parent number = record {
-  tree = digits_of tree_id;
-  parents = option_to_list (option_map digits_of parent);
+  tree = hex_of tree_id;
+  parents = option_to_list (option_map hex_of parent);
   author = signature number;
   committer = codes "A <a@x>";
   seconds = decimal number;

@@ -1,41 +1,16 @@
 //! The commits of a line.
 
-ghost use Rattle.std.specs.Prelude.{◌≡◌, ◌≤◌, ◌+◌, ◌++◌, ◌∷◌, [], decimal, map, IfOk, OnOk, option_map};
+ghost use Rattle.std.specs.Prelude.{◌≡◌, ◌≤◌, ◌+◌, ◌++◌, ◌∷◌, [], map, IfOk, OnOk, option_map};
 ghost use Rattle.std.specs.List.{flat_map};
 ghost use Rattle.std.specs.Option.{option_copied, option_to_list};
 ghost use Rattle.fetch_store.specs.CommitTexts.{parent_line};
+ghost use Rattle.fetch_store.specs.Digits.{hex_of};
 ghost use Rattle.fetch_bench.specs.Commits as spec;
 
-use fetch_store::{Kind, NoMemory, Object, ObjectId, ObjectKind, StoreError, id_of};
-use itoa::Buffer;
+use fetch_store::{
+    Kind, NoMemory, Object, ObjectId, ObjectKind, StoreError, append_hex, append_number, id_of,
+};
 use std::alloc::Global;
-
-/// Puts the digits of an id after what is there.
-fn append_id(out: &mut Vec<u8>, id: &ObjectId) -> Result<(), NoMemory>
-    ensures { OnOk result (out.new.items ≡ out.old.items ++ spec.digits_of id.now) }
-{
-    match id {
-        ObjectId::Sha1(_) => {
-            let mut digits = [0; 40];
-            hex::encode_to_slice(id.as_bytes(), &mut digits).unwrap();
-            out.extend_from_slice(&digits)?;
-        }
-        ObjectId::Sha256(_) => {
-            let mut digits = [0; 64];
-            hex::encode_to_slice(id.as_bytes(), &mut digits).unwrap();
-            out.extend_from_slice(&digits)?;
-        }
-    }
-    Ok(())
-}
-
-fn append_number(out: &mut Vec<u8>, number: usize) -> Result<(), NoMemory>
-    ensures { OnOk result (out.new.items ≡ out.old.items ++ decimal number) }
-{
-    let mut buffer = Buffer::new();
-    out.extend_from_slice(buffer.format(number).as_bytes())?;
-    Ok(())
-}
 
 /// Puts who wrote the commit of a number, and when, after what is there.
 #[tactic(auto, unfolding(crate::specs::Commits::signature))]
@@ -50,11 +25,11 @@ fn append_signature(out: &mut Vec<u8>, number: usize) -> Result<(), NoMemory>
 
 /// Puts the line of a parent, where there is one, after what is there.
 fn append_parent(out: &mut Vec<u8>, parent: Option<&ObjectId>) -> Result<(), NoMemory>
-    ensures { OnOk result (out.new.items ≡ out.old.items ++ flat_map parent_line (option_to_list (option_map spec.digits_of (option_copied parent.entry)))) }
+    ensures { OnOk result (out.new.items ≡ out.old.items ++ flat_map parent_line (option_to_list (option_map hex_of (option_copied parent.entry)))) }
 {
     if let Some(parent) = parent {
         out.extend_from_slice(b"parent ")?;
-        append_id(out, parent)?;
+        append_hex(out, parent)?;
         out.extend_from_slice(b"\n")?;
     }
     Ok(())
@@ -71,7 +46,7 @@ fn append_commit(
     ensures { OnOk result (out.new.items ≡ out.old.items ++ spec.text_of (option_copied parent.entry) number) }
 {
     out.extend_from_slice(b"tree ")?;
-    append_id(out, tree)?;
+    append_hex(out, tree)?;
     out.extend_from_slice(b"\n")?;
     append_parent(out, parent)?;
     out.extend_from_slice(b"author ")?;

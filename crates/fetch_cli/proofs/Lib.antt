@@ -1,6 +1,5 @@
 pub mod Appends
 pub mod ConfigLines
-pub mod Pieces
 pub mod EachLine
 pub mod Digits
 pub mod ReferenceLines

@@ -1,9 +1,8 @@
 -- The lines of a report.
 use Rattle.std.specs.Prelude.{ℕ, ◌+◌, ◌/◌, ◌%◌, ◌==◌, nat_lt, List, [], ◌∷◌, ◌++◌, codes, decimal, if◌then◌else◌}
 use Rattle.std.specs.List.{flat_map}
-use Rattle.hex.specs.Hex.{encode_lower}
 use Rattle.fetch_store.specs.declared.id.ObjectId.{ObjectId}
-use Rattle.fetch_store.specs.Id.{bytes_of}
+use Rattle.fetch_store.specs.Digits.{hex_of}
 use Rattle.fetch_wire.specs.declared.lines.line.Line.{Line}
 use Rattle.fetch_wire.specs.declared.lines.line.Line.TheVariants.{Payload, Flush, Delim, End}
 use Rattle.fetch_refs.specs.declared.log.LogLine.{LogLine}
@@ -30,10 +29,6 @@ sent_line (Payload payload) = codes "> \"" ++ flat_map escaped payload ++ codes 
 sent_line Flush = codes "> 0000\n"
 sent_line Delim = codes "> 0001\n"
 sent_line End = codes "> 0002\n"
-
--- an id in hexadecimal digits
-abbrev pub hex_of : ObjectId → List ℕ
-hex_of id = encode_lower (bytes_of id)
 
 -- an id, or a name after a `@`
 unfoldable pub target_text : Target → List ℕ

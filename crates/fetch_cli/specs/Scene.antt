@@ -66,7 +66,7 @@ payloads_of ls = do
   payloads ← each_of payload_of (group_of payload_of ls)
   Ok (payloads, behind_group payload_of ls)
 
--- a flush with nothing behind it
+-- a flush with nothing after it
 unfoldable pub end_of : ℕ → Lines → Result (Unit {0}) ℕ
 end_of len ls = do
   flushed ← next flushes ls

@@ -20,7 +20,8 @@ use Rattle.fetch_conversation.specs.declared.prepare.Error.{Error as PrepareErro
 use Rattle.fetch_conversation.specs.declared.prepare.Error.TheVariants as prepare
 use Rattle.fetch_conversation.specs.declared.ref_map.Error.{Error as RefMapError}
 use Rattle.fetch_conversation.specs.declared.ref_map.Error.TheVariants as ref_map
-use Rattle.fetch_cli.specs.ReportLines.{hex_of, target_text}
+use Rattle.fetch_store.specs.Digits.{hex_of}
+use Rattle.fetch_cli.specs.ReportLines.{target_text}
 
 -- a name and what it keeps, with a space between
 unfoldable pub keeping : List ℕ → List ℕ → List ℕ

@@ -20,8 +20,8 @@ pub use program::running::run;
 pub use program::standard::{StdSink, StdSource};
 pub use program::words::{Command, HELP, MAX_BENCH, VERSION, read_command};
 pub use reporting::lines::{
-    append_border, append_hex, append_id, append_keep, append_log, append_malformed,
-    append_malformed_word, append_number, append_ref, append_refused, append_sent, append_target,
+    append_border, append_id, append_keep, append_log, append_malformed, append_malformed_word,
+    append_ref, append_refused, append_sent, append_target,
 };
 pub use reporting::map_lines::append_map;
 pub use reporting::setting::{Setting, set_up, set_up_local, set_up_remote};

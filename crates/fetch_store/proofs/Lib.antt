@@ -45,3 +45,4 @@ pub mod TreeChanges
 pub mod Silent
 pub mod Rooted
 pub mod Apart
+pub mod Copies

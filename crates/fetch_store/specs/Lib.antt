@@ -33,3 +33,4 @@ pub mod Paths
 pub mod Trees
 pub mod TreeCodes
 pub mod FileCalls
+pub mod Digits

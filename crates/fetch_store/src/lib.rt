@@ -1,11 +1,13 @@
 //! Git's objects: their ids, their grammar, and a store of them.
 #![tactic(auto)]
 
+mod appending;
 mod border;
 mod buffer;
 mod calls;
 mod cloning;
 mod collisions;
+mod copying;
 mod counter;
 mod digits;
 mod distinct;
@@ -39,9 +41,11 @@ mod take;
 mod text;
 mod walk;
 
+pub use appending::{append_hex, append_number};
 pub use border::{Border, ascending};
 pub use calls::Calls;
 pub use cloning::TryClone;
+pub use copying::copy_from;
 pub use counter::Steps;
 pub use digits::{decimal, is_decimal};
 pub use distinct::{Distinct, Keyed};

@@ -1,19 +1,9 @@
--- Parts of a text, and the pieces of a scripted peer.
-use Rattle.std.proofs.Common.{◌≡◌, Bool, ℕ, None, ◌+◌, ◌-◌, ◌<◌, ◌≤◌, List, [], ◌∷◌, ◌++◌, length, get_or, take, drop, refl, sym, ap, ◌∙◌, arith, append_assoc, take-append-drop, length-take, length-drop}
-use Rattle.std.proofs.lemmas.List.{take_at, append_cancel_right, drop-drop, append-nil, drop_more, take_more, take_all, drop_all}
+-- The pieces of a scripted peer.
+use Rattle.std.proofs.Common.{◌≡◌, Bool, ℕ, None, ◌+◌, ◌-◌, ◌<◌, ◌≤◌, List, [], ◌∷◌, ◌++◌, length, get_or, take, drop, refl, sym, ap, ◌∙◌, arith, append_assoc, take-append-drop, length-drop}
+use Rattle.std.proofs.lemmas.List.{append_cancel_right, drop-drop, append-nil, drop_more, take_more, take_all, drop_all}
 use Rattle.std.specs.List.{concat}
 use Rattle.fetch_wire.specs.Talks.{Receive, Passes}
 use Rattle.fetch_wire.specs.Scripts.{given_of, pieces_from, from_first, first_of, without}
-
--- what a copy of the next n bytes leaves
-pub copied : (bytes part rest : List ℕ) (place n : ℕ) → part ≡ take (place + n - place) (drop place bytes) → place + n ≤ length bytes → drop place bytes ≡ take n (part ++ rest) ++ drop (place + n) bytes
-copied bytes part rest place n is fits =
-    let k : place + n - place ≡ n = omega arith in
-    let e : part ≡ take n (drop place bytes) = rw k at is in
-    let l : length part ≡ n = omega (arith, ap length e, length-take n (drop place bytes), length-drop place bytes) in
-    let front : take n (part ++ rest) ≡ part = take_at part rest n l in
-    let back : drop (place + n) bytes ≡ drop n (drop place bytes) = sym (drop-drop n place bytes) in
-    sym (rw (front, back, e) (take-append-drop n (drop place bytes)))
 
 pub concat-append : (xs ys : List (List ℕ)) → concat (xs ++ ys) ≡ concat xs ++ concat ys
 concat-append [] ys = refl

@@ -1,29 +1,16 @@
 //! A source and a sink in memory.
 
-ghost use Rattle.std.specs.Prelude.{◌≡◌, ◌≤◌, ◌<◌, ◌+◌, ◌++◌, ◌↔◌, ℕ, [], nat_lt, length, Some, take, drop, IfSome, IfOk, OnOk, OnErr, IsErr, IsErrOf, Contains};
+ghost use Rattle.std.specs.Prelude.{◌≡◌, ◌≤◌, ◌<◌, ◌+◌, ◌↔◌, ℕ, [], nat_lt, length, Some, drop, IfSome, IfOk, OnOk, OnErr, IsErr, IsErrOf, Contains};
 ghost use Rattle.std.specs.Io.KnownBytes.{ReadConsumes};
 ghost use Rattle.fetch_store.specs.Calls.{one_more, faults_of};
 ghost use Rattle.fetch_store.specs.Faults.{Faults, Rose, Counts};
 ghost use Rattle.fetch_cli.specs.Ends.{Takes};
 
 use crate::program::ends::{Sink, Source};
-use fetch_store::{Calls, Failed, Text};
+use fetch_store::{Calls, Failed, Text, copy_from};
 use fetch_wire::SendFault;
 use std::alloc::Global;
 use std::marker::Model;
-
-/// Copies what follows this place to the front of `into`, as far as it fits.
-fn copy_from(bytes: &[u8], place: usize, into: &mut [u8]) -> usize
-    requires { place ≤ length bytes.now }
-    ensures bound { result ≤ length into.new }
-    ensures within { place + result ≤ length bytes.now }
-    ensures copied { drop place bytes.now ≡ take result into.new ++ drop (place + result) bytes.now }
-    ensures none { result ≡ 0 → 0 < length into.new → place ≡ length bytes.now }
-{
-    let count = into.len().min(bytes.len() - place);
-    into[..count].copy_from_slice(&bytes[place..place + count]);
-    count
-}
 
 /// Bytes in memory. The calls whose numbers are listed fail, counted from 0.
 #[derive(Debug, Drop)]

@@ -1,15 +1,14 @@
 //! The lines of a report. Each call puts a line after what is there; after an error a part of it may stand there.
 
-ghost use Rattle.std.specs.Prelude.{◌≡◌, ◌<◌, ◌++◌, decimal, OnOk};
+ghost use Rattle.std.specs.Prelude.{◌≡◌, ◌<◌, ◌++◌, OnOk};
 ghost use Rattle.std.specs.List.{flat_map};
 ghost use Rattle.fetch_wire.specs.LineViews.{line_of};
 ghost use Rattle.fetch_refs.specs.Targets.{seen};
 ghost use Rattle.fetch_cli.specs.ReportLines as spec;
 
 use fetch_refs::{LogLine, TargetRef};
-use fetch_store::{NoMemory, ObjectId};
+use fetch_store::{NoMemory, ObjectId, append_hex, append_number};
 use fetch_wire::LineRef;
-use itoa::Buffer;
 
 /// The lower-case digit of a number below 16.
 fn hex_digit(n: u8) -> u8
@@ -63,34 +62,6 @@ pub fn append_sent(out: &mut Vec<u8>, line: LineRef<'_>) -> Result<(), NoMemory>
         LineRef::Delim => out.extend_from_slice(b"> 0001\n")?,
         LineRef::End => out.extend_from_slice(b"> 0002\n")?,
     }
-    Ok(())
-}
-
-/// The digits of an id.
-pub fn append_hex(out: &mut Vec<u8>, id: &ObjectId) -> Result<(), NoMemory>
-    ensures { OnOk result (out.new.items ≡ out.old.items ++ spec.hex_of id.now) }
-{
-    match id {
-        ObjectId::Sha1(_) => {
-            let mut digits = [0; 40];
-            hex::encode_to_slice(id.as_bytes(), &mut digits).unwrap();
-            out.extend_from_slice(&digits)?;
-        }
-        ObjectId::Sha256(_) => {
-            let mut digits = [0; 64];
-            hex::encode_to_slice(id.as_bytes(), &mut digits).unwrap();
-            out.extend_from_slice(&digits)?;
-        }
-    }
-    Ok(())
-}
-
-/// A number.
-pub fn append_number(out: &mut Vec<u8>, n: usize) -> Result<(), NoMemory>
-    ensures { OnOk result (out.new.items ≡ out.old.items ++ decimal n) }
-{
-    let mut buffer = Buffer::new();
-    out.extend_from_slice(buffer.format(n).as_bytes())?;
     Ok(())
 }
 

@@ -5,8 +5,7 @@ ghost use Rattle.fetch_wire.specs.References.{name_in};
 ghost use Rattle.fetch_update.specs.Modes.{mode_text};
 ghost use Rattle.fetch_cli.specs.MapLines as spec;
 
-use crate::reporting::lines::{append_hex, append_number};
-use fetch_store::{NoMemory, Text};
+use fetch_store::{NoMemory, Text, append_hex, append_number};
 use fetch_update::{Mode, TypeChange, Update};
 use fetch_wire::{Mapping, Ref, Source};
 use std::io::Write;

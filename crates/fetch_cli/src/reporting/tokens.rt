@@ -1,14 +1,14 @@
 //! How a report tells a refusal.
 
 ghost use Rattle.std.specs.Prelude.{◌≡◌, ◌++◌, decimal, OnOk};
-ghost use Rattle.fetch_cli.specs.ReportLines.{hex_of};
+ghost use Rattle.fetch_store.specs.Digits.{hex_of};
 ghost use Rattle.fetch_cli.specs.Tokens as spec;
 
-use crate::reporting::lines::{append_hex, append_number, append_target};
+use crate::reporting::lines::append_target;
 use fetch_pack::PackError;
 use fetch_refs::{RefError, Target};
 use fetch_remote::{FetchError, fetch, prepare, ref_map};
-use fetch_store::{Kind, NoMemory, ObjectId, Text};
+use fetch_store::{Kind, NoMemory, ObjectId, Text, append_hex, append_number};
 use fetch_update::update;
 use fetch_wire::WireError;
 

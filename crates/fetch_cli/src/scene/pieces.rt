@@ -47,7 +47,7 @@ fn ends(len: usize, lines: Lines<'_>) -> Result<(), SceneFault>
     }
 }
 
-/// Reads the flush at the end of a scene of so many bytes, and that nothing follows it. `Malformed` tells the line that
+/// Reads the flush at the end of a scene of this many bytes, and that nothing follows it. `Malformed` tells the line that
 /// stands in its place, or where the bytes after it begin.
 #[tactic(auto, unfolding(crate::specs::Scene::end_of))]
 pub fn read_end(alloc: Global, len: usize, lines: Lines<'_>) -> Result<(), SceneFault>

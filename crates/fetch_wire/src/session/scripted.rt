@@ -1,6 +1,6 @@
 //! A peer and an interrupt that follow a script.
 
-ghost use Rattle.std.specs.Prelude.{◌≡◌, ◌≤◌, ◌↔◌, ◌+◌, ◌-◌, ◌∷◌, ◌++◌, ℕ, suc, [], nat_lt, min, length, drop, take, Some, None, IsErr, IsOk, IsErrOf, IsTrue, OnErr, IfOk, Contains, false, slice_index_or};
+ghost use Rattle.std.specs.Prelude.{◌≡◌, ◌≤◌, ◌↔◌, ◌+◌, ◌-◌, ◌∷◌, ℕ, suc, [], nat_lt, min, length, Some, None, IsErr, IsOk, IsErrOf, IsTrue, OnErr, IfOk, Contains, false, slice_index_or};
 ghost use Rattle.std.specs.List.{concat};
 ghost use Rattle.fetch_store.specs.Faults.{Faults, Rose, Counts};
 ghost use Rattle.fetch_wire.specs.Talks.{Talk, Sends, Receives, Makes, at_once};
@@ -9,7 +9,7 @@ ghost use Rattle.fetch_wire.specs.Scripts.{given_of, pieces_from, from_first, fi
 
 use crate::cloning::copy_slice;
 use crate::session::peer::{Interrupt, Peer, SendFault};
-use fetch_store::{Calls, Failed, NoMemory, Text};
+use fetch_store::{Calls, Failed, NoMemory, Text, copy_from};
 use opening_value::Openings;
 use std::alloc::Global;
 use std::marker::Model;
@@ -118,17 +118,6 @@ fn next_place(pieces: &[Text], piece: usize, offset: usize) -> (usize, usize)
         offset = 0;
     }
     (piece, offset)
-}
-
-/// Copies what follows this place to the front of `into`, as far as it fits.
-fn copy_from(bytes: &[u8], place: usize, into: &mut [u8]) -> usize
-    requires { place ≤ length bytes.now }
-    ensures count { result ≡ min (length into.new) (length bytes.now - place) }
-    ensures copied { drop place bytes.now ≡ take result into.new ++ drop (place + result) bytes.now }
-{
-    let count = into.len().min(bytes.len() - place);
-    into[..count].copy_from_slice(&bytes[place..place + count]);
-    count
 }
 
 impl Peer for ScriptedPeer {

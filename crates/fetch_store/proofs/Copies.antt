@@ -1,4 +1,4 @@
--- Parts of a text.
+-- What a copy of a part of a text leaves.
 use Rattle.std.proofs.Common.{◌≡◌, ℕ, ◌+◌, ◌-◌, ◌≤◌, List, ◌++◌, length, take, drop, sym, ap, arith, take-append-drop, length-take, length-drop}
 use Rattle.std.proofs.lemmas.List.{take_at, drop-drop}
 

@@ -1,6 +1,6 @@
 use Rattle.std.proofs.Common.{arith}
-use Rattle.fetch_wire.proofs.Pieces.{copied}
-use Rattle.fetch_wire.proofs.session.scripted.copy_from.Goals as goal
+use Rattle.fetch_store.proofs.Copies.{copied}
+use Rattle.fetch_store.proofs.copying.copy_from.Goals as goal
 
 pub returns-clause-copied : goal.returns-clause-copied
 returns-clause-copied c = copied c.args.bytes.now _ _ c.args.place _ c.copy_from_slice.ensures.after (omega arith)

@@ -1,6 +1,5 @@
-use Rattle.std.proofs.Common.{◌≡◌, ◌*◌, length, arith}
-use Rattle.fetch_store.specs.Id.{byte_len, kind_of}
-use Rattle.fetch_cli.proofs.reporting.lines.append_hex.Goals as goal
+use Rattle.std.proofs.Common.{arith}
+use Rattle.fetch_store.proofs.appending.append_hex.Goals as goal
 
 pub unwrap-requires : goal.unwrap-requires
 unwrap-requires c =
