@@ -49,7 +49,7 @@ among : (before after : List Mapping) (m : Mapping) → Contains (before ++ m �
 among [] after m = first_in m after
 among (a ∷ before) after m = later_in m a (before ++ m ∷ after) (among before after m)
 
-judges_it : (p : Policy) (m : RefMap) → AreJudgeable p m → (u : Updates) × (judged_of p m ≡ Ok u)
+pub judges_it : (p : Policy) (m : RefMap) → AreJudgeable p m → (u : Updates) × (judged_of p m ≡ Ok u)
 judges_it p m h = by (outcome_of p m.refspecs m.extra_refspecs m.mappings) refl
   where
     by : (o : Result Updates UpdateError) → outcome_of p m.refspecs m.extra_refspecs m.mappings ≡ o → (u : Updates) × (judged_of p m ≡ Ok u)

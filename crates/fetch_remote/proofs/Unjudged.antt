@@ -1,4 +1,4 @@
--- A conversation is never refused as judging is, nor by the files.
+-- A conversation is never refused as judging is, nor as a taking is for a link that is missing, nor by the files.
 use Rattle.std.proofs.Common.{◌≡◌, ℕ, zero, suc, Bool, true, false, not, List, [], ◌∷◌, ◌++◌, length, Option, Some, None, Result, Ok, Err, subst, inl, inr}
 use Rattle.std.specs.Prelude.{◌&&◌, ◌||◌, ⊤, IfSome, if◌then◌else◌}
 use Rattle.std.specs.FinMap as map
@@ -45,14 +45,15 @@ use Rattle.fetch_remote.specs.Talking.{BreaksReceiving}
 use Rattle.fetch_remote.specs.declared.fetching.fetch_error.FetchError.{FetchError}
 use Rattle.fetch_remote.specs.declared.fetching.fetch_error.FetchError.TheVariants as fetch
 
--- no refusal of judging or of the files
+-- no refusal of judging, of a link that is missing, or of the files
 abbrev pub IsOther : Error → Type 0
 IsOther (errors.UpdateRefs e) = ⊥
 IsOther (errors.KeepFile path) = ⊥
 IsOther (errors.RemovePackKeepFile path) = ⊥
+IsOther (errors.Disconnected link) = ⊥
 IsOther e = ⊤
 
--- None of its refusals is one of judging or of the files.
+-- None of its refusals is one of these.
 unfoldable Spares : {X : Type 0} → Conversation X Error → Type 0
 Spares (ends (Ok x)) = ⊤
 Spares (ends (Err e)) = IsOther e

@@ -107,7 +107,8 @@ module _ (line : Line) (c : Call) (still : c.left ≡ c.files) (none : entries_o
       → IsSharedRefused line c (receipt_of c.before (Some count) None None) (fetching (receiving cause))
   unanswered count seen at (receive.NoMapping specs n) h is = record { count = count; receipt_is = refl; none = none; files_same = still; seen = seen; at = at; broke = h }
   unanswered count seen at (receive.IncompatibleObjectHash local remote) h is = record { count = count; receipt_is = refl; none = none; files_same = still; seen = seen; at = at; broke = h }
-  unanswered count seen at (receive.Disconnected link) h is = record { count = count; receipt_is = refl; none = none; files_same = still; seen = seen; at = at; broke = h }
+  unanswered count seen at (receive.Disconnected link) h is =
+      absurd (receives_no_other line.answers line.old line.new c.given seen.repository.state (receiving (receive.Disconnected link)) h (receive.Disconnected link) (λ x. x) refl (ap receiving is))
   unanswered count seen at (receive.RejectShallowRemoteConfig value) h is = record { count = count; receipt_is = refl; none = none; files_same = still; seen = seen; at = at; broke = h }
   unanswered count seen at (receive.NegotiationAlgorithmConfig value) h is = record { count = count; receipt_is = refl; none = none; files_same = still; seen = seen; at = at; broke = h }
   unanswered count seen at (receive.PackThreads value) h is = record { count = count; receipt_is = refl; none = none; files_same = still; seen = seen; at = at; broke = h }

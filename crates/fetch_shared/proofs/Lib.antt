@@ -26,3 +26,5 @@ pub mod Settled
 pub mod Owned
 pub mod Fetched
 pub mod Places
+pub mod Complete
+pub mod Disconnected

@@ -1,5 +1,5 @@
 -- The places that receipts tell are in order.
-use Rattle.std.proofs.Common.{◌≡◌, ℕ, ◌+◌, ◌≤◌, ◌<◌, Bool, true, false, List, [], ◌++◌, length, Option, None, Some, refl, sym, ap, ◌∙◌, subst, inl, inr, ⊎_elim, arith}
+use Rattle.std.proofs.Common.{◌≡◌, ℕ, ◌+◌, ◌≤◌, ◌<◌, Bool, true, false, List, [], ◌++◌, length, Option, None, Some, refl, sym, ap, ◌∙◌, subst, inl, inr, arith}
 use Rattle.std.specs.Prelude.{◌⊎◌, IfSome}
 use Rattle.fetch_conversation.specs.declared.fetch.Error.TheVariants as receive
 use Rattle.fetch_remote.specs.Form.{Given}
@@ -15,7 +15,7 @@ use Rattle.fetch_shared.specs.Journals.{Begins}
 use Rattle.fetch_shared.specs.Passes.{Holder, IsBack}
 use Rattle.fetch_shared.specs.Receipts.{IsReceipt}
 use Rattle.fetch_shared.specs.Seen.{IsStateAt}
-use Rattle.fetch_shared.specs.Settling.{Matter, Course, HasTaken, Commits, IsSettled, ForgotEarly, ForgotLate, IsUnsettled}
+use Rattle.fetch_shared.specs.Settling.{Matter, Course, HasTaken, Commits, IsSettled, ForgotEarly, ForgotMaking, ForgotLate, IsUnsettled}
 use Rattle.fetch_shared.specs.Shared.{SharedValue}
 use Rattle.fetch_shared.specs.Talking.{Line, HasTalked, HasBroken}
 use Rattle.fetch_shared.proofs.Journals.{begins_length}
@@ -58,12 +58,10 @@ committed_behind false number judged own front entry place h = subst (λ (o : Op
 settled_places : (m : Matter) (c : Course) (judged : ℕ) (place : Option ℕ) (outcome : Outcome) → IsSettled m c judged place outcome → Places c.planned c.front (Some judged) place
 settled_places m c judged place outcome s = record { judged = taken_between m c judged s.by.taken; place = committed_behind m.how.dry_run c.number judged _ c.front _ place s.commits }
 
-late_between : (m : Matter) (c : Course) (judged : Option ℕ) → IfSome judged (HasTaken m c) → IfSome judged (Between c.planned c.front)
-late_between m c None h = tt
-late_between m c (Some n) h = taken_between m c n h
-
-forgotten_places : (m : Matter) (c : Course) (judged place : Option ℕ) → place ≡ None → ForgotEarly c judged ⊎ ForgotLate m c judged → Places c.planned c.front judged place
-forgotten_places m c judged place is = ⊎_elim (λ (h : ForgotEarly c judged). none_at_all c.planned c.front judged place h.unjudged is) (λ (h : ForgotLate m c judged). none_placed c.planned c.front judged place (late_between m c judged h.taken) is)
+forgotten_places : (m : Matter) (c : Course) (judged place : Option ℕ) → place ≡ None → ForgotEarly c judged ⊎ (ForgotMaking m c judged ⊎ ForgotLate m c judged) → Places c.planned c.front judged place
+forgotten_places m c judged place is (inl h) = none_at_all c.planned c.front judged place h.unjudged is
+forgotten_places m c judged place is (inr (inl h)) = none_at_all c.planned c.front judged place h.unjudged is
+forgotten_places m c judged place is (inr (inr h)) = none_placed c.planned c.front judged place (judged_between m c judged h.count h.judged_is h.taken) is
 
 unsettled_places : (m : Matter) (c : Course) (judged place : Option ℕ) (e : SharedError) → IsUnsettled m c judged place e → Places c.planned c.front judged place
 unsettled_places m c judged place (errors.Disconnected link) u = none_at_all c.planned c.front judged place u.unjudged u.unplaced

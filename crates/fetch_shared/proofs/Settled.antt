@@ -10,9 +10,10 @@ use Rattle.fetch_store.specs.declared.missing.Missing.{Missing}
 use Rattle.fetch_store.specs.Closed.{Holding}
 use Rattle.fetch_store.specs.Honest.{Pack}
 use Rattle.fetch_store.specs.Missing.{missing}
-use Rattle.fetch_store.specs.Stores.{collision}
+use Rattle.fetch_store.specs.Stores.{AreOf, collision}
 use Rattle.fetch_store.specs.FileCalls.{IsRefused as IsBlocked}
 use Rattle.fetch_store.specs.Trees.{Tree}
+use Rattle.fetch_pack.specs.Once.{AreNamed}
 use Rattle.fetch_refs.specs.Expectations.{fails}
 use Rattle.fetch_refs.specs.Names.{Names}
 use Rattle.fetch_refs.specs.declared.edit.RefEdit.{RefEdit}
@@ -73,9 +74,15 @@ commit_refused names edits e = by (find (fails names) edits)
 
 -- ---- as it is taken
 
-pub unbrought : (m : Matter) (before after : Holder) (known : Option (List Worktree)) (files : Option Tree) (e : SharedError) → IsUnbrought before after m.how.dry_run m.wants m.told.received e
-    → IsUnsettled m (course_of before after known files files) None None e
-unbrought m before after known files e h = by h.why
+-- what is taken was received
+brought_from : (P : Received → Type 0) (dry_run : Bool) (r : Option Received) (reply : Received) → IfSome r P → brought dry_run r ≡ Some reply → P reply
+brought_from P true r reply h is = absurd (cc)
+brought_from P false r reply h is = subst (λ (o : Option Received). IfSome o P) is h
+
+pub unbrought : (m : Matter) (before after : Holder) (known : Option (List Worktree)) (files : Option Tree) (e : SharedError)
+    → IfSome m.told.received (λ r. AreOf before.shared.opening.state.hash r.objects) → IfSome m.told.received (λ r. AreNamed r.objects)
+    → IsUnbrought before after m.how.dry_run m.wants m.told.received e → IsUnsettled m (course_of before after known files files) None None e
+unbrought m before after known files e of_kind named h = by h.why
   where
     hit_or_gap : IsUntaken m (course_of before after known files files) None None e → ((id : ObjectId) × (e ≡ errors.Collision id)) ⊎ ((link : Missing) × (e ≡ errors.Disconnected link)) → IsUnsettled m (course_of before after known files files) None None e
     hit_or_gap u (inl (id, is)) = subst (λ (x : SharedError). IsUntaken m (course_of before after known files files) None None x → IsUnsettled m (course_of before after known files files) None None x) (sym is) (λ y. y) u
@@ -85,7 +92,18 @@ unbrought m before after known files e h = by h.why
         → IsUnsettled m (course_of before after known files files) None None e
     by (inl is) = subst (λ (x : SharedError). IsUnsettled m (course_of before after known files files) None None x) (sym is) (record { unplaced = refl; stands = inl (record { unjudged = refl; none = h.none; files_same = refl }) })
     by (inr (reply, is, refused)) =
-        hit_or_gap (record { unjudged = refl; unplaced = refl; none = h.none; files_same = refl; reply = reply; reply_is = is; refused = refused })
+        hit_or_gap
+        (record {
+          unjudged = refl;
+          unplaced = refl;
+          none = h.none;
+          files_same = refl;
+          reply = reply;
+          reply_is = is;
+          of_kind = brought_from (λ r. AreOf before.shared.opening.state.hash r.objects) m.how.dry_run m.told.received reply of_kind is;
+          named = brought_from (λ r. AreNamed r.objects) m.how.dry_run m.told.received reply named is;
+          refused = refused;
+        })
         (take_refused (held refused.found.repository) m.wants (pack_of reply) e refused.cause)
 
 -- ---- behind the taking
@@ -134,7 +152,7 @@ module _ (m : Matter) (p q w : Holder) (known : Option (List Worktree)) (files l
 
         by : (s.cause ≡ receive.KeepFile h.unmade.path) ⊎ (s.cause ≡ receive.NoMemory) → IsUnsettled m course s.judged None (fetching (receiving s.cause))
         by (inl is) = so (receive.KeepFile h.unmade.path) is (record { unjudged = refl; unplaced = refl; added = own_added later same; keep = sym keep_same ∙ h.unmade.made; tree = h.unmade.told })
-        by (inr is) = so receive.NoMemory is (record { unplaced = refl; stands = inr (record { taken = tt; added = own_added later same; kept = inl (h.unmade.path, sym keep_same ∙ h.unmade.made, h.unmade.told) }) })
+        by (inr is) = so receive.NoMemory is (record { unplaced = refl; stands = inr (inl (record { unjudged = refl; added = own_added later same; path = h.unmade.path; keep = sym keep_same ∙ h.unmade.made; tree = h.unmade.told })) })
     stopped s (inr h) = by (judging_told (policy_by b m.how h.trees) m.told.listed.ref_map s.cause h.by)
       where
         stands : AreFiles files left (with_keep (keep_in m))
@@ -149,7 +167,7 @@ module _ (m : Matter) (p q w : Holder) (known : Option (List Worktree)) (files l
             subst (λ (x : Policy). judged_of x m.told.listed.ref_map ≡ Err (receive.UpdateRefs cause)) (policy_same h.trees) (OnFalse_at sure answered)
 
         by : IsOfJudging s.cause → IsUnsettled m course s.judged None (fetching (receiving s.cause))
-        by (inl is) = so receive.NoMemory is (record { unplaced = refl; stands = inr (record { taken = subst (λ (o : Option ℕ). IfSome o (HasTaken m course)) (sym h.judged) (taken_at b.taken.place refl later); added = own_added later same; kept = inr stands }) })
+        by (inl is) = so receive.NoMemory is (record { unplaced = refl; stands = inr (inr (record { count = b.taken.place; judged_is = h.judged; taken = taken_at b.taken.place refl later; added = own_added later same; kept = stands })) })
         by (inr (cause, is)) = so (receive.UpdateRefs cause) is (record {
           count = b.taken.place;
           judged_is = h.judged;
@@ -185,7 +203,7 @@ module _ (m : Matter) (p q w : Holder) (known : Option (List Worktree)) (files l
         by : (e ≡ errors.NoMemory) ⊎ ((m.how.dry_run ≡ false) × IsRefusedAt q.shared.opening q.front w.front (Commit q.number v.updates.edits committer) e) → IsUnsettled m course (Some v.judged) None e
         by (inl is) =
             subst (λ (x : SharedError). IsUnsettled m course (Some v.judged) None x) (sym is)
-            (record { unplaced = refl; stands = inr (record { taken = (judged_at v mid hv later.begins).taken; added = own_added later.begins same; kept = inr stands }) })
+            (record { unplaced = refl; stands = inr (inr (record { count = v.judged; judged_is = refl; taken = (judged_at v mid hv later.begins).taken; added = own_added later.begins same; kept = stands })) })
         by (inr (wet, refused)) =
             uncommitted (record {
               count = v.judged;

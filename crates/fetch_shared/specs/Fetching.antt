@@ -1,4 +1,4 @@
--- A fetch over a shared repository. "The state at `planned`" and "at `judged`" are those that so many entries leave of what
+-- A fetch over a shared repository. "The state at `planned`" and "at `judged`" are those that this many entries leave of what
 -- the pass has seen in the end.
 use Rattle.std.specs.Prelude.{◌≡◌, ◌⊎◌, ℕ, List, [], Option, Some, None, ⊤}
 use Rattle.fetch_store.specs.Trees.{Tree}
@@ -7,6 +7,7 @@ use Rattle.fetch_wire.specs.Talks.{Talks, IsFront}
 use Rattle.fetch_wire.specs.Written.{lines_text}
 use Rattle.fetch_conversation.specs.Conversation.{IsAwaited}
 use Rattle.fetch_conversation.specs.declared.fetch.Error.TheVariants as receive
+use Rattle.fetch_conversation.specs.declared.prepare.Error.TheVariants as prepare
 use Rattle.fetch_remote.specs.Fetched.{HasHeard, HasRead, IsJudged, IsWritten, IsKept, listed_in}
 use Rattle.fetch_remote.specs.Fetching.{manner_in, requests_in}
 use Rattle.fetch_remote.specs.Form.{Given}
@@ -127,7 +128,7 @@ pub record IsStopped (line : Line) (c : Call) (receipt : Receipt) (e : SharedErr
   pub receipt_is : receipt ≡ receipt_of c.before (Some count) judged place
   pub unsettled : IsUnsettled (matter_in c.given conversed.seen.repository.state told) (course_in c conversed.seen.journal) judged place e
 
--- The peer heard a front of the requests for what it said, which a plan over this state asks with, and nothing was received
+-- The peer received a prefix of the requests for what it said, which a plan over this state asks with, and nothing was received
 -- but while a reply was awaited.
 pub record HasSpoken (line : Line) (g : Given) (s : State) : Type 0 where
   pub said : List ℕ
@@ -149,12 +150,16 @@ pub record RanOut (line : Line) (c : Call) (receipt : Receipt) : Type 0 where
   pub files_same : c.left ≡ c.files
   pub spoke : HasSpokenAt line c planned
 
--- Why it was refused, and what that leaves.
+-- Why it was refused, and what that leaves. Out of memory and a link that is missing are told by themselves, and never
+-- inside `Fetch`.
 abbrev pub IsSharedRefused : Line → Call → Receipt → SharedError → Type 0
+IsSharedRefused line c receipt (errors.Fetch (fetch.Prepare prepare.NoMemory)) = ⊥
 IsSharedRefused line c receipt (errors.Fetch (fetch.Prepare cause)) = IsUnlisted line c receipt (fetch.Prepare cause)
 IsSharedRefused line c receipt (errors.Fetch (fetch.Receive (receive.KeepFile path))) = IsStopped line c receipt (errors.Fetch (fetch.Receive (receive.KeepFile path)))
 IsSharedRefused line c receipt (errors.Fetch (fetch.Receive (receive.UpdateRefs cause))) = IsStopped line c receipt (errors.Fetch (fetch.Receive (receive.UpdateRefs cause)))
 IsSharedRefused line c receipt (errors.Fetch (fetch.Receive (receive.RemovePackKeepFile path))) = IsStopped line c receipt (errors.Fetch (fetch.Receive (receive.RemovePackKeepFile path)))
+IsSharedRefused line c receipt (errors.Fetch (fetch.Receive (receive.Disconnected link))) = ⊥
+IsSharedRefused line c receipt (errors.Fetch (fetch.Receive receive.NoMemory)) = ⊥
 IsSharedRefused line c receipt (errors.Fetch (fetch.Receive cause)) = IsUnanswered line c receipt (fetch.Receive cause)
 IsSharedRefused line c receipt (errors.Collision id) = IsStopped line c receipt (errors.Collision id)
 IsSharedRefused line c receipt (errors.Disconnected link) = IsStopped line c receipt (errors.Disconnected link)

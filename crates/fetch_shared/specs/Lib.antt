@@ -21,3 +21,5 @@ pub mod Talking
 pub mod Bringing
 pub mod Settling
 pub mod Fetching
+pub mod Valid
+pub mod Disconnected

@@ -1,9 +1,11 @@
 -- What a fetch does with what it received, over a shared repository.
-use Rattle.std.specs.Prelude.{◌≡◌, ◌≤◌, ◌<◌, ◌⊎◌, ℕ, Bool, true, false, List, [], ◌∷◌, ◌++◌, length, Option, Some, None, Ok, Err, IfSome, slice_get, is_some, ⊤}
+use Rattle.std.specs.Prelude.{◌≡◌, ◌≤◌, ◌<◌, ◌⊎◌, ℕ, Bool, true, false, List, [], ◌∷◌, ◌++◌, length, Option, Some, None, Ok, Err, slice_get, is_some, ⊤}
 use Rattle.std.specs.Option.{option_map}
 use Rattle.fetch_store.specs.Answers.{AnswersUnless}
+use Rattle.fetch_store.specs.Stores.{AreOf}
 use Rattle.fetch_store.specs.Trees.{Tree}
 use Rattle.fetch_store.specs.declared.id.ObjectId.{ObjectId}
+use Rattle.fetch_pack.specs.Once.{AreNamed}
 use Rattle.fetch_refs.specs.declared.edit.RefEdit.{RefEdit}
 use Rattle.fetch_refs.specs.declared.log.Signature.{Signature}
 use Rattle.fetch_update.specs.Policy.{Policy, policy_over}
@@ -124,7 +126,8 @@ pub record IsSettled (m : Matter) (c : Course) (judged : ℕ) (place : Option �
 
 -- ---- refused
 
--- What was received is refused as it is taken: nothing is entered, and no file is touched.
+-- What was received is refused as it is taken: nothing is entered, and no file is touched. Its ids and objects are of the
+-- repository's hash, and each id is its object's.
 pub record IsUntaken (m : Matter) (c : Course) (judged place : Option ℕ) (e : SharedError) : Type 0 where
   pub unjudged : judged ≡ None
   pub unplaced : place ≡ None
@@ -132,6 +135,8 @@ pub record IsUntaken (m : Matter) (c : Course) (judged place : Option ℕ) (e : 
   pub files_same : c.left ≡ c.files
   pub reply : Received
   pub reply_is : reply_in m ≡ Some reply
+  pub of_kind : AreOf c.opening.state.hash reply.objects
+  pub named : AreNamed reply.objects
   pub refused : IsRefusedAt c.opening c.planned c.front (Take c.number m.wants (pack_of reply)) e
 
 -- What was received is taken, and its keep file couldn't be made.
@@ -182,17 +187,27 @@ pub record ForgotEarly (c : Course) (judged : Option ℕ) : Type 0 where
   pub none : entries_of c.number c.front ≡ c.own
   pub files_same : c.left ≡ c.files
 
--- Memory ran out once what was received was taken: its keep file was being made, or stands. Where a place is told that the
--- verdicts were to see, it is that of the state after the taking.
-pub record ForgotLate (m : Matter) (c : Course) (judged : Option ℕ) : Type 0 where
-  pub taken : IfSome judged (HasTaken m c)
+-- What was received is taken, and memory ran out as its keep file was made.
+pub record ForgotMaking (m : Matter) (c : Course) (judged : Option ℕ) : Type 0 where
+  pub unjudged : judged ≡ None
   pub added : entries_of c.number c.front ≡ c.own ++ take_entries c.number (reply_in m)
-  pub kept : ((path : List ℕ) × (keep_in m ≡ Some path) × (is_some c.left ≡ is_some c.files)) ⊎ AreFiles c.files c.left (with_keep (keep_in m))
+  pub path : List ℕ
+  pub keep : keep_in m ≡ Some path
+  pub tree : is_some c.left ≡ is_some c.files
+
+-- What was received is taken, its keep file stands, and memory ran out after that: the state after the taking was to be
+-- judged.
+pub record ForgotLate (m : Matter) (c : Course) (judged : Option ℕ) : Type 0 where
+  pub count : ℕ
+  pub judged_is : judged ≡ Some count
+  pub taken : HasTaken m c count
+  pub added : entries_of c.number c.front ≡ c.own ++ take_entries c.number (reply_in m)
+  pub kept : AreFiles c.files c.left (with_keep (keep_in m))
 
 -- Memory ran out, before the taking or after it; no commit is entered.
 pub record IsForgotten (m : Matter) (c : Course) (judged place : Option ℕ) : Type 0 where
   pub unplaced : place ≡ None
-  pub stands : ForgotEarly c judged ⊎ ForgotLate m c judged
+  pub stands : ForgotEarly c judged ⊎ (ForgotMaking m c judged ⊎ ForgotLate m c judged)
 
 -- Why it was refused, and what that leaves.
 abbrev pub IsUnsettled : Matter → Course → Option ℕ → Option ℕ → SharedError → Type 0

@@ -11,6 +11,7 @@ ghost use Rattle.fetch_shared.specs.Passes.{IsBack};
 ghost use Rattle.fetch_shared.specs.Receipts.{IsReceipt};
 ghost use Rattle.fetch_shared.specs.Settling as settling;
 ghost use Rattle.fetch_shared.specs.Talking as talking;
+ghost use Rattle.fetch_shared.specs.Valid.{HasValidInput, is_free};
 
 use crate::error::SharedError;
 use crate::pass::Pass;
@@ -35,6 +36,7 @@ use std::thread::Threads;
 /// After an error the journal has none of the pass's own entries more but the take's, and the commit's where the keep file
 /// couldn't be removed.
 // Many arguments: the public signature, that of `Remote::fetch` with a pass.
+// Long: each stage hands the pass back at its refusal.
 pub fn fetch_shared<R: Threads + Wait + Sync, P: Peer, I: Interrupt, F: Files, W: Worktrees>(
     rt: &R,
     alloc: Global,
@@ -78,6 +80,8 @@ pub fn fetch_shared<R: Threads + Wait + Sync, P: Peer, I: Interrupt, F: Files, W
     ensures listing { IfErr result (λ r. r.2 ≡ settling.unlisted → Rose (W.listing worktrees.old) (W.listing worktrees.new)) }
     ensures open_repo { IfErr result (λ r. r.2 ≡ settling.unopened → Rose (W.open_repo worktrees.old) (W.open_repo worktrees.new)) }
     ensures follow_symref { IfErr result (λ r. r.2 ≡ settling.unfollowed → Rose (W.follow_symref worktrees.old) (W.follow_symref worktrees.new)) }
+    ensures complete { IfErr result (λ r. HasValidInput (record { answers = P.answers; old = P.told peer.old; new = P.told peer.new })
+        (record { given = talking.given_to remote.now options pass; before = pass; after = r.0; known = W.told worktrees.old; files = F.told files.old; left = F.told files.new }) r.1 → is_free r.2 ≡ true) }
 {
     let number = pass.number();
     let how = match manner(alloc, remote.fetch_tags(), &options) {

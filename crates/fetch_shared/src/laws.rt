@@ -16,13 +16,17 @@ ghost use Rattle.fetch_refs.specs.declared.edit.RefEdit.{RefEdit};
 ghost use Rattle.fetch_refs.specs.declared.log.Signature.{Signature};
 ghost use Rattle.fetch_remote.specs.RepositoryValues.{RepositoryValue};
 ghost use Rattle.fetch_shared.specs.Deletions.{without, is_among};
+ghost use Rattle.fetch_shared.specs.Disconnected.{planned_in, found_in, refused_pack, request_in};
+ghost use Rattle.fetch_shared.specs.Fetching.{Call, IsSharedRefused};
 ghost use Rattle.fetch_shared.specs.Fronts.{IsSound, IsEventOf, IsNamedEvent, IsStateOf, IsAlike};
 ghost use Rattle.fetch_shared.specs.Machine.{State, Event, held, start, request, refusal, IsAllowed, effect, after, run};
 ghost use Rattle.fetch_shared.specs.Machine.Event.{Plan, Take, Commit};
 ghost use Rattle.fetch_shared.specs.Replays.{outline, replay};
+ghost use Rattle.fetch_shared.specs.Talking.{Line};
 ghost use Rattle.fetch_shared.specs.declared.entry.Entry.{Entry};
 ghost use Rattle.fetch_shared.specs.declared.entry.Entry.TheVariants as entries;
 ghost use Rattle.fetch_shared.specs.declared.error.SharedError.TheVariants.{Collision, Disconnected, EditReferences};
+ghost use Rattle.fetch_shared.specs.declared.receipt.Receipt.{Receipt};
 
 /// Whatever events come, a closed repository is closed after each of them.
 pub fn a_shared_repository_stays_closed()
@@ -51,6 +55,13 @@ pub fn an_honest_pack_connects_at_a_later_front()
     ensures { (opening : RepositoryValue) (front more : List Entry) (planned now : RepositoryValue) (wants haves : List ObjectId) (pack : Pack) →
         IsStateOf opening front planned → IsStateOf opening (front ++ more) now → IsAlike planned.state.objects now.state.objects → IsSound planned → IsClosed (held now) →
         AreOf planned.state.hash pack.objects → collision now.state.objects pack.objects ≡ None → IsHonest (record { held = held planned; wants = wants; haves = haves }) pack → missing (held now) wants pack ≡ [] }
+{}
+
+/// A pack that a fetch was refused as disconnected isn't honest for that fetch's plan, with whatever haves. It is so where
+/// the states at `planned` and of the front that came back have one object at each id that both hold.
+pub fn a_disconnected_pack_is_not_honest()
+    ensures { (line : Line) (c : Call) (receipt : Receipt) (link : Missing) (haves : List ObjectId) (h : IsSharedRefused line c receipt (Disconnected link)) →
+        IsAlike (planned_in h).state.objects (found_in h).state.objects → IsHonest (request_in haves h) (refused_pack h) → ⊥ }
 {}
 
 /// A journal replays to what became of a repository: its references with their reflogs, the stored ids and the border,

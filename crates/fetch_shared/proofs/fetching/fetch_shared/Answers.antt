@@ -7,6 +7,7 @@ use Rattle.fetch_shared.specs.Passes.{Which}
 use Rattle.fetch_shared.specs.Settling.{Matter}
 use Rattle.fetch_shared.specs.Talking.{Line, given_to}
 use Rattle.fetch_shared.proofs.Back.{back_trans}
+use Rattle.fetch_shared.proofs.Complete.{complete}
 use Rattle.fetch_shared.proofs.Fetched.{silent, ran_out, broken, broken_other, stopped, fetched}
 use Rattle.fetch_shared.proofs.Places.{receipt_none, receipt_broken, receipt_settled, receipt_unsettled}
 use Rattle.fetch_shared.proofs.Saw.{back_self}
@@ -93,3 +94,14 @@ returns-in-Err-answer-clause-open_repo g c is = absurd (broken_other _ _ _ _ _ _
 
 pub returns-in-Err-answer-clause-follow_symref : goal.returns-in-Err-answer-clause-follow_symref
 returns-in-Err-answer-clause-follow_symref g c is = absurd (broken_other _ _ _ _ _ _ c.in-Err-answer.ensures.broken (receive.UpdateRefs update.FollowSymref) (λ h. h) refl is)
+
+-- ---- valid input
+
+pub returns-in-Err-clause-complete : goal.returns-in-Err-clause-complete
+returns-in-Err-clause-complete g c v = refl
+
+pub returns-in-Err-answer-clause-complete : goal.returns-in-Err-answer-clause-complete
+returns-in-Err-answer-clause-complete g c v = complete c.in-Err-answer.e v (returns-in-Err-answer-clause-refused g c)
+
+pub returns-clause-complete : goal.returns-clause-complete
+returns-clause-complete g c v = complete c.in-Err-settle.e v (returns-clause-refused g c)

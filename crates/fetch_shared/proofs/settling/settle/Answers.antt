@@ -15,7 +15,8 @@ use Rattle.fetch_shared.proofs.settling.settle.Goals as goal
 pub returns-in-Err-clause-refused : goal.returns-in-Err-clause-refused
 returns-in-Err-clause-refused g c =
     let m : Matter = record { setup = c.args.shared.now.opening.setup; how = c.args.how.now; wants = c.args.talked.wants; told = record { listed = shown c.args.talked.listed; received = c.args.talked.received } } in
-    unbrought m c.args.pass _ (g.W.Worktrees.told c.args.worktrees.now) (g.F.Files.told c.args.files.now) _ (rw c.as_slice-wants.ensures at c.in-Err.ensures.refused)
+    let of_kind = rw (← c.requires.shared) at c.requires.of_kind in
+    unbrought m c.args.pass _ (g.W.Worktrees.told c.args.worktrees.now) (g.F.Files.told c.args.files.now) _ of_kind c.requires.named (rw c.as_slice-wants.ensures at c.in-Err.ensures.refused)
 
 pub returns-in-Err-judge_over-clause-refused : goal.returns-in-Err-judge_over-clause-refused
 returns-in-Err-judge_over-clause-refused g c =
