@@ -1,4 +1,4 @@
-//! Fetches that are refused.
+//! A fetch that is refused.
 
 ghost use Rattle.std.specs.Prelude.{◌≡◌, IfOk};
 ghost use Rattle.fetch_store.specs.declared.id.Kind.TheVariants.{Sha1};
@@ -7,13 +7,12 @@ use crate::fixture::{GREETING, LISTING, REPLY};
 use fetch_config::{File, Meta, Origin};
 use fetch_refs::{Refs, Signature};
 use fetch_remote::{
-    FetchError, FetchOptions, OpenOptions, Outcome, Parts, Remote, Repository, fetch, prepare,
-    ref_map,
+    FetchError, FetchOptions, OpenOptions, Outcome, Parts, Remote, Repository, fetch,
 };
 use fetch_specs::{Operation, Tags, parse};
 use fetch_store::{Border, Kind, List, MemoryFiles, Object, ObjectId, ObjectKind, Store, Text};
 use fetch_update::ScriptedWorktrees;
-use fetch_wire::{ReplyBound, ScriptedInterrupt, ScriptedPeer, WireError};
+use fetch_wire::{ScriptedInterrupt, ScriptedPeer};
 use std::alloc::Global;
 use std::test::Fail;
 use std::thread::Threads;
@@ -33,7 +32,7 @@ fn other_tree(alloc: Global, text: &[u8]) -> Result<Store, Fail>
 }
 
 /// A repository with these objects and no references, whose configuration negotiates nothing.
-pub(crate) fn repository(alloc: Global, store: Store) -> Result<Repository, Fail>
+fn repository(alloc: Global, store: Store) -> Result<Repository, Fail>
     requires { store.hash ≡ Sha1 }
 {
     let base = Meta {
@@ -71,7 +70,7 @@ pub(crate) fn repository(alloc: Global, store: Store) -> Result<Repository, Fail
 }
 
 /// A remote with one branch to fetch.
-pub(crate) fn remote(alloc: Global) -> Result<Remote, Fail> {
+fn remote(alloc: Global) -> Result<Remote, Fail> {
     let spec = parse(
         alloc,
         b"+refs/heads/main:refs/remotes/origin/main",
@@ -82,42 +81,20 @@ pub(crate) fn remote(alloc: Global) -> Result<Remote, Fail> {
     Ok(Remote::new(List::from(urls), List::from(specs), Tags::None))
 }
 
-/// What is asked of a fetch: what the peer says, at which of its calls it fails, at which the interrupt says yes, and
-/// the bound of replies.
-#[derive(Clone, Copy)]
-struct Asked<'a> {
-    pieces: &'a [&'a [u8]],
-    failing: &'a [u64],
-    yes: &'a [u64],
-    bound: u32,
-}
-
-/// A server of one commit, which doesn't fail.
-const WHOLE: Asked<'static> = Asked {
-    pieces: &[GREETING, LISTING, REPLY],
-    failing: &[],
-    yes: &[],
-    bound: 268_435_456,
-};
-
+/// Fetches from a server of one commit.
 fn fetched(
     rt: &(impl Threads + Sync),
     alloc: Global,
     repo: &mut Repository,
-    asked: &Asked<'_>,
 ) -> Result<Result<Outcome, FetchError>, Fail> {
     let mut pieces = Vec::new(alloc);
-    for piece in asked.pieces {
+    for piece in [GREETING, LISTING, REPLY] {
         pieces.push(Text::new(alloc, piece)?)?;
     }
-    let mut peer = ScriptedPeer::new(alloc, pieces, Vec::from_slice(alloc, asked.failing)?);
-    let mut interrupt = ScriptedInterrupt::new(Vec::from_slice(alloc, asked.yes)?);
+    let mut peer = ScriptedPeer::new(alloc, pieces, Vec::new(alloc));
+    let mut interrupt = ScriptedInterrupt::new(Vec::new(alloc));
     let mut files = MemoryFiles::new(alloc, Vec::new(alloc));
     let mut worktrees = ScriptedWorktrees::new(Vec::new(alloc), Vec::new(alloc));
-    let mut options = FetchOptions::new(alloc);
-    if let Some(bound) = ReplyBound::new(asked.bound) {
-        options.map.max_reply_bytes = bound;
-    }
     let result = remote(alloc)?.fetch(
         rt,
         alloc,
@@ -126,21 +103,9 @@ fn fetched(
         &mut interrupt,
         &mut files,
         &mut worktrees,
-        options,
+        FetchOptions::new(alloc),
     );
     Ok(result)
-}
-
-/// The refusal of a fetch into an empty repository, which stays empty.
-fn refusal(
-    rt: &(impl Threads + Sync),
-    alloc: Global,
-    asked: &Asked<'_>,
-) -> Result<Option<FetchError>, Fail> {
-    let mut repo = repository(alloc, Store::new(alloc, Kind::Sha1))?;
-    let refusal = fetched(rt, alloc, &mut repo, asked)?.err();
-    let is_empty = repo.store().is_empty() && repo.refs().iter().next().is_none();
-    Ok(refusal.filter(|_| is_empty))
 }
 
 /// The pack's tree has the id of another object.
@@ -148,88 +113,11 @@ fn refusal(
 fn an_id_with_two_objects(rt: HostRuntime) -> Result<(), Fail> {
     let alloc = rt.alloc();
     let mut repo = repository(alloc, other_tree(alloc, b"another")?)?;
-    let refusal = fetched(&rt, alloc, &mut repo, &WHOLE)?.err();
+    let refusal = fetched(&rt, alloc, &mut repo)?.err();
     let tree = ObjectId::from_hex(b"4b825dc642cb6eb9a060e54bf8d69288fbee4904")?;
     let is_collision =
         matches!(refusal, Some(FetchError::Receive(fetch::Error::Collision { id })) if id == tree);
     assert!(rt; is_collision);
     assert!(rt; repo.store().len() == 1);
-    Ok(())
-}
-
-/// Calls of the peer count its sends and receives.
-#[test]
-fn a_peer_that_fails(rt: HostRuntime) -> Result<(), Fail> {
-    let alloc = rt.alloc();
-    for call in 0..6 {
-        let failing = [call];
-        let asked = Asked {
-            failing: &failing,
-            ..WHOLE
-        };
-        let told = match refusal(&rt, alloc, &asked)? {
-            Some(FetchError::Prepare(prepare::Error::RefMap(ref_map::Error::Transport))) => call
-                < 4,
-            Some(FetchError::Receive(fetch::Error::Client)) => call >= 4,
-            _ => false,
-        };
-        assert!(rt; told, "at call {call}");
-    }
-    Ok(())
-}
-
-/// The interrupt is asked before each of three receives.
-#[test]
-fn an_interrupt_that_says_yes(rt: HostRuntime) -> Result<(), Fail> {
-    let alloc = rt.alloc();
-    for call in 0..3 {
-        let yes = [call];
-        let asked = Asked { yes: &yes, ..WHOLE };
-        let told = match refusal(&rt, alloc, &asked)? {
-            Some(FetchError::Prepare(prepare::Error::RefMap(ref_map::Error::Interrupted))) => call
-                < 2,
-            Some(FetchError::Receive(fetch::Error::Interrupted)) => call == 2,
-            _ => false,
-        };
-        assert!(rt; told, "at call {call}");
-    }
-    Ok(())
-}
-
-#[test]
-fn a_server_that_refuses(rt: HostRuntime) -> Result<(), Fail> {
-    let alloc = rt.alloc();
-    let asked = Asked {
-        pieces: &[GREETING, b"0016ERR access denied\n"],
-        ..WHOLE
-    };
-    let told = match refusal(&rt, alloc, &asked)? {
-        Some(
-            FetchError::Prepare(
-                prepare::Error::RefMap(ref_map::Error::Handshake(WireError::ServerError { text })),
-            ),
-        ) => text.as_bytes() == b"access denied".as_slice(),
-        _other => false,
-    };
-    assert!(rt; told);
-    Ok(())
-}
-
-/// The line of the greeting that passes the bound is its second.
-#[test]
-fn a_reply_that_is_too_long(rt: HostRuntime) -> Result<(), Fail> {
-    let alloc = rt.alloc();
-    let asked = Asked { bound: 32, ..WHOLE };
-    let told = match refusal(&rt, alloc, &asked)? {
-        Some(
-            FetchError::Prepare(
-                prepare::Error::RefMap(
-                    ref_map::Error::Handshake(WireError::ReplyTooLong { bound }),
-                ),
-            ),
-        ) => bound == 32,
-        _ => false,
-    };
-    assert!(rt; told);
     Ok(())
 }

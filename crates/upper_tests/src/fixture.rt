@@ -11,10 +11,6 @@ use std::thread::Threads;
 pub(crate) const EMPTY: &[u8] =
     b"000cscene 1\n000ehash sha1\n0014git-dir /w/.git\n000fworkdir /w\n0013config [fetch]\n0027config negotiationAlgorithm = noop\n00010024PLNP\x00\x00\x00\x01\x00\x00\x00\x00%\x1f\xc4\xe0H\x0b\x1d0Y\xe8\xff\x9c\xe4\xfa\x99\xf2%\xb0?00001";
 
-/// The repository that a fetch of one commit leaves.
-pub(crate) const FETCHED: &[u8] =
-    b"000cscene 1\n000ehash sha1\n0014git-dir /w/.git\n000fworkdir /w\n004aref bc6e39d85183dbf480419262896d4ffa452774ab refs/remotes/origin/main\n0013config [fetch]\n0027config negotiationAlgorithm = noop\n00010092PLNP\x00\x00\x00\x01\x00\x00\x00\x02\x02\x00\x00\x00\x00\x01\x00\x00\x00dtree 4b825dc642cb6eb9a060e54bf8d69288fbee4904\nauthor A <a@x> 1 +0000\ncommitter A <a@x> 1 +0000\n\none\n\xf2\x8ed\xe5K\xf0J\x95\x82E\xd4_u\xf4\x9bW\xf9W\xd9\x970001";
-
 /// A remote with one branch to fetch.
 pub(crate) const REMOTE: &[u8] =
     b"0016remote /srv/a.git\n0034fetch +refs/heads/main:refs/remotes/origin/main\n000etags none\n";
@@ -28,10 +24,6 @@ pub(crate) const LISTING: &[u8] =
 
 pub(crate) const REPLY: &[u8] =
     b"000dpackfile\n0093\x01PLNP\x00\x00\x00\x01\x00\x00\x00\x02\x02\x00\x00\x00\x00\x01\x00\x00\x00dtree 4b825dc642cb6eb9a060e54bf8d69288fbee4904\nauthor A <a@x> 1 +0000\ncommitter A <a@x> 1 +0000\n\none\n\xf2\x8ed\xe5K\xf0J\x95\x82E\xd4_u\xf4\x9bW\xf9W\xd9\x970000";
-
-/// A reply with a pack of no object.
-pub(crate) const NOTHING: &[u8] =
-    b"000dpackfile\n0025\x01PLNP\x00\x00\x00\x01\x00\x00\x00\x00%\x1f\xc4\xe0H\x0b\x1d0Y\xe8\xff\x9c\xe4\xfa\x99\xf2%\xb0?00000";
 
 /// A scene: a repository, a remote with its options, and what the peer says, piece by piece.
 pub(crate) fn scene(
@@ -66,24 +58,4 @@ pub(crate) fn fetch_over(
     let mut sink = MemorySink::new(alloc, unwritten);
     let status = run(rt, alloc, &words, &mut source, &mut sink);
     Ok((status, sink))
-}
-
-/// Fetches what a scene says: the status, and the sink.
-pub(crate) fn fetch(
-    rt: &(impl Threads + Sync),
-    alloc: Global,
-    scene: &[u8],
-) -> Result<(u8, MemorySink), NoMemory> {
-    fetch_over(rt, alloc, scene, Vec::new(alloc), Vec::new(alloc))
-}
-
-/// The status, and whether the report ends with these bytes.
-pub(crate) fn ends(
-    rt: &(impl Threads + Sync),
-    alloc: Global,
-    scene: &[u8],
-    end: &[u8],
-) -> Result<(u8, bool), NoMemory> {
-    let (status, sink) = fetch(rt, alloc, scene)?;
-    Ok((status, sink.bytes().ends_with(end)))
 }

@@ -1,0 +1,189 @@
+//! A fetch in which one call fails.
+
+use crate::failing::Failing;
+use fetch_cli::Setting;
+use fetch_negotiate::Shallow;
+use fetch_remote::phases::NoProgress;
+use fetch_remote::{
+    FetchError, FetchOptions, Outcome, Prepare, Remote, Repository, fetch, ref_map,
+};
+use fetch_store::{MemoryFiles, Text};
+use fetch_update::{RefLogMessage, ScriptedWorktrees};
+use fetch_wire::{ScriptedInterrupt, ScriptedPeer};
+use std::alloc::Global;
+use std::thread::Threads;
+
+/// A fetch with all that it takes.
+#[derive(Drop)]
+pub(crate) struct Fetch {
+    repo: Repository,
+    remote: Remote,
+    options: FetchOptions,
+    peer: ScriptedPeer,
+    interrupt: ScriptedInterrupt,
+    files: MemoryFiles,
+    worktrees: ScriptedWorktrees,
+}
+
+/// A fetch that was made: what it answered, the repository that it left, its peer and its files.
+#[derive(Drop)]
+pub(crate) struct Fetched {
+    pub(crate) result: Result<Outcome, FetchError>,
+    pub(crate) repo: Repository,
+    pub(crate) peer: ScriptedPeer,
+    pub(crate) files: MemoryFiles,
+}
+
+/// What is chosen once the references are listed.
+#[derive(Drop)]
+struct Choice {
+    dry_run: bool,
+    packed_only: bool,
+    message: Option<RefLogMessage>,
+    shallow: Shallow,
+}
+
+/// What the listing takes of the options, and what is chosen after it.
+fn split(options: FetchOptions) -> (ref_map::Options, Choice) {
+    let FetchOptions {
+        map,
+        dry_run,
+        write_packed_refs_only,
+        reflog_message,
+        shallow,
+    } = options;
+    let choice = Choice {
+        dry_run,
+        packed_only: write_packed_refs_only,
+        message: reflog_message,
+        shallow,
+    };
+    (map, choice)
+}
+
+fn with_message<'a>(
+    prepare: Prepare<'a, ScriptedPeer>,
+    message: Option<RefLogMessage>,
+) -> Prepare<'a, ScriptedPeer> {
+    match message {
+        Some(message) => prepare.with_reflog_message(message),
+        None => prepare,
+    }
+}
+
+fn chosen<'a>(prepare: Prepare<'a, ScriptedPeer>, choice: Choice) -> Prepare<'a, ScriptedPeer> {
+    let Choice {
+        dry_run,
+        packed_only,
+        message,
+        shallow,
+    } = choice;
+    let prepare = prepare
+        .with_dry_run(dry_run)
+        .with_write_packed_refs_only(packed_only)
+        .with_shallow(shallow);
+    with_message(prepare, message)
+}
+
+fn received(answer: Result<Outcome, fetch::Error>) -> Result<Outcome, FetchError> {
+    match answer {
+        Ok(outcome) => Ok(outcome),
+        Err(refusal) => Err(FetchError::from(refusal)),
+    }
+}
+
+impl Fetch {
+    /// The fetch as it is set up, where the peer says this, and these calls fail. There are no files before.
+    pub(crate) fn new(
+        alloc: Global,
+        setting: Setting,
+        pieces: Vec<Text>,
+        failing: Failing,
+    ) -> Fetch {
+        let Setting {
+            repo,
+            remote,
+            options,
+            worktrees,
+            ..
+        } = setting;
+        let Failing {
+            peer,
+            interrupt,
+            files,
+            listings,
+        } = failing;
+        Fetch {
+            repo,
+            remote,
+            options,
+            peer: ScriptedPeer::new(alloc, pieces, peer),
+            interrupt: ScriptedInterrupt::new(interrupt),
+            files: MemoryFiles::new(alloc, files),
+            worktrees: ScriptedWorktrees::new(worktrees.into_vec(), listings),
+        }
+    }
+
+    /// Fetches by one call.
+    pub(crate) fn at_once(self, rt: &(impl Threads + Sync), alloc: Global) -> Fetched {
+        let Fetch {
+            mut repo,
+            remote,
+            options,
+            mut peer,
+            mut interrupt,
+            mut files,
+            mut worktrees,
+        } = self;
+        let result = remote.fetch(
+            rt,
+            alloc,
+            &mut repo,
+            &mut peer,
+            &mut interrupt,
+            &mut files,
+            &mut worktrees,
+            options,
+        );
+        Fetched {
+            result,
+            repo,
+            peer,
+            files,
+        }
+    }
+
+    /// Fetches by the calls for the steps of a fetch: lists what the remote has, chooses, and receives.
+    // Long: one line a part and an argument.
+    pub(crate) fn in_steps(self, rt: &(impl Threads + Sync), alloc: Global) -> Fetched {
+        let Fetch {
+            mut repo,
+            remote,
+            options,
+            mut peer,
+            mut interrupt,
+            mut files,
+            mut worktrees,
+        } = self;
+        let (map, choice) = split(options);
+        let connection = remote.to_connection_with_transport(&mut peer);
+        let result = match connection.prepare_fetch(alloc, &repo, &mut interrupt, map) {
+            Ok(prepare) => received(chosen(prepare, choice).receive(
+                rt,
+                alloc,
+                &mut repo,
+                &mut NoProgress,
+                &mut interrupt,
+                &mut files,
+                &mut worktrees,
+            )),
+            Err(refusal) => Err(FetchError::from(refusal)),
+        };
+        Fetched {
+            result,
+            repo,
+            peer,
+            files,
+        }
+    }
+}
