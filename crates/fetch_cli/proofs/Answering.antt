@@ -15,9 +15,9 @@ use Rattle.fetch_cli.specs.ReportLines.{malformed_line}
 use Rattle.fetch_cli.specs.Run.{Are, IsSceneAnswer, IsInputAnswer, IsAnswerTo, IsAnswer, IsUnlessFailed, HasValidScene, AsksBench, WritesSummary, bench_status}
 use Rattle.fetch_cli.proofs.Reported.{valid_fetched}
 use Rattle.fetch_remote.specs.Valid.{IsValidInput}
-use Rattle.fetch_cli.specs.Scene.{limit, scene_of}
+use Rattle.fetch_scene.specs.Scene.{limit, scene_of}
 use Rattle.fetch_cli.specs.Words.{command_of}
-use Rattle.fetch_cli.specs.declared.scene.Scene.{Scene}
+use Rattle.fetch_scene.specs.declared.scene.Scene.{Scene}
 use Rattle.fetch_cli.specs.declared.program.words.Command.{Command}
 use Rattle.fetch_cli.specs.declared.program.words.Command.TheVariants.{Fetch, Bench, Help, Version}
 

@@ -5,7 +5,7 @@ use Rattle.fetch_wire.specs.declared.lines.line.Line.{Line}
 use Rattle.fetch_cli.specs.Heard.{heard_within, lines_heard}
 use Rattle.fetch_cli.specs.Report.{sent_lines}
 use Rattle.fetch_cli.specs.ReportLines.{sent_line}
-use Rattle.fetch_cli.specs.SceneLines.{line_found}
+use Rattle.fetch_scene.specs.SceneLines.{line_found}
 
 -- The lines that are left, after those written, are the lines of the bytes after what was there.
 pub record IsLeft (start out rest bytes : List ℕ) : Type 0 where

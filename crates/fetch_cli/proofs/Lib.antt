@@ -1,10 +1,4 @@
 pub mod Appends
-pub mod ConfigLines
-pub mod EachLine
-pub mod Digits
-pub mod ReferenceLines
-pub mod Gathered
-pub mod TextLines
 pub mod Opening
 pub mod KeepFiles
 pub mod Fetching

@@ -13,7 +13,7 @@ use Rattle.fetch_refs.specs.declared.target.Target.{Target}
 use Rattle.fetch_refs.specs.declared.target.Target.TheVariants.{Object, Symbolic}
 use Rattle.fetch_cli.specs.Opened.{edit_of}
 use Rattle.fetch_cli.specs.Report.{with_references}
-use Rattle.fetch_cli.specs.declared.scene.references.Reference.{Reference}
+use Rattle.fetch_scene.specs.declared.references.Reference.{Reference}
 
 names_are : (rs : List Reference) (names : Names) → refs_after names (map edit_of rs) ≡ with_references names rs
 names_are [] names = refl

@@ -15,7 +15,7 @@ use Rattle.fetch_cli.specs.Fetched.{HasDone, HasRefused, HasFetchedBy, HasFetche
 use Rattle.fetch_cli.specs.Heard.{lines_heard}
 use Rattle.fetch_cli.specs.KeepFiles.{first_kept}
 use Rattle.fetch_cli.specs.Report.{report_with, report_of, requests_of, fetched_by, left_by, keep_left_by, given_of, found_of, stream_of, done_text, refused_text, beside, Tells, IsReport, Reports}
-use Rattle.fetch_cli.specs.declared.scene.Scene.{Scene}
+use Rattle.fetch_scene.specs.declared.scene.Scene.{Scene}
 use Rattle.fetch_cli.proofs.KeepFiles.{kept_is}
 use Rattle.fetch_cli.proofs.Requested.{requests_heard}
 

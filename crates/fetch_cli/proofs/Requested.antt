@@ -35,7 +35,7 @@ use Rattle.fetch_remote.specs.Repositories.{State}
 use Rattle.fetch_remote.specs.Stages.{bound_of, inquiry_in, terms_in, listing_stage, pack_stage, receiving_stage, conversation}
 use Rattle.fetch_cli.specs.Heard.{lines_heard, is_sent, AreSent}
 use Rattle.fetch_cli.specs.Report.{given_of, found_of, stream_of, requests_of}
-use Rattle.fetch_cli.specs.declared.scene.Scene.{Scene}
+use Rattle.fetch_scene.specs.declared.scene.Scene.{Scene}
 use Rattle.fetch_cli.proofs.Sent.{heard_as_sent, neither}
 
 -- ---- lists of lines

@@ -14,7 +14,7 @@ use Rattle.fetch_wire.specs.declared.lines.line.Line.{Line}
 use Rattle.fetch_wire.specs.declared.lines.line.Line.TheVariants.{Payload, Flush, Delim, End}
 use Rattle.fetch_wire.specs.declared.lines.section.Trouble.{Trouble}
 use Rattle.fetch_cli.specs.Heard.{heard_within, lines_heard, is_sent, AreSent}
-use Rattle.fetch_cli.specs.SceneLines.{unbounded, line_found}
+use Rattle.fetch_scene.specs.SceneLines.{unbounded, line_found}
 
 -- ---- the digits
 

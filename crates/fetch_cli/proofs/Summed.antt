@@ -16,7 +16,7 @@ use Rattle.fetch_cli.specs.Bench.{count_lines, summary_with, summary_of, SumsUp,
 use Rattle.fetch_cli.specs.Fetched.{HasFetchedBy, HasFetched}
 use Rattle.fetch_cli.specs.Report.{report_with, report_of, fetched_by, left_by, keep_left_by, given_of, found_of, stream_of}
 use Rattle.fetch_cli.specs.ReportLines.{counted_line}
-use Rattle.fetch_cli.specs.declared.scene.Scene.{Scene}
+use Rattle.fetch_scene.specs.declared.scene.Scene.{Scene}
 
 sum_is : (n : ℕ) (scene : Scene) (status : ℕ) (text heard : List ℕ) (result : Result Outcome FetchError) (left : State) (files : Tree) → HasFetchedBy (given_of scene) scene.worktrees (found_of scene) (stream_of scene) result left files heard
     → SumsUp n status text result left → IsSummary n scene status text

@@ -14,14 +14,14 @@ use Rattle.fetch_remote.specs.declared.fetching.fetch_error.FetchError.TheVarian
 use Rattle.fetch_remote.specs.declared.fetching.outcome.Outcome.{Outcome}
 use Rattle.fetch_bench.specs.Generated.{generated}
 use Rattle.fetch_bench.specs.declared.generated.Generated.{Generated}
-use Rattle.fetch_cli.specs.LineKinds.{refspec_in}
+use Rattle.fetch_scene.specs.LineKinds.{refspec_in}
 use Rattle.fetch_cli.specs.Report.{beside, fetched_by, map_lines, updates_of}
 use Rattle.fetch_cli.specs.ReportLines.{counted_line, refused_line}
-use Rattle.fetch_cli.specs.SceneConfig.{own, text_of}
-use Rattle.fetch_cli.specs.SceneOptions.{no_options}
+use Rattle.fetch_scene.specs.SceneConfig.{own, text_of}
+use Rattle.fetch_scene.specs.SceneOptions.{no_options}
 use Rattle.fetch_cli.specs.Tokens.{token}
-use Rattle.fetch_cli.specs.declared.scene.references.Reference.{Reference}
-use Rattle.fetch_cli.specs.declared.scene.Scene.{Scene}
+use Rattle.fetch_scene.specs.declared.references.Reference.{Reference}
+use Rattle.fetch_scene.specs.declared.scene.Scene.{Scene}
 
 -- ---- the scene
 

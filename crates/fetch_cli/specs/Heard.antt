@@ -4,7 +4,7 @@ use Rattle.std.specs.List.{list_all}
 use Rattle.fetch_wire.specs.Written.{first_too_long}
 use Rattle.fetch_wire.specs.declared.lines.line.Line.{Line}
 use Rattle.fetch_wire.specs.declared.lines.line.Line.TheVariants.{Payload, Flush, Delim, End}
-use Rattle.fetch_cli.specs.SceneLines.{line_found}
+use Rattle.fetch_scene.specs.SceneLines.{line_found}
 
 -- a line before those after it; where no line is, the lines end
 abbrev pub heard_then : (List ℕ → List Line) → Option (Line × List ℕ) → List Line

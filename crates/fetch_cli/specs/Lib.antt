@@ -1,14 +1,5 @@
 pub mod Ends
-pub mod SceneLines
-pub mod Gives
 pub mod Memory
-pub mod Numbers
-pub mod SceneHead
-pub mod LineKinds
-pub mod SceneRefs
-pub mod SceneConfig
-pub mod SceneOptions
-pub mod Scene
 pub mod ReportLines
 pub mod MapLines
 pub mod Words

@@ -29,13 +29,13 @@ use Rattle.fetch_remote.specs.declared.fetching.outcome.Status.{Status}
 use Rattle.fetch_remote.specs.declared.fetching.outcome.Status.TheVariants as statuses
 use Rattle.fetch_cli.specs.Heard.{lines_heard}
 use Rattle.fetch_cli.specs.MapLines.{map_line}
-use Rattle.fetch_cli.specs.Scene.{local_in}
+use Rattle.fetch_scene.specs.Scene.{local_in}
 use Rattle.fetch_cli.specs.ReportLines.{sent_line, ref_line, log_line, border_line, id_line, keep_line, refused_line}
 use Rattle.fetch_cli.specs.Tokens.{token}
-use Rattle.fetch_cli.specs.declared.scene.head.Head.{Head}
-use Rattle.fetch_cli.specs.declared.scene.options.SceneOptions.{SceneOptions}
-use Rattle.fetch_cli.specs.declared.scene.references.Reference.{Reference}
-use Rattle.fetch_cli.specs.declared.scene.Scene.{Scene}
+use Rattle.fetch_scene.specs.declared.head.Head.{Head}
+use Rattle.fetch_scene.specs.declared.options.SceneOptions.{SceneOptions}
+use Rattle.fetch_scene.specs.declared.references.Reference.{Reference}
+use Rattle.fetch_scene.specs.declared.scene.Scene.{Scene}
 
 -- ---- what a scene says
 

@@ -2,14 +2,14 @@
 use Rattle.std.specs.Prelude.{◌≡◌, ◌⊎◌, ℕ, Bool, true, false, List, Option, Some, Result, Ok, Err}
 use Rattle.std.specs.Io.KnownBytes.{Appends}
 use Rattle.fetch_remote.specs.Valid.{IsValidInput}
-use Rattle.fetch_cli.specs.declared.scene.Scene.{Scene}
+use Rattle.fetch_scene.specs.declared.scene.Scene.{Scene}
 use Rattle.fetch_cli.specs.declared.program.words.Command.{Command}
 use Rattle.fetch_cli.specs.declared.program.words.Command.TheVariants.{Fetch, Bench, Help, Version}
 use Rattle.fetch_cli.specs.Bench.{generated_scene, summary_of, IsSummary}
 use Rattle.fetch_cli.specs.Ends.{IsFront, IsAll}
 use Rattle.fetch_cli.specs.Report.{given_of, found_of, stream_of, IsReport}
 use Rattle.fetch_cli.specs.ReportLines.{malformed_line, malformed_word_line}
-use Rattle.fetch_cli.specs.Scene.{scene_of}
+use Rattle.fetch_scene.specs.Scene.{scene_of}
 use Rattle.fetch_cli.specs.Words.{command_of, help_text, version_text}
 
 -- this status and this text

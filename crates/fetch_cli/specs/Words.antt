@@ -3,7 +3,7 @@ use Rattle.std.specs.Prelude.{ℕ, ◌<◌, ◌≤◌, ◌&&◌, nat_lt, nat_le,
 use Rattle.std.specs.Str.{bytes_eq}
 use Rattle.fetch_cli.specs.declared.program.words.Command.{Command}
 use Rattle.fetch_cli.specs.declared.program.words.Command.TheVariants.{Fetch, Bench, Help, Version}
-use Rattle.fetch_cli.specs.Numbers.{number_in}
+use Rattle.fetch_scene.specs.Numbers.{number_in}
 
 -- the command of one word
 unfoldable pub command_named : List ℕ → Option Command

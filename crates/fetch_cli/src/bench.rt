@@ -3,16 +3,13 @@
 ghost use Rattle.std.specs.Prelude.{◌≡◌, ◌<◌, ◌≤◌, IfOk, option_to_list, option_map};
 ghost use Rattle.fetch_store.specs.Stores.{AreOf};
 ghost use Rattle.fetch_cli.specs.Bench as spec;
-ghost use Rattle.fetch_cli.specs.LineKinds.{refspec_in};
+ghost use Rattle.fetch_scene.specs.LineKinds.{refspec_in};
 
 use crate::program::words::MAX_BENCH;
-use crate::scene::Scene;
-use crate::scene::options::SceneOptions;
-use crate::scene::references::Reference;
-use crate::scene::refspecs::refspec;
 use fetch_bench::Generated;
 use fetch_config::{ConfigError, File, Meta, Origin};
 use fetch_refs::Target;
+use fetch_scene::{Reference, Scene, SceneOptions, refspec};
 use fetch_specs::{FullName, NameError, RefSpec, Tags};
 use fetch_store::{Border, Kind, List, NoMemory, ObjectId, Text};
 use std::alloc::Global;

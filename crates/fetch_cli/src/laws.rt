@@ -1,7 +1,6 @@
-//! What holds of the definitions of a scene and its report.
+//! What holds of the definitions of a report.
 
-ghost use Rattle.std.specs.Prelude.{◌≡◌, ℕ, List, Err, map};
-ghost use Rattle.std.specs.Str.Lines.{lines, strip_carriage_return};
+ghost use Rattle.std.specs.Prelude.{◌≡◌, ℕ, List};
 ghost use Rattle.fetch_wire.specs.Written.{lines_text};
 ghost use Rattle.fetch_wire.specs.declared.lines.line.Line.{Line};
 ghost use Rattle.fetch_cli.specs.Heard.{AreSent, lines_heard};
@@ -9,19 +8,7 @@ ghost use Rattle.fetch_remote.specs.Fetching.{requests_in};
 ghost use Rattle.fetch_remote.specs.Valid.{IsValidInput};
 ghost use Rattle.fetch_cli.specs.Report.{given_of, found_of, stream_of, requests_of, report_of, IsReport};
 ghost use Rattle.fetch_cli.specs.Bench.{summary_of};
-ghost use Rattle.fetch_cli.specs.declared.scene.Scene.{Scene};
-ghost use Rattle.fetch_cli.specs.SceneConfig.{AreLines, IsOneOf, text_of, file_in};
-
-/// The lines of a scene's configuration are those that its `config` lines say, each without a carriage return at its
-/// end.
-pub fn a_configuration_has_the_lines_of_its_scene()
-    ensures { (texts : List (List ℕ)) → AreLines texts → lines (text_of texts) ≡ map strip_carriage_return texts }
-{}
-
-/// A configuration that is broken is so at one of the scene's `config` lines.
-pub fn a_configuration_is_broken_at_a_line_of_its_scene()
-    ensures { (texts : List (List ℕ)) → (number : ℕ) → AreLines texts → file_in (text_of texts) ≡ Err number → IsOneOf texts number }
-{}
+ghost use Rattle.fetch_scene.specs.declared.scene.Scene.{Scene};
 
 /// Lines that fit are heard as they were written.
 pub fn lines_are_heard_as_written()

@@ -1,20 +1,24 @@
-//! The program as a library: scenes, the report of a fetch, and the words of the command line.
+//! The program as a library: the report of a scene's fetch, and the words of the command line.
 #![tactic(auto)]
 
 mod bench;
 mod laws;
 mod program;
 mod reporting;
-mod scene;
 
 pub use bench::generate;
-pub use laws::{
+pub use fetch_scene::{
+    Head, Lines, Local, MAX_SCENE, Placed, Reference, RemotePart, Scene, SceneFault, SceneOptions,
     a_configuration_has_the_lines_of_its_scene, a_configuration_is_broken_at_a_line_of_its_scene,
+    read_delimiter_if, read_end, read_lines, read_local, read_objects, read_payloads, read_remote,
+    read_scene,
+};
+pub use laws::{
     a_report_tells_the_requests, a_summary_has_the_status_of_its_report, a_valid_scene_is_fetched,
     lines_are_heard_as_written,
 };
 pub use program::ends::{Sink, Source};
-pub use program::input::{MAX_SCENE, ReadError, read_all};
+pub use program::input::{ReadError, read_all};
 pub use program::memory::{MemorySink, MemorySource};
 pub use program::running::run;
 pub use program::standard::{StdSink, StdSource};
@@ -29,14 +33,3 @@ pub use reporting::state_lines::{append_commits, append_ids, append_refs, append
 pub use reporting::summary::summary;
 pub use reporting::tokens::append_token;
 pub use reporting::{report, tokens};
-pub use scene::fault::SceneFault;
-pub use scene::head::Head;
-pub use scene::lines::{Lines, Placed};
-pub use scene::local::{Local, read_local};
-pub use scene::objects::read_objects;
-pub use scene::options::SceneOptions;
-pub use scene::pieces::{read_delimiter_if, read_end, read_payloads};
-pub use scene::references::Reference;
-pub use scene::remote_part::{RemotePart, read_remote};
-pub use scene::text_lines::read_lines;
-pub use scene::{Scene, read_scene};

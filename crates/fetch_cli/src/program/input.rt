@@ -6,11 +6,9 @@ ghost use Rattle.fetch_store.specs.Faults.{Rose, Counts};
 ghost use Rattle.fetch_cli.specs.Ends.{IsAll, IsLongerThan};
 
 use crate::program::ends::Source;
+use fetch_scene::MAX_SCENE;
 use std::alloc::Global;
 use thiserror::Error;
-
-/// The most bytes of a scene.
-pub const MAX_SCENE: usize = 1 << 30;
 
 /// How many bytes are asked for at once.
 const PIECE: usize = 1 << 16;

@@ -12,13 +12,12 @@ ghost use Rattle.fetch_cli.specs.Words.{IsWithin, help_text, version_text};
 
 use crate::bench::generate;
 use crate::program::ends::{Sink, Source};
-use crate::program::input::{MAX_SCENE, ReadError, read_all};
+use crate::program::input::{ReadError, read_all};
 use crate::program::words::{Command, HELP, VERSION, read_command};
 use crate::reporting::lines::{append_malformed, append_malformed_word};
 use crate::reporting::report;
 use crate::reporting::summary::summary;
-use crate::scene::fault::SceneFault;
-use crate::scene::{Scene, read_scene};
+use fetch_scene::{MAX_SCENE, Scene, SceneFault, read_scene};
 use fetch_store::NoMemory;
 use fetch_wire::SendFault;
 use std::alloc::Global;

@@ -3,7 +3,7 @@
 ghost use Rattle.std.specs.Prelude.{◌≡◌, ◌<◌, ◌≤◌, map, IfOk, IfSome};
 ghost use Rattle.fetch_cli.specs.Words as spec;
 
-use crate::scene::numbers::number;
+use fetch_scene::number;
 
 /// The most commits of a bench.
 pub const MAX_BENCH: usize = 100_000;

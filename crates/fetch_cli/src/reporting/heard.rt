@@ -5,14 +5,14 @@ ghost use Rattle.std.specs.Option.{option_map};
 ghost use Rattle.fetch_wire.specs.LineViews.{line_of};
 ghost use Rattle.fetch_cli.specs.Heard.{lines_heard};
 ghost use Rattle.fetch_cli.specs.Report.{sent_lines};
-ghost use Rattle.fetch_cli.specs.SceneLines.{line_found};
+ghost use Rattle.fetch_scene.specs.SceneLines.{line_found};
 
 use crate::reporting::lines::append_sent;
 use fetch_store::NoMemory;
 use fetch_wire::{LineRef, line_in};
 
 /// The first line, and how many bytes it has.
-#[tactic(auto, unfolding(crate::specs::SceneLines::line_found))]
+#[tactic(auto, unfolding(fetch_scene::specs::SceneLines::line_found))]
 fn first_line(bytes: &[u8]) -> Option<(LineRef<'_>, usize)>
     ensures line { option_map (λ x. (line_of x.0, drop x.1 bytes.now)) result ≡ line_found 0 bytes.now }
     ensures within { IfSome result (λ x. (0 < x.1) × (x.1 ≤ length bytes.now)) }

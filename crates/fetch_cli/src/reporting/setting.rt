@@ -10,14 +10,10 @@ ghost use Rattle.fetch_remote.specs.Repositories.{state_of, setup_of};
 ghost use Rattle.fetch_cli.specs.Opened as opened;
 ghost use Rattle.fetch_cli.specs.Report as spec;
 
-use crate::scene::Scene;
-use crate::scene::local::Local;
-use crate::scene::options::SceneOptions;
-use crate::scene::references::Reference;
-use crate::scene::remote_part::RemotePart;
 use fetch_config::{ConfigError, File};
 use fetch_refs::{Change, LogChange, PackedRefs, PreviousValue, RefEdit, RefLog, Refs, Signature};
 use fetch_remote::{FetchOptions, OpenOptions, Parts, Remote, Repository, ref_map};
+use fetch_scene::{Local, Reference, RemotePart, Scene, SceneOptions};
 use fetch_specs::RefSpec;
 use fetch_store::{Kind, List, NoMemory, Object, ObjectId, Store, Text};
 use fetch_update::Worktree;

@@ -9,9 +9,9 @@ ghost use Rattle.fetch_cli.specs.Report as spec;
 ghost use Rattle.fetch_cli.specs.ReportLines.{log_line, border_line, id_line};
 
 use crate::reporting::lines::{append_border, append_id, append_log, append_ref};
-use crate::scene::names::full_name;
 use fetch_refs::{LogLine, Refs};
 use fetch_remote::Repository;
+use fetch_scene::full_name;
 use fetch_store::{NoMemory, ObjectId, Store, StoreError};
 
 /// The references, by ascending name.

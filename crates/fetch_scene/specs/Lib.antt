@@ -1,0 +1,9 @@
+pub mod SceneLines
+pub mod Gives
+pub mod Numbers
+pub mod SceneHead
+pub mod LineKinds
+pub mod SceneRefs
+pub mod SceneConfig
+pub mod SceneOptions
+pub mod Scene
