@@ -1,4 +1,3 @@
-pub mod Appends
 pub mod Opening
 pub mod KeepFiles
 pub mod Fetching

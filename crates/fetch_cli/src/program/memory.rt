@@ -1,6 +1,6 @@
 //! A source and a sink in memory.
 
-ghost use Rattle.std.specs.Prelude.{◌≡◌, ◌≤◌, ◌<◌, ◌+◌, ◌↔◌, ℕ, [], nat_lt, length, Some, drop, IfSome, IfOk, OnOk, OnErr, IsErr, IsErrOf, Contains};
+ghost use Rattle.std.specs.Prelude.{◌≡◌, ◌≤◌, ◌<◌, ◌+◌, ◌↔◌, ℕ, [], min, nat_lt, length, Some, drop, IfSome, IfOk, OnOk, OnErr, IsErr, IsErrOf, Contains};
 ghost use Rattle.std.specs.Io.KnownBytes.{ReadConsumes};
 ghost use Rattle.fetch_store.specs.Calls.{one_more, faults_of};
 ghost use Rattle.fetch_store.specs.Faults.{Faults, Rose, Counts};
@@ -61,6 +61,8 @@ impl Source for MemorySource {
         ensures counts { Counts (faults_of self.old.calls self.old.failed) (faults_of self.new.calls self.new.failed) }
         ensures cause { OnErr result (Rose (faults_of self.old.calls self.old.failed) (faults_of self.new.calls self.new.failed)) }
         ensures quiet { OnOk result ((faults_of self.new.calls self.new.failed).count ≡ (faults_of self.old.calls self.old.failed).count) }
+        ensures fits { IfOk result (λ count. count ≡ min (length into.new) (length self.old.left)) }
+        ensures failed { OnErr result (self.new.failed ≡ one_more self.old.failed) }
         ensures fails { IsErr result ↔ Contains self.old.calls.listed self.old.calls.next }
         ensures next { self.new.calls.next ≡ one_more self.old.calls.next }
         ensures listed { self.new.calls.listed ≡ self.old.calls.listed }
@@ -125,6 +127,7 @@ impl Sink for MemorySink {
         ensures counts { Counts (faults_of self.old.calls self.old.failed) (faults_of self.new.calls self.new.failed) }
         ensures cause { IsErrOf result SendFault.Failed → Rose (faults_of self.old.calls self.old.failed) (faults_of self.new.calls self.new.failed) }
         ensures quiet { ¬ IsErrOf result SendFault.Failed → (faults_of self.new.calls self.new.failed).count ≡ (faults_of self.old.calls self.old.failed).count }
+        ensures failed { IsErrOf result SendFault.Failed → self.new.failed ≡ one_more self.old.failed }
         ensures fails { IsErrOf result SendFault.Failed ↔ Contains self.old.calls.listed self.old.calls.next }
         ensures next { self.new.calls.next ≡ one_more self.old.calls.next }
         ensures listed { self.new.calls.listed ≡ self.old.calls.listed }

@@ -1,7 +1,8 @@
-//! The real ends: they count their faults, and tell nothing of the bytes that pass.
+//! The real ends: they count their faults, and tell of the bytes what the reader and the writer tell.
 
-ghost use Rattle.std.specs.Prelude.{◌≡◌, true, None};
+ghost use Rattle.std.specs.Prelude.{◌≡◌, true};
 ghost use Rattle.fetch_store.specs.Faults.{Faults};
+ghost use Rattle.fetch_cli.specs.Ends.{Takes};
 
 use crate::program::ends::{Sink, Source};
 use fetch_store::Failed;
@@ -17,13 +18,16 @@ pub struct StdSource<R> {
 
 impl<R: Read> StdSource<R> {
     /// A source of what the reader gives.
-    pub fn new(reader: R) -> StdSource<R> {
+    pub fn new(reader: R) -> StdSource<R>
+        ensures left { ⟦<StdSource<R> as Source>⟧.left result ≡ R.remaining reader }
+        ensures faults { ⟦<StdSource<R> as Source>⟧.faults result ≡ record { count = 0; possible = true } }
+    {
         StdSource { reader, faults: 0 }
     }
 }
 
 impl<R: Read> Source for StdSource<R> {
-    ghost left = { λ _. None };
+    ghost left = { λ s. R.remaining s.reader };
 
     ghost faults = { λ s. record { count = s.faults; possible = true } };
 
@@ -47,23 +51,40 @@ pub struct StdSink<W> {
 
 impl<W: Write> StdSink<W> {
     /// A sink that hands all to the writer.
-    pub fn new(writer: W) -> StdSink<W> {
+    pub fn new(writer: W) -> StdSink<W>
+        ensures taken { ⟦<StdSink<W> as Sink>⟧.taken result ≡ W.contents writer }
+        ensures faults { ⟦<StdSink<W> as Sink>⟧.faults result ≡ record { count = 0; possible = true } }
+    {
         StdSink { writer, faults: 0 }
     }
 }
 
 impl<W: Write> Sink for StdSink<W> {
-    ghost taken = { λ _. None };
+    ghost taken = { λ s. W.contents s.writer };
 
     ghost faults = { λ s. record { count = s.faults; possible = true } };
 
     fn write_all(&mut self, bytes: &[u8]) -> Result<(), SendFault> {
-        match self.writer.write_all(bytes) {
+        match write_each(&mut self.writer, bytes) {
             Ok(()) => Ok(()),
-            Err(_) => {
+            Err(Failed) => {
                 self.faults = self.faults.saturating_add(1);
                 Err(SendFault::Failed)
             }
         }
     }
+}
+
+/// Hands the bytes to the writer, piece by piece as it takes them. At a refusal it took a prefix.
+fn write_each<W: Write>(writer: &mut W, bytes: &[u8]) -> Result<(), Failed>
+    ensures { Takes (W.contents writer.old) (W.contents writer.new) result bytes.now }
+{
+    let mut rest = bytes;
+    while !rest.is_empty() {
+        match writer.write(rest) {
+            Ok(count) if count > 0 => rest = &rest[count..],
+            _ => return Err(Failed),
+        }
+    }
+    Ok(())
 }
