@@ -70,6 +70,7 @@ init_refusal e = Init e
 -- or opened.
 abbrev pub IsPrepareRefusal : Faults → Faults → Bool → Option Tree → List ℕ → List ℕ → Making → Option Tree → Error → Type 0
 IsPrepareRefusal was is may_fail before url place making now Url = (is_no_address url ≡ true) × (now ≡ before)
+IsPrepareRefusal was is may_fail before url place making now (Init initial.NoMemory) = ⊥
 IsPrepareRefusal was is may_fail before url place making now (Init e) = (is_no_address url ≡ false) × IsUnprepared was is may_fail before place making now e
 IsPrepareRefusal was is may_fail before url place making now NoMemory = TellsStill before now
 

@@ -172,6 +172,7 @@ pub record IsCreatedOnly (may_fail : Bool) (before : Option Tree) (steps : List 
 
 -- Why there is no new repository.
 abbrev pub IsInitRefusal : Bool → Option Tree → List Step → New → Option Tree → Error → Type 0
+IsInitRefusal may_fail before steps new now (Init creating.NoMemory) = ⊥
 IsInitRefusal may_fail before steps new now (Init e) = IsStopped may_fail before steps now e
 IsInitRefusal may_fail before steps new now NoMemory = TellsStill before now
 IsInitRefusal may_fail before steps new now (Open e) = IsCreatedOnly may_fail before steps new now (Open e)
