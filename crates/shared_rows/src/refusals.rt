@@ -1,0 +1,40 @@
+//! Refusals, in lines.
+
+use fetch_refs::Target;
+use fetch_shared::SharedError;
+use fetch_store::{Missing, NoMemory, append_hex};
+
+fn tell_link(out: &mut Vec<u8>, token: &[u8], link: &Missing) -> Result<(), NoMemory> {
+    out.extend_from_slice(token)?;
+    out.extend_from_slice(b" ")?;
+    append_hex(out, &link.from)?;
+    out.extend_from_slice(b" ")?;
+    append_hex(out, &link.to)?;
+    Ok(())
+}
+
+/// Why an event is refused, or why a repository isn't shared: what a shared repository refuses by itself.
+pub(crate) fn tell_refusal(out: &mut Vec<u8>, e: &SharedError) -> Result<(), NoMemory> {
+    out.extend_from_slice(b"refused ")?;
+    match e {
+        SharedError::NotClosed { link } => tell_link(out, b"NotClosed", link)?,
+        SharedError::Disconnected { link } => tell_link(out, b"Disconnected", link)?,
+        SharedError::Collision { id } => {
+            out.extend_from_slice(b"Collision ")?;
+            append_hex(out, id)?;
+        }
+        SharedError::EditReferences { name, found } => {
+            out.extend_from_slice(b"EditReferences ")?;
+            out.extend_from_slice(name.as_bytes())?;
+            if let Some(Target::Object(id)) = found {
+                out.extend_from_slice(b" ")?;
+                append_hex(out, id)?;
+            }
+        }
+        SharedError::Fetch(_) | SharedError::Delete(_) | SharedError::NoMemory => {
+            return Err(NoMemory);
+        }
+    }
+    out.extend_from_slice(b"\n")?;
+    Ok(())
+}

@@ -1,0 +1,36 @@
+//! Rows: scenes, and what is done with their repositories.
+
+use fetch_store::{decimal, split_first};
+
+/// A row of the input.
+#[derive(Clone, Copy)]
+pub(crate) struct Row<'a> {
+    /// What it shows.
+    pub(crate) about: &'a [u8],
+    /// The scene that says its repository.
+    pub(crate) scene: &'a [u8],
+    /// What is done, a line each.
+    pub(crate) lines: &'a [u8],
+}
+
+/// The first row, and what stands after it. A row is how many bytes its scene and its lines have, what it shows and a line
+/// feed; then the scene and the lines.
+pub(crate) fn row_at(bytes: &[u8]) -> Option<(Row<'_>, &[u8])> {
+    let (scene_len, rest) = split_first(b' ', bytes)?;
+    let (lines_len, rest) = split_first(b' ', rest)?;
+    let (about, rest) = split_first(b'\n', rest)?;
+    let scene_len = usize::try_from(decimal(scene_len)?).ok()?;
+    let lines_len = usize::try_from(decimal(lines_len)?).ok()?;
+    let scene = rest.get(..scene_len)?;
+    let rest = rest.get(scene_len..)?;
+    let lines = rest.get(..lines_len)?;
+    let behind = rest.get(lines_len..)?;
+    Some((
+        Row {
+            about,
+            scene,
+            lines,
+        },
+        behind,
+    ))
+}
