@@ -106,16 +106,16 @@ module _ (k name : List ℕ) where
         flat_map-append here (spec.cleaned_at name s) (spec.cleaned name ss)
         ∙ empty-both (all (spec.cleaned_at name s)) (all (spec.cleaned name ss)) (section-gone s (spec.is_of_remote name s) (spec.is_emptied s) refl refl) (cleaned-none ss)
 
-  abbrev pub told : List spec.Line → List (Option (List ℕ))
+  abbrev pub told : List spec.KeyLine → List (Option (List ℕ))
   told lines = flat_map (values_at k) (map (λ l. (l.0, Some l.1)) lines)
 
   -- the lines in a section that is looked at, which had none
-  lined : (lines : List spec.Line) (s : Section) → is_meant remote (Some name) true s ≡ true → here s ≡ [] → here (spec.with_lines lines s) ≡ told lines
+  lined : (lines : List spec.KeyLine) (s : Section) → is_meant remote (Some name) true s ≡ true → here s ≡ [] → here (spec.with_lines lines s) ≡ told lines
   lined lines s meant none =
       let e : flat_map (values_at k) s.entries ≡ [] = rw meant at none in
       rw meant (flat_map-append (values_at k) s.entries (map (λ l. (l.0, Some l.1)) lines) ∙ ap (λ xs. xs ++ told lines) e)
 
-  used-by : (p : Section → Bool) → ((s : Section) → p s ≡ true → is_meant remote (Some name) true s ≡ true) → (lines : List spec.Line) (s : Section) (ss : List Section) (o : Option ℕ) (b : Bool) (i : ℕ)
+  used-by : (p : Section → Bool) → ((s : Section) → p s ≡ true → is_meant remote (Some name) true s ≡ true) → (lines : List spec.KeyLine) (s : Section) (ss : List Section) (o : Option ℕ) (b : Bool) (i : ℕ)
       → spec.last_place p ss ≡ o → p s ≡ b → spec.further o b ≡ Some i → all (s ∷ ss) ≡ []
       → ((j : ℕ) → spec.last_place p ss ≡ Some j → all (on_section j (spec.with_lines lines) ss) ≡ told lines)
       → all (on_section i (spec.with_lines lines) (s ∷ ss)) ≡ told lines
@@ -127,16 +127,16 @@ module _ (k name : List ℕ) where
       rw e (ap (λ xs. here (spec.with_lines lines s) ++ xs) (no-back (here s) (all ss) none) ∙ append-nil (here (spec.with_lines lines s)) ∙ lined lines s (means s q) (no-front (here s) (all ss) none))
   used-by p means lines s ss None false i l q is none rest = absurd (cc is)
 
-  pub used : (p : Section → Bool) → ((s : Section) → p s ≡ true → is_meant remote (Some name) true s ≡ true) → (lines : List spec.Line) (ss : List Section) (i : ℕ) → spec.last_place p ss ≡ Some i → all ss ≡ []
+  pub used : (p : Section → Bool) → ((s : Section) → p s ≡ true → is_meant remote (Some name) true s ≡ true) → (lines : List spec.KeyLine) (ss : List Section) (i : ℕ) → spec.last_place p ss ≡ Some i → all ss ≡ []
       → all (on_section i (spec.with_lines lines) ss) ≡ told lines
   unfolding spec.last_place
   used p means lines [] i is none = absurd (cc is)
   used p means lines (s ∷ ss) i is none = used-by p means lines s ss (spec.last_place p ss) (p s) i refl refl is none (λ j l. used p means lines ss j l (no-back (here s) (all ss) none))
 
-  told-append : (a b : List spec.Line) → told (a ++ b) ≡ told a ++ told b
+  told-append : (a b : List spec.KeyLine) → told (a ++ b) ≡ told a ++ told b
   told-append a b = ap (flat_map (values_at k)) (map-append (λ l. (l.0, Some l.1)) a b) ∙ flat_map-append (values_at k) (map (λ l. (l.0, Some l.1)) a) (map (λ l. (l.0, Some l.1)) b)
 
-  told-five : (a b t f p : List spec.Line) → told (a ++ (b ++ (t ++ (f ++ p)))) ≡ told a ++ (told b ++ (told t ++ (told f ++ told p)))
+  told-five : (a b t f p : List spec.KeyLine) → told (a ++ (b ++ (t ++ (f ++ p)))) ≡ told a ++ (told b ++ (told t ++ (told f ++ told p)))
   told-five a b t f p =
       told-append a (b ++ (t ++ (f ++ p))) ∙ ap (λ xs. told a ++ xs)
       (told-append b (t ++ (f ++ p)) ∙ ap (λ xs. told b ++ xs)
@@ -168,7 +168,7 @@ new-is-meant : (meta : Meta) (name : List ℕ) → meta.trusted ≡ true → is_
 unfolding remote
 new-is-meant meta name trusted = rw (same_text name, trusted) refl
 
-module _ (meta : Meta) (name : List ℕ) (trusted : meta.trusted ≡ true) (lines : List spec.Line) where
+module _ (meta : Meta) (name : List ℕ) (trusted : meta.trusted ≡ true) (lines : List spec.KeyLine) where
   placed-all : (k : List ℕ) (ss : List Section) → all k name ss ≡ [] → (b : Bool) (o : Option ℕ) → spec.last_place (spec.is_own meta name) ss ≡ o
       → all k name (spec.placed_in (if b then None else o) (spec.new_section meta name) lines ss) ≡ told k name lines
   placed-all k ss none false (Some i) l = used k name (spec.is_own meta name) (own-is-meant meta name trusted) lines ss i l none

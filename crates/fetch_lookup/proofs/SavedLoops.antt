@@ -95,7 +95,7 @@ on-itself (suc i) [] = refl
 on-itself zero (x ∷ xs) = refl
 on-itself (suc i) (x ∷ xs) = ap (λ ys. x ∷ ys) (on-itself i xs)
 
-one-line : (ls : List spec.Line) (l : spec.Line) (s : Section) → spec.with_lines (l ∷ []) (spec.with_lines ls s) ≡ spec.with_lines (ls ++ l ∷ []) s
+one-line : (ls : List spec.KeyLine) (l : spec.KeyLine) (s : Section) → spec.with_lines (l ∷ []) (spec.with_lines ls s) ≡ spec.with_lines (ls ++ l ∷ []) s
 one-line ls l s =
     ap (λ es. record s { entries = es })
     (append_assoc s.entries (map (λ l. (l.0, Some l.1)) ls) ((l.0, Some l.1) ∷ []) ∙ ap (λ es. s.entries ++ es) (sym (map-append (λ l. (l.0, Some l.1)) ls (l ∷ []))))
@@ -105,11 +105,11 @@ take-more i [] x lt is = absurd (omega (arith, lt))
 take-more zero (y ∷ ys) x lt is = ap (λ z. z ∷ []) (sym is)
 take-more (suc i) (y ∷ ys) x lt is = ap (λ zs. y ∷ zs) (take-more i ys x (omega (arith, lt)) is)
 
-module _ (f0 old new : Contents) (index : ℕ) (lines : List spec.Line) (i : ℕ) where
+module _ (f0 old new : Contents) (index : ℕ) (lines : List spec.KeyLine) (i : ℕ) where
   pub line-start : f0 ≡ with_sections f0 (on_section index (spec.with_lines (take 0 lines)) f0.sections)
   line-start = ap (with_sections f0) (sym (on-same index _ (λ s. s) no-lines f0.sections ∙ on-itself index f0.sections))
 
-  pub line-more : (l : spec.Line) → i < length lines → l ≡ get_or lines i l → old ≡ with_sections f0 (on_section index (spec.with_lines (take i lines)) f0.sections) → new ≡ with_sections old (on_section index (spec.with_lines (l ∷ [])) old.sections)
+  pub line-more : (l : spec.KeyLine) → i < length lines → l ≡ get_or lines i l → old ≡ with_sections f0 (on_section index (spec.with_lines (take i lines)) f0.sections) → new ≡ with_sections old (on_section index (spec.with_lines (l ∷ [])) old.sections)
       → new ≡ with_sections f0 (on_section index (spec.with_lines (take (i + 1) lines)) f0.sections)
   line-more l lt at so_far is =
       let e : suc i ≡ i + 1 = omega arith in
@@ -125,7 +125,7 @@ take-over (suc n) [] le = refl
 take-over zero (x ∷ xs) le = absurd (omega (arith, le))
 take-over (suc n) (x ∷ xs) le = ap (λ ys. x ∷ ys) (take-over n xs (omega (arith, le)))
 
-pub line-end : (f0 old : Contents) (index : ℕ) (lines : List spec.Line) (i : ℕ) → length lines ≤ i → old ≡ with_sections f0 (on_section index (spec.with_lines (take i lines)) f0.sections)
+pub line-end : (f0 old : Contents) (index : ℕ) (lines : List spec.KeyLine) (i : ℕ) → length lines ≤ i → old ≡ with_sections f0 (on_section index (spec.with_lines (take i lines)) f0.sections)
     → old ≡ with_sections f0 (on_section index (spec.with_lines lines) f0.sections)
 line-end f0 old index lines i le so_far = so_far ∙ ap (λ ls. with_sections f0 (on_section index (spec.with_lines ls) f0.sections)) (take-over i lines le)
 
@@ -134,7 +134,7 @@ pub kept-place : (o : Option ℕ) → spec.at_place o ≡ Ok tt → o ≡ None
 kept-place None e = refl
 kept-place (Some place) e = cc
 
-pub refused-line : (lines : List spec.Line) (i : ℕ) (l : spec.Line) (e : Error) → i < length lines → l ≡ get_or lines i l → first spec.nul_at (drop i lines) ≡ first spec.nul_at lines → (o : Option ℕ) → spec.nul_at l ≡ o → spec.at_place o ≡ Err e
+pub refused-line : (lines : List spec.KeyLine) (i : ℕ) (l : spec.KeyLine) (e : Error) → i < length lines → l ≡ get_or lines i l → first spec.nul_at (drop i lines) ≡ first spec.nul_at lines → (o : Option ℕ) → spec.nul_at l ≡ o → spec.at_place o ≡ Err e
     → spec.at_place (first spec.nul_at lines) ≡ Err e
 refused-line lines i l e lt at so_far None is refused = cc
 refused-line lines i l e lt at so_far (Some place) is refused = ap spec.at_place (sym (first-some spec.nul_at lines i l place (first spec.nul_at lines) lt at is so_far)) ∙ refused
@@ -147,11 +147,11 @@ pub used-new : (file new : Contents) (name : List ℕ) (index : ℕ) (u : Option
 used-new file new name index u e at is lines =
     rw (e, at, is) (ap (with_sections file) (on-end (spec.with_lines lines) file.sections (spec.new_section file.meta name)))
 
-pub line-room : (old new : Contents) (index : ℕ) (ls : List spec.Line) → index < length old.sections → new ≡ with_sections old (on_section index (spec.with_lines ls) old.sections) → index < length new.sections
+pub line-room : (old new : Contents) (index : ℕ) (ls : List spec.KeyLine) → index < length old.sections → new ≡ with_sections old (on_section index (spec.with_lines ls) old.sections) → index < length new.sections
 line-room old new index ls lt is = omega (arith, lt, ap (λ o. length o.sections) is, on_length index (spec.with_lines ls) old.sections)
 
 -- what is saved in the end
-pub saved-by : (config : Contents) (name : List ℕ) (parts : RemoteParts) (cu cp n : Bool) (file : Contents) (lines : List spec.Line) (r : Result Contents Error)
+pub saved-by : (config : Contents) (name : List ℕ) (parts : RemoteParts) (cu cp n : Bool) (file : Contents) (lines : List spec.KeyLine) (r : Result Contents Error)
     → cu ≡ spec.clears config name Fetch → cp ≡ spec.clears config name Push → n ≡ (cu || cp) → file ≡ with_sections config (spec.cleaned name config.sections) → lines ≡ spec.lines_of cu cp parts
     → IfOk r (λ new. new ≡ with_sections file (spec.placed_in (spec.used_or_new n file.meta name file.sections) (spec.new_section file.meta name) lines file.sections)) → IfOk r (λ new. new ≡ spec.saved config name parts)
 unfolding spec.saved
@@ -161,7 +161,7 @@ saved-by config name parts cu cp n file lines (Err x) a b d e f is = tt
 pub same-place : {X : Type 0} (v : X → Unit {0}) (a b : Option ℕ) (r : Result X Error) → b ≡ a → AnswersBy v spec.is_memory (spec.at_place a) r → AnswersBy v spec.is_memory (spec.at_place b) r
 same-place v a b r e h = rw e h
 
-pub spec-line : (out new : List spec.Line) (k t key text : List ℕ) → new ≡ out ++ (k, t) ∷ [] → k ≡ key → t ≡ text → new ≡ out ++ (key, text) ∷ []
+pub spec-line : (out new : List spec.KeyLine) (k t key text : List ℕ) → new ≡ out ++ (k, t) ∷ [] → k ≡ key → t ≡ text → new ≡ out ++ (key, text) ∷ []
 spec-line out new k t key text e f g = e ∙ ap (λ x. out ++ (x, t) ∷ []) f ∙ ap (λ y. out ++ (key, y) ∷ []) g
 
 pub new-there : (file new : Contents) (name : List ℕ) (index : ℕ) (meta : Meta) → meta ≡ file.meta → new ≡ with_sections file (file.sections ++ record { name = codes "remote"; sub = Some name; meta = meta; entries = [] } ∷ []) → index ≡ length file.sections

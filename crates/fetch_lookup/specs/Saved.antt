@@ -84,11 +84,11 @@ unfoldable pub clears : Contents → List ℕ → Direction → Bool
 clears file name direction = list_any (clears_at file.meta name direction) file.sections
 
 -- a key, and its value
-abbrev pub Line : Type 0
-Line = List ℕ × List ℕ
+abbrev pub KeyLine : Type 0
+KeyLine = List ℕ × List ℕ
 
 -- The addresses, after an empty one where that is asked.
-abbrev pub address_lines : Bool → Direction → List (List ℕ) → List Line
+abbrev pub address_lines : Bool → Direction → List (List ℕ) → List KeyLine
 address_lines clears direction urls = map (λ url. (address_key direction, url)) (if clears then [] ∷ urls else urls)
 
 -- how a choice of tags is written
@@ -98,25 +98,25 @@ tag_word choices.Included = None
 tag_word choices.None = Some (codes "--no-tags")
 
 -- the line of a choice of tags, or none
-unfoldable pub tag_lines : Tags → List Line
+unfoldable pub tag_lines : Tags → List KeyLine
 tag_lines tags = option_to_list (option_map (λ word. (tag_key, word)) (tag_word tags))
 
 -- a line for each refspec
-abbrev pub spec_lines : Direction → List Spec → List Line
+abbrev pub spec_lines : Direction → List Spec → List KeyLine
 spec_lines direction specs = map (λ s. (spec_key direction, printed s)) specs
 
 -- what is written: addresses, the choice of tags, refspecs
-unfoldable pub lines_of : Bool → Bool → RemoteParts → List Line
+unfoldable pub lines_of : Bool → Bool → RemoteParts → List KeyLine
 lines_of clears_urls clears_push_urls parts =
     address_lines clears_urls Fetch parts.urls ++ (address_lines clears_push_urls Push parts.push_urls
     ++ (tag_lines parts.fetch_tags ++ (spec_lines Fetch parts.fetch_specs ++ spec_lines Push parts.push_specs)))
 
 -- the lines that a remote is saved by
-abbrev pub saved_lines : Contents → List ℕ → RemoteParts → List Line
+abbrev pub saved_lines : Contents → List ℕ → RemoteParts → List KeyLine
 saved_lines file name parts = lines_of (clears file name Fetch) (clears file name Push) parts
 
 -- a section with these lines at its end
-abbrev pub with_lines : List Line → Section → Section
+abbrev pub with_lines : List KeyLine → Section → Section
 with_lines lines s = record s { entries = s.entries ++ map (λ l. (l.0, Some l.1)) lines }
 
 -- one place further, where there is one before, or the first here
@@ -147,7 +147,7 @@ abbrev pub new_section : Meta → List ℕ → Section
 new_section meta name = record { name = remote; sub = Some name; meta = meta; entries = [] }
 
 -- the lines at the end of the section that is used, or in a new one at the end
-abbrev pub placed_in : Option ℕ → Section → List Line → List Section → List Section
+abbrev pub placed_in : Option ℕ → Section → List KeyLine → List Section → List Section
 placed_in None new lines sections = sections ++ with_lines lines new ∷ []
 placed_in (Some i) new lines sections = on_section i (with_lines lines) sections
 
@@ -158,7 +158,7 @@ saved file name parts =
 
 -- The lines at the end of this section are the lines in the place that is used.
 abbrev pub IsUsedAt : Contents → List ℕ → Option ℕ → ℕ → Contents → Type 0
-IsUsedAt file name used index new = (lines : List Line) → with_sections new (on_section index (with_lines lines) new.sections) ≡ with_sections file (placed_in used (new_section file.meta name) lines file.sections)
+IsUsedAt file name used index new = (lines : List KeyLine) → with_sections new (on_section index (with_lines lines) new.sections) ≡ with_sections file (placed_in used (new_section file.meta name) lines file.sections)
 
 -- out of memory
 abbrev pub is_memory : Error → Bool
@@ -166,7 +166,7 @@ is_memory NoMemory = true
 is_memory _ = false
 
 -- where the first NUL of a line's value stands
-abbrev pub nul_at : Line → Option ℕ
+abbrev pub nul_at : KeyLine → Option ℕ
 nul_at line = position is_nul line.1
 
 -- where the first NUL stands in the first of the texts that has one

@@ -12,7 +12,7 @@ use fetch_store::{NoMemory, Text};
 use std::alloc::Global;
 
 /// A key, and its value.
-pub(crate) type Line = (Text, Text);
+pub(crate) type KeyLine = (Text, Text);
 
 /// What a remote is written by: addresses, the choice of tags, refspecs. An empty address comes before those to fetch
 /// from, or those to push to, where that is asked.
@@ -22,7 +22,7 @@ pub(crate) fn lines(
     remote: &RemoteParts,
     clears_urls: bool,
     clears_push_urls: bool,
-) -> Result<Vec<Line>, NoMemory>
+) -> Result<Vec<KeyLine>, NoMemory>
     ensures { IfOk result (λ lines. lines.items ≡ spec.lines_of clears_urls clears_push_urls remote.now) }
 {
     let mut lines = Vec::new(alloc);
@@ -54,7 +54,7 @@ pub(crate) fn lines(
 
 fn push_addresses(
     alloc: Global,
-    lines: &mut Vec<Line>,
+    lines: &mut Vec<KeyLine>,
     clears: bool,
     direction: Direction,
     urls: &[Text],
@@ -70,7 +70,7 @@ fn push_addresses(
 
 fn push_texts(
     alloc: Global,
-    lines: &mut Vec<Line>,
+    lines: &mut Vec<KeyLine>,
     key: &[u8],
     texts: &[Text],
 ) -> Result<(), NoMemory>
@@ -83,7 +83,7 @@ fn push_texts(
 }
 
 #[tactic(auto, unfolding(crate::specs::Saved::tag_lines, crate::specs::Saved::tag_key))]
-fn push_tags(alloc: Global, lines: &mut Vec<Line>, tags: Tags) -> Result<(), NoMemory>
+fn push_tags(alloc: Global, lines: &mut Vec<KeyLine>, tags: Tags) -> Result<(), NoMemory>
     ensures { OnOk result (lines.new.items ≡ lines.old.items ++ spec.tag_lines tags) }
 {
     match tag_word(tags) {
@@ -104,7 +104,7 @@ fn tag_word(tags: Tags) -> Option<&'static [u8]>
 
 fn push_specs(
     alloc: Global,
-    lines: &mut Vec<Line>,
+    lines: &mut Vec<KeyLine>,
     direction: Direction,
     specs: &[RefSpec],
 ) -> Result<(), NoMemory>
@@ -125,7 +125,7 @@ fn text_of(alloc: Global, spec: &RefSpec) -> Result<Text, NoMemory>
     }
 }
 
-fn push(alloc: Global, lines: &mut Vec<Line>, key: &[u8], value: Text) -> Result<(), NoMemory>
+fn push(alloc: Global, lines: &mut Vec<KeyLine>, key: &[u8], value: Text) -> Result<(), NoMemory>
     ensures { OnOk result (lines.new.items ≡ lines.old.items ++ (key.now, value) ∷ []) }
 {
     lines.push((Text::new(alloc, key)?, value))?;

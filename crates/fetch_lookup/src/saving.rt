@@ -10,7 +10,7 @@ ghost use Rattle.fetch_lookup.specs.Saved as spec;
 
 use crate::cleaning::{clean, clears, is_of_remote, is_same_meta};
 use crate::direction::Direction;
-use crate::lines::{Line, lines};
+use crate::lines::{KeyLine, lines};
 use crate::name::{Error as NameError, Name, is_place, validated};
 use crate::remote::RemoteParts;
 use crate::save::{AsError, Error};
@@ -165,7 +165,7 @@ fn with_lines(
     file: File,
     name: &[u8],
     is_new: bool,
-    lines: &[Line],
+    lines: &[KeyLine],
 ) -> Result<File, Error>
     requires { position is_nul_or_feed name.now ≡ None }
     ensures placed { IfOk result (λ new. new ≡ with_sections file (spec.placed_in (spec.used_or_new is_new file.meta name.now file.sections) (spec.new_section file.meta name.now) lines.now file.sections)) }
@@ -235,7 +235,7 @@ fn is_own(section: &Section, meta: &Meta, name: &[u8]) -> bool
 }
 
 /// The lines are added at the end of a section, until a value has a NUL.
-fn push_lines(alloc: Global, file: &mut File, index: usize, lines: &[Line]) -> Result<(), Error>
+fn push_lines(alloc: Global, file: &mut File, index: usize, lines: &[KeyLine]) -> Result<(), Error>
     requires { index < length file.old.sections }
     ensures pushed { OnOk result (file.new ≡ with_sections file.old (on_section index (spec.with_lines lines.now) file.old.sections)) }
     ensures answer { AnswersUnless spec.is_memory (spec.at_place (slice_get (filter_map spec.nul_at lines.now) 0)) result }
@@ -246,7 +246,7 @@ fn push_lines(alloc: Global, file: &mut File, index: usize, lines: &[Line]) -> R
     Ok(())
 }
 
-fn push_line(alloc: Global, file: &mut File, index: usize, line: &Line) -> Result<(), Error>
+fn push_line(alloc: Global, file: &mut File, index: usize, line: &KeyLine) -> Result<(), Error>
     requires { index < length file.old.sections }
     ensures pushed { OnOk result (file.new ≡ with_sections file.old (on_section index (spec.with_lines (line.now ∷ [])) file.old.sections)) }
     ensures answer { AnswersUnless spec.is_memory (spec.at_place (spec.nul_at line.now)) result }

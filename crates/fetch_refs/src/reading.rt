@@ -54,7 +54,7 @@ impl Refs {
 
 /// A line of a packed text, cut into its parts.
 #[derive(Clone, Copy)]
-struct Line<'a> {
+struct PackedLine<'a> {
     id: ObjectId,
     name: &'a [u8],
     /// What stands after the line.
@@ -89,7 +89,7 @@ fn read_lines(
 }
 
 /// The line at the front of a text, whose name isn't tested yet.
-fn first_line(kind: Kind, text: &[u8]) -> Option<Line<'_>>
+fn first_line(kind: Kind, text: &[u8]) -> Option<PackedLine<'_>>
     ensures line { IfSome result (λ line. text.now ≡ packed_line (line.name.now, line.id) ++ line.rest.now) }
     ensures id { IfSome result (λ line. id_in_hex kind (encode_lower (bytes_of line.id)) ≡ Some line.id) }
     ensures name { IfSome result (λ line. IsWithout 10 line.name.now) }
@@ -98,7 +98,7 @@ fn first_line(kind: Kind, text: &[u8]) -> Option<Line<'_>>
     let (digits, behind) = split_first(b' ', text)?;
     let id = id_in_lower(kind, digits)?;
     let (name, rest) = split_first(b'\n', behind)?;
-    Some(Line { id, name, rest })
+    Some(PackedLine { id, name, rest })
 }
 
 /// The id that digits of lower case spell.
