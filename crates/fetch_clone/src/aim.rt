@@ -17,7 +17,7 @@ use std::alloc::Global;
 
 /// What `HEAD` is to take.
 #[derive(Debug, Drop)]
-pub enum Aim {
+pub(crate) enum Aim {
     /// Nothing: all is left as it is.
     Nothing,
     /// An id.
@@ -33,7 +33,7 @@ pub enum Aim {
 
 /// Why `HEAD` has nothing to take.
 #[derive(Debug, Drop)]
-pub enum Unaimed {
+pub(crate) enum Unaimed {
     /// The ref name means no reference.
     Name(Unmeant),
     /// The name that it is to lead to is none.
@@ -61,7 +61,7 @@ impl From<NoMemory> for Unaimed {
 
 /// What `HEAD` is to take: with a revision its commit; else with a ref name that name and its id; else what the remote's
 /// `HEAD` says.
-pub fn aim_of<O: Objects>(
+pub(crate) fn aim_of<O: Objects>(
     alloc: Global,
     map: &RefMap,
     objects: &O,

@@ -11,7 +11,7 @@ use std::alloc::Global;
 
 /// The short name of the branch, as `init.defaultBranch` says it.
 #[tactic(auto, unfolding(crate::specs::Branches::default_branch_of))]
-pub fn default_branch(config: &File) -> &[u8]
+pub(crate) fn default_branch(config: &File) -> &[u8]
     ensures { result.now ≡ spec.default_branch_of config.now }
 {
     match config.string(b"init", None, b"defaultBranch", false) {
@@ -21,7 +21,7 @@ pub fn default_branch(config: &File) -> &[u8]
 }
 
 /// The full name of a branch. None where a branch can't be called so.
-pub fn branch_of(alloc: Global, name: &[u8]) -> Result<Option<FullName>, NoMemory>
+pub(crate) fn branch_of(alloc: Global, name: &[u8]) -> Result<Option<FullName>, NoMemory>
     ensures { IfOk result (λ found. found ≡ spec.branch_of name.now) }
 {
     if name == b"HEAD".as_slice() || name.starts_with(b"-") {

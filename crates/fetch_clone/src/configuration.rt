@@ -9,7 +9,7 @@ use std::alloc::Global;
 
 /// The text of the configuration.
 #[tactic(auto, unfolding(crate::specs::Configuration::configuration_of))]
-pub fn configuration_of(
+pub(crate) fn configuration_of(
     alloc: Global,
     kind: Kind,
     can: Capabilities,

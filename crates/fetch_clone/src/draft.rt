@@ -19,7 +19,7 @@ use std::alloc::Global;
 
 /// How a repository is created and opened.
 #[derive(Drop)]
-pub struct Making {
+pub(crate) struct Making {
     /// With a work tree, or bare.
     pub kind: Kind,
     /// How the files are created.
@@ -32,7 +32,7 @@ pub struct Making {
 
 /// A clone that isn't fetched into yet.
 #[derive(Drop)]
-pub struct Draft {
+pub(crate) struct Draft {
     /// The address that is cloned, as it was given.
     pub url: Text,
     /// The directory that is cloned into, as it was given.
@@ -48,7 +48,7 @@ pub struct Draft {
 }
 
 /// Notes whether the place is free, and creates and opens an empty repository there.
-pub fn prepare<F: Files>(
+pub(crate) fn prepare<F: Files>(
     alloc: Global,
     files: &mut F,
     url: &[u8],
@@ -131,7 +131,7 @@ fn is_free<F: Files>(files: &mut F, place: &Text) -> Result<bool, NoMemory>
 }
 
 /// Asks for the removal of the place of a clone without success, where it was free. A fault is ignored.
-pub fn give_up<F: Files>(files: &mut F, draft: &Draft)
+pub(crate) fn give_up<F: Files>(files: &mut F, draft: &Draft)
     ensures removed { spec.is_removed draft.now ≡ true → IsRemoved (F.faults files.old) (F.faults files.new) (F.may_fail files.old) (F.told files.old) draft.now.place (F.told files.new) }
     ensures untouched { spec.is_removed draft.now ≡ false → files.new ≡ files.old }
     ensures counts { Counts (F.faults files.old) (F.faults files.new) }

@@ -283,7 +283,7 @@ fn save_local<F: Files>(
 }
 
 /// Writes the whole local file into the file `config` in the directory.
-pub fn write_local<F: Files>(
+pub(crate) fn write_local<F: Files>(
     alloc: Global,
     files: &mut F,
     git_dir: &[u8],

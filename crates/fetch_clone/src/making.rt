@@ -12,7 +12,7 @@ use crate::step::Step;
 use fetch_store::{FileError, Files, Node, Text};
 
 /// Takes the steps in order, up to the first that is refused.
-pub fn perform<F: Files>(files: &mut F, plan: &[Step]) -> Result<(), Error>
+pub(crate) fn perform<F: Files>(files: &mut F, plan: &[Step]) -> Result<(), Error>
     ensures done { OnOk result (Reaches (F.told files.old) plan.now (F.told files.new)) }
     ensures refused { IfErr result (IsStopped (F.may_fail files.old) (F.told files.old) plan.now (F.told files.new)) }
     ensures cause { IfErr result (λ e. IsTrue (is_fault e) → Rose (F.faults files.old) (F.faults files.new)) }
@@ -60,7 +60,7 @@ fn clear<F: Files>(files: &mut F, path: &Text) -> Result<(), Error>
 }
 
 /// What is listed at the path. None where nothing stands there.
-pub fn listed<F: Files>(files: &mut F, path: &Text) -> Result<Option<Vec<Text>>, Error>
+pub(crate) fn listed<F: Files>(files: &mut F, path: &Text) -> Result<Option<Vec<Text>>, Error>
     ensures tree { IfOk result (λ found. F.told files.new ≡ F.told files.old) }
     ensures found { IfOk result (λ found. IfSome (F.told files.old) (λ t. listed_in t path.now ≡ Some (option_map (λ names. names.items) found))) }
     ensures refused { IfErr result (IsOpenRefusal (F.may_fail files.old) (F.told files.old) path.now (λ t. listed_in t path.now) (F.told files.new)) }

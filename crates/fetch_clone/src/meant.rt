@@ -12,7 +12,7 @@ use std::alloc::Global;
 
 /// A reference of the remote that is mapped and has an id.
 #[derive(Debug, Drop)]
-pub struct Meant {
+pub(crate) struct Meant {
     /// Its name, as the remote lists it.
     pub name: Text,
     /// Its id, of a tag before what it peels to.
@@ -21,7 +21,7 @@ pub struct Meant {
 
 /// Why a name means no reference.
 #[derive(Debug, Drop)]
-pub enum Unmeant {
+pub(crate) enum Unmeant {
     /// None is called so.
     Missing,
     /// Several may be meant.
@@ -44,7 +44,7 @@ impl From<NoMemory> for Unmeant {
 /// The reference that a name means: the one of that full name, or else, outside `refs/`, the branch, the tag, or what else a
 /// refspec with this source takes, of which there has to be one.
 #[tactic(auto, unfolding(crate::specs::Meant::meant_in))]
-pub fn meaning_of(
+pub(crate) fn meaning_of(
     alloc: Global,
     mappings: &[Mapping],
     wanted: &PartialName,

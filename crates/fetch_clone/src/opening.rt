@@ -27,7 +27,7 @@ use std::alloc::Global;
 
 /// What a repository is opened with, once its files are created.
 #[derive(Drop)]
-pub struct New {
+pub(crate) struct New {
     /// Where the repository was created.
     pub path: Path,
     /// The hash of its objects.
@@ -39,7 +39,7 @@ pub struct New {
 }
 
 /// Settings that can't be read are taken as absent, there are no overrides, and nothing comes before the local file.
-pub fn lenient(alloc: Global) -> Result<OpenOptions, NoMemory>
+pub(crate) fn lenient(alloc: Global) -> Result<OpenOptions, NoMemory>
     ensures { IfOk result (λ options. options ≡ spec.lenient) }
 {
     let meta = Meta {
@@ -59,7 +59,7 @@ pub fn lenient(alloc: Global) -> Result<OpenOptions, NoMemory>
 }
 
 /// Reads the configuration, opens the repository, and lets its `HEAD` lead to the branch that the configuration names.
-pub fn open_new<F: Files>(alloc: Global, files: &mut F, new: New) -> Result<Repository, Error>
+pub(crate) fn open_new<F: Files>(alloc: Global, files: &mut F, new: New) -> Result<Repository, Error>
     ensures tree { OnOk result (F.told files.new ≡ F.told files.old) }
     ensures repo { IfOk result (IsInitial (F.told files.old) new) }
     ensures refused { IfErr result (IsUnready (F.may_fail files.old) (F.told files.old) new (F.told files.new)) }
@@ -89,7 +89,7 @@ fn read_local<F: Files>(alloc: Global, files: &mut F, git_dir: &Text) -> Result<
 }
 
 /// Where the local file stands.
-pub fn config_path(alloc: Global, git_dir: &[u8]) -> Result<Text, NoMemory>
+pub(crate) fn config_path(alloc: Global, git_dir: &[u8]) -> Result<Text, NoMemory>
     ensures { IfOk result (λ path. path ≡ path_of_config git_dir.now) }
 {
     let mut path = Vec::from_slice(alloc, git_dir)?;
@@ -198,7 +198,7 @@ fn leading(alloc: Global, branch: FullName) -> Result<RefEdit, NoMemory>
 }
 
 /// The name `HEAD`.
-pub fn head(alloc: Global) -> Result<FullName, NoMemory>
+pub(crate) fn head(alloc: Global) -> Result<FullName, NoMemory>
     ensures { IfOk result (λ name. name ≡ codes "HEAD") }
 {
     match FullName::new(alloc, b"HEAD") {

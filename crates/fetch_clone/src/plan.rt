@@ -18,7 +18,7 @@ const USUAL: Capabilities = Capabilities {
 };
 
 /// The directory itself, or `.git` in it beside a work tree.
-pub fn path_of(alloc: Global, directory: &[u8], kind: Kind) -> Result<Path, NoMemory>
+pub(crate) fn path_of(alloc: Global, directory: &[u8], kind: Kind) -> Result<Path, NoMemory>
     ensures { IfOk result (λ path. path ≡ spec.path_of directory.now kind) }
 {
     match kind {
@@ -35,7 +35,7 @@ pub fn path_of(alloc: Global, directory: &[u8], kind: Kind) -> Result<Path, NoMe
 
 /// The steps, in order.
 #[tactic(auto, unfolding(crate::specs::Plans::steps_of))]
-pub fn steps_of(
+pub(crate) fn steps_of(
     alloc: Global,
     directory: &[u8],
     kind: Kind,

@@ -13,7 +13,7 @@ use std::alloc::Global;
 
 /// The file in which the sections of another stand after those of other names or subsections.
 #[tactic(auto, unfolding(crate::specs::Replacing::replaced, crate::specs::Replacing::without_replaced))]
-pub fn replaced(alloc: Global, file: &File, news: &File) -> Result<File, NoMemory>
+pub(crate) fn replaced(alloc: Global, file: &File, news: &File) -> Result<File, NoMemory>
     ensures { IfOk result (λ replaced. replaced ≡ spec.replaced news.now.sections file.now) }
 {
     let mut replaced = file.try_clone(alloc)?;

@@ -4,7 +4,7 @@ use fetch_store::Text;
 
 /// A step of a creation: one thing that is tested or made at a path.
 #[derive(Debug, Drop)]
-pub enum Step {
+pub(crate) enum Step {
     /// The directory is there without an entry, or is made.
     Clear { path: Text },
     /// No directory is there.

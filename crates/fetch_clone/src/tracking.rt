@@ -10,14 +10,14 @@ use std::alloc::Global;
 
 /// The name of the remote that the configuration says, where it says one.
 #[tactic(auto, unfolding(crate::specs::Tracking::default_remote_of))]
-pub fn default_remote(config: &File) -> Option<&[u8]>
+pub(crate) fn default_remote(config: &File) -> Option<&[u8]>
     ensures { option_map (λ name. name.now) result ≡ spec.default_remote_of config.now }
 {
     config.string(b"clone", None, b"defaultRemoteName", false)
 }
 
 /// The refspec of one reference, or else of all branches.
-pub fn spec_text(alloc: Global, remote: &[u8], target: Option<&[u8]>) -> Result<Text, NoMemory>
+pub(crate) fn spec_text(alloc: Global, remote: &[u8], target: Option<&[u8]>) -> Result<Text, NoMemory>
     ensures { IfOk result (λ text. text ≡ spec.spec_text remote.now (option_copied target.entry)) }
 {
     let mut text = Vec::new(alloc);

@@ -13,7 +13,7 @@ use std::alloc::Global;
 
 /// The local file with a section for a branch that the remote's refspecs take. None where the name is no such branch, or
 /// isn't UTF-8, or a byte can't be kept.
-pub fn following(
+pub(crate) fn following(
     alloc: Global,
     local: &File,
     remote: &[u8],

@@ -12,7 +12,7 @@ use std::alloc::Global;
 
 /// What a line says.
 #[derive(Debug, Drop)]
-pub enum Line {
+pub(crate) enum Line {
     /// Blanks or a comment.
     Nothing,
     /// A section begins: its name, and its subsection where it has one.
@@ -23,7 +23,7 @@ pub enum Line {
 
 /// What a line says. None where it breaks the grammar.
 #[tactic(auto, unfolding(crate::specs::Lines::line_of))]
-pub fn line_of(alloc: Global, text: &[u8]) -> Result<Option<Line>, NoMemory>
+pub(crate) fn line_of(alloc: Global, text: &[u8]) -> Result<Option<Line>, NoMemory>
     ensures { IfOk result (λ line. line ≡ spec.line_of text.now) }
 {
     if has_nul(text) {

@@ -82,7 +82,7 @@ fn last_in<'a>(
 }
 
 /// The value of the last entry.
-pub fn last_value<'a>(
+pub(crate) fn last_value<'a>(
     sections: &'a [Section],
     name: &[u8],
     sub: Option<&[u8]>,
@@ -149,7 +149,7 @@ fn last_text_in<'a>(
 }
 
 /// The value of the last entry that isn't implicit.
-pub fn last_text<'a>(
+pub(crate) fn last_text<'a>(
     sections: &'a [Section],
     name: &[u8],
     sub: Option<&[u8]>,
@@ -270,7 +270,7 @@ fn collect_in(
 }
 
 /// The values of the entries that aren't implicit, in order.
-pub fn collect(
+pub(crate) fn collect(
     alloc: Global,
     sections: &[Section],
     name: &[u8],
@@ -289,7 +289,7 @@ pub fn collect(
 
 /// The last entry as a truth value.
 #[tactic(auto, unfolding(crate::specs::Lookups::boolean_of))]
-pub fn boolean(
+pub(crate) fn boolean(
     sections: &[Section],
     name: &[u8],
     sub: Option<&[u8]>,
@@ -309,7 +309,7 @@ pub fn boolean(
 
 /// The last entry as a number.
 #[tactic(auto, unfolding(crate::specs::Lookups::integer_of))]
-pub fn integer(
+pub(crate) fn integer(
     sections: &[Section],
     name: &[u8],
     sub: Option<&[u8]>,

@@ -61,7 +61,7 @@ fn negative(number: u64) -> Option<i64>
 
 #[tactic(auto, unfolding(crate::specs::Numbers::integer_in))]
 /// A number: an optional sign, digits, and an optional `k`, `m` or `g`, within 64 bits.
-pub fn integer_in(text: &[u8]) -> Option<i64>
+pub(crate) fn integer_in(text: &[u8]) -> Option<i64>
     ensures { result ≡ spec.integer_in text.now }
 {
     let [first, number @ ..] = text else {
@@ -97,7 +97,7 @@ fn is_no(text: &[u8]) -> bool
 }
 
 /// What an entry says as a truth value. An implicit entry is true.
-pub fn truth_of(value: Option<&[u8]>) -> Option<bool>
+pub(crate) fn truth_of(value: Option<&[u8]>) -> Option<bool>
     ensures { result ≡ spec.truth_of (option_map (λ v. v.now) value.entry) }
 {
     let Some(text) = value else {

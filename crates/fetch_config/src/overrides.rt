@@ -32,7 +32,7 @@ fn text_from(alloc: Global, text: Option<&[u8]>) -> Result<Option<Text>, NoMemor
 
 /// What an override says, lent.
 #[derive(Clone, Copy, Debug)]
-pub struct Override<'a> {
+pub(crate) struct Override<'a> {
     /// The name of the section.
     pub name: &'a [u8],
     /// The subsection, where there is one.
@@ -79,7 +79,7 @@ fn at_path<'a>(path: &'a [u8], value: Option<&'a [u8]>) -> Option<Override<'a>>
 
 /// What an override says. None where it has no section and key.
 #[tactic(auto, unfolding(crate::specs::Overrides::override_of))]
-pub fn override_of(text: &[u8]) -> Option<Override<'_>>
+pub(crate) fn override_of(text: &[u8]) -> Option<Override<'_>>
     ensures { option_map seen.section_of result ≡ spec.override_of text.now }
 {
     let (path, value) = path_and_value(text);
@@ -99,7 +99,7 @@ fn one_entry(
 }
 
 /// The section that an override adds.
-pub fn section_of(alloc: Global, said: Override<'_>) -> Result<Section, NoMemory>
+pub(crate) fn section_of(alloc: Global, said: Override<'_>) -> Result<Section, NoMemory>
     ensures { IfOk result (λ section. section ≡ seen.section_of said.entry) }
 {
     Ok(Section {
@@ -116,14 +116,14 @@ pub fn section_of(alloc: Global, said: Override<'_>) -> Result<Section, NoMemory
 }
 
 /// The place of the first NUL.
-pub fn nul_place(text: &[u8]) -> Option<usize>
+pub(crate) fn nul_place(text: &[u8]) -> Option<usize>
     ensures { result ≡ position kept.is_nul text.now }
 {
     text.iter().position(|c| *c == NUL)
 }
 
 /// The place of the first NUL or line feed.
-pub fn nul_or_feed_place(text: &[u8]) -> Option<usize>
+pub(crate) fn nul_or_feed_place(text: &[u8]) -> Option<usize>
     ensures { result ≡ position kept.is_nul_or_feed text.now }
 {
     text.iter().position(|c| *c == NUL || *c == LF)
@@ -131,7 +131,7 @@ pub fn nul_or_feed_place(text: &[u8]) -> Option<usize>
 
 /// The place of an override's first byte that can't be kept.
 #[tactic(auto, unfolding(crate::specs::Overrides::unkept_place))]
-pub fn unkept_place(text: &[u8]) -> Option<usize>
+pub(crate) fn unkept_place(text: &[u8]) -> Option<usize>
     ensures { result ≡ spec.unkept_place text.now }
 {
     let (path, _) = path_and_value(text);

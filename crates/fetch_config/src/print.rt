@@ -169,7 +169,7 @@ fn push_if_of(out: &mut Vec<u8>, origin: Option<Origin>, section: &Section) -> R
 }
 
 /// The text of the sections of this source, or of all sections.
-pub fn text_of(
+pub(crate) fn text_of(
     alloc: Global,
     sections: &[Section],
     origin: Option<Origin>,

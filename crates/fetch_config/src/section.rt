@@ -51,7 +51,7 @@ fn copy_entries(
 }
 
 /// Adds copies of the sections at the end.
-pub fn push_copies(
+pub(crate) fn push_copies(
     alloc: Global,
     sections: &mut Vec<Section>,
     others: &[Section],
@@ -66,7 +66,7 @@ pub fn push_copies(
 }
 
 /// Adds an entry to a section.
-pub fn push_entry(
+pub(crate) fn push_entry(
     sections: &mut Vec<Section>,
     index: usize,
     key: Text,
@@ -88,7 +88,7 @@ fn keep_others(entries: &mut List<(Text, Option<Text>)>, key: &[u8])
 }
 
 /// Removes the entries of a key from a section.
-pub fn remove_entries(sections: &mut Vec<Section>, index: usize, key: &[u8])
+pub(crate) fn remove_entries(sections: &mut Vec<Section>, index: usize, key: &[u8])
     requires { index < vec_len sections.old }
     ensures { sections.new.items ≡ on_section index (without_key key.now) sections.old.items }
 {

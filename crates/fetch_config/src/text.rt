@@ -6,30 +6,30 @@ ghost use Rattle.std.specs.Str.Lines.{lines, strip_carriage_return};
 ghost use Rattle.fetch_config.specs.Pieces as spec;
 
 /// The byte that ends a line.
-pub const LF: u8 = b'\n';
+pub(crate) const LF: u8 = b'\n';
 
 /// The byte that may stand before it.
-pub const CR: u8 = b'\r';
+pub(crate) const CR: u8 = b'\r';
 
 /// The byte that no text may have.
-pub const NUL: u8 = 0;
+pub(crate) const NUL: u8 = 0;
 
 /// A space or a tab.
-pub fn is_blank(c: u8) -> bool
+pub(crate) fn is_blank(c: u8) -> bool
     ensures { result ≡ spec.is_blank c }
 {
     c == b' ' || c == b'\t'
 }
 
 /// `#` or `;`, which begin a comment.
-pub fn is_comment_sign(c: u8) -> bool
+pub(crate) fn is_comment_sign(c: u8) -> bool
     ensures { result ≡ spec.is_comment_sign c }
 {
     c == b'#' || c == b';'
 }
 
 /// A letter, a digit or a dash.
-pub fn is_name_byte(c: u8) -> bool
+pub(crate) fn is_name_byte(c: u8) -> bool
     ensures { result ≡ spec.is_name_byte c }
 {
     c.is_ascii_alphanumeric() || c == b'-'
@@ -50,21 +50,21 @@ fn blanks_at_end(text: &[u8]) -> usize
 }
 
 /// What follows the blanks at the front.
-pub fn skip_blanks(text: &[u8]) -> &[u8]
+pub(crate) fn skip_blanks(text: &[u8]) -> &[u8]
     ensures { result.now ≡ spec.skip_blanks text.now }
 {
     &text[blanks_at_front(text)..]
 }
 
 /// The text without the blanks at its end.
-pub fn trim_end(text: &[u8]) -> &[u8]
+pub(crate) fn trim_end(text: &[u8]) -> &[u8]
     ensures { result.now ≡ spec.trim_end text.now }
 {
     &text[..text.len() - blanks_at_end(text)]
 }
 
 /// Whether only blanks and a comment stand here.
-pub fn is_nothing(text: &[u8]) -> bool
+pub(crate) fn is_nothing(text: &[u8]) -> bool
     ensures { result ≡ spec.is_nothing text.now }
 {
     match skip_blanks(text) {
@@ -74,7 +74,7 @@ pub fn is_nothing(text: &[u8]) -> bool
 }
 
 /// How many letters, digits and dashes stand at the front.
-pub fn name_len(text: &[u8]) -> usize
+pub(crate) fn name_len(text: &[u8]) -> usize
     ensures len { result ≡ prefix_len spec.is_name_byte text.now }
     ensures within { result ≤ length text.now }
 {
@@ -88,14 +88,14 @@ fn all_name_bytes(text: &[u8]) -> bool
 }
 
 /// Whether this names a section: letters, digits and dashes.
-pub fn is_name(text: &[u8]) -> bool
+pub(crate) fn is_name(text: &[u8]) -> bool
     ensures { result ≡ spec.is_name text.now }
 {
     !text.is_empty() && all_name_bytes(text)
 }
 
 /// Whether this is a key: a letter, and then letters, digits and dashes.
-pub fn is_key(text: &[u8]) -> bool
+pub(crate) fn is_key(text: &[u8]) -> bool
     ensures { result ≡ spec.is_key text.now }
 {
     match text {
@@ -105,7 +105,7 @@ pub fn is_key(text: &[u8]) -> bool
 }
 
 /// What stands after this byte, where it comes first.
-pub fn behind(byte: u8, text: &[u8]) -> Option<&[u8]>
+pub(crate) fn behind(byte: u8, text: &[u8]) -> Option<&[u8]>
     ensures { option_map (λ x. x.now) result ≡ spec.behind byte text.now }
 {
     match text {
@@ -115,7 +115,7 @@ pub fn behind(byte: u8, text: &[u8]) -> Option<&[u8]>
 }
 
 /// Whether both are one name. The case of letters doesn't count.
-pub fn is_same_name(a: &[u8], b: &[u8]) -> bool
+pub(crate) fn is_same_name(a: &[u8], b: &[u8]) -> bool
     ensures { result ≡ spec.is_same_name a.now b.now }
 {
     a.eq_ignore_ascii_case(b)
@@ -138,7 +138,7 @@ fn without_carriage_return(line: &[u8]) -> &[u8]
 }
 
 /// The first line, and what stands after its line feed.
-pub fn first_line(text: &[u8]) -> (&[u8], &[u8])
+pub(crate) fn first_line(text: &[u8]) -> (&[u8], &[u8])
     requires { 0 < length text.now }
     ensures first { lines text.now ≡ result.0.now ∷ lines result.1.now }
     ensures shorter { length result.1.now < length text.now }

@@ -94,7 +94,7 @@ fn comment_place(text: &[u8]) -> usize
 
 /// The value that a text after a `=` says. None where it breaks the grammar.
 #[tactic(auto, unfolding(crate::specs::Values::value_of))]
-pub fn value_of(alloc: Global, text: &[u8]) -> Result<Option<Vec<u8>>, NoMemory>
+pub(crate) fn value_of(alloc: Global, text: &[u8]) -> Result<Option<Vec<u8>>, NoMemory>
     ensures { IfOk result (λ value. option_map (λ v. v.items) value ≡ spec.value_of text.now) }
 {
     let text = &text[..comment_place(text)];
@@ -102,7 +102,7 @@ pub fn value_of(alloc: Global, text: &[u8]) -> Result<Option<Vec<u8>>, NoMemory>
 }
 
 /// A subsection up to its closing quote, and what stands after that. None without a closing quote.
-pub fn subsection_of(alloc: Global, text: &[u8]) -> Result<Option<(Vec<u8>, &[u8])>, NoMemory>
+pub(crate) fn subsection_of(alloc: Global, text: &[u8]) -> Result<Option<(Vec<u8>, &[u8])>, NoMemory>
     ensures { IfOk result (λ found. option_map (λ f. (f.0.items, f.1.now)) found ≡ spec.subsection_of false text.now) }
 {
     let mut name = Vec::new(alloc);

@@ -5,7 +5,7 @@ use Rattle.fetch_store.specs.Stores.{id_cmp}
 use Rattle.fetch_negotiate.specs.declared.common.Common.{Common}
 use Rattle.fetch_negotiate.specs.declared.line.Line.{Line}
 use Rattle.fetch_negotiate.specs.declared.skips.Skips.{Skips}
-use Rattle.fetch_negotiate.specs.declared.walk.Walk.{Walk}
+use Rattle.fetch_negotiate.specs.declared.walk.HaveWalk.{HaveWalk}
 use Rattle.fetch_negotiate.specs.Copies.{IsSameCommon, IsSameLine, IsSameWalk, IsSameSkips}
 use Rattle.fetch_negotiate.specs.Queues.{IsLine, IsLineIn}
 use Rattle.fetch_negotiate.specs.Reading.{Read, read_in}
@@ -26,16 +26,16 @@ line k border a b c d s m h =
     let is : IsLine k border c.commits.items a.tips a.candidates.items a.entered a.queue a.taken.items = rw (m.commits, s.tips, s.candidates, s.entered, s.queue, s.taken) h.1 in
     (told, is)
 
-pub walk : (a b : Walk) → IsSameWalk a b → IsWalk b → IsWalk a
+pub walk : (a b : HaveWalk) → IsSameWalk a b → IsWalk b → IsWalk a
 walk a b s h = record {
   common = rw (s.table, s.border) (common (read_in b.table) b.border a.common b.common s.common h.common);
   line = rw (s.table, s.border) (line (read_in b.table) b.border a.line b.line a.common b.common s.line s.common h.line);
 }
 
-pub so_far : (a b : Walk) → IsSameWalk a b → so_far_in a ≡ so_far_in b
+pub so_far : (a b : HaveWalk) → IsSameWalk a b → so_far_in a ≡ so_far_in b
 so_far a b s = rw (s.line.tips, s.line.candidates, s.border, s.line.taken, s.common.acknowledged)
 
-pub skipping : (a b : Walk) (c d : Skips) → IsSameWalk a b → IsSameSkips c d → IsSkipping b d → IsSkipping a c
+pub skipping : (a b : HaveWalk) (c d : Skips) → IsSameWalk a b → IsSameSkips c d → IsSkipping b d → IsSkipping a c
 skipping a b c d s m h = record {
   walk = walk a b s h.walk;
   paired = record {

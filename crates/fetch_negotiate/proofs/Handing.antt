@@ -12,7 +12,7 @@ use Rattle.fetch_store.specs.Stores.{id_cmp}
 use Rattle.fetch_negotiate.specs.declared.commits.Commit.{Commit}
 use Rattle.fetch_negotiate.specs.declared.skip.Skip.{Skip}
 use Rattle.fetch_negotiate.specs.declared.skips.Skips.{Skips}
-use Rattle.fetch_negotiate.specs.declared.walk.Walk.{Walk}
+use Rattle.fetch_negotiate.specs.declared.walk.HaveWalk.{HaveWalk}
 use Rattle.fetch_negotiate.specs.Ancestors.{links_of}
 use Rattle.fetch_negotiate.specs.Commits.{has, commit_of}
 use Rattle.fetch_negotiate.specs.Haves.{Negotiation, started, taking, acknowledging}
@@ -40,7 +40,7 @@ pairs_push g n id = handing_push g n.border (map (λ tip. (tip, no_skip)) n.tips
 pub told_before : (k l : Read) (g : Graph) → Grows k l → IsTold l g → IsTold k g
 told_before k l g grows told = record { told = λ id found is. told.told id found (grows.stays id found is) }
 
-pub walk_grown : (w : Walk) (t : Table) → Grows (read_in w.table) (read_in t) → IsWalk w → IsWalk (record w { table = t })
+pub walk_grown : (w : HaveWalk) (t : Table) → Grows (read_in w.table) (read_in t) → IsWalk w → IsWalk (record w { table = t })
 walk_grown w t grows walk =
     record {
       common = common_in_grown (read_in w.table) (read_in t) w.border w.common grows walk.common;
@@ -132,7 +132,7 @@ pub covers_nothing : (xs ys : List ObjectId) → xs ≡ [] → Covers xs ys
 covers_nothing xs ys e = record { stays = λ q h. absurd (true≢false (sym h ∙ ap (λ (l : List ObjectId). has l q) e)) }
 
 -- nothing was taken, and more may have been read
-pub still : (w v : Walk) (s t : Skips) → IsSkipping w s → IsWalk v → IsPaired t → Grows (read_in w.table) (read_in v.table) → t.handed.items ≡ s.handed.items → so_far_in v ≡ so_far_in w → IsSkipping v t
+pub still : (w v : HaveWalk) (s t : Skips) → IsSkipping w s → IsWalk v → IsPaired t → Grows (read_in w.table) (read_in v.table) → t.handed.items ≡ s.handed.items → so_far_in v ≡ so_far_in w → IsSkipping v t
 still w v s t was walk paired grows same so_far =
     record {
       walk = walk;

@@ -8,7 +8,7 @@ use Rattle.fetch_store.specs.Graph.{Graph}
 use Rattle.fetch_store.specs.Stores.{id_cmp}
 use Rattle.fetch_negotiate.specs.declared.common.Common.{Common}
 use Rattle.fetch_negotiate.specs.declared.line.Line.{Line}
-use Rattle.fetch_negotiate.specs.declared.walk.Walk.{Walk}
+use Rattle.fetch_negotiate.specs.declared.walk.HaveWalk.{HaveWalk}
 use Rattle.fetch_negotiate.specs.Exact.{IsExact}
 use Rattle.fetch_negotiate.specs.Haves.{Negotiation, next_taken}
 use Rattle.fetch_negotiate.specs.Queues.{IsLine, IsLineIn, IsChosen, IsNone, rank_at}
@@ -37,11 +37,11 @@ line_after k l border commits more x grows covers line =
     let grown = line_in_grown k l border commits x grows line in
     (grown.0, line_covered l border commits more x.tips x.candidates.items x.entered x.queue x.taken.items covers grown.1)
 
-pub so_far_same : (a b : Walk) → b.border ≡ a.border → b.line.tips ≡ a.line.tips → b.line.candidates ≡ a.line.candidates → b.line.taken ≡ a.line.taken → b.common.acknowledged ≡ a.common.acknowledged → so_far_in b ≡ so_far_in a
+pub so_far_same : (a b : HaveWalk) → b.border ≡ a.border → b.line.tips ≡ a.line.tips → b.line.candidates ≡ a.line.candidates → b.line.taken ≡ a.line.taken → b.common.acknowledged ≡ a.common.acknowledged → so_far_in b ≡ so_far_in a
 so_far_same a b border tips candidates taken acknowledged =
     λ i. (let n : Negotiation = record { tips = take (tips i) (candidates i).items; border = border i; taken = (taken i).items; acknowledged = (acknowledged i).items } in n)
 
-pub ready_same : (g : Graph) (a b : Walk) → b.border ≡ a.border → b.common ≡ a.common → b.line.candidates ≡ a.line.candidates → b.line.entered ≡ a.line.entered → IsReady g a → IsReady g b
+pub ready_same : (g : Graph) (a b : HaveWalk) → b.border ≡ a.border → b.common ≡ a.common → b.line.candidates ≡ a.line.candidates → b.line.entered ≡ a.line.entered → IsReady g a → IsReady g b
 ready_same g a b border common candidates entered ready =
     record {
       exact = subst (λ (d : set.FinSet id_cmp). IsExact g d b.common.acknowledged.items b.common.commits.items) (sym border)
@@ -50,11 +50,11 @@ ready_same g a b border common candidates entered ready =
     }
 
 -- a commit of the queue was read
-pub chosen_read : (w : Walk) (id : ObjectId) → IsWalk w → IsChosen (read_in w.table) w.common.commits.items w.line.taken.items w.line.queue id → IsRead w id
+pub chosen_read : (w : HaveWalk) (id : ObjectId) → IsWalk w → IsChosen (read_in w.table) w.common.commits.items w.line.taken.items w.line.queue id → IsRead w id
 chosen_read w id walk chosen = (walk.line.1.queued (rank_at (read_in w.table) id) chosen.waits).stored
 
 -- what was chosen comes next
-pub chosen_next : (g : Graph) (w : Walk) (next : Option ObjectId) → IsTold (read_in w.table) g → IsReady g w → IsWalk w
+pub chosen_next : (g : Graph) (w : HaveWalk) (next : Option ObjectId) → IsTold (read_in w.table) g → IsReady g w → IsWalk w
     → IfSome next (IsChosen (read_in w.table) w.common.commits.items w.line.taken.items w.line.queue) → IfNone next (IsNone w.line.queue) → next ≡ next_taken g (so_far_in w)
 chosen_next g w (Some id) told ready walk chosen none =
     sym (next_is (read_in w.table) g w.border w.common.acknowledged.items w.common.commits.items w.line.tips w.line.candidates.items w.line.entered w.line.queue w.line.taken.items told ready.exact ready.entered walk.line.1 id chosen)

@@ -4,7 +4,7 @@ use Rattle.std.specs.Prelude.{◌&&◌}
 use Rattle.std.specs.BTreeSet.{BTreeSet}
 use Rattle.std.specs.Ordering.{is_gt}
 use Rattle.fetch_store.specs.declared.id.ObjectId.{ObjectId}
-use Rattle.fetch_negotiate.specs.declared.walk.Walk.{Walk}
+use Rattle.fetch_negotiate.specs.declared.walk.HaveWalk.{HaveWalk}
 use Rattle.fetch_negotiate.specs.Commits.{has}
 use Rattle.fetch_negotiate.specs.Queues.{Rank, IsChosen, IsFront, IsQueued, rank_cmp, in_queue}
 use Rattle.fetch_negotiate.specs.Reading.{Read, read_in}
@@ -12,7 +12,7 @@ use Rattle.fetch_negotiate.specs.Walking.{IsWalk}
 use Rattle.fetch_negotiate.proofs.Queueing.{line_dropped}
 use Rattle.fetch_negotiate.proofs.Ranking.{Drops}
 
-pub record IsChoosing (before now : Walk) : Type 0 where
+pub record IsChoosing (before now : HaveWalk) : Type 0 where
   pub walk : IsWalk now
   pub table : now.table ≡ before.table
   pub border : now.border ≡ before.border
@@ -42,7 +42,7 @@ clash : (a b c : Bool) → c ≡ (not a && not b) → c ≡ false → b ≡ fals
 clash a b c is closed fresh other = true≢false (sym (is ∙ ap (λ (x : Bool). not x && not b) other ∙ ap not fresh) ∙ closed)
 
 -- a commit that isn't open leaves the queue
-pub choosing_further : (before now : Walk) (queue : BTreeSet Rank) (r : Rank) (b : Bool) → IsChoosing before now → Drops now.line.queue queue r → b ≡ (not (has now.common.commits.items r.1) && not (has now.line.taken.items r.1)) → b ≡ false
+pub choosing_further : (before now : HaveWalk) (queue : BTreeSet Rank) (r : Rank) (b : Bool) → IsChoosing before now → Drops now.line.queue queue r → b ≡ (not (has now.common.commits.items r.1) && not (has now.line.taken.items r.1)) → b ≡ false
     → IsChoosing before (record now { line = record now.line { queue = queue } })
 choosing_further before now queue r b so_far drops opened closed =
     let w = so_far.walk in

@@ -3,7 +3,7 @@ use Rattle.std.specs.Prelude.{◌≡◌}
 use Rattle.fetch_negotiate.specs.declared.common.Common.{Common}
 use Rattle.fetch_negotiate.specs.declared.line.Line.{Line}
 use Rattle.fetch_negotiate.specs.declared.skips.Skips.{Skips}
-use Rattle.fetch_negotiate.specs.declared.walk.Walk.{Walk}
+use Rattle.fetch_negotiate.specs.declared.walk.HaveWalk.{HaveWalk}
 
 -- Both have the same acknowledged ids, commits and marks.
 pub record IsSameCommon (a b : Common) : Type 0 where
@@ -23,7 +23,7 @@ pub record IsSameLine (a b : Line) : Type 0 where
   pub told : a.told ≡ b.told
 
 -- Both walks have read and marked the same.
-pub record IsSameWalk (a b : Walk) : Type 0 where
+pub record IsSameWalk (a b : HaveWalk) : Type 0 where
   pub border : a.border ≡ b.border
   pub table : a.table.entries ≡ b.table.entries
   pub common : IsSameCommon a.common b.common

@@ -8,7 +8,7 @@ use Rattle.fetch_store.specs.Graph.{Graph}
 use Rattle.fetch_store.specs.Stores.{id_cmp}
 use Rattle.fetch_negotiate.specs.declared.skip.Skip.{Skip}
 use Rattle.fetch_negotiate.specs.declared.skips.Skips.{Skips}
-use Rattle.fetch_negotiate.specs.declared.walk.Walk.{Walk}
+use Rattle.fetch_negotiate.specs.declared.walk.HaveWalk.{HaveWalk}
 use Rattle.fetch_negotiate.specs.Commits.{commit_of}
 use Rattle.fetch_negotiate.specs.Paired.{IsPaired}
 use Rattle.fetch_negotiate.specs.Reading.{Read, IsTold, read_in}
@@ -16,7 +16,7 @@ use Rattle.fetch_negotiate.specs.Skips.{is_offered, has_parents, pairs_of}
 use Rattle.fetch_negotiate.specs.Walking.{IsWalk, so_far_in}
 
 -- The pairs are those that the definition gives, whatever graph tells what was read.
-pub record IsSkipping (w : Walk) (s : Skips) : Type 0 where
+pub record IsSkipping (w : HaveWalk) (s : Skips) : Type 0 where
   pub walk : IsWalk w
   pub paired : IsPaired s
   pub handed : (g : Graph) → IsTold (read_in w.table) g → s.handed.items ≡ pairs_of g (so_far_in w)

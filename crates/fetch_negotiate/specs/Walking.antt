@@ -3,7 +3,7 @@ use Rattle.std.specs.Prelude.{◌≡◌, ◌≤◌, true, length, is_some}
 use Rattle.std.specs.FinMap as map
 use Rattle.fetch_store.specs.declared.id.ObjectId.{ObjectId}
 use Rattle.fetch_store.specs.Graph.{Graph}
-use Rattle.fetch_negotiate.specs.declared.walk.Walk.{Walk}
+use Rattle.fetch_negotiate.specs.declared.walk.HaveWalk.{HaveWalk}
 use Rattle.fetch_negotiate.specs.Commits.{Known}
 use Rattle.fetch_negotiate.specs.Exact.{IsExact}
 use Rattle.fetch_negotiate.specs.Haves.{Negotiation}
@@ -12,12 +12,12 @@ use Rattle.fetch_negotiate.specs.Reading.{Table, read_in, commit_at}
 use Rattle.fetch_negotiate.specs.Sharing.{IsCommonIn}
 
 -- What a walk keeps, of what is shared and of its line.
-pub record IsWalk (w : Walk) : Type 0 where
+pub record IsWalk (w : HaveWalk) : Type 0 where
   pub common : IsCommonIn (read_in w.table) w.border w.common
   pub line : IsLineIn (read_in w.table) w.border w.common.commits.items w.line
 
 -- what a walk has told so far
-abbrev pub so_far_in : Walk → Negotiation
+abbrev pub so_far_in : HaveWalk → Negotiation
 so_far_in w = record { tips = tips_in w.line; border = w.border; taken = w.line.taken.items; acknowledged = w.common.acknowledged.items }
 
 -- what a table knows, as a finite map
@@ -25,10 +25,10 @@ abbrev pub known_in : Table → Known
 known_in t = map.from_entries t.entries
 
 -- What is common is marked, and each candidate went into the queue.
-pub record IsReady (g : Graph) (w : Walk) : Type 0 where
+pub record IsReady (g : Graph) (w : HaveWalk) : Type 0 where
   pub exact : IsExact g w.border w.common.acknowledged.items w.common.commits.items
   pub entered : length w.line.candidates.items ≤ w.line.entered
 
 -- The commit was read.
-abbrev pub IsRead : Walk → ObjectId → Type 0
+abbrev pub IsRead : HaveWalk → ObjectId → Type 0
 IsRead w id = is_some (commit_at (read_in w.table) id) ≡ true

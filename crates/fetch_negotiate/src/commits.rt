@@ -13,7 +13,7 @@ use std::collections::BTreeMap;
 
 /// What a stored commit says of its history.
 #[derive(Debug, Drop)]
-pub struct Commit {
+pub(crate) struct Commit {
     pub(crate) seconds: u64,
     pub(crate) parents: List<ObjectId>,
 }

@@ -193,7 +193,7 @@ fn settle_next<O: Objects>(
 }
 
 /// Marks each acknowledged commit and each ancestor of one.
-pub(crate) fn settle<O: Objects>(
+pub(crate) fn mark_acknowledged<O: Objects>(
     common: &mut Common,
     table: &mut Table,
     border: &Border,

@@ -9,7 +9,7 @@ ghost use Rattle.fetch_negotiate.specs.Kept.{read_by};
 ghost use Rattle.fetch_negotiate.specs.Reading.{IsTold};
 
 use crate::negotiator::Negotiator;
-use crate::walk::{Walk, advance, share};
+use crate::walk::{HaveWalk, advance, share};
 use fetch_store::{Border, NoMemory, ObjectId, Objects};
 use std::alloc::Global;
 use std::marker::Model;
@@ -17,7 +17,7 @@ use std::marker::Model;
 /// Tells each commit that the tips reach, the latest first. Contracts see it as what it read and the negotiation so far.
 #[derive(Debug, Drop)]
 pub struct Consecutive {
-    walk: Walk,
+    walk: HaveWalk,
 }
 
 impl Model for Consecutive {
@@ -41,7 +41,7 @@ impl Consecutive {
         ensures known { IfOk result (λ negotiator. negotiator.known ≡ map.empty) }
     {
         Ok(Consecutive {
-            walk: Walk::new(alloc, tips, border)?,
+            walk: HaveWalk::new(alloc, tips, border)?,
         })
     }
 

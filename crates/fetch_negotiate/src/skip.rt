@@ -5,7 +5,7 @@ ghost use Rattle.fetch_negotiate.specs.Skips as spec;
 
 /// How far it is from a commit that is told to the next one, and how much of that is left.
 #[derive(Clone, Copy, Debug)]
-pub struct Skip {
+pub(crate) struct Skip {
     pub(crate) first: u32,
     pub(crate) left: u32,
 }

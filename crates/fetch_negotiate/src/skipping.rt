@@ -19,7 +19,7 @@ use crate::links::links;
 use crate::negotiator::Negotiator;
 use crate::skip::Skip;
 use crate::skips::{Skips, hand, make_room, pair};
-use crate::walk::{Walk, come_next, share, take};
+use crate::walk::{HaveWalk, come_next, share, take};
 use fetch_store::{Border, NoMemory, ObjectId, Objects};
 use std::alloc::Global;
 use std::marker::Model;
@@ -28,7 +28,7 @@ use std::marker::Model;
 /// far, which has the commits that were passed over too, and the commits offered.
 #[derive(Debug, Drop)]
 pub struct Skipping {
-    walk: Walk,
+    walk: HaveWalk,
     skips: Skips,
     offered: Vec<ObjectId>,
 }
@@ -57,7 +57,7 @@ impl Skipping {
         ensures known { IfOk result (λ negotiator. negotiator.known ≡ map.empty) }
     {
         Ok(Skipping {
-            walk: Walk::new(alloc, tips, border)?,
+            walk: HaveWalk::new(alloc, tips, border)?,
             skips: Skips::new(alloc, tips)?,
             offered: Vec::new(alloc),
         })
@@ -119,7 +119,7 @@ impl Negotiator for Skipping {
 
 /// Takes commits until one is offered or none is left.
 fn skip_on<O: Objects>(
-    walk: &mut Walk,
+    walk: &mut HaveWalk,
     skips: &mut Skips,
     alloc: Global,
     objects: &O,
@@ -143,7 +143,7 @@ fn skip_on<O: Objects>(
 
 /// Takes a commit and hands its pair on, and tells whether it is offered.
 fn pass<O: Objects>(
-    walk: &mut Walk,
+    walk: &mut HaveWalk,
     skips: &mut Skips,
     alloc: Global,
     objects: &O,
@@ -165,7 +165,7 @@ fn pass<O: Objects>(
 }
 
 /// Takes a commit, and hands a pair to its parents.
-fn hand_on(walk: &mut Walk, skips: &mut Skips, id: &ObjectId, skip: Skip) -> Result<(), NoMemory>
+fn hand_on(walk: &mut HaveWalk, skips: &mut Skips, id: &ObjectId, skip: Skip) -> Result<(), NoMemory>
     requires walk { IsWalk walk.old }
     requires paired { IsPaired skips.old }
     requires read { IsRead walk.old id.now }
@@ -185,7 +185,7 @@ fn hand_on(walk: &mut Walk, skips: &mut Skips, id: &ObjectId, skip: Skip) -> Res
 
 /// Whether a commit with this pair is offered.
 fn is_offered<O: Objects>(
-    walk: &mut Walk,
+    walk: &mut HaveWalk,
     alloc: Global,
     objects: &O,
     skip: Skip,
@@ -209,7 +209,7 @@ fn is_offered<O: Objects>(
 
 /// Whether a commit has a stored parent.
 fn has_parents<O: Objects>(
-    walk: &mut Walk,
+    walk: &mut HaveWalk,
     alloc: Global,
     objects: &O,
     id: &ObjectId,

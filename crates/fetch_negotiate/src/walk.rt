@@ -10,7 +10,7 @@ ghost use Rattle.fetch_negotiate.specs.Reading.{Grows, IsTold, read_in};
 ghost use Rattle.fetch_negotiate.specs.Walking.{IsWalk, IsReady, IsRead, so_far_in, known_in};
 
 use crate::commits::{Table, copy_table};
-use crate::common::{Common, acknowledge, settle};
+use crate::common::{Common, acknowledge, mark_acknowledged};
 use crate::line::{Line, enter, front, take_one};
 use fetch_store::{Border, NoMemory, ObjectId, Objects};
 use std::alloc::Global;
@@ -18,21 +18,21 @@ use std::collections::BTreeMap;
 
 /// What was read, what is common, and what may be told next.
 #[derive(Debug, Drop)]
-pub(crate) struct Walk {
+pub(crate) struct HaveWalk {
     pub(crate) border: Border,
     pub(crate) table: Table,
     pub(crate) common: Common,
     pub(crate) line: Line,
 }
 
-impl Walk {
+impl HaveWalk {
     /// A walk from these tips, before its first commit.
-    pub(crate) fn new(alloc: Global, tips: &[ObjectId], border: &Border) -> Result<Walk, NoMemory>
+    pub(crate) fn new(alloc: Global, tips: &[ObjectId], border: &Border) -> Result<HaveWalk, NoMemory>
         ensures walk { IfOk result (λ walk. IsWalk walk) }
         ensures so_far { IfOk result (λ walk. so_far_in walk ≡ started tips.now border.now) }
         ensures known { IfOk result (λ walk. known_in walk.table ≡ map.empty) }
     {
-        Ok(Walk {
+        Ok(HaveWalk {
             border: border.try_clone()?,
             table: BTreeMap::new(alloc),
             common: Common::new(alloc),
@@ -41,10 +41,10 @@ impl Walk {
     }
 
     /// An equal walk.
-    pub(crate) fn try_clone(&self, alloc: Global) -> Result<Walk, NoMemory>
+    pub(crate) fn try_clone(&self, alloc: Global) -> Result<HaveWalk, NoMemory>
         ensures { IfOk result (λ copy. IsSameWalk copy self.now) }
     {
-        Ok(Walk {
+        Ok(HaveWalk {
             border: self.border.try_clone()?,
             table: copy_table(alloc, &self.table)?,
             common: self.common.try_clone()?,
@@ -55,7 +55,7 @@ impl Walk {
 
 /// The commit that comes next, if there is one. It isn't taken yet.
 pub(crate) fn come_next<O: Objects>(
-    walk: &mut Walk,
+    walk: &mut HaveWalk,
     alloc: Global,
     objects: &O,
 ) -> Result<Option<ObjectId>, NoMemory>
@@ -73,7 +73,7 @@ pub(crate) fn come_next<O: Objects>(
 }
 
 /// Takes a commit.
-pub(crate) fn take(walk: &mut Walk, id: &ObjectId) -> Result<(), NoMemory>
+pub(crate) fn take(walk: &mut HaveWalk, id: &ObjectId) -> Result<(), NoMemory>
     requires walk { IsWalk walk.old }
     requires read { IsRead walk.old id.now }
     ensures walk { IsWalk walk.new }
@@ -86,7 +86,7 @@ pub(crate) fn take(walk: &mut Walk, id: &ObjectId) -> Result<(), NoMemory>
 
 /// Takes the commit that comes next, if there is one.
 pub(crate) fn advance<O: Objects>(
-    walk: &mut Walk,
+    walk: &mut HaveWalk,
     alloc: Global,
     objects: &O,
 ) -> Result<Option<ObjectId>, NoMemory>
@@ -108,7 +108,7 @@ pub(crate) fn advance<O: Objects>(
 }
 
 /// Takes in an id that the other side has.
-pub(crate) fn share(walk: &mut Walk, id: &ObjectId) -> Result<(), NoMemory>
+pub(crate) fn share(walk: &mut HaveWalk, id: &ObjectId) -> Result<(), NoMemory>
     requires walk { IsWalk walk.old }
     ensures walk { IsWalk walk.new }
     ensures table { walk.new.table ≡ walk.old.table }
@@ -119,7 +119,7 @@ pub(crate) fn share(walk: &mut Walk, id: &ObjectId) -> Result<(), NoMemory>
 }
 
 /// Marks what is common, and puts each candidate into the queue.
-fn prepare<O: Objects>(walk: &mut Walk, alloc: Global, objects: &O) -> Result<(), NoMemory>
+fn prepare<O: Objects>(walk: &mut HaveWalk, alloc: Global, objects: &O) -> Result<(), NoMemory>
     requires walk { IsWalk walk.old }
     requires told { IsTold (read_in walk.old.table) (O.graph objects.now) }
     ensures walk { IsWalk walk.new }
@@ -128,7 +128,7 @@ fn prepare<O: Objects>(walk: &mut Walk, alloc: Global, objects: &O) -> Result<()
     ensures so_far { so_far_in walk.new ≡ so_far_in walk.old }
     ensures ready { OnOk result (IsReady (O.graph objects.now) walk.new) }
 {
-    settle(
+    mark_acknowledged(
         &mut walk.common,
         &mut walk.table,
         &walk.border,
@@ -146,7 +146,7 @@ fn prepare<O: Objects>(walk: &mut Walk, alloc: Global, objects: &O) -> Result<()
 }
 
 /// The commit of the queue that comes first of those that are neither taken nor common. What comes before it leaves.
-fn choose(walk: &mut Walk) -> Option<ObjectId>
+fn choose(walk: &mut HaveWalk) -> Option<ObjectId>
     requires { IsWalk walk.old }
     ensures walk { IsWalk walk.new }
     ensures table { walk.new.table ≡ walk.old.table }
@@ -171,7 +171,7 @@ fn choose(walk: &mut Walk) -> Option<ObjectId>
 }
 
 /// Whether a commit is neither common nor taken.
-fn is_open(walk: &Walk, id: &ObjectId) -> bool
+fn is_open(walk: &HaveWalk, id: &ObjectId) -> bool
     requires { IsWalk walk.now }
     ensures { result ≡ (not (has walk.now.common.commits.items id.now) && not (has walk.now.line.taken.items id.now)) }
 {

@@ -53,7 +53,7 @@ impl Pack {
 
 /// A pack whose structure is right.
 #[derive(Clone, Copy)]
-pub struct Framed<'a> {
+pub(crate) struct Framed<'a> {
     version: PackVersion,
     count: u32,
     records: &'a [u8],

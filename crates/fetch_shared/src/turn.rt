@@ -8,7 +8,7 @@ use std::alloc::Global;
 use std::marker::{Brand, PhantomData};
 
 /// One seat at a time has the turn.
-pub struct OneTurn;
+pub(crate) struct OneTurn;
 
 impl TableRule<Option<SharedState>, View, Opening<Repository>> for OneTurn {
     ghost use Rattle.fetch_shared.specs.Turns.{IsOrdered, newcomer};
@@ -19,13 +19,13 @@ impl TableRule<Option<SharedState>, View, Opening<Repository>> for OneTurn {
 }
 
 /// The table at which the passes of one shared repository sit: two words and the state.
-pub type Desk = Table<Option<SharedState>, View, Opening<Repository>, OneTurn, Global>;
+pub(crate) type Desk = Table<Option<SharedState>, View, Opening<Repository>, OneTurn, Global>;
 
 /// The seat of one pass.
-pub type Place = Seat<Option<SharedState>, View>;
+pub(crate) type Place = Seat<Option<SharedState>, View>;
 
 /// A try to get the turn.
-pub struct Try;
+pub(crate) struct Try;
 
 impl Play<Option<SharedState>, View> for Try {
     ghost use Rattle.fetch_shared.specs.Turns.{Tries};
@@ -34,7 +34,7 @@ impl Play<Option<SharedState>, View> for Try {
 }
 
 /// The holder of the turn reads how many entries there are, and has then seen the whole journal.
-pub struct Load;
+pub(crate) struct Load;
 
 impl Play<Option<SharedState>, View> for Load {
     ghost use Rattle.fetch_shared.specs.Turns.{Loads};
@@ -43,7 +43,7 @@ impl Play<Option<SharedState>, View> for Load {
 }
 
 /// The holder of the turn records that the journal has its entry.
-pub struct Record;
+pub(crate) struct Record;
 
 impl Play<Option<SharedState>, View> for Record {
     ghost use Rattle.fetch_shared.specs.Turns.{Records};
@@ -52,7 +52,7 @@ impl Play<Option<SharedState>, View> for Record {
 }
 
 /// The holder gives the turn back, and the state with it.
-pub struct Release;
+pub(crate) struct Release;
 
 impl Play<Option<SharedState>, View> for Release {
     ghost use Rattle.fetch_shared.specs.Turns.{Releases};
@@ -61,7 +61,7 @@ impl Play<Option<SharedState>, View> for Release {
 }
 
 /// A look at the turn word, which tells a pass that its numbers are its own.
-pub struct Learn;
+pub(crate) struct Learn;
 
 impl Play<Option<SharedState>, View> for Learn {
     ghost use Rattle.fetch_shared.specs.Turns.{Learns};
@@ -70,7 +70,7 @@ impl Play<Option<SharedState>, View> for Learn {
 }
 
 /// A look after a join: the pass keeps the longer of both fronts.
-pub struct Settle;
+pub(crate) struct Settle;
 
 impl Play<Option<SharedState>, View> for Settle {
     ghost use Rattle.fetch_shared.specs.Turns.{Settles};
@@ -79,7 +79,7 @@ impl Play<Option<SharedState>, View> for Settle {
 }
 
 /// How many numbers go to the right at a split. Each call picks it.
-pub trait Share {
+pub(crate) trait Share {
     ghost use Rattle.std.specs.Prelude.{ℕ};
 
     ghost numbers: { ℕ };
@@ -90,7 +90,7 @@ impl Share for Brand {
 }
 
 /// A split: the right part gets the least unused numbers, as many as `C` says, the first as its own.
-pub struct Cut<C> {
+pub(crate) struct Cut<C> {
     share: PhantomData<C>,
 }
 
@@ -103,7 +103,7 @@ impl<C: Share> Split<View> for Cut<C> {
 }
 
 /// A join: the left pass takes in what the other one holds.
-pub struct Glue;
+pub(crate) struct Glue;
 
 impl Join<View> for Glue {
     ghost use Rattle.fetch_shared.specs.Turns.{both_parts, spent};

@@ -14,7 +14,7 @@ pub struct Span {
 }
 
 /// What a seat at the table is at.
-pub enum Stage {
+pub(crate) enum Stage {
     /// It hasn't the turn.
     Resting,
     /// It has the turn, and keeps the journal.
@@ -26,7 +26,7 @@ pub enum Stage {
 }
 
 /// What a seat at the table knows.
-pub struct View {
+pub(crate) struct View {
     /// What the shared repository opened as.
     pub opening: Repository,
     /// The number under which it enters into the journal.

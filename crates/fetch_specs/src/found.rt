@@ -62,7 +62,7 @@ impl Match {
 
 /// The matches so far, and the keys by which a repeated one is known.
 #[derive(Drop)]
-pub struct Found {
+pub(crate) struct Found {
     alloc: Global,
     pairs: bool,
     matches: Vec<Match>,

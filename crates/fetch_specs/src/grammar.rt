@@ -73,7 +73,7 @@ fn next_start(start: usize, i: usize, byte: u8) -> usize
 }
 
 /// The place of a text that is no name. A pattern may have stars.
-pub fn name_trouble(star: bool, text: &[u8]) -> Option<usize>
+pub(crate) fn name_trouble(star: bool, text: &[u8]) -> Option<usize>
     ensures place { result ≡ spec.name_trouble star text.now }
     ensures within { IfSome result (λ place. place ≤ length text.now) }
 {
@@ -123,7 +123,7 @@ fn capitals_at_front(text: &[u8]) -> usize
 }
 
 /// The place of a text that is no full name.
-pub fn full_name_trouble(text: &[u8]) -> Option<usize>
+pub(crate) fn full_name_trouble(text: &[u8]) -> Option<usize>
     ensures { result ≡ spec.full_name_trouble text.now }
 {
     if text.starts_with(b"refs/") {

@@ -178,7 +178,7 @@ fn add_sources_of(
 }
 
 /// Adds the matches of these items by their sources: refspec by refspec, and item by item in each.
-pub fn add_sources(
+pub(crate) fn add_sources(
     alloc: Global,
     found: &mut Found,
     specs: &[RefSpec],

@@ -114,7 +114,7 @@ fn source_id(source: Option<&[u8]>) -> Option<ObjectId>
 }
 
 /// Whether the refspec leaves names out.
-pub fn is_exclusion(spec: &RefSpec) -> bool
+pub(crate) fn is_exclusion(spec: &RefSpec) -> bool
     ensures { result ≡ words.is_exclusion spec.now.mode }
 {
     spec.is_exclusion()
@@ -127,7 +127,7 @@ fn excludes(name: &[u8], spec: &RefSpec) -> bool
 }
 
 /// Whether an exclusion among these refspecs leaves the name out.
-pub fn is_excluded(specs: &[RefSpec], name: &[u8]) -> bool
+pub(crate) fn is_excluded(specs: &[RefSpec], name: &[u8]) -> bool
     ensures { result ≡ words.is_excluded specs.now name.now }
 {
     for spec in specs {

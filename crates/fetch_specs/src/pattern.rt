@@ -10,21 +10,21 @@ use fetch_store::NoMemory;
 use std::alloc::Global;
 
 /// Whether the text is a pattern.
-pub fn has_star(text: &[u8]) -> bool
+pub(crate) fn has_star(text: &[u8]) -> bool
     ensures { result ≡ spec.has_star text.now }
 {
     text.contains(&b'*')
 }
 
 /// What stands before a pattern's star, or the whole where it has none.
-pub fn front_of(pattern: &[u8]) -> &[u8]
+pub(crate) fn front_of(pattern: &[u8]) -> &[u8]
     ensures { result.now ≡ spec.front_of pattern.now }
 {
     &pattern[..star_or_end(pattern)]
 }
 
 /// What stands after a pattern's star.
-pub fn back_of(pattern: &[u8]) -> &[u8]
+pub(crate) fn back_of(pattern: &[u8]) -> &[u8]
     ensures { result.now ≡ spec.back_of pattern.now }
 {
     let star = star_or_end(pattern);
@@ -43,7 +43,7 @@ fn star_or_end(pattern: &[u8]) -> usize
 }
 
 /// What stands between a prefix and a suffix in a name that has both.
-pub fn between<'a>(front: &[u8], back: &[u8], name: &'a [u8]) -> Option<&'a [u8]>
+pub(crate) fn between<'a>(front: &[u8], back: &[u8], name: &'a [u8]) -> Option<&'a [u8]>
     ensures { option_copied result ≡ spec.between front.now back.now name.now }
 {
     if front.len() > name.len() || back.len() > name.len() - front.len() {
@@ -99,14 +99,14 @@ fn is_expansion(source: &[u8], name: &[u8]) -> bool
 }
 
 /// An empty text where it holds, and None where it does not.
-pub fn where_true(holds: bool) -> Option<&'static [u8]>
+pub(crate) fn where_true(holds: bool) -> Option<&'static [u8]>
     ensures { option_copied result ≡ spec.where_true holds }
 {
     if holds { Some(b"") } else { None }
 }
 
 /// Where a source matches a name, what its star stands for: nothing, where it has none.
-pub fn taken<'a>(source: &[u8], name: &'a [u8]) -> Option<&'a [u8]>
+pub(crate) fn taken<'a>(source: &[u8], name: &'a [u8]) -> Option<&'a [u8]>
     ensures { option_copied result ≡ spec.taken source.now name.now }
 {
     if has_star(source) {
@@ -134,7 +134,7 @@ fn missing_front(text: &[u8]) -> &'static [u8]
 }
 
 /// Whether a text is this name when it is completed.
-pub fn is_completed(text: &[u8], name: &[u8]) -> bool
+pub(crate) fn is_completed(text: &[u8], name: &[u8]) -> bool
     ensures { result ≡ bytes_eq (spec.completed text.now) name.now }
 {
     is_joined(missing_front(text), text, name)
@@ -150,7 +150,7 @@ fn completed(alloc: Global, text: &[u8]) -> Result<Vec<u8>, NoMemory>
 }
 
 /// A pattern with its star replaced.
-pub fn with_middle(alloc: Global, pattern: &[u8], middle: &[u8]) -> Result<Vec<u8>, NoMemory>
+pub(crate) fn with_middle(alloc: Global, pattern: &[u8], middle: &[u8]) -> Result<Vec<u8>, NoMemory>
     ensures { IfOk result (λ text. text.items ≡ spec.with_middle pattern.now middle.now) }
 {
     if has_star(pattern) {
@@ -164,7 +164,7 @@ pub fn with_middle(alloc: Global, pattern: &[u8], middle: &[u8]) -> Result<Vec<u
 }
 
 /// A destination with its star replaced, in full.
-pub fn expanded(alloc: Global, middle: &[u8], destination: &[u8]) -> Result<Vec<u8>, NoMemory>
+pub(crate) fn expanded(alloc: Global, middle: &[u8], destination: &[u8]) -> Result<Vec<u8>, NoMemory>
     ensures { IfOk result (λ text. text.items ≡ spec.expanded middle.now destination.now) }
 {
     let text = with_middle(alloc, destination, middle)?;

@@ -14,7 +14,7 @@ use fetch_store::{Kind, ObjectId};
 
 /// The sides of a refspec, lent from its text.
 #[derive(Clone, Copy, Debug)]
-pub struct Parts<'a> {
+pub(crate) struct Parts<'a> {
     /// What the refspec is for.
     pub operation: Operation,
     /// How it applies.
@@ -27,7 +27,7 @@ pub struct Parts<'a> {
 
 /// What a text says.
 #[tactic(auto, unfolding(crate::specs::Parses::parsed))]
-pub fn parts_of(operation: Operation, text: &[u8]) -> Result<Parts<'_>, SpecError>
+pub(crate) fn parts_of(operation: Operation, text: &[u8]) -> Result<Parts<'_>, SpecError>
     ensures { parts_seen result ≡ parsed operation text.now }
 {
     if is_blank(operation, text) {
@@ -200,7 +200,7 @@ fn destination_trouble(destination: Option<&[u8]>) -> Option<usize>
 
 /// The id that 40 or 64 hex digits spell.
 #[tactic(auto, unfolding(crate::specs::Parses::id_named))]
-pub fn id_named(text: &[u8]) -> Option<ObjectId>
+pub(crate) fn id_named(text: &[u8]) -> Option<ObjectId>
     ensures { result ≡ spec.id_named text.now }
 {
     match ObjectId::in_hex(Kind::Sha1, text) {

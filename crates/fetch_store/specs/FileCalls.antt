@@ -5,10 +5,10 @@ use Rattle.fetch_store.specs.Trees.{Tree}
 use Rattle.fetch_store.specs.declared.file_error.FileError.{FileError}
 use Rattle.fetch_store.specs.declared.file_error.FileError.TheVariants as errors
 
--- A call that asks: at Ok the tree answers so, and stays. After an error some tree is told still.
+-- A call that asks: the tree stays, and at Ok it answers so.
 abbrev pub Asks : {X Y E : Type 0} → (X → Y) → Option Tree → Option Tree → (Tree → Option Y) → Result X E → Type 0
 Asks view before now asked (Ok value) = (now ≡ before) × IfSome before (λ t. asked t ≡ Some (view value))
-Asks view before now asked (Err e) = is_some now ≡ is_some before
+Asks view before now asked (Err e) = now ≡ before
 
 -- A call that changes the tree: at Ok it is the tree that the call makes of it. After an error some tree is told still.
 abbrev pub Changes : {X E : Type 0} → Option Tree → Option Tree → (Tree → Option Tree) → Result X E → Type 0

@@ -16,7 +16,7 @@ use crate::object::{Object, ObjectRef};
 use crate::span::Span;
 
 /// The object of a span.
-pub fn lend<'a>(hash: Kind, buffer: &'a [u8], span: &Span) -> ObjectRef<'a>
+pub(crate) fn lend<'a>(hash: Kind, buffer: &'a [u8], span: &Span) -> ObjectRef<'a>
     requires { span.now.start + span.now.length ≤ length buffer.now }
     ensures { seen result ≡ lent hash buffer.now span.now }
 {
@@ -25,7 +25,7 @@ pub fn lend<'a>(hash: Kind, buffer: &'a [u8], span: &Span) -> ObjectRef<'a>
 }
 
 /// How many bytes the objects have. `NoMemory` where a `usize` can't count them: there is no memory for them either.
-pub fn payload_len(objects: &[(ObjectId, Object)]) -> Result<usize, NoMemory>
+pub(crate) fn payload_len(objects: &[(ObjectId, Object)]) -> Result<usize, NoMemory>
     ensures { IfOk result (λ n. n ≡ spec.payload_len objects.now) }
 {
     let mut total: usize = 0;
@@ -83,7 +83,7 @@ fn append_new(
 }
 
 /// Adds the objects whose ids are new to an index over a buffer. The list of spans is a place to sort them.
-pub fn add_new(
+pub(crate) fn add_new(
     index: &mut Vec<(ObjectId, Span)>,
     buffer: &mut Vec<u8>,
     fresh: &mut Vec<(ObjectId, Span)>,

@@ -12,7 +12,7 @@ use crate::id::ObjectId;
 use std::sync::ledger::Ledger;
 
 /// The value at an id.
-pub fn find_in_order<'a, X>(entries: &'a [(ObjectId, X)], id: &ObjectId) -> Option<&'a X>
+pub(crate) fn find_in_order<'a, X>(entries: &'a [(ObjectId, X)], id: &ObjectId) -> Option<&'a X>
     requires { IsInOrder entries.now }
     ensures { option_copied result ≡ map.find id_cmp id.now entries.now }
 {
@@ -23,7 +23,7 @@ pub fn find_in_order<'a, X>(entries: &'a [(ObjectId, X)], id: &ObjectId) -> Opti
 }
 
 /// The value at an id. A step is a comparison with the id of an entry.
-pub fn find_counted<'a, X, L: Ledger>(
+pub(crate) fn find_counted<'a, X, L: Ledger>(
     entries: &'a [(ObjectId, X)],
     id: &ObjectId,
     steps: &mut Steps<L>,
@@ -52,7 +52,7 @@ pub fn find_counted<'a, X, L: Ledger>(
 }
 
 /// Puts the entries into the order of their ids, and keeps one of each id.
-pub fn arrange<X: Drop>(entries: &mut Vec<(ObjectId, X)>)
+pub(crate) fn arrange<X: Drop>(entries: &mut Vec<(ObjectId, X)>)
     ensures in_order { IsInOrder entries.new.items }
     ensures known { (q : ObjectId) → is_some (map.find id_cmp q entries.new.items) ≡ is_some (map.find id_cmp q entries.old.items) }
     ensures kept { (e : ObjectId × X) → Contains entries.new.items e → Contains entries.old.items e }
@@ -65,7 +65,7 @@ pub fn arrange<X: Drop>(entries: &mut Vec<(ObjectId, X)>)
 
 /// Merges entries of new ids into those that stand in order, from the back: what stands before the new ids stays where
 /// it is.
-pub fn merge<X: Copy>(entries: &mut Vec<(ObjectId, X)>, fresh: &mut Vec<(ObjectId, X)>)
+pub(crate) fn merge<X: Copy>(entries: &mut Vec<(ObjectId, X)>, fresh: &mut Vec<(ObjectId, X)>)
     requires in_order { IsInOrder entries.old.items }
     requires fresh_in_order { IsInOrder fresh.old.items }
     requires new_ids { All (λ e. map.find id_cmp e.0 entries.old.items ≡ None) fresh.old.items }

@@ -15,7 +15,8 @@ use crate::text::Text;
 ///
 /// Where the files tell their tree, each call tells at Ok what the tree has or what becomes of it. A call answers
 /// `Failed` and counts a fault where something of the wrong kind is in its way, where it asks for something that isn't
-/// there, and, if `may_fail` says so, at any time. After an error a tree that was told is told still.
+/// there, and, if `may_fail` says so, at any time. A question leaves the tree as it is, also where it is refused; after
+/// another call that was refused a tree that was told is told still.
 pub trait Files {
     ghost faults: { Self → Faults };
 

@@ -21,7 +21,7 @@ use std::marker::Model;
 
 /// What an object says of its history.
 #[derive(Debug, Drop)]
-pub struct History {
+pub(crate) struct History {
     /// What kind of object it is.
     pub kind: ObjectKind,
     /// Of a commit its parents, in order; of another object none.

@@ -105,7 +105,7 @@ fn parent_at(object: &ObjectRef<'_>, index: usize) -> Option<ObjectId>
 }
 
 /// Of a tag what it is of, and of another object nothing.
-pub fn target(object: &ObjectRef<'_>) -> Option<ObjectId>
+pub(crate) fn target(object: &ObjectRef<'_>) -> Option<ObjectId>
     ensures { result ≡ target_of (seen object.now) }
 {
     match object.kind() {

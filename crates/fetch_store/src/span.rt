@@ -4,7 +4,7 @@ use crate::object_kind::ObjectKind;
 
 /// An object's kind, and its bytes' place in a buffer.
 #[derive(Clone, Copy, Debug)]
-pub struct Span {
+pub(crate) struct Span {
     /// What kind of object it is.
     pub kind: ObjectKind,
     /// The index of the first byte.

@@ -29,7 +29,7 @@ ghost use Rattle.fetch_update.specs.declared.verdict.Verdict.{Verdict};
 pub use crate::dated::is_dated_ancestor;
 use crate::judge::Judge;
 use crate::message::RefLogMessage;
-use crate::settling::settle;
+use crate::settling::settled_outcome;
 use crate::trees::index_of;
 use crate::update::{Error, Outcome};
 use crate::verdicts::verdicts;
@@ -69,7 +69,7 @@ pub fn update<O: Objects>(
         directories: &directories,
     };
     let verdicts = verdicts(&judge, objects, mappings, refspecs, extra_refspecs)?;
-    Ok(settle(alloc, refs, verdicts)?)
+    Ok(settled_outcome(alloc, refs, verdicts)?)
 }
 
 /// The test for a dated path answers true exactly where there is one.

@@ -18,7 +18,7 @@ use fetch_store::{List, NoMemory, Text};
 use std::alloc::Global;
 use std::collections::BTreeSet;
 
-pub(crate) fn settle(
+pub(crate) fn settled_outcome(
     alloc: Global,
     refs: &Refs,
     verdicts: Vec<(usize, Verdict)>,

@@ -12,7 +12,7 @@ use std::sync::ledger::Ledger;
 
 /// The ids seen, and the commits whose parents are still to be read.
 #[derive(Drop)]
-pub struct Walk {
+pub(crate) struct Walk {
     limit: u64,
     seen: BTreeSet<ObjectId>,
     waiting: BinaryHeap<(u64, ObjectId)>,

@@ -12,7 +12,7 @@ ghost use Rattle.fetch_wire.specs.declared.replies.reading.Advertised.TheVariant
 use crate::greetings::greeting::{hash_of, known_capability};
 use crate::greetings::handshake::{Capability, Handshake, Version};
 use crate::lines::words::next_word;
-use crate::listings::listing::{Listed, make_ref};
+use crate::listings::listing::{PartialListing, make_ref};
 use crate::listings::reference::Ref;
 use crate::replies::awaited::Told;
 use crate::replies::fetch_reply::shallow;
@@ -140,7 +140,7 @@ fn is_null(id: &ObjectId) -> bool
 fn add_named(
     alloc: Global,
     handshake: &Handshake,
-    listed: &mut Listed,
+    listed: &mut PartialListing,
     id: ObjectId,
     name: &[u8],
 ) -> Result<bool, NoMemory>
@@ -203,7 +203,7 @@ pub(crate) fn peeled_to(id: ObjectId, reference: Ref) -> Ref
 fn read_name(
     alloc: Global,
     handshake: Handshake,
-    before: Listed,
+    before: PartialListing,
     allowed: Advertised,
     id: ObjectId,
     name: &[u8],
@@ -244,7 +244,7 @@ fn read_if(found: Option<Reading>) -> Read
 fn read_reference(
     alloc: Global,
     handshake: Handshake,
-    before: Listed,
+    before: PartialListing,
     allowed: Advertised,
     text: &[u8],
 ) -> Result<Read, NoMemory>
@@ -264,7 +264,7 @@ fn read_reference(
 pub(crate) fn read_advertised(
     alloc: Global,
     handshake: Handshake,
-    before: Listed,
+    before: PartialListing,
     allowed: Advertised,
     saying: Saying<'_>,
 ) -> Result<Read, NoMemory>
@@ -290,7 +290,7 @@ fn first_named(
 ) -> Result<Option<Reading>, NoMemory>
     ensures { IfOk result (λ found. found ≡ first_named handshake (id, name.now)) }
 {
-    let listed = Listed::new(alloc);
+    let listed = PartialListing::new(alloc);
     if !is_no_name(name) {
         return read_name(alloc, handshake, listed, Advertised::Peeled, id, name);
     }

@@ -11,7 +11,7 @@ ghost use Rattle.fetch_wire.specs.declared.replies.awaited.Told.TheVariants as t
 use crate::greetings::advertisement::first_reference;
 use crate::greetings::greeting::{hash_of, known_capability, says_version_2};
 use crate::greetings::handshake::{Capability, Handshake, Version};
-use crate::listings::listing::{Listed, add_text};
+use crate::listings::listing::{PartialListing, add_text};
 use crate::replies::awaited::Told;
 use crate::replies::reading::{Read, Reading};
 use crate::replies::saying::Saying;
@@ -92,7 +92,7 @@ pub(crate) fn read_capability(
 }
 
 /// Adds the reference that a text lists.
-fn add_listed(alloc: Global, kind: Kind, before: Listed, text: &[u8]) -> Result<Read, NoMemory>
+fn add_listed(alloc: Global, kind: Kind, before: PartialListing, text: &[u8]) -> Result<Read, NoMemory>
     ensures { IfOk result (λ read. step_in read ≡ at_listed kind before text.now) }
 {
     let mut listed = before;
@@ -107,7 +107,7 @@ fn add_listed(alloc: Global, kind: Kind, before: Listed, text: &[u8]) -> Result<
 pub(crate) fn read_listed(
     alloc: Global,
     kind: Kind,
-    before: Listed,
+    before: PartialListing,
     saying: Saying<'_>,
 ) -> Result<Read, NoMemory>
     ensures { IfOk result (λ read. step_in read ≡ by_saying (ends (told.Listing before)) breaks (at_listed kind before) saying.entry) }

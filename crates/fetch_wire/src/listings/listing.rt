@@ -166,12 +166,12 @@ fn is_new(is_new_digest: bool, before: &[Ref], reference: &Ref) -> bool
 /// The references listed so far, and digests of their names, by which a repeated one is known: the bytes of a name are
 /// stored once.
 #[derive(Drop)]
-pub(crate) struct Listed {
+pub(crate) struct PartialListing {
     refs: Vec<Ref>,
     digests: BTreeSet<ObjectId>,
 }
 
-impl Model for Listed {
+impl Model for PartialListing {
     ghost use Rattle.std.specs.Prelude.{List};
     ghost use Rattle.fetch_wire.specs.Listings.{HasDigests};
     ghost use Rattle.fetch_wire.specs.declared.listings.reference.Ref.{Ref};
@@ -183,12 +183,12 @@ impl Model for Listed {
     ghost invariant = { λ listed. HasDigests listed.refs.items listed.digests };
 }
 
-impl Listed {
+impl PartialListing {
     /// No reference.
-    pub(crate) fn new(alloc: Global) -> Listed
+    pub(crate) fn new(alloc: Global) -> PartialListing
         ensures { result ≡ [] }
     {
-        Listed {
+        PartialListing {
             refs: Vec::new(alloc),
             digests: BTreeSet::new(alloc),
         }
@@ -220,11 +220,11 @@ impl Listed {
     }
 
     /// An equal listing.
-    pub(crate) fn try_clone(&self) -> Result<Listed, NoMemory>
+    pub(crate) fn try_clone(&self) -> Result<PartialListing, NoMemory>
         ensures { IfOk result (λ copy. copy ≡ self.now) }
     {
         let alloc = *self.refs.allocator();
-        Ok(Listed {
+        Ok(PartialListing {
             refs: copy_slice(alloc, self.refs.as_slice())?.into_vec(),
             digests: self.digests.clone()?,
         })
@@ -261,7 +261,7 @@ fn push_if(is_new: bool, refs: &mut Vec<Ref>, reference: Ref)
 pub(crate) fn add_text(
     alloc: Global,
     kind: Kind,
-    listed: &mut Listed,
+    listed: &mut PartialListing,
     text: &[u8],
 ) -> Result<bool, NoMemory>
     ensures { IfOk result (λ is_new. (if is_new then Some listed.new else None) ≡ option_map (λ reference. listed.old ++ reference ∷ []) (option_and_then (if_new listed.old) (ref_in kind text.now))) }

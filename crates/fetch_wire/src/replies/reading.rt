@@ -10,7 +10,7 @@ use crate::greetings::advertisement::{read_advertised, read_first};
 use crate::greetings::handshake::{Capability, Handshake};
 use crate::greetings::opening::{read_capability, read_greeting, read_listed};
 use crate::lines::line::LineRef;
-use crate::listings::listing::Listed;
+use crate::listings::listing::PartialListing;
 use crate::replies::awaited::{AskedReply, Await, Told};
 use crate::replies::fetch_reply::read_reply;
 use crate::replies::saying::said_by;
@@ -58,9 +58,9 @@ pub(crate) enum Reading {
     /// `version 1`.
     Version,
     /// Version 1, these references, and what may come next.
-    Advertisement(Handshake, Listed, Advertised),
+    Advertisement(Handshake, PartialListing, Advertised),
     /// These references, with ids of this kind.
-    Listing(Kind, Listed),
+    Listing(Kind, PartialListing),
     /// This much of a reply to a fetch request, and what may come next.
     Reply(AskedReply, Part, FetchReply),
 }
@@ -94,7 +94,7 @@ impl Reading {
     {
         match awaited {
             Await::Greeting => Reading::Greeting,
-            Await::Listing(kind) => Reading::Listing(kind, Listed::new(alloc)),
+            Await::Listing(kind) => Reading::Listing(kind, PartialListing::new(alloc)),
             Await::Reply(asked) => Reading::Reply(asked, Part::Beginning, FetchReply::new(alloc)),
         }
     }

@@ -63,7 +63,7 @@ pub fn agent_text(alloc: Global, agent: &[u8]) -> Result<Text, NoMemory>
 }
 
 /// The text line of a word and what follows it.
-pub fn text_line(alloc: Global, word: &[u8], value: &[u8]) -> Result<Line, NoMemory>
+pub(crate) fn text_line(alloc: Global, word: &[u8], value: &[u8]) -> Result<Line, NoMemory>
     ensures { IfOk result (λ line. line ≡ text_line (word.now ++ value.now)) }
 {
     let mut text = Vec::from_slice(alloc, word)?;

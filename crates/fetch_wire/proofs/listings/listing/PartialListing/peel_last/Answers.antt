@@ -2,7 +2,7 @@ use Rattle.std.proofs.Common.{ℕ, List, [], ◌∷◌, ◌++◌, ◌∙◌, ap}
 use Rattle.std.specs.Str.{bytes_eq}
 use Rattle.fetch_wire.specs.declared.listings.reference.Ref.{Ref}
 use Rattle.fetch_wire.proofs.Peeling.{peeled_last}
-use Rattle.fetch_wire.proofs.listings.listing.Listed.peel_last.Goals as goal
+use Rattle.fetch_wire.proofs.listings.listing.PartialListing.peel_last.Goals as goal
 
 pub returns : goal.returns
 returns c =

@@ -1,7 +1,7 @@
 use Rattle.std.proofs.Common.{◌-◌, ◌^◌, length, ◌≤◌}
 use Rattle.fetch_negotiate.specs.Reading.{read_in}
 use Rattle.fetch_negotiate.proofs.Commons.{IsSettling}
-use Rattle.fetch_negotiate.proofs.common.settle.Given as goal
+use Rattle.fetch_negotiate.proofs.common.mark_acknowledged.Given as goal
 
 abbrev pub invariant-acknowledged : goal.invariant-acknowledged
 invariant-acknowledged g l = IsSettling (read_in l.fn.table) (read_in l.table) l.border l.fn.common l.common (g.O.Objects.graph l.objects)

@@ -1,7 +1,7 @@
 use Rattle.std.proofs.Common.{ap, ◌∙◌, subst, IfOk, ◌≡◌}
 use Rattle.fetch_update.specs.Outcomes.{Verdicts, edits_of, outcome_in}
 use Rattle.fetch_update.proofs.Lists.{is_named}
-use Rattle.fetch_update.proofs.settling.settle.Goals as goal
+use Rattle.fetch_update.proofs.settling.settled_outcome.Goals as goal
 
 pub returns : goal.returns
 returns c =

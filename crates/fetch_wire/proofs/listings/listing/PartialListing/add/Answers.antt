@@ -4,7 +4,7 @@ use Rattle.fetch_store.specs.declared.id.Kind.TheVariants.{Sha256}
 use Rattle.fetch_wire.specs.declared.listings.reference.Ref.{Ref}
 use Rattle.fetch_wire.specs.Listings.{is_listed}
 use Rattle.fetch_wire.proofs.Listed.{grown}
-use Rattle.fetch_wire.proofs.listings.listing.Listed.add.Goals as goal
+use Rattle.fetch_wire.proofs.listings.listing.PartialListing.add.Goals as goal
 
 pub invariant_of-self-2 : goal.invariant_of-self-2
 invariant_of-self-2 c =

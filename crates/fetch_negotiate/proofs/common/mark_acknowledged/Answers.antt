@@ -3,7 +3,7 @@ use Rattle.fetch_store.specs.declared.id.ObjectId.{ObjectId}
 use Rattle.fetch_negotiate.specs.Reading.{read_in}
 use Rattle.fetch_negotiate.proofs.Commons.{settling_further, acknowledged_same, whole_in}
 use Rattle.fetch_negotiate.proofs.Choosing.{marks_exact}
-use Rattle.fetch_negotiate.proofs.common.settle.Goals as goal
+use Rattle.fetch_negotiate.proofs.common.mark_acknowledged.Goals as goal
 
 pub acknowledged-preserved : goal.acknowledged-preserved
 acknowledged-preserved g c =
