@@ -59,7 +59,11 @@ pub(crate) fn lenient(alloc: Global) -> Result<OpenOptions, NoMemory>
 }
 
 /// Reads the configuration, opens the repository, and lets its `HEAD` lead to the branch that the configuration names.
-pub(crate) fn open_new<F: Files>(alloc: Global, files: &mut F, new: New) -> Result<Repository, Error>
+pub(crate) fn open_new<F: Files>(
+    alloc: Global,
+    files: &mut F,
+    new: New,
+) -> Result<Repository, Error>
     ensures tree { OnOk result (F.told files.new ≡ F.told files.old) }
     ensures repo { IfOk result (IsInitial (F.told files.old) new) }
     ensures refused { IfErr result (IsUnready (F.may_fail files.old) (F.told files.old) new (F.told files.new)) }

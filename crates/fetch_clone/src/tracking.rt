@@ -17,7 +17,11 @@ pub(crate) fn default_remote(config: &File) -> Option<&[u8]>
 }
 
 /// The refspec of one reference, or else of all branches.
-pub(crate) fn spec_text(alloc: Global, remote: &[u8], target: Option<&[u8]>) -> Result<Text, NoMemory>
+pub(crate) fn spec_text(
+    alloc: Global,
+    remote: &[u8],
+    target: Option<&[u8]>,
+) -> Result<Text, NoMemory>
     ensures { IfOk result (λ text. text ≡ spec.spec_text remote.now (option_copied target.entry)) }
 {
     let mut text = Vec::new(alloc);

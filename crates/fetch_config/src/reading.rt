@@ -14,7 +14,11 @@ use fetch_store::{List, NoMemory, Text};
 use std::alloc::Global;
 
 /// The sections of a text.
-pub(crate) fn read_sections(alloc: Global, text: &[u8], meta: &Meta) -> Result<Vec<Section>, ConfigError>
+pub(crate) fn read_sections(
+    alloc: Global,
+    text: &[u8],
+    meta: &Meta,
+) -> Result<Vec<Section>, ConfigError>
     ensures accepted { OnOk result (lines.broken_line text.now ≡ None) }
     ensures sections { IfOk result (λ sections. sections.items ≡ lines.sections_of meta.now text.now) }
     ensures refused { IfErr result (IsRefusedAt (lines.broken_line text.now)) }

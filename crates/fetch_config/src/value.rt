@@ -102,7 +102,10 @@ pub(crate) fn value_of(alloc: Global, text: &[u8]) -> Result<Option<Vec<u8>>, No
 }
 
 /// A subsection up to its closing quote, and what stands after that. None without a closing quote.
-pub(crate) fn subsection_of(alloc: Global, text: &[u8]) -> Result<Option<(Vec<u8>, &[u8])>, NoMemory>
+pub(crate) fn subsection_of(
+    alloc: Global,
+    text: &[u8],
+) -> Result<Option<(Vec<u8>, &[u8])>, NoMemory>
     ensures { IfOk result (λ found. option_map (λ f. (f.0.items, f.1.now)) found ≡ spec.subsection_of false text.now) }
 {
     let mut name = Vec::new(alloc);

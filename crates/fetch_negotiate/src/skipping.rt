@@ -165,7 +165,12 @@ fn pass<O: Objects>(
 }
 
 /// Takes a commit, and hands a pair to its parents.
-fn hand_on(walk: &mut HaveWalk, skips: &mut Skips, id: &ObjectId, skip: Skip) -> Result<(), NoMemory>
+fn hand_on(
+    walk: &mut HaveWalk,
+    skips: &mut Skips,
+    id: &ObjectId,
+    skip: Skip,
+) -> Result<(), NoMemory>
     requires walk { IsWalk walk.old }
     requires paired { IsPaired skips.old }
     requires read { IsRead walk.old id.now }

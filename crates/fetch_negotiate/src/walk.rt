@@ -27,7 +27,11 @@ pub(crate) struct HaveWalk {
 
 impl HaveWalk {
     /// A walk from these tips, before its first commit.
-    pub(crate) fn new(alloc: Global, tips: &[ObjectId], border: &Border) -> Result<HaveWalk, NoMemory>
+    pub(crate) fn new(
+        alloc: Global,
+        tips: &[ObjectId],
+        border: &Border,
+    ) -> Result<HaveWalk, NoMemory>
         ensures walk { IfOk result (λ walk. IsWalk walk) }
         ensures so_far { IfOk result (λ walk. so_far_in walk ≡ started tips.now border.now) }
         ensures known { IfOk result (λ walk. known_in walk.table ≡ map.empty) }

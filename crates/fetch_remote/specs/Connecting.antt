@@ -26,6 +26,17 @@ abbrev pub TakesBack : {P : Type 0} → Option (List P) → Option (List P) → 
 TakesBack None now peer = now ≡ None
 TakesBack (Some taken) now peer = now ≡ Some (taken ++ peer ∷ [])
 
+-- Where the addresses of the peers that were made are told, this one's stands after them. None is added at a refusal.
+abbrev pub MakesAt : {P E : Type 0} → List ℕ → Option (List (List ℕ)) → Option (List (List ℕ)) → Result P E → Type 0
+MakesAt address None now result = now ≡ None
+MakesAt address (Some addresses) now (Ok peer) = now ≡ Some (addresses ++ address ∷ [])
+MakesAt address (Some addresses) now (Err e) = now ≡ Some addresses
+
+-- The peer is made at the address, if there is one.
+abbrev pub MakesAtFirst : {P E : Type 0} → Option (List ℕ) → Option (List (List ℕ)) → Option (List (List ℕ)) → Result P E → Type 0
+MakesAtFirst None addresses now result = now ≡ addresses
+MakesAtFirst (Some address) addresses now result = MakesAt address addresses now result
+
 -- one more lost peer where this one had failed
 abbrev pub with_lost : Faults → Faults → Faults
 with_lost peer lost = if peer.count == 0 then lost else record lost { count = lost.count + 1 }
@@ -50,10 +61,11 @@ IsMissing (Some url) direction (Err (errors.MissingUrl told)) = ⊥
 IsMissing (Some url) direction (Err errors.Connect) = ⊤
 IsMissing (Some url) direction (Err errors.NoMemory) = ⊤
 
--- a scripted maker: the peers still to be made, those taken back, how many are out, the calls that fail, and how many failed
+-- a scripted maker: the peers still to be made, those taken back, the addresses at which any were made, how many are out, the calls that fail, and how many failed
 pub record Making : Type 0 where
   pub left : List Script
   pub taken : List Script
+  pub addresses : List (List ℕ)
   pub out : ℕ
   pub calls : CallList
   pub failed : ℕ

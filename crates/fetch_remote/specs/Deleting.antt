@@ -3,8 +3,9 @@ use Rattle.std.specs.Prelude.{◌≡◌, ◌⊎◌, ℕ, Bool, true, false, not,
 use Rattle.std.specs.FinMap as finmap
 use Rattle.std.specs.List.{starts_with}
 use Rattle.std.specs.Option.{option_and_then}
+use Rattle.fetch_store.specs.FileCalls.{IsRefused as IsCallRefused}
 use Rattle.fetch_store.specs.Paths.{parts_of}
-use Rattle.fetch_store.specs.Trees.{Tree, written, renamed}
+use Rattle.fetch_store.specs.Trees.{Tree, read_in, written, renamed}
 use Rattle.fetch_specs.specs.Categories.{heads, shortened}
 use Rattle.fetch_config.specs.Contents.{Contents}
 use Rattle.fetch_config.specs.Lines.{broken_line, sections_of}
@@ -21,6 +22,8 @@ use Rattle.fetch_remote.specs.Judging.{IsTold}
 use Rattle.fetch_remote.specs.Paths.{in_directory, config_path}
 use Rattle.fetch_remote.specs.Reloads.{Reads, HasBrokenLine}
 use Rattle.fetch_remote.specs.Repositories.{State, Setup, RepositoryValue, reopened, with_refs}
+use Rattle.fetch_remote.specs.declared.delete.CleanupError.{CleanupError}
+use Rattle.fetch_remote.specs.declared.delete.CleanupError.TheVariants as cleaning
 use Rattle.fetch_remote.specs.declared.delete.Error.{Error}
 use Rattle.fetch_remote.specs.declared.delete.Error.TheVariants as errors
 use Rattle.fetch_remote.specs.declared.repository.open_error.OpenError.{OpenError}
@@ -179,6 +182,21 @@ abbrev pub is_file_fault : Error → Bool
 is_file_fault (errors.ConfigRead causes.Io) = true
 is_file_fault (errors.Cleanup references source) = true
 is_file_fault e = false
+
+-- The new text is put into the file by way of the other path.
+abbrev pub replaced_by : List ℕ → List ℕ → List ℕ → Tree → Option Tree
+replaced_by lock path text t = option_and_then (λ u. renamed u (parts_of lock) (parts_of path)) (written t (parts_of lock) text)
+
+-- Where files that fail at nothing by themselves refused to write or to put a text in its place, something was in the way.
+abbrev pub IsUnwritten : Bool → Option Tree → List ℕ → List ℕ → List ℕ → CleanupError → Type 0
+IsUnwritten may_fail told lock path text cleaning.Write = IsCallRefused may_fail told (λ t. written t (parts_of lock) text)
+IsUnwritten may_fail told lock path text cleaning.Commit = IsCallRefused may_fail told (replaced_by lock path text)
+
+-- The same of a deletion: of its reading, and of its new text.
+abbrev pub IsInTheWay : Bool → Option Tree → List ℕ → Error → Type 0
+IsInTheWay may_fail told git_dir (errors.ConfigRead causes.Io) = IsCallRefused may_fail told (λ t. read_in t (parts_of (config_path git_dir)))
+IsInTheWay may_fail told git_dir (errors.Cleanup references source) = (text : List ℕ) × IsUnwritten may_fail told (lock_path git_dir) (config_path git_dir) text source
+IsInTheWay may_fail told git_dir e = ⊤
 
 -- What is told before the work trees are asked, and before the files are.
 abbrev pub is_unlocal : Error → Bool

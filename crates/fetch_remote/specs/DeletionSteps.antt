@@ -1,5 +1,5 @@
 -- What the steps of a deletion say.
-use Rattle.std.specs.Prelude.{◌≡◌, ℕ, true, false, List, [], ◌∷◌, find, Option, Some, None, ⊤, if◌then◌else◌}
+use Rattle.std.specs.Prelude.{◌≡◌, ℕ, Bool, true, false, List, [], ◌∷◌, find, Option, Some, None, ⊤, if◌then◌else◌}
 use Rattle.std.specs.Str.{bytes_eq}
 use Rattle.fetch_store.specs.Trees.{Tree}
 use Rattle.fetch_store.specs.declared.file_error.FileError.{FileError}
@@ -128,3 +128,8 @@ abbrev pub IsCleanup : List (List ℕ) → Error → Type 0
 IsCleanup names (errors.Cleanup references source) = references ≡ names
 IsCleanup names errors.NoMemory = ⊤
 IsCleanup names e = ⊥
+
+-- what was in the way of a file call that failed, once the branches are gone
+abbrev pub IsBarred : Bool → Option Tree → List ℕ → List ℕ → List ℕ → Error → Type 0
+IsBarred may_fail told lock path text (errors.Cleanup references source) = spec.IsUnwritten may_fail told lock path text source
+IsBarred may_fail told lock path text e = ⊤

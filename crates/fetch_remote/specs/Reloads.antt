@@ -60,14 +60,6 @@ IsRefusedAt told path errors.Io = ⊤
 IsRefusedAt told path errors.NoMemory = ⊤
 IsRefusedAt told path (errors.Override text) = ⊥
 
--- The files tell the same tree after a refusal that they answered.
-abbrev pub KeepsTree : Option Tree → Option Tree → OpenError → Type 0
-KeepsTree before after (errors.Missing name) = after ≡ before
-KeepsTree before after (errors.Config line) = after ≡ before
-KeepsTree before after errors.Io = ⊤
-KeepsTree before after errors.NoMemory = ⊤
-KeepsTree before after (errors.Override text) = ⊤
-
 -- Why a repository wasn't opened again.
 abbrev pub IsReloadRefusal : Option Tree → Setup → OpenError → Type 0
 IsReloadRefusal told setup e = IsRefusedAt told (config_path setup.settings.git_dir) e

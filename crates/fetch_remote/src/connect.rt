@@ -2,7 +2,7 @@
 
 ghost use Rattle.std.specs.Prelude.{◌≡◌, ◌+◌, ◌<◌, ℕ, List, Option, IfOk, IsErrOf, slice_get};
 ghost use Rattle.fetch_store.specs.Faults.{Faults, Rose, Counts};
-ghost use Rattle.fetch_remote.specs.Connecting.{is_of_maker, IsMissing, Makes, TakesBack, out_after, with_lost};
+ghost use Rattle.fetch_remote.specs.Connecting.{is_of_maker, IsMissing, Makes, MakesAt, MakesAtFirst, TakesBack, out_after, with_lost};
 ghost use Rattle.fetch_remote.specs.Remotes.{urls_for};
 ghost use Rattle.fetch_remote.specs.declared.connect.Error.TheVariants as errors;
 
@@ -30,6 +30,9 @@ pub trait Connect {
     /// The peers taken back, as they then stood, where it tells them.
     ghost taken: { Self → Option (List Self.Peer) };
 
+    /// The addresses at which it made peers, in that order, where it tells them.
+    ghost addresses: { Self → Option (List (List ℕ)) };
+
     /// Makes a peer at an address: the next one, where it tells them.
     fn make(&mut self, address: &[u8]) -> Result<Self::Peer, SendFault>
         ensures counts { Counts (faults self.old) (faults self.new) }
@@ -37,6 +40,7 @@ pub trait Connect {
         ensures fresh { IfOk result (λ peer. (Self.Peer.faults peer).count ≡ 0) }
         ensures out { out self.new ≡ out_after result (out self.old) }
         ensures left { Makes (left self.old) (left self.new) result }
+        ensures address { MakesAt address.now (addresses self.old) (addresses self.new) result }
         ensures lost { lost self.new ≡ lost self.old }
         ensures taken { taken self.new ≡ taken self.old };
 
@@ -47,6 +51,7 @@ pub trait Connect {
         ensures lost { lost self.new ≡ with_lost (Self.Peer.faults peer) (lost self.old) }
         ensures taken { TakesBack (taken self.old) (taken self.new) peer }
         ensures left { left self.new ≡ left self.old }
+        ensures addresses { addresses self.new ≡ addresses self.old }
         ensures faults { faults self.new ≡ faults self.old };
 }
 
@@ -101,6 +106,7 @@ impl Remote {
         ensures fresh { IfOk result (λ peer. (C.Peer.faults peer).count ≡ 0) }
         ensures out { C.out maker.new ≡ out_after result (C.out maker.old) }
         ensures left { Makes (C.left maker.old) (C.left maker.new) result }
+        ensures address { MakesAtFirst (slice_get (urls_for self.now direction) 0) (C.addresses maker.old) (C.addresses maker.new) result }
         ensures lost { C.lost maker.new ≡ C.lost maker.old }
         ensures taken { C.taken maker.new ≡ C.taken maker.old }
     {

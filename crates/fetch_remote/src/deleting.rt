@@ -8,8 +8,9 @@ ghost use Rattle.std.specs.Prelude.{◌≡◌, ◌≢◌, [], Ok, map as each, i
 ghost use Rattle.std.specs.Bool.{OnTrue};
 ghost use Rattle.std.specs.BTreeSet.{insert_key};
 ghost use Rattle.fetch_store.specs.Faults.{Rose, Counts};
+ghost use Rattle.fetch_store.specs.FileCalls.{IsRefused};
 ghost use Rattle.fetch_store.specs.Paths.{parts_of};
-ghost use Rattle.fetch_store.specs.Trees.{written, renamed};
+ghost use Rattle.fetch_store.specs.Trees.{read_in, written, renamed};
 ghost use Rattle.fetch_specs.specs.Categories.{shortened};
 ghost use Rattle.fetch_config.specs.Print.{text_of};
 ghost use Rattle.fetch_lookup.specs.Removed.{without_branches};
@@ -77,6 +78,7 @@ impl Repository {
         ensures told { W.told worktrees.new ≡ W.told worktrees.old }
         ensures untouched { IfErr result (λ e. OnTrue (spec.is_before_files e) (files.new ≡ files.old)) }
         ensures file_fault { IfErr result (λ e. OnTrue (spec.is_file_fault e) (Rose (F.faults files.old) (F.faults files.new))) }
+        ensures in_the_way { IfErr result (spec.IsInTheWay (F.may_fail files.old) (F.told files.old) (setup_of self.old).settings.git_dir) }
         ensures counts { Counts (F.faults files.old) (F.faults files.new) }
         ensures tree { is_some (F.told files.new) ≡ is_some (F.told files.old) }
         ensures may_fail { F.may_fail files.new ≡ F.may_fail files.old }
@@ -102,6 +104,7 @@ impl Repository {
         ensures left { IfErr result (spec.Leaves (F.told files.old) (setup_of self.old).settings.git_dir names (state_of self.old) (state_of self.new)) }
         ensures setup { OnErr result (setup_of self.new ≡ setup_of self.old) }
         ensures file_fault { IfErr result (λ e. OnTrue (spec.is_file_fault e) (Rose (F.faults files.old) (F.faults files.new))) }
+        ensures in_the_way { IfErr result (spec.IsInTheWay (F.may_fail files.old) (F.told files.old) (setup_of self.old).settings.git_dir) }
         ensures counts { Counts (F.faults files.old) (F.faults files.new) }
         ensures tree { is_some (F.told files.new) ≡ is_some (F.told files.old) }
         ensures may_fail { F.may_fail files.new ≡ F.may_fail files.old }
@@ -215,9 +218,9 @@ fn read_config<F: Files>(alloc: Global, path: &[u8], files: &mut F) -> Result<Fi
     ensures ok { IfOk result (steps.IsRead (F.told files.old) path.now) }
     ensures refused { IfErr result (steps.IsUnread (F.told files.old) path.now) }
     ensures io { IsErrOf result causes.Io → Rose (F.faults files.old) (F.faults files.new) }
+    ensures in_the_way { IsErrOf result causes.Io → IsRefused (F.may_fail files.old) (F.told files.old) (λ t. read_in t (parts_of path.now)) }
     ensures counts { Counts (F.faults files.old) (F.faults files.new) }
-    ensures tree { is_some (F.told files.new) ≡ is_some (F.told files.old) }
-    ensures same_tree { OnOk result (F.told files.new ≡ F.told files.old) }
+    ensures tree { F.told files.new ≡ F.told files.old }
     ensures may_fail { F.may_fail files.new ≡ F.may_fail files.old }
 {
     let meta = Meta {
@@ -276,6 +279,7 @@ fn replace_file<F: Files>(
     ensures ok { OnOk result (IfSome (F.told files.old) (λ t. option_and_then (λ u. renamed u (parts_of change.now.lock) (parts_of path.now)) (written t (parts_of change.now.lock) change.now.text) ≡ F.told files.new)) }
     ensures refused { IfErr result (steps.IsCleanup names) }
     ensures fault { IfErr result (λ e. OnTrue (spec.is_file_fault e) (Rose (F.faults files.old) (F.faults files.new))) }
+    ensures in_the_way { IfErr result (steps.IsBarred (F.may_fail files.old) (F.told files.old) change.now.lock path.now change.now.text) }
     ensures counts { Counts (F.faults files.old) (F.faults files.new) }
     ensures tree { is_some (F.told files.new) ≡ is_some (F.told files.old) }
     ensures may_fail { F.may_fail files.new ≡ F.may_fail files.old }

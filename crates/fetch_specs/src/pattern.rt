@@ -164,7 +164,11 @@ pub(crate) fn with_middle(alloc: Global, pattern: &[u8], middle: &[u8]) -> Resul
 }
 
 /// A destination with its star replaced, in full.
-pub(crate) fn expanded(alloc: Global, middle: &[u8], destination: &[u8]) -> Result<Vec<u8>, NoMemory>
+pub(crate) fn expanded(
+    alloc: Global,
+    middle: &[u8],
+    destination: &[u8],
+) -> Result<Vec<u8>, NoMemory>
     ensures { IfOk result (λ text. text.items ≡ spec.expanded middle.now destination.now) }
 {
     let text = with_middle(alloc, destination, middle)?;

@@ -28,7 +28,10 @@ pub(crate) fn read_commit<O: Objects, L: Ledger>(
 }
 
 /// The next of a commit's parents. A parent link that is read is one step.
-pub(crate) fn read_parent<L: Ledger>(parents: &mut Parents<'_>, steps: &mut Steps<L>) -> Option<ObjectId>
+pub(crate) fn read_parent<L: Ledger>(
+    parents: &mut Parents<'_>,
+    steps: &mut Steps<L>,
+) -> Option<ObjectId>
     ensures parent { YieldsFirst parents_left parents.old result parents.new }
     ensures step { MatchOption result (steps.new ≡ steps.old) (λ _. steps.new ≡ steps.old + 1) }
 {

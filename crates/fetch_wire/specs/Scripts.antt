@@ -1,8 +1,10 @@
 -- Scripted objects: what they have still to do, and their calls.
-use Rattle.std.specs.Prelude.{ℕ, ◌+◌, ◌-◌, ◌^◌, ◌<◌, List, ◌++◌, ◌∷◌, [], take, drop, slice_index_or, None, Contains}
+use Rattle.std.specs.Prelude.{ℕ, ◌+◌, ◌-◌, ◌^◌, ◌<◌, List, ◌++◌, ◌∷◌, [], take, drop, slice_index_or, None, Contains, Bool, true, false, Result, Ok, Err}
 use Rattle.std.specs.List.{concat}
-use Rattle.fetch_store.specs.Calls.{CallList}
+use Rattle.fetch_store.specs.Calls.{CallList, one_more}
 use Rattle.fetch_wire.specs.Talks.{Talk, Receive}
+use Rattle.fetch_wire.specs.declared.session.peer.SendFault.{SendFault}
+use Rattle.fetch_wire.specs.declared.session.peer.SendFault.TheVariants as sending
 
 -- a scripted peer: what it heard and gave, the pieces that it has still to give, its receives, the calls that fail, and
 -- how many failed
@@ -17,6 +19,17 @@ pub record Script : Type 0 where
 -- A script's talk. It gives by no rule: its pieces stand, whatever it hears.
 abbrev pub talk_of : Script → Talk
 talk_of s = record { heard = s.heard; given = s.given; to_come = concat s.pieces; receives = s.receives; rule = None }
+
+-- the count of failures after a call that may fail or run out of memory: one more where it failed
+abbrev pub sends_failed : {X : Type 0} → ℕ → Result X SendFault → ℕ
+sends_failed failed (Ok value) = failed
+sends_failed failed (Err sending.Failed) = one_more failed
+sends_failed failed (Err sending.NoMemory) = failed
+
+-- the count of answers after a question: one more where it was yes
+abbrev pub said_after : ℕ → Bool → ℕ
+said_after said_yes true = one_more said_yes
+said_after said_yes false = said_yes
 
 -- a scripted interrupt: the calls that are answered yes, and how many were
 pub record Asking : Type 0 where

@@ -4,10 +4,11 @@ ghost use Rattle.std.specs.Prelude.{◌≡◌, ◌+◌, ◌<◌, ◌↔◌, ℕ,
 ghost use Rattle.std.specs.List.{list_all};
 ghost use Rattle.fetch_store.specs.Faults.{Rose, Counts};
 ghost use Rattle.fetch_store.specs.Calls.{one_more, faults_of};
-ghost use Rattle.fetch_remote.specs.Connecting.{Makes, TakesBack, is_fresh, lost_in, out_after, with_lost};
+ghost use Rattle.fetch_wire.specs.Scripts.{sends_failed};
+ghost use Rattle.fetch_remote.specs.Connecting.{Makes, MakesAt, TakesBack, is_fresh, lost_in, out_after, with_lost};
 
 use crate::connect::Connect;
-use fetch_store::Calls;
+use fetch_store::{Calls, Text};
 use fetch_wire::{Peer, ScriptedPeer, SendFault};
 use std::alloc::Global;
 use std::collections::VecDeque;
@@ -20,6 +21,7 @@ pub struct ScriptedConnect {
     alloc: Global,
     left: VecDeque<ScriptedPeer>,
     taken: Vec<ScriptedPeer>,
+    addresses: Vec<Text>,
     out: usize,
     calls: Calls,
     failed: u64,
@@ -32,7 +34,7 @@ impl Model for ScriptedConnect {
 
     ghost Value = { Making };
 
-    ghost view = { λ c. record { left = c.left.items; taken = c.taken.items; out = c.out; calls = c.calls; failed = c.failed } };
+    ghost view = { λ c. record { left = c.left.items; taken = c.taken.items; addresses = c.addresses.items; out = c.out; calls = c.calls; failed = c.failed } };
 
     ghost invariant = { λ c. (vec_len c.taken + c.out ≤ vec_capacity c.taken) × (list_all is_fresh c.left.items ≡ true) };
 }
@@ -43,6 +45,7 @@ impl ScriptedConnect {
         requires { list_all is_fresh peers.items ≡ true }
         ensures left { result.left ≡ peers.items }
         ensures taken { result.taken ≡ [] }
+        ensures addresses { result.addresses ≡ [] }
         ensures out { result.out ≡ 0 }
         ensures failing { (n : ℕ) → Contains result.calls.listed n ↔ Contains failing.items n }
         ensures first { result.calls.next ≡ 0 }
@@ -52,6 +55,7 @@ impl ScriptedConnect {
             alloc,
             left: VecDeque::from(peers),
             taken: Vec::new(alloc),
+            addresses: Vec::new(alloc),
             out: 0,
             calls: Calls::new(failing),
             failed: 0,
@@ -72,15 +76,19 @@ impl Connect for ScriptedConnect {
 
     ghost taken = { λ c. Some c.taken };
 
+    ghost addresses = { λ c. Some c.addresses };
+
     /// Hands out the next peer, or one without pieces, or fails where this call is listed.
-    fn make(&mut self, _address: &[u8]) -> Result<ScriptedPeer, SendFault>
+    fn make(&mut self, address: &[u8]) -> Result<ScriptedPeer, SendFault>
         ensures counts { Counts (faults_of self.old.calls self.old.failed) (faults_of self.new.calls self.new.failed) }
         ensures cause { IsErrOf result SendFault.Failed → Rose (faults_of self.old.calls self.old.failed) (faults_of self.new.calls self.new.failed) }
         ensures fresh { IfOk result (λ peer. peer.failed ≡ 0) }
         ensures out { self.new.out ≡ out_after result self.old.out }
         ensures left { Makes (Some self.old.left) (Some self.new.left) result }
+        ensures address { MakesAt address.now (Some self.old.addresses) (Some self.new.addresses) result }
         ensures taken { self.new.taken ≡ self.old.taken }
         ensures fails { IsErrOf result SendFault.Failed ↔ Contains self.old.calls.listed self.old.calls.next }
+        ensures failed { self.new.failed ≡ sends_failed self.old.failed result }
         ensures next { self.new.calls.next ≡ one_more self.old.calls.next }
         ensures listed { self.new.calls.listed ≡ self.old.calls.listed }
         ensures behind { IfOk result (λ peer. self.old.left ≡ [] → peer.pieces ≡ []) }
@@ -93,6 +101,12 @@ impl Connect for ScriptedConnect {
             return Err(SendFault::NoMemory);
         };
         if self.taken.reserve(out).is_err() {
+            return Err(SendFault::NoMemory);
+        }
+        let Ok(address) = Text::new(self.alloc, address) else {
+            return Err(SendFault::NoMemory);
+        };
+        if self.addresses.push(address).is_err() {
             return Err(SendFault::NoMemory);
         }
         self.out = out;
@@ -110,6 +124,7 @@ impl Connect for ScriptedConnect {
         ensures lost { lost_in self.new.taken ≡ with_lost (faults_of peer.calls peer.failed) (lost_in self.old.taken) }
         ensures taken { TakesBack (Some self.old.taken) (Some self.new.taken) peer }
         ensures left { self.new.left ≡ self.old.left }
+        ensures addresses { self.new.addresses ≡ self.old.addresses }
         ensures calls { self.new.calls ≡ self.old.calls }
         ensures failed { self.new.failed ≡ self.old.failed }
     {

@@ -1,13 +1,13 @@
 //! A repository whose local configuration file changes.
 
-ghost use Rattle.std.specs.Prelude.{◌≡◌, is_some, IfOk, IfErr, IsErrOf, OnOk, OnErr, Some};
+ghost use Rattle.std.specs.Prelude.{◌≡◌, IfOk, IfErr, IsErrOf, OnOk, OnErr, Some};
 ghost use Rattle.fetch_store.specs.Faults.{Rose, Counts};
 ghost use Rattle.fetch_store.specs.FileCalls.{IsRefused};
 ghost use Rattle.fetch_store.specs.Paths.{parts_of};
 ghost use Rattle.fetch_store.specs.Trees.{read_in};
 ghost use Rattle.fetch_config.specs.Lines.{broken_line, sections_of};
 ghost use Rattle.fetch_remote.specs.Paths.{config_path};
-ghost use Rattle.fetch_remote.specs.Reloads.{HasRead, HasReloaded, IsReloadRefusal, IsReadRefusal, IsRefusedAt, IsBroken, KeepsTree, Reads};
+ghost use Rattle.fetch_remote.specs.Reloads.{HasRead, HasReloaded, IsReloadRefusal, IsReadRefusal, IsRefusedAt, IsBroken, Reads};
 ghost use Rattle.fetch_remote.specs.Repositories.{state_of, setup_of};
 ghost use Rattle.fetch_remote.specs.declared.repository.open_error.OpenError.TheVariants as errors;
 
@@ -31,9 +31,7 @@ impl Repository {
         ensures io { IsErrOf result errors.Io → Rose (F.faults files.old) (F.faults files.new) }
         ensures in_the_way { IsErrOf result errors.Io → IsRefused (F.may_fail files.old) (F.told files.old) (λ t. read_in t (parts_of (config_path (setup_of self.old).settings.git_dir))) }
         ensures counts { Counts (F.faults files.old) (F.faults files.new) }
-        ensures tree { is_some (F.told files.new) ≡ is_some (F.told files.old) }
-        ensures same_tree { OnOk result (F.told files.new ≡ F.told files.old) }
-        ensures kept_tree { IfErr result (KeepsTree (F.told files.old) (F.told files.new)) }
+        ensures tree { F.told files.new ≡ F.told files.old }
         ensures may_fail { F.may_fail files.new ≡ F.may_fail files.old }
     {
         let path = in_directory(alloc, self.git_dir(), b"config")?;
@@ -54,9 +52,7 @@ pub fn read_configuration<F: Files>(
     ensures io { IsErrOf result errors.Io → Rose (F.faults files.old) (F.faults files.new) }
     ensures in_the_way { IsErrOf result errors.Io → IsRefused (F.may_fail files.old) (F.told files.old) (λ t. read_in t (parts_of path)) }
     ensures counts { Counts (F.faults files.old) (F.faults files.new) }
-    ensures tree { is_some (F.told files.new) ≡ is_some (F.told files.old) }
-    ensures same_tree { OnOk result (F.told files.new ≡ F.told files.old) }
-    ensures kept_tree { IfErr result (KeepsTree (F.told files.old) (F.told files.new)) }
+    ensures tree { F.told files.new ≡ F.told files.old }
     ensures may_fail { F.may_fail files.new ≡ F.may_fail files.old }
 {
     let text = read_file(path, files)?;
@@ -70,9 +66,7 @@ fn read_file<F: Files>(path: Text, files: &mut F) -> Result<Text, OpenError>
     ensures io { IsErrOf result errors.Io → Rose (F.faults files.old) (F.faults files.new) }
     ensures in_the_way { IsErrOf result errors.Io → IsRefused (F.may_fail files.old) (F.told files.old) (λ t. read_in t (parts_of path)) }
     ensures counts { Counts (F.faults files.old) (F.faults files.new) }
-    ensures tree { is_some (F.told files.new) ≡ is_some (F.told files.old) }
-    ensures same_tree { OnOk result (F.told files.new ≡ F.told files.old) }
-    ensures kept_tree { IfErr result (KeepsTree (F.told files.old) (F.told files.new)) }
+    ensures tree { F.told files.new ≡ F.told files.old }
     ensures may_fail { F.may_fail files.new ≡ F.may_fail files.old }
 {
     match files.read(path.as_bytes()) {

@@ -92,7 +92,12 @@ pub(crate) fn read_capability(
 }
 
 /// Adds the reference that a text lists.
-fn add_listed(alloc: Global, kind: Kind, before: PartialListing, text: &[u8]) -> Result<Read, NoMemory>
+fn add_listed(
+    alloc: Global,
+    kind: Kind,
+    before: PartialListing,
+    text: &[u8],
+) -> Result<Read, NoMemory>
     ensures { IfOk result (λ read. step_in read ≡ at_listed kind before text.now) }
 {
     let mut listed = before;

@@ -5,7 +5,8 @@ ghost use Rattle.std.specs.List.{concat};
 ghost use Rattle.fetch_store.specs.Faults.{Faults, Rose, Counts};
 ghost use Rattle.fetch_wire.specs.Talks.{Talk, Sends, Receives, Makes, at_once};
 ghost use Rattle.fetch_store.specs.Calls.{one_more, faults_of};
-ghost use Rattle.fetch_wire.specs.Scripts.{given_of, pieces_from, from_first, first_of, without, talk_of, IsListed};
+ghost use Rattle.fetch_store.specs.FileCalls.{risen_after};
+ghost use Rattle.fetch_wire.specs.Scripts.{given_of, pieces_from, from_first, first_of, without, talk_of, sends_failed, said_after, IsListed};
 
 use crate::cloning::copy_slice;
 use crate::session::peer::{Interrupt, Peer, SendFault};
@@ -134,6 +135,7 @@ impl Peer for ScriptedPeer {
         ensures counts { Counts (faults_of self.old.calls self.old.failed) (faults_of self.new.calls self.new.failed) }
         ensures cause { IsErrOf result SendFault.Failed → Rose (faults_of self.old.calls self.old.failed) (faults_of self.new.calls self.new.failed) }
         ensures fails { IsErrOf result SendFault.Failed ↔ Contains self.old.calls.listed self.old.calls.next }
+        ensures failed { self.new.failed ≡ sends_failed self.old.failed result }
         ensures unheard { OnErr result (self.new.heard ≡ self.old.heard) }
         ensures pieces { self.new.pieces ≡ self.old.pieces }
         ensures next { self.new.calls.next ≡ one_more self.old.calls.next }
@@ -161,6 +163,7 @@ impl Peer for ScriptedPeer {
         ensures counts { Counts (faults_of self.old.calls self.old.failed) (faults_of self.new.calls self.new.failed) }
         ensures cause { OnErr result (Rose (faults_of self.old.calls self.old.failed) (faults_of self.new.calls self.new.failed)) }
         ensures fails { IsErr result ↔ Contains self.old.calls.listed self.old.calls.next }
+        ensures failed { self.new.failed ≡ risen_after self.old.failed result }
         ensures next { self.new.calls.next ≡ one_more self.old.calls.next }
         ensures listed { self.new.calls.listed ≡ self.old.calls.listed }
     {
@@ -229,6 +232,7 @@ impl Interrupt for ScriptedInterrupt {
     fn asked(&mut self) -> bool
         ensures counts { Counts (faults_of self.old.calls self.old.said_yes) (faults_of self.new.calls self.new.said_yes) }
         ensures counted { IsTrue result → Rose (faults_of self.old.calls self.old.said_yes) (faults_of self.new.calls self.new.said_yes) }
+        ensures said { self.new.said_yes ≡ said_after self.old.said_yes result }
         ensures left { result ≡ false → self.new.said_yes ≡ self.old.said_yes }
         ensures now { IsListed self.old.calls 0 → IsTrue result }
         ensures later { (n : ℕ) → IsListed self.old.calls (suc n) → IsListed self.new.calls n }
