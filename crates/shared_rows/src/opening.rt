@@ -10,6 +10,31 @@ use fetch_store::{List, NoMemory, Store, Text};
 use std::alloc::Global;
 use std::thread::Threads;
 
+/// A committer without a name.
+fn nobody(alloc: Global) -> Signature {
+    Signature {
+        name: Text::from(Vec::new(alloc)),
+        email: Text::from(Vec::new(alloc)),
+        seconds: 0,
+        offset_minutes: 0,
+    }
+}
+
+/// Nothing before the repository's own configuration, and nothing after it.
+fn options(alloc: Global) -> OpenOptions {
+    let meta = Meta {
+        source: Origin::Local,
+        level: 0,
+        path: None,
+        trusted: true,
+    };
+    OpenOptions {
+        lenient_config: false,
+        api_config_overrides: List::new(alloc),
+        base: File::new(alloc, meta).unwrap(),
+    }
+}
+
 /// The repository with a scene's objects, border and configuration, without references, and what the server says.
 fn set_up(alloc: Global, scene: Scene) -> Result<(Repository, List<Text>), NoMemory>
     requires { AreOf scene.hash scene.objects }
@@ -28,30 +53,15 @@ fn set_up(alloc: Global, scene: Scene) -> Result<(Repository, List<Text>), NoMem
     if store.add_all(objects.into_vec()).is_err() {
         return Err(NoMemory);
     }
-    let meta = Meta {
-        source: Origin::Local,
-        level: 0,
-        path: None,
-        trusted: true,
-    };
     let parts = Parts {
         store,
         refs: Refs::new(alloc, hash),
         border,
         local: config,
-        committer: Signature {
-            name: Text::from(Vec::new(alloc)),
-            email: Text::from(Vec::new(alloc)),
-            seconds: 0,
-            offset_minutes: 0,
-        },
+        committer: nobody(alloc),
         git_dir,
         workdir,
-        options: OpenOptions {
-            lenient_config: false,
-            api_config_overrides: List::new(alloc),
-            base: File::new(alloc, meta).unwrap(),
-        },
+        options: options(alloc),
     };
     match Repository::from_parts(alloc, parts) {
         Ok(repo) => Ok((repo, pieces)),
