@@ -1,10 +1,10 @@
 //! A repository that threads share.
 
-ghost use Rattle.std.specs.Prelude.{◌≡◌, ◌↔◌, ◌⊎◌, ℕ, ◌+◌, ◌<◌, ◌≤◌, [], IfOk, IsOk, IsOkUnless, MatchOption, Err, slice_get};
+ghost use Rattle.std.specs.Prelude.{◌≡◌, ◌↔◌, ◌⊎◌, ℕ, ◌+◌, ◌<◌, ◌≤◌, [], All, IfOk, IsOk, IsOkUnless, MatchOption, Err, slice_get};
 ghost use Rattle.fetch_store.specs.Missing.{unclosed};
 ghost use Rattle.fetch_shared.specs.declared.error.SharedError.TheVariants as errors;
 ghost use Rattle.fetch_shared.specs.declared.view.Stage.TheVariants.{Resting};
-ghost use Rattle.fetch_shared.specs.Journals.{Begins, entries_of};
+ghost use Rattle.fetch_shared.specs.Journals.{Begins, entries_of, pass_of};
 ghost use Rattle.fetch_shared.specs.Machine.{held};
 ghost use Rattle.fetch_shared.specs.Numbers.{span, Holds};
 ghost use Rattle.fetch_shared.specs.Shared.{IsKept};
@@ -171,6 +171,7 @@ impl SharedRepository {
         ensures kept { IfOk result (λ r. IsKept (record { opening = self.opening; repository = r.0; journal = r.1.items })) }
         ensures begins { IfOk result (λ r. Begins pass.front r.1.items) }
         ensures entries { IfOk result (λ r. (n : ℕ) → Holds pass.held n → entries_of n r.1.items ≡ entries_of n pass.front) }
+        ensures numbered { IfOk result (λ r. All (λ e. pass_of e < 18446744073709551615) r.1.items) }
         ensures whole { IfOk result (λ r. ((n : ℕ) → n < 18446744073709551615 → Holds pass.held n) → r.1.items ≡ pass.front) }
     {
         let Pass {
