@@ -32,4 +32,4 @@ pub use repository::open_error::OpenError;
 pub use repository::reload::read_configuration;
 pub use repository::thread_safe::{ThreadSafeRepository, repositories_cross_threads};
 pub use repository::threads::index_threads;
-pub use repository::{OpenOptions, Parts, Repository};
+pub use repository::{OpenOptions, Parts, Repository, Resolved};

@@ -125,9 +125,11 @@ impl Model for Repository {
 
 /// A local file, and the configuration that it is in force with.
 #[derive(Drop)]
-pub(crate) struct Resolved {
-    pub(crate) file: File,
-    pub(crate) config: File,
+pub struct Resolved {
+    /// The local file.
+    pub file: File,
+    /// What it is in force with: the base before it, and the overrides after it.
+    pub config: File,
 }
 
 impl Repository {
@@ -331,7 +333,7 @@ impl Repository {
 
     /// What a file is resolved to in place of the local one. Memory alone may refuse it.
     #[tactic(auto, using(crate::proofs::Overrides::memory_alone))]
-    pub(crate) fn resolve_local(&self, alloc: Global, local: File) -> Result<Resolved, OpenError>
+    pub fn resolve_local(&self, alloc: Global, local: File) -> Result<Resolved, OpenError>
         ensures file { IfOk result (λ resolved. resolved.file ≡ local) }
         ensures config { IfOk result (λ resolved. spec.resolved_of (setup_of self.now).base local (setup_of self.now).overrides ≡ Some resolved.config) }
         ensures refused { IfErr result (λ e. e ≡ errors.NoMemory) }
@@ -343,8 +345,8 @@ impl Repository {
         })
     }
 
-    /// Puts a file in place of the local one that was resolved before.
-    pub(crate) fn put_local(&mut self, resolved: Resolved)
+    /// Puts a file in place of the local one that was resolved before. It takes no memory.
+    pub fn put_local(&mut self, resolved: Resolved)
         requires { spec.resolved_of (setup_of self.old).base resolved.file (setup_of self.old).overrides ≡ Some resolved.config }
         ensures state { state_of self.new ≡ state_of self.old }
         ensures setup { setup_of self.new ≡ spec.in_force (setup_of self.old) resolved.file resolved.config }
