@@ -12,7 +12,7 @@ use std::alloc::Global;
 
 /// What a line says.
 #[derive(Debug, Drop)]
-pub(crate) enum Line {
+pub enum Line {
     /// Blanks or a comment.
     Nothing,
     /// A section begins: its name, and its subsection where it has one.
