@@ -1,5 +1,5 @@
 -- `HEAD` takes nothing, or takes what it is aimed at and then isn't saved.
-use Rattle.std.proofs.Common.{◌≡◌, ℕ, Bool, true, false, List, Option, Result, Ok, Err, refl, sym, subst, ◌∙◌}
+use Rattle.std.proofs.Common.{◌≡◌, ℕ, Bool, true, false, List, Option, Result, Ok, Err, inl, inr, refl, sym, subst, ◌∙◌}
 use Rattle.std.specs.Prelude.{is_some, IfErr, IfSome, OnErr}
 use Rattle.fetch_store.specs.FileCalls.{IsRefused}
 use Rattle.fetch_store.specs.Paths.{parts_of}
@@ -112,7 +112,7 @@ not-aimed may_fail told repo map message remote ref_name revision (errors.Reopen
 not-aimed may_fail told repo map message remote ref_name revision (errors.Fetch x) why = record { why = why; state = refl; setup = refl; tree = refl }
 not-aimed may_fail told repo map message remote ref_name revision (errors.FindRevision x) why = record { why = why; state = refl; setup = refl; tree = refl }
 not-aimed may_fail told repo map message remote ref_name revision (errors.PeelRevision x) why = record { why = why; state = refl; setup = refl; tree = refl }
-not-aimed may_fail told repo map message remote ref_name revision errors.NoMemory why = (refl, refl)
+not-aimed may_fail told repo map message remote ref_name revision errors.NoMemory why = inl (record { state = refl; setup = refl; tree = refl })
 
 -- Nothing to aim at is no fault of the files.
 pub never-written : (s : State) (map : RefMap) (ref_name : Option (List ℕ)) (revision : Option Spec) (e : Error) → IsNoAim s map ref_name revision e → e ≡ errors.SaveConfigIo → ⊥
@@ -157,7 +157,7 @@ module _ (may_fail : Bool) (told now : Option Tree) (before mid after : Reposito
   unwritten (errors.Fetch x) tree same why = absurd why
   unwritten (errors.FindRevision x) tree same why = absurd why
   unwritten (errors.PeelRevision x) tree same why = absurd why
-  unwritten errors.NoMemory tree same why = (tree, same ∙ setup)
+  unwritten errors.NoMemory tree same why = inr (record { aim = aim; takes = takes; state = state; setup = same ∙ setup; local = why.0; follows = sym follows ∙ why.1; tree = tree })
 
   pub not-saved : {X : Type 0} (r : Result X Error) → TellsStill told now → OnErr r (setup_of after ≡ setup_of mid) → IfErr r (IsUnsaved may_fail told (setup_of mid).settings.git_dir local) → IfErr r (IsHeadRefusal may_fail told now before after map message remote ref_name revision)
   not-saved (Ok x) tree same why = tt

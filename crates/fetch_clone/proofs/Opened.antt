@@ -7,7 +7,7 @@ use Rattle.fetch_store.specs.Faults.{Faults, Rose}
 use Rattle.fetch_store.specs.Paths.{parts_of}
 use Rattle.fetch_store.specs.Trees.{Tree, read_in}
 use Rattle.fetch_config.specs.Contents.{Contents}
-use Rattle.fetch_remote.specs.Reloads.{IsRefusedAt, KeepsTree}
+use Rattle.fetch_remote.specs.Reloads.{IsRefusedAt}
 use Rattle.fetch_remote.specs.Repositories.{IsOpenRefusal, setup_in}
 use Rattle.fetch_remote.specs.RepositoryValues.{Setup}
 use Rattle.fetch_remote.specs.declared.repository.open_error.OpenError.{OpenError}
@@ -31,13 +31,13 @@ each-err P Q f (Err e) p = f e p
 -- ---- reading
 
 -- a file that wasn't read
-pub unread : (may_fail : Bool) (stood now : Option Tree) (new : New) (e : OpenError) → IsRefusedAt stood (config_of new) e → KeepsTree stood now e → is_some now ≡ is_some stood
+pub unread : (may_fail : Bool) (stood now : Option Tree) (new : New) (e : OpenError) → IsRefusedAt stood (config_of new) e → now ≡ stood
     → (e ≡ opening.Io → IsRefused may_fail stood (λ t. read_in t (parts_of (config_of new)))) → IsUnready may_fail stood new now (opening_refusal e)
-unread may_fail stood now new opening.Io refused kept told way = record { told = told; refused = way refl }
-unread may_fail stood now new (opening.Missing name) refused kept told way = (kept, refused)
-unread may_fail stood now new (opening.Config line) refused kept told way = (kept, refused)
-unread may_fail stood now new (opening.Override text) refused kept told way = absurd refused
-unread may_fail stood now new opening.NoMemory refused kept told way = told
+unread may_fail stood now new opening.Io refused same way = (same, way refl)
+unread may_fail stood now new (opening.Missing name) refused same way = (same, refused)
+unread may_fail stood now new (opening.Config line) refused same way = (same, refused)
+unread may_fail stood now new (opening.Override text) refused same way = absurd refused
+unread may_fail stood now new opening.NoMemory refused same way = same
 
 pub unread-fault : (was is : Faults) (e : OpenError) → (e ≡ opening.Io → Rose was is) → IsTrue (is_init_fault (opening_refusal e)) → Rose was is
 unread-fault was is opening.Io rose t = rose refl
@@ -72,7 +72,7 @@ unopened may_fail stood now new local (initial.Open (opening.Config line)) same 
 unopened may_fail stood now new local (initial.Open (opening.Override text)) same read why = record { same = same; local = local; read = read; why = why }
 unopened may_fail stood now new local (initial.Open opening.NoMemory) same read why = absurd why
 unopened may_fail stood now new local (initial.InvalidBranchName name) same read why = record { same = same; local = local; read = read; why = why }
-unopened may_fail stood now new local initial.NoMemory same read why = ap is_some same
+unopened may_fail stood now new local initial.NoMemory same read why = same
 
 -- No call of the files failed there.
 pub no-fault : (was is : Faults) (new : New) (local : Contents) (e : Error) → IsUnopened new local e → IsTrue (is_init_fault e) → Rose was is
@@ -90,7 +90,7 @@ no-fault was is new local initial.NoMemory why t = absurd (false≢true t)
 -- what out of memory leaves of the files
 stopped-told : (may_fail : Bool) (stood now : Option Tree) (step : Step) → IsStopAt may_fail stood step now creating.NoMemory → TellsStill stood now
 stopped-told may_fail stood now (Clear path) w = w
-stopped-told may_fail stood now (Vacant path) w = w
+stopped-told may_fail stood now (Vacant path) w = ap is_some w
 stopped-told may_fail stood now (Directory path) w = w
 stopped-told may_fail stood now (File path bytes) w = w
 
@@ -117,4 +117,4 @@ pub created-only : (may_fail : Bool) (before stood now : Option Tree) (steps : L
 created-only may_fail before stood now steps new (initial.Init e) r u = absurd u
 created-only may_fail before stood now steps new (initial.Open e) r u = record { stood = stood; created = r; why = u }
 created-only may_fail before stood now steps new (initial.InvalidBranchName name) r u = record { stood = stood; created = r; why = u }
-created-only may_fail before stood now steps new initial.NoMemory r u = u ∙ r.told
+created-only may_fail before stood now steps new initial.NoMemory r u = ap is_some u ∙ r.told

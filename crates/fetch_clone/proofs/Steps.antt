@@ -50,15 +50,15 @@ next-step before stood now steps i step short is r m =
     subst (λ (l : List Step). Reaches before l now) (sym more) (one-more before stood now (take i steps) step r m)
 
 -- Out of memory stops any step.
-stop-memory : (may_fail : Bool) (stood now : Option Tree) (step : Step) → is_some now ≡ is_some stood → IsStopAt may_fail stood step now NoMemory
-stop-memory may_fail stood now (Clear path) e = e
-stop-memory may_fail stood now (Vacant path) e = e
-stop-memory may_fail stood now (Directory path) e = e
-stop-memory may_fail stood now (File path bytes) e = e
+stop-memory : (may_fail : Bool) (stood : Option Tree) (step : Step) → IsStopAt may_fail stood step stood NoMemory
+stop-memory may_fail stood (Clear path) = refl
+stop-memory may_fail stood (Vacant path) = refl
+stop-memory may_fail stood (Directory path) = refl
+stop-memory may_fail stood (File path bytes) = refl
 
 -- Before the first step nothing is changed.
 at-the-first : (may_fail : Bool) (before : Option Tree) (step : Step) (steps : List Step) → IsStopped may_fail before (step ∷ steps) before NoMemory
-at-the-first may_fail before step steps = record { count = 0; step = step; next = refl; stood = before; done = none before; why = stop-memory may_fail before before step refl }
+at-the-first may_fail before step steps = record { count = 0; step = step; next = refl; stood = before; done = none before; why = stop-memory may_fail before step }
 
 before-all : (may_fail : Bool) (before : Option Tree) (must : Bool) (directory git_dir configuration : List ℕ) (kind : Layout)
     → IsStopped may_fail before (cleared must directory ++ vacated kind git_dir ++ contents_of git_dir configuration) before NoMemory

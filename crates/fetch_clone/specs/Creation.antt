@@ -71,21 +71,22 @@ HasEntry t path = (name : List ℕ) × (names : List (List ℕ)) × (listed_in t
 abbrev pub TellsStill : Option Tree → Option Tree → Type 0
 TellsStill stood now = is_some now ≡ is_some stood
 
--- a question that the files failed to answer
+-- a question that the files failed to answer: they are as they were
 abbrev pub IsOpenRefusal : {Y : Type 0} → Bool → Option Tree → List ℕ → (Tree → Option Y) → Option Tree → Error → Type 0
-IsOpenRefusal may_fail stood path asked now (IoOpen told) = (told ≡ path) × TellsStill stood now × IsRefused may_fail stood asked
-IsOpenRefusal may_fail stood path asked now NoMemory = TellsStill stood now
+IsOpenRefusal may_fail stood path asked now (IoOpen told) = (told ≡ path) × (now ≡ stood) × IsRefused may_fail stood asked
+IsOpenRefusal may_fail stood path asked now NoMemory = now ≡ stood
 IsOpenRefusal may_fail stood path asked now e = ⊥
 
--- Why a step is refused, at the tree that stood then. What is found there leaves it as it is.
+-- Why a step is refused, at the tree that stood then. What is found there, or can't be asked, leaves it as it is.
 abbrev pub IsStopAt : Bool → Option Tree → Step → Option Tree → Error → Type 0
 IsStopAt may_fail stood (Clear path) now (DirectoryNotEmpty told) = (told ≡ path) × (now ≡ stood) × IfSome stood (λ t. HasEntry t path)
-IsStopAt may_fail stood (Clear path) now (IoOpen told) = (told ≡ path) × TellsStill stood now × IsRefused may_fail stood (λ t. listed_in t path)
+IsStopAt may_fail stood (Clear path) now (IoOpen told) = (told ≡ path) × (now ≡ stood) × IsRefused may_fail stood (λ t. listed_in t path)
 IsStopAt may_fail stood (Clear path) now (CreateDirectory told) = (told ≡ path) × TellsStill stood now × IsRefused may_fail stood (λ t. with_directories t (parts_of path))
 IsStopAt may_fail stood (Vacant path) now (DirectoryExists told) = (told ≡ path) × (now ≡ stood) × IfSome stood (λ t. kind_in t (parts_of path) ≡ Some (Some nodes.Directory))
-IsStopAt may_fail stood (Vacant path) now (IoOpen told) = (told ≡ path) × TellsStill stood now × IsRefused may_fail stood (λ t. kind_in t (parts_of path))
+IsStopAt may_fail stood (Vacant path) now (IoOpen told) = (told ≡ path) × (now ≡ stood) × IsRefused may_fail stood (λ t. kind_in t (parts_of path))
 IsStopAt may_fail stood (Directory path) now (CreateDirectory told) = (told ≡ path) × TellsStill stood now × IsRefused may_fail stood (λ t. with_directories t (parts_of path))
 IsStopAt may_fail stood (File path bytes) now (IoWrite told) = (told ≡ path) × TellsStill stood now × IsRefused may_fail stood (λ t. written t (parts_of path) bytes)
+IsStopAt may_fail stood (Vacant path) now NoMemory = now ≡ stood
 IsStopAt may_fail stood step now NoMemory = TellsStill stood now
 IsStopAt may_fail stood step now e = ⊥
 

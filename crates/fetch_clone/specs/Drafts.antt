@@ -34,8 +34,8 @@ is_free (Some (Some [])) = true
 is_free (Some (Some (name ∷ names))) = false
 
 -- Before anything is made it is noted whether the place is free; a listing that failed counts as no.
-abbrev pub IsNoted : Faults → Faults → Option Tree → List ℕ → Option Tree → Bool → Type 0
-IsNoted was is before place now free = ((now ≡ before) × IfSome before (λ t. free ≡ is_free (listed_in t place))) ⊎ ((free ≡ false) × TellsStill before now × Rose was is)
+abbrev pub IsNoted : Faults → Faults → Option Tree → List ℕ → Bool → Type 0
+IsNoted was is before place free = IfSome before (λ t. free ≡ is_free (listed_in t place)) ⊎ ((free ≡ false) × Rose was is)
 
 -- A clone's place has to be empty, unless the options say otherwise.
 abbrev pub strict : Options → Options
@@ -44,9 +44,8 @@ strict options = record options { destination_must_be_empty = Some (unwrap_or op
 -- The place was noted, and an empty repository was created and opened there.
 pub record IsPrepared (was is : Faults) (before : Option Tree) (url place : List ℕ) (making : Making) (now : Option Tree) (draft : Draft) : Type 0 where
   pub address : is_no_address url ≡ false
-  pub stood : Option Tree
-  pub noted : IsNoted was is before place stood draft.free
-  pub created : Reaches stood (steps_of place making.kind (strict making.options)) now
+  pub noted : IsNoted was is before place draft.free
+  pub created : Reaches before (steps_of place making.kind (strict making.options)) now
   pub opened : is_some draft.repo ≡ true
   pub repo : IfSome draft.repo (IsInitial now (new_of place making.kind (strict making.options) making.committer making.open_options))
   pub url_kept : draft.url ≡ url
@@ -56,10 +55,9 @@ pub record IsPrepared (was is : Faults) (before : Option Tree) (url place : List
 
 -- The place was noted, and no repository was created or opened there.
 pub record IsUnprepared (was is : Faults) (may_fail : Bool) (before : Option Tree) (place : List ℕ) (making : Making) (now : Option Tree) (e : InitError) : Type 0 where
-  pub stood : Option Tree
   pub free : Bool
-  pub noted : IsNoted was is before place stood free
-  pub why : IsInitRefusal may_fail stood (steps_of place making.kind (strict making.options)) (new_of place making.kind (strict making.options) making.committer making.open_options) now e
+  pub noted : IsNoted was is before place free
+  pub why : IsInitRefusal may_fail before (steps_of place making.kind (strict making.options)) (new_of place making.kind (strict making.options) making.committer making.open_options) now e
 
 -- Out of memory is never wrapped.
 abbrev pub init_refusal : InitError → Error

@@ -1,5 +1,5 @@
 -- A repository whose `HEAD` takes what a remote listed.
-use Rattle.std.specs.Prelude.{◌≡◌, ℕ, Bool, List, [], Option, Some, None, IfSome, Result, Ok, Err, ⊤}
+use Rattle.std.specs.Prelude.{◌≡◌, ℕ, Bool, List, [], Option, Some, None, IfSome, Result, Ok, Err, ⊤, ◌⊎◌}
 use Rattle.fetch_store.specs.FileCalls.{IsRefused}
 use Rattle.fetch_store.specs.Graph.{graph_of}
 use Rattle.fetch_store.specs.Paths.{parts_of}
@@ -108,7 +108,7 @@ IsToldAs ref_name revision cause e = e ≡ told_as ref_name revision cause
 
 -- why a local file isn't saved
 abbrev pub IsUnsaved : Bool → Option Tree → List ℕ → Option Contents → Error → Type 0
-IsUnsaved may_fail told git_dir local errors.NoMemory = ⊤
+IsUnsaved may_fail told git_dir local errors.NoMemory = (file : Contents) × (local ≡ Some file)
 IsUnsaved may_fail told git_dir local errors.SaveConfigIo = (file : Contents) × (local ≡ Some file) × IsRefused may_fail told (λ t. written t (parts_of (config_path git_dir)) (text_of file.sections))
 IsUnsaved may_fail told git_dir local e = ⊥
 
@@ -142,12 +142,28 @@ pub record IsUnwritten (may_fail : Bool) (told now : Option Tree) (before after 
   pub tree : TellsStill told now
   pub refused : IsRefused may_fail told (λ t. written t (parts_of (config_path (setup_of before).settings.git_dir)) (text_of local.sections))
 
--- Memory ran out: the setup is as before.
-abbrev pub IsWanting : Option Tree → Option Tree → RepositoryValue → RepositoryValue → Type 0
-IsWanting told now before after = TellsStill told now × (setup_of after ≡ setup_of before)
+-- Nothing has changed.
+pub record IsUnmoved (told now : Option Tree) (before after : RepositoryValue) : Type 0 where
+  pub state : state_of after ≡ state_of before
+  pub setup : setup_of after ≡ setup_of before
+  pub tree : now ≡ told
+
+-- `HEAD` took what was aimed at, and the configuration in memory is as before: the branch's section was still to be saved.
+pub record IsMovedOnly (told now : Option Tree) (before after : RepositoryValue) (map : RefMap) (message remote : List ℕ) (ref_name : Option (List ℕ)) (revision : Option Spec) : Type 0 where
+  pub aim : Aim
+  pub takes : aim_of (state_of before) map ref_name revision ≡ Ok aim
+  pub state : state_of after ≡ moved (setup_of before) (state_of before) message aim
+  pub setup : setup_of after ≡ setup_of before
+  pub local : Contents
+  pub follows : followed (setup_of before) remote aim ≡ Some local
+  pub tree : TellsStill told now
+
+-- Memory ran out before anything was changed, or while the branch's section was saved.
+abbrev pub IsWanting : Option Tree → Option Tree → RepositoryValue → RepositoryValue → RefMap → List ℕ → List ℕ → Option (List ℕ) → Option Spec → Type 0
+IsWanting told now before after map message remote ref_name revision = IsUnmoved told now before after ⊎ IsMovedOnly told now before after map message remote ref_name revision
 
 -- Why `HEAD` didn't take its aim.
 abbrev pub IsHeadRefusal : Bool → Option Tree → Option Tree → RepositoryValue → RepositoryValue → RefMap → List ℕ → List ℕ → Option (List ℕ) → Option Spec → Error → Type 0
-IsHeadRefusal may_fail told now before after map message remote ref_name revision errors.NoMemory = IsWanting told now before after
+IsHeadRefusal may_fail told now before after map message remote ref_name revision errors.NoMemory = IsWanting told now before after map message remote ref_name revision
 IsHeadRefusal may_fail told now before after map message remote ref_name revision errors.SaveConfigIo = IsUnwritten may_fail told now before after map message remote ref_name revision
 IsHeadRefusal may_fail told now before after map message remote ref_name revision e = IsUnaimed told now before after map ref_name revision e

@@ -148,20 +148,15 @@ pub record IsReadOnly (stood : Option Tree) (new : New) (now : Option Tree) (e :
   pub read : IsLocal stood new local
   pub why : IsUnopened new local e
 
--- The file couldn't be read.
-pub record IsUnread (may_fail : Bool) (stood : Option Tree) (path : List ℕ) (now : Option Tree) : Type 0 where
-  pub told : TellsStill stood now
-  pub refused : IsRefused may_fail stood (λ t. read_in t (parts_of path))
-
--- Why it isn't opened, once all was created.
+-- Why it isn't opened, once all was created. The files are as the creation left them.
 abbrev pub IsUnready : Bool → Option Tree → New → Option Tree → Error → Type 0
-IsUnready may_fail stood new now (Open opening.Io) = IsUnread may_fail stood (config_of new) now
+IsUnready may_fail stood new now (Open opening.Io) = (now ≡ stood) × IsRefused may_fail stood (λ t. read_in t (parts_of (config_of new)))
 IsUnready may_fail stood new now (Open (opening.Missing name)) = (now ≡ stood) × IsRefusedAt stood (config_of new) (opening.Missing name)
 IsUnready may_fail stood new now (Open (opening.Config line)) = (now ≡ stood) × IsRefusedAt stood (config_of new) (opening.Config line)
 IsUnready may_fail stood new now (Open (opening.Override text)) = IsReadOnly stood new now (Open (opening.Override text))
 IsUnready may_fail stood new now (Open opening.NoMemory) = ⊥
 IsUnready may_fail stood new now (InvalidBranchName name) = IsReadOnly stood new now (InvalidBranchName name)
-IsUnready may_fail stood new now NoMemory = TellsStill stood now
+IsUnready may_fail stood new now NoMemory = now ≡ stood
 IsUnready may_fail stood new now (Init e) = ⊥
 
 -- All was created, and then it was refused.

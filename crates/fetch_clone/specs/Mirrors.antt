@@ -42,7 +42,7 @@ pub record IsUnmirrored (may_fail : Bool) (told : Option Tree) (setup : Setup) (
 abbrev pub IsMirrorRefusal : Bool → Option Tree → Setup → RemoteValue → List ℕ → Option Tree → Error → Type 0
 IsMirrorRefusal may_fail told setup remote name now errors.NoMemory = TellsStill told now
 IsMirrorRefusal may_fail told setup remote name now (errors.SaveConfig e) = (now ≡ told) × (save_as_verdict name (parts_of remote) ≡ Err e)
-IsMirrorRefusal may_fail told setup remote name now (errors.LoadConfig opening.Io) = TellsStill told now × IsRefused may_fail told (λ t. read_in t (parts_of_path (path_of setup)))
+IsMirrorRefusal may_fail told setup remote name now (errors.LoadConfig opening.Io) = (now ≡ told) × IsRefused may_fail told (λ t. read_in t (parts_of_path (path_of setup)))
 IsMirrorRefusal may_fail told setup remote name now (errors.LoadConfig opening.NoMemory) = ⊥
 IsMirrorRefusal may_fail told setup remote name now (errors.LoadConfig e) = (now ≡ told) × IsRefusedAt told (path_of setup) e
 IsMirrorRefusal may_fail told setup remote name now errors.SaveConfigIo = IsUnmirrored may_fail told setup (section_of setup remote name) now

@@ -1,10 +1,10 @@
 //! A clone is prepared, and given up.
 
-ghost use Rattle.std.specs.Prelude.{◌≡◌, IfOk, IfErr, IfSome, OnErr, IsTrue, length, ◌==◌, ◌||◌, is_some, true, false};
+ghost use Rattle.std.specs.Prelude.{◌≡◌, IfOk, IfErr, IfSome, IsErrOf, IsTrue, length, ◌==◌, ◌||◌, is_some, true, false};
 ghost use Rattle.fetch_store.specs.Faults.{Rose, Counts};
 ghost use Rattle.fetch_remote.specs.Finding.{is_no_address as is_no_address_of};
-ghost use Rattle.fetch_clone.specs.Creation.{TellsStill};
 ghost use Rattle.fetch_clone.specs.Drafts as spec;
+ghost use Rattle.fetch_clone.specs.declared.clone.Error.TheVariants as errors;
 ghost use Rattle.fetch_clone.specs.Drafts.{IsNoted, IsPrepared, IsPrepareRefusal, IsRemoved, is_clone_fault};
 
 use crate::choices::Choices;
@@ -57,6 +57,7 @@ pub(crate) fn prepare<F: Files>(
 ) -> Result<Draft, Error>
     ensures ok { IfOk result (IsPrepared (F.faults files.old) (F.faults files.new) (F.told files.old) url.now place.now making (F.told files.new)) }
     ensures refused { IfErr result (IsPrepareRefusal (F.faults files.old) (F.faults files.new) (F.may_fail files.old) (F.told files.old) url.now place.now making (F.told files.new)) }
+    ensures untouched { IsErrOf result errors.Url → files.new ≡ files.old }
     ensures cause { IfErr result (λ e. IsTrue (is_clone_fault e) → Rose (F.faults files.old) (F.faults files.new)) }
     ensures counts { Counts (F.faults files.old) (F.faults files.new) }
     ensures may_fail { F.may_fail files.new ≡ F.may_fail files.old }
@@ -117,8 +118,8 @@ fn strict(options: Options) -> Options
 
 /// Whether nothing stands at the place, or an empty directory. A listing that fails counts as no.
 fn is_free<F: Files>(files: &mut F, place: &Text) -> Result<bool, NoMemory>
-    ensures noted { IfOk result (IsNoted (F.faults files.old) (F.faults files.new) (F.told files.old) place.now (F.told files.new)) }
-    ensures err { OnErr result (TellsStill (F.told files.old) (F.told files.new)) }
+    ensures noted { IfOk result (IsNoted (F.faults files.old) (F.faults files.new) (F.told files.old) place.now) }
+    ensures tree { F.told files.new ≡ F.told files.old }
     ensures counts { Counts (F.faults files.old) (F.faults files.new) }
     ensures may_fail { F.may_fail files.new ≡ F.may_fail files.old }
 {

@@ -227,6 +227,7 @@ fn update(
 /// Lets `HEAD` take what is aimed at. References are written packed.
 fn turn(alloc: Global, repo: &mut Repository, message: &[u8], aim: Aim) -> Result<(), NoMemory>
     ensures state { OnOk result (state_of repo.new ≡ spec.moved (setup_of repo.old) (state_of repo.old) message.now aim) }
+    ensures err { OnErr result (state_of repo.new ≡ state_of repo.old) }
     ensures setup { setup_of repo.new ≡ setup_of repo.old }
 {
     let edits = edits_of(alloc, message, aim)?;
@@ -259,7 +260,7 @@ fn save_if<F: Files>(
     }
 }
 
-/// Writes the whole local file into `config`, and puts it into force.
+/// Writes the whole local file into `config`, and puts it into force. All memory for that is taken before.
 fn save_local<F: Files>(
     alloc: Global,
     repo: &mut Repository,
@@ -275,11 +276,12 @@ fn save_local<F: Files>(
     ensures counts { Counts (F.faults files.old) (F.faults files.new) }
     ensures may_fail { F.may_fail files.new ≡ F.may_fail files.old }
 {
-    write_local(alloc, files, repo.git_dir(), &local)?;
-    match repo.replace_local(alloc, local) {
-        Ok(()) => Ok(()),
-        Err(_) => Err(Error::NoMemory),
-    }
+    let Ok(resolved) = repo.resolve_local(alloc, local) else {
+        return Err(Error::NoMemory);
+    };
+    write_local(alloc, files, repo.git_dir(), &resolved.file)?;
+    repo.put_local(resolved);
+    Ok(())
 }
 
 /// Writes the whole local file into the file `config` in the directory.

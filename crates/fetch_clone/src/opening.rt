@@ -1,6 +1,6 @@
 //! A repository is opened whose files were created.
 
-ghost use Rattle.std.specs.Prelude.{◌≡◌, IfOk, IfErr, IsErrOf, OnOk, OnErr, IsTrue, Some, is_some, codes};
+ghost use Rattle.std.specs.Prelude.{◌≡◌, IfOk, IfErr, IsErrOf, OnOk, OnErr, IsTrue, Some, codes};
 ghost use Rattle.fetch_store.specs.FileCalls.{IsRefused};
 ghost use Rattle.fetch_store.specs.Faults.{Rose, Counts};
 ghost use Rattle.fetch_store.specs.Paths.{parts_of};
@@ -9,7 +9,7 @@ ghost use Rattle.fetch_clone.specs.Branches.{default_branch_of, branch_of as bra
 ghost use Rattle.fetch_clone.specs.Initial as spec;
 ghost use Rattle.fetch_clone.specs.Initial.{IsBranchRefusal, IsInitial, IsLocal, IsNew, IsUnopened, IsUnready, is_init_fault};
 ghost use Rattle.fetch_remote.specs.Paths.{config_path as path_of_config};
-ghost use Rattle.fetch_remote.specs.Reloads.{IsRefusedAt, KeepsTree};
+ghost use Rattle.fetch_remote.specs.Reloads.{IsRefusedAt};
 ghost use Rattle.fetch_remote.specs.Repositories.{state_of, setup_of, setup_in, state_in, IsOpenRefusal};
 ghost use Rattle.fetch_remote.specs.declared.repository.open_error.OpenError.TheVariants as errors;
 
@@ -64,7 +64,7 @@ pub(crate) fn open_new<F: Files>(
     files: &mut F,
     new: New,
 ) -> Result<Repository, Error>
-    ensures tree { OnOk result (F.told files.new ≡ F.told files.old) }
+    ensures tree { F.told files.new ≡ F.told files.old }
     ensures repo { IfOk result (IsInitial (F.told files.old) new) }
     ensures refused { IfErr result (IsUnready (F.may_fail files.old) (F.told files.old) new (F.told files.new)) }
     ensures cause { IfErr result (λ e. IsTrue (is_init_fault e) → Rose (F.faults files.old) (F.faults files.new)) }
@@ -82,9 +82,7 @@ fn read_local<F: Files>(alloc: Global, files: &mut F, git_dir: &Text) -> Result<
     ensures io { IsErrOf result errors.Io → Rose (F.faults files.old) (F.faults files.new) }
     ensures in_the_way { IsErrOf result errors.Io → IsRefused (F.may_fail files.old) (F.told files.old) (λ t. read_in t (parts_of (path_of_config git_dir.now))) }
     ensures counts { Counts (F.faults files.old) (F.faults files.new) }
-    ensures tree { is_some (F.told files.new) ≡ is_some (F.told files.old) }
-    ensures same_tree { OnOk result (F.told files.new ≡ F.told files.old) }
-    ensures kept_tree { IfErr result (KeepsTree (F.told files.old) (F.told files.new)) }
+    ensures tree { F.told files.new ≡ F.told files.old }
     ensures may_fail { F.may_fail files.new ≡ F.may_fail files.old }
 {
     let path = config_path(alloc, git_dir.as_bytes())?;

@@ -7,6 +7,7 @@ ghost use Rattle.fetch_store.specs.Faults.{Rose, Counts};
 ghost use Rattle.fetch_clone.specs.Choices.{ChoosesRevision, RefNameVerdict, ref_name_chosen, with_wanted};
 ghost use Rattle.fetch_clone.specs.Drafts.{IsPrepared, IsPrepareRefusal, IsRemoved, is_removed, is_clone_fault, with_choices, making_of};
 ghost use Rattle.fetch_clone.specs.Revisions.{IsRevisionRefusal};
+ghost use Rattle.fetch_clone.specs.declared.clone.Error.TheVariants as causes;
 
 use crate::create::{Kind, Options};
 use crate::draft::{Draft, Making, give_up, prepare};
@@ -73,6 +74,7 @@ impl<F: Files + Drop, C: Connect + Drop, R: Drop, G: Drop> PrepareFetch<F, C, R,
         ensures ok { IfOk result (λ p. IsPrepared (F.faults files) (F.faults p.files) (F.told files) url.now path.now (making_of kind create_options open_options committer) (F.told p.files) p.draft) }
         ensures kept { IfOk result (λ p. (p.maker ≡ maker) × (p.configure_remote ≡ configure_remote) × (p.configure_connection ≡ configure_connection)) }
         ensures refused { IfErr result (λ e. IsPrepareRefusal (F.faults files) (F.faults e.0) (F.may_fail files) (F.told files) url.now path.now (making_of kind create_options open_options committer) (F.told e.0) e.1) }
+        ensures untouched { IfErr result (λ e. e.1 ≡ causes.Url → e.0 ≡ files) }
         ensures cause { IfErr result (λ e. IsTrue (is_clone_fault e.1) → Rose (F.faults files) (F.faults e.0)) }
         ensures counts { MatchResult result (λ p. Counts (F.faults files) (F.faults p.files)) (λ e. Counts (F.faults files) (F.faults e.0)) }
         ensures may_fail { MatchResult result (λ p. F.may_fail p.files ≡ F.may_fail files) (λ e. F.may_fail e.0 ≡ F.may_fail files) }

@@ -1,4 +1,4 @@
-use Rattle.std.proofs.Common.{◌≡◌, ◌∙◌}
+use Rattle.std.proofs.Common.{◌≡◌, inl, refl, ◌∙◌}
 use Rattle.fetch_clone.specs.declared.clone.fetch.Error.TheVariants as errors
 use Rattle.std.specs.Option.{option_copied}
 use Rattle.std.proofs.lemmas.Result.{err_from_is_err_and, on_ok_weaker}
@@ -16,6 +16,16 @@ returns-in_err-aim-clause-io g c is =
     let p = err_from_is_err_and c.from_residual.result c.from_residual.ensures.1 in
     let e : c.in_err-aim.field-0.0 ≡ errors.SaveConfigIo = cc in
     absurd (never-written (state_of c.args.repo.now) c.args.map.now (option_copied c.args.ref_name) (option_copied c.args.revision) c.in_err-aim.field-0.0 c.in_err-aim.ensures.refused e)
+
+pub returns-in_err-local-clause-refused : goal.returns-in_err-local-clause-refused
+returns-in_err-local-clause-refused g c =
+    let p = err_from_is_err_and c.from_residual-in_err-local.result c.from_residual-in_err-local.ensures.1 in
+    rw (p.1, p.2) (inl (record { state = refl; setup = refl; tree = refl }))
+
+pub returns-in_err-turn-clause-refused : goal.returns-in_err-turn-clause-refused
+returns-in_err-turn-clause-refused g c =
+    let p = err_from_is_err_and c.from_residual-in_err-turn.result c.from_residual-in_err-turn.ensures.1 in
+    rw (p.1, p.2) (inl (record { state = c.in_err-turn.ensures.err; setup = c.turn.ensures.setup; tree = refl }))
 
 pub returns-clause-ok : goal.returns-clause-ok
 returns-clause-ok g c =

@@ -9,7 +9,7 @@ pub returns-in_err-local-clause-refused : goal.returns-in_err-local-clause-refus
 returns-in_err-local-clause-refused g c =
     let p = err_from_is_err_and c.from_residual.result c.from_residual.ensures.1 in
     let e = c.in_err-local.ensures in
-    rw (p.1, p.2) (unread (g.F.Files.may_fail c.args.files.now) (g.F.Files.told c.args.files.now) (g.F.Files.told c.read_local.new.files) c.args.new c.in_err-local.field-0.0 e.refused e.kept_tree e.tree (λ is. e.in_the_way (rw is refl)))
+    rw (p.1, p.2) (unread (g.F.Files.may_fail c.args.files.now) (g.F.Files.told c.args.files.now) (g.F.Files.told c.read_local.new.files) c.args.new c.in_err-local.field-0.0 e.refused e.tree (λ is. e.in_the_way (rw is refl)))
 
 pub returns-in_err-local-clause-cause : goal.returns-in_err-local-clause-cause
 returns-in_err-local-clause-cause g c =
@@ -26,7 +26,7 @@ returns-clause-refused g c =
     let before = g.F.Files.told c.args.files.now in
     let now = g.F.Files.told c.read_local.new.files in
     each-err (IsUnopened c.args.new c.in_ok-local.local) (IsUnready (g.F.Files.may_fail c.args.files.now) before c.args.new now)
-    (λ e why. unopened (g.F.Files.may_fail c.args.files.now) before now c.args.new c.in_ok-local.local e c.in_ok-local.ensures.same_tree c.in_ok-local.ensures.file why) c.opened.result c.opened.ensures.refused
+    (λ e why. unopened (g.F.Files.may_fail c.args.files.now) before now c.args.new c.in_ok-local.local e c.in_ok-local.ensures.tree c.in_ok-local.ensures.file why) c.opened.result c.opened.ensures.refused
 
 pub returns-clause-cause : goal.returns-clause-cause
 returns-clause-cause g c =
