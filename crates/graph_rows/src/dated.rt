@@ -1,0 +1,151 @@
+//! The dated path, and how much of a graph its test reads.
+
+ghost use Rattle.std.specs.Prelude.{◌≡◌, ◌↔◌, ◌<◌, IsTrue, IfOk};
+ghost use Rattle.fetch_store.specs.Graph.{graph_of};
+ghost use Rattle.fetch_update.specs.Dated.{IsCommit, HasDatedPath};
+
+use crate::words::{id_of, say, split_word};
+use fetch_store::{NoMemory, ObjectId, ObjectKind, Objects, Parents, Steps, Store, decimal};
+use fetch_update::laws::is_dated_ancestor;
+use std::alloc::Global;
+use std::cell::Cell;
+use std::marker::Brand;
+use std::sync::ledger::{Blank, Ledger};
+
+/// Whether a dated path leads from one stored commit to another.
+fn has_dated_path<O: Objects>(
+    alloc: Global,
+    objects: &O,
+    from: &ObjectId,
+    to: &ObjectId,
+) -> Result<bool, NoMemory>
+    requires from { IsCommit (O.graph objects.now) from.now }
+    requires to { IsCommit (O.graph objects.now) to.now }
+    ensures { IfOk result (λ found. IsTrue found ↔ HasDatedPath (O.graph objects.now) from.now to.now) }
+{
+    counted::<O, Brand>(alloc, objects, from, to, Blank::new(1))
+}
+
+fn counted<O: Objects, L: Ledger>(
+    alloc: Global,
+    objects: &O,
+    from: &ObjectId,
+    to: &ObjectId,
+    blank: Blank,
+) -> Result<bool, NoMemory>
+    requires from { IsCommit (O.graph objects.now) from.now }
+    requires to { IsCommit (O.graph objects.now) to.now }
+    requires name { blank.name ≡ L.name }
+    requires parts { blank.parts ≡ L.parts }
+    requires some { 0 < blank.parts }
+    ensures { IfOk result (λ found. IsTrue found ↔ HasDatedPath (O.graph objects.now) from.now to.now) }
+{
+    let mut steps: Steps<L> = Steps::new(blank);
+    is_dated_ancestor(alloc, objects, from, to, &mut steps)
+}
+
+/// None where one of the two is no commit.
+#[tactic(auto, using(fetch_update::proofs::CommitTests::commit_test))]
+fn answer<O: Objects>(
+    alloc: Global,
+    objects: &O,
+    from: &ObjectId,
+    to: &ObjectId,
+) -> Result<Option<bool>, NoMemory> {
+    if !objects.is_commit(from) {
+        return Ok(None);
+    }
+    if !objects.is_commit(to) {
+        return Ok(None);
+    }
+    Ok(Some(has_dated_path(alloc, objects, from, to)?))
+}
+
+/// Tells whether a dated path leads from one commit to another.
+pub(crate) fn tell<O: Objects>(
+    alloc: Global,
+    objects: &O,
+    from: &ObjectId,
+    to: &ObjectId,
+    out: &mut Vec<u8>,
+) -> Result<(), NoMemory> {
+    match answer(alloc, objects, from, to)? {
+        Some(true) => say(out, &[b"path"]),
+        Some(false) => say(out, &[b"no path"]),
+        None => say(out, &[b"no commit"]),
+    }
+}
+
+/// A store that counts the commits and the parent links that are read.
+#[derive(Drop)]
+struct Counting<'a> {
+    store: &'a Store,
+    commits: Cell<u64>,
+    links: Cell<u64>,
+}
+
+impl Objects for Counting<'_> {
+    ghost graph = { λ c. graph_of c.store.now.objects };
+
+    fn len(&self) -> usize {
+        Objects::len(self.store)
+    }
+
+    fn kind_of(&self, id: &ObjectId) -> Option<ObjectKind> {
+        self.store.kind_of(id)
+    }
+
+    fn parents(&self, id: &ObjectId) -> Parents<'_> {
+        for _parent in self.store.parents(id) {
+            self.links.set(self.links.get().wrapping_add(1));
+        }
+        self.store.parents(id)
+    }
+
+    fn parent(&self, id: &ObjectId, index: usize) -> Option<ObjectId> {
+        self.store.parent(id, index)
+    }
+
+    fn seconds(&self, id: &ObjectId) -> Option<u64> {
+        self.commits.set(self.commits.get().wrapping_add(1));
+        self.store.seconds(id)
+    }
+
+    fn tag_target(&self, id: &ObjectId) -> Option<ObjectId> {
+        self.store.tag_target(id)
+    }
+}
+
+/// `<id> <id> <commits> <links>`: the same, and whether no more commits and links are read. Whether the words are these.
+pub(crate) fn tell_reads(
+    alloc: Global,
+    store: &Store,
+    rest: &[u8],
+    out: &mut Vec<u8>,
+) -> Result<bool, NoMemory> {
+    let (from, rest) = split_word(rest);
+    let (to, most) = split_word(rest);
+    let (Some(from), Some(to)) = (id_of(from), id_of(to)) else {
+        return Ok(false);
+    };
+    let counting = Counting {
+        store,
+        commits: Cell::new(0),
+        links: Cell::new(0),
+    };
+    tell(alloc, &counting, &from, &to, out)?;
+    tell_counts(&counting, most, out)?;
+    Ok(true)
+}
+
+/// `<commits> <links>`: whether no more are read.
+fn tell_counts(counting: &Counting<'_>, most: &[u8], out: &mut Vec<u8>) -> Result<(), NoMemory> {
+    let (commits, links) = split_word(most);
+    let commits = decimal(commits).unwrap_or(0);
+    let links = decimal(links).unwrap_or(0);
+    if counting.commits.get() <= commits && counting.links.get() <= links {
+        say(out, &[b"within"])
+    } else {
+        say(out, &[b"beyond"])
+    }
+}

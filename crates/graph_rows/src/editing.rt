@@ -1,0 +1,86 @@
+//! Edits of references, as lines say them.
+
+use crate::words::{id_of, name_of, split_word};
+use fetch_refs::{Change, LogChange, PreviousValue, RefEdit, RefLog, Target};
+use fetch_specs::FullName;
+use fetch_store::{NoMemory, Text};
+use std::alloc::Global;
+
+/// The target that a word is: an id, or a name.
+pub(crate) fn target_of(alloc: Global, word: &[u8]) -> Result<Option<Target>, NoMemory> {
+    if let Some(id) = id_of(word) {
+        return Ok(Some(Target::Object(id)));
+    }
+    match name_of(alloc, word)? {
+        Some(name) => Ok(Some(Target::Symbolic(name))),
+        None => Ok(None),
+    }
+}
+
+/// An update with the message `made`, which `force` writes where no reflog would be written, and `log` writes alone.
+fn update_of(alloc: Global, word: &[u8], name: FullName, new: Target) -> Result<RefEdit, NoMemory> {
+    let is_alone = word == b"log".as_slice();
+    let is_new = word == b"new".as_slice();
+    Ok(RefEdit {
+        change: Change::Update {
+            log: LogChange {
+                mode: if is_alone {
+                    RefLog::Only
+                } else {
+                    RefLog::AndReference
+                },
+                force_create_reflog: word == b"force".as_slice(),
+                message: Text::new(alloc, b"made")?,
+            },
+            expected: if is_new {
+                PreviousValue::MustNotExist
+            } else {
+                PreviousValue::Any
+            },
+            new,
+        },
+        name,
+    })
+}
+
+fn delete_of(name: FullName, log: RefLog) -> RefEdit {
+    RefEdit {
+        change: Change::Delete {
+            expected: PreviousValue::MustExist,
+            log,
+        },
+        name,
+    }
+}
+
+fn is_update(word: &[u8]) -> bool {
+    [
+        b"set".as_slice(),
+        b"new".as_slice(),
+        b"force".as_slice(),
+        b"log".as_slice(),
+    ]
+    .contains(&word)
+}
+
+/// The edit that a line asks for: `set`, `new`, `force` or `log`, a name and a target; or `delete` or `delete-log` and a name.
+pub(crate) fn edit_of(
+    alloc: Global,
+    word: &[u8],
+    rest: &[u8],
+) -> Result<Option<RefEdit>, NoMemory> {
+    let (name, target) = split_word(rest);
+    let Some(name) = name_of(alloc, name)? else {
+        return Ok(None);
+    };
+    if word == b"delete".as_slice() {
+        return Ok(Some(delete_of(name, RefLog::AndReference)));
+    }
+    if word == b"delete-log".as_slice() {
+        return Ok(Some(delete_of(name, RefLog::Only)));
+    }
+    match target_of(alloc, target)? {
+        Some(target) if is_update(word) => Ok(Some(update_of(alloc, word, name, target)?)),
+        _ => Ok(None),
+    }
+}
