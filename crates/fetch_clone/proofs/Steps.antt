@@ -1,5 +1,5 @@
 -- One step more.
-use Rattle.std.proofs.Common.{◌≡◌, ℕ, ◌+◌, ◌<◌, ◌≤◌, Bool, true, false, get_or, subst, sym, List, [], ◌∷◌, ◌++◌, take, length, Option, Some, None, Result, Ok, Err, IfErr, IsErrAnd, is_some, IfSome, refl, ap, ◌∙◌, arith}
+use Rattle.std.proofs.Common.{◌≡◌, ℕ, ◌+◌, ◌<◌, ◌≤◌, Bool, true, false, get_or, subst, sym, List, [], ◌∷◌, ◌++◌, take, length, Option, Some, None, Result, Ok, Err, IfErr, IsErrAnd, IfSome, refl, ap, ◌∙◌, arith}
 use Rattle.std.proofs.lemmas.List.{take_more}
 use Rattle.std.specs.Option.{option_and_then}
 use Rattle.fetch_store.specs.Trees.{Tree}
