@@ -32,23 +32,64 @@ fn create<F: Files>(
     }
 }
 
-/// A bare repository, and again; one with a work tree, and again; and one of SHA-256 without symbolic links.
-pub(crate) fn tell(alloc: Global, out: &mut Vec<u8>) -> Result<(), NoMemory> {
-    let mut files = MemoryFiles::new(alloc, Vec::new(alloc));
-    let usual = Options::default();
+/// Creates a repository, and tells its configuration.
+fn create_and_show(
+    alloc: Global,
+    files: &mut MemoryFiles,
+    directory: &[u8],
+    kind: Kind,
+    config: &[u8],
+    out: &mut Vec<u8>,
+) -> Result<(), NoMemory> {
+    create(alloc, files, directory, kind, Options::default(), out)?;
+    say_file(files, config, out)
+}
+
+/// A bare repository, and again.
+fn tell_bare(alloc: Global, files: &mut MemoryFiles, out: &mut Vec<u8>) -> Result<(), NoMemory> {
     say(out, &[b"= a bare repository, and again"])?;
-    create(alloc, &mut files, b"/srv/a.git", Kind::Bare, usual, out)?;
-    say_file(&mut files, b"/srv/a.git/config", out)?;
-    say_file(&mut files, b"/srv/a.git/HEAD", out)?;
-    create(alloc, &mut files, b"/srv/a.git", Kind::Bare, usual, out)?;
-    say(out, &[b"= one with a work tree, and again"])?;
-    create(alloc, &mut files, b"/w", Kind::WithWorktree, usual, out)?;
-    say_file(&mut files, b"/w/.git/config", out)?;
-    create(alloc, &mut files, b"/w", Kind::WithWorktree, usual, out)?;
-    say(
+    create_and_show(
+        alloc,
+        files,
+        b"/srv/a.git",
+        Kind::Bare,
+        b"/srv/a.git/config",
         out,
-        &[b"= one of SHA-256, where there are no symbolic links"],
     )?;
+    say_file(files, b"/srv/a.git/HEAD", out)?;
+    create(
+        alloc,
+        files,
+        b"/srv/a.git",
+        Kind::Bare,
+        Options::default(),
+        out,
+    )
+}
+
+/// One with a work tree, and again.
+fn tell_beside(alloc: Global, files: &mut MemoryFiles, out: &mut Vec<u8>) -> Result<(), NoMemory> {
+    say(out, &[b"= one with a work tree, and again"])?;
+    create_and_show(
+        alloc,
+        files,
+        b"/w",
+        Kind::WithWorktree,
+        b"/w/.git/config",
+        out,
+    )?;
+    create(
+        alloc,
+        files,
+        b"/w",
+        Kind::WithWorktree,
+        Options::default(),
+        out,
+    )
+}
+
+/// One of SHA-256 without symbolic links.
+fn tell_other(alloc: Global, files: &mut MemoryFiles, out: &mut Vec<u8>) -> Result<(), NoMemory> {
     let other = Options {
         object_hash: Some(fetch_store::Kind::Sha256),
         fs_capabilities: Some(create::Capabilities {
@@ -57,10 +98,29 @@ pub(crate) fn tell(alloc: Global, out: &mut Vec<u8>) -> Result<(), NoMemory> {
             ignore_case: false,
             precompose_unicode: false,
         }),
-        ..usual
+        ..Options::default()
     };
-    create(alloc, &mut files, b"/v", Kind::WithWorktree, other, out)?;
-    say_file(&mut files, b"/v/.git/config", out)
+    say(
+        out,
+        &[b"= one of SHA-256, where there are no symbolic links"],
+    )?;
+    create(alloc, files, b"/v", Kind::WithWorktree, other, out)?;
+    say_file(files, b"/v/.git/config", out)
+}
+
+/// A bare repository, one with a work tree, and one of SHA-256.
+pub(crate) fn tell(alloc: Global, out: &mut Vec<u8>) -> Result<(), NoMemory> {
+    let mut files = MemoryFiles::new(alloc, Vec::new(alloc));
+    tell_bare(alloc, &mut files, out)?;
+    tell_beside(alloc, &mut files, out)?;
+    tell_other(alloc, &mut files, out)
+}
+
+/// What stands of a repository on the host.
+fn show_on_host<F: Files>(files: &mut F, out: &mut Vec<u8>) -> Result<(), NoMemory> {
+    say_file(files, b"made.git/config", out)?;
+    say_file(files, b"made.git/HEAD", out)?;
+    say_place(files, b"made.git/refs/tags", out)
 }
 
 /// A bare repository on the host, where the program runs, and again. It is removed then.
@@ -72,9 +132,7 @@ pub(crate) fn tell_on_host<F: Files>(
     let usual = Options::default();
     say(out, &[b"= a bare repository on the host, and again"])?;
     create(alloc, files, b"made.git", Kind::Bare, usual, out)?;
-    say_file(files, b"made.git/config", out)?;
-    say_file(files, b"made.git/HEAD", out)?;
-    say_place(files, b"made.git/refs/tags", out)?;
+    show_on_host(files, out)?;
     create(alloc, files, b"made.git", Kind::Bare, usual, out)?;
     let _ = files.remove_dir_all(b"made.git");
     say_place(files, b"made.git", out)

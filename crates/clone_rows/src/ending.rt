@@ -9,6 +9,13 @@ use fetch_store::{Files, MemoryFiles, NoMemory};
 use std::alloc::{Alloc, Global};
 use std::fs::Files as HostCalls;
 
+/// What stands at a clone's place.
+fn show_place(files: &mut MemoryFiles, out: &mut Vec<u8>) -> Result<(), NoMemory> {
+    say_place(files, b"/w", out)?;
+    say_place(files, b"/w/.git/config", out)?;
+    say_place(files, b"/w/notes", out)
+}
+
 /// Prepares a clone and gives it up, and tells what stands at its place.
 fn give_up(
     alloc: Global,
@@ -36,9 +43,7 @@ fn give_up(
             files
         }
     };
-    say_place(&mut files, b"/w", out)?;
-    say_place(&mut files, b"/w/.git/config", out)?;
-    say_place(&mut files, b"/w/notes", out)
+    show_place(&mut files, out)
 }
 
 /// Files in memory, with one of a user in the directory `/w`.
@@ -50,27 +55,35 @@ fn with_notes(alloc: Global) -> Result<MemoryFiles, NoMemory> {
     }
 }
 
-/// A free place, and a place with a file of its user, where that may be.
-pub(crate) fn tell(alloc: Global, out: &mut Vec<u8>) -> Result<(), NoMemory> {
-    let usual = Options::default();
-    say(out, &[b"= given up at a free place"])?;
-    let files = MemoryFiles::new(alloc, Vec::new(alloc));
-    give_up(alloc, files, usual, out)?;
+/// A place with a file of its user, and the same where the place needn't be empty.
+fn tell_used(alloc: Global, out: &mut Vec<u8>) -> Result<(), NoMemory> {
     say(out, &[b"= a place with a file of its user"])?;
-    give_up(alloc, with_notes(alloc)?, usual, out)?;
-    say(out, &[b"= the same, where the place needn't be empty"])?;
+    give_up(alloc, with_notes(alloc)?, Options::default(), out)?;
     let any = Options {
         destination_must_be_empty: Some(false),
-        ..usual
+        ..Options::default()
     };
-    give_up(alloc, with_notes(alloc)?, any, out)?;
-    // The first call asks what stands at the place, and the fifteenth is the removal.
-    say(out, &[b"= the place can't be listed, so it isn't removed"])?;
-    let unlisted = MemoryFiles::new(alloc, Vec::from_slice(alloc, &[0])?);
-    give_up(alloc, unlisted, usual, out)?;
-    say(out, &[b"= the removal fails, which is ignored"])?;
-    let lasting = MemoryFiles::new(alloc, Vec::from_slice(alloc, &[14])?);
-    give_up(alloc, lasting, usual, out)
+    say(out, &[b"= the same, where the place needn't be empty"])?;
+    give_up(alloc, with_notes(alloc)?, any, out)
+}
+
+/// A place over files of which one call fails.
+fn tell_failing(alloc: Global, title: &[u8], call: u64, out: &mut Vec<u8>) -> Result<(), NoMemory> {
+    say(out, &[title])?;
+    let files = MemoryFiles::new(alloc, Vec::from_slice(alloc, &[call])?);
+    give_up(alloc, files, Options::default(), out)
+}
+
+/// A free place, a place with a file of its user, and a free place where the first call fails, which asks what stands
+/// there, or the fifteenth, which is the removal.
+pub(crate) fn tell(alloc: Global, out: &mut Vec<u8>) -> Result<(), NoMemory> {
+    say(out, &[b"= given up at a free place"])?;
+    let files = MemoryFiles::new(alloc, Vec::new(alloc));
+    give_up(alloc, files, Options::default(), out)?;
+    tell_used(alloc, out)?;
+    let unlisted = b"= the place can't be listed, so it isn't removed";
+    tell_failing(alloc, unlisted, 0, out)?;
+    tell_failing(alloc, b"= the removal fails, which is ignored", 14, out)
 }
 
 /// A clone on the host, where the program runs, that is dropped.
