@@ -6,3 +6,10 @@ pub mod Opened
 pub mod Prepared
 pub mod Branched
 pub mod Headed
+pub mod Returned
+pub mod Uncounted
+pub mod Counted
+pub mod Answered
+pub mod Targeting
+pub mod Completing
+pub mod StepsCounted

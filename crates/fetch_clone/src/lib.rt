@@ -8,6 +8,7 @@ pub mod clone;
 mod configuration;
 pub mod create;
 mod draft;
+mod fetching;
 mod heading;
 mod host_files;
 pub mod init;

@@ -1,0 +1,12 @@
+//! The steps by which a clone is fetched into.
+
+mod completing;
+mod fetch_only;
+mod finishing;
+mod listing;
+mod planning;
+mod reaching;
+mod receiving;
+pub(crate) mod saving;
+mod taking;
+mod targeting;

@@ -1,0 +1,131 @@
+//! What a clone listed is fetched.
+
+ghost use Rattle.std.specs.Prelude.{◌≡◌, ℕ, List, Option, IfOk, IfErr, IsErrOf, OnOk};
+ghost use Rattle.fetch_store.specs.Faults.{Counts, Rose};
+ghost use Rattle.fetch_conversation.specs.declared.fetch.Error.TheVariants as receive_errors;
+ghost use Rattle.fetch_wire.specs.Talks.{Talk};
+ghost use Rattle.fetch_remote.specs.Fetched.{IsFetched};
+ghost use Rattle.fetch_remote.specs.Repositories.{state_of, setup_of};
+ghost use Rattle.fetch_clone.specs.Received as spec;
+ghost use Rattle.fetch_clone.specs.Received.{WasListed};
+ghost use Rattle.fetch_clone.specs.declared.clone.fetch.Error.TheVariants as errors;
+
+use crate::aim::{Unaimed, revision_id};
+use crate::choices::Wanted;
+use crate::clone::fetch::Error;
+use crate::draft::Draft;
+use crate::heading::refusal_of;
+use crate::meant::meaning_of;
+use fetch_conversation::Progress;
+use fetch_remote::phases::fetch_on;
+use fetch_remote::{Outcome, Prepared, Remote, Repository};
+use fetch_specs::{PartialName, RefSpec};
+use fetch_store::{Files, NoMemory, Text};
+use fetch_update::{RefLogMessage, Worktrees};
+use fetch_wire::{Interrupt, Peer, RefMap};
+use std::alloc::Global;
+use std::thread::Threads;
+
+/// Fetches what was listed, where what is wanted is mapped. References are written packed, and reflogs say where the clone is
+/// from.
+// Many arguments: those of a fetch that goes on with what was listed.
+pub(crate) fn received<
+    T: Threads + Sync,
+    P: Peer,
+    Q: Progress,
+    I: Interrupt,
+    F: Files,
+    W: Worktrees,
+>(
+    rt: &T,
+    alloc: Global,
+    draft: &Draft,
+    remote: &Remote,
+    prepared: Prepared,
+    repo: &mut Repository,
+    peer: &mut P,
+    progress: &mut Q,
+    interrupt: &mut I,
+    files: &mut F,
+    worktrees: &mut W,
+) -> Result<Outcome, Error>
+    ensures mapped { OnOk result (spec.IsMapped draft.now.choices.wanted prepared.listed.ref_map) }
+    ensures fetched { IfOk result (λ outcome. (begun : Option Talk) → WasListed P.answers begun (P.told peer.old) remote.now (setup_of repo.old) prepared
+        → IsFetched P.answers begun (P.told peer.new) (W.told worktrees.old) (F.told files.old) (F.told files.new) (spec.given draft.now remote.now prepared (setup_of repo.old)) (state_of repo.old) (state_of repo.new) outcome) }
+    ensures refused { IfErr result (λ e. (begun : Option Talk) → WasListed P.answers begun (P.told peer.old) remote.now (setup_of repo.old) prepared
+        → spec.IsUnreceived P.answers begun (P.told peer.new) (W.told worktrees.old) (F.told files.old) (F.told files.new) draft.now.choices.wanted prepared.listed.ref_map (spec.given draft.now remote.now prepared (setup_of repo.old)) (state_of repo.old) (state_of repo.new) e) }
+    ensures kind { IfErr result (spec.IsOfReceiving draft.now.choices.wanted prepared.listed.ref_map) }
+    ensures setup { setup_of repo.new ≡ setup_of repo.old }
+    ensures counts { Counts (P.faults peer.old) (P.faults peer.new) }
+    ensures client { IsErrOf result (errors.Fetch receive_errors.Client) → Rose (P.faults peer.old) (P.faults peer.new) }
+    ensures asked { Counts (I.yes interrupt.old) (I.yes interrupt.new) }
+    ensures stopped { IsErrOf result (errors.Fetch receive_errors.Interrupted) → Rose (I.yes interrupt.old) (I.yes interrupt.new) }
+    ensures file_counts { Counts (F.faults files.old) (F.faults files.new) }
+    ensures keep_file { (path : List ℕ) → IsErrOf result (errors.Fetch (receive_errors.KeepFile path)) → Rose (F.faults files.old) (F.faults files.new) }
+    ensures remove_keep_file { (path : List ℕ) → IsErrOf result (errors.Fetch (receive_errors.RemovePackKeepFile path)) → Rose (F.faults files.old) (F.faults files.new) }
+    ensures may_fail { F.may_fail files.new ≡ F.may_fail files.old }
+{
+    check_mapped(alloc, &draft.choices.wanted, &prepared.listed.ref_map)?;
+    let prepared = ordered(alloc, draft, prepared)?;
+    match fetch_on(
+        rt, alloc, remote, prepared, repo, peer, progress, interrupt, files, worktrees,
+    ) {
+        Ok(outcome) => Ok(outcome),
+        Err(e) => Err(Error::from(e)),
+    }
+}
+
+/// What was listed, to be fetched as the clone is.
+fn ordered(alloc: Global, draft: &Draft, prepared: Prepared) -> Result<Prepared, NoMemory>
+    ensures listed { IfOk result (λ p. p.listed ≡ prepared.listed) }
+    ensures options { IfOk result (λ p. p.options ≡ spec.options_of draft.now prepared.options) }
+{
+    let message = message_of(alloc, draft)?;
+    let shallow = draft.choices.shallow.try_clone()?;
+    let mut prepared = prepared;
+    prepared.options.write_packed_refs_only = true;
+    prepared.options.reflog_message = Some(RefLogMessage::Override { message });
+    prepared.options.shallow = shallow;
+    Ok(prepared)
+}
+
+/// What reflogs say.
+pub(crate) fn message_of(alloc: Global, draft: &Draft) -> Result<Text, NoMemory>
+    ensures { IfOk result (λ message. message ≡ spec.message_of draft.now) }
+{
+    let mut message = Vec::from_slice(alloc, b"clone: from ")?;
+    message.extend_from_slice(draft.url.as_bytes())?;
+    Ok(Text::from(message))
+}
+
+/// The ref name has to mean one of the mapped references, and the revision to be mapped.
+fn check_mapped(alloc: Global, wanted: &Wanted, map: &RefMap) -> Result<(), Error>
+    ensures ok { OnOk result (spec.IsMapped wanted.now map.now) }
+    ensures refused { IfErr result (spec.IsUnmapped wanted.now map.now) }
+{
+    match wanted {
+        Wanted::Everything => Ok(()),
+        Wanted::RefName(name) => check_name(alloc, name, map),
+        Wanted::Revision(revision) => check_revision(alloc, revision, map),
+    }
+}
+
+fn check_name(alloc: Global, name: &PartialName, map: &RefMap) -> Result<(), Error>
+    ensures ok { OnOk result (spec.IsMapped (Wanted.RefName name.now) map.now) }
+    ensures refused { IfErr result (spec.IsUnmapped (Wanted.RefName name.now) map.now) }
+{
+    match meaning_of(alloc, map.mappings.as_slice(), name) {
+        Ok(_) => Ok(()),
+        Err(e) => Err(refusal_of(alloc, Some(name), None, Unaimed::Name(e))),
+    }
+}
+
+fn check_revision(alloc: Global, revision: &RefSpec, map: &RefMap) -> Result<(), Error>
+    ensures ok { OnOk result (spec.IsMapped (Wanted.Revision revision.now) map.now) }
+    ensures refused { IfErr result (spec.IsUnmapped (Wanted.Revision revision.now) map.now) }
+{
+    match revision_id(map, revision) {
+        Some(_) => Ok(()),
+        None => Err(refusal_of(alloc, None, Some(revision), Unaimed::Revision)),
+    }
+}
