@@ -1,0 +1,8 @@
+pub mod Arrived
+pub mod Calm
+pub mod Closed
+pub mod Fetched
+pub mod Keeps
+pub mod Races
+pub mod Rows
+pub mod Seated

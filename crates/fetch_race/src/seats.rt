@@ -1,0 +1,254 @@
+//! Jobs that get passes, and give them back.
+
+ghost use Rattle.std.specs.Prelude.{◌≡◌, ℕ, ◌<◌, ◌≤◌, ◌+◌, All, Err, IfOk, IsOkUnless, IfSome, IsSome, MatchOption, Some, length, map, slice_get, vec_len};
+ghost use Rattle.fetch_store.specs.Missing.{unclosed};
+ghost use Rattle.fetch_race.specs.Racing.{IsRaced};
+ghost use Rattle.fetch_race.specs.Seats.{AreGathered, AreOver, AreSeated, HaveRaced, HoldsAll, IsJoined, IsOwn, IsRest, IsSeated, answer_in};
+ghost use Rattle.fetch_shared.specs.Journals.{pass_of};
+ghost use Rattle.fetch_shared.specs.Machine.{held};
+ghost use Rattle.fetch_shared.specs.Passes.{Holder};
+ghost use Rattle.fetch_shared.specs.Shared.{IsKept};
+ghost use Rattle.fetch_shared.specs.declared.error.SharedError.TheVariants as errors;
+
+use crate::job::{Job, Raced, Racer};
+use crate::racing::race_over;
+use fetch_remote::{Outcome, Repository};
+use fetch_shared::{Entry, Pass, SharedError, SharedRepository};
+use fetch_store::{List, NoMemory};
+use fetch_update::Worktree;
+use fetch_wire::Peer;
+use std::alloc::Global;
+use std::sync::Wait;
+use std::thread::Threads;
+
+/// Does the jobs side by side over a repository, with these work trees: job `i`, counted from 0, by the pass with the number
+/// `i`. It answers what the journal leaves, the journal, what became of each job, and the jobs' peers, in the jobs' order.
+/// `NotClosed` comes exactly where the repository isn't closed, with its first missing link, and else only out of memory;
+/// what a job was refused for is its answer.
+pub fn race_with<R: Threads + Wait + Sync, P: Peer + Drop + Send>(
+    rt: &R,
+    alloc: Global,
+    repo: Repository,
+    jobs: Vec<Job<P>>,
+    worktrees: &[Worktree],
+) -> Result<Raced<P>, SharedError>
+    requires few { (1 ≤ vec_len jobs) × (vec_len jobs ≤ 8) }
+    ensures closed { MatchOption (slice_get (unclosed (held repo)) 0) (IsOkUnless result errors.NoMemory) (λ link. result ≡ Err (errors.NotClosed link)) }
+    ensures raced { IfOk result (λ r. IsRaced (record { answers = P.answers; told = P.told; faults = P.faults; trees = worktrees.now; opening = repo }) jobs.items r) }
+{
+    match opened(alloc, repo) {
+        Ok((shared, pass)) => Ok(race_in(rt, alloc, shared, pass, jobs, worktrees)?),
+        Err(e) => Err(e),
+    }
+}
+
+/// Shares a repository, and gives the pass that holds every number.
+fn opened(alloc: Global, repo: Repository) -> Result<(SharedRepository, Pass), SharedError>
+    ensures closed { MatchOption (slice_get (unclosed (held repo)) 0) (IsOkUnless result errors.NoMemory) (λ link. result ≡ Err (errors.NotClosed link)) }
+    ensures opening { IfOk result (λ r. r.0.opening ≡ repo) }
+    ensures all { IfOk result (λ r. IsRest r.0 0 r.1) }
+{
+    SharedRepository::new(alloc, repo)
+}
+
+/// Does the jobs over a shared repository, by parts of the pass that holds every number, and closes it.
+fn race_in<R: Threads + Wait + Sync, P: Peer + Drop + Send>(
+    rt: &R,
+    alloc: Global,
+    shared: SharedRepository,
+    pass: Pass,
+    jobs: Vec<Job<P>>,
+    worktrees: &[Worktree],
+) -> Result<Raced<P>, NoMemory>
+    requires few { vec_len jobs ≤ 8 }
+    requires all { IsRest shared 0 pass }
+    ensures raced { IfOk result (λ r. IsRaced (record { answers = P.answers; told = P.told; faults = P.faults; trees = worktrees.now; opening = shared.opening }) jobs.items r) }
+{
+    match racers_of(alloc, jobs) {
+        Ok(racers) => raced(rt, alloc, shared, pass, racers, worktrees),
+        Err(e) => Err(e),
+    }
+}
+
+/// The jobs, of which none has a pass yet.
+fn racers_of<P: Drop>(alloc: Global, jobs: Vec<Job<P>>) -> Result<Vec<Racer<P>>, NoMemory>
+    ensures { IfOk result (λ racers. map (λ r. r.job) racers.items ≡ jobs.items) }
+{
+    let mut racers = Vec::with_capacity(alloc, jobs.len())?;
+    for job in jobs {
+        racers.push(Racer {
+            job,
+            pass: None,
+            answer: None,
+        })?;
+    }
+    Ok(racers)
+}
+
+/// Does the jobs, closes the repository, and tells what became of them.
+fn raced<R: Threads + Wait + Sync, P: Peer + Drop + Send>(
+    rt: &R,
+    alloc: Global,
+    shared: SharedRepository,
+    pass: Pass,
+    mut racers: Vec<Racer<P>>,
+    worktrees: &[Worktree],
+) -> Result<Raced<P>, NoMemory>
+    requires few { vec_len racers ≤ 8 }
+    requires all { IsRest shared 0 pass }
+    ensures raced { IfOk result (λ r. IsRaced (record { answers = P.answers; told = P.told; faults = P.faults; trees = worktrees.now; opening = shared.opening }) (map (λ r. r.job) racers.items) r) }
+{
+    let pass = race_among(rt, alloc, &shared, pass, racers.as_mut_slice(), worktrees);
+    let (repo, journal) = closed(rt, shared, pass);
+    told(alloc, repo, journal, racers)
+}
+
+/// What became of a race, by what became of each racer.
+fn told<P: Drop>(
+    alloc: Global,
+    repo: Repository,
+    journal: Vec<Entry>,
+    racers: Vec<Racer<P>>,
+) -> Result<Raced<P>, NoMemory>
+    requires answered { (i : ℕ) (racer : _) → slice_get racers.items i ≡ Some racer → IsSome racer.answer }
+    ensures repo { IfOk result (λ r. r.repo ≡ repo) }
+    ensures journal { IfOk result (λ r. r.journal ≡ journal.items) }
+    ensures answers { IfOk result (λ r. map Some r.answers ≡ map answer_in racers.items) }
+    ensures peers { IfOk result (λ r. r.peers ≡ map (λ r. r.job.peer) racers.items) }
+{
+    match parts_of(alloc, racers) {
+        Ok((answers, peers)) => Ok(Raced {
+            repo,
+            journal: List::from(journal),
+            answers: List::from(answers),
+            peers: List::from(peers),
+        }),
+        Err(e) => Err(e),
+    }
+}
+
+/// The answers and the peers, in the racers' order.
+fn parts_of<P: Drop>(
+    alloc: Global,
+    racers: Vec<Racer<P>>,
+) -> Result<(Vec<Result<Outcome, SharedError>>, Vec<P>), NoMemory>
+    requires answered { (i : ℕ) (racer : _) → slice_get racers.items i ≡ Some racer → IsSome racer.answer }
+    ensures answers { IfOk result (λ r. map Some r.0.items ≡ map answer_in racers.items) }
+    ensures peers { IfOk result (λ r. r.1.items ≡ map (λ r. r.job.peer) racers.items) }
+{
+    let mut answers = Vec::with_capacity(alloc, racers.len())?;
+    let mut peers = Vec::with_capacity(alloc, racers.len())?;
+    for racer in racers {
+        let Racer { job, answer, .. } = racer;
+        let (_, answer) = answer.unwrap();
+        answers.push(answer)?;
+        peers.push(job.peer)?;
+    }
+    Ok((answers, peers))
+}
+
+/// Closes a shared repository by the pass that holds every number.
+fn closed<R: Wait>(rt: &R, shared: SharedRepository, pass: Pass) -> (Repository, Vec<Entry>)
+    requires shared { pass.shared ≡ shared }
+    requires all { HoldsAll pass }
+    ensures kept { IsKept (record { opening = shared.opening; repository = result.0; journal = result.1.items }) }
+    ensures journal { result.1.items ≡ pass.front }
+    ensures numbered { All (λ e. pass_of e < 18446744073709551615) result.1.items }
+{
+    match shared.close(rt, pass) {
+        Ok(left) => left,
+        Err(_) => unreachable!(),
+    }
+}
+
+/// Does the jobs by parts of a pass, and gives one pass for all. It takes no memory of its own.
+fn race_among<R: Threads + Wait + Sync, P: Peer + Drop + Send>(
+    rt: &R,
+    alloc: Global,
+    shared: &SharedRepository,
+    pass: Pass,
+    racers: &mut [Racer<P>],
+    worktrees: &[Worktree],
+) -> Pass
+    requires few { length racers.old ≤ 8 }
+    requires all { IsRest shared.now 0 pass }
+    ensures shared { result.shared ≡ shared.now }
+    ensures all { HoldsAll result }
+    ensures raced { HaveRaced (record { answers = P.answers; told = P.told; faults = P.faults; trees = worktrees.now; opening = shared.now.opening }) result.front (map (λ r. r.job) racers.old) racers.new }
+{
+    let rest = seat_all(shared, pass, racers);
+    race_over(rt, alloc, shared, racers, worktrees);
+    gather(shared, rest, racers)
+}
+
+/// Gives each racer a pass of its own, racer `i` that with the number `i`, and answers a pass for the numbers that are left.
+fn seat_all<P: Drop>(shared: &SharedRepository, pass: Pass, racers: &mut [Racer<P>]) -> Pass
+    requires few { length racers.old ≤ 8 }
+    requires all { IsRest shared.now 0 pass }
+    ensures seated { AreSeated shared.now (map (λ r. r.job) racers.old) racers.new }
+    ensures rest { IsRest shared.now (length racers.old) result }
+{
+    let mut rest = pass;
+    for i in 0..racers.len() {
+        rest = seat_one(shared, rest, &mut racers[i]);
+    }
+    rest
+}
+
+/// Gives a racer the least number of a pass, and answers a pass for the others.
+fn seat_one<P: Drop>(shared: &SharedRepository, rest: Pass, racer: &mut Racer<P>) -> Pass
+    requires rest { IsRest shared.now rest.number rest }
+    requires unused { rest.number + 1 < 18446744073709551615 }
+    ensures job { racer.new.job ≡ racer.old.job }
+    ensures own { IsSeated shared.now rest.number racer.new }
+    ensures rest { IsRest shared.now (rest.number + 1) result }
+{
+    let (own, left) = seat(shared, rest);
+    racer.pass = Some(own);
+    left
+}
+
+/// A pass for the least number alone, and one for the others.
+fn seat(shared: &SharedRepository, pass: Pass) -> (Pass, Pass)
+    requires rest { IsRest shared.now pass.number pass }
+    requires unused { pass.number + 1 < 18446744073709551615 }
+    ensures own { IsOwn shared.now pass.number result.0 }
+    ensures rest { IsRest shared.now (pass.number + 1) result.1 }
+{
+    let numbers = pass.unused();
+    match shared.split(pass, numbers) {
+        Ok(parts) => parts,
+        Err(_) => unreachable!(),
+    }
+}
+
+/// Takes the racers' passes, and answers one for all.
+fn gather<P: Drop>(shared: &SharedRepository, rest: Pass, racers: &mut [Racer<P>]) -> Pass
+    requires rest { IsRest shared.now (length racers.old) rest }
+    requires over { AreOver shared.now racers.old }
+    ensures shared { result.shared ≡ shared.now }
+    ensures answers { map (λ r. r.answer) racers.new ≡ map (λ r. r.answer) racers.old }
+    ensures jobs { map (λ r. r.job) racers.new ≡ map (λ r. r.job) racers.old }
+    ensures gathered { AreGathered racers.old (length racers.old) result }
+{
+    let mut all = rest;
+    for i in 0..racers.len() {
+        all = take_pass(shared, all, &mut racers[i]);
+    }
+    all
+}
+
+/// One pass for two, where the racer has one.
+fn take_pass<P: Drop>(shared: &SharedRepository, all: Pass, racer: &mut Racer<P>) -> Pass
+    requires shared { all.shared ≡ shared.now }
+    requires pass { IfSome racer.old.pass (λ p. p.shared ≡ shared.now) }
+    ensures shared { result.shared ≡ shared.now }
+    ensures job { racer.new.job ≡ racer.old.job }
+    ensures answer { racer.new.answer ≡ racer.old.answer }
+    ensures joined { (other : Holder) → racer.old.pass ≡ Some other → IsJoined all other result }
+{
+    match racer.pass.take() {
+        Some(pass) => shared.join(all, pass),
+        None => all,
+    }
+}
