@@ -1,7 +1,8 @@
-//! Fetches what a scene says, and writes a report.
+//! Fetches what a scene says, or races its jobs, and writes a report.
 #![tactic(auto)]
 
 use fetch_cli::{StdSink, StdSource, run};
+use race_cli::run_race;
 use std::process::ExitCode;
 use std::{env, io};
 
@@ -14,6 +15,14 @@ fn words(rt: &HostRuntime) -> io::Result<Vec<Vec<u8>>> {
     Ok(words)
 }
 
+/// Whether a race is asked for, which starts threads of its own.
+fn is_race(words: &[Vec<u8>]) -> bool {
+    match words {
+        [word, ..] => word.as_slice() == b"race".as_slice(),
+        [] => false,
+    }
+}
+
 fn main(rt: HostRuntime) -> ExitCode {
     let words = match words(&rt) {
         Ok(words) => words,
@@ -23,6 +32,10 @@ fn main(rt: HostRuntime) -> ExitCode {
     };
     let mut source = StdSource::new(rt.stdin());
     let mut sink = StdSink::new(rt.stdout());
-    let status = run(&rt, rt.alloc(), &words, &mut source, &mut sink);
+    let status = if is_race(&words) {
+        run_race(&rt, rt.alloc(), &words, &mut source, &mut sink)
+    } else {
+        run(&rt, rt.alloc(), &words, &mut source, &mut sink)
+    };
     ExitCode::from(status)
 }
