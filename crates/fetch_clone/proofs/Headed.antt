@@ -23,7 +23,7 @@ use Rattle.fetch_clone.specs.declared.clone.fetch.Error.{Error}
 use Rattle.fetch_clone.specs.declared.clone.fetch.Error.TheVariants as errors
 
 -- Out of memory is told as such.
-memory-told : (ref_name : Option (List ℕ)) (revision : Option Spec) (cause : Unaimed) → is_memory cause ≡ true → told_as ref_name revision cause ≡ errors.NoMemory
+pub memory-told : (ref_name : Option (List ℕ)) (revision : Option Spec) (cause : Unaimed) → is_memory cause ≡ true → told_as ref_name revision cause ≡ errors.NoMemory
 memory-told ref_name revision (unaimed.Name unmeant.Missing) m = absurd cc
 memory-told ref_name revision (unaimed.Name (unmeant.Ambiguous candidates)) m = absurd cc
 memory-told ref_name revision (unaimed.Name unmeant.NoMemory) m = refl
@@ -33,7 +33,7 @@ memory-told ref_name revision (unaimed.Find id) m = absurd cc
 memory-told ref_name revision (unaimed.Peel id) m = absurd cc
 memory-told ref_name revision unaimed.NoMemory m = refl
 
-forgotten : (ref_name : Option (List ℕ)) (revision : Option Spec) (cause : Unaimed) (e : Error) → told_as ref_name revision cause ≡ errors.NoMemory → IsToldAs ref_name revision cause e → e ≡ errors.NoMemory
+pub forgotten : (ref_name : Option (List ℕ)) (revision : Option Spec) (cause : Unaimed) (e : Error) → told_as ref_name revision cause ≡ errors.NoMemory → IsToldAs ref_name revision cause e → e ≡ errors.NoMemory
 forgotten ref_name revision cause errors.Consumed m told = told ∙ m
 forgotten ref_name revision cause (errors.ParseConfig x) m told = told ∙ m
 forgotten ref_name revision cause (errors.RemoteName x) m told = told ∙ m

@@ -13,7 +13,7 @@ gone-by : {A : Type 0} (p : A → Bool) (x : A) (xs : List A) (b : Bool) → p x
 gone-by p x xs true e rest = rw e rest
 gone-by p x xs false e rest = rw e (ap (λ ys. x ∷ ys) rest)
 
-others : {A : Type 0} (p : A → Bool) (xs : List A) → flat_map (λ y. if p y then [] else y ∷ []) xs ≡ filter (λ y. not (p y)) xs
+pub others : {A : Type 0} (p : A → Bool) (xs : List A) → flat_map (λ y. if p y then [] else y ∷ []) xs ≡ filter (λ y. not (p y)) xs
 others p [] = refl
 others p (x ∷ xs) = gone-by p x xs (p x) refl (others p xs)
 

@@ -48,6 +48,8 @@ pub record IsPrepared (was is : Faults) (before : Option Tree) (url place : List
   pub created : Reaches before (steps_of place making.kind (strict making.options)) now
   pub opened : is_some draft.repo ≡ true
   pub repo : IfSome draft.repo (IsInitial now (new_of place making.kind (strict making.options) making.committer making.open_options))
+  -- The overrides that it was opened with are noted.
+  pub overrides : IfSome draft.repo (λ r. draft.opened ≡ r.setup.overrides)
   pub url_kept : draft.url ≡ url
   pub place_kept : draft.place ≡ place
   pub choices : draft.choices ≡ plain
@@ -105,3 +107,7 @@ making_of kind options opened committer = record { kind = kind; options = option
 -- a clone with other choices
 abbrev pub with_choices : Draft → Choices → Draft
 with_choices draft choices = record draft { choices = choices }
+
+-- the same without its repository
+abbrev pub without_repo : Draft → Draft
+without_repo draft = record draft { repo = None }

@@ -14,3 +14,14 @@ pub mod Initial
 pub mod Drafts
 pub mod Heading
 pub mod Mirrors
+pub mod Versioned
+pub mod Hashed
+pub mod Reached
+pub mod Stages
+pub mod Targets
+pub mod Planned
+pub mod Listed
+pub mod Counted
+pub mod Saving
+pub mod Received
+pub mod Cloned

@@ -129,7 +129,7 @@ fn at_name(alloc: Global, name: &[u8], id: Option<ObjectId>) -> Result<Aim, Unai
 }
 
 /// The id that a revision is mapped to.
-fn revision_id(map: &RefMap, revision: &RefSpec) -> Option<ObjectId>
+pub(crate) fn revision_id(map: &RefMap, revision: &RefSpec) -> Option<ObjectId>
     ensures { result ≡ spec.revision_id map.now revision.now }
 {
     match made_by(revision.source(), map) {
@@ -166,7 +166,7 @@ fn has_source(source: Option<&[u8]>, made: Option<&RefSpec>) -> bool
     }
 }
 
-fn is_same_side(a: Option<&[u8]>, b: Option<&[u8]>) -> bool
+pub(crate) fn is_same_side(a: Option<&[u8]>, b: Option<&[u8]>) -> bool
     ensures { result ≡ spec.is_same_side (option_copied a.entry) (option_copied b.entry) }
 {
     match (a, b) {

@@ -7,6 +7,7 @@ ghost use Rattle.fetch_specs.specs.Names.{name_trouble};
 ghost use Rattle.fetch_specs.specs.declared.error.NameError.TheVariants as name_errors;
 ghost use Rattle.fetch_clone.specs.Choices as spec;
 ghost use Rattle.fetch_clone.specs.Revisions.{IsRevisionRefusal, revision_of};
+ghost use Rattle.fetch_clone.specs.Stages.{ref_name_of, revision_of as revision_wanted};
 
 use crate::with_revision::{self, revision};
 use fetch_conversation::ref_map;
@@ -65,6 +66,28 @@ impl Choices {
     {
         self.remote_name = Some(name::validated(alloc, name)?);
         Ok(())
+    }
+
+    /// The ref name that is wanted, lent.
+    pub fn ref_name(&self) -> Option<&PartialName>
+        ensures { option_copied result ≡ ref_name_of self.now.wanted }
+    {
+        match &self.wanted {
+            Wanted::RefName(name) => Some(name),
+            Wanted::Everything => None,
+            Wanted::Revision(_) => None,
+        }
+    }
+
+    /// The revision that is wanted, lent.
+    pub fn revision(&self) -> Option<&RefSpec>
+        ensures { option_copied result ≡ revision_wanted self.now.wanted }
+    {
+        match &self.wanted {
+            Wanted::Revision(spec) => Some(spec),
+            Wanted::Everything => None,
+            Wanted::RefName(_) => None,
+        }
     }
 
     /// Chooses a ref name in place of whatever was chosen. None takes back a ref name alone.

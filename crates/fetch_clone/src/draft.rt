@@ -1,8 +1,9 @@
 //! A clone is prepared, and given up.
 
-ghost use Rattle.std.specs.Prelude.{◌≡◌, IfOk, IfErr, IfSome, IsErrOf, IsTrue, length, ◌==◌, ◌||◌, is_some, true, false};
+ghost use Rattle.std.specs.Prelude.{◌≡◌, ◌++◌, IfOk, IfErr, IfSome, IsErrOf, OnOk, IsTrue, length, ◌==◌, ◌||◌, is_some, true, false};
 ghost use Rattle.fetch_store.specs.Faults.{Rose, Counts};
 ghost use Rattle.fetch_remote.specs.Finding.{is_no_address as is_no_address_of};
+ghost use Rattle.fetch_remote.specs.Repositories.{setup_of};
 ghost use Rattle.fetch_clone.specs.Drafts as spec;
 ghost use Rattle.fetch_clone.specs.declared.clone.Error.TheVariants as errors;
 ghost use Rattle.fetch_clone.specs.Drafts.{IsNoted, IsPrepared, IsPrepareRefusal, IsRemoved, is_clone_fault};
@@ -14,7 +15,7 @@ use crate::init::init_opts;
 use crate::making::listed;
 use fetch_refs::Signature;
 use fetch_remote::{OpenOptions, Repository};
-use fetch_store::{Files, NoMemory, Text};
+use fetch_store::{Files, List, NoMemory, Text};
 use std::alloc::Global;
 
 /// How a repository is created and opened.
@@ -41,6 +42,8 @@ pub(crate) struct Draft {
     pub free: bool,
     /// The repository, until the clone has succeeded.
     pub repo: Option<Repository>,
+    /// The overrides that the repository was opened with.
+    pub opened: List<Text>,
     /// What was chosen by the builders.
     pub choices: Choices,
     /// Whether a closure for the remote was set by the builder.
@@ -84,14 +87,36 @@ pub(crate) fn prepare<F: Files>(
         open_options,
         committer,
     )?;
+    let repo = repo.to_thread_local();
+    let opened = overrides_of(alloc, &repo)?;
     Ok(Draft {
         url,
         place,
         free,
-        repo: Some(repo.to_thread_local()),
+        opened,
+        repo: Some(repo),
         choices: Choices::new(alloc),
         configures_remote: false,
     })
+}
+
+/// The overrides that a repository has.
+fn overrides_of(alloc: Global, repo: &Repository) -> Result<List<Text>, NoMemory>
+    ensures { IfOk result (λ texts. texts ≡ (setup_of repo.now).overrides) }
+{
+    let mut texts = List::new(alloc);
+    append_texts(&mut texts, repo.overrides())?;
+    Ok(texts)
+}
+
+/// Adds copies of more texts at the end.
+pub(crate) fn append_texts(texts: &mut List<Text>, more: &[Text]) -> Result<(), NoMemory>
+    ensures { OnOk result (texts.new ≡ texts.old ++ more.now) }
+{
+    for text in more {
+        texts.push(text.try_clone()?)?;
+    }
+    Ok(())
 }
 
 fn is_no_address(text: &[u8]) -> bool

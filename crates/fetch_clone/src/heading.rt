@@ -50,7 +50,7 @@ pub fn update_head<F: Files>(
 }
 
 /// What `HEAD` is to take.
-fn aimed(
+pub(crate) fn aimed(
     alloc: Global,
     repo: &Repository,
     map: &RefMap,
@@ -67,7 +67,7 @@ fn aimed(
 }
 
 /// How a refusal to aim is told.
-fn refusal_of(
+pub(crate) fn refusal_of(
     alloc: Global,
     ref_name: Option<&PartialName>,
     revision: Option<&RefSpec>,

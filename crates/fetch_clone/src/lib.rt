@@ -8,6 +8,7 @@ pub mod clone;
 mod configuration;
 pub mod create;
 mod draft;
+mod fetching;
 mod heading;
 mod host_files;
 pub mod init;
@@ -22,6 +23,7 @@ mod replacing;
 mod step;
 mod tracking;
 mod upstream;
+mod versioning;
 pub mod with_revision;
 
 pub use choices::{Choices, Wanted};

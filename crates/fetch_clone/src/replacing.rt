@@ -58,7 +58,7 @@ fn is_like(section: &Section, other: &Section) -> bool
         && is_same_sub(&section.sub, &other.sub)
 }
 
-fn is_same_name(a: &[u8], b: &[u8]) -> bool
+pub(crate) fn is_same_name(a: &[u8], b: &[u8]) -> bool
     ensures { result ≡ is_same_text a.now b.now }
 {
     a.eq_ignore_ascii_case(b)

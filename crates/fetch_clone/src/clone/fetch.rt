@@ -117,3 +117,78 @@ impl From<NoMemory> for Error {
         Error::NoMemory
     }
 }
+
+/// Out of memory stays what it is.
+impl From<connect::Error> for Error {
+    ghost use Rattle.std.specs.Prelude.{◌≡◌};
+    ghost use Rattle.fetch_clone.specs.Reached.{connecting};
+
+    ghost from_gives = { λ e f. f ≡ connecting e };
+
+    fn from(e: connect::Error) -> Error {
+        match e {
+            connect::Error::NoMemory => Error::NoMemory,
+            e => Error::Connect(e),
+        }
+    }
+}
+
+/// Out of memory stays what it is.
+impl From<prepare::Error> for Error {
+    ghost use Rattle.std.specs.Prelude.{◌≡◌};
+    ghost use Rattle.fetch_clone.specs.Stages.{preparing};
+
+    ghost from_gives = { λ e f. f ≡ preparing e };
+
+    fn from(e: prepare::Error) -> Error {
+        match e {
+            prepare::Error::NoMemory => Error::NoMemory,
+            e => Error::PrepareFetch(e),
+        }
+    }
+}
+
+/// Out of memory stays what it is.
+impl From<ref_map::Error> for Error {
+    ghost use Rattle.std.specs.Prelude.{◌≡◌};
+    ghost use Rattle.fetch_clone.specs.Stages.{listing};
+
+    ghost from_gives = { λ e f. f ≡ listing e };
+
+    fn from(e: ref_map::Error) -> Error {
+        match e {
+            ref_map::Error::NoMemory => Error::NoMemory,
+            e => Error::RefMap(e),
+        }
+    }
+}
+
+/// Out of memory stays what it is.
+impl From<fetch::Error> for Error {
+    ghost use Rattle.std.specs.Prelude.{◌≡◌};
+    ghost use Rattle.fetch_clone.specs.Stages.{receiving};
+
+    ghost from_gives = { λ e f. f ≡ receiving e };
+
+    fn from(e: fetch::Error) -> Error {
+        match e {
+            fetch::Error::NoMemory => Error::NoMemory,
+            e => Error::Fetch(e),
+        }
+    }
+}
+
+/// Out of memory stays what it is.
+impl From<name::Error> for Error {
+    ghost use Rattle.std.specs.Prelude.{◌≡◌};
+    ghost use Rattle.fetch_clone.specs.Stages.{naming};
+
+    ghost from_gives = { λ e f. f ≡ naming e };
+
+    fn from(e: name::Error) -> Error {
+        match e {
+            name::Error::NoMemory => Error::NoMemory,
+            e => Error::RemoteName(e),
+        }
+    }
+}

@@ -1,4 +1,5 @@
 use Rattle.std.proofs.Common.{◌≡◌, refl, sym, ◌∙◌}
+use Rattle.std.proofs.lemmas.Bool.{false≢true}
 use Rattle.std.proofs.lemmas.Result.{err_from_is_err_and}
 use Rattle.fetch_store.specs.Faults.{Rose-earlier}
 use Rattle.fetch_clone.proofs.Prepared.{has-address, noted-later, preparing-fault, unprepared}
@@ -28,6 +29,17 @@ returns-in_err-repo-clause-cause g c =
     (preparing-fault (g.F.Files.faults c.args.files.now) (g.F.Files.faults c.init_opts.new.files) c.in_err-repo.field-0.0
     (λ t. Rose-earlier (g.F.Files.faults c.args.files.now) (g.F.Files.faults c.is_free.new.files) (g.F.Files.faults c.init_opts.new.files) c.in_ok-free.ensures.counts (c.in_err-repo.ensures.cause t)))
 
+pub returns-in_err-opened-clause-refused : goal.returns-in_err-opened-clause-refused
+returns-in_err-opened-clause-refused g c =
+    let p = err_from_is_err_and c.from_residual-in_err-opened.result c.from_residual-in_err-opened.ensures.1 in
+    let created = rw c.in_ok-free.ensures.tree at c.in_ok-repo.ensures.created in
+    rw (p.1, p.2) created.told
+
+pub returns-in_err-opened-clause-cause : goal.returns-in_err-opened-clause-cause
+returns-in_err-opened-clause-cause g c =
+    let p = err_from_is_err_and c.from_residual-in_err-opened.result c.from_residual-in_err-opened.ensures.1 in
+    rw (p.1, p.2) (λ t. absurd (false≢true t))
+
 pub returns-clause-ok : goal.returns-clause-ok
 returns-clause-ok g c =
     let noted = noted-later (g.F.Files.faults c.args.files.now) (g.F.Files.faults c.is_free.new.files) (g.F.Files.faults c.init_opts.new.files) (g.F.Files.told c.args.files.now) c.in_ok-place.place c.in_ok-free.free c.in_ok-free.ensures.noted c.in_ok-repo.ensures.counts in
@@ -36,7 +48,8 @@ returns-clause-ok g c =
       noted = rw c.in_ok-place.ensures at noted;
       created = rw (c.as_bytes.ensures, c.in_ok-place.ensures, c.strict-options.ensures, c.in_ok-free.ensures.tree) at c.in_ok-repo.ensures.created;
       opened = refl;
-      repo = rw c.to_thread_local.ensures (rw (c.as_bytes.ensures, c.in_ok-place.ensures, c.strict-options.ensures) at c.in_ok-repo.ensures.repo);
+      overrides = c.in_ok-opened.ensures;
+      repo = rw c.to_thread_local-repo.ensures (rw (c.as_bytes.ensures, c.in_ok-place.ensures, c.strict-options.ensures) at c.in_ok-repo.ensures.repo);
       url_kept = c.in_ok-url.ensures;
       place_kept = c.in_ok-place.ensures;
       choices = c.new-3.ensures;

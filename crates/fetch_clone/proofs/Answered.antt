@@ -1,0 +1,127 @@
+-- What each step of a clone's fetch makes of the calls before it.
+use Rattle.std.proofs.Common.{◌≡◌, ℕ, Bool, true, false, List, Option, Some, None, Result, Ok, Err, IsErrAnd, refl, sym, ap, subst, ◌∙◌, inl, inr}
+use Rattle.std.specs.Bool.{OnFalse}
+use Rattle.std.specs.Prelude.{IfErr, IfOk}
+use Rattle.fetch_store.specs.Faults.{Faults, Rose}
+use Rattle.fetch_store.specs.Trees.{Tree}
+use Rattle.fetch_lookup.specs.declared.direction.Direction.TheVariants.{Fetch}
+use Rattle.fetch_update.specs.declared.worktrees.Worktree.{Worktree}
+use Rattle.fetch_wire.specs.Talks.{Talk}
+use Rattle.fetch_wire.specs.declared.listings.mapping.RefMap.{RefMap}
+use Rattle.fetch_conversation.specs.declared.fetch.Error.{Error as ReceiveError}
+use Rattle.fetch_conversation.specs.declared.fetch.Error.TheVariants as fetch
+use Rattle.fetch_conversation.specs.declared.prepare.Error.{Error as PrepareError}
+use Rattle.fetch_conversation.specs.declared.prepare.Error.TheVariants as prepare
+use Rattle.fetch_conversation.specs.declared.ref_map.Error.{Error as MapError}
+use Rattle.fetch_conversation.specs.declared.ref_map.Error.TheVariants as ref_map
+use Rattle.fetch_remote.specs.Connecting.{IsMissing, Makes, MakesAtFirst, TakesBack, with_lost}
+use Rattle.fetch_remote.specs.Remotes.{RemoteValue}
+use Rattle.fetch_remote.specs.RepositoryValues.{RepositoryValue}
+use Rattle.fetch_remote.specs.declared.connect.Error.{Error as ConnectError}
+use Rattle.fetch_remote.specs.declared.connect.Error.TheVariants as connect
+use Rattle.fetch_remote.specs.declared.fetching.outcome.Outcome.{Outcome}
+use Rattle.fetch_remote.specs.declared.fetching.prepared.Prepared.{Prepared}
+use Rattle.fetch_remote.specs.declared.repository.open_error.OpenError.TheVariants as opening
+use Rattle.fetch_clone.specs.Counted.{Meters, IsCounted}
+use Rattle.fetch_clone.specs.Heading.{IsToldAs}
+use Rattle.fetch_clone.specs.Meant.{is_memory, meant_in}
+use Rattle.fetch_clone.specs.Reached.{Ways, Line, IsTurnedAway, IsUnreached, connecting, turned_away}
+use Rattle.fetch_clone.specs.Received.{IsNotTaken, IsOfReceiving, IsReceived, IsTaken, IsUnmapped, IsUnreceived}
+use Rattle.fetch_clone.specs.Stages.{listing, preparing, receiving}
+use Rattle.fetch_clone.specs.declared.aim.Unaimed.TheVariants as unaimed
+use Rattle.fetch_clone.specs.declared.choices.Wanted.{Wanted}
+use Rattle.fetch_clone.specs.declared.choices.Wanted.TheVariants.{RefName}
+use Rattle.fetch_clone.specs.declared.clone.fetch.Error.{Error}
+use Rattle.fetch_clone.specs.declared.clone.fetch.Error.TheVariants as errors
+use Rattle.fetch_clone.specs.declared.draft.Draft.{Draft}
+use Rattle.fetch_clone.specs.declared.meant.Unmeant.{Unmeant}
+use Rattle.fetch_clone.specs.declared.prepare_fetch.ConfigureFault.{ConfigureFault}
+use Rattle.fetch_clone.specs.declared.prepare_fetch.ConfigureFault.TheVariants as faults
+use Rattle.fetch_clone.proofs.Headed.{forgotten, memory-told}
+use Rattle.fetch_clone.proofs.Returned.{lost_rose}
+use Rattle.fetch_clone.proofs.StepsCounted.{received-counted}
+
+-- ---- peers
+
+pub unreached : (P : Type 0) (refused : List ℕ → Type 0) (was is : Faults) (url : Option (List ℕ)) (e : ConnectError) → IsMissing {P = P} url Fetch (Err e) → (e ≡ connect.Connect → Rose was is) → IsUnreached refused was is url (connecting e)
+unreached P refused was is None (connect.MissingUrl d) missing rose = (refl, (let h : connect.MissingUrl d ≡ connect.MissingUrl Fetch = missing in cc))
+unreached P refused was is None connect.Connect missing rose = rose refl
+unreached P refused was is None connect.NoMemory missing rose = tt
+unreached P refused was is (Some url) (connect.MissingUrl d) missing rose = absurd missing
+unreached P refused was is (Some url) connect.Connect missing rose = rose refl
+unreached P refused was is (Some url) connect.NoMemory missing rose = tt
+
+pub turned : {G P : Type 0} (w : Ways G P) (was is : Faults) (before after : Line G P) (url : Option (List ℕ)) (made peer : P) (fault : ConfigureFault) → Makes {E = ConnectError} before.left after.left (Ok made)
+    → MakesAtFirst {E = ConnectError} url before.addresses after.addresses (Ok made) → w.calls before.closure made (Err fault) after.closure peer → TakesBack before.taken after.taken peer → IsUnreached (IsTurnedAway w url before after) was is url (turned_away fault)
+turned w was is before after url made peer (faults.Refused text) next at refused given = record { made = made; next = next; at = at; peer = peer; refused = refused; given = given }
+turned w was is before after url made peer faults.NoMemory next at refused given = tt
+
+-- ---- refusals that are told
+
+pub is-listing : (e cause : MapError) → listing e ≡ errors.RefMap cause → e ≡ cause
+is-listing (ref_map.Handshake x) cause h = cc
+is-listing ref_map.Transport cause h = cc
+is-listing ref_map.Interrupted cause h = cc
+is-listing (ref_map.InitRefMap x) cause h = cc
+is-listing ref_map.NoMemory cause h = absurd cc
+
+pub is-preparing : (e cause : PrepareError) → preparing e ≡ errors.PrepareFetch cause → e ≡ cause
+is-preparing prepare.MissingRefSpecs cause h = cc
+is-preparing (prepare.RefMap x) cause h = cc
+is-preparing prepare.NoMemory cause h = absurd cc
+
+pub is-receiving : (e cause : ReceiveError) → receiving e ≡ errors.Fetch cause → e ≡ cause
+is-receiving (fetch.NoMapping x y) cause h = cc
+is-receiving (fetch.IncompatibleObjectHash x y) cause h = cc
+is-receiving (fetch.Disconnected x) cause h = cc
+is-receiving (fetch.RejectShallowRemoteConfig x) cause h = cc
+is-receiving (fetch.NegotiationAlgorithmConfig x) cause h = cc
+is-receiving (fetch.PackThreads x) cause h = cc
+is-receiving (fetch.Fetch x) cause h = cc
+is-receiving fetch.Client cause h = cc
+is-receiving fetch.Interrupted cause h = cc
+is-receiving (fetch.RejectShallowRemote x) cause h = cc
+is-receiving (fetch.Pack x) cause h = cc
+is-receiving (fetch.Collision x) cause h = cc
+is-receiving (fetch.KeepFile x) cause h = cc
+is-receiving (fetch.UpdateRefs x) cause h = cc
+is-receiving (fetch.RemovePackKeepFile x) cause h = cc
+is-receiving fetch.NoMemory cause h = absurd cc
+
+-- the one error of a result
+pub same-error : {X E : Type 0} (r : Result X E) (e f : E) → IsErrAnd r (λ y. y ≡ e) → r ≡ Err f → e ≡ f
+same-error (Ok x) e f h is = absurd h
+same-error (Err y) e f h is = let k : y ≡ f = cc in sym h ∙ k
+
+-- ---- what is mapped
+
+unmapped-by : (name : List ℕ) (map : RefMap) (cause : Unmeant) (e : Error) (b : Bool) → is_memory cause ≡ b → OnFalse b (meant_in map.mappings name ≡ Err cause) → IsToldAs (Some name) None (unaimed.Name cause) e → IsUnmapped (RefName name) map e
+unmapped-by name map cause e true m is told = inl (forgotten (Some name) None (unaimed.Name cause) e (memory-told (Some name) None (unaimed.Name cause) m) told)
+unmapped-by name map cause e false m is told = inr (cause, is, told)
+
+pub unmapped : (name : List ℕ) (map : RefMap) (cause : Unmeant) (e : Error) → OnFalse (is_memory cause) (meant_in map.mappings name ≡ Err cause) → IsToldAs (Some name) None (unaimed.Name cause) e → IsUnmapped (RefName name) map e
+unmapped name map cause e is told = unmapped-by name map cause e (is_memory cause) refl is told
+
+-- ---- what is taken
+
+module _ {P : Type 0} (told : P → Option Talk) (answers : Bool) (before after : Option (List P)) (known : Option (List Worktree)) (may_fail : Bool) (files files_left : Option Tree) (draft : Draft) (remote : RemoteValue) (prepared : Prepared) (found repo : RepositoryValue) (last : P) (H : Option Talk → Type 0)
+    (returned : TakesBack before after last) where
+  pub is-taken : (r : Result Outcome Error)
+      → IfOk r (λ outcome. (begun : Option Talk) → H begun → IsReceived answers begun (told last) known files files_left draft remote prepared found repo outcome)
+      → IfOk r (λ outcome. (begun : Option Talk) → H begun → IsTaken told answers begun before after known files files_left draft remote prepared found repo outcome)
+  is-taken (Ok x) received = λ begun h. record { last = last; received = received begun h; returned = returned }
+  is-taken (Err e) received = tt
+
+  pub not-taken : (r : Result Outcome Error)
+      → IfErr r (λ e. (begun : Option Talk) → H begun → IsUnreceived answers begun (told last) known may_fail files files_left draft remote prepared found repo e)
+      → IfErr r (λ e. (begun : Option Talk) → H begun → IsNotTaken told answers begun before after known may_fail files files_left draft remote prepared found repo e)
+  not-taken (Ok x) refused = tt
+  not-taken (Err e) refused = λ begun h. record { last = last; why = refused begun h; returned = returned }
+
+-- The refusals that have a count come only where it rose, once the peer is taken back.
+pub taken-counted : (was is : Meters) (wanted : Wanted) (map : RefMap) (peer peer_left : Faults) (r : Result Outcome Error) → IfErr r (IsOfReceiving wanted map) → is.lost ≡ with_lost peer_left was.lost → (r ≡ Err (errors.ReopenWithObjectHash opening.Io) → Rose was.files is.files)
+    → (r ≡ Err (errors.Fetch fetch.Client) → Rose peer peer_left) → (r ≡ Err (errors.Fetch fetch.Interrupted) → Rose was.yes is.yes) → ((path : List ℕ) → r ≡ Err (errors.Fetch (fetch.KeepFile path)) → Rose was.files is.files)
+    → ((path : List ℕ) → r ≡ Err (errors.Fetch (fetch.RemovePackKeepFile path)) → Rose was.files is.files) → IfErr r (IsCounted was is)
+taken-counted was is wanted map peer peer_left (Ok x) kind lost reopened client stopped keep removed = tt
+taken-counted was is wanted map peer peer_left (Err e) kind lost reopened client stopped keep removed =
+    received-counted was is wanted map e kind (λ h. reopened (ap (λ x. Err x) h)) (λ h. subst (Rose was.lost) (sym lost) (lost_rose peer peer_left was.lost (client (ap (λ x. Err x) h)))) (λ h. stopped (ap (λ x. Err x) h)) (λ path h. keep path (ap (λ x. Err x) h)) (λ path h. removed path (ap (λ x. Err x) h))

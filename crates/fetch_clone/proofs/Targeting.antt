@@ -1,0 +1,70 @@
+-- What a first connection lists, and what it aims at.
+use Rattle.std.proofs.Common.{◌≡◌, ℕ, Bool, true, false, List, Option, Some, None, Result, Ok, Err, refl, sym, subst, inl, inr}
+use Rattle.std.specs.Prelude.{IfErr, IfOk}
+use Rattle.fetch_store.specs.Faults.{Faults}
+use Rattle.fetch_conversation.specs.ListStage.{ListedValue}
+use Rattle.fetch_conversation.specs.declared.ref_map.Error.{Error as MapError}
+use Rattle.fetch_conversation.specs.declared.ref_map.Options.{Options}
+use Rattle.fetch_remote.specs.Connecting.{TakesBack}
+use Rattle.fetch_remote.specs.Remotes.{RemoteValue}
+use Rattle.fetch_remote.specs.RepositoryValues.{RepositoryValue}
+use Rattle.fetch_remote.specs.Stages.{inquiry_of}
+use Rattle.fetch_remote.specs.Steps.{HasInquired, IsUninquired}
+use Rattle.fetch_clone.specs.Heading.{aim_of}
+use Rattle.fetch_clone.specs.Reached.{Ways, Line, IsReached}
+use Rattle.fetch_clone.specs.Stages.{listing, lists_first, ref_name_of}
+use Rattle.fetch_clone.specs.Targets.{Aims, AreFirstOptions, HasListedFirst, HasNoTarget, HasTarget, HasTargetBy, IsAimedAt, IsAsked, IsUnaimedBy, IsUnlisted, IsUntargeted, bare}
+use Rattle.fetch_clone.specs.declared.clone.fetch.Error.{Error}
+use Rattle.fetch_clone.specs.declared.draft.Draft.{Draft}
+
+module _ {G P : Type 0} (w : Ways G P) (was is : Faults) (before between after : Line G P) (draft : Draft) (repo : RepositoryValue) (remote : RemoteValue) (options : Options) (peer last : P)
+    (a : AreFirstOptions draft.choices options)
+    (is_bare : remote ≡ bare draft.url)
+    (reached : IsReached w (Some draft.url) before between peer)
+    (given : TakesBack between.taken after.taken last)
+    (left : after.left ≡ between.left)
+    (addresses : after.addresses ≡ between.addresses)
+    (closure : after.closure ≡ between.closure) where
+  abbrev asked : IsAsked w before after draft.url draft.choices
+  asked = record { spec = a.0; says = a.1; between = between; peer = peer; reached = reached; last = last; returned = record { given = given; same_left = left; same_addresses = addresses; same_closure = closure } }
+
+  listed-first : (l : ListedValue) → HasInquired w.answers (w.told peer) (w.told last) (inquiry_of remote repo.setup.settings options) l → HasListedFirst w before after draft repo.setup l
+  listed-first l h =
+      record {
+        asked = asked;
+        heard = subst (λ (o : Options). HasInquired w.answers (w.told peer) (w.told last) (inquiry_of (bare draft.url) repo.setup.settings o) l) a.2 (subst (λ (r : RemoteValue). HasInquired w.answers (w.told peer) (w.told last) (inquiry_of r repo.setup.settings options) l) is_bare h);
+      }
+
+  pub aimed-at : (l : ListedValue) → HasInquired w.answers (w.told peer) (w.told last) (inquiry_of remote repo.setup.settings options) l → (r : Result (Option (List ℕ)) Error)
+      → IfOk r (Aims (aim_of repo.state l.ref_map (ref_name_of draft.choices.wanted) None)) → IfOk r (IsAimedAt w before after draft repo)
+  aimed-at l h (Ok target) aims = record { listed = l; heard = listed-first l h; aim = aims.0; aims = aims.1; tells = aims.2 }
+  aimed-at l h (Err e) aims = tt
+
+  pub not-aimed-at : (l : ListedValue) → HasInquired w.answers (w.told peer) (w.told last) (inquiry_of remote repo.setup.settings options) l → (r : Result (Option (List ℕ)) Error)
+      → IfErr r (IsUnaimedBy repo.state l.ref_map (ref_name_of draft.choices.wanted)) → IfErr r (IsUntargeted w was is before after draft repo)
+  not-aimed-at l h (Ok target) why = tt
+  not-aimed-at l h (Err e) why = inr (inr (record { listed = l; heard = listed-first l h; why = why }))
+
+  pub unlisted : (e : MapError) → IsUninquired w.answers (w.told peer) (w.told last) (inquiry_of remote repo.setup.settings options) e → IsUnlisted w before after draft repo.setup e
+  unlisted e h =
+      record {
+        asked = asked;
+        broke = subst (λ (o : Options). IsUninquired w.answers (w.told peer) (w.told last) (inquiry_of (bare draft.url) repo.setup.settings o) e) a.2 (subst (λ (r : RemoteValue). IsUninquired w.answers (w.told peer) (w.told last) (inquiry_of r repo.setup.settings options) e) is_bare h);
+      }
+
+-- ---- whether a first connection is made
+
+-- The first connection told a target.
+pub told-first : {G P : Type 0} (w : Ways G P) (before after : Line G P) (draft : Draft) (repo : RepositoryValue) (r : Result (Option (List ℕ)) Error) → lists_first draft.choices ≡ true → IfOk r (IsAimedAt w before after draft repo) → IfOk r (HasTarget w before after draft repo)
+told-first w before after draft repo (Ok target) e h = record { by = subst (λ (b : Bool). HasTargetBy b w before after draft repo target) (sym e) h }
+told-first w before after draft repo (Err x) e h = tt
+
+-- The first connection was made, and told none.
+pub untold-first : {G P : Type 0} (w : Ways G P) (was is : Faults) (before after : Line G P) (draft : Draft) (repo : RepositoryValue) (r : Result (Option (List ℕ)) Error) → lists_first draft.choices ≡ true → IfErr r (IsUntargeted w was is before after draft repo)
+    → IfErr r (HasNoTarget w was is before after draft repo)
+untold-first w was is before after draft repo (Ok target) e h = tt
+untold-first w was is before after draft repo (Err x) e h = record { first = e; why = h }
+
+-- No first connection is made.
+pub unasked : {G P : Type 0} (w : Ways G P) (line : Line G P) (draft : Draft) (repo : RepositoryValue) → lists_first draft.choices ≡ false → HasTarget w line line draft repo None
+unasked w line draft repo e = record { by = subst (λ (b : Bool). HasTargetBy b w line line draft repo None) (sym e) (refl, refl) }

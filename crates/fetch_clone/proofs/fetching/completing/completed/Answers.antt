@@ -1,0 +1,114 @@
+use Rattle.std.proofs.Common.{refl, arith, inl, inr}
+use Rattle.std.proofs.lemmas.Result.{err_from_is_err_and}
+use Rattle.fetch_store.specs.Faults.{Counts-none}
+use Rattle.fetch_clone.specs.Counted.{meters}
+use Rattle.fetch_clone.proofs.Completing.{was-listed}
+use Rattle.fetch_clone.proofs.Counted.{counted-later, later-files, later-then}
+use Rattle.fetch_clone.proofs.StepsCounted.{finished-counted, listed-counted}
+use Rattle.fetch_clone.proofs.fetching.completing.completed.Goals as goal
+
+pub returns-in_err-peer-clause-refused : goal.returns-in_err-peer-clause-refused
+returns-in_err-peer-clause-refused g c =
+    let p = err_from_is_err_and c.from_residual.result c.from_residual.ensures.1 in
+    rw (p.1, p.2) (record { by = inl (rw c.as_bytes-name.ensures at c.in_err-peer.ensures.refused, refl, refl) })
+
+pub returns-in_err-peer-clause-counted : goal.returns-in_err-peer-clause-counted
+returns-in_err-peer-clause-counted g c =
+    let p = err_from_is_err_and c.from_residual.result c.from_residual.ensures.1 in
+    rw (p.1, p.2) (listed-counted _ (meters (g.C.Connect.faults c.args.maker.now) (g.C.Connect.lost c.args.maker.now) (g.I.Interrupt.yes c.args.interrupt.now) (g.F.Files.faults c.args.files.now)) (meters (g.C.Connect.faults c.listed.new.maker) (g.C.Connect.lost c.listed.new.maker) (g.I.Interrupt.yes c.listed.new.interrupt) (g.F.Files.faults c.args.files.now)) _ _ _ c.in_err-peer.field-0.0 c.in_err-peer.ensures.refused (λ h. c.in_err-peer.ensures.transport (rw h refl)) (λ h. c.in_err-peer.ensures.interrupted (rw h refl)))
+
+pub returns-in_err-peer-clause-later : goal.returns-in_err-peer-clause-later
+returns-in_err-peer-clause-later g c = record { made = c.in_err-peer.ensures.counts; lost = c.in_err-peer.ensures.lost; yes = c.in_err-peer.ensures.asked; files = Counts-none _ }
+
+pub returns-in_err-outcome-clause-refused : goal.returns-in_err-outcome-clause-refused
+returns-in_err-outcome-clause-refused g c =
+    let p = err_from_is_err_and c.from_residual-in_err-outcome.result c.from_residual-in_err-outcome.ensures.1 in
+    let listed = rw c.as_bytes-name.ensures at c.in_ok-peer.ensures.listed in
+    rw (p.1, p.2)
+    (record {
+      by = inr (inl (record {
+        between = _;
+        peer = c.in_ok-peer.peer;
+        prepared = c.in_ok-peer.prepared;
+        listed = listed;
+        why = c.in_err-outcome.ensures.refused _ (was-listed _ _ _ _ _ _ listed);
+        same_left = c.in_err-outcome.ensures.left;
+        same_addresses = c.in_err-outcome.ensures.addresses;
+        same_closure = refl;
+      }));
+    })
+
+pub returns-in_err-outcome-clause-counted : goal.returns-in_err-outcome-clause-counted
+returns-in_err-outcome-clause-counted g c =
+    let p = err_from_is_err_and c.from_residual-in_err-outcome.result c.from_residual-in_err-outcome.ensures.1 in
+    rw (p.1, p.2) (counted-later (meters (g.C.Connect.faults c.args.maker.now) (g.C.Connect.lost c.args.maker.now) (g.I.Interrupt.yes c.args.interrupt.now) (g.F.Files.faults c.args.files.now)) (meters (g.C.Connect.faults c.listed.new.maker) (g.C.Connect.lost c.listed.new.maker) (g.I.Interrupt.yes c.listed.new.interrupt) (g.F.Files.faults c.args.files.now)) (meters (g.C.Connect.faults c.taken.new.maker) (g.C.Connect.lost c.taken.new.maker) (g.I.Interrupt.yes c.taken.new.interrupt) (g.F.Files.faults c.taken.new.files)) c.in_err-outcome.field-0.0 (record { made = c.in_ok-peer.ensures.counts; lost = c.in_ok-peer.ensures.lost; yes = c.in_ok-peer.ensures.asked; files = Counts-none _ }) c.in_err-outcome.ensures.counted)
+
+pub returns-in_err-outcome-clause-later : goal.returns-in_err-outcome-clause-later
+returns-in_err-outcome-clause-later g c =
+    later-then (meters (g.C.Connect.faults c.args.maker.now) (g.C.Connect.lost c.args.maker.now) (g.I.Interrupt.yes c.args.interrupt.now) (g.F.Files.faults c.args.files.now)) (meters (g.C.Connect.faults c.listed.new.maker) (g.C.Connect.lost c.listed.new.maker) (g.I.Interrupt.yes c.listed.new.interrupt) (g.F.Files.faults c.args.files.now)) (meters (g.C.Connect.faults c.taken.new.maker) (g.C.Connect.lost c.taken.new.maker) (g.I.Interrupt.yes c.taken.new.interrupt) (g.F.Files.faults c.taken.new.files)) (record { made = c.in_ok-peer.ensures.counts; lost = c.in_ok-peer.ensures.lost; yes = c.in_ok-peer.ensures.asked; files = Counts-none _ }) c.in_err-outcome.ensures.later
+
+pub returns-in-Ok-clause-completed : goal.returns-in-Ok-clause-completed
+returns-in-Ok-clause-completed g c =
+    let listed = rw c.as_bytes-name.ensures at c.in_ok-peer.ensures.listed in
+    record {
+      between = c.taken.new.repo;
+      stood = _;
+      fetched = record {
+        between = _;
+        peer = c.in_ok-peer.peer;
+        prepared = c.in_ok-peer.prepared;
+        listed = listed;
+        taken = c.in_ok-outcome.ensures.taken _ (was-listed _ _ _ _ _ _ listed);
+        same_left = c.in_ok-outcome.ensures.left;
+        same_addresses = c.in_ok-outcome.ensures.addresses;
+        same_closure = refl;
+      };
+      finished = rw c.as_bytes-name.ensures at c.in-Ok.ensures.ok;
+    }
+
+pub returns-in-Err-clause-refused : goal.returns-in-Err-clause-refused
+returns-in-Err-clause-refused g c =
+    let listed = rw c.as_bytes-name.ensures at c.in_ok-peer.ensures.listed in
+    record {
+      by = inr (inr (record {
+        between = c.taken.new.repo;
+        stood = _;
+        outcome = c.in_ok-outcome.outcome;
+        fetched = record {
+          between = _;
+          peer = c.in_ok-peer.peer;
+          prepared = c.in_ok-peer.prepared;
+          listed = listed;
+          taken = c.in_ok-outcome.ensures.taken _ (was-listed _ _ _ _ _ _ listed);
+          same_left = c.in_ok-outcome.ensures.left;
+          same_addresses = c.in_ok-outcome.ensures.addresses;
+          same_closure = refl;
+        };
+        why = rw (c.as_bytes-name.ensures, c.in_ok-outcome.ensures.may_fail) at c.in-Err.ensures.refused;
+      }));
+    }
+
+pub returns-in-Err-clause-counted : goal.returns-in-Err-clause-counted
+returns-in-Err-clause-counted g c =
+    let before = later-then (meters (g.C.Connect.faults c.args.maker.now) (g.C.Connect.lost c.args.maker.now) (g.I.Interrupt.yes c.args.interrupt.now) (g.F.Files.faults c.args.files.now)) (meters (g.C.Connect.faults c.listed.new.maker) (g.C.Connect.lost c.listed.new.maker) (g.I.Interrupt.yes c.listed.new.interrupt) (g.F.Files.faults c.args.files.now)) (meters (g.C.Connect.faults c.taken.new.maker) (g.C.Connect.lost c.taken.new.maker) (g.I.Interrupt.yes c.taken.new.interrupt) (g.F.Files.faults c.taken.new.files)) (record { made = c.in_ok-peer.ensures.counts; lost = c.in_ok-peer.ensures.lost; yes = c.in_ok-peer.ensures.asked; files = Counts-none _ }) c.in_ok-outcome.ensures.later in
+    counted-later (meters (g.C.Connect.faults c.args.maker.now) (g.C.Connect.lost c.args.maker.now) (g.I.Interrupt.yes c.args.interrupt.now) (g.F.Files.faults c.args.files.now)) (meters (g.C.Connect.faults c.taken.new.maker) (g.C.Connect.lost c.taken.new.maker) (g.I.Interrupt.yes c.taken.new.interrupt) (g.F.Files.faults c.taken.new.files)) (meters (g.C.Connect.faults c.taken.new.maker) (g.C.Connect.lost c.taken.new.maker) (g.I.Interrupt.yes c.taken.new.interrupt) (g.F.Files.faults c.finished.new.files)) c.in-Err.e before
+    (finished-counted (meters (g.C.Connect.faults c.taken.new.maker) (g.C.Connect.lost c.taken.new.maker) (g.I.Interrupt.yes c.taken.new.interrupt) (g.F.Files.faults c.taken.new.files)) (meters (g.C.Connect.faults c.taken.new.maker) (g.C.Connect.lost c.taken.new.maker) (g.I.Interrupt.yes c.taken.new.interrupt) (g.F.Files.faults c.finished.new.files)) _ _ _ _ _ _ _ _ _ c.in-Err.e c.in-Err.ensures.refused (λ h. c.in-Err.ensures.io (rw h refl)))
+
+pub returns-in-Ok-clause-later : goal.returns-in-Ok-clause-later
+returns-in-Ok-clause-later g c =
+    later-then (meters (g.C.Connect.faults c.args.maker.now) (g.C.Connect.lost c.args.maker.now) (g.I.Interrupt.yes c.args.interrupt.now) (g.F.Files.faults c.args.files.now)) (meters (g.C.Connect.faults c.listed.new.maker) (g.C.Connect.lost c.listed.new.maker) (g.I.Interrupt.yes c.listed.new.interrupt) (g.F.Files.faults c.args.files.now)) (meters (g.C.Connect.faults c.taken.new.maker) (g.C.Connect.lost c.taken.new.maker) (g.I.Interrupt.yes c.taken.new.interrupt) (g.F.Files.faults c.finished.new.files)) (record { made = c.in_ok-peer.ensures.counts; lost = c.in_ok-peer.ensures.lost; yes = c.in_ok-peer.ensures.asked; files = Counts-none _ })
+    (later-then (meters (g.C.Connect.faults c.listed.new.maker) (g.C.Connect.lost c.listed.new.maker) (g.I.Interrupt.yes c.listed.new.interrupt) (g.F.Files.faults c.args.files.now)) (meters (g.C.Connect.faults c.taken.new.maker) (g.C.Connect.lost c.taken.new.maker) (g.I.Interrupt.yes c.taken.new.interrupt) (g.F.Files.faults c.taken.new.files)) (meters (g.C.Connect.faults c.taken.new.maker) (g.C.Connect.lost c.taken.new.maker) (g.I.Interrupt.yes c.taken.new.interrupt) (g.F.Files.faults c.finished.new.files)) c.in_ok-outcome.ensures.later (later-files (meters (g.C.Connect.faults c.taken.new.maker) (g.C.Connect.lost c.taken.new.maker) (g.I.Interrupt.yes c.taken.new.interrupt) (g.F.Files.faults c.taken.new.files)) (g.F.Files.faults c.finished.new.files) c.finished.ensures.counts))
+
+pub returns-in-Err-clause-later : goal.returns-in-Err-clause-later
+returns-in-Err-clause-later g c =
+    later-then (meters (g.C.Connect.faults c.args.maker.now) (g.C.Connect.lost c.args.maker.now) (g.I.Interrupt.yes c.args.interrupt.now) (g.F.Files.faults c.args.files.now)) (meters (g.C.Connect.faults c.listed.new.maker) (g.C.Connect.lost c.listed.new.maker) (g.I.Interrupt.yes c.listed.new.interrupt) (g.F.Files.faults c.args.files.now)) (meters (g.C.Connect.faults c.taken.new.maker) (g.C.Connect.lost c.taken.new.maker) (g.I.Interrupt.yes c.taken.new.interrupt) (g.F.Files.faults c.finished.new.files)) (record { made = c.in_ok-peer.ensures.counts; lost = c.in_ok-peer.ensures.lost; yes = c.in_ok-peer.ensures.asked; files = Counts-none _ })
+    (later-then (meters (g.C.Connect.faults c.listed.new.maker) (g.C.Connect.lost c.listed.new.maker) (g.I.Interrupt.yes c.listed.new.interrupt) (g.F.Files.faults c.args.files.now)) (meters (g.C.Connect.faults c.taken.new.maker) (g.C.Connect.lost c.taken.new.maker) (g.I.Interrupt.yes c.taken.new.interrupt) (g.F.Files.faults c.taken.new.files)) (meters (g.C.Connect.faults c.taken.new.maker) (g.C.Connect.lost c.taken.new.maker) (g.I.Interrupt.yes c.taken.new.interrupt) (g.F.Files.faults c.finished.new.files)) c.in_ok-outcome.ensures.later (later-files (meters (g.C.Connect.faults c.taken.new.maker) (g.C.Connect.lost c.taken.new.maker) (g.I.Interrupt.yes c.taken.new.interrupt) (g.F.Files.faults c.taken.new.files)) (g.F.Files.faults c.finished.new.files) c.finished.ensures.counts))
+
+pub returns-in_err-outcome-clause-out : goal.returns-in_err-outcome-clause-out
+returns-in_err-outcome-clause-out g c = omega (arith, c.in_ok-peer.ensures.out, c.in_err-outcome.ensures.out)
+
+pub returns-in-Ok-clause-out : goal.returns-in-Ok-clause-out
+returns-in-Ok-clause-out g c = omega (arith, c.in_ok-peer.ensures.out, c.in_ok-outcome.ensures.out)
+
+pub returns-in-Err-clause-out : goal.returns-in-Err-clause-out
+returns-in-Err-clause-out g c = omega (arith, c.in_ok-peer.ensures.out, c.in_ok-outcome.ensures.out)

@@ -1,0 +1,29 @@
+use Rattle.std.proofs.Common.{refl, inl, inr}
+use Rattle.std.proofs.lemmas.Result.{err_from_is_err_and, IfErr-weaker, IfOk-weaker}
+use Rattle.fetch_clone.specs.Counted.{meters}
+use Rattle.fetch_clone.proofs.Counted.{counted-later, later-then}
+use Rattle.fetch_clone.proofs.fetching.fetch_only.fetched_into.Goals as goal
+
+pub returns-in_err-saved-clause-refused : goal.returns-in_err-saved-clause-refused
+returns-in_err-saved-clause-refused g c =
+    let p = err_from_is_err_and c.from_residual.result c.from_residual.ensures.1 in
+    rw (p.1, p.2) (record { by = inl c.in_err-saved.ensures.refused })
+
+pub returns-clause-cloned : goal.returns-clause-cloned
+returns-clause-cloned g c =
+    IfOk-weaker c.completed.result _ _
+    (λ outcome h. record { saved = c.in_ok-saved.saved; asked = c.save.new.repo; between = _; written = _; is_saved = c.in_ok-saved.ensures.saved; completed = h })
+    c.completed.ensures.completed
+
+pub returns-clause-refused : goal.returns-clause-refused
+returns-clause-refused g c =
+    let refused = rw c.save.ensures.may_fail at c.completed.ensures.refused in
+    IfErr-weaker c.completed.result _ _
+    (λ e h. record { by = inr (record { saved = c.in_ok-saved.saved; asked = c.save.new.repo; between = _; written = _; failed = g.C.Connect.faults c.save.new.maker; earlier = c.save.ensures.later.made; is_saved = c.in_ok-saved.ensures.saved; why = h }) })
+    refused
+
+pub returns-clause-counted : goal.returns-clause-counted
+returns-clause-counted g c = IfErr-weaker c.completed.result _ _ (λ e h. counted-later (meters (g.C.Connect.faults c.args.maker.now) (g.C.Connect.lost c.args.maker.now) (g.I.Interrupt.yes c.args.interrupt.now) (g.F.Files.faults c.args.files.now)) (meters (g.C.Connect.faults c.save.new.maker) (g.C.Connect.lost c.save.new.maker) (g.I.Interrupt.yes c.save.new.interrupt) (g.F.Files.faults c.save.new.files)) (meters (g.C.Connect.faults c.completed.new.maker) (g.C.Connect.lost c.completed.new.maker) (g.I.Interrupt.yes c.completed.new.interrupt) (g.F.Files.faults c.completed.new.files)) e c.save.ensures.later h) c.completed.ensures.counted
+
+pub returns-clause-later : goal.returns-clause-later
+returns-clause-later g c = later-then (meters (g.C.Connect.faults c.args.maker.now) (g.C.Connect.lost c.args.maker.now) (g.I.Interrupt.yes c.args.interrupt.now) (g.F.Files.faults c.args.files.now)) (meters (g.C.Connect.faults c.save.new.maker) (g.C.Connect.lost c.save.new.maker) (g.I.Interrupt.yes c.save.new.interrupt) (g.F.Files.faults c.save.new.files)) (meters (g.C.Connect.faults c.completed.new.maker) (g.C.Connect.lost c.completed.new.maker) (g.I.Interrupt.yes c.completed.new.interrupt) (g.F.Files.faults c.completed.new.files)) c.save.ensures.later c.completed.ensures.later

@@ -1,0 +1,34 @@
+use Rattle.std.proofs.Common.{refl, inl, inr}
+use Rattle.std.proofs.lemmas.Result.{err_from_is_err_and, IfErr-weaker, IfOk-weaker}
+use Rattle.fetch_store.specs.Faults.{Counts-none}
+use Rattle.fetch_clone.specs.Counted.{meters}
+use Rattle.fetch_clone.proofs.StepsCounted.{counted-saved, named-counted}
+use Rattle.fetch_clone.proofs.fetching.saving.save.Goals as goal
+
+pub returns-in_err-name-clause-refused : goal.returns-in_err-name-clause-refused
+returns-in_err-name-clause-refused g c =
+    let p = err_from_is_err_and c.from_residual.result c.from_residual.ensures.1 in
+    rw (p.1, p.2) (record { by = inl (c.in_err-name.ensures.refused, refl) })
+
+pub returns-in_err-name-clause-counted : goal.returns-in_err-name-clause-counted
+returns-in_err-name-clause-counted g c =
+    let p = err_from_is_err_and c.from_residual.result c.from_residual.ensures.1 in
+    rw (p.1, p.2) (named-counted _ (meters (g.C.Connect.faults c.args.maker.now) (g.C.Connect.lost c.args.maker.now) (g.I.Interrupt.yes c.args.interrupt.now) (g.F.Files.faults c.args.files.now)) (meters (g.C.Connect.faults c.named.new.maker) (g.C.Connect.lost c.named.new.maker) (g.I.Interrupt.yes c.named.new.interrupt) (g.F.Files.faults c.args.files.now)) _ _ _ _ _ c.in_err-name.field-0.0 c.in_err-name.ensures.refused (λ h. c.in_err-name.ensures.transport (rw h refl)) (λ h. c.in_err-name.ensures.interrupted (rw h refl)))
+
+pub returns-in_err-name-clause-later : goal.returns-in_err-name-clause-later
+returns-in_err-name-clause-later g c = record { made = c.in_err-name.ensures.counts; lost = c.in_err-name.ensures.lost; yes = c.in_err-name.ensures.asked; files = Counts-none _ }
+
+pub returns-clause-saved : goal.returns-clause-saved
+returns-clause-saved g c =
+    IfOk-weaker c.save_as.result _ _ (λ saved h. record { name = c.in_ok-name.name; target = c.in_ok-name.target; named = c.in_ok-name.ensures.named; saved_as = h }) (rw c.as_ref.ensures.value at c.save_as.ensures.saved)
+
+pub returns-clause-refused : goal.returns-clause-refused
+returns-clause-refused g c =
+    IfErr-weaker c.save_as.result _ _ (λ e h. record { by = inr (record { name = c.in_ok-name.name; target = c.in_ok-name.target; named = c.in_ok-name.ensures.named; why = h }) }) (rw c.as_ref.ensures.value at c.save_as.ensures.refused)
+
+pub returns-clause-later : goal.returns-clause-later
+returns-clause-later g c = record { made = c.in_ok-name.ensures.counts; lost = c.in_ok-name.ensures.lost; yes = c.in_ok-name.ensures.asked; files = c.save_as.ensures.counts }
+
+pub returns-clause-counted : goal.returns-clause-counted
+returns-clause-counted g c =
+    counted-saved _ _ (meters (g.C.Connect.faults c.args.maker.now) (g.C.Connect.lost c.args.maker.now) (g.I.Interrupt.yes c.args.interrupt.now) (g.F.Files.faults c.args.files.now)) (meters (g.C.Connect.faults c.named.new.maker) (g.C.Connect.lost c.named.new.maker) (g.I.Interrupt.yes c.named.new.interrupt) (g.F.Files.faults c.save_as.new.files)) _ _ _ _ _ _ _ c.save_as.result c.save_as.ensures.refused c.save_as.ensures.load c.save_as.ensures.io

@@ -1,0 +1,23 @@
+use Rattle.fetch_clone.specs.Counted.{meters}
+use Rattle.fetch_store.specs.Faults.{Counts-none}
+use Rattle.fetch_clone.proofs.Answered.{is-taken, not-taken, taken-counted}
+use Rattle.fetch_clone.proofs.Returned.{lost_later}
+use Rattle.fetch_clone.proofs.fetching.taking.taken.Goals as goal
+
+pub returns-clause-taken : goal.returns-clause-taken
+returns-clause-taken g c =
+    is-taken _ _ _ _ _ (g.F.Files.may_fail c.args.files.now) _ _ c.args.draft.now c.args.remote.now c.args.prepared c.args.repo.now c.received-answer.new.repo c.received-answer.new.peer _
+    c.take_back.ensures.taken c.received-answer.result c.received-answer.ensures.received
+
+pub returns-clause-refused : goal.returns-clause-refused
+returns-clause-refused g c =
+    not-taken _ _ _ _ _ _ _ _ c.args.draft.now c.args.remote.now c.args.prepared c.args.repo.now c.received-answer.new.repo c.received-answer.new.peer _
+    c.take_back.ensures.taken c.received-answer.result c.received-answer.ensures.refused
+
+pub returns-clause-counted : goal.returns-clause-counted
+returns-clause-counted g c =
+    taken-counted (meters (g.C.Connect.faults c.args.maker.now) (g.C.Connect.lost c.args.maker.now) (g.I.Interrupt.yes c.args.interrupt.now) (g.F.Files.faults c.args.files.now)) (meters (g.C.Connect.faults c.take_back.new.self) (g.C.Connect.lost c.take_back.new.self) (g.I.Interrupt.yes c.received-answer.new.interrupt) (g.F.Files.faults c.received-answer.new.files)) c.args.draft.now.choices.wanted c.args.prepared.listed.ref_map (g.C.Peer.Peer.faults c.args.peer) (g.C.Peer.Peer.faults c.received-answer.new.peer) c.received-answer.result c.received-answer.ensures.kind c.take_back.ensures.lost c.received-answer.ensures.reopened c.received-answer.ensures.client c.received-answer.ensures.stopped c.received-answer.ensures.keep_file c.received-answer.ensures.remove_keep_file
+
+pub returns-clause-later : goal.returns-clause-later
+returns-clause-later g c =
+    record { made = rw c.take_back.ensures.faults (Counts-none _); lost = rw c.take_back.ensures.lost (lost_later (g.C.Peer.Peer.faults c.received-answer.new.peer) (g.C.Connect.lost c.args.maker.now)); yes = c.received-answer.ensures.asked; files = c.received-answer.ensures.file_counts }

@@ -1,0 +1,42 @@
+use Rattle.std.proofs.Common.{refl, inl, inr}
+use Rattle.std.proofs.lemmas.Result.{err_from_is_err_and}
+use Rattle.std.proofs.lemmas.Bool.{false≢true}
+use Rattle.fetch_clone.proofs.Uncounted.{target-uncounted}
+use Rattle.fetch_clone.proofs.Targeting.{aimed-at, not-aimed-at, unlisted}
+use Rattle.fetch_clone.proofs.fetching.targeting.target_of.Goals as goal
+
+pub returns-in_err-remote-clause-refused : goal.returns-in_err-remote-clause-refused
+returns-in_err-remote-clause-refused g c =
+    let p = err_from_is_err_and c.from_residual.result c.from_residual.ensures.1 in
+    rw (p.1, p.2) (inl tt)
+
+pub returns-in_err-options-clause-refused : goal.returns-in_err-options-clause-refused
+returns-in_err-options-clause-refused g c =
+    let p = err_from_is_err_and c.from_residual-in_err-options.result c.from_residual-in_err-options.ensures.1 in
+    rw (p.1, p.2) (inl tt)
+
+pub returns-in_err-peer-clause-refused : goal.returns-in_err-peer-clause-refused
+returns-in_err-peer-clause-refused g c =
+    let p = err_from_is_err_and c.from_residual-in_err-peer.result c.from_residual-in_err-peer.ensures.1 in
+    rw (p.1, p.2) (inl (rw (c.in_ok-remote.ensures, c.as_bytes.ensures) at c.in_err-peer.ensures.refused))
+
+pub returns-in_err-map-clause-refused : goal.returns-in_err-map-clause-refused
+returns-in_err-map-clause-refused g c =
+    let p = err_from_is_err_and c.from_residual-in_err-map.result c.from_residual-in_err-map.ensures.1 in
+    rw (p.1, p.2) (inr (inl (c.in_err-map.field-0.0, refl, unlisted _ (g.C.Connect.faults c.args.maker.now) (g.C.Connect.faults c.take_back.new.self) _ _ _ c.args.draft.now c.args.repo.now c.in_ok-remote.remote c.in_ok-options.options c.in_ok-peer.peer c.inquired-listed.new.peer c.in_ok-options.ensures (rw c.as_bytes.ensures at c.in_ok-remote.ensures) (rw (c.in_ok-remote.ensures, c.as_bytes.ensures) at c.in_ok-peer.ensures.reached) c.take_back.ensures.taken c.take_back.ensures.left c.take_back.ensures.addresses refl c.in_err-map.field-0.0 c.in_err-map.ensures.refused)))
+
+pub returns-clause-target : goal.returns-clause-target
+returns-clause-target g c = aimed-at _ (g.C.Connect.faults c.args.maker.now) (g.C.Connect.faults c.take_back.new.self) _ _ _ c.args.draft.now c.args.repo.now c.in_ok-remote.remote c.in_ok-options.options c.in_ok-peer.peer c.inquired-listed.new.peer c.in_ok-options.ensures (rw c.as_bytes.ensures at c.in_ok-remote.ensures) (rw (c.in_ok-remote.ensures, c.as_bytes.ensures) at c.in_ok-peer.ensures.reached) c.take_back.ensures.taken c.take_back.ensures.left c.take_back.ensures.addresses refl _ c.in_ok-map.ensures.listed c.name_aimed_at.result (rw c.ref_name.ensures at c.name_aimed_at.ensures.target)
+
+pub returns-clause-refused : goal.returns-clause-refused
+returns-clause-refused g c = not-aimed-at _ (g.C.Connect.faults c.args.maker.now) (g.C.Connect.faults c.take_back.new.self) _ _ _ c.args.draft.now c.args.repo.now c.in_ok-remote.remote c.in_ok-options.options c.in_ok-peer.peer c.inquired-listed.new.peer c.in_ok-options.ensures (rw c.as_bytes.ensures at c.in_ok-remote.ensures) (rw (c.in_ok-remote.ensures, c.as_bytes.ensures) at c.in_ok-peer.ensures.reached) c.take_back.ensures.taken c.take_back.ensures.left c.take_back.ensures.addresses refl _ c.in_ok-map.ensures.listed c.name_aimed_at.result (rw c.ref_name.ensures at c.name_aimed_at.ensures.refused)
+
+pub returns-clause-transport : goal.returns-clause-transport
+returns-clause-transport g c is =
+    let h = rw is at c.name_aimed_at.ensures.refused in
+    absurd (false≢true (target-uncounted _ _ _ _ h.0 _ h.1 h.2))
+
+pub returns-clause-interrupted : goal.returns-clause-interrupted
+returns-clause-interrupted g c is =
+    let h = rw is at c.name_aimed_at.ensures.refused in
+    absurd (false≢true (target-uncounted _ _ _ _ h.0 _ h.1 h.2))

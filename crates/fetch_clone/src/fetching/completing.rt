@@ -1,0 +1,88 @@
+//! A clone whose remote is saved is fetched into.
+
+ghost use Rattle.std.specs.Prelude.{◌≡◌, IfOk, IfErr};
+ghost use Rattle.std.specs.Fn.{CalledAtMut};
+ghost use Rattle.fetch_clone.specs.Cloned.{IsCompleted, IsUncompleted};
+ghost use Rattle.fetch_clone.specs.Counted.{IsCounted, Later, meters};
+ghost use Rattle.fetch_clone.specs.Reached.{line, ways};
+
+use crate::clone::fetch::Error;
+use crate::draft::Draft;
+use crate::fetching::finishing::finished;
+use crate::fetching::listing::listed;
+use crate::fetching::saving::Saved;
+use crate::fetching::taking::taken;
+use crate::prepare_fetch::ConfigureFault;
+use fetch_conversation::Progress;
+use fetch_remote::connect::Connect;
+use fetch_remote::{Outcome, Repository};
+use fetch_store::Files;
+use fetch_update::Worktrees;
+use fetch_wire::Interrupt;
+use std::alloc::Global;
+use std::thread::Threads;
+
+/// Lists the references of the saved remote, fetches what is wanted of them, and lets `HEAD` take what it is to take.
+// Many arguments: a clone's parts, of which several are changed.
+pub(crate) fn completed<
+    T: Threads + Sync,
+    F: Files,
+    C: Connect,
+    G: FnMut(&mut C::Peer) -> Result<(), ConfigureFault>,
+    Q: Progress,
+    I: Interrupt,
+    W: Worktrees,
+>(
+    rt: &T,
+    alloc: Global,
+    draft: &Draft,
+    saved: &Saved,
+    repo: &mut Repository,
+    files: &mut F,
+    maker: &mut C,
+    configure: &mut G,
+    progress: &mut Q,
+    interrupt: &mut I,
+    worktrees: &mut W,
+) -> Result<Outcome, Error>
+    requires { G.IsAlwaysCallable configure.old }
+    ensures completed { IfOk result (IsCompleted (ways (CalledAtMut G.FnMut) C.Peer.told C.Peer.answers) (line (C.left maker.old) (C.taken maker.old) (C.addresses maker.old) configure.old) (line (C.left maker.new) (C.taken maker.new) (C.addresses maker.new) configure.new) (W.told worktrees.old) (F.told files.old) (F.told files.new) draft.now saved.now repo.old repo.new) }
+    ensures refused { IfErr result (IsUncompleted (ways (CalledAtMut G.FnMut) C.Peer.told C.Peer.answers) (C.faults maker.old) (C.faults maker.new) (line (C.left maker.old) (C.taken maker.old) (C.addresses maker.old) configure.old) (line (C.left maker.new) (C.taken maker.new) (C.addresses maker.new) configure.new) (W.told worktrees.old) (F.may_fail files.old) (F.told files.old) (F.told files.new) draft.now saved.now repo.old repo.new) }
+    ensures counted { IfErr result (IsCounted (meters (C.faults maker.old) (C.lost maker.old) (I.yes interrupt.old) (F.faults files.old)) (meters (C.faults maker.new) (C.lost maker.new) (I.yes interrupt.new) (F.faults files.new))) }
+    ensures later { Later (meters (C.faults maker.old) (C.lost maker.old) (I.yes interrupt.old) (F.faults files.old)) (meters (C.faults maker.new) (C.lost maker.new) (I.yes interrupt.new) (F.faults files.new)) }
+    ensures out { C.out maker.new ≡ C.out maker.old }
+    ensures may_fail { F.may_fail files.new ≡ F.may_fail files.old }
+    ensures again { G.IsAlwaysCallable configure.new }
+{
+    let name = saved.name.as_bytes();
+    let choices = &draft.choices;
+    let (peer, prepared) = listed(
+        alloc,
+        name,
+        choices,
+        &saved.remote,
+        repo,
+        maker,
+        configure,
+        interrupt,
+    )?;
+    let outcome = taken(
+        rt,
+        alloc,
+        draft,
+        &saved.remote,
+        prepared,
+        peer,
+        repo,
+        maker,
+        progress,
+        interrupt,
+        files,
+        worktrees,
+    )?;
+    let map = &outcome.ref_map;
+    match finished(alloc, draft, name, &saved.section, map, repo, files) {
+        Ok(()) => Ok(outcome),
+        Err(e) => Err(e),
+    }
+}

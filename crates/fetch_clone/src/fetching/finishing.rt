@@ -1,0 +1,64 @@
+//! A repository that was fetched into takes its remote's section, and `HEAD` what the remote listed.
+
+ghost use Rattle.std.specs.Prelude.{◌≡◌, IfErr, IsErrOf, OnErr, OnOk, Some};
+ghost use Rattle.fetch_store.specs.Faults.{Counts, Rose};
+ghost use Rattle.fetch_remote.specs.Repositories.{reopened, setup_of, state_of};
+ghost use Rattle.fetch_clone.specs.Cloned.{IsFinished, IsUnfinished};
+ghost use Rattle.fetch_clone.specs.Replacing.{replaced};
+ghost use Rattle.fetch_clone.specs.declared.clone.fetch.Error.TheVariants as errors;
+
+use crate::clone::fetch::Error;
+use crate::draft::Draft;
+use crate::fetching::receiving::message_of;
+use crate::heading::update_head;
+use crate::mirror_remote::append_config_to_repo_config;
+use fetch_config::File;
+use fetch_remote::Repository;
+use fetch_store::{Files, NoMemory};
+use fetch_wire::RefMap;
+use std::alloc::Global;
+
+/// Puts the remote's section into the configuration in memory, and lets `HEAD` take what it is to take.
+// Many arguments: what was saved and fetched, and what it changes.
+pub(crate) fn finished<F: Files>(
+    alloc: Global,
+    draft: &Draft,
+    name: &[u8],
+    section: &File,
+    map: &RefMap,
+    repo: &mut Repository,
+    files: &mut F,
+) -> Result<(), Error>
+    ensures ok { OnOk result (IsFinished (F.told files.old) (F.told files.new) draft.now name.now section.now map.now repo.old repo.new) }
+    ensures refused { IfErr result (IsUnfinished (F.may_fail files.old) (F.told files.old) (F.told files.new) draft.now name.now section.now map.now repo.old repo.new) }
+    ensures io { IsErrOf result errors.SaveConfigIo → Rose (F.faults files.old) (F.faults files.new) }
+    ensures counts { Counts (F.faults files.old) (F.faults files.new) }
+    ensures may_fail { F.may_fail files.new ≡ F.may_fail files.old }
+{
+    let message = message_of(alloc, draft)?;
+    put_in_force(alloc, section, repo)?;
+    let ref_name = draft.choices.ref_name();
+    let revision = draft.choices.revision();
+    update_head(
+        alloc,
+        repo,
+        files,
+        map,
+        message.as_bytes(),
+        name,
+        ref_name,
+        revision,
+    )
+}
+
+/// Puts the remote's section into the configuration in memory.
+fn put_in_force(alloc: Global, section: &File, repo: &mut Repository) -> Result<(), NoMemory>
+    ensures state { state_of repo.new ≡ state_of repo.old }
+    ensures ok { OnOk result (reopened (setup_of repo.old) (replaced section.now.sections (setup_of repo.old).local) ≡ Some (setup_of repo.new)) }
+    ensures err { OnErr result (setup_of repo.new ≡ setup_of repo.old) }
+{
+    match append_config_to_repo_config(alloc, repo, section) {
+        Ok(()) => Ok(()),
+        Err(_) => Err(NoMemory),
+    }
+}

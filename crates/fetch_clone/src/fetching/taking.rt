@@ -1,0 +1,64 @@
+//! What a peer listed is fetched from it, and the peer is taken back.
+
+ghost use Rattle.std.specs.Prelude.{◌≡◌, ◌+◌, ◌<◌, Option, IfOk, IfErr};
+ghost use Rattle.fetch_store.specs.Faults.{Counts};
+ghost use Rattle.fetch_wire.specs.Talks.{Talk};
+ghost use Rattle.fetch_remote.specs.Repositories.{setup_of};
+ghost use Rattle.fetch_clone.specs.Counted.{IsCounted, Later, meters};
+ghost use Rattle.fetch_clone.specs.Received.{IsNotTaken, IsTaken, WasListed};
+
+use crate::clone::fetch::Error;
+use crate::draft::Draft;
+use crate::fetching::receiving::received;
+use fetch_conversation::Progress;
+use fetch_remote::connect::Connect;
+use fetch_remote::{Outcome, Prepared, Remote, Repository};
+use fetch_store::Files;
+use fetch_update::Worktrees;
+use fetch_wire::Interrupt;
+use std::alloc::Global;
+use std::thread::Threads;
+
+/// Fetches what a peer listed, and takes the peer back.
+// Many arguments: those of a fetch that goes on with what was listed, and what made the peer.
+pub(crate) fn taken<
+    T: Threads + Sync,
+    F: Files,
+    C: Connect,
+    Q: Progress,
+    I: Interrupt,
+    W: Worktrees,
+>(
+    rt: &T,
+    alloc: Global,
+    draft: &Draft,
+    remote: &Remote,
+    prepared: Prepared,
+    peer: C::Peer,
+    repo: &mut Repository,
+    maker: &mut C,
+    progress: &mut Q,
+    interrupt: &mut I,
+    files: &mut F,
+    worktrees: &mut W,
+) -> Result<Outcome, Error>
+    requires { 0 < C.out maker.old }
+    ensures taken { IfOk result (λ outcome. (begun : Option Talk) → WasListed C.Peer.answers begun (C.Peer.told peer) remote.now (setup_of repo.old) prepared
+        → IsTaken C.Peer.told C.Peer.answers begun (C.taken maker.old) (C.taken maker.new) (W.told worktrees.old) (F.told files.old) (F.told files.new) draft.now remote.now prepared repo.old repo.new outcome) }
+    ensures refused { IfErr result (λ e. (begun : Option Talk) → WasListed C.Peer.answers begun (C.Peer.told peer) remote.now (setup_of repo.old) prepared
+        → IsNotTaken C.Peer.told C.Peer.answers begun (C.taken maker.old) (C.taken maker.new) (W.told worktrees.old) (F.may_fail files.old) (F.told files.old) (F.told files.new) draft.now remote.now prepared repo.old repo.new e) }
+    ensures counted { IfErr result (IsCounted (meters (C.faults maker.old) (C.lost maker.old) (I.yes interrupt.old) (F.faults files.old)) (meters (C.faults maker.new) (C.lost maker.new) (I.yes interrupt.new) (F.faults files.new))) }
+    ensures later { Later (meters (C.faults maker.old) (C.lost maker.old) (I.yes interrupt.old) (F.faults files.old)) (meters (C.faults maker.new) (C.lost maker.new) (I.yes interrupt.new) (F.faults files.new)) }
+    ensures out { C.out maker.new + 1 ≡ C.out maker.old }
+    ensures left { C.left maker.new ≡ C.left maker.old }
+    ensures addresses { C.addresses maker.new ≡ C.addresses maker.old }
+    ensures faults { C.faults maker.new ≡ C.faults maker.old }
+    ensures may_fail { F.may_fail files.new ≡ F.may_fail files.old }
+{
+    let mut peer = peer;
+    let answer = received(
+        rt, alloc, draft, remote, prepared, repo, &mut peer, progress, interrupt, files, worktrees,
+    );
+    maker.take_back(peer);
+    answer
+}

@@ -1,0 +1,175 @@
+//! The reference that a clone of another depth is of, as a first connection lists it.
+
+ghost use Rattle.std.specs.Prelude.{◌≡◌, ◌≤◌, ◌∷◌, [], IfOk, IfErr, IsErrOf, Ok, None};
+ghost use Rattle.std.specs.Fn.{CalledAtMut};
+ghost use Rattle.std.specs.Option.{option_copied};
+ghost use Rattle.fetch_store.specs.Faults.{Counts, Rose};
+ghost use Rattle.fetch_specs.specs.Parses.{parsed};
+ghost use Rattle.fetch_specs.specs.declared.operation.Operation.TheVariants as operations;
+ghost use Rattle.fetch_conversation.specs.declared.ref_map.Error.TheVariants as ref_map_errors;
+ghost use Rattle.fetch_remote.specs.Repositories.{state_of};
+ghost use Rattle.fetch_clone.specs.Heading.{aim_of};
+ghost use Rattle.fetch_clone.specs.Reached.{line, ways};
+ghost use Rattle.fetch_clone.specs.Stages as stages;
+ghost use Rattle.fetch_clone.specs.Targets as spec;
+ghost use Rattle.fetch_clone.specs.Targets.{HasNoTarget, HasTarget};
+ghost use Rattle.fetch_clone.specs.declared.clone.fetch.Error.TheVariants as errors;
+
+use crate::aim::Aim;
+use crate::choices::Choices;
+use crate::clone::fetch::Error;
+use crate::draft::Draft;
+use crate::fetching::reaching::reached;
+use crate::heading::aimed;
+use crate::prepare_fetch::ConfigureFault;
+use fetch_conversation::ref_map;
+use fetch_remote::connect::Connect;
+use fetch_remote::phases::inquired;
+use fetch_remote::{Remote, Repository};
+use fetch_specs::{FullName, Operation, PartialName, RefSpec, SpecError, Tags, parse};
+use fetch_store::{List, NoMemory, Text};
+use fetch_wire::{Interrupt, RefMap};
+use std::alloc::Global;
+
+/// The reference that the clone is of, where a first connection is made and lists one: a clone of another depth asks for it,
+/// unless it is asked for more refspecs or a revision. The peer is taken back.
+pub(crate) fn target<
+    C: Connect,
+    G: FnMut(&mut C::Peer) -> Result<(), ConfigureFault>,
+    I: Interrupt,
+>(
+    alloc: Global,
+    draft: &Draft,
+    repo: &Repository,
+    maker: &mut C,
+    configure: &mut G,
+    interrupt: &mut I,
+) -> Result<Option<FullName>, Error>
+    requires { G.IsAlwaysCallable configure.old }
+    ensures target { IfOk result (HasTarget (ways (CalledAtMut G.FnMut) C.Peer.told C.Peer.answers) (line (C.left maker.old) (C.taken maker.old) (C.addresses maker.old) configure.old) (line (C.left maker.new) (C.taken maker.new) (C.addresses maker.new) configure.new) draft.now repo.now) }
+    ensures refused { IfErr result (HasNoTarget (ways (CalledAtMut G.FnMut) C.Peer.told C.Peer.answers) (C.faults maker.old) (C.faults maker.new) (line (C.left maker.old) (C.taken maker.old) (C.addresses maker.old) configure.old) (line (C.left maker.new) (C.taken maker.new) (C.addresses maker.new) configure.new) draft.now repo.now) }
+    ensures counts { Counts (C.faults maker.old) (C.faults maker.new) }
+    ensures out { C.out maker.new ≡ C.out maker.old }
+    ensures lost { (C.lost maker.old).count ≤ (C.lost maker.new).count }
+    ensures transport { IsErrOf result (errors.RefMap ref_map_errors.Transport) → Rose (C.lost maker.old) (C.lost maker.new) }
+    ensures asked { Counts (I.yes interrupt.old) (I.yes interrupt.new) }
+    ensures interrupted { IsErrOf result (errors.RefMap ref_map_errors.Interrupted) → Rose (I.yes interrupt.old) (I.yes interrupt.new) }
+    ensures again { G.IsAlwaysCallable configure.new }
+{
+    if lists_first(&draft.choices) {
+        target_of(alloc, draft, repo, maker, configure, interrupt)
+    } else {
+        Ok(None)
+    }
+}
+
+/// The reference that a first connection lists.
+#[tactic(auto, using(crate::proofs::Returned::lost_later, crate::proofs::Returned::lost_rose))]
+fn target_of<C: Connect, G: FnMut(&mut C::Peer) -> Result<(), ConfigureFault>, I: Interrupt>(
+    alloc: Global,
+    draft: &Draft,
+    repo: &Repository,
+    maker: &mut C,
+    configure: &mut G,
+    interrupt: &mut I,
+) -> Result<Option<FullName>, Error>
+    requires { G.IsAlwaysCallable configure.old }
+    ensures target { IfOk result (spec.IsAimedAt (ways (CalledAtMut G.FnMut) C.Peer.told C.Peer.answers) (line (C.left maker.old) (C.taken maker.old) (C.addresses maker.old) configure.old) (line (C.left maker.new) (C.taken maker.new) (C.addresses maker.new) configure.new) draft.now repo.now) }
+    ensures refused { IfErr result (spec.IsUntargeted (ways (CalledAtMut G.FnMut) C.Peer.told C.Peer.answers) (C.faults maker.old) (C.faults maker.new) (line (C.left maker.old) (C.taken maker.old) (C.addresses maker.old) configure.old) (line (C.left maker.new) (C.taken maker.new) (C.addresses maker.new) configure.new) draft.now repo.now) }
+    ensures counts { Counts (C.faults maker.old) (C.faults maker.new) }
+    ensures out { C.out maker.new ≡ C.out maker.old }
+    ensures lost { (C.lost maker.old).count ≤ (C.lost maker.new).count }
+    ensures transport { IsErrOf result (errors.RefMap ref_map_errors.Transport) → Rose (C.lost maker.old) (C.lost maker.new) }
+    ensures asked { Counts (I.yes interrupt.old) (I.yes interrupt.new) }
+    ensures interrupted { IsErrOf result (errors.RefMap ref_map_errors.Interrupted) → Rose (I.yes interrupt.old) (I.yes interrupt.new) }
+    ensures again { G.IsAlwaysCallable configure.new }
+{
+    let remote = bare(alloc, draft.url.as_bytes())?;
+    let options = first_options(alloc, &draft.choices)?;
+    let mut peer = reached(&remote, maker, configure)?;
+    let listed = inquired(alloc, &remote, repo, &mut peer, interrupt, options);
+    maker.take_back(peer);
+    let (map, _) = listed?;
+    name_aimed_at(alloc, repo, &map, draft.choices.ref_name())
+}
+
+/// Whether a first connection is made.
+fn lists_first(choices: &Choices) -> bool
+    ensures { result ≡ stages.lists_first choices.now }
+{
+    !keeps_depth(choices)
+        && choices.options.extra_refspecs.as_slice().is_empty()
+        && choices.revision().is_none()
+}
+
+fn keeps_depth(choices: &Choices) -> bool
+    ensures { result ≡ stages.keeps_depth choices.now.shallow }
+{
+    matches!(choices.shallow, fetch_negotiate::Shallow::NoChange)
+}
+
+/// The nameless remote at an address, without refspecs and tags.
+fn bare(alloc: Global, url: &[u8]) -> Result<Remote, NoMemory>
+    ensures { IfOk result (λ remote. remote ≡ spec.bare url.now) }
+{
+    let mut urls = List::new(alloc);
+    urls.push(Text::new(alloc, url)?)?;
+    Ok(Remote::new(urls, List::new(alloc), Tags::None))
+}
+
+/// The options of the first listing.
+fn first_options(alloc: Global, choices: &Choices) -> Result<ref_map::Options, NoMemory>
+    ensures { IfOk result (spec.AreFirstOptions choices.now) }
+{
+    let text: &[u8] = match choices.ref_name() {
+        Some(name) => name.as_bytes(),
+        None => b"HEAD",
+    };
+    let mut extra_refspecs = List::new(alloc);
+    extra_refspecs.push(said(alloc, text)?)?;
+    Ok(ref_map::Options {
+        prefix_from_spec_as_filter_on_remote: true,
+        handshake_parameters: List::new(alloc),
+        extra_refspecs,
+        max_reply_bytes: choices.options.max_reply_bytes,
+    })
+}
+
+/// The refspec to fetch by that a text says. It is asked for texts that say one, so that memory alone may refuse it.
+pub(crate) fn said(alloc: Global, text: &[u8]) -> Result<RefSpec, NoMemory>
+    ensures { IfOk result (λ spec. parsed operations.Fetch text.now ≡ Ok spec) }
+{
+    match parse(alloc, text, Operation::Fetch) {
+        Ok(spec) => Ok(spec),
+        Err(_) => Err(NoMemory),
+    }
+}
+
+/// The name that is aimed at by what was listed.
+fn name_aimed_at(
+    alloc: Global,
+    repo: &Repository,
+    map: &RefMap,
+    ref_name: Option<&PartialName>,
+) -> Result<Option<FullName>, Error>
+    ensures target { IfOk result (λ target. spec.Aims (aim_of (state_of repo.now) map.now (option_copied ref_name.entry) None) target) }
+    ensures refused { IfErr result (spec.IsUnaimedBy (state_of repo.now) map.now (option_copied ref_name.entry)) }
+{
+    match aimed(alloc, repo, map, ref_name, None) {
+        Ok(Aim::Name { name, .. }) => Ok(Some(name)),
+        Ok(_) => Ok(None),
+        Err(e) => Err(told_first(ref_name.is_some(), e)),
+    }
+}
+
+/// The name that a ref name means, where it is no full name, has a refusal of its own.
+fn told_first(is_named: bool, e: Error) -> Error
+    ensures { result ≡ spec.told_again is_named e }
+{
+    match e {
+        Error::InvalidHeadRef { head_ref_name } if is_named => Error::ReferenceName {
+            name: head_ref_name,
+        },
+        e => e,
+    }
+}
