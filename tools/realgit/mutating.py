@@ -1,4 +1,4 @@
-"""Scenes that are changed at random: their bytes, lines, lengths, counts and order.
+"""Scenes that are changed at random: their bytes, lines, lengths, counts and order; and races that are made of such scenes.
 
 A change is made anywhere in a scene, in one of its ids, in what its server says, in the server's pack, or in the pack of
 the repository. What is around the place is written anew, so that the program reads up to the change.
@@ -11,6 +11,7 @@ from random import Random
 
 from realgit.lines import MAX_PAYLOAD, Mark, encoded, pieces
 
+JOBS = (0, 1, 1, 2, 2, 2, 2, 3, 3, 4, 5, 8, 9)
 HOW_MANY = (1, 1, 1, 1, 1, 1, 2, 2, 3, 6)
 BYTES = (0, 1, 4, 9, 10, 13, 32, 47, 48, 58, 64, 94, 127, 128, 255)
 DIGITS = (b"0000", b"0001", b"0002", b"0003", b"0004", b"0005", b"fff0", b"fff1", b"ffff", b"000G", b"FFF0", b"    ")
@@ -31,9 +32,34 @@ class Mutator:
         random = Random(f"{seed} {number}")
         scene = random.choice(self.scenes)
         for _ in range(random.choice(HOW_MANY)):
-            change = random.choice(PLACES)
-            scene = change(random, scene, random.choice(self.scenes))
+            scene = self._changed(random, scene)
         return scene
+
+    def race(self, seed, number):
+        """A race in the repository of a scene, whose jobs are those of this scene and of others, some of them changed."""
+        random = Random(f"race {seed} {number}")
+        first = random.choice(self.scenes)
+        scenes = [first if random.random() < 0.6 else random.choice(self.scenes) for _ in range(random.choice(JOBS))]
+        race = raced([first, *(self._changed(random, each) if random.random() < 0.4 else each for each in scenes)])
+        for _ in range(random.choice((0, 0, 0, 1, 1, 2))):
+            race = random.choice((in_bytes, in_lines, in_lines, _id))(random, race, random.choice(self.scenes))
+        return race
+
+    def _changed(self, random, scene):
+        return random.choice(PLACES)(random, scene, random.choice(self.scenes))
+
+
+def raced(scenes):
+    """The scene of a race in the first one's repository, whose jobs are those of the others."""
+    first, jobs = split_lines(scenes[0]), [_job_of(scene) for scene in scenes[1:]]
+    return b"".join((*first[: _part(first, 2) or len(first)][:-1], *(line for job in jobs for line in job), Mark.FLUSH.value))
+
+
+def _job_of(scene):
+    """The lines of a scene that make its job, from the delimiter before the remote on."""
+    lines = split_lines(scene)
+    begin = _part(lines, 2)
+    return [] if begin is None else lines[begin - 1 : -1]
 
 
 # ---- changes of bytes

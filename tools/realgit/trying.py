@@ -23,6 +23,19 @@ REPORTS = {
     1: re.compile(rb"(?:%s)*refused ([A-Za-z]+)(?: %s)?\n%s" % (LINE, TEXT, STATE)),
     MALFORMED: re.compile(rb"malformed (\d+)\n"),
 }
+JOURNAL = (rb"(?:take \d+ \d+\n(?:has %(id)s\n)*(?:shallow %(id)s\n)*(?:unshallow %(id)s\n)*"
+           rb"|commit \d+ \d+\n(?:set [^\n]+ (?:@[^\n]+|%(id)s)\n|gone [^\n]+\n)*)*"
+           rb"(?:ref (?:@[^\n]+|%(id)s) [^\n]+\n)*(?:border %(id)s\n)*(?:id %(id)s\n)*") % {b"id": ANY_ID}
+# The same for a race.
+RACE_REPORTS = {
+    0: re.compile(JOURNAL + rb"ok\n"),
+    1: re.compile(rb"refused (NotClosed) %(id)s %(id)s\n|%(journal)s(?:refused \d+ ([A-Za-z]+)(?: %(text)s)?\n)+"
+                  % {b"id": ANY_ID, b"journal": JOURNAL, b"text": TEXT}),
+    MALFORMED: REPORTS[MALFORMED],
+}
+FORMS = {"fetch": REPORTS, "race": RACE_REPORTS}
+# A race has a thread for each of its eight jobs at most, each with a stack of so many bytes.
+STACKS = {"fetch": 0, "race": 8 * 8 * MEBIBYTE}
 
 
 @dataclass
@@ -37,6 +50,7 @@ class Ended:
     seconds: float
     memory: int
     is_late: bool
+    asked: str = "fetch"
 
     def fault(self, scene):
         """What is wrong about it, in a word or two, or None."""
@@ -46,28 +60,29 @@ class Ended:
             return f"signal {-self.status}"
         if self.status == NO_MEMORY:
             return "out of memory"
-        if self.status not in REPORTS:
+        if self.status not in FORMS[self.asked]:
             return f"status {self.status}"
-        match = REPORTS[self.status].fullmatch(self.written)
+        match = FORMS[self.asked][self.status].fullmatch(self.written)
         if match is None:
             return f"lines with status {self.status}"
         return "place" if self.status == MALFORMED and int(match[1]) > len(scene) else None
 
     def word(self):
-        """The status, and with a refusal its name."""
-        match = REPORTS[1].fullmatch(self.written) if self.status == 1 else None
-        return f"status {self.status}" if match is None else f"status 1, {match[1].decode()}"
+        """The status, and with a refusal its name; of a race the last one's."""
+        match = FORMS[self.asked][1].fullmatch(self.written) if self.status == 1 else None
+        return f"status {self.status}" if match is None else f"status 1, {match[match.lastindex].decode()}"
 
 
 class Runner:
     """Runs the program on scenes, one at a time. Its process has to be its own: it sets bounds of memory for good."""
 
-    def __init__(self, program, seconds, mebibytes):
-        self.program, self.seconds, self.running, self.is_late = program, seconds, None, False
+    def __init__(self, program, seconds, mebibytes, asked="fetch"):
+        self.program, self.seconds, self.asked, self.running, self.is_late = program, seconds, asked, None, False
         self.given, self.taken = os.memfd_create("scene"), os.memfd_create("report")
         self.files = [(os.POSIX_SPAWN_DUP2, self.given, 0), (os.POSIX_SPAWN_DUP2, self.taken, 1),
                       (os.POSIX_SPAWN_OPEN, 2, os.devnull, os.O_WRONLY, 0)]
-        resource.setrlimit(resource.RLIMIT_DATA, (mebibytes * MEBIBYTE, mebibytes * MEBIBYTE))
+        most = mebibytes * MEBIBYTE + STACKS[asked]
+        resource.setrlimit(resource.RLIMIT_DATA, (most, most))
         resource.setrlimit(resource.RLIMIT_CORE, (0, 0))
         signal.signal(signal.SIGALRM, self._stop)
 
@@ -84,7 +99,7 @@ class Runner:
         os.lseek(self.given, 0, os.SEEK_SET)
         os.lseek(self.taken, 0, os.SEEK_SET)
         try:
-            self.running = os.posix_spawn(self.program, [self.program, "fetch"], {}, file_actions=self.files)
+            self.running = os.posix_spawn(self.program, [self.program, self.asked], {}, file_actions=self.files)
         except OSError as error:
             raise Trouble(ENGINE_FAILED, f"can't run {self.program}: {error.strerror}") from None
         signal.setitimer(signal.ITIMER_REAL, self.seconds)
@@ -92,7 +107,7 @@ class Runner:
         signal.setitimer(signal.ITIMER_REAL, 0)
         written = os.pread(self.taken, os.fstat(self.taken).st_size, 0)
         seconds = used.ru_utime + used.ru_stime
-        return Ended(os.waitstatus_to_exitcode(status), written, seconds, used.ru_maxrss * 1024, self.is_late)
+        return Ended(os.waitstatus_to_exitcode(status), written, seconds, used.ru_maxrss * 1024, self.is_late, self.asked)
 
 
 def minimised(scene, fails):

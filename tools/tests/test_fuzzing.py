@@ -4,7 +4,7 @@ import os
 import tempfile
 import unittest
 
-from realgit.mutating import Mutator, split_lines
+from realgit.mutating import Mutator, raced, split_lines
 from realgit.rows import ROWS, rows
 from realgit.trouble import read_file
 from realgit.trying import Ended, minimised
@@ -12,10 +12,12 @@ from test_tools import DOUBLE, run
 
 SCENES = [scene for _, scene, _ in rows(*(read_file(os.path.join(ROWS, name)) for name in ("stdin", "stdout")))]
 REPORT = read_file(os.path.join(ROWS, "..", "bagjulen", "stdout"))
+RACES = os.path.join(ROWS, "..", "race_rows")
+TWO_JOBS = read_file(os.path.join(ROWS, "..", "..", "examples", "two-jobs.race"))
 
 
-def ended(status, written, is_late=False):
-    return Ended(status, written, 0.0, 0, is_late)
+def ended(status, written, is_late=False, asked="fetch"):
+    return Ended(status, written, 0.0, 0, is_late, asked)
 
 
 class Made(unittest.TestCase):
@@ -25,6 +27,17 @@ class Made(unittest.TestCase):
         self.assertEqual(made, [again.scene("1", number) for number in reversed(range(300))][::-1])
         self.assertGreater(len(set(made) - set(SCENES)), 200)
         self.assertNotEqual(made, [mutator.scene("2", number) for number in range(300)])
+
+    def test_a_race_has_the_repository_of_one_scene_and_the_jobs_of_others(self):
+        scene = SCENES[0]
+        self.assertEqual(raced([scene, scene]), scene)
+        front, first, second = (TWO_JOBS.index(b"remote /srv/a"), TWO_JOBS.index(b"remote /srv/b"), len(TWO_JOBS))
+        alone = [TWO_JOBS[: first - 8] + b"0000", TWO_JOBS[: front - 8] + TWO_JOBS[first - 8 : second]]
+        self.assertEqual(raced([alone[0], *alone]), TWO_JOBS)
+        self.assertEqual(raced([alone[0]]), TWO_JOBS[: front - 8] + b"0000")
+        made = [Mutator(SCENES).race("1", number) for number in range(200)]
+        self.assertEqual(made, [Mutator(SCENES).race("1", number) for number in range(200)])
+        self.assertGreater(len(set(made)), 150)
 
     def test_lines_are_split_and_nothing_is_lost(self):
         cases = [b"", b"0000", b"0006ab0001", b"0006ab0003cd", b"ffff", b"000", b"-001ab", b"0004xyz"]
@@ -40,6 +53,17 @@ class Faults(unittest.TestCase):
         for name, _, report in rows(*(read_file(os.path.join(ROWS, name)) for name in ("stdin", "stdout"))):
             text, status = report.encode("utf-8", "surrogateescape").rsplit(b"== status ", 1)
             self.assertIsNone(ended(int(status), text).fault(b"0" * 100000), name)
+
+    def test_reports_of_races_that_are_stated(self):
+        reports = read_file(os.path.join(RACES, "stdout")).split(b"== ")[1:-1]
+        for name, status in zip(reports[::2], reports[1::2]):
+            text = name.partition(b"\n")[2]
+            self.assertIsNone(ended(int(status.removeprefix(b"status ")), text, asked="race").fault(b"0" * 100000), name)
+        self.assertEqual(ended(1, b"refused 0 ServerError a\nrefused 3 Client\n", asked="race").word(), "status 1, Client")
+        self.assertEqual(ended(1, b"refused NotClosed %s %s\n" % (b"0" * 40, b"1" * 40), asked="race").word(), "status 1, NotClosed")
+        self.assertEqual(ended(0, b"refused 0 Client\n", asked="race").fault(b""), "lines with status 0")
+        self.assertEqual(ended(1, b"ok\n", asked="race").fault(b""), "lines with status 1")
+        self.assertEqual(ended(0, REPORT, asked="race").fault(b""), "lines with status 0")
 
     def test_faults(self):
         cases = [(ended(-11, b""), "signal 11"), (ended(5, b""), "out of memory"), (ended(2, b""), "status 2"),
