@@ -1,0 +1,124 @@
+//! What a row chooses of its clone.
+
+ghost use Rattle.std.specs.Prelude.{◌≡◌, IfOk};
+
+use crate::refusals;
+use crate::setting::Setting;
+use fetch_clone::PrepareFetch;
+use fetch_negotiate::{Depth, Shallow};
+use fetch_remote::{ScriptedConnect, ref_map};
+use fetch_specs::{Operation, RefSpec, parse};
+use fetch_store::{Files, List, NoMemory, Text};
+use std::alloc::Global;
+
+/// The clone as the row asks for it, but for its closures. What is refused is told, and passed over.
+pub(crate) fn built<F: Files + Drop, R: Drop, G: Drop>(
+    alloc: Global,
+    setting: &Setting,
+    clone: PrepareFetch<F, ScriptedConnect, R, G>,
+    out: &mut Vec<u8>,
+) -> Result<PrepareFetch<F, ScriptedConnect, R, G>, NoMemory>
+    ensures remote { IfOk result (λ built. built.configure_remote ≡ clone.configure_remote) }
+    ensures connection { IfOk result (λ built. built.configure_connection ≡ clone.configure_connection) }
+{
+    let overrides = copies_of(alloc, &setting.overrides)?;
+    let mut options = ref_map::Options::new(alloc);
+    options.extra_refspecs = List::from(specs_of(alloc, &setting.specs)?);
+    let clone = clone
+        .with_in_memory_config_overrides(overrides)
+        .with_fetch_options(options)
+        .with_shallow(shallow_of(setting.depth));
+    let clone = with_remote_name(setting, clone, out)?;
+    let clone = with_ref_name(setting, clone, out)?;
+    with_revision(setting, clone, out)
+}
+
+fn with_remote_name<F: Files + Drop, R: Drop, G: Drop>(
+    setting: &Setting,
+    clone: PrepareFetch<F, ScriptedConnect, R, G>,
+    out: &mut Vec<u8>,
+) -> Result<PrepareFetch<F, ScriptedConnect, R, G>, NoMemory>
+    ensures remote { IfOk result (λ built. built.configure_remote ≡ clone.configure_remote) }
+    ensures connection { IfOk result (λ built. built.configure_connection ≡ clone.configure_connection) }
+{
+    let Some(name) = &setting.remote_name else {
+        return Ok(clone);
+    };
+    match clone.with_remote_name(name.as_bytes()) {
+        Ok(clone) => Ok(clone),
+        Err((clone, e)) => {
+            refusals::of_name(out, &e)?;
+            Ok(clone)
+        }
+    }
+}
+
+fn with_ref_name<F: Files + Drop, R: Drop, G: Drop>(
+    setting: &Setting,
+    clone: PrepareFetch<F, ScriptedConnect, R, G>,
+    out: &mut Vec<u8>,
+) -> Result<PrepareFetch<F, ScriptedConnect, R, G>, NoMemory>
+    ensures remote { IfOk result (λ built. built.configure_remote ≡ clone.configure_remote) }
+    ensures connection { IfOk result (λ built. built.configure_connection ≡ clone.configure_connection) }
+{
+    let Some(name) = &setting.ref_name else {
+        return Ok(clone);
+    };
+    match clone.with_ref_name(Some(name.as_bytes())) {
+        Ok(clone) => Ok(clone),
+        Err((clone, e)) => {
+            refusals::of_ref_name(out, e)?;
+            Ok(clone)
+        }
+    }
+}
+
+fn with_revision<F: Files + Drop, R: Drop, G: Drop>(
+    setting: &Setting,
+    clone: PrepareFetch<F, ScriptedConnect, R, G>,
+    out: &mut Vec<u8>,
+) -> Result<PrepareFetch<F, ScriptedConnect, R, G>, NoMemory>
+    ensures remote { IfOk result (λ built. built.configure_remote ≡ clone.configure_remote) }
+    ensures connection { IfOk result (λ built. built.configure_connection ≡ clone.configure_connection) }
+{
+    let Some(revision) = &setting.revision else {
+        return Ok(clone);
+    };
+    match clone.with_revision(Some(revision.as_bytes())) {
+        Ok(clone) => Ok(clone),
+        Err((clone, e)) => {
+            refusals::of_revision(out, &e)?;
+            Ok(clone)
+        }
+    }
+}
+
+/// A change of depth, or none for 0.
+fn shallow_of(depth: u64) -> Shallow {
+    match u32::try_from(depth) {
+        Ok(depth) => match Depth::new(depth) {
+            Some(depth) => Shallow::DepthAtRemote(depth),
+            None => Shallow::NoChange,
+        },
+        Err(_) => Shallow::NoChange,
+    }
+}
+
+fn copies_of(alloc: Global, texts: &[Text]) -> Result<Vec<Text>, NoMemory> {
+    let mut copies = Vec::new(alloc);
+    for text in texts {
+        copies.push(text.try_clone()?)?;
+    }
+    Ok(copies)
+}
+
+/// The refspecs that these texts are. A text that is none is passed over.
+fn specs_of(alloc: Global, texts: &[Text]) -> Result<Vec<RefSpec>, NoMemory> {
+    let mut specs = Vec::new(alloc);
+    for text in texts {
+        if let Ok(spec) = parse(alloc, text.as_bytes(), Operation::Fetch) {
+            specs.push(spec)?;
+        }
+    }
+    Ok(specs)
+}

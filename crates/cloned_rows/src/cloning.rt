@@ -1,0 +1,215 @@
+//! Clones, and what stands after each try.
+
+ghost use Rattle.std.specs.Prelude.{◌≡◌, IfOk};
+
+use crate::building::built;
+use crate::refusals;
+use crate::saying::{say, say_file, say_lines};
+use crate::setting::{Closures, Setting, committer, options};
+use fetch_cli::append_state;
+use fetch_clone::create::Options;
+use fetch_clone::{ConfigureFault, HostFiles, PrepareFetch};
+use fetch_remote::phases::NoProgress;
+use fetch_remote::{Remote, Repository, ScriptedConnect};
+use fetch_store::{Files, MemoryFiles, NoMemory, Text};
+use fetch_update::ScriptedWorktrees;
+use fetch_wire::{ScriptedInterrupt, ScriptedPeer};
+use std::alloc::{Alloc, Global};
+use std::fs::Files as HostCalls;
+use std::thread::Threads;
+
+/// The remote as it is.
+fn as_it_is(remote: Remote) -> Result<Remote, ConfigureFault> {
+    Ok(remote)
+}
+
+/// A peer as it is.
+fn agrees(_peer: &mut ScriptedPeer) -> Result<(), ConfigureFault> {
+    Ok(())
+}
+
+fn refusal(alloc: Global) -> Result<ConfigureFault, NoMemory> {
+    Ok(ConfigureFault::Refused {
+        text: Text::new(alloc, b"no")?,
+    })
+}
+
+/// A peer that says these bytes at once.
+fn peer_of(alloc: Global, said: &Text) -> Result<ScriptedPeer, NoMemory> {
+    let mut pieces = Vec::new(alloc);
+    pieces.push(said.try_clone()?)?;
+    Ok(ScriptedPeer::new(alloc, pieces, Vec::new(alloc)))
+}
+
+fn peers_of(alloc: Global, said: &[Text]) -> Result<Vec<ScriptedPeer>, NoMemory> {
+    let mut peers = Vec::new(alloc);
+    for text in said {
+        peers.push(peer_of(alloc, text)?)?;
+    }
+    Ok(peers)
+}
+
+/// Clones what a row says over files in memory, with so many tries.
+pub(crate) fn clone<T: Threads + Sync>(
+    rt: &T,
+    alloc: Global,
+    setting: &Setting,
+    tries: u64,
+    out: &mut Vec<u8>,
+) -> Result<(), NoMemory> {
+    let files = MemoryFiles::new(alloc, Vec::from_slice(alloc, &setting.files)?);
+    clone_over(rt, alloc, setting, files, b"/w", tries, out)
+}
+
+/// The same over those of the host, in a directory `made` where the program runs, which is removed then.
+pub(crate) fn clone_on_host<T: Threads + Sync + HostCalls + Alloc<A = Global> + Clone + Drop>(
+    rt: &T,
+    alloc: Global,
+    setting: &Setting,
+    tries: u64,
+    out: &mut Vec<u8>,
+) -> Result<(), NoMemory> {
+    let own = HostFiles::new(rt.clone()?);
+    clone_over(rt, alloc, setting, own, b"made", tries, out)?;
+    let mut files = HostFiles::new(rt.clone()?);
+    let _ = files.remove_dir_all(b"made");
+    Ok(())
+}
+
+/// Clones what a row says into this place.
+fn clone_over<T: Threads + Sync, F: Files + Drop>(
+    rt: &T,
+    alloc: Global,
+    setting: &Setting,
+    files: F,
+    place: &[u8],
+    tries: u64,
+    out: &mut Vec<u8>,
+) -> Result<(), NoMemory> {
+    let peers = peers_of(alloc, &setting.said)?;
+    let maker = ScriptedConnect::new(alloc, peers, Vec::from_slice(alloc, &setting.unmade)?);
+    let clone = PrepareFetch::new(
+        alloc,
+        setting.url.as_bytes(),
+        place,
+        setting.kind,
+        Options::default(),
+        options(alloc)?,
+        committer(alloc)?,
+        files,
+        maker,
+        as_it_is,
+        agrees,
+    );
+    match clone {
+        Ok(clone) => tell_clone(rt, alloc, setting, clone, place, tries, out),
+        Err(_) => say(out, &[b"unprepared"]),
+    }
+}
+
+/// Sets the closures of a row, and clones.
+fn tell_clone<T: Threads + Sync, F: Files + Drop, R, G>(
+    rt: &T,
+    alloc: Global,
+    setting: &Setting,
+    clone: PrepareFetch<F, ScriptedConnect, R, G>,
+    place: &[u8],
+    tries: u64,
+    out: &mut Vec<u8>,
+) -> Result<(), NoMemory>
+where
+    R: FnMut(Remote) -> Result<Remote, ConfigureFault> + Drop,
+    G: FnMut(&mut ScriptedPeer) -> Result<(), ConfigureFault> + Drop,
+    requires remote { R.IsAlwaysCallable clone.configure_remote }
+    requires connection { G.IsAlwaysCallable clone.configure_connection }
+{
+    let clone = built(alloc, setting, clone, out)?;
+    match setting.closures {
+        Closures::Usual => tell_tries(rt, alloc, clone, place, tries, out),
+        Closures::Remote => {
+            let clone = clone.configure_remote(as_it_is);
+            tell_tries(rt, alloc, clone, place, tries, out)
+        }
+        Closures::RefusesRemote => {
+            let clone = clone.configure_remote(move |_remote: Remote| Err(refusal(alloc)?));
+            tell_tries(rt, alloc, clone, place, tries, out)
+        }
+        Closures::RefusesPeer => {
+            let clone = clone.configure_connection(move |_peer: &mut ScriptedPeer| Err(refusal(
+                alloc,
+            )?));
+            tell_tries(rt, alloc, clone, place, tries, out)
+        }
+    }
+}
+
+/// Tries so often, and gives the clone up.
+fn tell_tries<T: Threads + Sync, F: Files + Drop, R, G>(
+    rt: &T,
+    alloc: Global,
+    clone: PrepareFetch<F, ScriptedConnect, R, G>,
+    place: &[u8],
+    tries: u64,
+    out: &mut Vec<u8>,
+) -> Result<(), NoMemory>
+where
+    R: FnMut(Remote) -> Result<Remote, ConfigureFault> + Drop,
+    G: FnMut(&mut ScriptedPeer) -> Result<(), ConfigureFault> + Drop,
+    requires remote { R.IsAlwaysCallable clone.configure_remote }
+    requires connection { G.IsAlwaysCallable clone.configure_connection }
+{
+    let mut clone = clone;
+    for _ in 0..tries {
+        tell_try(rt, alloc, &mut clone, out)?;
+    }
+    let mut files = clone.abandon();
+    say_place(alloc, &mut files, place, b"/.git/config", out)?;
+    say_place(alloc, &mut files, place, b"/config", out)
+}
+
+/// Tells a file under a place.
+fn say_place<F: Files>(
+    alloc: Global,
+    files: &mut F,
+    place: &[u8],
+    rest: &[u8],
+    out: &mut Vec<u8>,
+) -> Result<(), NoMemory> {
+    let mut path = Vec::from_slice(alloc, place)?;
+    path.extend_from_slice(rest)?;
+    say_file(files, &path, out)
+}
+
+/// Tries once, and tells what stands then.
+fn tell_try<T: Threads + Sync, F: Files + Drop, R, G>(
+    rt: &T,
+    alloc: Global,
+    clone: &mut PrepareFetch<F, ScriptedConnect, R, G>,
+    out: &mut Vec<u8>,
+) -> Result<(), NoMemory>
+where
+    R: FnMut(Remote) -> Result<Remote, ConfigureFault> + Drop,
+    G: FnMut(&mut ScriptedPeer) -> Result<(), ConfigureFault> + Drop,
+    requires remote { R.IsAlwaysCallable clone.old.configure_remote }
+    requires connection { G.IsAlwaysCallable clone.old.configure_connection }
+    ensures remote_again { R.IsAlwaysCallable clone.new.configure_remote }
+    ensures connection_again { G.IsAlwaysCallable clone.new.configure_connection }
+{
+    let mut interrupt = ScriptedInterrupt::new(Vec::new(alloc));
+    let mut worktrees = ScriptedWorktrees::new(Vec::new(alloc), Vec::new(alloc));
+    match clone.fetch_only(rt, &mut NoProgress, &mut interrupt, &mut worktrees) {
+        Ok((repo, _)) => tell_repository(alloc, &repo, out),
+        Err(e) => refusals::of_clone(out, &e),
+    }
+}
+
+/// References, reflogs, border and ids, and the configuration in memory.
+fn tell_repository(alloc: Global, repo: &Repository, out: &mut Vec<u8>) -> Result<(), NoMemory> {
+    say(out, &[b"done"])?;
+    append_state(out, repo)?;
+    say(out, &[b"in memory"])?;
+    match repo.local().write(alloc, None) {
+        Ok(text) => say_lines(out, text.as_bytes()),
+        Err(_) => Err(NoMemory),
+    }
+}
