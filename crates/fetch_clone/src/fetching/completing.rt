@@ -23,6 +23,7 @@ use std::alloc::Global;
 use std::thread::Threads;
 
 /// Lists the references of the saved remote, fetches what is wanted of them, and lets `HEAD` take what it is to take.
+// Long: one line an argument of each step.
 // Many arguments: a clone's parts, of which several are changed.
 pub(crate) fn completed<
     T: Threads + Sync,

@@ -84,6 +84,7 @@ where
 }
 
 /// Saves the remote, lists its references and fetches them, and lets `HEAD` take what it is to take.
+// Long: one line an argument of each step.
 // Many arguments: a clone's parts, of which several are changed.
 fn fetched_into<
     T: Threads + Sync,
