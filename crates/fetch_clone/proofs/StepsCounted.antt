@@ -262,7 +262,7 @@ head-counted was is may_fail files files_left before after map message remote wa
 head-counted was is may_fail files files_left before after map message remote wanted (errors.PeelRevision x) h io = tt
 head-counted was is may_fail files files_left before after map message remote wanted errors.NoMemory h io = tt
 
-pub finished-counted : (was is : Meters) (may_fail : Bool) (files files_left : Option Tree) (draft : Draft) (name : List ℕ) (section : Contents) (map : RefMap) (before after : RepositoryValue) (e : Error)
+pub finished-counted : (was is : Meters) (may_fail : Bool) (files files_left : Option Tree) (draft : Draft) (name : List ℕ) (section : Option Contents) (map : RefMap) (before after : RepositoryValue) (e : Error)
     → IsUnfinished may_fail files files_left draft name section map before after e → (e ≡ errors.SaveConfigIo → Rose was.files is.files) → IsCounted was is e
 finished-counted was is may_fail files files_left draft name section map before after e h io =
     elim h.by [

@@ -1,7 +1,9 @@
 -- A clone that was fetched into, or wasn't.
-use Rattle.std.specs.Prelude.{◌≡◌, ◌⊎◌, ℕ, Bool, List, Option, Some}
+use Rattle.std.specs.Prelude.{◌≡◌, ◌⊎◌, ℕ, Bool, List, Option, Some, None}
 use Rattle.fetch_store.specs.Faults.{Faults, Counts}
 use Rattle.fetch_store.specs.Trees.{Tree}
+use Rattle.fetch_store.specs.declared.id.Kind.{Kind}
+use Rattle.fetch_store.specs.declared.id.Kind.TheVariants as hashes
 use Rattle.fetch_config.specs.Contents.{Contents}
 use Rattle.fetch_update.specs.declared.worktrees.Worktree.{Worktree}
 use Rattle.fetch_wire.specs.declared.listings.mapping.RefMap.{RefMap}
@@ -24,18 +26,30 @@ use Rattle.fetch_clone.specs.declared.fetching.saving.Saved.{Saved}
 
 -- ---- what is left to do once all is fetched
 
+-- The section took its place in the configuration in memory; where there is none, all is as before.
+abbrev pub IsInForce : Option Contents → Setup → Setup → Type 0
+IsInForce None before after = after ≡ before
+IsInForce (Some section) before after = reopened before (replaced section.sections before.local) ≡ Some after
+
+-- the remote's section, unless the file `config` was written for another hash: that was read again, and has it
+abbrev pub section_left : Contents → Kind → Kind → Option Contents
+section_left section hashes.Sha1 hashes.Sha1 = Some section
+section_left section hashes.Sha256 hashes.Sha256 = Some section
+section_left section hashes.Sha1 hashes.Sha256 = None
+section_left section hashes.Sha256 hashes.Sha1 = None
+
 -- The configuration in memory took the remote's section, and then `HEAD` what it is to take.
-pub record IsFinished (files files_left : Option Tree) (draft : Draft) (name : List ℕ) (section : Contents) (map : RefMap) (before after : RepositoryValue) : Type 0 where
+pub record IsFinished (files files_left : Option Tree) (draft : Draft) (name : List ℕ) (section : Option Contents) (map : RefMap) (before after : RepositoryValue) : Type 0 where
   pub between : RepositoryValue
   pub state : between.state ≡ before.state
-  pub in_force : reopened before.setup (replaced section.sections before.setup.local) ≡ Some between.setup
+  pub in_force : IsInForce section before.setup between.setup
   pub head : HasHead files files_left between after map (message_of draft) name (ref_name_of draft.choices.wanted) (revision_of draft.choices.wanted)
 
 -- The configuration in memory took the section, and `HEAD` wasn't updated, or the branch's section not written.
-pub record IsUnheaded (may_fail : Bool) (files files_left : Option Tree) (draft : Draft) (name : List ℕ) (section : Contents) (map : RefMap) (before after : RepositoryValue) (e : Error) : Type 0 where
+pub record IsUnheaded (may_fail : Bool) (files files_left : Option Tree) (draft : Draft) (name : List ℕ) (section : Option Contents) (map : RefMap) (before after : RepositoryValue) (e : Error) : Type 0 where
   pub between : RepositoryValue
   pub state : between.state ≡ before.state
-  pub in_force : reopened before.setup (replaced section.sections before.setup.local) ≡ Some between.setup
+  pub in_force : IsInForce section before.setup between.setup
   pub why : IsHeadRefusal may_fail files files_left between after map (message_of draft) name (ref_name_of draft.choices.wanted) (revision_of draft.choices.wanted) e
 
 -- Memory ran out before anything was changed.
@@ -46,7 +60,7 @@ pub record IsUntouched (files files_left : Option Tree) (before after : Reposito
   pub tree : files_left ≡ files
 
 -- Why it isn't finished: `HEAD` wasn't updated, the branch's section wasn't written, or memory ran out.
-pub record IsUnfinished (may_fail : Bool) (files files_left : Option Tree) (draft : Draft) (name : List ℕ) (section : Contents) (map : RefMap) (before after : RepositoryValue) (e : Error) : Type 0 where
+pub record IsUnfinished (may_fail : Bool) (files files_left : Option Tree) (draft : Draft) (name : List ℕ) (section : Option Contents) (map : RefMap) (before after : RepositoryValue) (e : Error) : Type 0 where
   pub by : IsUntouched files files_left before after e ⊎ IsUnheaded may_fail files files_left draft name section map before after e
 
 -- ---- from the saved remote on
@@ -72,7 +86,7 @@ pub record IsCompleted {G P : Type 0} (w : Ways G P) (before after : Line G P) (
   pub between : RepositoryValue
   pub stood : Option Tree
   pub fetched : HasFetched w before after known files stood draft saved asked between outcome
-  pub finished : IsFinished stood files_left draft saved.name saved.section outcome.ref_map between repo
+  pub finished : IsFinished stood files_left draft saved.name (section_left saved.section asked.state.hash between.state.hash) outcome.ref_map between repo
 
 -- The references were listed, and not fetched; the peer was taken back.
 pub record IsListedAlone {G P : Type 0} (w : Ways G P) (before after : Line G P) (known : Option (List Worktree)) (may_fail : Bool) (files files_left : Option Tree) (draft : Draft) (saved : Saved) (asked repo : RepositoryValue) (e : Error) : Type 0 where
@@ -91,7 +105,7 @@ pub record IsFetchedAlone {G P : Type 0} (w : Ways G P) (before after : Line G P
   pub stood : Option Tree
   pub outcome : Outcome
   pub fetched : HasFetched w before after known files stood draft saved asked between outcome
-  pub why : IsUnfinished may_fail stood files_left draft saved.name saved.section outcome.ref_map between repo e
+  pub why : IsUnfinished may_fail stood files_left draft saved.name (section_left saved.section asked.state.hash between.state.hash) outcome.ref_map between repo e
 
 -- No references were listed, and nothing else has changed; or they weren't fetched; or something was refused then.
 pub record IsUncompleted {G P : Type 0} (w : Ways G P) (was is : Faults) (before after : Line G P) (known : Option (List Worktree)) (may_fail : Bool) (files files_left : Option Tree) (draft : Draft) (saved : Saved) (asked repo : RepositoryValue) (e : Error) : Type 0 where

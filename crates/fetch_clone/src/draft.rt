@@ -51,6 +51,7 @@ pub(crate) struct Draft {
 }
 
 /// Notes whether the place is free, and creates and opens an empty repository there.
+// Long: the parts of what is made are named one by one.
 pub(crate) fn prepare<F: Files>(
     alloc: Global,
     files: &mut F,

@@ -2,6 +2,8 @@
 
 ghost use Rattle.std.specs.Prelude.{◌≡◌, IfOk, IfErr};
 ghost use Rattle.std.specs.Fn.{CalledAtMut};
+ghost use Rattle.std.specs.Option.{option_copied};
+ghost use Rattle.fetch_clone.specs.Cloned as spec;
 ghost use Rattle.fetch_clone.specs.Cloned.{IsCompleted, IsUncompleted};
 ghost use Rattle.fetch_clone.specs.Counted.{IsCounted, Later, meters};
 ghost use Rattle.fetch_clone.specs.Reached.{line, ways};
@@ -13,10 +15,11 @@ use crate::fetching::listing::listed;
 use crate::fetching::saving::Saved;
 use crate::fetching::taking::taken;
 use crate::prepare_fetch::ConfigureFault;
+use fetch_config::File;
 use fetch_conversation::Progress;
 use fetch_remote::connect::Connect;
 use fetch_remote::{Outcome, Repository};
-use fetch_store::Files;
+use fetch_store::{Files, Kind};
 use fetch_update::Worktrees;
 use fetch_wire::Interrupt;
 use std::alloc::Global;
@@ -67,6 +70,7 @@ pub(crate) fn completed<
         configure,
         interrupt,
     )?;
+    let before = repo.object_hash();
     let outcome = taken(
         rt,
         alloc,
@@ -82,8 +86,17 @@ pub(crate) fn completed<
         worktrees,
     )?;
     let map = &outcome.ref_map;
-    match finished(alloc, draft, name, &saved.section, map, repo, files) {
+    let section = section_left(&saved.section, before, repo.object_hash());
+    match finished(alloc, draft, name, section, map, repo, files) {
         Ok(()) => Ok(outcome),
         Err(e) => Err(e),
     }
+}
+
+/// The remote's section, which is still to be put in force unless the repository took another hash: the file that was read
+/// again for that has it.
+fn section_left(section: &File, before: Kind, now: Kind) -> Option<&File>
+    ensures { option_copied result ≡ spec.section_left section.now before now }
+{
+    if before == now { Some(section) } else { None }
 }

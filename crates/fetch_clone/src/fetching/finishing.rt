@@ -1,10 +1,10 @@
 //! A repository that was fetched into takes its remote's section, and `HEAD` what the remote listed.
 
-ghost use Rattle.std.specs.Prelude.{◌≡◌, IfErr, IsErrOf, OnErr, OnOk, Some};
+ghost use Rattle.std.specs.Prelude.{◌≡◌, IfErr, IsErrOf, OnErr, OnOk};
+ghost use Rattle.std.specs.Option.{option_copied};
 ghost use Rattle.fetch_store.specs.Faults.{Counts, Rose};
-ghost use Rattle.fetch_remote.specs.Repositories.{reopened, setup_of, state_of};
-ghost use Rattle.fetch_clone.specs.Cloned.{IsFinished, IsUnfinished};
-ghost use Rattle.fetch_clone.specs.Replacing.{replaced};
+ghost use Rattle.fetch_remote.specs.Repositories.{setup_of, state_of};
+ghost use Rattle.fetch_clone.specs.Cloned.{IsFinished, IsInForce, IsUnfinished};
 ghost use Rattle.fetch_clone.specs.declared.clone.fetch.Error.TheVariants as errors;
 
 use crate::clone::fetch::Error;
@@ -18,19 +18,20 @@ use fetch_store::{Files, NoMemory};
 use fetch_wire::RefMap;
 use std::alloc::Global;
 
-/// Puts the remote's section into the configuration in memory, and lets `HEAD` take what it is to take.
+/// Puts the remote's section into the configuration in memory, where it is still to be put there, and lets `HEAD` take what it is
+/// to take.
 // Many arguments: what was saved and fetched, and what it changes.
 pub(crate) fn finished<F: Files>(
     alloc: Global,
     draft: &Draft,
     name: &[u8],
-    section: &File,
+    section: Option<&File>,
     map: &RefMap,
     repo: &mut Repository,
     files: &mut F,
 ) -> Result<(), Error>
-    ensures ok { OnOk result (IsFinished (F.told files.old) (F.told files.new) draft.now name.now section.now map.now repo.old repo.new) }
-    ensures refused { IfErr result (IsUnfinished (F.may_fail files.old) (F.told files.old) (F.told files.new) draft.now name.now section.now map.now repo.old repo.new) }
+    ensures ok { OnOk result (IsFinished (F.told files.old) (F.told files.new) draft.now name.now (option_copied section.entry) map.now repo.old repo.new) }
+    ensures refused { IfErr result (IsUnfinished (F.may_fail files.old) (F.told files.old) (F.told files.new) draft.now name.now (option_copied section.entry) map.now repo.old repo.new) }
     ensures io { IsErrOf result errors.SaveConfigIo → Rose (F.faults files.old) (F.faults files.new) }
     ensures counts { Counts (F.faults files.old) (F.faults files.new) }
     ensures may_fail { F.may_fail files.new ≡ F.may_fail files.old }
@@ -51,12 +52,19 @@ pub(crate) fn finished<F: Files>(
     )
 }
 
-/// Puts the remote's section into the configuration in memory.
-fn put_in_force(alloc: Global, section: &File, repo: &mut Repository) -> Result<(), NoMemory>
+/// Puts the remote's section into the configuration in memory, where it is still to be put there.
+fn put_in_force(
+    alloc: Global,
+    section: Option<&File>,
+    repo: &mut Repository,
+) -> Result<(), NoMemory>
     ensures state { state_of repo.new ≡ state_of repo.old }
-    ensures ok { OnOk result (reopened (setup_of repo.old) (replaced section.now.sections (setup_of repo.old).local) ≡ Some (setup_of repo.new)) }
+    ensures ok { OnOk result (IsInForce (option_copied section.entry) (setup_of repo.old) (setup_of repo.new)) }
     ensures err { OnErr result (setup_of repo.new ≡ setup_of repo.old) }
 {
+    let Some(section) = section else {
+        return Ok(());
+    };
     match append_config_to_repo_config(alloc, repo, section) {
         Ok(()) => Ok(()),
         Err(_) => Err(NoMemory),

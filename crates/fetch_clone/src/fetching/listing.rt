@@ -73,6 +73,7 @@ pub(crate) fn listed<
 }
 
 /// Lists them without the remote's `HEAD`.
+// Many arguments: those of the listing, but for the closure.
 fn listed_again<C: Connect, I: Interrupt>(
     alloc: Global,
     name: &[u8],
@@ -101,6 +102,7 @@ fn listed_again<C: Connect, I: Interrupt>(
 }
 
 /// Lists them by a peer, which is kept. Where the listing breaks off, the peer is taken back.
+// Many arguments: what is listed, and the peer with what made it.
 #[tactic(auto, using(crate::proofs::Returned::lost_later, crate::proofs::Returned::lost_rose))]
 fn listed_by<C: Connect, I: Interrupt>(
     alloc: Global,

@@ -63,7 +63,7 @@ returns-in-Ok-clause-completed g c =
         same_addresses = c.in_ok-outcome.ensures.addresses;
         same_closure = refl;
       };
-      finished = rw c.as_bytes-name.ensures at c.in-Ok.ensures.ok;
+      finished = rw (c.as_bytes-name.ensures, c.section_left-section.ensures, c.object_hash-before.ensures.hash, c.object_hash.ensures.hash) at c.in-Ok.ensures.ok;
     }
 
 pub returns-in-Err-clause-refused : goal.returns-in-Err-clause-refused
@@ -84,7 +84,7 @@ returns-in-Err-clause-refused g c =
           same_addresses = c.in_ok-outcome.ensures.addresses;
           same_closure = refl;
         };
-        why = rw (c.as_bytes-name.ensures, c.in_ok-outcome.ensures.may_fail) at c.in-Err.ensures.refused;
+        why = rw (c.as_bytes-name.ensures, c.section_left-section.ensures, c.object_hash-before.ensures.hash, c.object_hash.ensures.hash, c.in_ok-outcome.ensures.may_fail) at c.in-Err.ensures.refused;
       }));
     }
 
