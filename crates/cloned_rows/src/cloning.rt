@@ -77,6 +77,7 @@ pub(crate) fn clone_on_host<T: Threads + Sync + HostCalls + Alloc<A = Global> + 
 }
 
 /// Clones what a row says into this place.
+// Many arguments: the row, the files and the place, and what each row is told with.
 fn clone_over<T: Threads + Sync, F: Files + Drop>(
     rt: &T,
     alloc: Global,
@@ -108,6 +109,7 @@ fn clone_over<T: Threads + Sync, F: Files + Drop>(
 }
 
 /// Sets the closures of a row, and clones.
+// Many arguments: the row, its clone and the place, and what each row is told with.
 fn tell_clone<T: Threads + Sync, F: Files + Drop, R, G>(
     rt: &T,
     alloc: Global,
