@@ -1,7 +1,5 @@
 //! What a row chooses of its clone.
 
-ghost use Rattle.std.specs.Prelude.{◌≡◌, IfOk};
-
 use crate::refusals;
 use crate::setting::Setting;
 use fetch_clone::PrepareFetch;
@@ -17,10 +15,7 @@ pub(crate) fn built<F: Files + Drop, R: Drop, G: Drop>(
     setting: &Setting,
     clone: PrepareFetch<F, ScriptedConnect, R, G>,
     out: &mut Vec<u8>,
-) -> Result<PrepareFetch<F, ScriptedConnect, R, G>, NoMemory>
-    ensures remote { IfOk result (λ built. built.configure_remote ≡ clone.configure_remote) }
-    ensures connection { IfOk result (λ built. built.configure_connection ≡ clone.configure_connection) }
-{
+) -> Result<PrepareFetch<F, ScriptedConnect, R, G>, NoMemory> {
     let overrides = copies_of(alloc, &setting.overrides)?;
     let mut options = ref_map::Options::new(alloc);
     options.extra_refspecs = List::from(specs_of(alloc, &setting.specs)?);
@@ -37,10 +32,7 @@ fn with_remote_name<F: Files + Drop, R: Drop, G: Drop>(
     setting: &Setting,
     clone: PrepareFetch<F, ScriptedConnect, R, G>,
     out: &mut Vec<u8>,
-) -> Result<PrepareFetch<F, ScriptedConnect, R, G>, NoMemory>
-    ensures remote { IfOk result (λ built. built.configure_remote ≡ clone.configure_remote) }
-    ensures connection { IfOk result (λ built. built.configure_connection ≡ clone.configure_connection) }
-{
+) -> Result<PrepareFetch<F, ScriptedConnect, R, G>, NoMemory> {
     let Some(name) = &setting.remote_name else {
         return Ok(clone);
     };
@@ -57,10 +49,7 @@ fn with_ref_name<F: Files + Drop, R: Drop, G: Drop>(
     setting: &Setting,
     clone: PrepareFetch<F, ScriptedConnect, R, G>,
     out: &mut Vec<u8>,
-) -> Result<PrepareFetch<F, ScriptedConnect, R, G>, NoMemory>
-    ensures remote { IfOk result (λ built. built.configure_remote ≡ clone.configure_remote) }
-    ensures connection { IfOk result (λ built. built.configure_connection ≡ clone.configure_connection) }
-{
+) -> Result<PrepareFetch<F, ScriptedConnect, R, G>, NoMemory> {
     let Some(name) = &setting.ref_name else {
         return Ok(clone);
     };
@@ -77,10 +66,7 @@ fn with_revision<F: Files + Drop, R: Drop, G: Drop>(
     setting: &Setting,
     clone: PrepareFetch<F, ScriptedConnect, R, G>,
     out: &mut Vec<u8>,
-) -> Result<PrepareFetch<F, ScriptedConnect, R, G>, NoMemory>
-    ensures remote { IfOk result (λ built. built.configure_remote ≡ clone.configure_remote) }
-    ensures connection { IfOk result (λ built. built.configure_connection ≡ clone.configure_connection) }
-{
+) -> Result<PrepareFetch<F, ScriptedConnect, R, G>, NoMemory> {
     let Some(revision) = &setting.revision else {
         return Ok(clone);
     };

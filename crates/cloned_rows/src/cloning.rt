@@ -1,7 +1,5 @@
 //! Clones, and what stands after each try.
 
-ghost use Rattle.std.specs.Prelude.{◌≡◌, IfOk};
-
 use crate::building::built;
 use crate::refusals;
 use crate::saying::{say, say_file, say_lines};
@@ -122,8 +120,8 @@ fn tell_clone<T: Threads + Sync, F: Files + Drop, R, G>(
 where
     R: FnMut(Remote) -> Result<Remote, ConfigureFault> + Drop,
     G: FnMut(&mut ScriptedPeer) -> Result<(), ConfigureFault> + Drop,
-    requires remote { R.IsAlwaysCallable clone.configure_remote }
-    requires connection { G.IsAlwaysCallable clone.configure_connection }
+    requires remote { (f : _) (x : _) → R.pre f x }
+    requires connection { (f : _) (x : _) → G.pre f x }
 {
     let clone = built(alloc, setting, clone, out)?;
     match setting.closures {
@@ -157,8 +155,8 @@ fn tell_tries<T: Threads + Sync, F: Files + Drop, R, G>(
 where
     R: FnMut(Remote) -> Result<Remote, ConfigureFault> + Drop,
     G: FnMut(&mut ScriptedPeer) -> Result<(), ConfigureFault> + Drop,
-    requires remote { R.IsAlwaysCallable clone.configure_remote }
-    requires connection { G.IsAlwaysCallable clone.configure_connection }
+    requires remote { (f : _) (x : _) → R.pre f x }
+    requires connection { (f : _) (x : _) → G.pre f x }
 {
     let mut clone = clone;
     for _ in 0..tries {
@@ -192,10 +190,8 @@ fn tell_try<T: Threads + Sync, F: Files + Drop, R, G>(
 where
     R: FnMut(Remote) -> Result<Remote, ConfigureFault> + Drop,
     G: FnMut(&mut ScriptedPeer) -> Result<(), ConfigureFault> + Drop,
-    requires remote { R.IsAlwaysCallable clone.old.configure_remote }
-    requires connection { G.IsAlwaysCallable clone.old.configure_connection }
-    ensures remote_again { R.IsAlwaysCallable clone.new.configure_remote }
-    ensures connection_again { G.IsAlwaysCallable clone.new.configure_connection }
+    requires remote { (f : _) (x : _) → R.pre f x }
+    requires connection { (f : _) (x : _) → G.pre f x }
 {
     let mut interrupt = ScriptedInterrupt::new(Vec::new(alloc));
     let mut worktrees = ScriptedWorktrees::new(Vec::new(alloc), Vec::new(alloc));
