@@ -1,5 +1,9 @@
 //! Clones, and what stands after each try.
 
+ghost use Rattle.std.specs.Prelude.{◌≡◌, IfOk, true};
+ghost use Rattle.std.specs.List.{list_all};
+ghost use Rattle.fetch_remote.specs.Connecting.{is_fresh};
+
 use crate::building::built;
 use crate::refusals;
 use crate::saying::{say, say_file, say_lines};
@@ -33,13 +37,17 @@ fn refusal(alloc: Global) -> Result<ConfigureFault, NoMemory> {
 }
 
 /// A peer that says these bytes at once.
-fn peer_of(alloc: Global, said: &Text) -> Result<ScriptedPeer, NoMemory> {
+fn peer_of(alloc: Global, said: &Text) -> Result<ScriptedPeer, NoMemory>
+    ensures { IfOk result (λ peer. is_fresh peer ≡ true) }
+{
     let mut pieces = Vec::new(alloc);
     pieces.push(said.try_clone()?)?;
     Ok(ScriptedPeer::new(alloc, pieces, Vec::new(alloc)))
 }
 
-fn peers_of(alloc: Global, said: &[Text]) -> Result<Vec<ScriptedPeer>, NoMemory> {
+fn peers_of(alloc: Global, said: &[Text]) -> Result<Vec<ScriptedPeer>, NoMemory>
+    ensures { IfOk result (λ peers. list_all is_fresh peers.items ≡ true) }
+{
     let mut peers = Vec::new(alloc);
     for text in said {
         peers.push(peer_of(alloc, text)?)?;
