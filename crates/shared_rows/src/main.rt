@@ -7,7 +7,6 @@ mod journals;
 mod opening;
 mod passes;
 mod refusals;
-mod replays;
 mod rows;
 mod running;
 mod sharing;

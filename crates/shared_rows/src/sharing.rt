@@ -7,12 +7,10 @@ use crate::events::event_of;
 use crate::journals::tell_journal;
 use crate::opening::open;
 use crate::refusals::tell_refusal;
-use crate::replays::tell_replay;
 use crate::rows::Row;
 use crate::running::run;
-use fetch_remote::Repository;
-use fetch_shared::{Entry, SharedState};
-use fetch_store::{Kind, NoMemory, Text, after, split_first};
+use fetch_shared::SharedState;
+use fetch_store::{Kind, NoMemory, Text, split_first};
 use std::alloc::Global;
 use std::thread::Threads;
 
@@ -23,32 +21,9 @@ struct Desk<'a> {
     packs: &'a [Text],
     /// The hash of the repository.
     kind: Kind,
-    /// The repository, as it was before it was shared.
-    opening: &'a Repository,
 }
 
-/// Tells the journal, or what it leaves. Whether a line asks for that.
-fn tell_entries(
-    alloc: Global,
-    desk: &Desk<'_>,
-    journal: &[Entry],
-    line: &[u8],
-    out: &mut Vec<u8>,
-) -> Result<bool, NoMemory> {
-    if line == b"journal".as_slice() {
-        tell_journal(out, journal)?;
-        return Ok(true);
-    }
-    match after(b"replay ", line) {
-        Some(places) => {
-            tell_replay(alloc, desk.opening, journal, places, out)?;
-            Ok(true)
-        }
-        None => Ok(false),
-    }
-}
-
-/// Makes the event that a line asks for, or tells of the journal. Whether it asks for one of these.
+/// Makes the event that a line asks for, or tells the journal. Whether it asks for one of these.
 fn tell_line(
     rt: &(impl Threads + Sync),
     alloc: Global,
@@ -67,7 +42,10 @@ fn tell_line(
             let answer = run(rt, alloc, desk.kind, state, desk.packs, event);
             tell_answer(out, &answer)
         }
-        None => tell_entries(alloc, desk, state.journal(), line, out),
+        None => {
+            tell_journal(out, state.journal())?;
+            Ok(line == b"journal".as_slice())
+        }
     }
 }
 
@@ -106,11 +84,9 @@ pub(crate) fn tell(
     let Some((repo, packs)) = open(rt, alloc, row.scene)? else {
         return Ok(false);
     };
-    let opening = repo.try_clone(alloc)?;
     let desk = Desk {
         packs: packs.as_slice(),
         kind: repo.store().kind(),
-        opening: &opening,
     };
     match SharedState::new(alloc, repo) {
         Ok(state) => {
