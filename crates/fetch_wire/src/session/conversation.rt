@@ -334,7 +334,7 @@ impl Session {
     }
 
     /// Answers what stands of a refusal. Where memory runs out, that stands from then on.
-    fn settle(&mut self) -> Result<(), WireError>
+    fn answer_lasting(&mut self) -> Result<(), WireError>
         ensures answers { RefusesUnless spec.is_memory (spec.refusal_of self.old) result }
         ensures ok { spec.refusal_of self.old ≡ None → result ≡ Ok tt }
         ensures stands { IfErr result (λ e. spec.refusal_of self.new ≡ Some e) }
@@ -365,7 +365,7 @@ impl Session {
             return Ok(());
         }
         match self.take_in(piece) {
-            Ok(()) => self.settle(),
+            Ok(()) => self.answer_lasting(),
             Err(_) => {
                 self.lose();
                 Err(WireError::NoMemory)
