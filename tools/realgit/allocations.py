@@ -84,8 +84,8 @@ class Fetched:
 class Counter:
     """Runs the program, each allocation counted. What it needs is built in a directory."""
 
-    def __init__(self, directory, program):
-        self.program, self.between = program, os.path.join(directory, "between.so")
+    def __init__(self, directory, program, words=("fetch",)):
+        self.command, self.between = [program, *words], os.path.join(directory, "between.so")
         self.told = os.memfd_create("told")
         os.ftruncate(self.told, mmap.PAGESIZE)
         self.numbers = mmap.mmap(self.told, mmap.PAGESIZE)
@@ -98,13 +98,12 @@ class Counter:
             raise Trouble(ENGINE_FAILED, "cc can't build what counts allocations") from None
 
     def fetch(self, scene, refused=0):
-        """How the fetch of a scene ends with the allocation of this number refused, counted from 1, or with none."""
+        """How the run on a scene ends with the allocation of this number refused, counted from 1, or with none."""
         NUMBERS.pack_into(self.numbers, 0, refused, 0, 0, 0)
         given = {"LD_PRELOAD": self.between, "TOLD": str(self.told)}
         try:
-            ended = subprocess.run([self.program, "fetch"], input=scene, capture_output=True, env=given,
-                                   pass_fds=[self.told])
+            ended = subprocess.run(self.command, input=scene, capture_output=True, env=given, pass_fds=[self.told])
         except OSError as error:
-            raise Trouble(ENGINE_FAILED, f"can't run {self.program}: {error.strerror}") from None
+            raise Trouble(ENGINE_FAILED, f"can't run {self.command[0]}: {error.strerror}") from None
         _, count, _, most = NUMBERS.unpack_from(self.numbers, 0)
         return Fetched(ended.returncode, ended.stdout, count, most)
