@@ -7,7 +7,7 @@ ghost use Rattle.fetch_scene.specs.LineKinds.{refspec_in};
 
 use crate::program::words::MAX_BENCH;
 use fetch_bench::Generated;
-use fetch_config::{ConfigError, File, Meta, Origin};
+use fetch_config::{File, Meta, Origin};
 use fetch_refs::Target;
 use fetch_scene::{Reference, Scene, SceneOptions, refspec};
 use fetch_specs::{FullName, NameError, RefSpec, Tags};
@@ -27,12 +27,7 @@ fn config(alloc: Global) -> Result<File, NoMemory>
     };
     match File::read(alloc, b"[fetch]\nnegotiationAlgorithm = noop\n", meta) {
         Ok(file) => Ok(file),
-        Err(
-            ConfigError::Syntax { .. }
-            | ConfigError::NoMemory
-            | ConfigError::BadValue { .. }
-            | ConfigError::InvalidKey { .. },
-        ) => Err(NoMemory),
+        Err(_) => Err(NoMemory),
     }
 }
 

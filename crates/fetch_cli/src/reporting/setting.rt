@@ -10,7 +10,7 @@ ghost use Rattle.fetch_remote.specs.Repositories.{state_of, setup_of};
 ghost use Rattle.fetch_cli.specs.Opened as opened;
 ghost use Rattle.fetch_cli.specs.Report as spec;
 
-use fetch_config::{ConfigError, File};
+use fetch_config::File;
 use fetch_refs::{Change, LogChange, PackedRefs, PreviousValue, RefEdit, RefLog, Refs, Signature};
 use fetch_remote::{FetchOptions, OpenOptions, Parts, Remote, Repository, ref_map};
 use fetch_scene::{Local, Reference, RemotePart, Scene, SceneOptions};
@@ -117,19 +117,14 @@ fn store_of(alloc: Global, hash: Kind, objects: Vec<(ObjectId, Object)>) -> Resu
     }
 }
 
-/// A configuration without sections, from where the other comes.
+/// A configuration without sections, from where the other comes. Memory alone may refuse it.
 fn base_of(alloc: Global, config: &File) -> Result<File, NoMemory>
     ensures { IfOk result (λ base. base ≡ record { meta = config.now.meta; sections = [] }) }
 {
     let meta = config.meta().try_clone()?;
     match File::new(alloc, meta) {
         Ok(base) => Ok(base),
-        Err(
-            ConfigError::NoMemory
-            | ConfigError::Syntax { .. }
-            | ConfigError::BadValue { .. }
-            | ConfigError::InvalidKey { .. },
-        ) => Err(NoMemory),
+        Err(_) => Err(NoMemory),
     }
 }
 

@@ -12,7 +12,7 @@ use crate::reporting::lines::{append_border, append_id, append_log, append_ref};
 use fetch_refs::{LogLine, Refs};
 use fetch_remote::Repository;
 use fetch_scene::full_name;
-use fetch_store::{NoMemory, ObjectId, Store, StoreError};
+use fetch_store::{NoMemory, ObjectId, Store};
 
 /// The references, by ascending name.
 pub fn append_refs(out: &mut Vec<u8>, refs: &Refs) -> Result<(), NoMemory>
@@ -84,12 +84,7 @@ pub fn append_ids(out: &mut Vec<u8>, store: &Store) -> Result<(), NoMemory>
     match store.ids(*out.allocator()) {
         Ok(ids) => append_each_id(out, &ids),
         // Ids are refused only where memory runs out.
-        Err(
-            StoreError::NoMemory
-            | StoreError::BadHex { .. }
-            | StoreError::MalformedObject { .. }
-            | StoreError::Collision { .. },
-        ) => Err(NoMemory),
+        Err(_) => Err(NoMemory),
     }
 }
 
