@@ -16,7 +16,7 @@ ghost use Rattle.fetch_shared.specs.Valid.{HasValidInput, is_free};
 use crate::error::SharedError;
 use crate::pass::Pass;
 use crate::receipt::Receipt;
-use crate::settling::settle;
+use crate::settling::settle_in_turns;
 use crate::shared::SharedRepository;
 use crate::talking::talk;
 use fetch_remote::phases::manner;
@@ -97,7 +97,7 @@ pub fn fetch_shared<R: Threads + Wait + Sync, P: Peer, I: Interrupt, F: Files, W
         Ok(talked) => talked,
         Err((pass, planned, e)) => return Err((pass, receipt(number, planned, None, None), e)),
     };
-    match settle(rt, alloc, shared, pass, &how, talked, files, worktrees) {
+    match settle_in_turns(rt, alloc, shared, pass, &how, talked, files, worktrees) {
         Ok((pass, judged, place, outcome)) => {
             let receipt = receipt(number, Some(planned), Some(judged), place);
             Ok((pass, receipt, outcome))

@@ -52,7 +52,7 @@ struct Stop {
 /// moves.
 // Many arguments: what a stage is given, with what is lent to it.
 // Long: each stage hands the pass back at its refusal.
-pub(crate) fn settle<R: Wait, F: Files, W: Worktrees>(
+pub(crate) fn settle_in_turns<R: Wait, F: Files, W: Worktrees>(
     rt: &R,
     alloc: Global,
     shared: &SharedRepository,

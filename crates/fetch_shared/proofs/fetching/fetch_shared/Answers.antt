@@ -36,43 +36,43 @@ returns-in-Err-answer-clause-refused g c =
     let call : Call = record { given = given_to c.args.remote.now c.args.options c.args.pass; before = c.args.pass; after = c.in-Err-answer.pass; known = g.W.Worktrees.told c.args.worktrees.now; files = g.F.Files.told c.args.files.now; left = g.F.Files.told c.args.files.now } in
     rw (c.receipt-in-Err-answer.ensures, c.number-number.ensures) (broken line call refl c.in-Err-answer.ensures.none c.in-Err-answer.planned c.in-Err-answer.e c.in-Err-answer.ensures.broken)
 
-pub returns-in-Ok-settle-clause-back : goal.returns-in-Ok-settle-clause-back
-returns-in-Ok-settle-clause-back g c = back_trans _ _ _ c.in-Ok-answer.ensures.back c.in-Ok-settle.ensures.back
+pub returns-in-Ok-settle_in_turns-clause-back : goal.returns-in-Ok-settle_in_turns-clause-back
+returns-in-Ok-settle_in_turns-clause-back g c = back_trans _ _ _ c.in-Ok-answer.ensures.back c.in-Ok-settle_in_turns.ensures.back
 
 pub returns-clause-back : goal.returns-clause-back
-returns-clause-back g c = back_trans _ _ _ c.in-Ok-answer.ensures.back c.in-Err-settle.ensures.back
+returns-clause-back g c = back_trans _ _ _ c.in-Ok-answer.ensures.back c.in-Err-settle_in_turns.ensures.back
 
-pub returns-in-Ok-settle-clause-receipt : goal.returns-in-Ok-settle-clause-receipt
-returns-in-Ok-settle-clause-receipt g c =
+pub returns-in-Ok-settle_in_turns-clause-receipt : goal.returns-in-Ok-settle_in_turns-clause-receipt
+returns-in-Ok-settle_in_turns-clause-receipt g c =
     rw (c.receipt-receipt.ensures, c.number-number.ensures)
-    (receipt_settled _ _ c.args.pass c.in-Ok-answer.talked.0 c.in-Ok-settle.pass c.in-Ok-answer.talked.1 c.in-Ok-answer.talked.2 c.in-Ok-answer.ensures.talked c.in-Ok-settle.ensures.back _ _ c.in-Ok-settle.judged c.in-Ok-settle.place c.in-Ok-settle.outcome refl refl c.in-Ok-settle.ensures.settled)
+    (receipt_settled _ _ c.args.pass c.in-Ok-answer.talked.0 c.in-Ok-settle_in_turns.pass c.in-Ok-answer.talked.1 c.in-Ok-answer.talked.2 c.in-Ok-answer.ensures.talked c.in-Ok-settle_in_turns.ensures.back _ _ c.in-Ok-settle_in_turns.judged c.in-Ok-settle_in_turns.place c.in-Ok-settle_in_turns.outcome refl refl c.in-Ok-settle_in_turns.ensures.settled)
 
 pub returns-clause-receipt : goal.returns-clause-receipt
 returns-clause-receipt g c =
-    rw (c.receipt-receipt-in-Err-settle.ensures, c.number-number.ensures)
-    (receipt_unsettled _ _ c.args.pass c.in-Ok-answer.talked.0 c.in-Err-settle.pass c.in-Ok-answer.talked.1 c.in-Ok-answer.talked.2 c.in-Ok-answer.ensures.talked c.in-Err-settle.ensures.back _ _ c.in-Err-settle.judged c.in-Err-settle.place c.in-Err-settle.e refl refl c.in-Err-settle.ensures.refused)
+    rw (c.receipt-receipt-in-Err-settle_in_turns.ensures, c.number-number.ensures)
+    (receipt_unsettled _ _ c.args.pass c.in-Ok-answer.talked.0 c.in-Err-settle_in_turns.pass c.in-Ok-answer.talked.1 c.in-Ok-answer.talked.2 c.in-Ok-answer.ensures.talked c.in-Err-settle_in_turns.ensures.back _ _ c.in-Err-settle_in_turns.judged c.in-Err-settle_in_turns.place c.in-Err-settle_in_turns.e refl refl c.in-Err-settle_in_turns.ensures.refused)
 
-pub returns-in-Ok-settle-clause-fetched : goal.returns-in-Ok-settle-clause-fetched
-returns-in-Ok-settle-clause-fetched g c =
+pub returns-in-Ok-settle_in_turns-clause-fetched : goal.returns-in-Ok-settle_in_turns-clause-fetched
+returns-in-Ok-settle_in_turns-clause-fetched g c =
     let line : Line = record { answers = g.P.Peer.answers; old = g.P.Peer.told c.args.peer.now; new = g.P.Peer.told c.talk-answer.new.peer } in
-    let call : Call = record { given = given_to c.args.remote.now c.args.options c.args.pass; before = c.args.pass; after = c.in-Ok-settle.pass; known = g.W.Worktrees.told c.args.worktrees.now; files = g.F.Files.told c.args.files.now; left = g.F.Files.told c.settle.new.files } in
+    let call : Call = record { given = given_to c.args.remote.now c.args.options c.args.pass; before = c.args.pass; after = c.in-Ok-settle_in_turns.pass; known = g.W.Worktrees.told c.args.worktrees.now; files = g.F.Files.told c.args.files.now; left = g.F.Files.told c.settle_in_turns.new.files } in
     let t = c.in-Ok-answer.talked.2 in
     let m : Matter = record { setup = c.args.shared.now.opening.setup; how = c.in-Ok.how; wants = t.wants; told = record { listed = shown t.listed; received = t.received } } in
     let how = rw c.fetch_tags.ensures at c.in-Ok.ensures in
     rw (c.receipt-receipt.ensures, c.number-number.ensures)
-    (fetched line call c.in-Ok-answer.talked.0 c.in-Ok-answer.talked.1 t c.in-Ok-answer.ensures.talked c.in-Ok-answer.ensures.back c.in-Ok-answer.ensures.none c.in-Ok-settle.ensures.back
-    m (ap (λ (w : Which). w.opening.setup) (sym c.requires)) how refl refl c.in-Ok-settle.judged c.in-Ok-settle.place c.in-Ok-settle.outcome c.in-Ok-settle.ensures.settled)
+    (fetched line call c.in-Ok-answer.talked.0 c.in-Ok-answer.talked.1 t c.in-Ok-answer.ensures.talked c.in-Ok-answer.ensures.back c.in-Ok-answer.ensures.none c.in-Ok-settle_in_turns.ensures.back
+    m (ap (λ (w : Which). w.opening.setup) (sym c.requires)) how refl refl c.in-Ok-settle_in_turns.judged c.in-Ok-settle_in_turns.place c.in-Ok-settle_in_turns.outcome c.in-Ok-settle_in_turns.ensures.settled)
 
 pub returns-clause-refused : goal.returns-clause-refused
 returns-clause-refused g c =
     let line : Line = record { answers = g.P.Peer.answers; old = g.P.Peer.told c.args.peer.now; new = g.P.Peer.told c.talk-answer.new.peer } in
-    let call : Call = record { given = given_to c.args.remote.now c.args.options c.args.pass; before = c.args.pass; after = c.in-Err-settle.pass; known = g.W.Worktrees.told c.args.worktrees.now; files = g.F.Files.told c.args.files.now; left = g.F.Files.told c.settle.new.files } in
+    let call : Call = record { given = given_to c.args.remote.now c.args.options c.args.pass; before = c.args.pass; after = c.in-Err-settle_in_turns.pass; known = g.W.Worktrees.told c.args.worktrees.now; files = g.F.Files.told c.args.files.now; left = g.F.Files.told c.settle_in_turns.new.files } in
     let t = c.in-Ok-answer.talked.2 in
     let m : Matter = record { setup = c.args.shared.now.opening.setup; how = c.in-Ok.how; wants = t.wants; told = record { listed = shown t.listed; received = t.received } } in
     let how = rw c.fetch_tags.ensures at c.in-Ok.ensures in
-    rw (c.receipt-receipt-in-Err-settle.ensures, c.number-number.ensures)
-    (stopped line call c.in-Ok-answer.talked.0 c.in-Ok-answer.talked.1 t c.in-Ok-answer.ensures.talked c.in-Ok-answer.ensures.back c.in-Ok-answer.ensures.none c.in-Err-settle.ensures.back
-    m (ap (λ (w : Which). w.opening.setup) (sym c.requires)) how refl refl c.in-Err-settle.judged c.in-Err-settle.place c.in-Err-settle.e c.in-Err-settle.ensures.refused)
+    rw (c.receipt-receipt-in-Err-settle_in_turns.ensures, c.number-number.ensures)
+    (stopped line call c.in-Ok-answer.talked.0 c.in-Ok-answer.talked.1 t c.in-Ok-answer.ensures.talked c.in-Ok-answer.ensures.back c.in-Ok-answer.ensures.none c.in-Err-settle_in_turns.ensures.back
+    m (ap (λ (w : Which). w.opening.setup) (sym c.requires)) how refl refl c.in-Err-settle_in_turns.judged c.in-Err-settle_in_turns.place c.in-Err-settle_in_turns.e c.in-Err-settle_in_turns.ensures.refused)
 
 pub returns-in-Err-answer-clause-keep_file : goal.returns-in-Err-answer-clause-keep_file
 returns-in-Err-answer-clause-keep_file g c path is = absurd (broken_other _ _ _ _ _ _ c.in-Err-answer.ensures.broken (receive.KeepFile path) (λ h. h) refl is)
@@ -104,4 +104,4 @@ pub returns-in-Err-answer-clause-complete : goal.returns-in-Err-answer-clause-co
 returns-in-Err-answer-clause-complete g c v = complete c.in-Err-answer.e v (returns-in-Err-answer-clause-refused g c)
 
 pub returns-clause-complete : goal.returns-clause-complete
-returns-clause-complete g c v = complete c.in-Err-settle.e v (returns-clause-refused g c)
+returns-clause-complete g c v = complete c.in-Err-settle_in_turns.e v (returns-clause-refused g c)

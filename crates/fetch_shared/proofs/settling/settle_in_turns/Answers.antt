@@ -10,7 +10,7 @@ use Rattle.fetch_shared.proofs.Journals.{begins_self}
 use Rattle.fetch_shared.proofs.Owned.{unbrought_own, unmoved_own, unmoved_late, judging_late}
 use Rattle.fetch_shared.proofs.Settled.{unbrought, stopped, unmoved, unreleased, settles, removable_by}
 use Rattle.fetch_shared.proofs.Told.{receiving_is}
-use Rattle.fetch_shared.proofs.settling.settle.Goals as goal
+use Rattle.fetch_shared.proofs.settling.settle_in_turns.Goals as goal
 
 pub returns-in-Err-clause-refused : goal.returns-in-Err-clause-refused
 returns-in-Err-clause-refused g c =
