@@ -5,9 +5,9 @@ use fetch_store::{Kind, Object, ObjectKind, digest};
 use std::alloc::Global;
 use std::sync::atomic::{AtomicU64, Ordering};
 use std::test::Fail;
-use std::thread::Threads;
+use std::thread::{Threads, yield_now};
 
-/// Each of two pieces sets its flag, and looks for the other's.
+/// Each of two pieces sets its flag, and looks for the other's, letting other threads run in between.
 #[derive(Drop)]
 struct TwoFlags {
     first: AtomicU64,
@@ -28,6 +28,7 @@ impl Gate for TwoFlags {
                 self.seen.fetch_add(1, Ordering::SeqCst);
                 break;
             }
+            yield_now();
         }
     }
 }
