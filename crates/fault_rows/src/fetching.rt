@@ -3,11 +3,11 @@
 use crate::failing::Failing;
 use fetch_cli::Setting;
 use fetch_negotiate::Shallow;
-use fetch_remote::phases::NoProgress;
+use fetch_remote::phases::Progress;
 use fetch_remote::{
     FetchError, FetchOptions, Outcome, Prepare, Remote, Repository, fetch, ref_map,
 };
-use fetch_store::{MemoryFiles, Text};
+use fetch_store::{MemoryFiles, NoMemory, Text};
 use fetch_update::{RefLogMessage, ScriptedWorktrees};
 use fetch_wire::{ScriptedInterrupt, ScriptedPeer};
 use std::alloc::Global;
@@ -25,13 +25,42 @@ pub(crate) struct Fetch {
     worktrees: ScriptedWorktrees,
 }
 
-/// A fetch that was made: what it answered, the repository that it left, its peer and its files.
+/// A fetch that was made: what it answered, the repository that it left, its peer, its files, and what was told of the
+/// server's progress.
 #[derive(Drop)]
 pub(crate) struct Fetched {
     pub(crate) result: Result<Outcome, FetchError>,
     pub(crate) repo: Repository,
     pub(crate) peer: ScriptedPeer,
     pub(crate) files: MemoryFiles,
+    pub(crate) told: Told,
+}
+
+/// What is told of a server's progress, a line each. What memory doesn't suffice for is left out.
+#[derive(Drop)]
+pub(crate) struct Told {
+    pub(crate) lines: Vec<u8>,
+}
+
+impl Told {
+    fn new(alloc: Global) -> Told {
+        Told {
+            lines: Vec::new(alloc),
+        }
+    }
+
+    fn add(&mut self, band: &[u8]) -> Result<(), NoMemory> {
+        self.lines.extend_from_slice(b"told ")?;
+        self.lines.extend_from_slice(band)?;
+        self.lines.push(b'\n')?;
+        Ok(())
+    }
+}
+
+impl Progress for Told {
+    fn text(&mut self, band: &[u8]) {
+        let _ = self.add(band);
+    }
 }
 
 /// What is chosen once the references are listed.
@@ -150,6 +179,7 @@ impl Fetch {
             repo,
             peer,
             files,
+            told: Told::new(alloc),
         }
     }
 
@@ -165,6 +195,7 @@ impl Fetch {
             mut files,
             mut worktrees,
         } = self;
+        let mut told = Told::new(alloc);
         let (map, choice) = split(options);
         let connection = remote.to_connection_with_transport(&mut peer);
         let result = match connection.prepare_fetch(alloc, &repo, &mut interrupt, map) {
@@ -172,7 +203,7 @@ impl Fetch {
                 rt,
                 alloc,
                 &mut repo,
-                &mut NoProgress,
+                &mut told,
                 &mut interrupt,
                 &mut files,
                 &mut worktrees,
@@ -184,6 +215,7 @@ impl Fetch {
             repo,
             peer,
             files,
+            told,
         }
     }
 }

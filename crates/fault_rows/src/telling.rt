@@ -89,10 +89,11 @@ fn append_keeps(out: &mut Vec<u8>, files: &mut MemoryFiles) -> Result<(), NoMemo
     Ok(())
 }
 
-/// What a fetch answered, what its peer heard, and the repository and the files that it left.
+/// What a fetch answered, what its peer heard and told, and the repository and the files that it left.
 fn append_fetched(out: &mut Vec<u8>, fetched: &mut Fetched) -> Result<(), NoMemory> {
     append_answer(out, &fetched.result)?;
     append_heard(out, fetched.peer.heard())?;
+    out.extend_from_slice(&fetched.told.lines)?;
     append_state(out, &fetched.repo)?;
     append_keeps(out, &mut fetched.files)
 }
