@@ -34,7 +34,11 @@ __attribute__((constructor)) static void begin(void) {
     told = found;
 }
 
-static int refuses(void) { return __atomic_add_fetch(&told->count, 1, __ATOMIC_SEQ_CST) == told->refused; }
+static int refuses(void) {
+    if (__atomic_add_fetch(&told->count, 1, __ATOMIC_SEQ_CST) != told->refused) return 0;
+    errno = ENOMEM;
+    return 1;
+}
 
 static void *counted(void *taken) {
     long used = __atomic_add_fetch(&told->used, malloc_usable_size(taken), __ATOMIC_SEQ_CST), most = told->most;
