@@ -74,15 +74,17 @@ class Ended:
 
 
 class Runner:
-    """Runs the program on scenes, one at a time. Its process has to be its own: it sets bounds of memory for good."""
+    """Runs the program on scenes, one at a time. Its process has to be its own, with one thread: it sets bounds of memory,
+    that of data for as long as the program is started, so that what makes scenes has more.
+    """
 
     def __init__(self, program, seconds, mebibytes, asked="fetch"):
         self.program, self.seconds, self.asked, self.running, self.is_late = program, seconds, asked, None, False
         self.given, self.taken = os.memfd_create("scene"), os.memfd_create("report")
         self.files = [(os.POSIX_SPAWN_DUP2, self.given, 0), (os.POSIX_SPAWN_DUP2, self.taken, 1),
                       (os.POSIX_SPAWN_OPEN, 2, os.devnull, os.O_WRONLY, 0)]
-        most = mebibytes * MEBIBYTE + STACKS[asked]
-        resource.setrlimit(resource.RLIMIT_DATA, (most, most))
+        self.own = resource.getrlimit(resource.RLIMIT_DATA)
+        self.bound = mebibytes * MEBIBYTE + STACKS[asked], self.own[1]
         resource.setrlimit(resource.RLIMIT_CORE, (0, 0))
         signal.signal(signal.SIGALRM, self._stop)
 
@@ -98,10 +100,13 @@ class Runner:
         os.pwrite(self.given, scene, 0)
         os.lseek(self.given, 0, os.SEEK_SET)
         os.lseek(self.taken, 0, os.SEEK_SET)
+        resource.setrlimit(resource.RLIMIT_DATA, self.bound)
         try:
             self.running = os.posix_spawn(self.program, [self.program, self.asked], {}, file_actions=self.files)
         except OSError as error:
             raise Trouble(ENGINE_FAILED, f"can't run {self.program}: {error.strerror}") from None
+        finally:
+            resource.setrlimit(resource.RLIMIT_DATA, self.own)
         signal.setitimer(signal.ITIMER_REAL, self.seconds)
         _, status, used = os.wait4(self.running, 0)
         signal.setitimer(signal.ITIMER_REAL, 0)
