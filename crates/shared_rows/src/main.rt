@@ -7,6 +7,7 @@ mod journals;
 mod opening;
 mod passes;
 mod refusals;
+mod replays;
 mod rows;
 mod running;
 mod sharing;

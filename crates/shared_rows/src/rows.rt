@@ -13,18 +13,20 @@ pub(crate) struct Row<'a> {
     pub(crate) lines: &'a [u8],
 }
 
+/// As many bytes as the digits say, and what follows them.
+fn cut<'a>(digits: &[u8], bytes: &'a [u8]) -> Option<(&'a [u8], &'a [u8])> {
+    let length = usize::try_from(decimal(digits)?).ok()?;
+    Some((bytes.get(..length)?, bytes.get(length..)?))
+}
+
 /// The first row, and what stands after it. A row is how many bytes its scene and its lines have, what it shows and a line
 /// feed; then the scene and the lines.
 pub(crate) fn row_at(bytes: &[u8]) -> Option<(Row<'_>, &[u8])> {
     let (scene_len, rest) = split_first(b' ', bytes)?;
     let (lines_len, rest) = split_first(b' ', rest)?;
     let (about, rest) = split_first(b'\n', rest)?;
-    let scene_len = usize::try_from(decimal(scene_len)?).ok()?;
-    let lines_len = usize::try_from(decimal(lines_len)?).ok()?;
-    let scene = rest.get(..scene_len)?;
-    let rest = rest.get(scene_len..)?;
-    let lines = rest.get(..lines_len)?;
-    let behind = rest.get(lines_len..)?;
+    let (scene, rest) = cut(scene_len, rest)?;
+    let (lines, behind) = cut(lines_len, rest)?;
     Some((
         Row {
             about,
