@@ -4,8 +4,10 @@
 ghost use Rattle.std.specs.Prelude.{◌≡◌, ◌≤◌, IfOk, vec_len};
 ghost use Rattle.fetch_store.specs.Faults.{Rose, Counts, counted};
 
-use fetch_race::{Job, race_with};
+use fetch_race::{Job, Raced, race_with};
+use fetch_remote::Repository;
 use fetch_store::{Failed, NoMemory, Text};
+use fetch_update::Worktree;
 use fetch_wire::{Peer, ScriptedPeer, SendFault};
 use race_cli::{JobSetting, RaceSetting};
 use std::alloc::Global;
@@ -153,7 +155,33 @@ fn both(alloc: Global, settings: Vec<JobSetting>) -> Result<Vec<Job<GatedPeer>>,
     Ok(jobs)
 }
 
-/// Races the first two jobs of a race by such peers, and tells how many entries were made where both were done.
+/// How many entries a race made, where all its jobs were done.
+fn entries_of(raced: &Raced<GatedPeer>) -> Option<usize> {
+    for answer in raced.answers.as_slice() {
+        if answer.is_err() {
+            return None;
+        }
+    }
+    Some(raced.journal.len())
+}
+
+/// Races these jobs, and tells how many entries were made where all were done.
+fn race_jobs<R: Threads + Wait + Sync>(
+    rt: &R,
+    alloc: Global,
+    repo: Repository,
+    jobs: Vec<Job<GatedPeer>>,
+    worktrees: &[Worktree],
+) -> Option<usize>
+    requires { (1 ≤ vec_len jobs) × (vec_len jobs ≤ 8) }
+{
+    match race_with(rt, alloc, repo, jobs, worktrees) {
+        Ok(raced) => entries_of(&raced),
+        Err(_) => None,
+    }
+}
+
+/// Races the first two jobs of a race by such peers, and tells how many entries they made where both were done.
 pub(crate) fn race_gated<R: Threads + Wait + Sync>(
     rt: &R,
     alloc: Global,
@@ -163,15 +191,5 @@ pub(crate) fn race_gated<R: Threads + Wait + Sync>(
     if jobs.is_empty() {
         return Ok(None);
     }
-    match race_with(rt, alloc, setting.repo, jobs, setting.worktrees.as_slice()) {
-        Ok(raced) => {
-            let done = raced.answers.as_slice().iter().all(|answer| answer.is_ok());
-            Ok(if done {
-                Some(raced.journal.len())
-            } else {
-                None
-            })
-        }
-        Err(_) => Ok(None),
-    }
+    Ok(race_jobs(rt, alloc, setting.repo, jobs, setting.worktrees.as_slice()))
 }
