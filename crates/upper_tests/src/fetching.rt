@@ -3,7 +3,6 @@
 ghost use Rattle.std.specs.Prelude.{◌≡◌, IfOk};
 ghost use Rattle.fetch_store.specs.declared.id.Kind.TheVariants.{Sha1};
 
-use crate::fixture::{GREETING, LISTING, REPLY};
 use fetch_config::{File, Meta, Origin};
 use fetch_refs::{Refs, Signature};
 use fetch_remote::{
@@ -16,6 +15,15 @@ use fetch_wire::{ScriptedInterrupt, ScriptedPeer};
 use std::alloc::Global;
 use std::test::Fail;
 use std::thread::Threads;
+
+/// The replies of a server with one commit: its greeting, its listing, and the commit with its tree.
+const GREETING: &[u8] =
+    b"000eversion 2\n0013ls-refs=unborn\n001dfetch=shallow plain-pack\n0017object-format=sha1\n0000";
+
+const LISTING: &[u8] = b"003dbc6e39d85183dbf480419262896d4ffa452774ab refs/heads/main\n0000";
+
+const REPLY: &[u8] =
+    b"000dpackfile\n0093\x01PLNP\x00\x00\x00\x01\x00\x00\x00\x02\x02\x00\x00\x00\x00\x01\x00\x00\x00dtree 4b825dc642cb6eb9a060e54bf8d69288fbee4904\nauthor A <a@x> 1 +0000\ncommitter A <a@x> 1 +0000\n\none\n\xf2\x8ed\xe5K\xf0J\x95\x82E\xd4_u\xf4\x9bW\xf9W\xd9\x970000";
 
 /// A store with a blob of this text in place of the empty tree.
 fn other_tree(alloc: Global, text: &[u8]) -> Result<Store, Fail>
