@@ -39,73 +39,41 @@ fn other_tree(alloc: Global, text: &[u8]) -> Result<Store, Fail>
     Ok(store)
 }
 
-fn meta(source: Origin) -> Meta {
-    Meta {
-        source,
-        level: 0,
-        path: None,
-        trusted: true,
-    }
-}
-
-fn committer(alloc: Global) -> Result<Signature, Fail> {
-    Ok(Signature {
-        name: Text::new(alloc, b"A")?,
-        email: Text::new(alloc, b"a@x")?,
-        seconds: 1,
-        offset_minutes: 0,
-    })
-}
-
-fn options(alloc: Global) -> Result<OpenOptions, Fail> {
-    let base = File::new(alloc, meta(Origin::Global))?;
-    Ok(OpenOptions {
-        lenient_config: false,
-        api_config_overrides: List::new(alloc),
-        base,
-    })
-}
-
-/// A configuration that negotiates nothing.
-fn local(alloc: Global) -> Result<File, Fail> {
-    let text = b"[fetch]\nnegotiationAlgorithm = noop\n";
-    Ok(File::read(alloc, text, meta(Origin::Local))?)
-}
-
-fn parts(
-    alloc: Global,
-    store: Store,
-    local: File,
-    committer: Signature,
-    options: OpenOptions,
-) -> Result<Parts, Fail>
-    requires { store.hash ≡ Sha1 }
-    ensures { IfOk result (λ parts. parts.store.hash ≡ parts.refs.hash) }
-{
-    let git_dir = Text::new(alloc, b"/w/.git")?;
-    Ok(Parts {
-        store,
-        refs: Refs::new(alloc, Kind::Sha1),
-        border: Border::new(alloc),
-        local,
-        committer,
-        git_dir,
-        workdir: None,
-        options,
-    })
-}
-
 /// A repository with these objects and no references, whose configuration negotiates nothing.
 fn repository(alloc: Global, store: Store) -> Result<Repository, Fail>
     requires { store.hash ≡ Sha1 }
 {
-    let parts = parts(
-        alloc,
+    let base = Meta {
+        source: Origin::Global,
+        level: 0,
+        path: None,
+        trusted: true,
+    };
+    let own = Meta {
+        source: Origin::Local,
+        level: 0,
+        path: None,
+        trusted: true,
+    };
+    let parts = Parts {
         store,
-        local(alloc)?,
-        committer(alloc)?,
-        options(alloc)?,
-    )?;
+        refs: Refs::new(alloc, Kind::Sha1),
+        border: Border::new(alloc),
+        local: File::read(alloc, b"[fetch]\nnegotiationAlgorithm = noop\n", own)?,
+        committer: Signature {
+            name: Text::new(alloc, b"A")?,
+            email: Text::new(alloc, b"a@x")?,
+            seconds: 1,
+            offset_minutes: 0,
+        },
+        git_dir: Text::new(alloc, b"/w/.git")?,
+        workdir: None,
+        options: OpenOptions {
+            lenient_config: false,
+            api_config_overrides: List::new(alloc),
+            base: File::new(alloc, base)?,
+        },
+    };
     Ok(Repository::from_parts(alloc, parts)?)
 }
 
@@ -121,44 +89,31 @@ fn remote(alloc: Global) -> Result<Remote, Fail> {
     Ok(Remote::new(List::from(urls), List::from(specs), Tags::None))
 }
 
-/// A server of one commit.
-fn server(alloc: Global) -> Result<ScriptedPeer, Fail> {
-    let mut pieces = Vec::new(alloc);
-    for piece in [GREETING, LISTING, REPLY] {
-        pieces.push(Text::new(alloc, piece)?)?;
-    }
-    Ok(ScriptedPeer::new(alloc, pieces, Vec::new(alloc)))
-}
-
-/// Fetches from a peer, where no call fails.
+/// Fetches from a server of one commit.
 fn fetched(
     rt: &(impl Threads + Sync),
     alloc: Global,
     repo: &mut Repository,
-    remote: &Remote,
-    peer: &mut ScriptedPeer,
-) -> Result<Outcome, FetchError> {
+) -> Result<Result<Outcome, FetchError>, Fail> {
+    let mut pieces = Vec::new(alloc);
+    for piece in [GREETING, LISTING, REPLY] {
+        pieces.push(Text::new(alloc, piece)?)?;
+    }
+    let mut peer = ScriptedPeer::new(alloc, pieces, Vec::new(alloc));
     let mut interrupt = ScriptedInterrupt::new(Vec::new(alloc));
     let mut files = MemoryFiles::new(alloc, Vec::new(alloc));
     let mut worktrees = ScriptedWorktrees::new(Vec::new(alloc), Vec::new(alloc));
-    remote.fetch(
+    let result = remote(alloc)?.fetch(
         rt,
         alloc,
         repo,
-        peer,
+        &mut peer,
         &mut interrupt,
         &mut files,
         &mut worktrees,
         FetchOptions::new(alloc),
-    )
-}
-
-/// Whether a fetch was refused for this object.
-fn is_collision(answer: &Result<Outcome, FetchError>, object: ObjectId) -> bool {
-    match answer {
-        Err(FetchError::Receive(fetch::Error::Collision { id })) => *id == object,
-        _ => false,
-    }
+    );
+    Ok(result)
 }
 
 /// The pack's tree has the id of another object.
@@ -166,9 +121,11 @@ fn is_collision(answer: &Result<Outcome, FetchError>, object: ObjectId) -> bool 
 fn an_id_with_two_objects(rt: HostRuntime) -> Result<(), Fail> {
     let alloc = rt.alloc();
     let mut repo = repository(alloc, other_tree(alloc, b"another")?)?;
-    let result = fetched(&rt, alloc, &mut repo, &remote(alloc)?, &mut server(alloc)?);
+    let refusal = fetched(&rt, alloc, &mut repo)?.err();
     let tree = ObjectId::from_hex(b"4b825dc642cb6eb9a060e54bf8d69288fbee4904")?;
-    assert!(rt; is_collision(&result, tree));
+    let is_collision =
+        matches!(refusal, Some(FetchError::Receive(fetch::Error::Collision { id })) if id == tree);
+    assert!(rt; is_collision);
     assert!(rt; repo.store().len() == 1);
     Ok(())
 }
