@@ -95,7 +95,7 @@ class CallIndex(InAFolder):
         for name, text in (("lib", ROOT), ("line", LINE), ("laws", LAWS)):
             write(f"crates/a/src/{name}.rt", text)
         self.assertEqual(CALL_INDEX.section("a")[4:-1], [
-            "| [`lines_are_the_text`](../crates/a/src/laws.rt) | Each text is its lines |",
+            "| [`laws::lines_are_the_text`](../crates/a/src/laws.rt) | Each text is its lines |",
             "| [`Line::text`](../crates/a/src/line.rt) | The text |",
             "| [`cut`](../crates/a/src/line.rt) | Cuts a text into lines |",
         ])
