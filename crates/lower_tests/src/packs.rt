@@ -1,4 +1,4 @@
-//! Plain packs that are written. The digests are those of `sha1sum`, of the script in docs/TESTING.md.
+//! Plain packs that are written. The digests are those of `sha1sum`, of tools/vectors/plain-packs.
 
 ghost use Rattle.std.specs.Prelude.{◌≡◌, IfOk};
 

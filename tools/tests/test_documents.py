@@ -1,0 +1,121 @@
+"""What the tools of documents make."""
+
+import importlib.machinery
+import importlib.util
+import os
+import sys
+import tempfile
+import unittest
+
+TOOLS = os.path.join(os.path.dirname(os.path.abspath(__file__)), "..")
+
+
+def tool(name):
+    """A tool as a module."""
+    module = os.path.basename(name).replace("-", "_")
+    loader = importlib.machinery.SourceFileLoader(module, os.path.join(TOOLS, name))
+    found = importlib.util.module_from_spec(importlib.util.spec_from_loader(module, loader))
+    sys.modules[module] = found
+    wrote, sys.dont_write_bytecode = sys.dont_write_bytecode, True
+    try:
+        loader.exec_module(found)
+    finally:
+        sys.dont_write_bytecode = wrote
+    return found
+
+
+CRATE_MAP, CALL_INDEX, DEFINITIONS = tool("dev/crate-map"), tool("dev/call-index"), tool("dev/definitions")
+DEAD_NAMES = tool("dead-names")
+
+ROOT = """\
+mod line;
+pub mod laws;
+pub use line::{Line, cut};
+"""
+
+LINE = """\
+/// A line of text.
+pub struct Line {
+    text: Text,
+}
+
+impl Line {
+    /// The text. It has no line feed.
+    pub fn text(&self) -> &Text {
+        &self.text
+    }
+
+    fn inner(&self) {}
+}
+
+impl Display for Line {
+    fn fmt(&self) {}
+}
+
+/// Cuts a text
+/// into lines.
+#[tactic(auto)]
+pub fn cut() {}
+
+/// Nobody sees it.
+pub fn hidden() {}
+"""
+
+LAWS = """\
+/// Each text is its lines.
+pub fn lines_are_the_text();
+"""
+
+
+def write(path, text):
+    os.makedirs(os.path.dirname(path), exist_ok=True)
+    with open(path, "w", encoding="utf-8") as file:
+        file.write(text)
+
+
+class InAFolder(unittest.TestCase):
+    def setUp(self):
+        folder = tempfile.TemporaryDirectory()
+        self.addCleanup(folder.cleanup)
+        self.addCleanup(os.chdir, os.getcwd())
+        os.chdir(folder.name)
+
+
+class CrateMap(InAFolder):
+    def test_arrows_that_follow_are_left_out(self):
+        write("./crates.txt", "# the store\nfetch_store: sha1\n# names\nfetch_specs: fetch_store\n# tests: all\nrows: fetch_store fetch_specs\n")
+        found = CRATE_MAP.crates()
+        self.assertEqual([(crate.name, crate.below, crate.is_test()) for crate in found],
+                         [("fetch_store", [], False), ("fetch_specs", ["fetch_store"], False), ("rows", ["fetch_store", "fetch_specs"], True)])
+        self.assertEqual(list(CRATE_MAP.arrows(found)), [("fetch_specs", "fetch_store"), ("rows", "fetch_specs")])
+
+
+class CallIndex(InAFolder):
+    def test_what_a_root_hands_out(self):
+        for name, text in (("lib", ROOT), ("line", LINE), ("laws", LAWS)):
+            write(f"crates/a/src/{name}.rt", text)
+        self.assertEqual(CALL_INDEX.section("a")[4:-1], [
+            "| [`laws::lines_are_the_text`](../crates/a/src/laws.rt) | Each text is its lines |",
+            "| [`Line::text`](../crates/a/src/line.rt) | The text |",
+            "| [`cut`](../crates/a/src/line.rt) | Cuts a text into lines |",
+        ])
+
+
+class Definitions(InAFolder):
+    def test_what_is_imported_is_counted_once(self):
+        write("crates/a/specs/One.antt", "-- One.\nuse Rattle.a.specs.Two.{two}\nuse Rattle.std.specs.Prelude.{x}\n\none = two\n")
+        write("crates/a/specs/Two.antt", "two = x\nthree = x\n")
+        below = DEFINITIONS.all_below("crates/a/specs/One.antt")
+        self.assertEqual((len(below), sum(map(DEFINITIONS.counted, below))), (2, 3))
+
+
+class Links(InAFolder):
+    def test_a_link_leads_to_a_heading_and_to_a_name(self):
+        write("./b.md", "# What it does, and what it doesn't\n`found`\n")
+        dead = [DEAD_NAMES.dead_link("a.md", shown, link) for shown, link in (
+            ("b", "b.md#what-it-does-and-what-it-doesnt"), ("b", "b.md#none"), ("`found`", "b.md"), ("`lost`", "b.md"), ("c", "c.md"))]
+        self.assertEqual(dead, [None, "no heading b.md#none", None, "no name lost in b.md", "no file c.md"])
+
+
+if __name__ == "__main__":
+    unittest.main()
