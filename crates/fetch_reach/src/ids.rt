@@ -1,6 +1,6 @@
 //! Ascending lists of ids, taken as sets.
 
-ghost use Rattle.std.specs.Prelude.{◌≡◌, ◌⊎◌, ◌↔◌, IfOk, IfSome, false, not, filter, slice_get, Contains};
+ghost use Rattle.std.specs.Prelude.{◌≡◌, ◌⊎◌, ◌↔◌, ◌<◌, ◌≤◌, ℕ, IfOk, IsTrue, true, false, not, filter, get_or, length, Contains};
 ghost use Rattle.std.specs.List.Sorted.{IsStrictlySortedBy};
 ghost use Rattle.std.specs.Ordering.{is_lt};
 ghost use Rattle.fetch_store.specs.declared.id.ObjectId.{ObjectId as Id};
@@ -8,7 +8,7 @@ ghost use Rattle.fetch_store.specs.Borders.{ids_of, set_of};
 ghost use Rattle.fetch_store.specs.Stores.{id_cmp};
 ghost use Rattle.fetch_reach.specs.Sets.{is_among};
 
-use fetch_store::{List, NoMemory, ObjectId, ascending};
+use fetch_store::{List, NoMemory, ObjectId, ascending, same_id};
 use std::alloc::Global;
 
 /// The ids of one list that the other doesn't have. Both are ascending, each id once, and so is the answer. It is one
@@ -25,43 +25,36 @@ pub fn difference(
     ensures ascending { IfOk result (λ left. IsStrictlySortedBy id_cmp left) }
 {
     let mut left = List::new(alloc);
-    let mut rest = without;
+    let mut place = 0;
     for id in ids {
-        rest = from_id(rest, id);
-        if !starts_with_id(rest, id) {
+        place = first_not_below(without, place, id);
+        if !stands_at(without, place, id) {
             left.push(*id)?;
         }
     }
     Ok(left)
 }
 
-/// Ascending ids from the first on that isn't less than this one.
-fn from_id<'a>(ids: &'a [ObjectId], id: &ObjectId) -> &'a [ObjectId]
-    requires { IsStrictlySortedBy id_cmp ids.now }
-    ensures ascending { IsStrictlySortedBy id_cmp result.now }
-    ensures from { IfSome (slice_get result.now 0) (λ first. is_lt (id_cmp first id.now) ≡ false) }
-    ensures same { (other : Id) → is_lt (id_cmp other id.now) ≡ false → is_among other result.now ≡ is_among other ids.now }
+/// The first place, from this one on, of an id that isn't less than this one; the length where there is none.
+fn first_not_below(ids: &[ObjectId], from: usize, id: &ObjectId) -> usize
+    requires { from ≤ length ids.now }
+    ensures within { (from ≤ result) × (result ≤ length ids.now) }
+    ensures below { (k : ℕ) (d : Id) → from ≤ k → k < result → is_lt (id_cmp (get_or ids.now k d) id.now) ≡ true }
+    ensures at { (d : Id) → result < length ids.now → is_lt (id_cmp (get_or ids.now result d) id.now) ≡ false }
 {
-    let mut rest = ids;
-    while let [first, after @ ..] = rest {
-        if first >= id {
-            return rest;
+    for place in from..ids.len() {
+        if !ids[place].cmp(id).is_lt() {
+            return place;
         }
-        rest = after;
     }
-    rest
+    ids.len()
 }
 
-/// Whether the first of ascending ids, none of which is less than this one, is this one.
-fn starts_with_id(ids: &[ObjectId], id: &ObjectId) -> bool
-    requires ascending { IsStrictlySortedBy id_cmp ids.now }
-    requires from { IfSome (slice_get ids.now 0) (λ first. is_lt (id_cmp first id.now) ≡ false) }
-    ensures { result ≡ is_among id.now ids.now }
+/// Whether the id stands at this place.
+fn stands_at(ids: &[ObjectId], place: usize, id: &ObjectId) -> bool
+    ensures { IsTrue result ↔ ((place < length ids.now) × (get_or ids.now place id.now ≡ id.now)) }
 {
-    match ids {
-        [first, ..] => first == id,
-        [] => false,
-    }
+    place < ids.len() && same_id(&ids[place], id)
 }
 
 /// The ids of both lists, in whatever order they stand there, each once and in ascending order.

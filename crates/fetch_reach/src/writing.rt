@@ -1,14 +1,11 @@
 //! Packs of what is stored.
 
 ghost use Rattle.std.specs.Prelude.{◌≡◌, ◌<◌, ◌^◌, ◌++◌, All, length, OnOk, OnErr, IfOk};
-ghost use Rattle.std.specs.FinMap as map;
-ghost use Rattle.std.specs.List.{AllByRecursion};
+ghost use Rattle.fetch_store.specs.Closed.{AreAllOf};
 ghost use Rattle.fetch_store.specs.Hashing as hashing;
-ghost use Rattle.fetch_store.specs.Id.{bytes_of};
-ghost use Rattle.fetch_store.specs.Objects.{IsObject};
 ghost use Rattle.fetch_store.specs.References.{seen};
 ghost use Rattle.fetch_pack.specs.Records as spec;
-ghost use Rattle.fetch_pack.specs.Records.{Fits, Written, body, pack_text, payload_of, payloads_of, record_text, id_text};
+ghost use Rattle.fetch_pack.specs.Records.{Fits, body, pack_text, payload_of, payloads_of, record_text, id_text};
 ghost use Rattle.fetch_pack.specs.Texts.{Keeps};
 ghost use Rattle.fetch_pack.specs.declared.version.PackVersion.TheVariants.{V1};
 ghost use Rattle.fetch_reach.specs.Named.{IsOwnId};
@@ -57,8 +54,9 @@ fn append_pack(
     ensures keeps { Keeps out.old.items out.new.items }
 {
     let start = out.len();
+    let hash = store.kind();
     append_body(version, store, ids, out)?;
-    let id = digest(store.kind(), &out[start..]);
+    let id = digest(hash, &out[start..]);
     out.extend_from_slice(id.as_bytes())?;
     Ok(id)
 }
@@ -70,6 +68,7 @@ fn append_body(
     ids: &[ObjectId],
     out: &mut Vec<u8>,
 ) -> Result<(), NoMemory>
+    requires of_hash { AreAllOf store.now.hash store.now.objects }
     requires own { All (IsOwnId store.now.objects) ids.now }
     requires fits { CanHold version (objects_at store.now.objects ids.now) }
     ensures body { OnOk result (out.new.items ≡ out.old.items ++ body version store.now.hash (payloads_of (objects_at store.now.objects ids.now))) }
