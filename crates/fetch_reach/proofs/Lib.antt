@@ -1,0 +1,4 @@
+pub mod Sets
+pub mod OwnIds
+pub mod Written
+pub mod Leaving

@@ -1,0 +1,4 @@
+pub mod Sets
+pub mod Named
+pub mod Stored
+pub mod Whole
