@@ -12,8 +12,6 @@ from dataclasses import dataclass
 
 from realgit.trouble import ENGINE_FAILED, Trouble
 
-PROGRAM = os.path.normpath(os.path.join(os.path.dirname(os.path.realpath(__file__)), "..", "..",
-                                        "crates", "bagjulen", "out", "bagjulen"))
 # Counts the allocations in memory that it shares with who runs it, and refuses the one whose number stands there.
 BETWEEN = r"""
 #include <errno.h>

@@ -7,7 +7,11 @@ from realgit.lines import decoded_text, line_at, text_of
 from realgit.report import read_report
 from realgit.trouble import BAD_INPUT, BAD_WORDS, ENGINE_FAILED, Trouble
 
-PROGRAM = os.path.normpath(os.path.join(os.path.dirname(__file__), "..", "..", "bagjulen"))
+TOP = os.path.normpath(os.path.join(os.path.dirname(os.path.realpath(__file__)), "..", ".."))
+# The program that tools run where no word names one: the one of the environment, or else that of the repository.
+PROGRAM = os.environ.get("BAGJULEN") or os.path.join(TOP, "bagjulen")
+# The same for tools that run it many times or measure it: no script stands between.
+BUILT = os.environ.get("BAGJULEN") or os.path.join(TOP, "crates", "bagjulen", "out", "bagjulen")
 MALFORMED = 4
 # Lines of a scene that the caller's words give.
 GIVEN = ("remote ", "fetch ", "extra ", "option ")

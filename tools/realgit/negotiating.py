@@ -4,7 +4,7 @@ import os
 import re
 from dataclasses import dataclass, field
 
-from realgit.applying import store
+from realgit.gitpack import store
 from realgit.conversation import DONE, converse
 from realgit.lines import Mark, encoded, text_line, text_of
 from realgit.plainpack import Object, object_id, write_pack

@@ -4,7 +4,7 @@ import os
 from dataclasses import dataclass, field
 from random import Random
 
-from realgit.applying import store
+from realgit.gitpack import store
 from realgit.history import History
 from realgit.repository import Repository, git
 

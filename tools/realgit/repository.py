@@ -11,6 +11,8 @@ from realgit.trouble import BAD_INPUT, GIT_REFUSED, Trouble
 OWN_ENVIRONMENT = {"LC_ALL": "C", "GIT_NO_REPLACE_OBJECTS": "1", "GIT_OPTIONAL_LOCKS": "0"}
 FOREIGN = ("GIT_DIR", "GIT_WORK_TREE", "GIT_INDEX_FILE", "GIT_OBJECT_DIRECTORY", "GIT_COMMON_DIR",
            "GIT_ALTERNATE_OBJECT_DIRECTORIES", "GIT_NAMESPACE", "GIT_PREFIX", "GIT_SHALLOW_FILE")
+# How the files end that keep others away from the file without it.
+LOCK = ".lock"
 
 
 def environment(more):
@@ -66,6 +68,13 @@ class Repository:
         """`sha1` or `sha256`."""
         return self.text("rev-parse", "--show-object-format")
 
+    def truth(self, key):
+        """What the configuration says of a key, which has a truth value, or None where it says nothing."""
+        status, out, messages = run_git(["-C", self.path, "config", "--type=bool", "--get", key])
+        if status not in (0, 1):
+            raise Trouble(GIT_REFUSED, f"git refused: {why(messages)}")
+        return out == b"true\n" if status == 0 else None
+
     def work_tree(self):
         """The directory of the work tree, or None in a bare repository."""
         if self.text("rev-parse", "--is-bare-repository") == "true":
@@ -76,8 +85,8 @@ class Repository:
 
     def references(self):
         """Each reference under `refs/`, and `HEAD`: an id in hex, or `@` and the name that it stands for."""
-        found = self.direct_references() | self.symbolic_references()
-        return found | self.head()
+        direct = self.direct_references()
+        return direct | self._symbolic_references(direct) | self.head()
 
     def direct_references(self):
         """The references under `refs/` that are ids."""
@@ -85,15 +94,16 @@ class Repository:
         lines = (line.split(" ") for line in out.splitlines())
         return {name: digits for digits, symbolic, name in lines if not symbolic}
 
-    def symbolic_references(self):
-        """The references under `refs/` that stand for a name. Git doesn't list those that lead nowhere."""
+    def _symbolic_references(self, direct):
+        """The references under `refs/` that stand for a name, also those that lead nowhere, which Git doesn't list."""
         found = {}
         for folder, _, files in os.walk(os.path.join(self.common_dir, "refs")):
+            front = os.path.relpath(folder, self.common_dir)
             for file in files:
-                path = os.path.join(folder, file)
-                target = symbolic_target(path)
-                if target is not None:
-                    found[os.path.relpath(path, self.common_dir)] = f"@{target}"
+                name = f"{front}/{file}"
+                if name not in direct and not name.endswith(LOCK):
+                    target = symbolic_target(os.path.join(folder, file))
+                    found |= {} if target is None else {name: f"@{target}"}
         return found
 
     def head(self):
@@ -102,6 +112,14 @@ class Repository:
         if status == 0:
             return {"HEAD": f"@{decoded_text(out).strip()}"}
         return {"HEAD": self.text("rev-parse", "--verify", "HEAD")}
+
+    def place(self, name):
+        """The file of a reference that isn't packed."""
+        return os.path.join(self.git_dir if name == "HEAD" else self.common_dir, name)
+
+    def log_place(self, name):
+        """The file of a reference's log."""
+        return os.path.join(self.git_dir if name == "HEAD" else self.common_dir, "logs", name)
 
     def shallow_file(self):
         """Where the border stands."""

@@ -9,6 +9,7 @@ BAD_WORDS = 2
 BAD_INPUT = 3
 GIT_REFUSED = 4
 ENGINE_FAILED = 5
+CHANGED = 6
 # What a shell tells of a program that an interrupt ended.
 INTERRUPTED = 130
 
@@ -19,6 +20,7 @@ statuses:
   3  what they name is no repository, scene or report, or can't be read or written
   4  Git refused
   5  the engine failed
+  6  the repository was changed meanwhile, and nothing was moved
 
 Whatever isn't done gets one line on standard error."""
 

@@ -25,7 +25,7 @@ def tool(name):
 
 
 CRATE_MAP, CALL_INDEX, DEFINITIONS = tool("dev/crate-map"), tool("dev/call-index"), tool("dev/definitions")
-DEAD_NAMES = tool("dead-names")
+DEAD_NAMES = tool("dev/dead-names")
 
 ROOT = """\
 mod line;

@@ -2,11 +2,11 @@
 
 import os
 import re
-import subprocess
 import tempfile
 import unittest
 
-from realgit.applying import store
+from common import DOUBLE, SPEC, TOOLS, WithRepositories, run
+from realgit.gitpack import store
 from realgit.pairs import LEVELS, Maker
 from realgit.plainpack import object_id
 from realgit.realfetch import verdicts
@@ -14,47 +14,6 @@ from realgit.reasons import REASONS
 from realgit.repository import Repository, git
 from realgit.scene import read_scene
 from realgit.trouble import read_file
-
-HERE = os.path.dirname(os.path.abspath(__file__))
-TOOLS = os.path.dirname(HERE)
-DOUBLE = ["--engine", os.path.join(HERE, "double.py")]
-EMPTY_TREE_ID = "4b825dc642cb6eb9a060e54bf8d69288fbee4904"
-SPEC = "+refs/heads/main:refs/remotes/origin/main"
-
-
-def run(tool, *words, behaviour=""):
-    """The status of a tool, what it wrote, and its messages."""
-    more = {**os.environ, "BEHAVIOUR": behaviour, "GIT_CONFIG_NOSYSTEM": "1", "GIT_CONFIG_GLOBAL": os.devnull}
-    ended = subprocess.run([os.path.join(TOOLS, tool), *words], capture_output=True, env=more)
-    return ended.returncode, ended.stdout, ended.stderr.decode()
-
-
-class WithRepositories(unittest.TestCase):
-    """A server with some commits on `main`, and an empty client."""
-
-    def setUp(self):
-        folder = tempfile.TemporaryDirectory()
-        self.addCleanup(folder.cleanup)
-        self.folder = folder.name
-        maker = Maker(self.folder, "checks", "plain")
-        maker.references["refs/heads/main"] = self.tip = maker.history.grow(maker.history.grow())
-        maker.init(maker.server, "--bare")
-        maker.write_server()
-        maker.init(maker.client)
-        self.server, self.client = maker.server, maker.client
-
-    def path(self, name):
-        return os.path.join(self.folder, name)
-
-    def scene(self, *words, behaviour=""):
-        return run("scene-from-git", *DOUBLE, "-o", self.path("scene"), self.client, *words, behaviour=behaviour)
-
-    def report(self):
-        with open(self.path("scene"), "rb") as scene, open(self.path("report"), "wb") as report:
-            subprocess.run([os.path.join(HERE, "double.py"), "fetch"], stdin=scene, stdout=report, check=True)
-
-    def ids(self, repository):
-        return sorted(each.id for each in Repository(repository).objects())
 
 
 class Scenes(WithRepositories):
@@ -107,72 +66,22 @@ class Scenes(WithRepositories):
                  ([self.server, SPEC], "malformed", 3, "can't read the line 'hash sha1'")]
         open(self.path("scene"), "w").close()
         for words, behaviour, status, text in cases:
-            self.assert_line(self.scene(*words, behaviour=behaviour), status, text)
+            self.assert_line(self.scene(*words, behaviour=behaviour), status, re.escape(text))
 
     def test_a_request_that_git_refuses(self):
         ended = self.scene(self.server, SPEC, behaviour="wants nothing")
         self.assert_line(ended, 4, "git upload-pack refused")
 
-    def assert_line(self, ended, status, text):
-        self.assertEqual((ended[0], ended[1]), (status, b""))
-        self.assertRegex(ended[2], rf"\A[^\n]*{re.escape(text)}[^\n]*\n\Z")
-
-
-class Applied(WithRepositories):
-    def test_a_report_is_written_into_the_client(self):
-        self.scene(self.server, SPEC)
-        self.report()
-        self.assertEqual(run("apply-report", self.path("scene"), self.path("report"), self.client),
-                         (0, f"{len(self.ids(self.server))} objects stored, 1 references moved\n".encode(), ""))
-        git(["-C", self.client, "fsck", "--strict"])
-        self.assertEqual(self.ids(self.client), self.ids(self.server))
-        self.assertEqual(Repository(self.client).references()["refs/remotes/origin/main"], self.tip)
-        log = read_file(os.path.join(self.client, ".git/logs/refs/remotes/origin/main")).decode()
-        self.assertEqual(log, f"{'0' * 40} {self.tip} fetch <fetch@localhost> 0 +0000\tfetch: storing ref\n")
-        again = run("apply-report", self.path("scene"), self.path("report"), self.client)
-        self.assertEqual(again, (0, b"0 objects stored, 0 references moved\n", ""))
-
-    def test_the_empty_tree_is_stored_too(self):
-        author = {f"GIT_{who}_{what}": "a@x" for who in ("AUTHOR", "COMMITTER") for what in ("NAME", "EMAIL")}
-        git(["-C", self.server, "hash-object", "-w", "-t", "tree", "--stdin"])
-        tip = git(["-C", self.server, "commit-tree", "-m", "empty", EMPTY_TREE_ID], more=author).decode().strip()
-        git(["-C", self.server, "update-ref", "refs/heads/main", tip])
-        self.scene(self.server, SPEC)
-        self.report()
-        self.assertEqual(run("apply-report", self.path("scene"), self.path("report"), self.client)[0], 0)
-        git(["-C", self.client, "fsck", "--strict"])
-        self.assertIn(EMPTY_TREE_ID, self.ids(self.client))
-
-    def test_the_border_is_written(self):
-        self.scene(self.server, SPEC)
-        self.report()
-        with open(self.path("report"), "rb+") as report:
-            text = report.read().replace(b"\nid ", f"\nborder {self.tip}\nid ".encode(), 1)
-            report.seek(0)
-            report.write(text)
-        self.assertEqual(run("apply-report", self.path("scene"), self.path("report"), self.client)[0], 0)
-        self.assertEqual(Repository(self.client).border(), [self.tip])
-
-    def test_what_goes_wrong_is_told_in_a_line(self):
-        self.scene(self.server, SPEC)
-        for text, status in [("refused Malformed 0\n", 1), ("x\n", 3), (f"id {'1' * 40}\nok\n", 3)]:
-            with open(self.path("report"), "w") as report:
-                report.write(text)
-            ended = run("apply-report", self.path("scene"), self.path("report"), self.client)
-            self.assertEqual((ended[0], ended[1], ended[2].count("\n")), (status, b"", 1), text)
-        self.assertEqual(run("apply-report", self.path("scene"), self.path("none"), self.client)[0], 3)
-        self.assertEqual(run("apply-report", self.path("scene"))[0], 2)
-
 
 class Compared(unittest.TestCase):
     def test_differences_are_told(self):
-        status, out, _ = run("compare-with-git", *DOUBLE, "--level", "plain", "4", "2", behaviour="forgets")
+        status, out, _ = run("measure/compare-with-git", *DOUBLE, "--level", "plain", "4", "2", behaviour="forgets")
         self.assertEqual(status, 1)
         self.assertIn(b"UNEXPLAINED", out)
 
     def test_wrong_words(self):
         for words in (["many"], ["-1"], ["1", "2", "3"], ["--level", "none"], ["--first", "x"]):
-            status, out, messages = run("compare-with-git", *words)
+            status, out, messages = run("measure/compare-with-git", *words)
             self.assertEqual((status, out, messages.count("\n")), (2, b"", 1))
 
     def test_reasons_are_titles_of_the_documents(self):
@@ -224,7 +133,7 @@ class LargeScenes(unittest.TestCase):
         for kind, count, objects in (("commits", 3, 4), ("references", 5, 2), ("blob", 70_000, 1)):
             with tempfile.TemporaryDirectory() as folder:
                 path = os.path.join(folder, "scene")
-                self.assertEqual(run("large-scene", kind, str(count), "-o", path), (0, b"", ""))
+                self.assertEqual(run("measure/large-scene", kind, str(count), "-o", path), (0, b"", ""))
                 with open(path, "rb") as file:
                     scene = read_scene(file.read())
             self.assertEqual((scene.objects, len(scene.received())), ([], objects))
@@ -232,8 +141,12 @@ class LargeScenes(unittest.TestCase):
 
 class Help(unittest.TestCase):
     def test_each_tool_tells_its_words(self):
-        for tool in ("scene-from-git", "apply-report", "compare-with-git", "compare-haves", "long-line", "large-scene",
-                     "cut-scene", "refuse-allocations", "show-rows"):
-            status, out, messages = run(tool, "--help")
-            self.assertEqual((status, messages), (0, ""))
-            self.assertIn(b"statuses:", out)
+        folders = [os.path.join(TOOLS, each) for each in ("", "measure", "dev")]
+        tools = [os.path.join(folder, each) for folder in folders for each in os.listdir(folder) if "." not in each]
+        tools = [each for each in tools if os.path.isfile(each) and not each.endswith("test-tools")]
+        self.assertGreater(len(tools), 14)
+        for tool in tools:
+            with self.subTest(tool):
+                status, out, messages = run(tool, "--help")
+                self.assertEqual((status, messages), (0, ""))
+                self.assertIn(b"statuses:", out)

@@ -1,0 +1,72 @@
+"""What a report moves in a repository, and what stands against it."""
+
+from dataclasses import dataclass
+
+from realgit.report import LogLine
+from realgit.trouble import CHANGED, GIT_REFUSED, Trouble
+
+
+@dataclass(frozen=True)
+class Move:
+    """A reference that moves: what it was in the scene, None for nothing, what it will be, and its log line, or None.
+
+    Values are as in a scene: an id in hex, or `@` and a name.
+    """
+
+    name: str
+    old: str | None
+    new: str
+    log: LogLine | None
+
+    def is_symbolic(self):
+        """Whether it will stand for a name."""
+        return self.new.startswith("@")
+
+    def message(self):
+        """What its reflog gets to say, or None where no line is written."""
+        return None if self.log is None else self.log.message
+
+
+def moves_of(scene, report, standing):
+    """The moves of a report in a repository where these references stand, without those that were made already.
+
+    References that the report leaves as they were in the scene stay, wherever they stand.
+    """
+    logs = {line.name: line for line in report.logs}
+    moves = [Move(name, scene.references.get(name), new, logs.get(name)) for name, new in report.references.items()]
+    moves = [each for each in moves if each.new not in (each.old, standing.get(each.name))]
+    refuse_changed(moves, standing)
+    _refuse_nested(moves, standing)
+    return moves
+
+
+def refuse_changed(moves, standing):
+    """Refuses moves of which one doesn't find the reference as it was in the scene."""
+    for each in moves:
+        if standing.get(each.name) != each.old:
+            raise _changed(each.name, each.old, standing.get(each.name))
+
+
+def refuse_changed_border(old, new, standing):
+    """Refuses to move the border from the old ids to the new ones where it isn't as it was in the scene."""
+    for digits in sorted(set(old) ^ set(standing)):
+        if standing != new:
+            raise _changed(f"the border at {digits}", *("it" if digits in ids else None for ids in (old, standing)))
+
+
+def _changed(what, expected, found):
+    expected, found = ("nothing" if each is None else each for each in (expected, found))
+    return Trouble(CHANGED, f"{what} was changed meanwhile: the scene has {expected}, and {found} stands there; "
+                            "nothing was moved")
+
+
+def _refuse_nested(moves, standing):
+    """Refuses moves after which a reference would stand below another one, which Git's files can't hold."""
+    made = {each.name for each in moves if each.old is None}
+    names = made | standing.keys()
+    for name in sorted(names):
+        above = name
+        while "/" in above:
+            above = above.rpartition("/")[0]
+            if above in names and not made.isdisjoint((above, name)):
+                raise Trouble(GIT_REFUSED, f"Git can't hold both {above} and {name}; nothing was moved")
