@@ -1,6 +1,6 @@
 //! References that lead to no stored object.
 
-ghost use Rattle.std.specs.Prelude.{◌≡◌, IfOk, Result};
+ghost use Rattle.std.specs.Prelude.{◌≡◌, IfOk, Result, slice_get};
 ghost use Rattle.fetch_store.specs.declared.id.ObjectId.{ObjectId as Id};
 ghost use Rattle.fetch_store.specs.Answers.{AnswersUnless};
 ghost use Rattle.fetch_refs.specs.Answers.{is_memory};
@@ -92,4 +92,20 @@ fn told(store: &Store, answer: Result<ObjectId, RefError>) -> Result<Option<Brok
         Err(RefError::NoMemory) => Err(NoMemory),
         Err(RefError::Unborn { .. } | RefError::Expectation { .. }) => Ok(None),
     }
+}
+
+/// The first broken reference.
+pub(crate) fn first_broken(
+    alloc: Global,
+    store: &Store,
+    refs: &Refs,
+) -> Result<Option<Broken>, NoMemory>
+    ensures { IfOk result (λ broken. broken ≡ slice_get (broken_of refs.now.names store.now.objects) 0) }
+{
+    for (name, target) in refs.iter() {
+        if let Some(found) = broken_reference(alloc, store, refs, name, target)? {
+            return Ok(Some(found));
+        }
+    }
+    Ok(None)
 }
