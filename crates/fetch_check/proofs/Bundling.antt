@@ -67,7 +67,7 @@ few_reached names h ids own few reached = record {
 
 -- ---- the text, part by part
 
-objects_only : (objects : ObjectMap) (ids : List ObjectId) → map (λ e. e.1) (entries_at objects ids) ≡ objects_at objects ids
+pub objects_only : (objects : ObjectMap) (ids : List ObjectId) → map (λ e. e.1) (entries_at objects ids) ≡ objects_at objects ids
 objects_only objects [] = refl
 objects_only objects (id ∷ ids) = by_value (objects_only objects ids) (finmap.get objects id)
   where
