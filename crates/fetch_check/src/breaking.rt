@@ -81,7 +81,8 @@ fn unstored(store: &Store, id: ObjectId) -> Option<BrokenCause>
 
 /// What an answer says of a reference.
 fn told(store: &Store, answer: Result<ObjectId, RefError>) -> Result<Option<BrokenCause>, NoMemory>
-    ensures { (expected : Result Id Refusal) → AnswersUnless is_memory expected answer → IfOk result (λ cause. cause ≡ cause_in store.now.objects expected) }
+    ensures { (expected : Result Id Refusal) → AnswersUnless is_memory expected answer → IfOk result (λ cause. cause
+        ≡ cause_in store.now.objects expected) }
 {
     match answer {
         Ok(id) => Ok(unstored(store, id)),

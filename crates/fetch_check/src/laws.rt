@@ -33,13 +33,15 @@ pub fn each_missing_link_is_told()
 
 /// What a symbolic reference leads to is what peeling its name answers.
 pub fn ends_are_what_peeling_answers()
-    ensures { (names : Names) (graph : Graph) (name target : List ℕ) → map.get names name ≡ Some (Symbolic target) → end_of names graph (name, Symbolic target) ≡ peeled names graph name }
+    ensures { (names : Names) (graph : Graph) (name target : List ℕ) → map.get names name ≡ Some (Symbolic target)
+        → end_of names graph (name, Symbolic target) ≡ peeled names graph name }
 {}
 
 /// The pack of what is bundled of a repository is read as the objects that are bundled, under their ids.
 pub fn bundled_packs_are_read()
     ensures { (hash : Kind) (names : Names) (h : Holding) (ids : List ObjectId) →
-        AreAllOf hash h.objects → AreObjects h.objects → AreOwnIds h.objects → AreReached names h ids → Fits V2 (payloads_of (objects_at h.objects ids)) →
+        AreAllOf hash h.objects → AreObjects h.objects → AreOwnIds h.objects → AreReached names h ids
+        → Fits V2 (payloads_of (objects_at h.objects ids)) →
         read hash (pack_of (bundled hash names h ids)) ≡
         Ok (record { objects = (bundled hash names h ids).objects; count = length ids; digest = hashing.digest hash (body V2 hash (payloads_of (objects_at h.objects ids))) }) }
 {}

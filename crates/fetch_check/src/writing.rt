@@ -1,6 +1,7 @@
 //! Writing a bundle.
 
-ghost use Rattle.std.specs.Prelude.{◌≡◌, ◌<◌, ◌^◌, ◌++◌, ◌∷◌, [], All, None, Some, List as Items, filter, option_map, slice_get, IfOk, OnOk, OnErr};
+ghost use Rattle.std.specs.Prelude.{◌≡◌, ◌<◌, ◌^◌, ◌++◌, ◌∷◌, [], All, None, Some, List as Items, filter, option_map, slice_get};
+ghost use Rattle.std.specs.Prelude.{IfOk, OnOk, OnErr};
 ghost use Rattle.std.specs.FinMap as map;
 ghost use Rattle.std.specs.List.Sorted.{IsStrictlySortedBy};
 ghost use Rattle.fetch_store.specs.Answers.{RefusesUnless};
@@ -93,7 +94,8 @@ fn append_bundle(
     requires few { map.len store.now.objects < 2 ^ 32 }
     requires own { AreOwnIds store.now.objects }
     requires reached { AreReached refs.now.names (holding store.now.objects border.now) ids.now }
-    ensures text { OnOk result (out.new.items ≡ out.old.items ++ bundle_text (bundled store.now.hash refs.now.names (holding store.now.objects border.now) ids.now)) }
+    ensures text { OnOk result (out.new.items ≡ out.old.items
+        ++ bundle_text (bundled store.now.hash refs.now.names (holding store.now.objects border.now) ids.now)) }
     ensures refused { RefusesUnless is_memory (option_map (λ name. NameTooLong name) (first_long refs.now.names)) result }
     ensures keeps { OnErr result (Keeps out.old.items out.new.items) }
 {
@@ -204,7 +206,8 @@ fn append_border(
     out: &mut Vec<u8>,
 ) -> Result<(), NoMemory>
     requires { IsStrictlySortedBy id_cmp ids.now }
-    ensures lines { OnOk result (out.new.items ≡ out.old.items ++ lines_text (spec.border_lines (filter (λ id. is_among id ids.now) (ids_of border.now)))) }
+    ensures lines { OnOk result (out.new.items ≡ out.old.items
+        ++ lines_text (spec.border_lines (filter (λ id. is_among id ids.now) (ids_of border.now)))) }
     ensures keeps { OnErr result (Keeps out.old.items out.new.items) }
 {
     for id in border.commits() {
@@ -221,7 +224,8 @@ fn append_if_among(
     out: &mut Vec<u8>,
 ) -> Result<(), NoMemory>
     requires { IsStrictlySortedBy id_cmp ids.now }
-    ensures lines { OnOk result (out.new.items ≡ out.old.items ++ lines_text (spec.border_lines (filter (λ id. is_among id ids.now) (id.now ∷ [])))) }
+    ensures lines { OnOk result (out.new.items ≡ out.old.items
+        ++ lines_text (spec.border_lines (filter (λ id. is_among id ids.now) (id.now ∷ [])))) }
     ensures err { OnErr result (out.new.items ≡ out.old.items) }
 {
     if stands_among(id, ids) {
@@ -258,7 +262,8 @@ fn append_pack(
 ) -> Result<(), NoMemory>
     requires own { All (IsOwnId store.now.objects) ids.now }
     requires fits { CanHold V2 (objects_at store.now.objects ids.now) }
-    ensures lines { OnOk result (out.new.items ≡ out.old.items ++ lines_text (spec.piece_lines (pack_text V2 store.now.hash (payloads_of (objects_at store.now.objects ids.now))))) }
+    ensures lines { OnOk result (out.new.items ≡ out.old.items
+        ++ lines_text (spec.piece_lines (pack_text V2 store.now.hash (payloads_of (objects_at store.now.objects ids.now))))) }
     ensures keeps { OnErr result (Keeps out.old.items out.new.items) }
 {
     let mut pack = Vec::new(alloc);
