@@ -1,0 +1,5 @@
+pub mod Firsts
+pub mod Unreached
+pub mod Told
+pub mod Lines
+pub mod Bundling

@@ -1,0 +1,10 @@
+use Rattle.std.proofs.Common.{◌≡◌, ◌++◌}
+use Rattle.std.specs.FinMap.{entries}
+use Rattle.std.specs.List.{filter_map}
+use Rattle.fetch_refs.specs.Iter.{left}
+use Rattle.fetch_check.specs.Finding.{broken_at}
+use Rattle.fetch_check.proofs.breaking.all_broken.Given as goal
+
+abbrev pub invariant-loop-name : goal.invariant-loop-name
+invariant-loop-name l =
+    l.broken ++ filter_map (broken_at l.refs.names l.store.objects) (left l.name-iterator) ≡ filter_map (broken_at l.refs.names l.store.objects) (entries l.refs.names)

@@ -1,0 +1,44 @@
+use Rattle.std.proofs.Common.{◌≡◌, Bool, true, false, [], Err, sym, ap, subst, ◌∙◌}
+use Rattle.std.specs.Prelude.{IfOk}
+use Rattle.std.specs.Bool.{OnFalse}
+use Rattle.std.specs.FinMap as map
+use Rattle.fetch_store.specs.Answers.{AnswersUnless}
+use Rattle.fetch_store.specs.Graph.{graph_of}
+use Rattle.fetch_refs.specs.Answers.{is_memory}
+use Rattle.fetch_refs.specs.Peeled.{resolved, and_then, through}
+use Rattle.fetch_refs.specs.Targets.{seen}
+use Rattle.fetch_check.specs.Finding.{cause_in, cause_of, end_of}
+use Rattle.fetch_check.proofs.breaking.cause.Goals as goal
+
+-- what holds unless an error is free
+unless_free : (b : Bool) (P Q : Type 0) → (P → Q) → OnFalse b P → OnFalse b Q
+unless_free true P Q f h = tt
+unless_free false P Q f h = f h
+
+pub returns-in-Object : goal.returns-in-Object
+returns-in-Object c = c.unstored.ensures ∙ sym (ap (λ t. cause_of c.args.refs.now.names c.args.store.now.objects (c.args.name.now, seen t)) c.in-Object.is)
+
+pub returns-in-Ok : goal.returns-in-Ok
+returns-in-Ok c =
+    let names = c.args.refs.now.names in
+    let objects = c.args.store.now.objects in
+    let graph = graph_of objects in
+    let name = c.args.name.now in
+    let end = end_of names graph (name, seen c.args.target) in
+    let answers : AnswersUnless is_memory end c.peel_tags.result = subst (λ r. AnswersUnless is_memory (and_then r (through graph (map.len graph) [])) c.peel_tags.result) (sym c.in-Ok.ensures) c.peel_tags.ensures in
+    let same : cause_in objects end ≡ cause_of names objects (name, seen c.args.target) =
+    ap (λ t. cause_in objects (end_of names graph (name, seen t))) c.in-Symbolic.is ∙ sym (ap (λ t. cause_of names objects (name, seen t)) c.in-Symbolic.is) in
+    subst (λ x. IfOk c.told.result (λ cause. cause ≡ x)) same (c.told.ensures end answers)
+
+pub returns-in-Err : goal.returns-in-Err
+returns-in-Err c =
+    let names = c.args.refs.now.names in
+    let objects = c.args.store.now.objects in
+    let graph = graph_of objects in
+    let name = c.args.name.now in
+    let end = end_of names graph (name, seen c.args.target) in
+    let answers : OnFalse (is_memory c.in-Err.e) (end ≡ Err c.in-Err.e) =
+    unless_free (is_memory c.in-Err.e) (resolved names name (seen c.args.target) ≡ Err c.in-Err.e) (end ≡ Err c.in-Err.e) (λ is. ap (λ r. and_then r (through graph (map.len graph) [])) is) c.in-Err.ensures in
+    let same : cause_in objects end ≡ cause_of names objects (name, seen c.args.target) =
+    ap (λ t. cause_in objects (end_of names graph (name, seen t))) c.in-Symbolic.is ∙ sym (ap (λ t. cause_of names objects (name, seen t)) c.in-Symbolic.is) in
+    subst (λ x. IfOk c.told-in-Err.result (λ cause. cause ≡ x)) same (c.told-in-Err.ensures end answers)

@@ -1,0 +1,5 @@
+pub mod Pairs
+pub mod Finding
+pub mod Telling
+pub mod Bundles
+pub mod Refusals

@@ -1,0 +1,47 @@
+//! What findings and bundles say, in other words. Each law is the contract of a function without a body.
+
+ghost use Rattle.std.specs.Prelude.{◌≡◌, ◌↔◌, List, [], ℕ, Ok, Some, Contains, length};
+ghost use Rattle.std.specs.FinMap as map;
+ghost use Rattle.fetch_store.specs.declared.id.Kind.{Kind};
+ghost use Rattle.fetch_store.specs.declared.id.ObjectId.{ObjectId};
+ghost use Rattle.fetch_store.specs.declared.missing.Missing.{Missing};
+ghost use Rattle.fetch_store.specs.Closed.{AreAllOf, Holding, IsClosed};
+ghost use Rattle.fetch_store.specs.Graph.{Graph};
+ghost use Rattle.fetch_store.specs.Hashing as hashing;
+ghost use Rattle.fetch_store.specs.Missing.{unclosed};
+ghost use Rattle.fetch_pack.specs.Reading.{read};
+ghost use Rattle.fetch_pack.specs.Records.{Fits, body, payloads_of};
+ghost use Rattle.fetch_pack.specs.declared.version.PackVersion.TheVariants.{V2};
+ghost use Rattle.fetch_refs.specs.declared.target.Target.TheVariants.{Symbolic};
+ghost use Rattle.fetch_refs.specs.Names.{Names};
+ghost use Rattle.fetch_refs.specs.Peeled.{peeled};
+ghost use Rattle.fetch_reach.specs.Named.{AreObjects, AreOwnIds};
+ghost use Rattle.fetch_reach.specs.Stored.{objects_at};
+ghost use Rattle.fetch_check.specs.Bundles.{bundled, pack_of};
+ghost use Rattle.fetch_check.specs.Finding.{end_of, missing_pairs};
+ghost use Rattle.fetch_check.specs.Refusals.{AreReached};
+
+/// No link is told as missing exactly where the repository is closed.
+pub fn findings_are_none()
+    ensures { (h : Holding) → (missing_pairs h ≡ []) ↔ IsClosed h }
+{}
+
+/// Each link that is missing is told, and no other.
+pub fn each_missing_link_is_told()
+    ensures { (h : Holding) (link : Missing) → Contains (missing_pairs h) link ↔ Contains (unclosed h) link }
+{}
+
+/// What a symbolic reference leads to is what peeling its name answers.
+pub fn ends_are_what_peeling_answers()
+    ensures { (names : Names) (graph : Graph) (name target : List ℕ) → map.get names name ≡ Some (Symbolic target)
+        → end_of names graph (name, Symbolic target) ≡ peeled names graph name }
+{}
+
+/// The pack of what is bundled of a repository is read as the objects that are bundled, under their ids.
+pub fn bundled_packs_are_read()
+    ensures { (hash : Kind) (names : Names) (h : Holding) (ids : List ObjectId) →
+        AreAllOf hash h.objects → AreObjects h.objects → AreOwnIds h.objects → AreReached names h ids
+        → Fits V2 (payloads_of (objects_at h.objects ids)) →
+        read hash (pack_of (bundled hash names h ids)) ≡
+        Ok (record { objects = (bundled hash names h ids).objects; count = length ids; digest = hashing.digest hash (body V2 hash (payloads_of (objects_at h.objects ids))) }) }
+{}
