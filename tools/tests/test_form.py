@@ -12,7 +12,7 @@ TOOLS = os.path.join(os.path.dirname(os.path.abspath(__file__)), "..")
 
 def tool(name):
     """A tool as a module."""
-    module = name.replace("-", "_")
+    module = os.path.basename(name).replace("-", "_")
     loader = importlib.machinery.SourceFileLoader(module, os.path.join(TOOLS, name))
     found = importlib.util.module_from_spec(importlib.util.spec_from_loader(module, loader))
     sys.modules[module] = found
@@ -24,7 +24,7 @@ def tool(name):
     return found
 
 
-SURVEY, DEAD_NAMES = tool("survey"), tool("dead-names")
+SURVEY, DEAD_NAMES = tool("dev/survey"), tool("dev/dead-names")
 
 CODE = """\
 //! A file.
@@ -54,6 +54,72 @@ pub struct Line {
 fn seven(a: u8, b: u8, c: u8, d: u8, e: u8, f: u8, g: Map<u8, u8>) {}
 
 fn eight(a: u8, b: u8, c: u8, d: u8, e: u8, f: u8, g: u8, h: u8) {}
+
+pub(crate) fn six<R: Fn(u8, u8) -> Map<u8, u8>>(a: u8, b: &[u8; 2], c: (u8, u8), d: u8, e: u8, f: R) -> (u8, u8) {}
+
+pub(super) fn nine(
+    &self,
+    a: u8,
+    b: u8,
+    c: u8,
+    d: u8,
+    e: u8,
+    f: u8,
+    g: u8,
+    h: &mut dyn Fn(u8) -> u8,
+) -> Result<(), Map<u8, u8>>
+    requires { a, b }
+{}
+"""
+
+TYPES = """\
+/// It is copied.
+#[derive(Debug, Drop)]
+pub struct Copied<T> {
+    inside: T,
+}
+
+impl<T: TryClone> Copied<T> {
+    pub fn new() -> Copied<T> {}
+
+    /// The same.
+    pub fn try_clone(&self) -> Result<Copied<T>, NoMemory> {}
+}
+
+#[derive(Drop)]
+pub enum Cloned {
+    One,
+}
+
+impl TryClone for Cloned {
+    fn try_clone(&self) -> Result<Cloned, NoMemory> {}
+}
+
+/// It isn't.
+#[derive(Drop)]
+pub struct Uncopied {
+    inside: u8,
+}
+
+impl Uncopied {
+    pub fn new() -> Uncopied {}
+}
+
+// Not copied: it is handed on.
+#[derive(Drop)]
+pub struct Handed {
+    inside: u8,
+}
+
+#[derive(Drop)]
+pub struct Loan<'a> {
+    inside: &'a u8,
+}
+
+#[derive(Clone, Copy)]
+pub struct Plain {
+    inside: u8,
+}
 """
 
 
@@ -81,7 +147,18 @@ class Survey(unittest.TestCase):
 
     def test_a_reason_stands_for_the_arguments(self):
         self.assertEqual([each.partition(": ")[2] for each in SURVEY.functions("a.rt", self.lines)],
-                         ["eight has 8 arguments"])
+                         ["eight has 8 arguments", "nine has 9 arguments"])
+
+    def test_owning_types_that_cant_be_copied(self):
+        lines = [SURVEY.Line(number, text) for number, text in enumerate(TYPES.splitlines(), 1)]
+        copied = set(SURVEY.copied_in(lines))
+        self.assertEqual(copied, {"Copied", "Cloned"})
+        self.assertEqual([each.partition(": ")[2] for each in SURVEY.uncopied("a.rt", lines, copied)],
+                         ["Uncopied has no try_clone"])
+
+    def test_wide_lines(self):
+        lines = [SURVEY.Line(1, "x" * 140), SURVEY.Line(2, "≡" * 141)]
+        self.assertEqual(list(SURVEY.wide("A.antt", lines)), ["A.antt:2: 141 columns"])
 
     def test_definitions_without_a_comment(self):
         lines = [SURVEY.Line(number, text) for number, text in enumerate(DEFINITIONS.splitlines(), 1)]
@@ -89,14 +166,27 @@ class Survey(unittest.TestCase):
 
 
 class DeadNames(unittest.TestCase):
-    def test_what_is_named_and_not_there(self):
+    def dead(self, text):
+        """What is dead in a document, with its line."""
         with tempfile.TemporaryDirectory() as folder:
             document = os.path.join(folder, "README.md")
             with open(document, "w", encoding="utf-8") as file:
-                file.write("`Peer::send`, `Peer::lost`, `lines/line.rt`, `lines/no.rt`\n    `example`\n[a](none.md) docs/no.md\n")
-            found = DEAD_NAMES.dead_in(document, ["crates/a/src/lines/line.rt"], {"Peer", "send"})
-            self.assertEqual([each.partition(":")[2] for each in found],
-                             ["1: no name lost", "1: no file lines/no.rt", "3: no file none.md", "3: no file docs/no.md"])
+                file.write(text)
+            words = [{"Peer", "send"}, {"Files", "lost"}]
+            found = DEAD_NAMES.dead_in(document, ["crates/a/src/lines/line.rt"], words)
+            return [each.partition(":")[2].replace(f"{folder}/", "") for each in found]
+
+    def test_names_and_files(self):
+        text = "`Peer::send`, `Peer::gone`, `lines/line.rt`, `lines/no.rt`\n    `example` tools/no\n[a](none.md) docs/no.md\n"
+        self.assertEqual(self.dead(text), ["1: no name gone", "1: no file lines/no.rt", "2: no file tools/no",
+                                           "3: no file none.md", "3: no file docs/no.md"])
+
+    def test_names_that_stand_apart(self):
+        self.assertEqual(self.dead("`Files.lost` and `Peer::lost`\n"), ["1: no name Peer::lost"])
+
+    def test_headings(self):
+        text = "# One `two`, three\n[a](#one-two-three) [b](README.md#two)\n"
+        self.assertEqual(self.dead(text), ["2: no heading two in README.md"])
 
     def test_the_documents(self):
         self.addCleanup(os.chdir, os.getcwd())

@@ -88,15 +88,15 @@ class Fuzzed(unittest.TestCase):
     def test_a_fault_is_saved(self):
         with tempfile.TemporaryDirectory() as folder:
             words = ("6", "1", *DOUBLE, "--jobs", "2", "-o", folder)
-            status, told, _ = run("fuzz", *words)
+            status, told, _ = run("measure/fuzz", *words)
             saved = os.listdir(folder)
         self.assertEqual(status, 1)
         self.assertIn(f"6 scenes, {len(saved)} ended otherwise\n", told.decode())
         self.assertRegex(told, rb"scene \d+: lines with status 1, by \d+ bytes in ")
 
     def test_words(self):
-        self.assertEqual(run("fuzz", "1", "1", "--engine", "/no/program")[0], 5)
-        self.assertEqual(run("fuzz", "-1", "1")[0], 2)
+        self.assertEqual(run("measure/fuzz", "1", "1", "--engine", "/no/program")[0], 5)
+        self.assertEqual(run("measure/fuzz", "-1", "1")[0], 2)
 
 
 if __name__ == "__main__":

@@ -58,7 +58,7 @@ class Lines(unittest.TestCase):
         client = Client(self.line, {"refs/heads/line": self.ids[-1]}, "consecutive")
         with tempfile.TemporaryDirectory() as folder:
             path = os.path.join(folder, "scene")
-            self.assertEqual(tool("long-line", "20", "-o", path), (0, ""))
+            self.assertEqual(tool("measure/long-line", "20", "-o", path), (0, ""))
             with open(path, "rb") as file:
                 data = file.read()
         self.assertEqual(data, scene_of_line(client, windows_of(self.ids[::-1])).to_bytes())
@@ -83,13 +83,13 @@ class Lines(unittest.TestCase):
 
 class Rows(unittest.TestCase):
     def test_all_scenes_are_shown(self):
-        status, out = tool("show-rows")
+        status, out = tool("dev/show-rows")
         inputs, reports = (read_file(os.path.join(ROWS, name)) for name in ("stdin", "stdout"))
         others = len(re.findall(rb"^(\?|! \S+ \S+ \d+ )", inputs, flags=re.MULTILINE))
         self.assertGreater(others, 0)
         self.assertEqual((status, out.count("\n== status ")), (0, reports.count(b"\n== status ") - others))
 
     def test_rows_are_found_by_words(self):
-        status, out = tool("show-rows", "single", "bytes")
+        status, out = tool("dev/show-rows", "single", "bytes")
         self.assertEqual((status, out.count("\n== status ")), (0, 1))
         self.assertIn(f"\n{Mark.DELIMITER.value.decode()}\n0\n0\n0\ne\nv\n", out)

@@ -75,13 +75,13 @@ class Scenes(WithRepositories):
 
 class Compared(unittest.TestCase):
     def test_differences_are_told(self):
-        status, out, _ = run("compare-with-git", *DOUBLE, "--level", "plain", "4", "2", behaviour="forgets")
+        status, out, _ = run("measure/compare-with-git", *DOUBLE, "--level", "plain", "4", "2", behaviour="forgets")
         self.assertEqual(status, 1)
         self.assertIn(b"UNEXPLAINED", out)
 
     def test_wrong_words(self):
         for words in (["many"], ["-1"], ["1", "2", "3"], ["--level", "none"], ["--first", "x"]):
-            status, out, messages = run("compare-with-git", *words)
+            status, out, messages = run("measure/compare-with-git", *words)
             self.assertEqual((status, out, messages.count("\n")), (2, b"", 1))
 
     def test_reasons_are_titles_of_the_documents(self):
@@ -133,7 +133,7 @@ class LargeScenes(unittest.TestCase):
         for kind, count, objects in (("commits", 3, 4), ("references", 5, 2), ("blob", 70_000, 1)):
             with tempfile.TemporaryDirectory() as folder:
                 path = os.path.join(folder, "scene")
-                self.assertEqual(run("large-scene", kind, str(count), "-o", path), (0, b"", ""))
+                self.assertEqual(run("measure/large-scene", kind, str(count), "-o", path), (0, b"", ""))
                 with open(path, "rb") as file:
                     scene = read_scene(file.read())
             self.assertEqual((scene.objects, len(scene.received())), ([], objects))
@@ -141,8 +141,12 @@ class LargeScenes(unittest.TestCase):
 
 class Help(unittest.TestCase):
     def test_each_tool_tells_its_words(self):
-        for tool in ("scene-from-git", "apply-report", "compare-with-git", "compare-haves", "long-line", "large-scene",
-                     "cut-scene", "refuse-allocations", "show-rows"):
-            status, out, messages = run(tool, "--help")
-            self.assertEqual((status, messages), (0, ""))
-            self.assertIn(b"statuses:", out)
+        folders = [os.path.join(TOOLS, each) for each in ("", "measure", "dev")]
+        tools = [os.path.join(folder, each) for folder in folders for each in os.listdir(folder) if "." not in each]
+        tools = [each for each in tools if os.path.isfile(each) and not each.endswith("test-tools")]
+        self.assertGreater(len(tools), 14)
+        for tool in tools:
+            with self.subTest(tool):
+                status, out, messages = run(tool, "--help")
+                self.assertEqual((status, messages), (0, ""))
+                self.assertIn(b"statuses:", out)
