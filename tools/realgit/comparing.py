@@ -11,6 +11,7 @@ from realgit.report import Report
 from realgit.repository import Repository
 from realgit.scene import read_scene
 from realgit.server import Server
+from realgit.wire import local
 
 NOTHING = "nothing"
 REFUSAL, VERDICT, REFERENCE, BORDER = "refusal", "verdict", "reference", "border"
@@ -123,9 +124,9 @@ def scene_for(pair):
 def compare(pair, engine):
     """Fetches a pair by the engine, which changes nothing in it, and then by real Git."""
     scene = scene_for(pair)
-    server = Server(Repository(pair.server))
-    converse(scene, server, engine)
-    report = engine.fetch(scene.to_bytes())
+    server = Server(local(pair.server))
+    report = converse(scene, server, engine)
+    server.close()
     client, theirs = Repository(pair.client), Repository(pair.server).references()
     before, border = client.references(), client.border()
     return Fetched(pair, scene.to_bytes(), server.refusal, theirs, before, border, fetch(client, pair), report)

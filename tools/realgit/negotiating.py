@@ -60,6 +60,8 @@ class Client:
 class Stranger:
     """A server with one commit that the client doesn't have. It acknowledges nothing."""
 
+    refusal = None
+
     def greeting(self):
         return said("version 2", "ls-refs=unborn", "fetch=shallow plain-pack", "object-format=sha1")
 
@@ -91,8 +93,7 @@ def words_of(line):
 def asked_by_engine(client, engine, server=None):
     """The windows that the engine asks a server for, or the stranger."""
     scene = client.scene()
-    converse(scene, server or Stranger(), engine)
-    return asked_of(engine.fetch(scene.to_bytes()))
+    return asked_of(converse(scene, server or Stranger(), engine))
 
 
 def asked_by_git(folder, client, commits=(OTHER,)):

@@ -5,29 +5,30 @@ import tempfile
 
 from realgit.lines import MAX_PAYLOAD, Mark, encoded, pieces, placed_lines, text_of
 from realgit.plainpack import write_pack
-from realgit.repository import git, objects_in, run_git, why
+from realgit.repository import git, objects_in
 from realgit.trouble import BAD_INPUT, Trouble, read_file
 
 PACK_WORDS = {"plain-pack": 1, "plain-pack-2": 2}
 BUNDLES = (b"# v2 git bundle\n", b"# v3 git bundle\n")
-PROTOCOL = {"GIT_PROTOCOL": "version=2"}
+FORMAT = "object-format="
 
 
 class Server:
-    """A repository that is fetched from over version 2 of the protocol.
+    """A server that is fetched from over version 2 of the protocol.
 
-    `refusal` tells why it refused a request, once it did.
+    `told` is handed what it says of its progress, which isn't asked for where that is None. `refusal` tells why it refused
+    a request, once it did.
     """
 
-    def __init__(self, repository):
-        self.refusal = None
-        self.git_dir = repository.git_dir
-        self.hash_name = repository.hash_name()
+    def __init__(self, wire, told=None):
+        self._wire, self._told, self.refusal = wire, told, None
+        self._greeting = wire.greeting()
+        lines = [line for _, line in placed_lines(self._greeting) if isinstance(line, bytes)]
+        self.hash_name = next((text_of(line)[len(FORMAT):] for line in lines if text_of(line).startswith(FORMAT)), "sha1")
 
     def greeting(self):
         """The real greeting, with plain packs among the features of `fetch`."""
-        said = git(["upload-pack", "--http-backend-info-refs", self.git_dir], more=PROTOCOL)
-        return b"".join(encoded(_with_plain_packs(line)) for _, line in placed_lines(said))
+        return b"".join(encoded(_with_plain_packs(line)) for _, line in placed_lines(self._greeting))
 
     def answer(self, request):
         """The bytes that answer a request, which is its lines without the flush."""
@@ -36,15 +37,22 @@ class Server:
         if version is None:
             return self._said(request)
         asked = [line for line in request if isinstance(line, Mark) or text_of(line) not in PACK_WORDS]
-        return self._with_plain_pack(self._said([*asked, b"no-progress\n"]), version)
+        return self._with_plain_pack(self._said([*asked, b"no-progress\n"] if self._told is None else asked), version)
 
     def _said(self, request):
         """What real Git answers."""
-        given = b"".join(map(encoded, [*request, Mark.FLUSH]))
-        status, said, messages = run_git(["upload-pack", "--stateless-rpc", self.git_dir], given, PROTOCOL)
-        if status != 0:
-            self.refusal = why(messages)
+        said = self._wire.ask(request, self._hear)
+        if not said.endswith(Mark.FLUSH.value):
+            self.refusal = self._wire.why() or "the connection ended"
         return said
+
+    def _hear(self, line):
+        if self._told is not None and line[:1] == b"\2":
+            self._told(line[1:])
+
+    def close(self):
+        """Ends the connection."""
+        self._wire.close()
 
     def _with_plain_pack(self, said, version):
         """A reply of real Git, with the objects of its pack in a plain pack."""

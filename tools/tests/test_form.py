@@ -185,7 +185,7 @@ class DeadNames(unittest.TestCase):
         self.assertEqual(self.dead("`Files.lost` and `Peer::lost`\n"), ["1: no name Peer::lost"])
 
     def test_headings(self):
-        text = "# One `two`, three\n[a](#one-two-three) [b](README.md#two)\n"
+        text = "# One `send`, three\n[a](#one-send-three) [b](README.md#two)\n"
         self.assertEqual(self.dead(text), ["2: no heading two in README.md"])
 
     def test_the_documents(self):
