@@ -1,5 +1,6 @@
 """Random histories: commits, trees, blobs and tags, made from a seed alone."""
 
+from realgit.lines import decoded_text
 from realgit.plainpack import Object, object_id
 
 PERSON = "A U Thor <author@example.org>"
@@ -59,20 +60,30 @@ class History:
 
     def links(self):
         """What each commit and each tag names directly: a commit its parents, and a tag its object."""
-        return {each.id: _named(each) for each in self.objects if each.kind in ("commit", "tag")}
+        return links_of(self.objects)
 
     def reached(self, ids):
         """These ids with all commits and tags behind them."""
-        links, found, rest = self.links(), set(), list(ids)
-        while rest:
-            digits = rest.pop()
-            if digits not in found and digits is not None:
-                found.add(digits)
-                rest.extend(links.get(digits, []))
-        return found
+        return reached(self.links(), ids)
+
+
+def links_of(objects):
+    """What each commit and each tag of these objects names directly."""
+    return {each.id: _named(each) for each in objects if each.kind in ("commit", "tag")}
+
+
+def reached(links, ids):
+    """These ids with all that they lead to by links."""
+    found, rest = set(), list(ids)
+    while rest:
+        digits = rest.pop()
+        if digits not in found and digits is not None:
+            found.add(digits)
+            rest.extend(links.get(digits, []))
+    return found
 
 
 def _named(each):
-    head = each.data.decode().partition("\n\n")[0]
+    head = decoded_text(each.data).partition("\n\n")[0]
     word = "parent" if each.kind == "commit" else "object"
     return [line.partition(" ")[2] for line in head.split("\n") if line.startswith(f"{word} ")]

@@ -83,6 +83,13 @@ class Repository:
             return self.text("rev-parse", "--show-toplevel")
         return os.path.dirname(self.git_dir)
 
+    def abbreviated(self, ids):
+        """The commits among these ids, each with its digits that tell it from others."""
+        given = "".join(f"{digits}\n" for digits in ids).encode()
+        words = ["rev-list", "--no-walk=unsorted", "--ignore-missing", "--no-commit-header", "--format=%H %h", "--stdin"]
+        out = decoded_text(self.git(*words, given=given)) if ids else ""
+        return dict(line.split(" ") for line in out.splitlines())
+
     def references(self):
         """Each reference under `refs/`, and `HEAD`: an id in hex, or `@` and the name that it stands for."""
         direct = self.direct_references()
