@@ -118,12 +118,12 @@ def specs_of(asked, name, chosen):
 def _configure(repository, asked, name, address, specs):
     """Writes the section of the remote, as Git does: a bare clone has no refspecs, and a mirror says that it is one."""
     repository.git("config", f"remote.{name}.url", address)
+    if asked.no_tags:
+        repository.git("config", f"remote.{name}.tagOpt", "--no-tags")
     for spec in [] if asked.bare and not asked.mirror else specs:
         repository.git("config", "--add", f"remote.{name}.fetch", spec)
     if asked.mirror:
         repository.git("config", f"remote.{name}.mirror", "true")
-    if asked.no_tags:
-        repository.git("config", f"remote.{name}.tagOpt", "--no-tags")
 
 
 def _point_head(repository, remote, chosen, asked, name, address):

@@ -10,7 +10,7 @@ from realgit.client import remote_of, scene_of
 from realgit.conversation import converse
 from realgit.history import links_of, reached
 from realgit.lines import decoded_text, placed_lines, text_of
-from realgit.refspecs import forced, is_from, sides, tracking
+from realgit.refspecs import brings, forced, is_from, sides, tracking
 from realgit.server import Server
 from realgit.telling import IGNORED, MERGE, NOT_FOR_MERGE, Told
 from realgit.trouble import BAD_WORDS, DIFFERENT, DONE, GIT_REFUSED, Trouble, write_file
@@ -23,7 +23,7 @@ INFINITE = 2147483647
 
 @dataclass
 class Manner:
-    """How a fetch is made: what is said while it is, and what is left undone."""
+    """How a fetch is made: what is said while it is, and what is left undone. A dry one is made whole, and not written."""
 
     verbosity: int = 0
     has_progress: bool = False
@@ -82,7 +82,7 @@ def inquiry_of(repository, word, specs, is_forced):
         extra = [each for spec in specs for each in tracking(spec, configured)]
         found = Inquiry(address, name, specs, specs, extra, tags=tags)
     elif configured or merges:
-        lone = [merge for merge in merges if not any(is_from(spec, merge, "") for spec in configured)]
+        lone = [merge for merge in merges if not any(brings(spec, merge) for spec in configured)]
         found = Inquiry(address, name, configured + lone, lone, merges=merges, tags=tags)
         if not merges and configured and "*" not in configured[0]:
             found.given = configured[:1]
@@ -118,7 +118,7 @@ def fetch_from(server, repository, inquiry, manner, engine, action):
     """The same from a server that is connected."""
     scene = scene_of(repository)
     scene.address, scene.specs, scene.extra, scene.tags = inquiry.address, inquiry.specs, inquiry.extra, inquiry.tags
-    scene.options = [*inquiry.options, f"action {' '.join(action.split())}", *(["dry-run"] if manner.is_dry else [])]
+    scene.options = [*inquiry.options, f"action {' '.join(action.split())}"]
     report = conversed(scene, server, engine, manner.updates_shallow)
     if report is None:
         return DONE

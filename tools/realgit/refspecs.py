@@ -16,10 +16,21 @@ def forced(spec):
 
 def is_from(spec, source, destination):
     """Whether a mapping of these names comes from a refspec."""
-    if spec.startswith("^"):
-        return False
     pattern, to = sides(spec)
-    return (to is None) == (destination is None) and middle(pattern, source) is not None
+    taken = None if spec.startswith("^") else middle(pattern, source)
+    return taken is not None and destination == (None if to is None else _full(to.replace("*", taken)))
+
+
+def _full(destination):
+    """A destination as the engine completes it."""
+    if destination.startswith("refs/"):
+        return destination
+    return f"refs/{destination}" if destination.startswith(("heads/", "tags/", "remotes/")) else f"refs/heads/{destination}"
+
+
+def brings(spec, source):
+    """Whether a refspec brings a name, wherever it leads."""
+    return not spec.startswith("^") and middle(sides(spec)[0], source) is not None
 
 
 def middle(pattern, name):
@@ -33,13 +44,15 @@ def middle(pattern, name):
 
 
 def tracking(spec, configured):
-    """The refspecs by which what a refspec without destination brings goes where the configured ones lead it too."""
-    source, destination = sides(spec)
-    if destination is not None or spec.startswith("^") or source == "HEAD":
-        return
+    """The refspecs by which what one refspec brings goes where the configured ones lead it, too."""
+    source = sides(spec)[0]
     name = source if source.startswith("refs/") else f"refs/heads/{source}"
-    for each in configured:
+    for each in configured if source != "HEAD" and not spec.startswith("^") else []:
         pattern, to = sides(each)
-        taken = None if each.startswith("^") or to is None else middle(pattern, name)
+        if to is None or each.startswith("^"):
+            continue
+        taken = middle(pattern, name)
         if taken is not None:
             yield f"{'+' if each.startswith('+') else ''}{name}:{to.replace('*', taken)}"
+        elif middle(name, pattern) is not None:
+            yield each

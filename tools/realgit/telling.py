@@ -70,7 +70,7 @@ def lines(told, address, abbreviated, is_verbose, tells_head):
     ids = [digits for each in told for digits in (each.old, each.new) if digits]
     summary = 2 * max([ABBREVIATED, *(len(abbreviated.get(digits, "")) for digits in ids)]) + 3
     found = [_line(each, abbreviated, width, summary) for each in told
-             if (each.destination or tells_head and each.is_for != IGNORED) and (is_verbose or each.mode != "up-to-date")]
+             if (is_verbose or each.mode != "up-to-date" if each.destination else tells_head and each.is_for != IGNORED)]
     return [f"From {trimmed(address)}", *found] if found else []
 
 

@@ -28,7 +28,7 @@ class Wire:
 
     def greeting(self):
         """What the server says first."""
-        said = self._read(lambda line: None)
+        said = lines_from(self._reader)
         if not said.startswith(encoded(b"version 2\n")):
             raise Trouble(GIT_REFUSED, self.why() or "the server doesn't speak version 2 of the protocol")
         return said
@@ -40,22 +40,10 @@ class Wire:
             self._writer.flush()
         except BrokenPipeError:
             return b""
-        said = self._read(heard)
+        said = lines_from(self._reader, heard)
         if self._is_helper and said.endswith(Mark.FLUSH.value) and self._reader.read(4) != RESPONSE_END:
             raise Trouble(GIT_REFUSED, "git's helper of HTTP ended within a reply")
         return said
-
-    def _read(self, heard):
-        """The lines up to a flush, or to the end of what comes."""
-        said = []
-        while True:
-            digits = self._reader.read(4)
-            length = int(digits, 16) if re.fullmatch(rb"[0-9a-fA-F]{4}", digits) else 0
-            data = self._reader.read(max(length - 4, 0))
-            said += [digits, data]
-            if length < 4 and digits != Mark.DELIMITER.value:
-                return b"".join(said)
-            heard(data)
 
     def why(self):
         """What the process behind it said of its end, or None."""
@@ -75,6 +63,19 @@ class Wire:
             self._process.wait()
         if self._messages is not None:
             self._messages.close()
+
+
+def lines_from(reader, heard=lambda line: None):
+    """The bytes of the lines up to a flush with it, or up to the end of what comes. Each line is handed on as it comes."""
+    said = []
+    while True:
+        digits = reader.read(4)
+        length = int(digits, 16) if re.fullmatch(rb"[0-9a-fA-F]{4}", digits) else 0
+        data = reader.read(max(length - 4, 0))
+        said += [digits, data]
+        if length < 4 and digits != Mark.DELIMITER.value:
+            return b"".join(said)
+        heard(data)
 
 
 def connect(address, name=""):
