@@ -2,8 +2,11 @@
 
 import os
 import re
+import signal
+import socket
 import subprocess
 import tempfile
+import time
 import unittest
 
 from common import ALONE, TOOLS
@@ -25,7 +28,7 @@ class WithServer(unittest.TestCase):
     def setUp(self):
         folder = tempfile.TemporaryDirectory()
         self.addCleanup(folder.cleanup)
-        self.folder, self.clock = folder.name, BEGIN
+        self.folder, self.clock, self.more = folder.name, BEGIN, {}
         self.server = self.path("server.git")
         self.git(None, "init", "-q", "-b", "main", self.path("work"))
         for number in range(1, 5):
@@ -41,7 +44,7 @@ class WithServer(unittest.TestCase):
         self.clock += 60
         path = {"PATH": f"{TOOLS}{os.pathsep}{os.environ['PATH']}", "BAGJULEN": BUILT, "LC_ALL": "C", "COLUMNS": "80"}
         dates = {f"GIT_{who}_DATE": f"@{self.clock} +0000" for who in ("AUTHOR", "COMMITTER")}
-        return {**os.environ, **ALONE, **AUTHOR, **dates, **path}
+        return {**os.environ, **ALONE, **AUTHOR, **dates, **path, **self.more}
 
     def run_git(self, client, *words):
         ended = subprocess.run(["git", *words], cwd=client or self.folder, capture_output=True, env=self.environment())
@@ -164,6 +167,35 @@ class Fetched(WithServer):
             self.git(self.path(client), "remote", "set-url", "origin", f"{address}/server.git")
         self.assertEqual(self.assert_alike(), 0)
         self.assertEqual(self.assert_alike("--depth", "1", "-n"), 0)
+
+    def test_over_ssh(self):
+        """The command that stands for `ssh` runs the last of its words here."""
+        path = self.path("ssh")
+        with open(path, "w", encoding="utf-8") as file:
+            file.write('#!/bin/sh\nfor word; do last=$word; done\nexec sh -c "$last"\n')
+        os.chmod(path, 0o755)
+        self.clients()
+        for word, command in (("GIT_SSH_COMMAND", f"{path} -x"), ("GIT_SSH", path)):
+            for address in (f"host:{self.server}", f"ssh://user@host:22{self.server}"):
+                self.more = {word: command}
+                self.commit(f"{word} {address[:5]}".replace("/", ""))
+                self.push()
+                self.assertEqual(self.assert_alike(address, "+refs/heads/*:refs/ssh/*"), 0)
+
+    def test_over_a_socket(self):
+        with socket.create_server(("127.0.0.1", 0)) as found:
+            port = found.getsockname()[1]
+        daemon = subprocess.Popen(["git", "daemon", "--listen=127.0.0.1", f"--port={port}", "--export-all", "--reuseaddr",
+                                   f"--base-path={self.folder}"], stderr=subprocess.DEVNULL, process_group=0)
+        self.addCleanup(daemon.wait)
+        self.addCleanup(os.killpg, daemon.pid, signal.SIGTERM)
+        self.clients()
+        self.move()
+        for _ in range(100):
+            if subprocess.run(["git", "ls-remote", f"git://127.0.0.1:{port}/server.git"], capture_output=True).returncode == 0:
+                break
+            time.sleep(0.1)
+        self.assertEqual(self.assert_alike(f"git://127.0.0.1:{port}/server.git", "+refs/heads/*:refs/socket/*"), 0)
 
     def test_progress_is_handed_through(self):
         self.clients()
