@@ -9,7 +9,7 @@ from realgit.fetching import Inquiry
 from realgit.lines import Mark, placed_lines, text_of
 from realgit.repository import Repository, git
 from realgit.server import Server
-from realgit.trouble import BAD_INPUT, DONE, Trouble
+from realgit.trouble import BAD_INPUT, DONE, GIT_REFUSED, Trouble
 from realgit.wire import connect
 
 LISTING = [b"command=ls-refs\n", Mark.DELIMITER, b"peel\n", b"symrefs\n", b"unborn\n", b"ref-prefix HEAD\n",
@@ -23,6 +23,8 @@ class Remote:
     def __init__(self, server):
         format_line = f"object-format={server.hash_name}\n".encode()
         said = server.answer([LISTING[0], format_line, *LISTING[1:]])
+        if server.refusal is not None:
+            raise Trouble(GIT_REFUSED, server.refusal)
         lines = [text_of(line).split(" ") for _, line in placed_lines(said) if isinstance(line, bytes)]
         self.ids = {name: digits for digits, name, *_ in lines}
         marks = {mark.partition(":")[0]: mark.partition(":")[2] for _, name, *more in lines if name == "HEAD" for mark in more}

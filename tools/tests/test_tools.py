@@ -149,4 +149,4 @@ class Help(unittest.TestCase):
             with self.subTest(tool):
                 status, out, messages = run(tool, "--help")
                 self.assertEqual((status, messages), (0, ""))
-                self.assertIn(b"statuses:", out)
+                self.assertIn(b"statuses:", out.lower())
