@@ -14,7 +14,7 @@ from realgit.wire import connect
 
 LISTING = [b"command=ls-refs\n", Mark.DELIMITER, b"peel\n", b"symrefs\n", b"unborn\n", b"ref-prefix HEAD\n",
            b"ref-prefix refs/heads/\n", b"ref-prefix refs/tags/\n"]
-BRANCHES, TAGS = "refs/heads/", "refs/tags/"
+BRANCHES, TAGS, TARGET = "refs/heads/", "refs/tags/", "symref-target:"
 
 
 class Remote:
@@ -27,8 +27,8 @@ class Remote:
             raise Trouble(GIT_REFUSED, server.refusal)
         lines = [text_of(line).split(" ") for _, line in placed_lines(said) if isinstance(line, bytes)]
         self.ids = {name: digits for digits, name, *_ in lines}
-        marks = {mark.partition(":")[0]: mark.partition(":")[2] for _, name, *more in lines if name == "HEAD" for mark in more}
-        self.head = marks.get("symref-target")
+        marks = [mark for _, name, *more in lines if name == "HEAD" for mark in more]
+        self.head = next((mark.removeprefix(TARGET) for mark in marks if mark.startswith(TARGET)), None)
 
     def is_empty(self):
         """Whether it has no commit."""

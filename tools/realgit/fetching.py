@@ -70,12 +70,13 @@ def inquiry_of(repository, word, specs, is_forced):
     entries = list(repository.entries())
     last = dict(entries)
     own = last.get(f"branch.{branch}.remote")
-    names = {key.split(".", 1)[1].rpartition(".")[0] for key, _ in entries if key.startswith("remote.") and key.count(".") > 1}
+    remotes = (key.split(".", 1)[1].rpartition(".")[0] for key, _ in entries if key.startswith("remote."))
+    names = set(filter(None, remotes))
     word = word or own or (next(iter(names)) if len(names) == 1 else "origin")
     name = word if word in names else None
     configured, tags = remote_of(repository, word) if name else ([], "included")
     merges = [value for key, value in entries if key == f"branch.{branch}.merge" and own == word and value]
-    address = repository.text("ls-remote", "--get-url", word)
+    address = repository.text("ls-remote", "--get-url", "--", word)
     if last.get("fetch.prune") == "true" or last.get(f"remote.{word}.prune") == "true":
         print("warning: git bagjulen doesn't prune", file=sys.stderr)
     if specs:

@@ -29,11 +29,14 @@ class LockedFile:
 
     def take(self):
         """Takes the lock, which nobody may hold."""
-        os.makedirs(os.path.dirname(self.path), exist_ok=True)
         try:
+            os.makedirs(os.path.dirname(self.path), exist_ok=True)
             os.link(self.own, self.lock)
-        except FileExistsError:
-            raise Trouble(GIT_REFUSED, f"{self.lock} stands: another process is at work there, or was killed") from None
+        except OSError as error:
+            why = f"can't be made: {error.strerror}"
+            if os.path.exists(self.lock):
+                why = "stands: another process is at work there, or was killed"
+            raise Trouble(GIT_REFUSED, f"{self.lock} {why}") from None
 
     def put(self):
         """Puts the new text in the place of the old one, and gives the lock back."""

@@ -2,7 +2,7 @@
 
 from dataclasses import dataclass, field
 
-from realgit.lines import Mark, decoded_text, encoded, pieces, text_line
+from realgit.lines import Mark, decoded_text, encoded, text_line
 from realgit.plainpack import Object, object_id, write_pack
 from realgit.scene import Scene
 from realgit.trouble import ENGINE_FAILED, Trouble

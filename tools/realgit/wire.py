@@ -81,6 +81,8 @@ def lines_from(reader, heard=lambda line: None):
 def connect(address, name=""):
     """The connection with the server of an address, as `git fetch` takes addresses; a name is that of the remote."""
     scheme = SCHEME.match(address)
+    if address.startswith("-"):
+        raise Trouble(BAD_INPUT, f"strange pathname '{address}' blocked")
     if HELPER.match(address) or scheme and scheme[1] not in WAYS:
         raise Trouble(BAD_INPUT, f"the transport '{(HELPER.match(address) or scheme)[1]}' isn't supported")
     if scheme:

@@ -14,6 +14,7 @@ from http_backend import served
 from realgit.engine import BUILT
 from realgit.repository import Repository
 from realgit.telling import anonymous, trimmed
+from realgit.trouble import read_file
 
 IS_BUILT = os.access(BUILT, os.X_OK)
 AUTHOR = {"GIT_AUTHOR_NAME": "A", "GIT_AUTHOR_EMAIL": "a@x", "GIT_COMMITTER_NAME": "A", "GIT_COMMITTER_EMAIL": "a@x"}
@@ -101,7 +102,8 @@ class WithServer(unittest.TestCase):
                     logs[name] = [re.sub(r"> \d+ ", "> ", line).replace("storing head", "storing ref") for line in lines]
         head = os.path.join(folder, "FETCH_HEAD")
         fetched = open(head, encoding="utf-8").read() if os.path.exists(head) else None
-        return repository.references(), repository.border(), self.git(self.path(client), "log", "--all", "--format=%H %P"), fetched, logs
+        history = self.git(self.path(client), "log", "--all", "--format=%H %P")
+        return repository.references(), repository.border(), history, fetched, logs
 
     def assert_alike(self, *words):
         """Fetches by both, and compares all."""
@@ -236,8 +238,8 @@ class Cloned(WithServer):
         folder = "" if {"--bare", "--mirror"} & set(words) else ".git"
         self.assertEqual(self.state("ours", False), self.state("theirs", False), words)
         for file in ("config", "HEAD"):
-            ours, theirs = (open(os.path.join(self.path(each), folder, file), encoding="utf-8").read() for each in ("ours", "theirs"))
-            self.assertEqual(ours, theirs)
+            paths = (os.path.join(self.path(each), folder, file) for each in ("ours", "theirs"))
+            self.assertEqual(*map(read_file, paths))
         if folder:
             self.assertEqual(*(self.git(self.path(each), "status", "--porcelain", "-b") for each in ("ours", "theirs")))
         self.git(self.path("ours"), "fsck", "--strict")
@@ -245,7 +247,8 @@ class Cloned(WithServer):
 
     def test_words(self):
         for words in ([], ["--bare"], ["--mirror"], ["-n"], ["-o", "up"], ["-b", "side"], ["-b", "v1"], ["--no-tags"],
-                      ["--single-branch"], ["--depth", "1"], ["--depth", "2", "--no-single-branch"], ["-q", "--depth", "1", "-b", "side"]):
+                      ["--single-branch"], ["--depth", "1"], ["--depth", "2", "--no-single-branch"],
+                      ["-q", "--depth", "1", "-b", "side"]):
             with self.subTest(words):
                 self.setUp()
                 self.move()

@@ -49,7 +49,8 @@ class Statuses(unittest.TestCase):
         self.assertEqual(self.ended(["fetch"], stdin=folder), (2, b""))
 
     def test_output_fails(self):
-        for words, given in ((["fetch"], read_file(SCENE)), (["race"], read_file(RACE)), (["bench", "3"], b""), (["--help"], b"")):
+        scene, race = read_file(SCENE), read_file(RACE)
+        for words, given in ((["fetch"], scene), (["race"], race), (["bench", "3"], b""), (["--help"], b"")):
             with open("/dev/full", "wb") as full:
                 self.assertEqual(self.ended(words, given, stdout=full)[0], 3, words)
 
