@@ -33,11 +33,17 @@ def apply(repository, scene, report, committer=None, reached=lambda step: None):
         refuse_changed_border(*border, standing)
     objects = lacking(repository, scene, report)
     with ExitStack() as stack:
-        changes = [BorderChange(repository, *border)] if border_moves else []
+        changes = []
+
+        def begin(change):
+            stack.callback(change.end)
+            changes.append(change)
+
+        if border_moves:
+            begin(BorderChange(repository, *border))
         _step(reached, "objects", lambda: store(repository, objects, changes[0].file if changes else None))
-        changes += changes_of(repository, moves, committer or {})
-        for each in changes:
-            stack.callback(each.end)
+        for each in changes_of(repository, moves, committer or {}):
+            begin(each)
         try:
             for each in changes:
                 _step(reached, f"prepare {each.name}", each.prepare)
