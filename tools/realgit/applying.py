@@ -5,7 +5,7 @@ compared with the scene. What commits the changes is a process that outlives the
 and references all as they were, or all changed.
 """
 
-from contextlib import ExitStack
+from contextlib import ExitStack, closing
 
 from realgit.changing import BorderChange, changes_of
 from realgit.gitpack import store
@@ -33,17 +33,10 @@ def apply(repository, scene, report, committer=None, reached=lambda step: None):
         refuse_changed_border(*border, standing)
     objects = lacking(repository, scene, report)
     with ExitStack() as stack:
-        changes = []
-
-        def begin(change):
-            stack.callback(change.end)
-            changes.append(change)
-
-        if border_moves:
-            begin(BorderChange(repository, *border))
+        changes = [stack.enter_context(closing(BorderChange(repository, *border)))] if border_moves else []
         _step(reached, "objects", lambda: store(repository, objects, changes[0].file if changes else None))
         for each in changes_of(repository, moves, committer or {}):
-            begin(each)
+            changes.append(stack.enter_context(closing(each)))
         try:
             for each in changes:
                 _step(reached, f"prepare {each.name}", each.prepare)
@@ -73,7 +66,7 @@ def _commit(changes, reached):
         raise
     finally:
         for each in changes:
-            each.end()
+            each.close()
 
 
 def lacking(repository, scene, report):
