@@ -5,7 +5,7 @@ compared with the scene. What commits the changes is a process that outlives the
 and references all as they were, or all changed.
 """
 
-from contextlib import ExitStack
+from contextlib import ExitStack, closing
 
 from realgit.changing import BorderChange, changes_of
 from realgit.gitpack import store
@@ -33,11 +33,10 @@ def apply(repository, scene, report, committer=None, reached=lambda step: None):
         refuse_changed_border(*border, standing)
     objects = lacking(repository, scene, report)
     with ExitStack() as stack:
-        changes = [BorderChange(repository, *border)] if border_moves else []
+        changes = [stack.enter_context(closing(BorderChange(repository, *border)))] if border_moves else []
         _step(reached, "objects", lambda: store(repository, objects, changes[0].file if changes else None))
-        changes += changes_of(repository, moves, committer or {})
-        for each in changes:
-            stack.callback(each.end)
+        for each in changes_of(repository, moves, committer or {}):
+            changes.append(stack.enter_context(closing(each)))
         try:
             for each in changes:
                 _step(reached, f"prepare {each.name}", each.prepare)
@@ -67,7 +66,7 @@ def _commit(changes, reached):
         raise
     finally:
         for each in changes:
-            each.end()
+            each.close()
 
 
 def lacking(repository, scene, report):

@@ -1,7 +1,7 @@
 """What is changed in a repository in two steps: all of it is prepared, and then all of it is committed.
 
 `prepare` takes the locks and looks whether what is there may be changed. `commit` changes it, and where `undo` isn't None
-it puts back what was committed. `end` gives back what is held; what wasn't committed is as it was.
+it puts back what was committed. `close` gives back what is held; what wasn't committed is as it was.
 """
 
 import os
@@ -42,10 +42,10 @@ class BorderChange:
             file.take()
             file.put()
         finally:
-            file.end()
+            file.close()
 
-    def end(self):
-        self._file.end()
+    def close(self):
+        self._file.close()
 
 
 class Transaction:
@@ -74,7 +74,7 @@ class Transaction:
         self._say("commit")
         self._hear("commit: ok")
 
-    def end(self):
+    def close(self):
         try:
             self._git.stdin.close()
         except BrokenPipeError:
@@ -113,6 +113,8 @@ class SymbolicChange:
         self._file = LockedFile(repository.common_dir, repository.place(move.name), encoded_text(f"ref: {move.new[1:]}\n"))
 
     def prepare(self):
+        if self._move.log is not None:
+            self._who = decoded_text(self._repository.git("var", "GIT_COMMITTER_IDENT", more=self._committer)).rstrip("\n")
         self._file.take()
 
     def commit(self):
@@ -121,14 +123,13 @@ class SymbolicChange:
         self._file.put()
 
     def _write_log(self, log):
-        who = decoded_text(self._repository.git("var", "GIT_COMMITTER_IDENT", more=self._committer)).rstrip("\n")
         path = self._repository.log_place(log.name)
         os.makedirs(os.path.dirname(path), exist_ok=True)
         with open(path, "ab") as file:
-            file.write(encoded_text(f"{log.old} {log.new} {who}\t{log.message}\n"))
+            file.write(encoded_text(f"{log.old} {log.new} {self._who}\t{log.message}\n"))
 
-    def end(self):
-        self._file.end()
+    def close(self):
+        self._file.close()
 
 
 def changes_of(repository, moves, committer):

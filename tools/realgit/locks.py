@@ -47,7 +47,7 @@ class LockedFile:
             os.remove(self.path)
         os.remove(self.lock)
 
-    def end(self):
+    def close(self):
         """Gives back what is still held. A lock of another one stays."""
         for path in (self.lock, self.own):
             if _identity_at(path) == self._identity:

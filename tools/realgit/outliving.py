@@ -14,8 +14,12 @@ def outlive(work):
     reader, writer = os.pipe()
     process = os.fork()
     if process == 0:
-        os.close(reader)
-        os._exit(_alone(work, writer))
+        status = GIT_REFUSED
+        try:
+            os.close(reader)
+            status = _alone(work, writer)
+        finally:
+            os._exit(status)
     os.close(writer)
     before = signal.signal(signal.SIGINT, signal.SIG_IGN)
     with open(reader, "rb") as file:

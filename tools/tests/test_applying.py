@@ -171,6 +171,14 @@ class Moved(WithMoves):
         self.assertEqual(Repository(self.client).border(), self.border)
         return caught.exception
 
+    def test_objects_that_are_refused(self):
+        """The file in which the border waits goes, too."""
+        self.write(self.after, [], [])
+        git(["-C", self.client, "config", "fetch.fsckObjects", "many"])
+        self.assert_line(self.apply(), GIT_REFUSED, "bad boolean config value")
+        self.assert_clear()
+        self.assertEqual((self.references(), Repository(self.client).border()), (self.before, self.border))
+
     def test_a_change_after_the_first_look(self):
         trouble = self.meanwhile("after objects", "update-ref", MAIN, self.before[OWN])
         self.assertEqual(trouble.status, CHANGED)
