@@ -3,3 +3,4 @@ pub mod Unreached
 pub mod Told
 pub mod Lines
 pub mod Bundling
+pub mod Digits

@@ -3,3 +3,4 @@ pub mod Finding
 pub mod Telling
 pub mod Bundles
 pub mod Refusals
+pub mod Scanning
