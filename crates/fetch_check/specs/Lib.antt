@@ -4,3 +4,4 @@ pub mod Telling
 pub mod Bundles
 pub mod Refusals
 pub mod Scanning
+pub mod Payloads

@@ -8,6 +8,7 @@ mod findings;
 pub mod laws;
 mod leaving;
 mod missing;
+mod payloads;
 mod scanning;
 mod telling;
 mod writing;

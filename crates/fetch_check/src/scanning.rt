@@ -31,7 +31,7 @@ pub(crate) fn written_line(place: usize, bytes: &[u8]) -> Result<(LineRef<'_>, u
     }
 }
 
-fn has_capital(digits: &[u8]) -> bool
+pub(crate) fn has_capital(digits: &[u8]) -> bool
     ensures { result ≡ list_any is_ascii_uppercase digits.now }
 {
     digits.iter().any(|c| c.is_ascii_uppercase())
