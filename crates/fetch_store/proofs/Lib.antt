@@ -46,3 +46,4 @@ pub mod Silent
 pub mod Rooted
 pub mod Apart
 pub mod Copies
+pub mod HexTables

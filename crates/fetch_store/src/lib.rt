@@ -21,6 +21,7 @@ mod fronts;
 mod grammar;
 mod graph;
 mod hashing;
+mod hex_digits;
 mod id;
 mod iter;
 pub mod laws;
