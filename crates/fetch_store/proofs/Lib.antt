@@ -47,3 +47,4 @@ pub mod Rooted
 pub mod Apart
 pub mod Copies
 pub mod HexTables
+pub mod FrontPlaces
