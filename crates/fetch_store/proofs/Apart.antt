@@ -1,5 +1,5 @@
 -- Ids of a list in which none stands twice: each comes for the first time.
-use Rattle.std.proofs.Common.{◌≡◌, ◌≢◌, ℕ, ◌<◌, length, get_or, take, None, sym, ap, ◌∙◌, arith}
+use Rattle.std.proofs.Common.{◌≡◌, ℕ, ◌<◌, length, get_or, take, None, sym, ap, ◌∙◌, arith}
 use Rattle.std.proofs.lemmas.List.{get_or_default, get_or-take, length-take}
 use Rattle.std.specs.FinMap.{find}
 use Rattle.fetch_store.specs.declared.id.ObjectId.{ObjectId}

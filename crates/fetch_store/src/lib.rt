@@ -46,7 +46,7 @@ mod walk;
 pub use appending::{append_hex, append_number};
 pub use border::{Border, ascending};
 pub use calls::Calls;
-pub use cloning::TryClone;
+pub use cloning::{TryClone, copy_slice};
 pub use copying::copy_from;
 pub use counter::Steps;
 pub use digits::{decimal, is_decimal};

@@ -1,13 +1,12 @@
 //! What a take would leave missing.
 
-ghost use Rattle.std.specs.Prelude.{◌≡◌, IfOk, slice_get, option_map};
+ghost use Rattle.std.specs.Prelude.{◌≡◌, IfOk, slice_get};
 ghost use Rattle.std.specs.FinMap as map;
 ghost use Rattle.std.specs.FinSet as set;
-ghost use Rattle.std.specs.Option.{option_copied};
 ghost use Rattle.fetch_store.specs.Borders.{merged};
 ghost use Rattle.fetch_store.specs.Closed.{holding};
 ghost use Rattle.fetch_store.specs.Missing as spec;
-ghost use Rattle.fetch_store.specs.References.{seen, pack_of};
+ghost use Rattle.fetch_store.specs.References.{pack_of};
 ghost use Rattle.fetch_store.specs.Stores.{add_all, id_cmp};
 
 use crate::border::{Border, border_from};

@@ -1,4 +1,4 @@
-use Rattle.std.proofs.Common.{◌≡◌, ℕ, get_or, refl, sym, ap, ◌∙◌}
+use Rattle.std.proofs.Common.{ℕ, get_or, refl, sym, ap, ◌∙◌}
 use Rattle.std.specs.Option.{option_copied}
 use Rattle.fetch_store.proofs.FrontPlaces.{found, absent, other}
 use Rattle.fetch_store.proofs.fronts.find_by_front.Goals as goal
