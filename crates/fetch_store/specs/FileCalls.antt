@@ -1,6 +1,7 @@
 -- What calls of files answer and leave, where the files tell their tree, and which faults they count. `asked` is what a tree answers to the
 -- call: None where it refuses it.
-use Rattle.std.specs.Prelude.{◌≡◌, ℕ, Bool, true, false, Option, Some, None, Result, Ok, Err, IfSome, IsErr, IsErrOf, OnErr, MatchResult, Contains, is_some}
+use Rattle.std.specs.Prelude.{◌≡◌, ℕ, Bool, true, false, Option, Some, None, is_some, IfSome, Contains}
+use Rattle.std.specs.Prelude.{Result, Ok, Err, IsErr, IsErrOf, OnErr, MatchResult}
 use Rattle.std.specs.Option.{ok_or}
 use Rattle.fetch_store.specs.Answers.{AnswersBy}
 use Rattle.fetch_store.specs.Calls.{CallList, one_more}
@@ -58,7 +59,8 @@ is_memory errors.Failed = false
 is_memory errors.NoMemory = true
 
 -- A call that asks: it fails where it is listed, and else it answers what the tree does, unless memory runs out.
-pub record IsAnswered {X Y : Type 0} (view : X → Y) (before after : MemoryTree) (asked : Tree → Option Y) (result : Result X FileError) : Type 0 where
+pub record IsAnswered {X Y : Type 0} (view : X → Y) (before after : MemoryTree)
+    (asked : Tree → Option Y) (result : Result X FileError) : Type 0 where
   pub listed : IsListed before.calls → IsErrOf result errors.Failed
   pub answer : ¬ IsListed before.calls → AnswersBy view is_memory (ok_or (asked before.tree) errors.Failed) result
   pub same : after.tree ≡ before.tree

@@ -37,7 +37,8 @@ pub trait Files {
         ensures cause { IsErrOf result FileError.Failed → Rose (faults self.old) (faults self.new) }
         ensures failed { (faults self.new).count ≡ failed_after (faults self.old).count result }
         ensures tree { Asks (λ kind. kind) (told self.old) (told self.new) (λ t. kind_in t (parts_of path.now)) result }
-        ensures in_the_way { IsErrOf result FileError.Failed → IsRefused (may_fail self.old) (told self.old) (λ t. kind_in t (parts_of path.now)) }
+        ensures in_the_way { IsErrOf result FileError.Failed
+            → IsRefused (may_fail self.old) (told self.old) (λ t. kind_in t (parts_of path.now)) }
         ensures may_fail { may_fail self.new ≡ may_fail self.old };
 
     /// The names in the directory, ascending. `Failed` where no directory stands at the path.
@@ -46,7 +47,8 @@ pub trait Files {
         ensures cause { IsErrOf result FileError.Failed → Rose (faults self.old) (faults self.new) }
         ensures failed { (faults self.new).count ≡ failed_after (faults self.old).count result }
         ensures tree { Asks (λ names. names.items) (told self.old) (told self.new) (λ t. names_in t (parts_of path.now)) result }
-        ensures in_the_way { IsErrOf result FileError.Failed → IsRefused (may_fail self.old) (told self.old) (λ t. names_in t (parts_of path.now)) }
+        ensures in_the_way { IsErrOf result FileError.Failed
+            → IsRefused (may_fail self.old) (told self.old) (λ t. names_in t (parts_of path.now)) }
         ensures may_fail { may_fail self.new ≡ may_fail self.old };
 
     /// Makes the directory, and those above it that are absent. `Failed` where a file stands at the path or above it.
@@ -55,7 +57,8 @@ pub trait Files {
         ensures cause { IsErrOf result FileError.Failed → Rose (faults self.old) (faults self.new) }
         ensures failed { (faults self.new).count ≡ failed_after (faults self.old).count result }
         ensures tree { Changes (told self.old) (told self.new) (λ t. with_directories t (parts_of path.now)) result }
-        ensures in_the_way { IsErrOf result FileError.Failed → IsRefused (may_fail self.old) (told self.old) (λ t. with_directories t (parts_of path.now)) }
+        ensures in_the_way { IsErrOf result FileError.Failed
+            → IsRefused (may_fail self.old) (told self.old) (λ t. with_directories t (parts_of path.now)) }
         ensures may_fail { may_fail self.new ≡ may_fail self.old };
 
     /// Replaces the whole file, and makes the directories above it that are absent. `Failed` where a directory stands at
@@ -65,7 +68,8 @@ pub trait Files {
         ensures cause { IsErrOf result FileError.Failed → Rose (faults self.old) (faults self.new) }
         ensures failed { (faults self.new).count ≡ failed_after (faults self.old).count result }
         ensures tree { Changes (told self.old) (told self.new) (λ t. written t (parts_of path.now) bytes.now) result }
-        ensures in_the_way { IsErrOf result FileError.Failed → IsRefused (may_fail self.old) (told self.old) (λ t. written t (parts_of path.now) bytes.now) }
+        ensures in_the_way { IsErrOf result FileError.Failed
+            → IsRefused (may_fail self.old) (told self.old) (λ t. written t (parts_of path.now) bytes.now) }
         ensures may_fail { may_fail self.new ≡ may_fail self.old };
 
     /// The bytes of the file, or None where nothing stands at the path. `Failed` where a directory does, or a file above it.
@@ -74,7 +78,8 @@ pub trait Files {
         ensures cause { IsErrOf result FileError.Failed → Rose (faults self.old) (faults self.new) }
         ensures failed { (faults self.new).count ≡ failed_after (faults self.old).count result }
         ensures tree { Asks (λ bytes. bytes) (told self.old) (told self.new) (λ t. read_in t (parts_of path.now)) result }
-        ensures in_the_way { IsErrOf result FileError.Failed → IsRefused (may_fail self.old) (told self.old) (λ t. read_in t (parts_of path.now)) }
+        ensures in_the_way { IsErrOf result FileError.Failed
+            → IsRefused (may_fail self.old) (told self.old) (λ t. read_in t (parts_of path.now)) }
         ensures may_fail { may_fail self.new ≡ may_fail self.old };
 
     /// Moves a file to another path, also where a file stands there. `Failed` where no file stands at `from`, where a
@@ -84,7 +89,8 @@ pub trait Files {
         ensures cause { IsErrOf result FileError.Failed → Rose (faults self.old) (faults self.new) }
         ensures failed { (faults self.new).count ≡ failed_after (faults self.old).count result }
         ensures tree { Changes (told self.old) (told self.new) (λ t. renamed t (parts_of from.now) (parts_of to.now)) result }
-        ensures in_the_way { IsErrOf result FileError.Failed → IsRefused (may_fail self.old) (told self.old) (λ t. renamed t (parts_of from.now) (parts_of to.now)) }
+        ensures in_the_way { IsErrOf result FileError.Failed
+            → IsRefused (may_fail self.old) (told self.old) (λ t. renamed t (parts_of from.now) (parts_of to.now)) }
         ensures may_fail { may_fail self.new ≡ may_fail self.old };
 
     /// Removes the file. Takes no memory. `Failed` where no file stands at the path.

@@ -74,7 +74,8 @@ fn find_front(places: &[(u64, usize)], number: u64) -> Option<usize>
 /// The numbers that the ids begin with, in the list's order, each with its place.
 fn numbered(alloc: Global, objects: &[(ObjectId, Object)]) -> Result<Vec<(u64, usize)>, NoMemory>
     ensures len { IfOk result (λ places. length places.items ≡ length objects.now) }
-    ensures each { IfOk result (λ places. (i : ℕ) (d : Id × Stored) (p : ℕ × ℕ) → i < length objects.now → get_or places.items i p ≡ (spec.front (get_or objects.now i d).0, i)) }
+    ensures each { IfOk result (λ places. (i : ℕ) (d : Id × Stored) (p : ℕ × ℕ) → i < length objects.now
+        → get_or places.items i p ≡ (spec.front (get_or objects.now i d).0, i)) }
 {
     let mut places = Vec::with_capacity(alloc, objects.len())?;
     for i in 0..objects.len() {

@@ -109,7 +109,9 @@ impl Graph {
     /// Adds the histories of the list, and reads none of those that the graph has: of the graph of some objects it makes
     /// that of these with the list added. The only error is out of memory, and after it the graph is as before.
     pub fn extend(&mut self, objects: &[(ObjectId, Object)]) -> Result<(), StoreError>
-        ensures graph { (hash : Kind) (m : ObjectMap) → self.old ≡ graph_of m → AreOf hash (map.entries m) → AreOf hash objects.now → collision m objects.now ≡ None → OnOk result (self.new ≡ graph_of (add_all m objects.now)) }
+        ensures graph { (hash : Kind) (m : ObjectMap) → self.old ≡ graph_of m
+            → AreOf hash (map.entries m) → AreOf hash objects.now → collision m objects.now ≡ None
+            → OnOk result (self.new ≡ graph_of (add_all m objects.now)) }
         ensures err { IfErr result (λ e. (e ≡ errors.NoMemory) × (self.new ≡ self.old)) }
     {
         let alloc = *self.nodes.allocator();
