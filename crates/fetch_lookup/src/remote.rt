@@ -11,9 +11,8 @@ ghost use Rattle.fetch_lookup.specs.Remotes.{is_memory};
 use crate::direction::Direction;
 use crate::find::Error;
 use crate::name::{Name, is_place, named};
-use crate::names::is_same_name;
 use crate::refspecs::{in_order, parse_all};
-use fetch_config::{File, Section};
+use fetch_config::{File, Section, is_same_name, is_same_sub};
 use fetch_specs::{Operation, RefSpec, SpecError, Tags};
 use fetch_store::{List, NoMemory, Text};
 use std::alloc::Global;
@@ -61,17 +60,8 @@ fn is_section_of(section: &Section, name: &[u8]) -> bool
     ensures { result ≡ lookups.is_meant names.remote (Some name.now) true section.now }
 {
     is_same_name(section.name.as_bytes(), b"remote")
-        && is_subsection(&section.sub, name)
+        && is_same_sub(&section.sub, Some(name))
         && section.meta.trusted
-}
-
-pub(crate) fn is_subsection(own: &Option<Text>, name: &[u8]) -> bool
-    ensures { result ≡ lookups.is_same_sub own.now (Some name.now) }
-{
-    match own {
-        Some(own) => own.as_bytes() == name,
-        None => false,
-    }
 }
 
 /// The parts of a remote, each refused in its turn.
