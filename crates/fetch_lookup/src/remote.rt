@@ -34,6 +34,26 @@ pub struct RemoteParts {
     pub fetch_tags: Tags,
 }
 
+impl RemoteParts {
+    /// An equal remote.
+    pub fn try_clone(&self) -> Result<RemoteParts, NoMemory>
+        ensures { IfOk result (λ copy. copy ≡ self.now) }
+    {
+        let name = match &self.name {
+            Some(name) => Some(name.try_clone()?),
+            None => None,
+        };
+        Ok(RemoteParts {
+            name,
+            urls: self.urls.try_clone_with(Text::try_clone)?,
+            push_urls: self.push_urls.try_clone_with(Text::try_clone)?,
+            fetch_specs: self.fetch_specs.try_clone_with(RefSpec::try_clone)?,
+            push_specs: self.push_specs.try_clone_with(RefSpec::try_clone)?,
+            fetch_tags: self.fetch_tags,
+        })
+    }
+}
+
 /// The remote that has trusted sections `remote "<name>"`; none where there is no such section. An empty address clears
 /// those before it. Without an address to fetch from, the name is one where it has a slash, is a dot, or has a colon
 /// after its first byte. An unknown `tagOpt`, an address with a line feed and a refspec that doesn't parse are refused.
