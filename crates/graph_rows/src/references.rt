@@ -3,7 +3,9 @@
 use crate::words::{append_id, decoded, name_of, refuse, say, say_id, say_number};
 use crate::world::World;
 use fetch_negotiate::tips;
-use fetch_refs::{LogLine, PackedRefs, RefEdit, RefError, Refs, Signature, Target, TargetRef, peel_tags};
+use fetch_refs::{
+    LogLine, PackedRefs, RefEdit, RefError, Refs, Signature, Target, TargetRef, peel_tags,
+};
 use fetch_specs::FullName;
 use fetch_store::{NoMemory, ObjectId, Store, Text};
 use std::alloc::Global;
