@@ -1,6 +1,6 @@
 -- Commits that were taken are given back.
 use Rattle.std.proofs.Common.{◌≡◌, ℕ, ◌-◌, ◌<◌, ◌≤◌, Bool, true, false, cond, List, [], ◌∷◌, ◌++◌, take, drop, length, true≢false, refl, sym, ap, subst, ◌∙◌, append_assoc, arith}
-use Rattle.std.specs.Prelude.{is_some, ◌||◌}
+use Rattle.std.specs.Prelude.{◌||◌}
 use Rattle.std.specs.BTreeSet as tree
 use Rattle.std.specs.BTreeSet.{BTreeSet}
 use Rattle.std.specs.Cmp.{Equal-is, eq_by_cmp_equiv}
@@ -23,14 +23,14 @@ use Rattle.fetch_negotiate.specs.Commits.{has}
 use Rattle.fetch_negotiate.specs.Haves.{Negotiation}
 use Rattle.fetch_negotiate.specs.Paired.{IsPaired}
 use Rattle.fetch_negotiate.specs.Queues.{Rank, IsLine, IsLineIn, in_queue, tips_in}
-use Rattle.fetch_negotiate.specs.Reading.{Read, Table, Grows, IsTold, commit_at, links_at, read_in}
-use Rattle.fetch_negotiate.specs.Sharing.{IsCommonIn, IsMarked, Extends}
+use Rattle.fetch_negotiate.specs.Reading.{Table, Grows, IsTold, links_at, read_in}
+use Rattle.fetch_negotiate.specs.Sharing.{IsMarked}
 use Rattle.fetch_negotiate.specs.Skipped.{IsSkipping}
 use Rattle.fetch_negotiate.specs.Skips.{Pairs, handing, hands, pairs_of}
 use Rattle.fetch_negotiate.specs.Walking.{GoesOn, IsWalk, so_far_in}
 use Rattle.fetch_negotiate.proofs.Growing.{links_grown}
 use Rattle.fetch_negotiate.proofs.Handing.{told_before}
-use Rattle.fetch_negotiate.proofs.Onces.{Ids, in_set, has_push}
+use Rattle.fetch_negotiate.proofs.Onces.{Ids, has_push}
 use Rattle.fetch_negotiate.proofs.Queueing.{flat_map_same, line_grown}
 
 -- ---- the set of those taken

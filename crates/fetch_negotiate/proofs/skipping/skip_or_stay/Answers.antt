@@ -1,10 +1,8 @@
-use Rattle.std.proofs.Common.{◌≡◌, List, length, take, sym, ap, subst, ◌∙◌}
+use Rattle.std.proofs.Common.{List, take, sym, ap, subst, ◌∙◌}
 use Rattle.fetch_store.specs.declared.id.ObjectId.{ObjectId}
 use Rattle.fetch_negotiate.specs.Haves.{Negotiation}
 use Rattle.fetch_negotiate.specs.Reading.{Table, IsTold, read_in}
 use Rattle.fetch_negotiate.specs.Sharing.{Covers}
-use Rattle.fetch_negotiate.specs.Skips.{Pairs}
-use Rattle.fetch_negotiate.specs.Walking.{so_far_in}
 use Rattle.fetch_negotiate.proofs.GivingBack.{IsBack, so_far_back, skipping_back}
 use Rattle.fetch_negotiate.proofs.skipping.skip_or_stay.Goals as goal
 
