@@ -1,0 +1,5 @@
+//! Which failure each error tells of.
+
+mod cloning;
+mod fetching;
+mod sharing;
