@@ -7,7 +7,7 @@ use anyhow::{Result, bail};
 use fetch_clone::create::{Kind, Options};
 use fetch_clone::{ConfigureFault, PrepareFetch};
 use fetch_config::{File, Meta, Origin};
-use fetch_host::{NoInterrupt, NoWorktrees, StreamConnect, StreamPeer};
+use fetch_host::{Dial, NoInterrupt, NoWorktrees, StreamConnect, StreamPeer};
 use fetch_negotiate::{Depth, Shallow};
 use fetch_remote::phases::NoProgress;
 use fetch_remote::{OpenOptions, Remote};
@@ -16,8 +16,24 @@ use std::alloc::Global;
 use std::io;
 use std::thread::Threads;
 
-/// What each end of a connection is here; with a socket, it twice.
-type Ends = (io::Cursor<Vec<u8>>, Vec<u8>);
+/// The server of the examples, where an own type would open a socket.
+#[derive(Drop)]
+struct Server {
+    alloc: Global,
+}
+
+impl Dial for Server {
+    type Reader = io::Cursor<Vec<u8>>;
+
+    type Writer = Vec<u8>;
+
+    fn dial(&mut self, _address: &[u8]) -> io::Result<(io::Cursor<Vec<u8>>, Vec<u8>)> {
+        match serving::said(self.alloc, Asked::Shallow) {
+            Ok(said) => Ok((io::Cursor::new(said), Vec::new(self.alloc))),
+            Err(_) => Err(io::Error::from(io::ErrorKind::OutOfMemory)),
+        }
+    }
+}
 
 fn as_it_is(remote: Remote) -> Result<Remote, ConfigureFault> {
     Ok(remote)
@@ -25,14 +41,6 @@ fn as_it_is(remote: Remote) -> Result<Remote, ConfigureFault> {
 
 fn agrees(_peer: &mut StreamPeer<io::Cursor<Vec<u8>>, Vec<u8>>) -> Result<(), ConfigureFault> {
     Ok(())
-}
-
-/// Where a connection to the address would be made.
-fn connect(alloc: Global, _address: &[u8]) -> io::Result<Ends> {
-    match serving::said(alloc, Asked::Shallow) {
-        Ok(said) => Ok((io::Cursor::new(said), Vec::new(alloc))),
-        Err(_) => Err(io::Error::from(io::ErrorKind::OutOfMemory)),
-    }
 }
 
 fn open_options(alloc: Global) -> Result<OpenOptions> {
@@ -56,7 +64,7 @@ pub(crate) fn clone_revision<R: Threads + Sync + Print>(
     revision: &[u8],
 ) -> Result<()> {
     let files = MemoryFiles::new(alloc, Vec::new(alloc));
-    let maker = StreamConnect::new(|address: &[u8]| connect(alloc, address));
+    let maker = StreamConnect::new(Server { alloc });
     let Ok(clone) = PrepareFetch::new(
         alloc,
         b"/srv/a.git",

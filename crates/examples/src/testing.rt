@@ -34,7 +34,7 @@ fn fetch_old<R: Threads + Sync, P: Peer>(
 pub(crate) fn testing<R: Threads + Sync + Print>(rt: &R, alloc: Global) -> Result<()> {
     let mut peer = serving::peer(alloc, Asked::Old)?;
     let done = fetch_old(rt, alloc, &mut peer)?.is_ok();
-    println!(rt; "{done}")?;
+    println!(rt; "done: {done}")?;
     tell_lines(rt, peer.heard())?;
     for call in 0..5 {
         let said = vec![in alloc; Text::from(serving::said(alloc, Asked::Old)?)]?;

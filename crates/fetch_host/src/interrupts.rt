@@ -1,6 +1,6 @@
 //! What stops a fetch.
 
-ghost use Rattle.std.specs.Prelude.{◌≡◌, ℕ, ⊤, false, IsTrue};
+ghost use Rattle.std.specs.Prelude.{◌≡◌, ℕ, false, IsTrue};
 ghost use Rattle.fetch_store.specs.Faults.{Counts, Rose, counted};
 ghost use Rattle.fetch_wire.specs.Scripts.{said_after};
 
@@ -58,6 +58,8 @@ impl Interrupt for FlagInterrupt<'_> {
         ensures counted { IsTrue result → Rose (counted self.old.seen) (counted self.new.seen) }
         ensures said { self.new.seen ≡ said_after self.old.seen result }
         ensures left { result ≡ false → self.new.seen ≡ self.old.seen }
+        ensures now { ⊥ → IsTrue result }
+        ensures later { (n : ℕ) → ⊥ → ⊥ }
     {
         let is_set = self.flag.load(Ordering::SeqCst);
         if is_set {

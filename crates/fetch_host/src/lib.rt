@@ -12,6 +12,6 @@ mod worktrees;
 
 pub use failure::{Failure, FailureKind};
 pub use interrupts::{FlagInterrupt, NoInterrupt};
-pub use stream_connect::StreamConnect;
+pub use stream_connect::{Dial, StreamConnect};
 pub use stream_peer::StreamPeer;
 pub use worktrees::{MainWorktree, NoWorktrees};

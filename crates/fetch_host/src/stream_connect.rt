@@ -1,6 +1,6 @@
 //! A maker of peers over streams.
 
-ghost use Rattle.std.specs.Prelude.{◌≡◌, ◌+◌, ◌≤◌, None};
+ghost use Rattle.std.specs.Prelude.{◌≡◌, None, Some};
 ghost use Rattle.fetch_store.specs.Faults.{counted};
 ghost use Rattle.fetch_host.specs.Streams.{IsCounted};
 
@@ -8,14 +8,26 @@ use crate::stream_peer::StreamPeer;
 use fetch_remote::connect::Connect;
 use fetch_wire::SendFault;
 use std::io::{self, ErrorKind, Read, Write};
-use std::marker::PhantomData;
+use std::marker::Model;
 
-/// A maker of peers by a closure that opens a reader and a writer to an address. It keeps the kind of the last error: of the
-/// closure, or of a peer that was taken back. A peer that is taken back is dropped, and its streams with it. Contracts are
-/// told how many peers are out and how many were lost, and nothing of the peers.
+/// One who opens connections.
+pub trait Dial {
+    /// What is read from a server.
+    type Reader: Read + Drop;
+
+    /// What is written to it.
+    type Writer: Write + Drop;
+
+    /// Opens the two ends of a connection to this address.
+    fn dial(&mut self, address: &[u8]) -> io::Result<(Self::Reader, Self::Writer)>;
+}
+
+/// A maker of peers over the connections that `Dial` opens. It keeps the kind of the last error: of opening one, or of a peer
+/// that was taken back. A peer that is taken back is dropped, and its ends with it. Contracts are told how many peers are out
+/// and how many were lost, and nothing of the peers.
 #[derive(Drop)]
-pub struct StreamConnect<F: FnMut(&[u8]) -> io::Result<(R, W)>, R, W> {
-    dial: F,
+pub struct StreamConnect<D> {
+    dial: D,
     /// How many peers were made.
     made: u64,
     /// How many of them aren't taken back yet.
@@ -24,18 +36,23 @@ pub struct StreamConnect<F: FnMut(&[u8]) -> io::Result<(R, W)>, R, W> {
     lost: u64,
     failed: u64,
     last_fault: Option<ErrorKind>,
-    ends: PhantomData<(R, W)>,
-    ghost counted: { lost + out ≤ made },
-    ghost callable: { (state : F) (address : _) → F.pre state address },
 }
 
-impl<F: FnMut(&[u8]) -> io::Result<(R, W)>, R: Read, W: Write> StreamConnect<F, R, W> {
-    /// A maker that opens streams by this closure, which gets the address. It may be called at any time.
-    pub fn new(dial: F) -> StreamConnect<F, R, W>
-        requires { (state : F) (address : _) → F.pre state address }
-        ensures dial { result.dial ≡ dial }
-        ensures counts { (result.out ≡ 0) × (result.lost ≡ 0) × (result.failed ≡ 0) }
-        ensures last_fault { result.last_fault ≡ None }
+impl<D> Model for StreamConnect<D> {
+    ghost use Rattle.std.specs.Prelude.{◌+◌, ◌≤◌};
+    ghost use Rattle.fetch_host.specs.Streams.{Making};
+
+    ghost Value = { Making D };
+
+    ghost view = { λ m. record { dial = m.dial; out = m.out; lost = m.lost; failed = m.failed; last_fault = m.last_fault } };
+
+    ghost invariant = { λ m. m.lost + m.out ≤ m.made };
+}
+
+impl<D: Dial> StreamConnect<D> {
+    /// A maker over what this one opens, that has made no peer.
+    pub fn new(dial: D) -> StreamConnect<D>
+        ensures { result ≡ record { dial = dial; out = 0; lost = 0; failed = 0; last_fault = None } }
     {
         StreamConnect {
             dial,
@@ -44,20 +61,20 @@ impl<F: FnMut(&[u8]) -> io::Result<(R, W)>, R: Read, W: Write> StreamConnect<F, 
             lost: 0,
             failed: 0,
             last_fault: None,
-            ends: PhantomData,
         }
     }
 
-    /// The kind of the last error, of the closure or of a peer that was taken back, if there was one.
+    /// The kind of the last error, if there was one.
     pub fn last_fault(&self) -> Option<ErrorKind>
         ensures { result ≡ self.now.last_fault }
     {
         self.last_fault
     }
 
-    /// Counts an error of the closure, unless memory ran out, and keeps its kind.
+    /// Keeps the kind of an error, and counts it, unless memory ran out.
     fn refuse(&mut self, kind: ErrorKind) -> SendFault
         ensures counted { IsCounted self.old.failed self.new.failed result }
+        ensures kept { self.new.last_fault ≡ Some kind }
         ensures rest { (self.new.out ≡ self.old.out) × (self.new.lost ≡ self.old.lost) }
     {
         self.last_fault = Some(kind);
@@ -69,13 +86,8 @@ impl<F: FnMut(&[u8]) -> io::Result<(R, W)>, R: Read, W: Write> StreamConnect<F, 
     }
 }
 
-impl<F, R, W> Connect for StreamConnect<F, R, W>
-where
-    F: FnMut(&[u8]) -> io::Result<(R, W)>,
-    R: Read + Drop,
-    W: Write + Drop,
-{
-    type Peer = StreamPeer<R, W>;
+impl<D: Dial> Connect for StreamConnect<D> {
+    type Peer = StreamPeer<D::Reader, D::Writer>;
 
     ghost faults = { λ m. counted m.failed };
 
@@ -89,12 +101,12 @@ where
 
     ghost addresses = { λ _. None };
 
-    /// Opens streams to the address. It fails where the closure does, and where no more peers can be counted.
-    fn make(&mut self, address: &[u8]) -> Result<StreamPeer<R, W>, SendFault> {
+    /// Opens a connection to the address. It fails where that does, and where no more peers can be counted.
+    fn make(&mut self, address: &[u8]) -> Result<StreamPeer<D::Reader, D::Writer>, SendFault> {
         let Some(made) = self.made.checked_add(1) else {
             return Err(self.refuse(ErrorKind::Other));
         };
-        match (self.dial)(address) {
+        match self.dial.dial(address) {
             Ok((reader, writer)) => {
                 self.made = made;
                 self.out += 1;
@@ -105,7 +117,7 @@ where
     }
 
     /// Drops the peer, and keeps why it failed last.
-    fn take_back(&mut self, peer: StreamPeer<R, W>) {
+    fn take_back(&mut self, peer: StreamPeer<D::Reader, D::Writer>) {
         self.out -= 1;
         if peer.faults() > 0 {
             self.lost += 1;

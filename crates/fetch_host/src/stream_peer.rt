@@ -1,13 +1,14 @@
 //! A peer over a reader and a writer.
 
-ghost use Rattle.std.specs.Prelude.{◌≡◌, ◌<◌, ◌≤◌, [], ◌∷◌, length, IfOk, OnOk, OnErr, IsErrOf, None, IsSome, false};
+ghost use Rattle.std.specs.Prelude.{◌≡◌, ◌<◌, ◌≤◌, [], ◌∷◌, length, IfOk, OnOk, OnErr, IsErrOf, None, Some, IsSome, false};
 ghost use Rattle.fetch_store.specs.Faults.{Rose, Counts, counted};
 ghost use Rattle.fetch_wire.specs.Talks.{Makes, Receives, Sends, at_once};
-ghost use Rattle.fetch_host.specs.Streams.{IsCounted, more_by};
+ghost use Rattle.fetch_host.specs.Streams.{more_by};
 
 use fetch_store::Failed;
 use fetch_wire::{Peer, SendFault};
 use std::io::{self, ErrorKind, Read, Write};
+use std::marker::Model;
 
 /// A peer that gives what a reader reads, and hands what it hears to a writer: the two ends of a socket, or of two pipes. It
 /// keeps the kind of the last error, and counts its faults and the bytes that passed.
@@ -22,6 +23,21 @@ pub struct StreamPeer<R, W> {
     received: u64,
     failed: u64,
     last_fault: Option<ErrorKind>,
+}
+
+impl<R, W> Model for StreamPeer<R, W> {
+    ghost use Rattle.fetch_host.specs.Streams.{Stream};
+
+    ghost Value = { Stream R W };
+
+    ghost view = { λ p. record {
+      reader = p.reader;
+      writer = p.writer;
+      sent = p.sent;
+      received = p.received;
+      failed = p.failed;
+      last_fault = p.last_fault;
+    } };
 }
 
 impl<R: Read, W: Write> StreamPeer<R, W> {
@@ -81,7 +97,7 @@ impl<R: Read, W: Write> StreamPeer<R, W> {
     fn fail(&mut self, kind: ErrorKind) -> Failed
         ensures rose { Rose (counted self.old.failed) (counted self.new.failed) }
         ensures counts { Counts (counted self.old.failed) (counted self.new.failed) }
-        ensures kept { IsSome self.new.last_fault }
+        ensures kept { self.new.last_fault ≡ Some kind }
         ensures passed { (self.new.sent ≡ self.old.sent) × (self.new.received ≡ self.old.received) }
     {
         self.failed = self.failed.saturating_add(1);
@@ -123,6 +139,7 @@ impl<R: Read, W: Write> Peer for StreamPeer<R, W> {
         ensures counts { Counts (counted self.old.failed) (counted self.new.failed) }
         ensures cause { IsErrOf result SendFault.Failed → Rose (counted self.old.failed) (counted self.new.failed) }
         ensures kept { IsErrOf result SendFault.Failed → IsSome self.new.last_fault }
+        ensures quiet { ¬ IsErrOf result SendFault.Failed → (self.new.failed ≡ self.old.failed) × (self.new.last_fault ≡ self.old.last_fault) }
         ensures sent { OnOk result (self.new.sent ≡ more_by self.old.sent (length bytes.now)) }
         ensures unsent { OnErr result (self.new.sent ≡ self.old.sent) }
         ensures received { self.new.received ≡ self.old.received }
@@ -148,16 +165,14 @@ impl<R: Read, W: Write> Peer for StreamPeer<R, W> {
         ensures counts { Counts (counted self.old.failed) (counted self.new.failed) }
         ensures cause { OnErr result (Rose (counted self.old.failed) (counted self.new.failed)) }
         ensures kept { OnErr result (IsSome self.new.last_fault) }
+        ensures quiet { OnOk result ((self.new.failed ≡ self.old.failed) × (self.new.last_fault ≡ self.old.last_fault)) }
         ensures never_ends { IfOk result (λ count. 0 < length into.new → 0 < count) }
         ensures received { IfOk result (λ count. self.new.received ≡ more_by self.old.received count) }
         ensures unreceived { OnErr result (self.new.received ≡ self.old.received) }
         ensures sent { self.new.sent ≡ self.old.sent }
     {
-        if into.is_empty() {
-            return Ok(0);
-        }
         match read_through(&mut self.reader, into) {
-            Ok(0) => Err(self.fail(ErrorKind::UnexpectedEof)),
+            Ok(0) if !into.is_empty() => Err(self.fail(ErrorKind::UnexpectedEof)),
             Ok(count) => {
                 self.received = self.received.saturating_add(count as u64);
                 Ok(count)
