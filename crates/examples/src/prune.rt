@@ -45,11 +45,7 @@ fn fetch<R: Threads + Sync>(
 /// The edits that delete each branch of a mirror that the remote doesn't list.
 fn vanished(alloc: Global, refs: &Refs, listed: &[Ref]) -> Result<Vec<RefEdit>> {
     let mut edits = Vec::new(alloc);
-    let mut entries = refs.iter();
-    'entries: loop {
-        let Some((name, _)) = entries.next() else {
-            return Ok(edits);
-        };
+    for (name, _) in refs.iter() {
         if name.starts_with(b"refs/heads/") && !is_listed(listed, name) {
             edits.push(RefEdit {
                 change: Change::Delete {
@@ -60,6 +56,7 @@ fn vanished(alloc: Global, refs: &Refs, listed: &[Ref]) -> Result<Vec<RefEdit>> 
             })?;
         }
     }
+    Ok(edits)
 }
 
 fn is_listed(listed: &[Ref], name: &[u8]) -> bool {

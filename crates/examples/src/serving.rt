@@ -1,6 +1,10 @@
 //! The server of the examples: two commits, the second one at `refs/heads/main` and at the tag `refs/tags/v1`, and the first
 //! one at `refs/heads/old`.
 
+ghost use Rattle.std.specs.Prelude.{◌≡◌};
+ghost use Rattle.std.specs.List.{list_all};
+ghost use Rattle.examples.specs.Small.{is_small};
+
 use anyhow::{Result, bail};
 use fetch_pack::write_pack;
 use fetch_store::{Kind, Object, ObjectId, ObjectKind, Text, id_of};
@@ -38,15 +42,20 @@ fn object(alloc: Global, kind: ObjectKind, bytes: &[u8]) -> Result<Object> {
     Ok(Object::parse(Kind::Sha1, kind, bytes)?)
 }
 
-/// The pack of these objects, which are small and few.
-pub(crate) fn pack_of(alloc: Global, objects: &[Object]) -> Result<Vec<u8>> {
-    if objects.len() > 100 {
-        bail!("too many objects");
-    }
-    'objects: for object in objects {
-        if object.as_ref().bytes().len() > 1_000 {
-            bail!("a large object");
-        }
+/// Whether each object has at most a thousand bytes.
+fn are_small(objects: &[Object]) -> bool
+    ensures { result ≡ list_all is_small objects.now }
+{
+    objects
+        .iter()
+        .all(|object| object.as_ref().bytes().len() <= 1_000)
+}
+
+/// The pack of these objects, which are few and small.
+#[tactic(auto, using(crate::proofs::Packed::small_fit))]
+fn pack_of(alloc: Global, objects: &[Object]) -> Result<Vec<u8>> {
+    if objects.len() > 100 || !are_small(objects) {
+        bail!("too much for an example");
     }
     let mut pack = Vec::new(alloc);
     write_pack(alloc, Kind::Sha1, objects, &mut pack)?;
@@ -61,14 +70,14 @@ fn capability(alloc: Global, name: &[u8], value: &[u8]) -> Result<Capability> {
 }
 
 /// The greeting: what the server offers.
-pub(crate) fn greeting(alloc: Global) -> Result<Vec<u8>> {
+fn greeting(alloc: Global) -> Result<Vec<u8>> {
     let mut offered = Vec::new(alloc);
     offered.push(capability(alloc, b"ls-refs", b"unborn")?)?;
     offered.push(capability(alloc, b"fetch", b"shallow plain-pack")?)?;
     Ok(write_lines(alloc, &greeting_lines(alloc, &offered)?)?)
 }
 
-pub(crate) fn branch(alloc: Global, name: &[u8], commit: ObjectId) -> Result<Ref> {
+fn branch(alloc: Global, name: &[u8], commit: ObjectId) -> Result<Ref> {
     Ok(Ref::Direct {
         full_ref_name: Text::new(alloc, name)?,
         object: commit,

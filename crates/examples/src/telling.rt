@@ -8,13 +8,10 @@ use std::str;
 
 /// A line for each reference, by ascending name.
 pub(crate) fn tell_refs<R: Print>(rt: &R, alloc: Global, refs: &Refs) -> Result<()> {
-    let mut entries = refs.iter();
-    'entries: loop {
-        match entries.next() {
-            Some((name, target)) => tell_ref(rt, alloc, name, &target)?,
-            None => return Ok(()),
-        }
+    for (name, target) in refs.iter() {
+        tell_ref(rt, alloc, name, &target)?;
     }
+    Ok(())
 }
 
 fn tell_ref<R: Print>(rt: &R, alloc: Global, name: &[u8], target: &TargetRef<'_>) -> Result<()> {
