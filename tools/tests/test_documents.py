@@ -25,6 +25,7 @@ def tool(name):
 
 
 CRATE_MAP, CALL_INDEX, DEFINITIONS = tool("dev/crate-map"), tool("dev/call-index"), tool("dev/definitions")
+QUOTES = tool("dev/quotes")
 DEAD_NAMES = tool("dead-names")
 
 ROOT = """\
@@ -107,6 +108,16 @@ class Definitions(InAFolder):
         write("crates/a/specs/Two.antt", "two = x\nthree = x\n")
         below = DEFINITIONS.all_below("crates/a/specs/One.antt")
         self.assertEqual((len(below), sum(map(DEFINITIONS.counted, below))), (2, 3))
+
+
+class Quotes(InAFolder):
+    def test_a_quotation_is_its_source(self):
+        write("./a.rt", "use b;\n\nfn none() {}\n\n/// Says one.\n#[tactic(auto)]\nfn one() -> u8 {\n    if b {\n    }\n    1\n}\n")
+        write("./out", "= first\n1\n2\n= second\n3\n")
+        page = "<!-- quoted: a.rt {} -->\n```rust\n{}```\n\nIt prints\n\n<!-- quoted: out first -->\n```text\n{}```\n"
+        one = "/// Says one.\n#[tactic(auto)]\nfn one() -> u8 {\n    if b {\n    }\n    1\n}\n"
+        self.assertEqual(QUOTES.renewed(page.format("one", "old\n", "")), page.format("one", one, "1\n2\n"))
+        self.assertEqual(QUOTES.renewed(page.format("none", "", "")), page.format("none", "fn none() {}\n", "1\n2\n"))
 
 
 class Links(InAFolder):
