@@ -52,7 +52,6 @@ fn are_small(objects: &[Object]) -> bool
 }
 
 /// The pack of these objects, which are few and small.
-#[tactic(auto, using(crate::proofs::Packed::small_fit))]
 fn pack_of(alloc: Global, objects: &[Object]) -> Result<Vec<u8>> {
     if objects.len() > 100 || !are_small(objects) {
         bail!("too much for an example");
