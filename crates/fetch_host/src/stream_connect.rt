@@ -125,3 +125,28 @@ impl<D: Dial> Connect for StreamConnect<D> {
         }
     }
 }
+
+/// A maker that is lent, so that it can be asked for its last error after a clone.
+impl<D: Dial> Connect for &mut StreamConnect<D> {
+    type Peer = StreamPeer<D::Reader, D::Writer>;
+
+    ghost faults = { λ m. counted m.now.failed };
+
+    ghost out = { λ m. m.now.out };
+
+    ghost lost = { λ m. counted m.now.lost };
+
+    ghost left = { λ _. None };
+
+    ghost taken = { λ _. None };
+
+    ghost addresses = { λ _. None };
+
+    fn make(&mut self, address: &[u8]) -> Result<StreamPeer<D::Reader, D::Writer>, SendFault> {
+        Connect::make(&mut **self, address)
+    }
+
+    fn take_back(&mut self, peer: StreamPeer<D::Reader, D::Writer>) {
+        Connect::take_back(&mut **self, peer)
+    }
+}
