@@ -1,0 +1,4 @@
+pub mod Consumed
+pub mod Asking
+pub mod Intakes
+pub mod Growing
