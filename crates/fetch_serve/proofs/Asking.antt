@@ -1,16 +1,15 @@
 -- The requests of a text, one after another, and what more bytes do to them.
-use Rattle.std.proofs.Common.{◌≡◌, ℕ, zero, suc, ◌+◌, ◌≤◌, ◌<◌, Bool, true, false, List, [], ◌∷◌, ◌++◌, length, Option, Some, None, Result, Ok, Err, refl, sym, ap, ◌∙◌, arith, append_assoc, length-append}
+use Rattle.std.proofs.Common.{◌≡◌, ℕ, zero, suc, ◌+◌, ◌≤◌, Bool, true, List, [], ◌∷◌, ◌++◌, length, Option, Some, None, Result, Ok, Err, refl, sym, ap, ◌∙◌, arith, length-append}
 use Rattle.fetch_store.specs.declared.id.Kind.{Kind}
 use Rattle.fetch_wire.specs.declared.replies.awaited.Fault.{Fault}
 use Rattle.fetch_wire.specs.declared.replies.awaited.Fault.TheVariants.{Short, Broken, TooLong, Said}
 use Rattle.fetch_wire.specs.Lines.{line_at}
 use Rattle.fetch_wire.specs.StepLaws.{IsSettled, with_more, read_by-more}
-use Rattle.fetch_wire.specs.Stepping.{read_by, read_within}
+use Rattle.fetch_wire.specs.Stepping.{read_within}
 use Rattle.fetch_serve.specs.declared.asked.Asked.{Asked}
 use Rattle.fetch_serve.specs.declared.error.ServeError.{ServeError}
-use Rattle.fetch_serve.specs.declared.error.ServeError.TheVariants as errors
 use Rattle.fetch_serve.specs.Requests.{asked_step, start_of}
-use Rattle.fetch_serve.specs.Texts.{AskedIn, IsBegun, asked_in, asked_within, and_more, and_others, ends_at, joined, request_at, request_bound, with_first}
+use Rattle.fetch_serve.specs.Texts.{AskedIn, IsBegun, asked_in, asked_within, and_more, and_others, ends_at, request_at, request_bound, with_first}
 use Rattle.fetch_serve.proofs.Consumed.{IsTaken, taken}
 
 -- bytes at the front that are one request, before any rest

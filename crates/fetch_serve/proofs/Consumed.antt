@@ -1,8 +1,8 @@
 -- What a reading took is enough for it, whatever comes after.
-use Rattle.std.proofs.Common.{◌≡◌, ℕ, ◌+◌, List, [], ◌∷◌, ◌++◌, Result, Ok, Err, refl, sym, ap, ◌∙◌, append_assoc}
+use Rattle.std.proofs.Common.{◌≡◌, ℕ, ◌+◌, List, [], ◌∷◌, ◌++◌, Ok, refl, sym, ap, ◌∙◌, append_assoc}
 use Rattle.fetch_wire.specs.Lines.{line_len}
 use Rattle.fetch_wire.specs.LineLaws.{IsLine}
-use Rattle.fetch_wire.specs.LinesTold.{Writes, Tells, lines_tell}
+use Rattle.fetch_wire.specs.LinesTold.{Writes, lines_tell}
 use Rattle.fetch_wire.specs.Stepping.{Step, read_by}
 use Rattle.fetch_wire.specs.Written.{payload_of}
 use Rattle.fetch_wire.specs.declared.lines.line.Line.{Line}

@@ -1,16 +1,16 @@
 -- A request is read on line by line, while its bytes come in pieces.
-use Rattle.std.proofs.Common.{◌≡◌, ℕ, ◌+◌, ◌≤◌, Bool, List, [], ◌++◌, length, drop, take, Option, Some, None, Result, Ok, Err, refl, sym, ap, ◌∙◌, arith, append_assoc, length-append, subst}
+use Rattle.std.proofs.Common.{◌≡◌, ℕ, ◌+◌, ◌≤◌, Bool, List, [], ◌++◌, length, drop, Option, Some, None, Result, Ok, Err, refl, sym, ap, ◌∙◌, arith, append_assoc, length-append, subst}
 use Rattle.std.proofs.lemmas.List.{append-nil, drop-append-le, drop-drop}
 use Rattle.fetch_store.specs.declared.id.Kind.{Kind}
 use Rattle.fetch_wire.specs.declared.lines.line.Line.{Line}
 use Rattle.fetch_wire.specs.declared.lines.section.Trouble.{Trouble}
 use Rattle.fetch_wire.specs.declared.lines.section.Trouble.TheVariants as lines
-use Rattle.fetch_wire.specs.declared.replies.awaited.Fault.TheVariants.{Short, Broken, TooLong}
+use Rattle.fetch_wire.specs.declared.replies.awaited.Fault.TheVariants.{Short, Broken}
 use Rattle.fetch_wire.specs.Lines.{line_at, line_len}
 use Rattle.fetch_wire.specs.LineLaws.{line_at-is, line_at-short}
 use Rattle.fetch_wire.specs.SectionLaws.{line_at-more}
 use Rattle.fetch_wire.specs.StepLaws.{line_then, read_by-step}
-use Rattle.fetch_wire.specs.Stepping.{Step, goes, ends, breaks, after_line, after_step, fault_of, read_by}
+use Rattle.fetch_wire.specs.Stepping.{goes, ends, breaks, after_line, after_step, read_by}
 use Rattle.fetch_serve.specs.declared.asked.Asked.{Asked}
 use Rattle.fetch_serve.specs.declared.intake.Refusal.{Refusal}
 use Rattle.fetch_serve.specs.declared.intake.Refusal.TheVariants as refusals

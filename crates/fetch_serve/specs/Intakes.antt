@@ -1,5 +1,5 @@
 -- Requests, read while their bytes come in pieces.
-use Rattle.std.specs.Prelude.{◌≡◌, ℕ, ◌≤◌, Bool, true, List, [], ◌++◌, length, take, drop, Option, Some, None, Result, Ok, Err, ⊤}
+use Rattle.std.specs.Prelude.{◌≡◌, ℕ, ◌≤◌, Bool, true, false, List, [], ◌++◌, length, take, drop, Option, Some, None, Result, Ok, Err, ⊤}
 use Rattle.fetch_store.specs.declared.id.Kind.{Kind}
 use Rattle.fetch_wire.specs.declared.replies.awaited.Fault.{Fault}
 use Rattle.fetch_wire.specs.declared.replies.awaited.Fault.TheVariants.{Short, Broken, TooLong}
@@ -14,7 +14,7 @@ use Rattle.fetch_serve.specs.declared.intake.Progress.TheVariants.{On, Whole}
 use Rattle.fetch_serve.specs.declared.intake.Refusal.{Refusal}
 use Rattle.fetch_serve.specs.declared.intake.Refusal.TheVariants as refusals
 use Rattle.fetch_serve.specs.declared.reading.Reading.{Reading}
-use Rattle.fetch_serve.specs.Requests.{asked_step, start_of}
+use Rattle.fetch_serve.specs.Requests.{asked_step}
 use Rattle.fetch_serve.specs.Texts.{IsBegun, request_at, request_bound}
 
 -- a refusal, as a caller learns it
@@ -22,6 +22,12 @@ abbrev pub error_of : Refusal → ServeError
 error_of (refusals.Malformed place) = errors.Malformed place
 error_of refusals.TooLong = errors.RequestTooLong request_bound
 error_of refusals.NoMemory = errors.NoMemory
+
+-- out of memory
+abbrev pub is_memory : Refusal → Bool
+is_memory (refusals.Malformed place) = false
+is_memory refusals.TooLong = false
+is_memory refusals.NoMemory = true
 
 -- why a line can't be read, whatever comes next
 abbrev pub refusal_of : Trouble → Option Refusal

@@ -9,4 +9,5 @@ pub mod Offered
 pub mod Packs
 pub mod Intakes
 pub mod Replies
+pub mod Servings
 pub mod Peers

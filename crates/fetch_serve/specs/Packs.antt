@@ -1,8 +1,7 @@
 -- The pack that a server gives.
-use Rattle.std.specs.Prelude.{◌≡◌, ◌≢◌, ◌⊎◌, ℕ, zero, suc, Bool, true, false, not, ◌&&◌, ◌||◌, List, [], ◌∷◌, ◌++◌, length, map, filter, nat_eq, codes, Option, Some, None, IsTrue, Contains, if◌then◌else◌}
+use Rattle.std.specs.Prelude.{◌≡◌, ◌⊎◌, ℕ, zero, suc, Bool, false, not, ◌&&◌, ◌||◌, List, [], ◌∷◌, ◌++◌, filter, nat_eq, codes, Option, Some, None, IsTrue, Contains, if◌then◌else◌}
 use Rattle.std.specs.FinMap as finmap
-use Rattle.std.specs.FinSet as set
-use Rattle.std.specs.List.{flat_map, list_any, starts_with}
+use Rattle.std.specs.List.{flat_map, starts_with}
 use Rattle.std.specs.Option.{option_map_or}
 use Rattle.fetch_store.specs.Borders.{IdSet, merged, set_of}
 use Rattle.fetch_store.specs.Closed.{Holding, Reached, holding, links_at}

@@ -1,5 +1,5 @@
 -- A server as the peer of a fetch.
-use Rattle.std.specs.Prelude.{ℕ, ◌-◌, Bool, false, true, List, [], length, take, drop, Option, Some, None, is_some, if◌then◌else◌}
+use Rattle.std.specs.Prelude.{ℕ, ◌-◌, Bool, false, true, List, [], length, take, drop, Option, Some, is_some, if◌then◌else◌}
 use Rattle.fetch_store.specs.Faults.{Faults}
 use Rattle.fetch_wire.specs.Talks.{Talk, Receive}
 use Rattle.fetch_serve.specs.Replies.{replies_of}

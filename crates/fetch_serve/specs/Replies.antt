@@ -1,5 +1,5 @@
 -- What a server answers.
-use Rattle.std.specs.Prelude.{ℕ, Bool, true, false, not, ◌||◌, List, [], ◌∷◌, ◌++◌, length, filter, map, nat_le, ◌^◌, codes, slice_get, Option, Some, None, if◌then◌else◌}
+use Rattle.std.specs.Prelude.{ℕ, Bool, false, not, ◌||◌, List, [], ◌∷◌, ◌++◌, length, filter, nat_le, ◌^◌, codes, slice_get, Option, Some, None, if◌then◌else◌}
 use Rattle.std.specs.List.{flat_map, list_any}
 use Rattle.hex.specs.Hex.{encode_lower}
 use Rattle.fetch_store.specs.Id.{bytes_of}
@@ -64,11 +64,15 @@ abbrev pub fetch_lines : Data → FetchAsked → Option ObjectId → List Line
 fetch_lines d r (Some id) = error_lines (not_offered id)
 fetch_lines d r None = fetched_lines d r
 
+-- what a server says while packs aren't served
+unfoldable pub not_yet : List ℕ
+not_yet = codes "packs aren't served yet"
+
 -- the reply to a request, line by line
 unfoldable pub reply_lines : Data → Asked → List Line
 reply_lines d First = greeting_lines (capabilities_of d.hash)
 reply_lines d (Listing unborn prefixes) = listing_lines_of (offered_of d unborn prefixes)
-reply_lines d (Fetch r) = fetch_lines d r (first_unoffered d r)
+reply_lines d (Fetch r) = error_lines not_yet
 
 -- the same as it is written
 abbrev pub reply_text : Data → Asked → List ℕ

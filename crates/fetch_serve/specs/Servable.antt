@@ -1,11 +1,12 @@
 -- Which repositories can be served.
-use Rattle.std.specs.Prelude.{◌≡◌, ◌≢◌, ℕ, Bool, true, false, not, ◌||◌, List, [], length, map, filter, nat_lt, slice_get, Option, Some, None, Result, Ok, Err, ⊤, if◌then◌else◌}
+use Rattle.std.specs.Prelude.{◌≡◌, ◌≢◌, ℕ, Bool, true, false, ◌||◌, List, [], length, map, filter, nat_lt, slice_get, Option, Some, None, Result, Ok, Err, ⊤, if◌then◌else◌}
 use Rattle.std.specs.FinMap as finmap
 use Rattle.std.specs.FinSet as set
 use Rattle.fetch_store.specs.Borders.{IdSet}
 use Rattle.fetch_store.specs.Graph.{Graph}
 use Rattle.fetch_store.specs.Closed.{AreAllOf, IsClosed, holding}
 use Rattle.fetch_store.specs.Missing.{unclosed}
+use Rattle.fetch_store.specs.Stores.{ObjectMap}
 use Rattle.fetch_store.specs.declared.id.ObjectId.{ObjectId}
 use Rattle.fetch_refs.specs.Peeled.{and_then, resolved, through}
 use Rattle.fetch_refs.specs.declared.error.RefError.{RefError}
@@ -62,12 +63,23 @@ pub record IsServable (d : Data) : Type 0 where
   pub closed : IsClosed (holding d.objects set.empty)
   pub names : unservable_names d ≡ []
 
--- Why a repository with this border isn't served: the first cause, in this order. Out of memory says nothing of it.
+-- Why objects with this border aren't served: the first cause, in this order.
+abbrev pub IsObjectTrouble : ObjectMap → IdSet → ServeError → Type 0
+IsObjectTrouble objects border errors.ShallowServer = border ≢ set.empty
+IsObjectTrouble objects border (errors.WrongId id) = (border ≡ set.empty) × IsFirstMisnamed objects id
+IsObjectTrouble objects border (errors.NotClosed link) =
+    (border ≡ set.empty) × AreOwnIds objects × (slice_get (unclosed (holding objects border)) 0 ≡ Some link)
+IsObjectTrouble objects border (errors.NotServable name) = ⊥
+IsObjectTrouble objects border (errors.Malformed place) = ⊥
+IsObjectTrouble objects border (errors.RequestTooLong bound) = ⊥
+IsObjectTrouble objects border errors.NoMemory = ⊤
+
+-- Why a repository with this border isn't served: its objects' cause, or else its first reference that can't be served. Out
+-- of memory says nothing of it.
 abbrev pub IsTrouble : Data → IdSet → ServeError → Type 0
-IsTrouble d border errors.ShallowServer = border ≢ set.empty
-IsTrouble d border (errors.WrongId id) = (border ≡ set.empty) × IsFirstMisnamed d.objects id
-IsTrouble d border (errors.NotClosed link) =
-    (border ≡ set.empty) × AreOwnIds d.objects × (slice_get (unclosed (holding d.objects border)) 0 ≡ Some link)
+IsTrouble d border errors.ShallowServer = IsObjectTrouble d.objects border errors.ShallowServer
+IsTrouble d border (errors.WrongId id) = IsObjectTrouble d.objects border (errors.WrongId id)
+IsTrouble d border (errors.NotClosed link) = IsObjectTrouble d.objects border (errors.NotClosed link)
 IsTrouble d border (errors.NotServable name) =
     (border ≡ set.empty) × AreOwnIds d.objects × IsClosed (holding d.objects border) × (slice_get (unservable_names d) 0 ≡ Some name)
 IsTrouble d border (errors.Malformed place) = ⊥

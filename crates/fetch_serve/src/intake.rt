@@ -1,7 +1,7 @@
 //! Requests, read while their bytes come in pieces.
 
 ghost use Rattle.std.specs.Prelude.{◌≡◌, ◌≤◌, drop, length, IfOk, IfErr};
-ghost use Rattle.fetch_serve.specs.Intakes.{error_of, GoesTo, StopsAt, refusal_of, told_of};
+ghost use Rattle.fetch_serve.specs.Intakes.{error_of, is_memory, GoesTo, StopsAt, refusal_of, told_of};
 ghost use Rattle.fetch_serve.specs.Texts.{request_bound};
 ghost use Rattle.std.specs.Prelude.{List, ℕ};
 
@@ -28,6 +28,13 @@ pub(crate) enum Refusal {
 }
 
 impl Refusal {
+    /// Whether memory ran out.
+    pub(crate) fn is_memory(self) -> bool
+        ensures { result ≡ is_memory self }
+    {
+        matches!(self, Refusal::NoMemory)
+    }
+
     /// The refusal, as a caller learns it.
     pub(crate) fn to_error(self) -> ServeError
         ensures { result ≡ error_of self }

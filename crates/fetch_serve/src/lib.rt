@@ -11,7 +11,11 @@ mod listing_reading;
 mod offered;
 mod parts;
 mod reading;
+mod replying;
 mod saying;
+mod servable;
+mod server;
 
 pub use asked::{Asked, DepthAsked, FetchAsked};
 pub use error::ServeError;
+pub use server::{ServeTurn, Server};

@@ -1,4 +1,4 @@
-use Rattle.std.proofs.Common.{◌≡◌, drop, sym, ap, ◌∙◌, subst, []}
+use Rattle.std.proofs.Common.{drop, sym, ap, ◌∙◌, subst, []}
 use Rattle.fetch_serve.specs.Intakes.{IsRead, IsReadUpTo}
 use Rattle.fetch_serve.proofs.Intakes.{stops_read, finds_whole, finds_begun}
 use Rattle.fetch_serve.proofs.intake.Intake.read.Goals as goal
