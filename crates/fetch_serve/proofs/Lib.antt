@@ -5,3 +5,4 @@ pub mod Growing
 pub mod Answering
 pub mod Accepted
 pub mod Serving
+pub mod Fitting

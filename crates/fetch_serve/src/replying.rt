@@ -1,14 +1,15 @@
 //! Replies, as they are written.
 
-ghost use Rattle.std.specs.Prelude.{◌≡◌, ◌++◌, IfOk, OnErr, OnOk};
+ghost use Rattle.std.specs.Prelude.{◌≡◌, ◌++◌, None, IfOk, OnErr, OnOk};
 ghost use Rattle.fetch_serve.specs.Offered as offered;
 ghost use Rattle.fetch_serve.specs.Offered.{capabilities_of, offered_of};
 ghost use Rattle.fetch_serve.specs.Parts.{held_by};
 ghost use Rattle.fetch_serve.specs.Replies.{error_lines, not_yet, reply_lines, reply_text};
+ghost use Rattle.fetch_serve.specs.Servable.{IsServable};
 ghost use Rattle.fetch_wire.specs.LineViews.{line_of};
 ghost use Rattle.fetch_wire.specs.Requests as requests;
 ghost use Rattle.fetch_wire.specs.ServerLines as lines;
-ghost use Rattle.fetch_wire.specs.Written.{line_text, lines_text};
+ghost use Rattle.fetch_wire.specs.Written.{first_too_long, line_text, lines_text, too_long_in};
 
 use crate::asked::Asked;
 use crate::offered::{Wanted, offered};
@@ -17,8 +18,9 @@ use fetch_store::{Kind, NoMemory, Text};
 use fetch_wire::{Capability, Line, LineRef, greeting_lines, listing_lines, write_line};
 use std::alloc::Global;
 
-/// Appends a line. Each line of a server fits.
+/// Appends a line that fits.
 fn append_line(out: &mut Vec<u8>, line: LineRef<'_>) -> Result<(), NoMemory>
+    requires { too_long_in (line_of line) ≡ None }
     ensures { OnOk result (out.new.items ≡ out.old.items ++ line_text (line_of line.entry)) }
 {
     match write_line(out, line) {
@@ -27,7 +29,9 @@ fn append_line(out: &mut Vec<u8>, line: LineRef<'_>) -> Result<(), NoMemory>
     }
 }
 
+/// Appends lines that fit.
 fn append_lines(out: &mut Vec<u8>, lines: &[Line]) -> Result<(), NoMemory>
+    requires { first_too_long lines.now ≡ None }
     ensures { OnOk result (out.new.items ≡ out.old.items ++ lines_text lines.now) }
 {
     for line in lines {
@@ -79,6 +83,7 @@ fn append_greeting(alloc: Global, hash: Kind, out: &mut Vec<u8>) -> Result<(), N
 }
 
 fn append_listing(parts: Parts<'_>, wanted: Wanted<'_>, out: &mut Vec<u8>) -> Result<(), NoMemory>
+    requires { IsServable (held_by parts) }
     ensures { OnOk result (out.new.items ≡ out.old.items ++ lines_text (lines.listing_lines_of (offered_of (held_by parts.entry) wanted.entry.unborn wanted.entry.prefixes.now))) }
 {
     let references = offered(parts, wanted)?;
@@ -97,6 +102,7 @@ fn append_not_yet(out: &mut Vec<u8>) -> Result<(), NoMemory>
 
 #[tactic(auto, unfolding(crate::specs::Replies::reply_lines))]
 fn append_any(parts: Parts<'_>, asked: &Asked, out: &mut Vec<u8>) -> Result<(), NoMemory>
+    requires { IsServable (held_by parts) }
     ensures { OnOk result (out.new.items ≡ out.old.items ++ lines_text (reply_lines (held_by parts.entry) asked.now)) }
 {
     match asked {
@@ -118,6 +124,7 @@ pub(crate) fn append_reply(
     asked: &Asked,
     out: &mut Vec<u8>,
 ) -> Result<(), NoMemory>
+    requires { IsServable (held_by parts) }
     ensures ok { OnOk result (out.new.items ≡ out.old.items ++ reply_text (held_by parts.entry) asked.now) }
     ensures err { OnErr result (out.new.items ≡ out.old.items) }
 {

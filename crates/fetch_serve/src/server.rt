@@ -2,6 +2,7 @@
 
 ghost use Rattle.std.specs.Prelude.{◌≡◌, ◌++◌, None, IfErr, OnErr, OnOk};
 ghost use Rattle.fetch_serve.specs.Replies.{reply_text};
+ghost use Rattle.fetch_serve.specs.Servable.{IsServable};
 ghost use Rattle.fetch_serve.specs.Parts.{held_by};
 ghost use Rattle.fetch_serve.specs.Servings.{RefusesBy, Takes, state_of};
 ghost use Rattle.fetch_serve.specs.Texts.{IsBegun};
@@ -171,6 +172,7 @@ impl<'a> Server<'a> {
 
 /// Appends the reply to a request. A refusal leaves the output as before.
 fn reply_to(parts: Parts<'_>, asked: Asked, out: &mut Vec<u8>) -> Result<(), NoMemory>
+    requires { IsServable (held_by parts) }
     ensures ok { OnOk result (out.new.items ≡ out.old.items ++ reply_text (held_by parts.entry) asked) }
     ensures err { OnErr result (out.new.items ≡ out.old.items) }
 {
@@ -184,6 +186,7 @@ fn answer(
     intake: &mut Intake,
     out: &mut Vec<u8>,
 ) -> Result<(), Refusal>
+    requires servable { IsServable (held_by parts) }
     requires hash { intake.old.hash ≡ (held_by parts).hash }
     requires begun { IsBegun intake.old.hash intake.old.begun intake.old.pending }
     ensures ok { OnOk result (Takes (state_of (held_by parts.entry) intake.old out.old.items) piece.now (state_of (held_by parts.entry) intake.new out.new.items) None) }
