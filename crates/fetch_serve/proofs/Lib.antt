@@ -6,3 +6,4 @@ pub mod Answering
 pub mod Accepted
 pub mod Serving
 pub mod Fitting
+pub mod Acting

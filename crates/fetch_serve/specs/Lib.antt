@@ -11,3 +11,4 @@ pub mod Intakes
 pub mod Replies
 pub mod Servings
 pub mod Peers
+pub mod Acts

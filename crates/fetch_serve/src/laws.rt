@@ -1,6 +1,8 @@
 //! What the definitions of a server say, in other words. Each law is the contract of a function without a body.
 
 ghost use Rattle.std.specs.Prelude.{◌≡◌, ◌++◌, Bool, true, false, List, [], ℕ, Ok, Some, None};
+ghost use Rattle.fetch_serve.specs.Acts.{Act, DoesAll, fed_by};
+ghost use Rattle.fetch_serve.specs.Servings.{Serving, Takes, unfed};
 ghost use Rattle.fetch_serve.specs.Replies.{replies_of, replies_to, reply_text};
 ghost use Rattle.fetch_serve.specs.Served.{Data};
 ghost use Rattle.fetch_serve.specs.Texts.{IsBegun, and_more, asked_in, ends_at, request_at, with_first};
@@ -37,4 +39,13 @@ pub fn replies_grow()
 pub fn replies_come_one_by_one()
     ensures { (d : Data) (begun : Bool) (text rest : List ℕ) (asked : Asked) → request_at d.hash begun text ≡ Ok (asked, rest) →
         replies_to d (asked_in d.hash begun text).whole ≡ reply_text d asked ++ replies_to d (asked_in d.hash true rest).whole }
+{}
+
+/// Whatever pieces a fresh server is fed, and whenever its bytes are sent: all that was sent, with what is to be sent, is the
+/// replies to all that was fed. A piece is refused where its text shows the trouble, and for that.
+pub fn every_list_of_pieces_gives_the_replies()
+    ensures goes_on { (d : Data) (acts : List Act) (given : List ℕ) (now : Serving) → DoesAll (unfed d) acts given now →
+        (given ++ now.outgoing ≡ replies_of d (fed_by acts)) × ((asked_in d.hash false (fed_by acts)).trouble ≡ None) }
+    ensures refused { (d : Data) (acts : List Act) (given piece : List ℕ) (s now : Serving) (e : ServeError) → DoesAll (unfed d) acts given s → Takes s piece now (Some e) →
+        (given ++ now.outgoing ≡ replies_of d (fed_by acts ++ piece)) × ((asked_in d.hash false (fed_by acts ++ piece)).trouble ≡ Some e) }
 {}
