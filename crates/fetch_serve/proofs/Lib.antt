@@ -7,3 +7,4 @@ pub mod Accepted
 pub mod Serving
 pub mod Fitting
 pub mod Acting
+pub mod Reached

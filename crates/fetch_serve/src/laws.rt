@@ -1,8 +1,12 @@
 //! What the definitions of a server say, in other words. Each law is the contract of a function without a body.
 
-ghost use Rattle.std.specs.Prelude.{◌≡◌, ◌++◌, Bool, true, false, List, [], ℕ, Ok, Some, None};
+ghost use Rattle.std.specs.Prelude.{◌≡◌, ◌↔◌, ◌++◌, Bool, true, false, List, [], ℕ, Ok, Some, None};
 ghost use Rattle.fetch_serve.specs.Acts.{Act, DoesAll, fed_by};
 ghost use Rattle.fetch_serve.specs.Servings.{Serving, Takes, unfed};
+ghost use Rattle.fetch_serve.specs.Packs.{IsNeeded, is_needed, is_reached};
+ghost use Rattle.fetch_serve.specs.declared.asked.FetchAsked.{FetchAsked};
+ghost use Rattle.fetch_store.specs.Closed.{Holding, Reached};
+ghost use Rattle.fetch_store.specs.declared.id.ObjectId.{ObjectId as Id};
 ghost use Rattle.fetch_serve.specs.Replies.{replies_of, replies_to, reply_text};
 ghost use Rattle.fetch_serve.specs.Served.{Data};
 ghost use Rattle.fetch_serve.specs.Texts.{IsBegun, and_more, asked_in, ends_at, request_at, with_first};
@@ -48,4 +52,11 @@ pub fn every_list_of_pieces_gives_the_replies()
         (given ++ now.outgoing ≡ replies_of d (fed_by acts)) × ((asked_in d.hash false (fed_by acts)).trouble ≡ None) }
     ensures refused { (d : Data) (acts : List Act) (given piece : List ℕ) (s now : Serving) (e : ServeError) → DoesAll (unfed d) acts given s → Takes s piece now (Some e) →
         (given ++ now.outgoing ≡ replies_of d (fed_by acts ++ piece)) × ((asked_in d.hash false (fed_by acts ++ piece)).trouble ≡ Some e) }
+{}
+
+/// What a test says of what is reached is so: an id is reached in as many steps as there are objects, or not at all. So is what
+/// it says of the objects that a request needs.
+pub fn what_is_needed_is_tested()
+    ensures reached { (h : Holding) (starts : List Id) (id : Id) → (is_reached h starts id ≡ true) ↔ Reached h starts id }
+    ensures needed { (d : Data) (r : FetchAsked) (id : Id) → (is_needed d r id ≡ true) ↔ IsNeeded d r id }
 {}
