@@ -1,7 +1,7 @@
 //! The references that a server offers.
 
-ghost use Rattle.std.specs.Prelude.{◌≡◌, ◌++◌, ◌&&◌, ◌||◌, nat_eq, IfOk, OnOk, List, ℕ};
-ghost use Rattle.std.specs.List.{filter_map, flat_map, list_any, starts_with};
+ghost use Rattle.std.specs.Prelude.{◌≡◌, nat_eq, IfOk};
+ghost use Rattle.std.specs.List.{list_any, starts_with};
 ghost use Rattle.std.specs.Option.{option_copied};
 ghost use Rattle.std.specs.Result.{result_ok};
 ghost use Rattle.std.specs.Str.{bytes_eq};
@@ -203,7 +203,7 @@ fn offer(
 }
 
 /// Whether the name is a full one.
-pub(crate) fn is_full_name(alloc: Global, name: &[u8]) -> Result<bool, NoMemory>
+fn is_full_name(alloc: Global, name: &[u8]) -> Result<bool, NoMemory>
     ensures { IfOk result (λ full. full ≡ names.is_full_name name.now) }
 {
     match FullName::new(alloc, name) {
@@ -227,27 +227,4 @@ pub(crate) fn offered(parts: Parts<'_>, wanted: Wanted<'_>) -> Result<Vec<Ref>, 
         }
     }
     Ok(found)
-}
-
-/// The ids that may be wanted, in ascending order.
-pub(crate) fn offered_ids(alloc: Global, references: &[Ref]) -> Result<Vec<ObjectId>, NoMemory>
-    ensures { IfOk result (λ ids. ids.items ≡ flat_map spec.ids_in references.now) }
-{
-    let mut ids = Vec::new(alloc);
-    for reference in references {
-        let (_, id, peeled) = reference.unpack();
-        append_some(&mut ids, id)?;
-        append_some(&mut ids, peeled)?;
-    }
-    Ok(ids)
-}
-
-/// Appends the id, if there is one.
-fn append_some(ids: &mut Vec<ObjectId>, id: Option<&ObjectId>) -> Result<(), NoMemory>
-    ensures { OnOk result (ids.new.items ≡ ids.old.items ++ spec.some_of (option_copied id.entry)) }
-{
-    if let Some(id) = id {
-        ids.push(*id)?;
-    }
-    Ok(())
 }
