@@ -1,0 +1,14 @@
+pub mod Served
+pub mod Parts
+pub mod RequestTexts
+pub mod Requests
+pub mod Reads
+pub mod Texts
+pub mod Servable
+pub mod Offered
+pub mod Packs
+pub mod Intakes
+pub mod Replies
+pub mod Servings
+pub mod Peers
+pub mod Acts

@@ -1,0 +1,87 @@
+-- What a server answers.
+use Rattle.std.specs.Prelude.{ℕ, Bool, false, not, ◌||◌, List, [], ◌∷◌, ◌++◌, length, filter, nat_le, ◌^◌, codes, slice_get, Option, Some, None, if◌then◌else◌}
+use Rattle.std.specs.List.{flat_map, list_any}
+use Rattle.hex.specs.Hex.{encode_lower}
+use Rattle.fetch_store.specs.Id.{bytes_of}
+use Rattle.fetch_store.specs.Objects.{Stored}
+use Rattle.fetch_store.specs.declared.id.ObjectId.{ObjectId}
+use Rattle.fetch_pack.specs.Records.{pack_text, payloads_of}
+use Rattle.fetch_pack.specs.declared.version.PackVersion.{PackVersion}
+use Rattle.fetch_pack.specs.declared.version.PackVersion.TheVariants.{V1, V2}
+use Rattle.fetch_reach.specs.Stored.{objects_at}
+use Rattle.fetch_wire.specs.Requests.{text_line}
+use Rattle.fetch_wire.specs.ServerLines.{BorderChange, bands_of, greeting_lines, last_lines, listing_lines_of, round_lines}
+use Rattle.fetch_wire.specs.Written.{lines_text}
+use Rattle.fetch_wire.specs.declared.lines.line.Line.{Line}
+use Rattle.fetch_serve.specs.declared.asked.Asked.{Asked}
+use Rattle.fetch_serve.specs.declared.asked.Asked.TheVariants.{First, Listing, Fetch}
+use Rattle.fetch_serve.specs.declared.asked.FetchAsked.{FetchAsked}
+use Rattle.fetch_serve.specs.declared.asked.DepthAsked.{DepthAsked}
+use Rattle.fetch_serve.specs.Offered.{capabilities_of, offered_ids, offered_of}
+use Rattle.fetch_serve.specs.Packs.{known_haves, served_of, shallow_of, unshallow_of}
+use Rattle.fetch_serve.specs.Requests.{has_id}
+use Rattle.fetch_serve.specs.Served.{Data}
+use Rattle.fetch_serve.specs.Texts.{asked_in}
+
+-- the one line of a server that fails
+abbrev pub error_lines : List ℕ → List Line
+error_lines text = text_line (codes "ERR " ++ text) ∷ []
+
+-- what a server says of an id that it doesn't offer
+abbrev pub not_offered : ObjectId → List ℕ
+not_offered id = codes "want " ++ encode_lower (bytes_of id) ++ codes " not offered"
+
+-- the first want that isn't offered
+abbrev pub first_unoffered : Data → FetchAsked → Option ObjectId
+first_unoffered d r = slice_get (filter (λ id. not (has_id id (offered_ids d))) r.wants) 0
+
+-- whether a payload is too long for a version of the pack
+abbrev pub is_too_long : PackVersion → Stored → Bool
+is_too_long V1 o = nat_le (2 ^ 32) (length o.bytes)
+is_too_long V2 o = false
+
+-- whether a version of the pack can't hold so many objects, or one of them
+abbrev pub is_too_large : PackVersion → List Stored → Bool
+is_too_large version os = nat_le (2 ^ 32) (length os) || list_any (is_too_long version) os
+
+-- The change of the border is told where the request has depth lines.
+abbrev pub change_in : Data → FetchAsked → Option DepthAsked → Option BorderChange
+change_in d r None = None
+change_in d r (Some depth) = Some (record { shallow = shallow_of d r; unshallow = unshallow_of d r })
+
+-- the reply with a pack of these objects, where it isn't too large
+abbrev pub pack_lines : Data → FetchAsked → List Stored → List Line
+pack_lines d r os =
+    if is_too_large r.version os then error_lines (codes "pack too large")
+    else last_lines (change_in d r r.depth) (bands_of (pack_text r.version d.hash (payloads_of os)))
+
+-- a reply where each want is offered: the pack, or, before the client is done, the haves that are known
+abbrev pub fetched_lines : Data → FetchAsked → List Line
+fetched_lines d r = if r.done then pack_lines d r (objects_at d.objects (served_of d r)) else round_lines (known_haves d r)
+
+-- the reply to a fetch request
+abbrev pub fetch_lines : Data → FetchAsked → Option ObjectId → List Line
+fetch_lines d r (Some id) = error_lines (not_offered id)
+fetch_lines d r None = fetched_lines d r
+
+-- what a server says while packs aren't served
+unfoldable pub not_yet : List ℕ
+not_yet = codes "packs aren't served yet"
+
+-- the reply to a request, line by line
+unfoldable pub reply_lines : Data → Asked → List Line
+reply_lines d First = greeting_lines (capabilities_of d.hash)
+reply_lines d (Listing unborn prefixes) = listing_lines_of (offered_of d unborn prefixes)
+reply_lines d (Fetch r) = error_lines not_yet
+
+-- the same as it is written
+abbrev pub reply_text : Data → Asked → List ℕ
+reply_text d asked = lines_text (reply_lines d asked)
+
+-- the replies to requests
+abbrev pub replies_to : Data → List Asked → List ℕ
+replies_to d requests = flat_map (reply_text d) requests
+
+-- What a server gives for all that it heard from the first line on: the replies to all requests that are whole, in order.
+abbrev pub replies_of : Data → List ℕ → List ℕ
+replies_of d heard = replies_to d (asked_in d.hash false heard).whole

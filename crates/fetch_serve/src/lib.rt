@@ -1,0 +1,21 @@
+//! A server of packs: what it reads of requests, and what it answers.
+#![tactic(auto)]
+
+mod asked;
+mod error;
+mod fetch_reading;
+mod head_reading;
+mod intake;
+pub mod laws;
+mod listing_reading;
+mod offered;
+mod parts;
+mod reading;
+mod replying;
+mod saying;
+mod servable;
+mod server;
+
+pub use asked::{Asked, DepthAsked, FetchAsked};
+pub use error::ServeError;
+pub use server::{ServeTurn, Server};

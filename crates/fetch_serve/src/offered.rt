@@ -1,0 +1,230 @@
+//! The references that a server offers.
+
+ghost use Rattle.std.specs.Prelude.{◌≡◌, nat_eq, IfOk};
+ghost use Rattle.std.specs.List.{list_any, starts_with};
+ghost use Rattle.std.specs.Option.{option_copied};
+ghost use Rattle.std.specs.Result.{result_ok};
+ghost use Rattle.std.specs.Str.{bytes_eq};
+ghost use Rattle.fetch_refs.specs.Peeled.{resolved};
+ghost use Rattle.fetch_refs.specs.Targets.{seen};
+ghost use Rattle.fetch_serve.specs.Offered as spec;
+ghost use Rattle.fetch_serve.specs.Parts.{held_by};
+ghost use Rattle.fetch_specs.specs.Names as names;
+ghost use Rattle.fetch_store.specs.Graph.{graph_of};
+ghost use Rattle.fetch_wire.specs.Listings.{ref_with};
+
+use crate::parts::Parts;
+use fetch_refs::{RefError, TargetRef, peel_tags};
+use fetch_specs::{FullName, NameError};
+use fetch_store::{NoMemory, ObjectId, Objects, Store, Text};
+use fetch_wire::Ref;
+use std::alloc::Global;
+
+/// What a tag at this id leads to; nothing of another object.
+fn peeled_from(alloc: Global, store: &Store, id: ObjectId) -> Result<Option<ObjectId>, NoMemory>
+    ensures { IfOk result (λ found. found ≡ spec.peeled_from (graph_of store.now.objects) id) }
+{
+    if store.tag_target(&id).is_none() {
+        return Ok(None);
+    }
+    match peel_tags(alloc, store, id) {
+        Ok(last) => Ok(Some(last)),
+        Err(RefError::NoMemory) => Err(NoMemory),
+        Err(_) => Ok(None),
+    }
+}
+
+/// The id that a reference leads to by names, where it leads to one.
+fn resolved(
+    parts: Parts<'_>,
+    name: &[u8],
+    target: TargetRef<'_>,
+) -> Result<Option<ObjectId>, NoMemory>
+    ensures { IfOk result (λ found. found ≡ result_ok (resolved (held_by parts.entry).names name.now (seen target.entry))) }
+{
+    match parts.refs.resolve(name, target) {
+        Ok(id) => Ok(Some(id)),
+        Err(RefError::NoMemory) => Err(NoMemory),
+        Err(_) => Ok(None),
+    }
+}
+
+fn target_of(target: TargetRef<'_>) -> Option<&[u8]>
+    ensures { option_copied result ≡ spec.target_of (seen target.entry) }
+{
+    match target {
+        TargetRef::Object(_) => None,
+        TargetRef::Symbolic(name) => Some(name.as_bytes()),
+    }
+}
+
+/// The reference with this name and id, what it names, and what its tag leads to.
+// Long: one arm for each kind of reference, a field a line.
+fn made(
+    alloc: Global,
+    name: &[u8],
+    id: Option<ObjectId>,
+    target: Option<&[u8]>,
+    peeled: Option<ObjectId>,
+) -> Result<Option<Ref>, NoMemory>
+    ensures { IfOk result (λ found. found ≡ ref_with name.now id (option_copied target.entry, peeled)) }
+{
+    let full_ref_name = Text::new(alloc, name)?;
+    let target = match target {
+        Some(target) => Some(Text::new(alloc, target)?),
+        None => None,
+    };
+    Ok(match (id, target, peeled) {
+        (None, Some(target), _) => Some(Ref::Unborn {
+            full_ref_name,
+            target,
+        }),
+        (None, None, _) => None,
+        (Some(id), Some(target), Some(object)) => Some(Ref::Symbolic {
+            full_ref_name,
+            target,
+            tag: Some(id),
+            object,
+        }),
+        (Some(object), Some(target), None) => Some(Ref::Symbolic {
+            full_ref_name,
+            target,
+            tag: None,
+            object,
+        }),
+        (Some(tag), None, Some(object)) => Some(Ref::Peeled {
+            full_ref_name,
+            tag,
+            object,
+        }),
+        (Some(object), None, None) => Some(Ref::Direct {
+            full_ref_name,
+            object,
+        }),
+    })
+}
+
+/// What a tag at the id leads to, where there is an id.
+fn peeled_if(
+    alloc: Global,
+    store: &Store,
+    id: Option<ObjectId>,
+) -> Result<Option<ObjectId>, NoMemory>
+    ensures { IfOk result (λ found. found ≡ spec.peeled_behind (graph_of store.now.objects) id) }
+{
+    match id {
+        Some(id) => peeled_from(alloc, store, id),
+        None => Ok(None),
+    }
+}
+
+/// The reference as it is listed.
+fn listed(parts: Parts<'_>, name: &[u8], target: TargetRef<'_>) -> Result<Option<Ref>, NoMemory>
+    ensures { IfOk result (λ found. found ≡ spec.listed (held_by parts.entry) (name.now, seen target.entry)) }
+{
+    let id = resolved(parts, name, target)?;
+    let peeled = peeled_if(parts.alloc, parts.store, id)?;
+    made(parts.alloc, name, id, target_of(target), peeled)
+}
+
+#[tactic(auto, unfolding(crate::specs::Offered::head_name))]
+fn is_head(name: &[u8]) -> bool
+    ensures { result ≡ bytes_eq name.now spec.head_name }
+{
+    name == b"HEAD".as_slice()
+}
+
+#[tactic(auto, unfolding(fetch_specs::specs::Categories::refs))]
+fn is_public(name: &[u8]) -> bool
+    ensures { result ≡ spec.is_public name.now }
+{
+    is_head(name) || name.starts_with(b"refs/")
+}
+
+fn is_under(prefixes: &[Text], name: &[u8]) -> bool
+    ensures { result ≡ spec.is_under prefixes.now name.now }
+{
+    prefixes.len() == 0 || begins_with_one(prefixes, name)
+}
+
+fn begins_with_one(prefixes: &[Text], name: &[u8]) -> bool
+    ensures { result ≡ list_any (λ p. starts_with nat_eq name.now p) prefixes.now }
+{
+    prefixes
+        .iter()
+        .any(|prefix| name.starts_with(prefix.as_bytes()))
+}
+
+/// The reference, where it is told: an unborn one is where it is `HEAD` and was asked for.
+fn if_told(unborn: bool, reference: Ref) -> Option<Ref>
+    ensures { result ≡ spec.if_told unborn reference }
+{
+    if is_told(unborn, &reference) {
+        Some(reference)
+    } else {
+        None
+    }
+}
+
+fn is_told(unborn: bool, reference: &Ref) -> bool
+    ensures { result ≡ spec.is_told unborn reference.now }
+{
+    match reference {
+        Ref::Unborn { full_ref_name, .. } => unborn && is_head(full_ref_name.as_bytes()),
+        Ref::Direct { .. } | Ref::Symbolic { .. } | Ref::Peeled { .. } => true,
+    }
+}
+
+/// Which references are asked for.
+#[derive(Clone, Copy)]
+pub(crate) struct Wanted<'a> {
+    /// Whether an unborn `HEAD` is.
+    pub unborn: bool,
+    /// Prefixes of the names; all, where there is none.
+    pub prefixes: &'a [Text],
+}
+
+/// The reference, where it is offered.
+fn offer(
+    parts: Parts<'_>,
+    wanted: Wanted<'_>,
+    name: &[u8],
+    target: TargetRef<'_>,
+) -> Result<Option<Ref>, NoMemory>
+    ensures { IfOk result (λ found. found ≡ spec.offer (held_by parts.entry) wanted.entry.unborn wanted.entry.prefixes.now (name.now, seen target.entry)) }
+{
+    if !is_public(name) || !is_under(wanted.prefixes, name) {
+        return Ok(None);
+    }
+    match listed(parts, name, target)? {
+        Some(reference) => Ok(if_told(wanted.unborn, reference)),
+        None => Ok(None),
+    }
+}
+
+/// Whether the name is a full one.
+fn is_full_name(alloc: Global, name: &[u8]) -> Result<bool, NoMemory>
+    ensures { IfOk result (λ full. full ≡ names.is_full_name name.now) }
+{
+    match FullName::new(alloc, name) {
+        Ok(_) => Ok(true),
+        Err(NameError::NoMemory) => Err(NoMemory),
+        Err(_) => Ok(false),
+    }
+}
+
+/// The references that are offered, `HEAD` first, and then by ascending name.
+pub(crate) fn offered(parts: Parts<'_>, wanted: Wanted<'_>) -> Result<Vec<Ref>, NoMemory>
+    ensures { IfOk result (λ found. found.items ≡ spec.offered_of (held_by parts.entry) wanted.entry.unborn wanted.entry.prefixes.now) }
+{
+    let mut found = Vec::new(parts.alloc);
+    let mut references = parts.refs.iter();
+    while let Some((name, target)) = references.next() {
+        if is_full_name(parts.alloc, name)? {
+            if let Some(reference) = offer(parts, wanted, name, target)? {
+                found.push(reference)?;
+            }
+        }
+    }
+    Ok(found)
+}

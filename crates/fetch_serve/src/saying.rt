@@ -1,0 +1,46 @@
+//! What a line of a request says.
+
+ghost use Rattle.std.specs.Prelude.{◌≡◌, List, ℕ};
+ghost use Rattle.fetch_serve.specs.Reads.{by_saying};
+ghost use Rattle.fetch_serve.specs.Requests.{by_request_line};
+ghost use Rattle.fetch_serve.specs.declared.asked.Asked.{Asked};
+ghost use Rattle.fetch_serve.specs.declared.reading.Reading.{Reading};
+ghost use Rattle.fetch_wire.specs.LineViews.{line_of};
+ghost use Rattle.fetch_wire.specs.Stepping.{Step};
+ghost use Rattle.fetch_wire.specs.Texts.{without_lf};
+
+use fetch_wire::LineRef;
+
+/// What a line says.
+#[derive(Clone, Copy)]
+pub(crate) enum Saying<'a> {
+    /// A text, without its last line feed.
+    Text(&'a [u8]),
+    Flush,
+    Delim,
+    End,
+}
+
+#[tactic(auto, unfolding(fetch_wire::specs::Texts::without_lf))]
+fn without_line_feed(text: &[u8]) -> &[u8]
+    ensures { result.now ≡ without_lf text.now }
+{
+    if !text.is_empty() && text[text.len() - 1] == b'\n' {
+        &text[..text.len() - 1]
+    } else {
+        text
+    }
+}
+
+/// What the line says.
+pub(crate) fn said_by(line: LineRef<'_>) -> Saying<'_>
+    ensures { (flush delim : Step Reading Asked) (text : List ℕ → Step Reading Asked)
+        → by_saying flush delim text result ≡ by_request_line flush delim text (line_of line.entry) }
+{
+    match line {
+        LineRef::Payload(payload) => Saying::Text(without_line_feed(payload)),
+        LineRef::Flush => Saying::Flush,
+        LineRef::Delim => Saying::Delim,
+        LineRef::End => Saying::End,
+    }
+}
