@@ -2,11 +2,12 @@
 
 ghost use Rattle.std.specs.Prelude.{◌≡◌, ◌<◌, ◌∷◌, [], Some};
 
-use fetch_store::{List, Next, NoMemory, ObjectId, Steps, spread};
+use crate::words::{id_of, say_ids};
+use fetch_store::{List, Next, NoMemory, ObjectId, Steps, decimal, spread};
+use rows::split_word;
 use std::alloc::Global;
 use std::marker::Brand;
 use std::sync::ledger::{Blank, Ledger};
-use std::test::Fail;
 
 /// Each id leads to one and the same.
 #[derive(Drop)]
@@ -25,18 +26,18 @@ impl Next for ToOne {
     }
 }
 
-fn count_spread<Brand: Ledger>(
+fn count_spread<L: Ledger>(
     alloc: Global,
     next: &ToOne,
     start: ObjectId,
     limit: u64,
     blank: Blank,
 ) -> Result<List<ObjectId>, NoMemory>
-    requires name { blank.name ≡ Brand.name }
-    requires parts { blank.parts ≡ Brand.parts }
+    requires name { blank.name ≡ L.name }
+    requires parts { blank.parts ≡ L.parts }
     requires some { 0 < blank.parts }
 {
-    let mut steps: Steps<Brand> = Steps::new(blank);
+    let mut steps: Steps<L> = Steps::new(blank);
     spread(alloc, next, [start].as_slice(), Some(limit), &mut steps)
 }
 
@@ -49,14 +50,15 @@ fn spread_from(
     count_spread::<Brand>(alloc, next, start, limit, Blank::new(1))
 }
 
-#[test]
-fn a_walk_goes_no_further_than_its_limit(rt: HostRuntime) -> Result<(), Fail> {
-    let low = ObjectId::Sha1([1; 20]);
-    let high = ObjectId::Sha1([2; 20]);
-    let next = ToOne(low);
-    let near = spread_from(rt.alloc(), &next, high, 0)?;
-    assert!(rt; near.as_slice() == [high].as_slice());
-    let far = spread_from(rt.alloc(), &next, high, 1)?;
-    assert!(rt; far.as_slice() == [low, high].as_slice());
-    Ok(())
+/// `<id> <id> <steps>`: tells what is reached from the first by so many steps, where each id leads to the second. Whether
+/// the words are these.
+pub(crate) fn tell(alloc: Global, rest: &[u8], out: &mut Vec<u8>) -> Result<bool, NoMemory> {
+    let (start, rest) = split_word(rest);
+    let (to, limit) = split_word(rest);
+    let (Some(start), Some(to), Some(limit)) = (id_of(start), id_of(to), decimal(limit)) else {
+        return Ok(false);
+    };
+    let found = spread_from(alloc, &ToOne(to), start, limit)?;
+    say_ids(out, b"walk", found.as_slice())?;
+    Ok(true)
 }
