@@ -72,7 +72,7 @@ not_yet = codes "packs aren't served yet"
 unfoldable pub reply_lines : Data → Asked → List Line
 reply_lines d First = greeting_lines (capabilities_of d.hash)
 reply_lines d (Listing unborn prefixes) = listing_lines_of (offered_of d unborn prefixes)
-reply_lines d (Fetch r) = error_lines not_yet
+reply_lines d (Fetch r) = fetch_lines d r (first_unoffered d r)
 
 -- the same as it is written
 abbrev pub reply_text : Data → Asked → List ℕ

@@ -2,6 +2,7 @@
 #![tactic(auto)]
 
 mod asked;
+mod bands;
 mod error;
 mod fetch_reading;
 mod head_reading;
@@ -14,6 +15,7 @@ mod reading;
 mod replying;
 mod saying;
 mod servable;
+mod served;
 mod server;
 
 pub use asked::{Asked, DepthAsked, FetchAsked};
