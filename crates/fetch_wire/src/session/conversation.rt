@@ -18,7 +18,6 @@ use std::marker::Model;
 
 /// A conversation: it sends the first line, the listing request, and each request that it is given. It reads as soon as
 /// bytes are fed, also replies whose requests are still to be sent. Contracts see what it sends, awaits and was told.
-#[derive(Drop)]
 pub struct Session {
     agent: Text,
     prefixes: List<Text>,
@@ -443,5 +442,22 @@ impl Session {
         self.reply = None;
         self.store(found);
         Ok(())
+    }
+}
+
+impl Drop for Session {
+    fn drop(self) {
+        let Session {
+            agent: _,
+            prefixes: _,
+            outgoing: _,
+            sent: _,
+            intake: _,
+            handshake: _,
+            refs: _,
+            reply: _,
+            trouble: _,
+            refused: _,
+        } = self;
     }
 }
