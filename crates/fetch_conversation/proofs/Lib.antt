@@ -13,6 +13,7 @@ pub mod Listings
 pub mod Requests
 pub mod Exchanged
 pub mod Heeded
+pub mod Blame
 pub mod Held
 pub mod Told
 pub mod Ending

@@ -7,8 +7,9 @@ use Rattle.fetch_wire.specs.Talks.{Talk, Talks, Receive, Makes, at_once, IsDrain
 use Rattle.fetch_wire.specs.declared.error.WireError.{WireError}
 use Rattle.fetch_wire.specs.declared.error.WireError.TheVariants as wire
 use Rattle.fetch_wire.specs.declared.session.turn.Turn.TheVariants as turns
-use Rattle.fetch_conversation.specs.Errors.{is_yes}
-use Rattle.fetch_conversation.specs.Receiving.{IsHeeded}
+use Rattle.fetch_conversation.specs.Errors.{is_failed, is_yes}
+use Rattle.fetch_conversation.specs.Blame.{BlamesPeer, BlamesInterrupt, is_told}
+use Rattle.fetch_conversation.specs.Receiving.{last_question}
 use Rattle.fetch_conversation.specs.declared.drive.Stop.{Stop}
 use Rattle.fetch_conversation.specs.declared.drive.Stop.TheVariants as stops
 
@@ -78,12 +79,8 @@ Drives answers old new s now (Err e) = Stops answers old new s e
 -- is told, and no Ok follows a yes. The interrupt was asked once before each receive.
 pub record IsDriven {T : Type 0} (answers : Bool) (old new : Option Talk) (s now : SessionState) (faults faults' yes yes' : Faults) (will will' : ℕ → Type 0) (result : Result T Stop) : Type 0 where
   pub driven : Drives answers old new s now result
-  pub counts : Counts faults faults'
-  pub failed : IsErrOf result stops.Failed → Rose faults faults'
-  pub asked : Counts yes yes'
-  pub interrupted : IsErrOf result stops.Interrupted → Rose yes yes'
-  pub uninterrupted : OnOk result (yes'.count ≡ yes.count)
-  pub questions : IsHeeded is_yes will will' old new result
+  pub peer : BlamesPeer faults faults' (is_told is_failed result)
+  pub interrupt : BlamesInterrupt yes yes' will will' old new (last_question is_yes result)
 
 -- ---- one step
 

@@ -57,6 +57,12 @@ fetch_of_stop (stops.Refused e) = fetch_of_wire e
 fetch_of_stop stops.Failed = fetch.Client
 fetch_of_stop stops.Interrupted = fetch.Interrupted
 
+-- a fault of the peer
+abbrev pub is_failed : Stop → Bool
+is_failed (stops.Refused e) = false
+is_failed stops.Failed = true
+is_failed stops.Interrupted = false
+
 -- a yes of the interrupt
 abbrev pub is_yes : Stop → Bool
 is_yes (stops.Refused e) = false

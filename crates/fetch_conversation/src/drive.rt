@@ -1,10 +1,10 @@
 //! A session is driven: what it has to send is sent, and what its peer says is fed to it.
 
 ghost use Rattle.std.specs.Prelude.{◌≡◌, ◌<◌, [], false, length, IfErr, OnOk, IsErrOf};
-ghost use Rattle.fetch_store.specs.Faults.{Rose, Counts};
+ghost use Rattle.fetch_conversation.specs.Blame.{BlamesPeer, BlamesInterrupt, is_told};
+ghost use Rattle.fetch_conversation.specs.Receiving.{last_question};
 ghost use Rattle.fetch_conversation.specs.Drives.{IsDrivable, Drives, IsDriven, IsUnsent, Takes, made_by};
-ghost use Rattle.fetch_conversation.specs.Errors.{is_yes};
-ghost use Rattle.fetch_conversation.specs.Receiving.{IsHeeded};
+ghost use Rattle.fetch_conversation.specs.Errors.{is_failed, is_yes};
 ghost use Rattle.fetch_wire.specs.SessionStates.{turn_of, IsAwaiting};
 ghost use Rattle.fetch_wire.specs.Talks.{Sends, Makes};
 ghost use Rattle.fetch_wire.specs.declared.session.turn.Turn.TheVariants as turns;
@@ -55,8 +55,7 @@ fn send<P: Peer>(session: &mut Session, peer: &mut P) -> Result<(), Stop>
     ensures talk { Sends P.answers (P.told peer.old) (P.told peer.new) result session.old.outgoing }
     ensures receives { Makes (P.told peer.old) (P.told peer.new) [] }
     ensures cause { IfErr result (λ e. IsUnsent e) }
-    ensures counts { Counts (P.faults peer.old) (P.faults peer.new) }
-    ensures failed { IsErrOf result Stop.Failed → Rose (P.faults peer.old) (P.faults peer.new) }
+    ensures peer { BlamesPeer (P.faults peer.old) (P.faults peer.new) (is_told is_failed result) }
 {
     match peer.send(session.outgoing()) {
         Ok(()) => {
@@ -81,12 +80,8 @@ fn receive<P: Peer, I: Interrupt>(
     requires room { 0 < length buffer.old }
     ensures taken { Takes (P.told peer.old) (P.told peer.new) session.old session.new result }
     ensures receives { Makes (P.told peer.old) (P.told peer.new) (made_by result) }
-    ensures counts { Counts (P.faults peer.old) (P.faults peer.new) }
-    ensures failed { IsErrOf result Stop.Failed → Rose (P.faults peer.old) (P.faults peer.new) }
-    ensures asked { Counts (I.yes interrupt.old) (I.yes interrupt.new) }
-    ensures interrupted { IsErrOf result Stop.Interrupted → Rose (I.yes interrupt.old) (I.yes interrupt.new) }
-    ensures uninterrupted { OnOk result ((I.yes interrupt.new).count ≡ (I.yes interrupt.old).count) }
-    ensures questions { IsHeeded is_yes (I.will_stop interrupt.old) (I.will_stop interrupt.new) (P.told peer.old) (P.told peer.new) result }
+    ensures peer { BlamesPeer (P.faults peer.old) (P.faults peer.new) (is_told is_failed result) }
+    ensures interrupt { BlamesInterrupt (I.yes interrupt.old) (I.yes interrupt.new) (I.will_stop interrupt.old) (I.will_stop interrupt.new) (P.told peer.old) (P.told peer.new) (last_question is_yes result) }
 {
     if interrupt.asked() {
         return Err(Stop::Interrupted);
@@ -135,12 +130,8 @@ pub(crate) fn drive<P: Peer, I: Interrupt>(
 ) -> Result<(), Stop>
     requires { IsDrivable session.old }
     ensures driven { Drives P.answers (P.told peer.old) (P.told peer.new) session.old session.new result }
-    ensures counts { Counts (P.faults peer.old) (P.faults peer.new) }
-    ensures failed { IsErrOf result Stop.Failed → Rose (P.faults peer.old) (P.faults peer.new) }
-    ensures asked { Counts (I.yes interrupt.old) (I.yes interrupt.new) }
-    ensures interrupted { IsErrOf result Stop.Interrupted → Rose (I.yes interrupt.old) (I.yes interrupt.new) }
-    ensures uninterrupted { OnOk result ((I.yes interrupt.new).count ≡ (I.yes interrupt.old).count) }
-    ensures questions { IsHeeded is_yes (I.will_stop interrupt.old) (I.will_stop interrupt.new) (P.told peer.old) (P.told peer.new) result }
+    ensures peer { BlamesPeer (P.faults peer.old) (P.faults peer.new) (is_told is_failed result) }
+    ensures interrupt { BlamesInterrupt (I.yes interrupt.old) (I.yes interrupt.new) (I.will_stop interrupt.old) (I.will_stop interrupt.new) (P.told peer.old) (P.told peer.new) (last_question is_yes result) }
 {
     let mut buffer = vec![in alloc; 0u8; PIECE]?;
     take_turns(session, peer, interrupt, &mut buffer)

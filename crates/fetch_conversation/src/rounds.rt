@@ -2,7 +2,8 @@
 
 ghost use Rattle.std.specs.Prelude.{◌≡◌, ◌+◌, ◌∷◌, ◌++◌, ◌||◌, [], false, suc, None, IfOk, OnOk, IsErrOf};
 ghost use Rattle.std.specs.FinMap as map;
-ghost use Rattle.fetch_store.specs.Faults.{Rose, Counts};
+ghost use Rattle.fetch_conversation.specs.Blame.{BlamesPeer, BlamesInterrupt, is_told};
+ghost use Rattle.fetch_conversation.specs.Receiving.{last_question};
 ghost use Rattle.fetch_store.specs.declared.id.ObjectId.{ObjectId as Id};
 ghost use Rattle.fetch_negotiate.specs.Any.{algorithm_of, known_by, so_far_of};
 ghost use Rattle.fetch_negotiate.specs.Reading.{IsTold};
@@ -11,9 +12,8 @@ ghost use Rattle.fetch_negotiate.specs.Windows.{next_size};
 ghost use Rattle.fetch_conversation.specs.Conversation.{Converses};
 ghost use Rattle.fetch_conversation.specs.ConverseStage.{algorithm_in};
 ghost use Rattle.fetch_conversation.specs.Conversing.{Holds, course_of, negotiated_of, terms_told};
-ghost use Rattle.fetch_conversation.specs.Errors.{is_free_receiving, is_stopped};
+ghost use Rattle.fetch_conversation.specs.Errors.{is_free_receiving, is_client, is_stopped};
 ghost use Rattle.fetch_conversation.specs.ListStage.{IsReady, shown, pending_of};
-ghost use Rattle.fetch_conversation.specs.Receiving.{IsHeeded};
 ghost use Rattle.fetch_conversation.specs.Rounds as spec;
 ghost use Rattle.fetch_conversation.specs.declared.fetch.Error.TheVariants as errors;
 
@@ -190,12 +190,8 @@ fn hold_round<P: Peer, I: Interrupt, O: Objects>(
     ensures ready { OnOk result (IsReady listed.new) }
     ensures bound { OnOk result (listed.new.session.intake.bound ≡ listed.old.session.intake.bound) }
     ensures kept { shown listed.new ≡ shown listed.old }
-    ensures counts { Counts (P.faults peer.old) (P.faults peer.new) }
-    ensures client { IsErrOf result errors.Client → Rose (P.faults peer.old) (P.faults peer.new) }
-    ensures asked { Counts (I.yes interrupt.old) (I.yes interrupt.new) }
-    ensures interrupted { IsErrOf result errors.Interrupted → Rose (I.yes interrupt.old) (I.yes interrupt.new) }
-    ensures uninterrupted { OnOk result ((I.yes interrupt.new).count ≡ (I.yes interrupt.old).count) }
-    ensures questions { IsHeeded is_stopped (I.will_stop interrupt.old) (I.will_stop interrupt.new) (P.told peer.old) (P.told peer.new) result }
+    ensures peer { BlamesPeer (P.faults peer.old) (P.faults peer.new) (is_told is_client result) }
+    ensures interrupt { BlamesInterrupt (I.yes interrupt.old) (I.yes interrupt.new) (I.will_stop interrupt.old) (I.will_stop interrupt.new) (P.told peer.old) (P.told peer.new) (last_question is_stopped result) }
 {
     let round = course.next(objects)?;
     exchange(
@@ -238,12 +234,8 @@ pub(crate) fn negotiate<P: Peer, I: Interrupt, O: Objects>(
         (spec.negotiating (suc (map.len (O.graph objects.now))) listed.old.session.intake.bound (terms_told (shown listed.old) terms.now) (O.graph objects.now) (algorithm_in terms.now.settings.now)
         (spec.first_course (algorithm_in terms.now.settings.now) terms.now.view.now)) (negotiated_of result listed.new.session.reply) }
     ensures kept { shown listed.new ≡ shown listed.old }
-    ensures counts { Counts (P.faults peer.old) (P.faults peer.new) }
-    ensures client { IsErrOf result errors.Client → Rose (P.faults peer.old) (P.faults peer.new) }
-    ensures asked { Counts (I.yes interrupt.old) (I.yes interrupt.new) }
-    ensures interrupted { IsErrOf result errors.Interrupted → Rose (I.yes interrupt.old) (I.yes interrupt.new) }
-    ensures uninterrupted { OnOk result ((I.yes interrupt.new).count ≡ (I.yes interrupt.old).count) }
-    ensures questions { IsHeeded is_stopped (I.will_stop interrupt.old) (I.will_stop interrupt.new) (P.told peer.old) (P.told peer.new) result }
+    ensures peer { BlamesPeer (P.faults peer.old) (P.faults peer.new) (is_told is_client result) }
+    ensures interrupt { BlamesInterrupt (I.yes interrupt.old) (I.yes interrupt.new) (I.will_stop interrupt.old) (I.will_stop interrupt.new) (P.told peer.old) (P.told peer.new) (last_question is_stopped result) }
 {
     let most = most_rounds(objects)?;
     let mut course = Course::new(alloc, terms)?;

@@ -1,4 +1,4 @@
-use Rattle.std.proofs.Common.{◌≡◌, false, List, Option, Some, None, Ok, Err, refl, sym, subst, ◌∙◌, arith}
+use Rattle.std.proofs.Common.{rules, ◌≡◌, false, List, Option, Some, None, Ok, Err, refl, sym, subst, ◌∙◌, arith}
 use Rattle.std.proofs.lemmas.Result.{err_from_is_err_and}
 use Rattle.fetch_wire.specs.declared.requests.records.FetchReply.{FetchReply}
 use Rattle.fetch_negotiate.specs.declared.algorithm.Round.{Round}
@@ -78,26 +78,3 @@ returns-clause-held g c =
     holds_found g.P.Peer.answers c.args.listed.now.session.intake.bound (g.P.Peer.told c.args.peer.now) (g.P.Peer.told c.negotiate.new.peer) _ _ (g.O.Objects.graph c.args.objects.now) t n c.negotiate.new.listed.session.reply (Ok (Some x)) c.in_ok-refuse.ensures.clear some
     c.in_ok-negotiate.ensures.held.held (finds_received t n.rounds c.negotiate.new.listed.session.reply c.in-Some.reply.now x told received_so)
 
-pub returns-in_err-refuse-clause-questions : goal.returns-in_err-refuse-clause-questions
-returns-in_err-refuse-clause-questions g c =
-    let p = err_from_is_err_and c.from_residual.result c.from_residual.ensures.1 in
-    rw (p.1, p.2) (heeded_still _ _ _ _ (no_question (Unit {0}) is_stopped c.in_err-refuse.field-0.0 c.in_err-refuse.ensures.own.1))
-
-pub returns-then-is_empty-clause-questions : goal.returns-then-is_empty-clause-questions
-returns-then-is_empty-clause-questions g c = heeded_still _ _ _ _ refl
-
-pub returns-in_err-negotiate-clause-questions : goal.returns-in_err-negotiate-clause-questions
-returns-in_err-negotiate-clause-questions g c =
-    let p = err_from_is_err_and c.from_residual-in_err-negotiate.result c.from_residual-in_err-negotiate.ensures.1 in
-    rw (p.1, p.2) (heeded_as _ _ _ _ _ _ _ _ refl c.in_err-negotiate.ensures.questions)
-
-pub returns-in_default-clause-questions : goal.returns-in_default-clause-questions
-returns-in_default-clause-questions g c = heeded_as _ _ _ _ _ _ _ _ refl c.in_ok-negotiate.ensures.questions
-
-pub returns-in_err-received-clause-questions : goal.returns-in_err-received-clause-questions
-returns-in_err-received-clause-questions g c =
-    let p = err_from_is_err_and c.from_residual-in_err-received.result c.from_residual-in_err-received.ensures.1 in
-    rw (p.1, p.2) (heeded_as _ _ _ _ _ _ _ _ (sym (no_question (Unit {0}) is_stopped c.in_err-received.field-0.0 c.in_err-received.ensures.own.1)) c.in_ok-negotiate.ensures.questions)
-
-pub returns-clause-questions : goal.returns-clause-questions
-returns-clause-questions g c = heeded_as _ _ _ _ _ _ _ _ refl c.in_ok-negotiate.ensures.questions

@@ -1,4 +1,4 @@
-use Rattle.std.proofs.Common.{◌≡◌, Bool, true, false, Some, None, refl, sym, ap, ◌∙◌}
+use Rattle.std.proofs.Common.{rules, ◌≡◌, Bool, true, false, Some, None, refl, sym, ap, ◌∙◌}
 use Rattle.std.specs.Prelude.{◌&&◌, if◌then◌else◌}
 use Rattle.fetch_conversation.specs.ListStage.{InquiryValue, no_specs, is_nil}
 use Rattle.fetch_conversation.specs.declared.prepare.Error.TheVariants as errors
@@ -22,5 +22,3 @@ returns-clause-held g c =
     let q : InquiryValue = record { address = c.args.inquiry.now.address.now; agent = c.args.inquiry.now.agent.now; specs = c.args.inquiry.now.specs.now; tags = c.args.inquiry.now.tags; options = c.args.options } in
     lists_named g.P.Peer.answers (g.P.Peer.told c.args.peer.now) (g.P.Peer.told c.inquire.new.peer) q c.inquire.result (some_named q c.names_none.result c.names_none.ensures c.if-names_none.false) c.inquire.ensures.held
 
-pub returns-then-names_none-clause-questions : goal.returns-then-names_none-clause-questions
-returns-then-names_none-clause-questions g c = heeded_still _ _ _ _ refl

@@ -1,4 +1,4 @@
-use Rattle.std.proofs.Common.{◌≡◌, Option, Some, None, Ok, refl, ap, subst, ◌∙◌, arith}
+use Rattle.std.proofs.Common.{rules, ◌≡◌, Option, Some, None, Ok, refl, ap, subst, ◌∙◌, arith}
 use Rattle.std.proofs.lemmas.Result.{err_from_is_err_and}
 use Rattle.fetch_wire.specs.declared.requests.records.FetchReply.{FetchReply}
 use Rattle.fetch_negotiate.specs.Any.{algorithm_of}
@@ -65,20 +65,3 @@ returns-in-None-clause-held g c =
     let held = subst (λ (o : Option FetchReply). Exchanged bound t graph algorithm g.P.Peer.answers (g.P.Peer.told c.args.peer.now) (g.P.Peer.told c.exchange.new.peer) (pending_of c.args.listed.now) (pending_of c.exchange.new.listed) shared round (found_in (λ (r : FetchReply). Ok r) o)) none c.in_ok-exchange.ensures.held.held in
     λ more. unanswered bound t graph algorithm g.P.Peer.answers (g.P.Peer.told c.args.peer.now) (g.P.Peer.told c.exchange.new.peer) (pending_of c.args.listed.now) (pending_of c.exchange.new.listed) more before d round shared other_reply next held
 
-pub returns-in_err-round-clause-questions : goal.returns-in_err-round-clause-questions
-returns-in_err-round-clause-questions g c =
-    let p = err_from_is_err_and c.from_residual.result c.from_residual.ensures.1 in
-    rw (p.1, p.2) (heeded_still _ _ _ _ refl)
-
-pub returns-in_err-exchange-clause-questions : goal.returns-in_err-exchange-clause-questions
-returns-in_err-exchange-clause-questions g c =
-    let p = err_from_is_err_and c.from_residual-in_err-exchange.result c.from_residual-in_err-exchange.ensures.1 in
-    rw (p.1, p.2) (heeded_as _ _ _ _ _ _ _ _ refl c.in_err-exchange.ensures.questions)
-
-pub returns-in_err-take_in-in-Some-clause-questions : goal.returns-in_err-take_in-in-Some-clause-questions
-returns-in_err-take_in-in-Some-clause-questions g c =
-    let p = err_from_is_err_and c.from_residual-in_err-take_in-in-Some.result c.from_residual-in_err-take_in-in-Some.ensures.1 in
-    rw (p.1, p.2) (heeded_as _ _ _ _ _ _ _ _ refl c.in_ok-exchange.ensures.questions)
-
-pub returns-in-None-clause-questions : goal.returns-in-None-clause-questions
-returns-in-None-clause-questions g c = heeded_as _ _ _ _ _ _ _ _ refl c.in_ok-exchange.ensures.questions
