@@ -15,6 +15,7 @@ pub mod Moving
 pub mod IdTexts
 pub mod GreetingLines
 pub mod ListingLines
+pub mod KnownIds
 pub mod ReplyLines
 pub mod AdvertisementLines
 pub mod ReadBack

@@ -8,6 +8,7 @@ use crate::lines::write::{write_line, write_lines};
 use crate::listings::reference::Ref;
 use crate::replies::awaited::{AskedReply, Await, Fault, Told};
 use crate::replies::bound::ReplyBound;
+use crate::replies::haves::Haves;
 use crate::requests::records::{FetchReply, Request};
 use crate::requests::request_parts::{first_line, listing_request};
 use crate::session::intake::{Found, Intake};
@@ -405,7 +406,7 @@ impl Session {
     {
         Ok(AskedReply {
             kind: self.kind(),
-            haves: request.haves.try_clone()?,
+            haves: Haves::new(request.haves.try_clone()?)?,
             done: request.done,
             read_pack,
         })
