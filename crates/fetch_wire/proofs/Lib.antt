@@ -4,11 +4,13 @@ pub mod Listed
 pub mod Cut
 pub mod Agents
 pub mod Peeling
+pub mod Staying
 pub mod Driving
 pub mod Conversing
 pub mod SessionPieces
 pub mod SessionAlike
 pub mod SessionSending
+pub mod Lessening
 pub mod StepKeeps
 pub mod NamedOnce
 pub mod Moving
