@@ -1,6 +1,5 @@
 -- Who is blamed: in no call, and in one call after another.
-use Rattle.std.proofs.Common.{◌≡◌, ◌<◌, ◌≤◌, ◌+◌, ◌-◌, ℕ, suc, Bool, true, false, [], ◌∷◌, Option, refl, sym, ◌∙◌, subst, arith, inl, inr}
-use Rattle.std.specs.Prelude.{◌⊎◌}
+use Rattle.std.proofs.Common.{◌≡◌, ◌+◌, ℕ, suc, Bool, [], ◌∷◌, Option, refl, sym, ◌∙◌, subst, arith}
 use Rattle.std.proofs.lemmas.Bool.{cases_lt}
 use Rattle.fetch_store.specs.Faults.{Faults, Rose, Counts, Counts-none, Counts-then, Rose-earlier}
 use Rattle.fetch_wire.specs.Talks.{Talk, Makes, at_once}

@@ -120,7 +120,7 @@ pub none_asked : {T E : Type 0} (says : E → Bool) (result : Result T E) → If
 none_asked says (Ok x) own = refl
 none_asked says (Err e) own = sym (by_test (says e) false own)
 
-prepares : (e : WireError) → false ≡ is_interrupted (prepare_of_wire e)
+pub prepares : (e : WireError) → false ≡ is_interrupted (prepare_of_wire e)
 prepares (wire.Malformed place) = refl
 prepares (wire.ServerError text) = refl
 prepares (wire.ReplyTooLong bound) = refl
@@ -129,7 +129,7 @@ prepares (wire.LineTooLong length) = refl
 prepares (wire.BadParameter text place) = refl
 prepares wire.NoMemory = refl
 
-fetches : (e : WireError) → false ≡ is_stopped (fetch_of_wire e)
+pub fetches : (e : WireError) → false ≡ is_stopped (fetch_of_wire e)
 fetches (wire.Malformed place) = refl
 fetches (wire.ServerError text) = refl
 fetches (wire.ReplyTooLong bound) = refl

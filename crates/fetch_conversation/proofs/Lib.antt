@@ -20,3 +20,5 @@ pub mod Ending
 pub mod Fetches
 pub mod Turns
 pub mod Writing
+pub mod Valid
+pub mod Asked

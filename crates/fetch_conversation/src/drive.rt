@@ -1,9 +1,11 @@
 //! A session is driven: what it has to send is sent, and what its peer says is fed to it.
 
-ghost use Rattle.std.specs.Prelude.{◌≡◌, ◌<◌, [], false, length, IfErr, OnOk, IsErrOf};
+ghost use Rattle.std.specs.Prelude.{◌≡◌, ◌≢◌, ◌<◌, [], false, None, length, IfErr, OnOk, OnErr};
 ghost use Rattle.fetch_conversation.specs.Blame.{BlamesPeer, BlamesInterrupt, is_told};
 ghost use Rattle.fetch_conversation.specs.Receiving.{last_question};
-ghost use Rattle.fetch_conversation.specs.Drives.{IsDrivable, Drives, IsDriven, IsUnsent, Takes, made_by};
+ghost use Rattle.fetch_conversation.specs.Drives.{IsDrivable, Drives, IsDriven, IsUnsent, RunsOut, Takes, made_by};
+ghost use Rattle.fetch_conversation.specs.declared.drive.Stop.TheVariants as stops;
+ghost use Rattle.fetch_wire.specs.declared.error.WireError.TheVariants as wire;
 ghost use Rattle.fetch_conversation.specs.Errors.{is_failed, is_yes};
 ghost use Rattle.fetch_wire.specs.SessionStates.{turn_of, IsAwaiting};
 ghost use Rattle.fetch_wire.specs.Talks.{Sends, Makes};
@@ -52,6 +54,7 @@ impl From<AllocError> for Stop {
 /// Sends what is to be sent.
 fn send<P: Peer>(session: &mut Session, peer: &mut P) -> Result<(), Stop>
     ensures session { OnOk result (session.new ≡ record session.old { outgoing = [] }) }
+    ensures unsent { OnErr result (session.new ≡ session.old) }
     ensures talk { Sends P.answers (P.told peer.old) (P.told peer.new) result session.old.outgoing }
     ensures receives { Makes (P.told peer.old) (P.told peer.new) [] }
     ensures cause { IfErr result (λ e. IsUnsent e) }
@@ -79,6 +82,7 @@ fn receive<P: Peer, I: Interrupt>(
     requires unrefused { session.old.refused ≡ false }
     requires room { 0 < length buffer.old }
     ensures taken { Takes (P.told peer.old) (P.told peer.new) session.old session.new result }
+    ensures memory { IfErr result (λ e. e ≡ stops.Refused wire.NoMemory → session.new.trouble ≢ None) }
     ensures receives { Makes (P.told peer.old) (P.told peer.new) (made_by result) }
     ensures peer { BlamesPeer (P.faults peer.old) (P.faults peer.new) (is_told is_failed result) }
     ensures interrupt { BlamesInterrupt (I.yes interrupt.old) (I.yes interrupt.new) (I.will_stop interrupt.old) (I.will_stop interrupt.new) (P.told peer.old) (P.told peer.new) (last_question is_yes result) }
@@ -98,7 +102,7 @@ fn receive<P: Peer, I: Interrupt>(
 }
 
 /// Sends and receives by this buffer until nothing is to be sent and no reply is awaited. The interrupt is asked once
-/// before each receive.
+/// before each receive. It comes to an end since a reply has a bound, and each receive brings some of it.
 fn take_turns<P: Peer, I: Interrupt>(
     session: &mut Session,
     peer: &mut P,
@@ -109,7 +113,7 @@ fn take_turns<P: Peer, I: Interrupt>(
     requires room { 0 < length buffer.old }
     ensures { IsDriven P.answers (P.told peer.old) (P.told peer.new) session.old session.new (P.faults peer.old) (P.faults peer.new) (I.yes interrupt.old) (I.yes interrupt.new) (I.will_stop interrupt.old) (I.will_stop interrupt.new) result }
 {
-    'turns: for _ in 0..u64::MAX {
+    'turns: loop {
         match session.poll() {
             Turn::Send => send(session, peer)?,
             Turn::Receive => receive(session, peer, interrupt, buffer)?,
@@ -117,7 +121,6 @@ fn take_turns<P: Peer, I: Interrupt>(
             Turn::Failed => session.end()?,
         }
     }
-    Err(Stop::Refused(WireError::NoMemory))
 }
 
 /// Sends and receives until nothing is to be sent and no reply is awaited. The interrupt is asked once before each
@@ -130,6 +133,7 @@ pub(crate) fn drive<P: Peer, I: Interrupt>(
 ) -> Result<(), Stop>
     requires { IsDrivable session.old }
     ensures driven { Drives P.answers (P.told peer.old) (P.told peer.new) session.old session.new result }
+    ensures memory { RunsOut session.old session.new result }
     ensures peer { BlamesPeer (P.faults peer.old) (P.faults peer.new) (is_told is_failed result) }
     ensures interrupt { BlamesInterrupt (I.yes interrupt.old) (I.yes interrupt.new) (I.will_stop interrupt.old) (I.will_stop interrupt.new) (P.told peer.old) (P.told peer.new) (last_question is_yes result) }
 {

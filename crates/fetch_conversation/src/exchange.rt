@@ -1,11 +1,11 @@
 //! One request for a pack, and its reply.
 
-ghost use Rattle.std.specs.Prelude.{◌≡◌, IfErr, OnOk, IsErrOf};
+ghost use Rattle.std.specs.Prelude.{◌≡◌, IfErr, OnOk, IsErrOf, false};
 ghost use Rattle.fetch_conversation.specs.Blame.{BlamesPeer, BlamesInterrupt, is_told};
 ghost use Rattle.fetch_conversation.specs.Receiving.{last_question};
 ghost use Rattle.fetch_conversation.specs.Conversation.{Converses};
 ghost use Rattle.fetch_conversation.specs.Conversing.{IsAsked, reply_of, terms_told};
-ghost use Rattle.fetch_conversation.specs.Errors.{is_free_receiving, is_client, is_stopped};
+ghost use Rattle.fetch_conversation.specs.Errors.{is_free_receiving, is_client, is_stopped, is_unasked};
 ghost use Rattle.fetch_conversation.specs.Exchange as spec;
 ghost use Rattle.fetch_conversation.specs.Exchange.{asked_by, haves_told};
 ghost use Rattle.fetch_conversation.specs.ListStage.{IsReady, shown, pending_of};
@@ -62,8 +62,9 @@ pub(crate) fn exchange<P: Peer, I: Interrupt>(
     interrupt: &mut I,
 ) -> Result<(), fetch::Error>
     requires { IsReady listed.old }
-    ensures held { Converses is_free_receiving P.answers listed.old.session.intake.bound (P.told peer.old) (P.told peer.new) (pending_of listed.old) (pending_of listed.new)
+    ensures held { Converses is_free_receiving is_stopped P.answers listed.old.session.intake.bound (P.told peer.old) (P.told peer.new) (pending_of listed.old) (pending_of listed.new)
         (spec.exchange listed.old.session.intake.bound (terms_told (shown listed.old) terms.now) (haves_told shared.now round.now.haves) round.now.done) (reply_of result listed.new.session.reply) }
+    ensures asked { IfErr result (λ e. is_unasked e ≡ false) }
     ensures ready { OnOk result (IsReady listed.new) }
     ensures bound { OnOk result (listed.new.session.intake.bound ≡ listed.old.session.intake.bound) }
     ensures kept { shown listed.new ≡ shown listed.old }

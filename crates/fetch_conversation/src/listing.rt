@@ -142,7 +142,7 @@ pub fn inquire<P: Peer, I: Interrupt>(
     interrupt: &mut I,
     options: Options,
 ) -> Result<Listed, prepare::Error>
-    ensures held { Converses is_free_listing P.answers options.max_reply_bytes (P.told peer.old) (P.told peer.new) [] (left_by result)
+    ensures held { Converses is_free_listing is_interrupted P.answers options.max_reply_bytes (P.told peer.old) (P.told peer.new) [] (left_by result)
         (inquiry_stage options.max_reply_bytes (record { address = inquiry.now.address.now; agent = inquiry.now.agent.now; specs = inquiry.now.specs.now; tags = inquiry.now.tags; options = options })) (answer_shown result) }
     ensures ready { IfOk result (λ l. IsReady l) }
     ensures bound { IfOk result (λ l. l.session.intake.bound ≡ options.max_reply_bytes) }
@@ -165,7 +165,7 @@ pub fn list<P: Peer, I: Interrupt>(
     interrupt: &mut I,
     options: Options,
 ) -> Result<Listed, prepare::Error>
-    ensures held { Converses is_free_listing P.answers options.max_reply_bytes (P.told peer.old) (P.told peer.new) [] (left_by result)
+    ensures held { Converses is_free_listing is_interrupted P.answers options.max_reply_bytes (P.told peer.old) (P.told peer.new) [] (left_by result)
         (list_stage options.max_reply_bytes (record { address = inquiry.now.address.now; agent = inquiry.now.agent.now; specs = inquiry.now.specs.now; tags = inquiry.now.tags; options = options })) (answer_shown result) }
     ensures ready { IfOk result (λ l. IsReady l) }
     ensures bound { IfOk result (λ l. l.session.intake.bound ≡ options.max_reply_bytes) }

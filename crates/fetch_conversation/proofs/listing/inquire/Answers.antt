@@ -1,13 +1,11 @@
-use Rattle.std.proofs.Common.{rules, ◌≡◌, ℕ, true, false, Result, Ok, Err, IfOk, IfErr, refl, sym, ap, ◌∙◌, subst}
+use Rattle.std.proofs.Common.{◌≡◌, ℕ, Result, Ok, Err, IfOk, refl, ap, ◌∙◌}
 use Rattle.std.proofs.lemmas.Result.{err_from_is_err_and}
 use Rattle.fetch_wire.specs.SessionStates.{SessionState}
-use Rattle.fetch_conversation.specs.Errors.{is_transport, is_interrupted}
 use Rattle.fetch_conversation.specs.Listing.{Answers}
 use Rattle.fetch_conversation.specs.ListStage.{InquiryValue}
 use Rattle.fetch_conversation.specs.declared.listing.Listed.{Listed}
 use Rattle.fetch_conversation.specs.declared.prepare.Error.{Error}
 use Rattle.fetch_conversation.specs.declared.prepare.Error.TheVariants as errors
-use Rattle.fetch_conversation.specs.declared.ref_map.Error.TheVariants as ref_map
 use Rattle.fetch_conversation.proofs.Driven.{finished_unrefused}
 use Rattle.fetch_conversation.proofs.Listings.{inquires_free, inquires_unopened, inquires_stopped, inquires_found, inquired_bound, opened_drivable}
 use Rattle.fetch_conversation.proofs.Heeded.{prepare_asks, stop_prepared}
@@ -22,13 +20,13 @@ pub returns-in_err-extra-clause-held : goal.returns-in_err-extra-clause-held
 returns-in_err-extra-clause-held g c =
     let q : InquiryValue = record { address = c.args.inquiry.now.address.now; agent = c.args.inquiry.now.agent.now; specs = c.args.inquiry.now.specs.now; tags = c.args.inquiry.now.tags; options = c.args.options } in
     let p = err_from_is_err_and c.from_residual.result c.from_residual.ensures.1 in
-    rw (p.1, p.2) (inquires_free g.P.Peer.answers (g.P.Peer.told c.args.peer.now) q errors.NoMemory refl)
+    rw (p.1, p.2) (inquires_free g.P.Peer.answers (g.P.Peer.told c.args.peer.now) q errors.NoMemory refl refl)
 
 pub returns-in_err-specs-clause-held : goal.returns-in_err-specs-clause-held
 returns-in_err-specs-clause-held g c =
     let q : InquiryValue = record { address = c.args.inquiry.now.address.now; agent = c.args.inquiry.now.agent.now; specs = c.args.inquiry.now.specs.now; tags = c.args.inquiry.now.tags; options = c.args.options } in
     let p = err_from_is_err_and c.from_residual-in_err-specs.result c.from_residual-in_err-specs.ensures.1 in
-    rw (p.1, p.2) (inquires_free g.P.Peer.answers (g.P.Peer.told c.args.peer.now) q errors.NoMemory refl)
+    rw (p.1, p.2) (inquires_free g.P.Peer.answers (g.P.Peer.told c.args.peer.now) q errors.NoMemory refl refl)
 
 pub returns-in_err-session-clause-held : goal.returns-in_err-session-clause-held
 returns-in_err-session-clause-held g c =
@@ -45,7 +43,7 @@ returns-in_err-drive-clause-held g c =
 pub returns-clause-held : goal.returns-clause-held
 returns-clause-held g c =
     let q : InquiryValue = record { address = c.args.inquiry.now.address.now; agent = c.args.inquiry.now.agent.now; specs = c.args.inquiry.now.specs.now; tags = c.args.inquiry.now.tags; options = c.args.options } in
-    inquires_found g.P.Peer.answers (g.P.Peer.told c.args.peer.now) (g.P.Peer.told c.drive.new.peer) q c.in_ok-session.session c.drive.new.session c.map_listed.result c.in_ok-session.ensures.opened c.in_ok-drive.ensures.driven c.map_listed.ensures.answer
+    inquires_found g.P.Peer.answers (g.P.Peer.told c.args.peer.now) (g.P.Peer.told c.drive.new.peer) q c.in_ok-session.session c.drive.new.session c.map_listed.result c.in_ok-session.ensures.opened c.in_ok-drive.ensures.driven c.map_listed.ensures.uninterrupted c.map_listed.ensures.answer
 
 pub returns-clause-bound : goal.returns-clause-bound
 returns-clause-bound g c =

@@ -1,4 +1,4 @@
-use Rattle.std.proofs.Common.{rules, ◌≡◌, ℕ, suc, ◌<◌, Bool, true, false, List, Option, Result, Ok, Err, refl, subst, ◌∙◌, arith}
+use Rattle.std.proofs.Common.{◌≡◌, ℕ, suc, ◌<◌, Bool, true, false, List, Option, Result, Ok, Err, refl, subst, ◌∙◌, arith}
 use Rattle.std.specs.FinMap as map
 use Rattle.std.proofs.lemmas.Result.{err_from_is_err_and}
 use Rattle.fetch_store.specs.Faults.{Counts-then}
@@ -33,7 +33,7 @@ returns-in_err-most-clause-held g c =
     let graph = g.O.Objects.graph c.args.objects.now in
     let algorithm = algorithm_in c.args.terms.now.settings.now in
     let p = err_from_is_err_and c.from_residual.result c.from_residual.ensures.1 in
-    rw (p.1, p.2) (goes_nowhere c.args.listed.now.session.intake.bound t graph algorithm g.P.Peer.answers (g.P.Peer.told c.args.peer.now) (pending_of c.args.listed.now) (pending_of c.args.listed.now) (suc (map.len graph)) (first_course algorithm c.args.terms.now.view.now) errors.NoMemory refl)
+    rw (p.1, p.2) (goes_nowhere c.args.listed.now.session.intake.bound t graph algorithm g.P.Peer.answers (g.P.Peer.told c.args.peer.now) (pending_of c.args.listed.now) (pending_of c.args.listed.now) (suc (map.len graph)) (first_course algorithm c.args.terms.now.view.now) errors.NoMemory refl refl)
 
 pub returns-in_err-course-clause-held : goal.returns-in_err-course-clause-held
 returns-in_err-course-clause-held g c =
@@ -41,7 +41,7 @@ returns-in_err-course-clause-held g c =
     let graph = g.O.Objects.graph c.args.objects.now in
     let algorithm = algorithm_in c.args.terms.now.settings.now in
     let p = err_from_is_err_and c.from_residual-in_err-course.result c.from_residual-in_err-course.ensures.1 in
-    rw (p.1, p.2) (goes_nowhere c.args.listed.now.session.intake.bound t graph algorithm g.P.Peer.answers (g.P.Peer.told c.args.peer.now) (pending_of c.args.listed.now) (pending_of c.args.listed.now) (suc (map.len graph)) (first_course algorithm c.args.terms.now.view.now) errors.NoMemory refl)
+    rw (p.1, p.2) (goes_nowhere c.args.listed.now.session.intake.bound t graph algorithm g.P.Peer.answers (g.P.Peer.told c.args.peer.now) (pending_of c.args.listed.now) (pending_of c.args.listed.now) (suc (map.len graph)) (first_course algorithm c.args.terms.now.view.now) errors.NoMemory refl refl)
 
 pub returns-in_err-hold_round-clause-held : goal.returns-in_err-hold_round-clause-held
 returns-in_err-hold_round-clause-held g c =
