@@ -1,7 +1,10 @@
 """What several checks of the tools need: the tools as they are called, and a pair of repositories."""
 
+import importlib.machinery
+import importlib.util
 import os
 import subprocess
+import sys
 import tempfile
 import unittest
 
@@ -14,6 +17,20 @@ DOUBLE = ["--engine", os.path.join(HERE, "double.py")]
 SPEC = "+refs/heads/main:refs/remotes/origin/main"
 CALLER = {"GIT_COMMITTER_NAME": "caller", "GIT_COMMITTER_EMAIL": "caller@x", "GIT_COMMITTER_DATE": "@9 +0100"}
 ALONE = {"GIT_CONFIG_NOSYSTEM": "1", "GIT_CONFIG_GLOBAL": os.devnull, **CALLER}
+
+
+def tool(name):
+    """A tool as a module."""
+    module = os.path.basename(name).replace("-", "_")
+    loader = importlib.machinery.SourceFileLoader(module, os.path.join(TOOLS, name))
+    found = importlib.util.module_from_spec(importlib.util.spec_from_loader(module, loader))
+    sys.modules[module] = found
+    wrote, sys.dont_write_bytecode = sys.dont_write_bytecode, True
+    try:
+        loader.exec_module(found)
+    finally:
+        sys.dont_write_bytecode = wrote
+    return found
 
 
 def run(tool, *words, behaviour="", given=b""):

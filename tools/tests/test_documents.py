@@ -1,28 +1,10 @@
 """What the tools of documents make."""
 
-import importlib.machinery
-import importlib.util
 import os
-import sys
 import tempfile
 import unittest
 
-TOOLS = os.path.join(os.path.dirname(os.path.abspath(__file__)), "..")
-
-
-def tool(name):
-    """A tool as a module."""
-    module = os.path.basename(name).replace("-", "_")
-    loader = importlib.machinery.SourceFileLoader(module, os.path.join(TOOLS, name))
-    found = importlib.util.module_from_spec(importlib.util.spec_from_loader(module, loader))
-    sys.modules[module] = found
-    wrote, sys.dont_write_bytecode = sys.dont_write_bytecode, True
-    try:
-        loader.exec_module(found)
-    finally:
-        sys.dont_write_bytecode = wrote
-    return found
-
+from common import tool
 
 CRATE_MAP, CALL_INDEX, DEFINITIONS = tool("dev/crate-map"), tool("dev/call-index"), tool("dev/definitions")
 DEAD_NAMES = tool("dev/dead-names")
