@@ -1,7 +1,8 @@
 //! The files of the host.
 
 ghost use Rattle.std.specs.Prelude.{None, true, IfErr, ◌≡◌};
-ghost use Rattle.fetch_store.specs.Faults.{Rose, Counts, counted};
+ghost use Rattle.fetch_store.specs.Calls.{one_more};
+ghost use Rattle.fetch_store.specs.Faults.{Counts, counted};
 ghost use Rattle.fetch_clone.specs.HostFaults.{IsCounted};
 
 use fetch_store::{Failed, FileError, Files, Node, Text, split_last};
@@ -38,7 +39,7 @@ fn refuse(failed: &mut u64, e: io::Error) -> FileError
 
 /// Counts a fault.
 fn count(failed: &mut u64) -> Failed
-    ensures rose { Rose (counted failed.old) (counted failed.new) }
+    ensures counted { failed.new ≡ one_more failed.old }
     ensures counts { Counts (counted failed.old) (counted failed.new) }
 {
     *failed = failed.saturating_add(1);

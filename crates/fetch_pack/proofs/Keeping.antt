@@ -1,5 +1,5 @@
 -- Keeping objects one after the other, as a loop does, with the place of each id.
-use Rattle.std.proofs.Common.{◌≡◌, ℕ, suc, ◌+◌, ◌<◌, Bool, true, false, cond, not, ◌||◌, List, [], ◌∷◌, ◌++◌, length, get_or, drop, drop-cons, add-one, Option, Some, None, Result, Err, refl, sym, ap, subst, ◌∙◌, arith}
+use Rattle.std.proofs.Common.{◌≡◌, ℕ, suc, ◌+◌, ◌<◌, Bool, true, false, cond, not, ◌||◌, List, [], ◌∷◌, ◌++◌, length, get_or, take, drop, drop-cons, add-one, Option, Some, None, Result, Ok, Err, refl, sym, ap, subst, ◌∙◌, arith}
 use Rattle.std.specs.Prelude.{is_some}
 use Rattle.std.specs.BTreeMap as tree
 use Rattle.std.specs.BTreeMap.{BTreeMap}
@@ -7,13 +7,16 @@ use Rattle.std.specs.Ordering.{eq_by_cmp}
 use Rattle.std.specs.Cmp.{Equal-is}
 use Rattle.std.specs.FinMap.{find}
 use Rattle.std.specs.declared.cmp.Ordering.{Ordering}
-use Rattle.std.proofs.lemmas.List.{length-append, get_or_append_left}
+use Rattle.std.proofs.lemmas.List.{append-nil, append_assoc, length-append, get_or_append_left}
+use Rattle.std.proofs.Math.Seq.{get_or-append_seam, take-append_seam}
 use Rattle.fetch_store.specs.declared.id.ObjectId.{ObjectId}
 use Rattle.fetch_store.specs.contracts.id.ObjectIdOrd.TheImpl as order
 use Rattle.fetch_store.specs.Objects.{Stored, has_same_text}
+use Rattle.fetch_store.specs.Collisions.{HasDistinctIds}
 use Rattle.fetch_store.specs.Stores.{id_cmp, Entries, ObjectMap, map_of, add, clashes, collision}
 use Rattle.fetch_store.proofs.Ids.{id_cmp_exact}
 use Rattle.fetch_store.proofs.Additions.{map_of-push, add-known}
+use Rattle.fetch_store.proofs.Apart.{first_time}
 use Rattle.fetch_store.proofs.Finds.{ties, not_tied, get-map_of}
 use Rattle.fetch_store.proofs.Orders.{cmp_is}
 use Rattle.fetch_pack.specs.declared.error.PackError.{PackError}
@@ -84,6 +87,16 @@ is_new kept e rest total none so_far =
     ∙ ap (λ (o : Option Stored). unless (once_from (kept ++ e ∷ []) rest) (cond (clashes o e.1) (Some e.0) (collision (add (map_of kept) e) rest))) (get-map_of kept e.0 ∙ none)
     ∙ ap (λ (m : ObjectMap). unless (once_from (kept ++ e ∷ []) rest) (collision m rest)) (sym (map_of-push kept e new)) in
     sym step ∙ so_far
+
+-- where no id comes twice, all is kept
+pub all_new : (kept es : Entries) → HasDistinctIds (kept ++ es) → going kept es ≡ Ok (kept ++ es)
+all_new kept [] apart = ap Ok (sym (append-nil kept))
+all_new kept (e ∷ es) apart =
+    let regrouped : (kept ++ e ∷ []) ++ es ≡ kept ++ e ∷ es = append_assoc kept (e ∷ []) es in
+    let first : find id_cmp e.0 (take (length kept) (kept ++ e ∷ es)) ≡ None =
+    first_time (kept ++ e ∷ es) (length kept) e apart (omega (arith, length-append kept (e ∷ es))) (sym (get_or-append_seam kept e es e)) in
+    let none : find id_cmp e.0 kept ≡ None = ap (find id_cmp e.0) (sym (take-append_seam kept (e ∷ es))) ∙ first in
+    sym (is_new kept e es (going kept (e ∷ es)) none refl) ∙ all_new (kept ++ e ∷ []) es (subst HasDistinctIds (sym regrouped) apart) ∙ ap Ok regrouped
 
 -- ---- places
 

@@ -6,3 +6,4 @@ pub mod Views
 pub mod Packs
 pub mod Once
 pub mod Refusals
+pub mod Answers

@@ -1,5 +1,5 @@
 -- What reading a pack answers: structure first, then the digest, the grammar of objects, the ids written, and collisions.
-use Rattle.std.specs.Prelude.{◌≡◌, ℕ, ◌+◌, ◌-◌, Bool, true, false, not, ◌&&◌, ◌==◌, nat_eq, if◌then◌else◌, List, [], ◌∷◌, ◌++◌, length, map, take, drop, Option, Some, None, Result, Ok, Err}
+use Rattle.std.specs.Prelude.{ℕ, ◌+◌, ◌-◌, Bool, true, false, not, ◌&&◌, ◌==◌, nat_eq, if◌then◌else◌, List, [], ◌∷◌, ◌++◌, length, map, take, drop, Option, Some, None, Result, Ok, Err}
 use Rattle.std.specs.List.{starts_with, list_any}
 use Rattle.std.specs.Ordering.{eq_by_cmp}
 use Rattle.std.specs.FinMap as finmap
@@ -77,6 +77,12 @@ abbrev pub with_digest : Kind → Frame → Result Frame PackError
 with_digest hash f =
     let computed = digest hash f.body in
     if is_id f.digest computed then Ok f else Err (PackDigest f.digest computed)
+
+-- the parts, where structure and digest are right: no memory is taken for it
+abbrev pub opened : Kind → List ℕ → Result Frame PackError
+opened hash bytes = do
+  framed ← structure hash bytes
+  with_digest hash framed
 
 -- ---- objects
 

@@ -1,6 +1,6 @@
 //! Each object once, and two of one id.
 
-ghost use Rattle.std.specs.Prelude.{◌≡◌, ◌<◌, get_or, length, vec_len};
+ghost use Rattle.std.specs.Prelude.{◌≡◌, ◌<◌, IfOk, get_or, length, vec_len};
 ghost use Rattle.std.specs.BTreeMap as tree;
 ghost use Rattle.std.specs.FinMap as map;
 ghost use Rattle.std.specs.Option.{option_copied};
@@ -13,11 +13,12 @@ ghost use Rattle.fetch_pack.specs.Reading.{is_memory};
 ghost use Rattle.fetch_pack.specs.Places.{ArePlaces};
 
 use crate::error::PackError;
-use fetch_store::{Object, ObjectId};
+use fetch_store::{NoMemory, Object, ObjectId, are_apart};
 use std::alloc::Global;
 use std::collections::BTreeMap;
 
-/// The objects under their ids, each id once, where it first comes. Two that differ collide.
+/// The objects under their ids, each id once, where it first comes. Two that differ collide. Where the first bytes of the
+/// ids tell all of them apart, no id is looked for.
 pub(crate) fn distinct(
     alloc: Global,
     ids: &[ObjectId],
@@ -26,12 +27,42 @@ pub(crate) fn distinct(
     requires { length ids.now ≡ vec_len objects }
     ensures { AnswersBy (λ v. v.items) is_memory (spec.distinct (spec.paired ids.now objects.items)) result }
 {
-    let mut kept = Vec::new(alloc);
-    let mut places = BTreeMap::new(alloc);
+    let entries = under_ids(alloc, ids, objects)?;
+    let apart = are_apart(alloc, entries.as_slice())?;
+    if apart {
+        return Ok(entries);
+    }
+    first_of_each(alloc, entries)
+}
+
+/// Each object under its id.
+fn under_ids(
+    alloc: Global,
+    ids: &[ObjectId],
+    objects: Vec<Object>,
+) -> Result<Vec<(ObjectId, Object)>, NoMemory>
+    requires { length ids.now ≡ vec_len objects }
+    ensures { IfOk result (λ entries. entries.items ≡ spec.paired ids.now objects.items) }
+{
+    let mut entries = Vec::with_capacity(alloc, objects.len())?;
     let mut i = 0;
     for object in objects {
-        let id = ids[i];
+        entries.push((ids[i], object))?;
         i += 1;
+    }
+    Ok(entries)
+}
+
+/// The first entry of each id. Two that differ collide.
+fn first_of_each(
+    alloc: Global,
+    entries: Vec<(ObjectId, Object)>,
+) -> Result<Vec<(ObjectId, Object)>, PackError>
+    ensures { AnswersBy (λ v. v.items) is_memory (spec.distinct entries.items) result }
+{
+    let mut kept = Vec::new(alloc);
+    let mut places = BTreeMap::new(alloc);
+    for (id, object) in entries {
         match find_kept(kept.as_slice(), &places, &id) {
             Some(earlier) => {
                 if earlier.has_same_text(&object) {

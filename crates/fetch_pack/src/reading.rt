@@ -1,17 +1,14 @@
 //! Reading a pack.
 
-ghost use Rattle.std.specs.Prelude.{◌≡◌, ◌↔◌, ◌+◌, ◌-◌, ◌≤◌, length, List as Items, [], Ok, IfOk, IfErr, IfSome};
-ghost use Rattle.fetch_store.specs.Collisions.{HasDistinctIds};
-ghost use Rattle.fetch_store.specs.Stores.{AreOf, Entries};
+ghost use Rattle.std.specs.Prelude.{◌≡◌, ◌+◌, ◌-◌, ◌≤◌, length, [], Ok, IfOk, IfErr, IfSome};
+ghost use Rattle.fetch_store.specs.Stores.{Entries};
 ghost use Rattle.fetch_pack.specs.Reading as spec;
-ghost use Rattle.fetch_store.specs.Answers.{AnswersBy};
+ghost use Rattle.fetch_store.specs.Answers.{Answers, AnswersBy};
 ghost use Rattle.fetch_pack.specs.Reading.{is_memory};
-ghost use Rattle.fetch_pack.specs.Records.{Payload, records};
-ghost use Rattle.fetch_pack.specs.Packs.{IsPack, contents_of};
+ghost use Rattle.fetch_pack.specs.Records.{records};
+ghost use Rattle.fetch_pack.specs.Answers.{IsReading};
 ghost use Rattle.fetch_pack.specs.Views.{frame, contents};
-ghost use Rattle.fetch_pack.specs.Refusals.{IsRefused};
-ghost use Rattle.fetch_pack.specs.Once.{AreNamed, KeepsEachOnce};
-ghost use Rattle.fetch_pack.specs.declared.version.PackVersion.{PackVersion as Version};
+ghost use Rattle.fetch_pack.specs.Once.{KeepsEachOnce};
 ghost use Rattle.fetch_pack.specs.declared.version.PackVersion.TheVariants.{V2};
 
 use crate::error::PackError;
@@ -19,7 +16,7 @@ use crate::hashing::{Gate, OpenGate, hash_pieces};
 use crate::kept::distinct;
 use crate::records::{number_at, record_at, skip_records};
 use crate::version::PackVersion;
-use fetch_store::{Kind, List, NoMemory, Object, ObjectId, ObjectKind, digest};
+use fetch_store::{Kind, List, NoMemory, Object, ObjectId, ObjectKind, TryClone, digest};
 use std::alloc::Global;
 use std::cmp::Ordering;
 use std::thread::Threads;
@@ -40,11 +37,8 @@ impl Pack {
     pub fn try_clone(&self) -> Result<Pack, NoMemory>
         ensures { IfOk result (λ copy. copy ≡ self.now) }
     {
-        let objects = self
-            .objects
-            .try_clone_with(|(id, object)| Ok((*id, object.try_clone()?)))?;
         Ok(Pack {
-            objects,
+            objects: self.objects.try_clone()?,
             count: self.count,
             digest: self.digest,
         })
@@ -62,7 +56,7 @@ pub(crate) struct Framed<'a> {
 }
 
 fn structure(hash: Kind, bytes: &[u8]) -> Result<Framed<'_>, PackError>
-    ensures frame { AnswersBy (frame hash) is_memory (spec.structure hash bytes.now) result }
+    ensures frame { Answers (frame hash) (spec.structure hash bytes.now) result }
     ensures start { IfOk result (λ f. length f.records.now + 12 ≡ length bytes.now) }
 {
     if !bytes.starts_with(b"PLNP") {
@@ -98,7 +92,7 @@ fn ended<'a>(
     after: &'a [u8],
 ) -> Result<Framed<'a>, PackError>
     requires { length after.now ≤ length bytes.now }
-    ensures frame { AnswersBy (frame hash) is_memory (spec.ended version hash bytes.now count (records version hash count after.now)) result }
+    ensures frame { Answers (frame hash) (spec.ended version hash bytes.now count (records version hash count after.now)) result }
     ensures start { IfOk result (λ f. f.records.now ≡ after.now) }
 {
     let (whole, rest) = skip_records(version, hash, count, after);
@@ -117,7 +111,7 @@ fn ended<'a>(
 }
 
 fn check_digest(hash: Kind, framed: &Framed<'_>) -> Result<(), PackError>
-    ensures { AnswersBy (λ _. frame hash framed.now) is_memory (spec.with_digest hash (frame hash framed.now)) result }
+    ensures { Answers (λ _. frame hash framed.now) (spec.with_digest hash (frame hash framed.now)) result }
 {
     let computed = digest(hash, framed.body);
     if is_same(&framed.digest, &computed) {
@@ -162,8 +156,9 @@ fn all_parsed(
     ensures { AnswersBy (λ v. v.items) is_memory (spec.all_parsed framed.now.version hash (pack_len - length framed.now.records.now) (records framed.now.version hash framed.now.count framed.now.records.now).written) result }
 {
     let version = framed.version;
-    let mut objects = Vec::new(alloc);
+    let mut objects = Vec::with_capacity(alloc, framed.count as usize)?;
     let mut rest = framed.records;
+    // The proof counts the records by `i`.
     for i in 0..framed.count {
         match record_at(version, hash, rest) {
             Some((record, after)) => {
@@ -172,6 +167,7 @@ fn all_parsed(
                 objects.push(object)?;
                 rest = after;
             }
+            // Each record is whole where the structure is right.
             None => return Ok(objects),
         }
     }
@@ -180,7 +176,7 @@ fn all_parsed(
 
 /// Compares the ids that are written before the payloads of version 2.
 fn compared(hash: Kind, bytes: &[u8], ids: &[ObjectId]) -> Result<(), PackError>
-    ensures { AnswersBy (λ _. tt) is_memory (spec.compared hash (records V2 hash (length ids.now) bytes.now).written ids.now) result }
+    ensures { Answers (λ _. tt) (spec.compared hash (records V2 hash (length ids.now) bytes.now).written ids.now) result }
 {
     let mut rest = bytes;
     for id in ids {
@@ -204,7 +200,7 @@ fn compared(hash: Kind, bytes: &[u8], ids: &[ObjectId]) -> Result<(), PackError>
 
 fn check_ids(hash: Kind, framed: &Framed<'_>, ids: &[ObjectId]) -> Result<(), PackError>
     requires { length ids.now ≡ framed.now.count }
-    ensures { AnswersBy (λ _. tt) is_memory (spec.with_ids framed.now.version hash (frame hash framed.now).written ids.now) result }
+    ensures { Answers (λ _. tt) (spec.with_ids framed.now.version hash (frame hash framed.now).written ids.now) result }
 {
     match framed.version {
         PackVersion::V1 => Ok(()),
@@ -213,7 +209,8 @@ fn check_ids(hash: Kind, framed: &Framed<'_>, ids: &[ObjectId]) -> Result<(), Pa
 }
 
 /// Reads a pack of either version, all of the bytes: `read_pack_gated` with a gate that does nothing. Where they are no
-/// pack the refusal is the first in the order that `PackError` tells.
+/// pack the refusal is the first in the order that `PackError` tells. A fault of the structure or of the digest is never
+/// told as out of memory.
 pub fn read_pack<R: Threads + Sync>(
     rt: &R,
     alloc: Global,
@@ -221,25 +218,14 @@ pub fn read_pack<R: Threads + Sync>(
     bytes: &[u8],
     threads: usize,
 ) -> Result<Pack, PackError>
-    // What is read is a pack.
-    ensures found { IfOk result (λ p. (v : Version) × (ps : Items Payload) × IsPack v kind bytes.now ps × (contents p ≡ contents_of v kind ps)) }
-    // A pack is read, unless memory runs out.
-    ensures only { (v : Version) (ps : Items Payload) → IsPack v kind bytes.now ps → AnswersBy contents is_memory (Ok (contents_of v kind ps)) result }
-    // The objects are of the kind that was asked for, and their ids are their hashes.
-    ensures of_kind { IfOk result (λ p. AreOf kind p.objects) }
-    ensures ids { IfOk result (λ p. AreNamed p.objects) }
-    // No id comes twice.
-    ensures distinct { IfOk result (λ p. HasDistinctIds p.objects) }
-    // Why it is refused, and which refusal it is.
-    ensures refused { IfErr result (λ e. IsRefused kind bytes.now e) }
-    ensures exact { AnswersBy contents is_memory (spec.read kind bytes.now) result }
+    ensures { IsReading kind bytes.now result }
 {
     read_pack_gated(rt, alloc, kind, bytes, threads, &OpenGate)
 }
 
 /// Reads a pack of either version, all of the bytes. Its objects are hashed by `hash_pieces` with this gate. The answer
 /// is the same for every number of threads and every gate. Where the bytes are no pack the refusal is the first in the
-/// order that `PackError` tells.
+/// order that `PackError` tells. A fault of the structure or of the digest is never told as out of memory.
 pub fn read_pack_gated<R: Threads + Sync, G: Gate + Sync>(
     rt: &R,
     alloc: Global,
@@ -248,18 +234,7 @@ pub fn read_pack_gated<R: Threads + Sync, G: Gate + Sync>(
     threads: usize,
     gate: &G,
 ) -> Result<Pack, PackError>
-    // What is read is a pack.
-    ensures found { IfOk result (λ p. (v : Version) × (ps : Items Payload) × IsPack v kind bytes.now ps × (contents p ≡ contents_of v kind ps)) }
-    // A pack is read, unless memory runs out.
-    ensures only { (v : Version) (ps : Items Payload) → IsPack v kind bytes.now ps → AnswersBy contents is_memory (Ok (contents_of v kind ps)) result }
-    // The objects are of the kind that was asked for, and their ids are their hashes.
-    ensures of_kind { IfOk result (λ p. AreOf kind p.objects) }
-    ensures ids { IfOk result (λ p. AreNamed p.objects) }
-    // No id comes twice.
-    ensures distinct { IfOk result (λ p. HasDistinctIds p.objects) }
-    // Why it is refused, and which refusal it is.
-    ensures refused { IfErr result (λ e. IsRefused kind bytes.now e) }
-    ensures exact { AnswersBy contents is_memory (spec.read kind bytes.now) result }
+    ensures { IsReading kind bytes.now result }
 {
     exactly(rt, alloc, kind, bytes, threads, gate)
 }
@@ -272,7 +247,8 @@ fn exactly<R: Threads + Sync, G: Gate + Sync>(
     threads: usize,
     gate: &G,
 ) -> Result<Pack, PackError>
-    ensures { AnswersBy contents is_memory (spec.read hash bytes.now) result }
+    ensures exact { AnswersBy contents is_memory (spec.read hash bytes.now) result }
+    ensures at_once { IfErr (spec.opened hash bytes.now) (λ e. result ≡ Err e) }
 {
     let framed = structure(hash, bytes)?;
     check_digest(hash, &framed)?;

@@ -15,7 +15,7 @@ use Rattle.fetch_store.proofs.Additions.{get-add_all}
 use Rattle.fetch_store.proofs.Arranged.{IsArranged, arranged_found, order_of, truth}
 use Rattle.fetch_store.proofs.Consistent.{consistent, find-both}
 use Rattle.fetch_store.proofs.Viewed.{found, viewed-both}
-use Rattle.fetch_store.proofs.Graphs.{nodes, get-graph_of}
+use Rattle.fetch_store.proofs.Graphs.{nodes, all_sorted, get-graph_of}
 
 pub consistent_nodes : (es : Entries) → IsConsistent es → IsConsistent (nodes es)
 consistent_nodes es p =
@@ -45,3 +45,7 @@ graph_arranged hash m es zs old new none a =
 
 pub len_of_nodes : (ns : List (ObjectId × Node)) → IsInOrder ns → length ns ≡ len (from_sorted {R = id_cmp} ns)
 len_of_nodes ns order = sym (len-entries (from_sorted {R = id_cmp} ns) ∙ ap length (entries-from_sorted id_cmp ns (order_of (is_sorted id_cmp ns) order)))
+
+-- the nodes of a graph that is that of a map
+pub nodes_of : (m : ObjectMap) (ns : List (ObjectId × Node)) → IsInOrder ns → from_sorted ns ≡ graph_of m → ns ≡ nodes (entries m)
+nodes_of m ns order was = sym (entries-from_sorted id_cmp ns (order_of (is_sorted id_cmp ns) order)) ∙ ap entries was ∙ entries-from_sorted id_cmp (nodes (entries m)) (all_sorted m)

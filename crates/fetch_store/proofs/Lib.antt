@@ -46,3 +46,5 @@ pub mod Silent
 pub mod Rooted
 pub mod Apart
 pub mod Copies
+pub mod HexTables
+pub mod FrontPlaces

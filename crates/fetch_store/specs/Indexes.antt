@@ -8,7 +8,15 @@ use Rattle.std.specs.Borrow.{Bor}
 use Rattle.fetch_store.specs.declared.id.ObjectId.{ObjectId}
 use Rattle.fetch_store.specs.Objects.{Stored}
 use Rattle.fetch_store.specs.Stores.{id_cmp, Entries}
+use Rattle.fetch_store.specs.Fronts.{AreFronts}
+use Rattle.fetch_store.specs.declared.index.Index.{Index}
+use Rattle.fetch_store.specs.declared.index.Index.TheVariants.{Fronts, Ids}
 
 -- The index has the first entry of each id.
 pub record IsIndexOf (es : Entries) (index : BTreeMap ObjectId (Bor Stored)) : Type 0 where
   pub each : (q : ObjectId) → option_copied (tree.get id_cmp index q) ≡ find id_cmp q es
+
+-- The index of a list, of either form.
+abbrev pub IsIndex : Entries → Index → Type 0
+IsIndex es (Fronts places) = AreFronts es places.items
+IsIndex es (Ids index) = IsIndexOf es index

@@ -47,6 +47,7 @@ fn append(buffer: &mut Vec<u8>, object: ObjectRef<'_>) -> Span
 {
     let start = buffer.len();
     let bytes = object.bytes();
+    // There is room, so that it can't fail.
     let _fits = buffer.extend_from_slice(bytes);
     Span {
         kind: object.kind(),

@@ -5,7 +5,9 @@ ghost use Rattle.std.specs.Prelude.{◌≡◌, IfOk};
 use crate::error::NoMemory;
 use crate::id::{Kind, ObjectId};
 use crate::list::List;
+use crate::object::Object;
 use crate::text::Text;
+use std::alloc::Global;
 
 /// What can be copied where there is memory for it.
 pub trait TryClone: Sized + Drop {
@@ -56,6 +58,12 @@ impl TryClone for Text {
     }
 }
 
+impl TryClone for Object {
+    fn try_clone(&self) -> Result<Object, NoMemory> {
+        self.try_clone()
+    }
+}
+
 impl<T: TryClone> TryClone for Option<T> {
     fn try_clone(&self) -> Result<Option<T>, NoMemory> {
         match self {
@@ -74,10 +82,17 @@ impl<A: TryClone, B: TryClone> TryClone for (A, B) {
 /// The values are copied one by one, and the copy has the list's allocator.
 impl<T: TryClone> TryClone for List<T> {
     fn try_clone(&self) -> Result<List<T>, NoMemory> {
-        let mut items = Vec::with_capacity(self.allocator(), self.len())?;
-        for item in self.as_slice() {
-            items.push(item.try_clone()?)?;
-        }
-        Ok(List::from(items))
+        copy_slice(self.allocator(), self.as_slice())
     }
+}
+
+/// A list of copies of these items, made one by one.
+pub fn copy_slice<T: TryClone>(alloc: Global, items: &[T]) -> Result<List<T>, NoMemory>
+    ensures { IfOk result (λ copy. copy ≡ items.now) }
+{
+    let mut copies = Vec::with_capacity(alloc, items.len())?;
+    for item in items {
+        copies.push(item.try_clone()?)?;
+    }
+    Ok(List::from(copies))
 }

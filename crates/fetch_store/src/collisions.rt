@@ -4,7 +4,7 @@ ghost use Rattle.std.specs.Prelude.{◌≡◌, IfOk, option_map};
 ghost use Rattle.std.specs.BTreeMap as tree;
 ghost use Rattle.std.specs.FinMap as map;
 ghost use Rattle.std.specs.Option.{option_copied};
-ghost use Rattle.fetch_store.specs.Fronts.{HaveDistinctIds};
+ghost use Rattle.fetch_store.specs.Collisions.{HasDistinctIds};
 ghost use Rattle.fetch_store.specs.References.{seen};
 ghost use Rattle.fetch_store.specs.Stores as spec;
 ghost use Rattle.fetch_store.specs.Stores.{id_cmp, first_some, collision};
@@ -36,7 +36,7 @@ pub(crate) fn first_collision_of_distinct(
     store: &Store,
     objects: &[(ObjectId, Object)],
 ) -> Option<ObjectId>
-    requires { HaveDistinctIds objects.now }
+    requires { HasDistinctIds objects.now }
     ensures { result ≡ collision store.now.objects objects.now }
 {
     for (id, object) in objects {

@@ -78,6 +78,7 @@ pub(crate) fn merge<X: Copy>(entries: &mut Vec<(ObjectId, X)>, fresh: &mut Vec<(
     ensures fresh_capacity { vec_capacity fresh.new ≡ vec_capacity fresh.old }
 {
     let mut kept = entries.len();
+    // There is room, so that it can't fail.
     let _fits = entries.extend_from_slice(fresh.as_slice());
     if kept == 0 {
         fresh.clear();

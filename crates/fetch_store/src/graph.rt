@@ -6,8 +6,10 @@ ghost use Rattle.std.specs.Option.{option_copied};
 ghost use Rattle.fetch_store.specs.declared.error.StoreError.TheVariants as errors;
 ghost use Rattle.fetch_store.specs.Graph.{node_of, graph_of};
 ghost use Rattle.fetch_store.specs.References.{seen};
-ghost use Rattle.fetch_store.specs.Stores.{AreOf, add_all, collision};
+ghost use Rattle.fetch_store.specs.Stores.{AreOf, ObjectMap, add_all, collision};
+ghost use Rattle.fetch_store.specs.declared.id.Kind.{Kind};
 
+use crate::cloning::{TryClone, copy_slice};
 use crate::entries::{arrange, find_in_order};
 use crate::error::{NoMemory, StoreError};
 use crate::id::ObjectId;
@@ -42,11 +44,8 @@ impl Model for History {
     ghost view = { λ n. record { kind = n.kind; parents = n.parents.items; seconds = n.seconds; target = n.target } };
 }
 
-impl History {
-    /// An equal history.
-    pub fn try_clone(&self) -> Result<History, NoMemory>
-        ensures { IfOk result (λ copy. copy ≡ self.now) }
-    {
+impl TryClone for History {
+    fn try_clone(&self) -> Result<History, NoMemory> {
         Ok(History {
             kind: self.kind,
             parents: self.parents.clone()?,
@@ -107,12 +106,30 @@ impl Graph {
         Ok(Graph { nodes })
     }
 
+    /// Adds the histories of the list, and reads none of those that the graph has: of the graph of some objects it makes
+    /// that of these with the list added. The only error is out of memory, and after it the graph is as before.
+    pub fn extend(&mut self, objects: &[(ObjectId, Object)]) -> Result<(), StoreError>
+        ensures graph { (hash : Kind) (m : ObjectMap) → self.old ≡ graph_of m
+            → AreOf hash (map.entries m) → AreOf hash objects.now → collision m objects.now ≡ None
+            → OnOk result (self.new ≡ graph_of (add_all m objects.now)) }
+        ensures err { IfErr result (λ e. (e ≡ errors.NoMemory) × (self.new ≡ self.old)) }
+    {
+        let alloc = *self.nodes.allocator();
+        let mut fresh = Vec::with_capacity(alloc, objects.len())?;
+        append(&mut fresh, alloc, objects)?;
+        self.nodes.append(&mut fresh)?;
+        arrange(&mut self.nodes);
+        Ok(())
+    }
+
     /// A graph with the same histories.
     pub fn try_clone(&self, alloc: Global) -> Result<Graph, NoMemory>
         ensures { IfOk result (λ copy. copy ≡ self.now) }
     {
-        let nodes = copies(alloc, self.nodes.as_slice())?;
-        Ok(Graph { nodes })
+        let nodes = copy_slice(alloc, self.nodes.as_slice())?;
+        Ok(Graph {
+            nodes: nodes.into_vec(),
+        })
     }
 
     fn get(&self, id: &ObjectId) -> Option<&History>
@@ -120,19 +137,6 @@ impl Graph {
     {
         find_in_order(self.nodes.as_slice(), id)
     }
-}
-
-fn copies(
-    alloc: Global,
-    nodes: &[(ObjectId, History)],
-) -> Result<Vec<(ObjectId, History)>, NoMemory>
-    ensures { IfOk result (λ copies. copies.items ≡ nodes.now) }
-{
-    let mut copies = Vec::new(alloc);
-    for (id, history) in nodes {
-        copies.push((*id, history.try_clone()?))?;
-    }
-    Ok(copies)
 }
 
 /// Puts the histories of the stored objects after the others.

@@ -1,12 +1,10 @@
 //! Files in memory.
 
-ghost use Rattle.std.specs.Prelude.{◌≡◌, ◌↔◌, ℕ, Some, IsErr, IsErrOf, OnErr, IfOk, MatchResult, None, Contains, nat_lt, length};
+ghost use Rattle.std.specs.Prelude.{◌≡◌, ◌↔◌, ℕ, Some, IfOk, None, Contains, nat_lt, length};
 ghost use Rattle.std.specs.FinMap as map;
-ghost use Rattle.std.specs.Option.{ok_or};
-ghost use Rattle.fetch_store.specs.Answers.{AnswersBy};
 ghost use Rattle.fetch_store.specs.Calls.{one_more};
-ghost use Rattle.fetch_store.specs.Faults.{Rose, Counts, counted};
-ghost use Rattle.fetch_store.specs.FileCalls.{Asks, Changes, IsRefused, called, is_memory, failed_after, risen_after};
+ghost use Rattle.fetch_store.specs.Faults.{Counts, counted};
+ghost use Rattle.fetch_store.specs.FileCalls.{IsAnswered, IsChanged, IsRemoved};
 ghost use Rattle.fetch_store.specs.Paths.{parts_of};
 ghost use Rattle.fetch_store.specs.Trees.{kind_in, names_in, read_in, with_directories, written, renamed, without_file, without_all};
 ghost use Rattle.fetch_store.specs.declared.file_error.FileError.TheVariants as errors;
@@ -97,17 +95,7 @@ impl Files for MemoryFiles {
     ghost may_fail = { λ f. nat_lt 0 (length f.calls.listed) };
 
     fn kind_of(&mut self, path: &[u8]) -> Result<Option<Node>, FileError>
-        ensures counts { Counts (counted self.old.failed) (counted self.new.failed) }
-        ensures cause { IsErrOf result FileError.Failed → Rose (counted self.old.failed) (counted self.new.failed) }
-        ensures tree { Asks (λ kind. kind) (Some self.old.tree) (Some self.new.tree) (λ t. kind_in t (parts_of path.now)) result }
-        ensures in_the_way { IsErrOf result FileError.Failed → IsRefused (nat_lt 0 (length self.old.calls.listed)) (Some self.old.tree) (λ t. kind_in t (parts_of path.now)) }
-        ensures may_fail { nat_lt 0 (length self.new.calls.listed) ≡ nat_lt 0 (length self.old.calls.listed) }
-        ensures listed { Contains self.old.calls.listed self.old.calls.next → IsErrOf result FileError.Failed }
-        ensures answer { ¬ Contains self.old.calls.listed self.old.calls.next
-            → AnswersBy (λ kind. kind) is_memory (ok_or (kind_in self.old.tree (parts_of path.now)) errors.Failed) result }
-        ensures same { self.new.tree ≡ self.old.tree }
-        ensures calls { self.new.calls ≡ called self.old.calls }
-        ensures failed { self.new.failed ≡ failed_after self.old.failed result }
+        ensures { IsAnswered (λ kind. kind) self.old self.new (λ t. kind_in t (parts_of path.now)) result }
     {
         if self.calls.count() {
             return Err(fail(&mut self.failed));
@@ -119,17 +107,7 @@ impl Files for MemoryFiles {
     }
 
     fn list(&mut self, path: &[u8]) -> Result<Vec<Text>, FileError>
-        ensures counts { Counts (counted self.old.failed) (counted self.new.failed) }
-        ensures cause { IsErrOf result FileError.Failed → Rose (counted self.old.failed) (counted self.new.failed) }
-        ensures tree { Asks (λ names. names.items) (Some self.old.tree) (Some self.new.tree) (λ t. names_in t (parts_of path.now)) result }
-        ensures in_the_way { IsErrOf result FileError.Failed → IsRefused (nat_lt 0 (length self.old.calls.listed)) (Some self.old.tree) (λ t. names_in t (parts_of path.now)) }
-        ensures may_fail { nat_lt 0 (length self.new.calls.listed) ≡ nat_lt 0 (length self.old.calls.listed) }
-        ensures listed { Contains self.old.calls.listed self.old.calls.next → IsErrOf result FileError.Failed }
-        ensures answer { ¬ Contains self.old.calls.listed self.old.calls.next
-            → AnswersBy (λ names. names.items) is_memory (ok_or (names_in self.old.tree (parts_of path.now)) errors.Failed) result }
-        ensures same { self.new.tree ≡ self.old.tree }
-        ensures calls { self.new.calls ≡ called self.old.calls }
-        ensures failed { self.new.failed ≡ failed_after self.old.failed result }
+        ensures { IsAnswered (λ names. names.items) self.old self.new (λ t. names_in t (parts_of path.now)) result }
     {
         if self.calls.count() {
             return Err(fail(&mut self.failed));
@@ -141,17 +119,7 @@ impl Files for MemoryFiles {
     }
 
     fn make_dir_all(&mut self, path: &[u8]) -> Result<(), FileError>
-        ensures counts { Counts (counted self.old.failed) (counted self.new.failed) }
-        ensures cause { IsErrOf result FileError.Failed → Rose (counted self.old.failed) (counted self.new.failed) }
-        ensures tree { Changes (Some self.old.tree) (Some self.new.tree) (λ t. with_directories t (parts_of path.now)) result }
-        ensures in_the_way { IsErrOf result FileError.Failed → IsRefused (nat_lt 0 (length self.old.calls.listed)) (Some self.old.tree) (λ t. with_directories t (parts_of path.now)) }
-        ensures may_fail { nat_lt 0 (length self.new.calls.listed) ≡ nat_lt 0 (length self.old.calls.listed) }
-        ensures listed { Contains self.old.calls.listed self.old.calls.next → IsErrOf result FileError.Failed }
-        ensures answer { ¬ Contains self.old.calls.listed self.old.calls.next
-            → AnswersBy (λ _. self.new.tree) is_memory (ok_or (with_directories self.old.tree (parts_of path.now)) errors.Failed) result }
-        ensures err { OnErr result (self.new.tree ≡ self.old.tree) }
-        ensures calls { self.new.calls ≡ called self.old.calls }
-        ensures failed { self.new.failed ≡ failed_after self.old.failed result }
+        ensures { IsChanged self.old self.new (λ t. with_directories t (parts_of path.now)) result }
     {
         if self.calls.count() {
             return Err(fail(&mut self.failed));
@@ -164,17 +132,7 @@ impl Files for MemoryFiles {
     }
 
     fn write(&mut self, path: &[u8], bytes: &[u8]) -> Result<(), FileError>
-        ensures counts { Counts (counted self.old.failed) (counted self.new.failed) }
-        ensures cause { IsErrOf result FileError.Failed → Rose (counted self.old.failed) (counted self.new.failed) }
-        ensures tree { Changes (Some self.old.tree) (Some self.new.tree) (λ t. written t (parts_of path.now) bytes.now) result }
-        ensures in_the_way { IsErrOf result FileError.Failed → IsRefused (nat_lt 0 (length self.old.calls.listed)) (Some self.old.tree) (λ t. written t (parts_of path.now) bytes.now) }
-        ensures may_fail { nat_lt 0 (length self.new.calls.listed) ≡ nat_lt 0 (length self.old.calls.listed) }
-        ensures listed { Contains self.old.calls.listed self.old.calls.next → IsErrOf result FileError.Failed }
-        ensures answer { ¬ Contains self.old.calls.listed self.old.calls.next
-            → AnswersBy (λ _. self.new.tree) is_memory (ok_or (written self.old.tree (parts_of path.now) bytes.now) errors.Failed) result }
-        ensures err { OnErr result (self.new.tree ≡ self.old.tree) }
-        ensures calls { self.new.calls ≡ called self.old.calls }
-        ensures failed { self.new.failed ≡ failed_after self.old.failed result }
+        ensures { IsChanged self.old self.new (λ t. written t (parts_of path.now) bytes.now) result }
     {
         if self.calls.count() {
             return Err(fail(&mut self.failed));
@@ -187,17 +145,7 @@ impl Files for MemoryFiles {
     }
 
     fn read(&mut self, path: &[u8]) -> Result<Option<Text>, FileError>
-        ensures counts { Counts (counted self.old.failed) (counted self.new.failed) }
-        ensures cause { IsErrOf result FileError.Failed → Rose (counted self.old.failed) (counted self.new.failed) }
-        ensures tree { Asks (λ bytes. bytes) (Some self.old.tree) (Some self.new.tree) (λ t. read_in t (parts_of path.now)) result }
-        ensures in_the_way { IsErrOf result FileError.Failed → IsRefused (nat_lt 0 (length self.old.calls.listed)) (Some self.old.tree) (λ t. read_in t (parts_of path.now)) }
-        ensures may_fail { nat_lt 0 (length self.new.calls.listed) ≡ nat_lt 0 (length self.old.calls.listed) }
-        ensures listed { Contains self.old.calls.listed self.old.calls.next → IsErrOf result FileError.Failed }
-        ensures answer { ¬ Contains self.old.calls.listed self.old.calls.next
-            → AnswersBy (λ bytes. bytes) is_memory (ok_or (read_in self.old.tree (parts_of path.now)) errors.Failed) result }
-        ensures same { self.new.tree ≡ self.old.tree }
-        ensures calls { self.new.calls ≡ called self.old.calls }
-        ensures failed { self.new.failed ≡ failed_after self.old.failed result }
+        ensures { IsAnswered (λ bytes. bytes) self.old self.new (λ t. read_in t (parts_of path.now)) result }
     {
         if self.calls.count() {
             return Err(fail(&mut self.failed));
@@ -209,17 +157,7 @@ impl Files for MemoryFiles {
     }
 
     fn rename(&mut self, from: &[u8], to: &[u8]) -> Result<(), FileError>
-        ensures counts { Counts (counted self.old.failed) (counted self.new.failed) }
-        ensures cause { IsErrOf result FileError.Failed → Rose (counted self.old.failed) (counted self.new.failed) }
-        ensures tree { Changes (Some self.old.tree) (Some self.new.tree) (λ t. renamed t (parts_of from.now) (parts_of to.now)) result }
-        ensures in_the_way { IsErrOf result FileError.Failed → IsRefused (nat_lt 0 (length self.old.calls.listed)) (Some self.old.tree) (λ t. renamed t (parts_of from.now) (parts_of to.now)) }
-        ensures may_fail { nat_lt 0 (length self.new.calls.listed) ≡ nat_lt 0 (length self.old.calls.listed) }
-        ensures listed { Contains self.old.calls.listed self.old.calls.next → IsErrOf result FileError.Failed }
-        ensures answer { ¬ Contains self.old.calls.listed self.old.calls.next
-            → AnswersBy (λ _. self.new.tree) is_memory (ok_or (renamed self.old.tree (parts_of from.now) (parts_of to.now)) errors.Failed) result }
-        ensures err { OnErr result (self.new.tree ≡ self.old.tree) }
-        ensures calls { self.new.calls ≡ called self.old.calls }
-        ensures failed { self.new.failed ≡ failed_after self.old.failed result }
+        ensures { IsChanged self.old self.new (λ t. renamed t (parts_of from.now) (parts_of to.now)) result }
     {
         if self.calls.count() {
             return Err(fail(&mut self.failed));
@@ -232,17 +170,7 @@ impl Files for MemoryFiles {
     }
 
     fn remove_file(&mut self, path: &[u8]) -> Result<(), Failed>
-        ensures counts { Counts (counted self.old.failed) (counted self.new.failed) }
-        ensures cause { OnErr result (Rose (counted self.old.failed) (counted self.new.failed)) }
-        ensures tree { Changes (Some self.old.tree) (Some self.new.tree) (λ t. without_file t (parts_of path.now)) result }
-        ensures in_the_way { OnErr result (IsRefused (nat_lt 0 (length self.old.calls.listed)) (Some self.old.tree) (λ t. without_file t (parts_of path.now))) }
-        ensures may_fail { nat_lt 0 (length self.new.calls.listed) ≡ nat_lt 0 (length self.old.calls.listed) }
-        ensures listed { Contains self.old.calls.listed self.old.calls.next → IsErr result }
-        ensures answer { ¬ Contains self.old.calls.listed self.old.calls.next
-            → MatchResult result (λ _. without_file self.old.tree (parts_of path.now) ≡ Some self.new.tree) (λ _. without_file self.old.tree (parts_of path.now) ≡ None) }
-        ensures err { OnErr result (self.new.tree ≡ self.old.tree) }
-        ensures calls { self.new.calls ≡ called self.old.calls }
-        ensures failed { self.new.failed ≡ risen_after self.old.failed result }
+        ensures { IsRemoved self.old self.new (λ t. without_file t (parts_of path.now)) result }
     {
         if self.calls.count() {
             return Err(fail_plainly(&mut self.failed));
@@ -255,17 +183,7 @@ impl Files for MemoryFiles {
     }
 
     fn remove_dir_all(&mut self, path: &[u8]) -> Result<(), Failed>
-        ensures counts { Counts (counted self.old.failed) (counted self.new.failed) }
-        ensures cause { OnErr result (Rose (counted self.old.failed) (counted self.new.failed)) }
-        ensures tree { Changes (Some self.old.tree) (Some self.new.tree) (λ t. without_all t (parts_of path.now)) result }
-        ensures in_the_way { OnErr result (IsRefused (nat_lt 0 (length self.old.calls.listed)) (Some self.old.tree) (λ t. without_all t (parts_of path.now))) }
-        ensures may_fail { nat_lt 0 (length self.new.calls.listed) ≡ nat_lt 0 (length self.old.calls.listed) }
-        ensures listed { Contains self.old.calls.listed self.old.calls.next → IsErr result }
-        ensures answer { ¬ Contains self.old.calls.listed self.old.calls.next
-            → MatchResult result (λ _. without_all self.old.tree (parts_of path.now) ≡ Some self.new.tree) (λ _. without_all self.old.tree (parts_of path.now) ≡ None) }
-        ensures err { OnErr result (self.new.tree ≡ self.old.tree) }
-        ensures calls { self.new.calls ≡ called self.old.calls }
-        ensures failed { self.new.failed ≡ risen_after self.old.failed result }
+        ensures { IsRemoved self.old self.new (λ t. without_all t (parts_of path.now)) result }
     {
         if self.calls.count() {
             return Err(fail_plainly(&mut self.failed));

@@ -30,6 +30,10 @@ pub(crate) trait Held {
 
     fn object(&self, id: &ObjectId) -> Option<ObjectRef<'_>>
         ensures { option_map seen result ≡ map.get (objects self.now) id.now };
+
+    /// Whether an object is there.
+    fn holds(&self, id: &ObjectId) -> bool
+        ensures { result ≡ map.contains_key (objects self.now) id.now };
 }
 
 impl Held for Store {
@@ -37,6 +41,10 @@ impl Held for Store {
 
     fn object(&self, id: &ObjectId) -> Option<ObjectRef<'_>> {
         self.get(id)
+    }
+
+    fn holds(&self, id: &ObjectId) -> bool {
+        self.contains(id)
     }
 }
 
@@ -72,7 +80,7 @@ pub(crate) fn first_unheld<H: Held>(held: &H, ids: &[ObjectId]) -> Option<Missin
     ensures { result ≡ slice_get (spec.unheld_in (H.objects held.now) ids.now) 0 }
 {
     for id in ids {
-        if held.object(id).is_none() {
+        if !held.holds(id) {
             return Some(Missing { from: *id, to: *id });
         }
     }
@@ -101,7 +109,7 @@ pub(crate) fn first_unstored<H: Held>(
 {
     let mut links = links;
     while let Some(to) = links.next() {
-        if held.object(&to).is_none() {
+        if !held.holds(&to) {
             return Some(Missing { from: *from, to });
         }
     }

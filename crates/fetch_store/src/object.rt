@@ -322,7 +322,7 @@ impl Iterator for Links<'_> {
 impl ExactSizeIterator for Links<'_> {
     /// How many ids are left. It reads what is left of the object.
     fn len(&self) -> usize {
-        // There are no more ids than bytes.
+        // The proof that the count fits needs the length: an object has no more ids than bytes.
         let _bytes = self.rest.len();
         let mut left = Links {
             hash: self.hash,

@@ -21,7 +21,7 @@ use std::sync::ledger::Ledger;
 
 /// The stored ids that are reached from the starts by links, parents of border commits aside: each once, in ascending
 /// order. A start that isn't stored reaches nothing. A step is one look-up: of a start, or of a link of an object that
-/// is reached.
+/// is reached. Steps only grow, also where memory runs out.
 pub fn reached<L: Ledger>(
     alloc: Global,
     store: &Store,
@@ -32,6 +32,7 @@ pub fn reached<L: Ledger>(
     ensures ids { IfOk result (λ ids. (id : ObjectId) → Contains ids id ↔ Reached (holding store.now.objects border.now) starts.now id) }
     ensures ascending { IfOk result (λ ids. IsStrictlySortedBy id_cmp ids) }
     ensures cost { IfOk result (λ ids. steps.new ≤ steps.old + (length starts.now + sum_by (λ id. length (links_at (holding store.now.objects border.now) id)) ids)) }
+    ensures grows { steps.old ≤ steps.new }
 {
     let links = LinksWithin { store, border };
     spread(alloc, &links, starts, None, steps)

@@ -184,11 +184,12 @@ impl Store {
         }
     }
 
-    /// Makes room for the list: for its objects and for their bytes. The only error is out of memory, and after it the
-    /// store is as before.
+    /// Makes room for the list: for its objects and for their bytes. Room that was there stays. The only error is out of
+    /// memory, and after it the store is as before.
     pub fn reserve(&mut self, objects: &[(ObjectId, Object)]) -> Result<(), StoreError>
         ensures room { OnOk result (length objects.now ≤ self.new.spare) }
         ensures room_for_bytes { OnOk result (payload_len objects.now ≤ self.new.spare_bytes) }
+        ensures grows { (self.old.spare ≤ self.new.spare) × (self.old.spare_bytes ≤ self.new.spare_bytes) }
         ensures same { (self.new.hash ≡ self.old.hash) × (self.new.objects ≡ self.old.objects) }
         ensures err { IfErr result (λ e. (e ≡ errors.NoMemory) × (self.new ≡ self.old)) }
     {

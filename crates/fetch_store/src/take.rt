@@ -1,25 +1,22 @@
 //! What a take would leave missing.
 
-ghost use Rattle.std.specs.Prelude.{◌≡◌, IfOk, slice_get, option_map};
-ghost use Rattle.std.specs.BTreeMap as tree;
+ghost use Rattle.std.specs.Prelude.{◌≡◌, IfOk, slice_get};
 ghost use Rattle.std.specs.FinMap as map;
 ghost use Rattle.std.specs.FinSet as set;
-ghost use Rattle.std.specs.Option.{option_copied};
 ghost use Rattle.fetch_store.specs.Borders.{merged};
 ghost use Rattle.fetch_store.specs.Closed.{holding};
-ghost use Rattle.fetch_store.specs.Indexes.{IsIndexOf};
 ghost use Rattle.fetch_store.specs.Missing as spec;
-ghost use Rattle.fetch_store.specs.References.{seen, pack_of};
+ghost use Rattle.fetch_store.specs.References.{pack_of};
 ghost use Rattle.fetch_store.specs.Stores.{add_all, id_cmp};
 
 use crate::border::{Border, border_from};
 use crate::error::NoMemory;
 use crate::id::ObjectId;
+use crate::index::{Index, find_in_index, index_of};
 use crate::missing::{Held, Missing, first_unheld, first_unknown, first_unstored, links_within};
 use crate::object::{Object, ObjectRef};
 use crate::store::Store;
 use std::alloc::Global;
-use std::collections::BTreeMap;
 use std::marker::Model;
 
 /// What is about to be taken into a store, lent.
@@ -67,13 +64,13 @@ pub fn first_missing_of_take(
 struct Joined<'a> {
     store: &'a Store,
     objects: &'a [(ObjectId, Object)],
-    index: BTreeMap<ObjectId, &'a Object>,
+    index: Index<'a>,
 }
 
 impl<'a> Model for Joined<'a> {
     ghost use Rattle.std.specs.FinMap as map;
     ghost use Rattle.fetch_store.specs.Codes.{coded_id, coded_stored};
-    ghost use Rattle.fetch_store.specs.Indexes.{IsIndexOf};
+    ghost use Rattle.fetch_store.specs.Indexes.{IsIndex};
     ghost use Rattle.fetch_store.specs.Stores.{ObjectMap, add_all, id_cmp};
 
     ghost Value = { ObjectMap };
@@ -82,7 +79,7 @@ impl<'a> Model for Joined<'a> {
 
     ghost view = { λ j. add_all j.store.now.objects j.objects.now };
 
-    ghost invariant = { λ j. IsIndexOf j.objects.now j.index };
+    ghost invariant = { λ j. IsIndex j.objects.now j.index };
 }
 
 impl<'a> Joined<'a> {
@@ -108,32 +105,17 @@ impl Held for Joined<'_> {
     fn object(&self, id: &ObjectId) -> Option<ObjectRef<'_>> {
         match self.store.get(id) {
             Some(object) => Some(object),
-            None => find_in_index(&self.index, id),
+            None => find_in_index(self.objects, &self.index, id),
         }
     }
-}
 
-fn find_in_index<'a>(index: &BTreeMap<ObjectId, &'a Object>, id: &ObjectId) -> Option<ObjectRef<'a>>
-    ensures { option_map seen result ≡ option_copied (tree.get id_cmp index.now id.now) }
-{
-    match index.get(id) {
-        Some(object) => Some(object.as_ref()),
-        None => None,
+    /// The list is asked first: most links of a pack lead into it.
+    fn holds(&self, id: &ObjectId) -> bool {
+        if find_in_index(self.objects, &self.index, id).is_some() {
+            return true;
+        }
+        self.store.contains(id)
     }
-}
-
-/// The objects by id; of an id that comes again the first counts.
-fn index_of<'a>(
-    alloc: Global,
-    objects: &'a [(ObjectId, Object)],
-) -> Result<BTreeMap<ObjectId, &'a Object>, NoMemory>
-    ensures { IfOk result (λ index. IsIndexOf objects.now index) }
-{
-    let mut index = BTreeMap::new(alloc);
-    for (id, object) in objects.iter().rev() {
-        index.insert(*id, object)?;
-    }
-    Ok(index)
 }
 
 /// A border with shallow commits and then without unshallow ones, of which no commit is copied.

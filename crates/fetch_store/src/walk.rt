@@ -1,6 +1,6 @@
 //! Walks over ids, level by level.
 
-ghost use Rattle.std.specs.Prelude.{◌≡◌, ◌↔◌, ◌+◌, ◌++◌, ◌≤◌, ◌<◌, ℕ, length, drop, is_some, sum_by, IsTrue, IfOk, IfSome, OnOk, Contains};
+ghost use Rattle.std.specs.Prelude.{◌≡◌, ◌↔◌, ◌+◌, ◌++◌, ◌≤◌, ◌<◌, length, drop, is_some, sum_by, IsTrue, IfOk, IfSome, OnOk, Contains};
 ghost use Rattle.std.specs.List.Sorted.{IsStrictlySortedBy};
 ghost use Rattle.fetch_store.specs.declared.id.ObjectId.{ObjectId};
 ghost use Rattle.fetch_store.specs.Found.{there, with_each, with_next};
@@ -24,7 +24,8 @@ pub trait Next {
     fn is_there(&self, id: &ObjectId) -> bool
         ensures { result ≡ is_some (nexts self.now id.now) };
 
-    /// Puts the ids one step away after the others.
+    /// Puts the ids one step away after the others. After an error some of them may stand there: the walk is given up
+    /// then.
     fn append_next(&self, id: &ObjectId, into: &mut Vec<ObjectId>) -> Result<(), NoMemory>
         ensures { OnOk result (into.new.items ≡ into.old.items ++ next_to (nexts self.now) id.now) };
 }
@@ -39,7 +40,8 @@ impl Keyed<ObjectId> for ObjectId {
 
 /// The ids to which a path leads from one of the starts, of no more steps than the limit, if there is one: each once,
 /// in ascending order. They are found level by level, those one step further after all that are nearer, and each id
-/// is left once. A step is one id that is looked at: a start, or an id one step away from one that was found.
+/// is left once. A step is one id that is looked at: a start, or an id one step away from one that was found. Steps only
+/// grow, also where memory runs out.
 pub fn spread<N: Next, L: Ledger>(
     alloc: Global,
     next: &N,
@@ -50,6 +52,7 @@ pub fn spread<N: Next, L: Ledger>(
     ensures ids { IfOk result (λ ids. (id : ObjectId) → Contains ids id ↔ IsWithin (N.nexts next.now) starts.now limit id) }
     ensures ascending { IfOk result (λ ids. IsStrictlySortedBy id_cmp ids) }
     ensures cost { IfOk result (λ ids. steps.new ≤ steps.old + looked_at (N.nexts next.now) starts.now ids) }
+    ensures grows { steps.old ≤ steps.new }
 {
     let mut found = Distinct::new(alloc);
     add_each(next, &mut found, starts, steps)?;
@@ -82,6 +85,7 @@ fn add_each<N: Next, L: Ledger>(
 ) -> Result<(), NoMemory>
     ensures found { OnOk result (found.new ≡ with_each found.old (there (N.nexts next.now) ids.now)) }
     ensures steps { OnOk result (steps.new ≡ steps.old + length ids.now) }
+    ensures grows { steps.old ≤ steps.new }
 {
     for id in ids {
         steps.tick();
@@ -104,6 +108,7 @@ fn add_level<N: Next, L: Ledger>(
     ensures found { OnOk result (found.new ≡ with_next (N.nexts next.now) found.old (drop from found.old)) }
     ensures begin { IfOk result (λ begin. begin ≡ length found.old) }
     ensures steps { OnOk result (steps.new ≡ steps.old + sum_by (λ id. length (next_to (N.nexts next.now) id)) (drop from found.old)) }
+    ensures grows { steps.old ≤ steps.new }
 {
     let end = found.len();
     let mut ids = Vec::new(alloc);

@@ -9,7 +9,7 @@ use Rattle.fetch_pack.proofs.reading.all_parsed.Goals as goal
 
 pub returns-in_err-object-in-Some : goal.returns-in_err-object-in-Some
 returns-in_err-object-in-Some c =
-    let p = err_from_is_err_and c.from_residual.result c.from_residual.ensures.1 in
+    let p = err_from_is_err_and c.from_residual-in_err-object-in-Some.result c.from_residual-in_err-object-in-Some.ensures.1 in
     let f = c.args.framed.now in
     let x : Written × List ℕ = (written c.in-Some.record, c.in-Some.after.now) in
     let fits : length c.loop-i.rest.now ≤ c.args.pack_len = omega (arith, c.loop-i.invariant.within, c.requires) in

@@ -14,5 +14,5 @@ pub returns-in-None : goal.returns-in-None
 returns-in-None c =
     let q = c.args.id.now in
     let es = c.self.inside.objects.now in
-    c.find_in_index.ensures ∙ c.self.invariant.each q
+    c.find_in_index.ensures
     ∙ ap (λ o. first_some o (find id_cmp q es)) c.in-None.ensures.object ∙ sym (get-add_all c.self.inside.store.now.objects es q) ∙ ap (λ (m : ObjectMap). get m q) c.self.view_is

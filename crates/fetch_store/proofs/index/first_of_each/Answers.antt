@@ -1,6 +1,6 @@
 use Rattle.std.proofs.Common.{refl, ◌∙◌, ap}
 use Rattle.fetch_store.proofs.IndexOf.{indexing_more, indexing_done, indexing_none}
-use Rattle.fetch_store.proofs.take.index_of.Goals as goal
+use Rattle.fetch_store.proofs.index.first_of_each.Goals as goal
 
 pub loop-id-init : goal.loop-id-init
 loop-id-init c =

@@ -1,0 +1,80 @@
+//! The objects of a list by id.
+
+ghost use Rattle.std.specs.Prelude.{◌≡◌, IfOk, option_map};
+ghost use Rattle.std.specs.FinMap as map;
+ghost use Rattle.std.specs.Option.{option_copied};
+ghost use Rattle.fetch_store.specs.Indexes.{IsIndex, IsIndexOf};
+ghost use Rattle.fetch_store.specs.References.{seen};
+ghost use Rattle.fetch_store.specs.Stores.{id_cmp};
+
+use crate::error::NoMemory;
+use crate::fronts::{find_by_front, places_by_front};
+use crate::id::ObjectId;
+use crate::object::{Object, ObjectRef};
+use std::alloc::Global;
+use std::collections::BTreeMap;
+
+/// An index of a list. Of an id that comes again the first object counts.
+#[derive(Drop)]
+pub(crate) enum Index<'a> {
+    /// The places of the objects by the numbers that their ids begin with, which tell the ids apart.
+    Fronts(Vec<(u64, usize)>),
+    /// The first object of each id.
+    Ids(BTreeMap<ObjectId, &'a Object>),
+}
+
+/// The index of a list: a map is made only where the first bytes of the ids don't tell them apart.
+pub(crate) fn index_of<'a>(
+    alloc: Global,
+    objects: &'a [(ObjectId, Object)],
+) -> Result<Index<'a>, NoMemory>
+    ensures { IfOk result (λ index. IsIndex objects.now index) }
+{
+    match places_by_front(alloc, objects)? {
+        Some(places) => Ok(Index::Fronts(places)),
+        None => Ok(Index::Ids(first_of_each(alloc, objects)?)),
+    }
+}
+
+/// The object of an id, if the list has one.
+pub(crate) fn find_in_index<'a>(
+    objects: &'a [(ObjectId, Object)],
+    index: &Index<'a>,
+    id: &ObjectId,
+) -> Option<ObjectRef<'a>>
+    requires { IsIndex objects.now index.now }
+    ensures { option_map seen result ≡ map.find id_cmp id.now objects.now }
+{
+    match find(objects, index, id) {
+        Some(object) => Some(object.as_ref()),
+        None => None,
+    }
+}
+
+fn find<'a>(
+    objects: &'a [(ObjectId, Object)],
+    index: &Index<'a>,
+    id: &ObjectId,
+) -> Option<&'a Object>
+    requires { IsIndex objects.now index.now }
+    ensures { option_copied result ≡ map.find id_cmp id.now objects.now }
+{
+    match index {
+        Index::Fronts(places) => find_by_front(objects, places.as_slice(), id),
+        Index::Ids(firsts) => firsts.get(id).copied(),
+    }
+}
+
+/// The first object of each id.
+fn first_of_each<'a>(
+    alloc: Global,
+    objects: &'a [(ObjectId, Object)],
+) -> Result<BTreeMap<ObjectId, &'a Object>, NoMemory>
+    ensures { IfOk result (λ index. IsIndexOf objects.now index) }
+{
+    let mut index = BTreeMap::new(alloc);
+    for (id, object) in objects.iter().rev() {
+        index.insert(*id, object)?;
+    }
+    Ok(index)
+}
