@@ -9,7 +9,7 @@ ghost use Rattle.fetch_clone.specs.Aims as spec;
 ghost use Rattle.fetch_clone.specs.Meant.{meant_in};
 
 use crate::meant::{Unmeant, meaning_of};
-use fetch_refs::{RefError, peel_tags};
+use fetch_refs::peel_tags;
 use fetch_specs::{FullName, NameError, PartialName, RefSpec};
 use fetch_store::{NoMemory, ObjectId, Objects, Text};
 use fetch_wire::{Mapping, Ref, RefMap};
@@ -71,7 +71,7 @@ pub(crate) fn aim_of<O: Objects>(
     ensures { AnswersUnless spec.is_memory (spec.aim_in map.now (O.graph objects.now) (option_copied ref_name.entry) (option_copied revision.entry)) result }
 {
     if let Some(revision) = revision {
-        return of_id(alloc, objects, revision_id(map, revision));
+        return of_id(objects, revision_id(map, revision));
     }
     match ref_name {
         Some(name) => of_name(alloc, map, name),
@@ -177,7 +177,7 @@ pub(crate) fn is_same_side(a: Option<&[u8]>, b: Option<&[u8]>) -> bool
 }
 
 /// The commit that a stored id leads to.
-fn of_id<O: Objects>(alloc: Global, objects: &O, id: Option<ObjectId>) -> Result<Aim, Unaimed>
+fn of_id<O: Objects>(objects: &O, id: Option<ObjectId>) -> Result<Aim, Unaimed>
     ensures { AnswersUnless spec.is_memory (spec.of_id (O.graph objects.now) id) result }
 {
     let Some(id) = id else {
@@ -186,9 +186,8 @@ fn of_id<O: Objects>(alloc: Global, objects: &O, id: Option<ObjectId>) -> Result
     if objects.kind_of(&id).is_none() {
         return Err(Unaimed::Find { id });
     }
-    match peel_tags(alloc, objects, id) {
+    match peel_tags(objects, id) {
         Ok(end) if objects.is_commit(&end) => Ok(Aim::Id(end)),
-        Err(RefError::NoMemory) => Err(Unaimed::NoMemory),
         _ => Err(Unaimed::Peel { id }),
     }
 }

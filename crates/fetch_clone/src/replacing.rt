@@ -3,11 +3,10 @@
 ghost use Rattle.std.specs.Prelude.{◌≡◌, ◌<◌, if◌then◌else◌, [], ◌∷◌, length, IfOk};
 ghost use Rattle.fetch_config.specs.Contents.{with_sections};
 ghost use Rattle.fetch_config.specs.Lookups.{is_same_sub as is_same};
-ghost use Rattle.fetch_config.specs.Pieces.{is_same_name as is_same_text};
 ghost use Rattle.fetch_lookup.specs.Edited.{edited_at};
 ghost use Rattle.fetch_clone.specs.Replacing as spec;
 
-use fetch_config::{File, Section};
+use fetch_config::{File, Section, is_same_name};
 use fetch_store::{NoMemory, Text};
 use std::alloc::Global;
 
@@ -56,12 +55,6 @@ fn is_like(section: &Section, other: &Section) -> bool
 {
     is_same_name(section.name.as_bytes(), other.name.as_bytes())
         && is_same_sub(&section.sub, &other.sub)
-}
-
-pub(crate) fn is_same_name(a: &[u8], b: &[u8]) -> bool
-    ensures { result ≡ is_same_text a.now b.now }
-{
-    a.eq_ignore_ascii_case(b)
 }
 
 fn is_same_sub(a: &Option<Text>, b: &Option<Text>) -> bool

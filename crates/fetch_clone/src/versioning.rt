@@ -5,8 +5,7 @@ ghost use Rattle.fetch_config.specs.Contents.{with_sections, on_section, with_en
 ghost use Rattle.fetch_lookup.specs.Edited.{edited_at};
 ghost use Rattle.fetch_clone.specs.Versioned as spec;
 
-use crate::replacing::is_same_name;
-use fetch_config::{File, Section};
+use fetch_config::{File, Section, is_same_name};
 use fetch_store::{Kind, NoMemory};
 use std::alloc::Global;
 

@@ -216,9 +216,10 @@ impl File {
         self.sections.get(index)
     }
 
-    /// The sections, in order, lent.
+    /// The sections, in order, lent. No value that a file keeps has a NUL, and no subsection a NUL or a line feed.
     pub fn sections(&self) -> &[Section]
-        ensures { result.now ≡ self.now.sections }
+        ensures sections { result.now ≡ self.now.sections }
+        ensures kept { kept.AreKept self.now.sections }
     {
         self.sections.as_slice()
     }

@@ -17,5 +17,7 @@ mod value;
 
 pub use error::{ConfigError, Unreadable};
 pub use file::File;
+pub use lookup::is_same_sub;
 pub use meta::{Meta, Origin};
 pub use section::Section;
+pub use text::is_same_name;

@@ -13,7 +13,8 @@ use crate::text::is_same_name;
 use fetch_store::{NoMemory, Text};
 use std::alloc::Global;
 
-fn is_same_sub(own: &Option<Text>, sub: Option<&[u8]>) -> bool
+/// Whether a section's subsection is this one, byte by byte; a section may have none.
+pub fn is_same_sub(own: &Option<Text>, sub: Option<&[u8]>) -> bool
     ensures { result ≡ spec.is_same_sub own.now (option_map (λ s. s.now) sub.entry) }
 {
     match own {

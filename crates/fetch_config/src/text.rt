@@ -114,8 +114,8 @@ pub(crate) fn behind(byte: u8, text: &[u8]) -> Option<&[u8]>
     }
 }
 
-/// Whether both are one name. The case of letters doesn't count.
-pub(crate) fn is_same_name(a: &[u8], b: &[u8]) -> bool
+/// Whether both are one name, of a section or a key. The case of letters doesn't count.
+pub fn is_same_name(a: &[u8], b: &[u8]) -> bool
     ensures { result ≡ spec.is_same_name a.now b.now }
 {
     a.eq_ignore_ascii_case(b)

@@ -11,7 +11,6 @@ pub mod SavedParts
 pub mod ReadBack
 pub mod SavedLoops
 pub mod Removal
-pub mod Telling
 pub mod Leadings
 pub mod Followed
 pub mod AddedSpecs

@@ -1,5 +1,5 @@
 -- What a configuration and refspecs say of a branch.
-use Rattle.std.specs.Prelude.{◌≡◌, IfOk, IsOkUnless, MatchOption, ℕ, Bool, true, false, if◌then◌else◌, List, [], ◌∷◌, ◌++◌, nat_eq, codes, slice_get, Option, Some, None, Result, Ok, Err}
+use Rattle.std.specs.Prelude.{◌≡◌, ℕ, Bool, true, false, if◌then◌else◌, List, [], ◌∷◌, ◌++◌, nat_eq, codes, slice_get, Option, Some, None, Result, Ok, Err}
 use Rattle.std.specs.List.{starts_with, filter_map}
 use Rattle.std.specs.Option.{option_map, option_and_then}
 use Rattle.std.specs.Str.{bytes_eq}
@@ -63,11 +63,6 @@ default_at lenient (Some text) = default_or lenient text (default_said text)
 -- What is pushed where no refspec says it.
 unfoldable pub push_default_in : List Section → Bool → Result Default Error
 push_default_in sections lenient = default_at lenient (string_of sections (codes "push") None (codes "default") false)
-
--- The name is this text, or it is no full name, or memory ran out.
-pub record IsFullName (text : List ℕ) (result : Result (List ℕ) NameError) : Type 0 where
-  pub name : IfOk result (λ name. name ≡ text)
-  pub verdict : MatchOption (full_name_trouble text) (IsOkUnless result errors.NoMemory) (λ place. result ≡ Err (errors.Invalid place))
 
 -- The name is this text, where that is a full name; else its place is told; or memory ran out.
 abbrev pub IsNameOf : List ℕ → Result (List ℕ) NameError → Type 0

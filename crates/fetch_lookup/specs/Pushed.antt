@@ -1,4 +1,4 @@
--- What a branch is called on its remote, and where that is tracked.
+-- What a branch is called on its remote.
 use Rattle.std.specs.Prelude.{ℕ, Bool, true, false, if◌then◌else◌, List, [], ◌∷◌, Option, Some, None, Result, Ok, Err}
 use Rattle.std.specs.Option.{option_map}
 use Rattle.std.specs.Str.{bytes_eq}
@@ -68,14 +68,3 @@ counterpart_in sections (Some remote) name Push lenient = pushed_in sections rem
 -- What a branch is called on its remote.
 abbrev pub remote_name_in : List Section → Option RemoteParts → List ℕ → Direction → Bool → Option (Result (List ℕ) Error)
 remote_name_in sections remote name direction lenient = told (counterpart_in sections remote name direction lenient)
-
--- the first destination that a remote's refspecs give to a name that is told
-abbrev pub tracked_by : Option RemoteParts → Option (Result (List ℕ) Error) → Option (Result (List ℕ) Error)
-tracked_by remote None = None
-tracked_by remote (Some (Err e)) = Some (Err e)
-tracked_by None (Some (Ok name)) = None
-tracked_by (Some remote) (Some (Ok name)) = told (Ok (destination_in remote.fetch_specs name))
-
--- Where what a branch is called on its remote is tracked.
-abbrev pub tracked_in : List Section → Option RemoteParts → List ℕ → Direction → Bool → Option (Result (List ℕ) Error)
-tracked_in sections remote name direction lenient = tracked_by remote (remote_name_in sections remote name direction lenient)

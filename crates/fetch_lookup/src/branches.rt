@@ -1,45 +1,18 @@
 //! Where a branch is fetched from, and where refspecs lead to.
 
-ghost use Rattle.std.specs.Prelude.{◌≡◌, IfOk, IfSome, is_some, slice_get};
+ghost use Rattle.std.specs.Prelude.{◌≡◌, IfOk, slice_get};
 ghost use Rattle.std.specs.List.{filter_map};
 ghost use Rattle.std.specs.Option.{option_copied};
 ghost use Rattle.fetch_lookup.specs.Branches as spec;
 
 use crate::names::branch_string;
 use fetch_config::File;
-use fetch_specs::{Category, FullName, Item, Match, MatchGroup, NameError, RefSpec};
+use fetch_specs::{FullName, Item, Match, MatchGroup, NameError, RefSpec};
 use fetch_store::{Kind, NoMemory, Text};
 use std::alloc::Global;
 
-/// What a branch is fetched from: the last `branch.<short>.merge`, below `refs/heads/` where it doesn't begin with
-/// `refs/`. None where the configuration has no such entry, and `Invalid` where that is no full name.
-#[tactic(auto, unfolding(crate::specs::Branches::merge_of))]
-pub fn branch_merge_name(
-    alloc: Global,
-    file: &File,
-    name: &FullName,
-) -> Option<Result<FullName, NameError>>
-    ensures said { is_some result ≡ is_some (spec.merge_of file.now.sections name.now) }
-    ensures name { IfSome (spec.merge_of file.now.sections name.now) (λ text. IfSome result (spec.IsFullName text)) }
-{
-    match branch_string(file, name.shorten(), b"merge") {
-        Some(text) => Some(in_full(alloc, text)),
-        None => None,
-    }
-}
-
-#[tactic(auto, unfolding(fetch_specs::specs::Categories::refs))]
-fn in_full(alloc: Global, text: &[u8]) -> Result<FullName, NameError>
-    ensures { spec.IsFullName (spec.in_full text.now) result }
-{
-    if text.starts_with(b"refs/") {
-        FullName::new(alloc, text)
-    } else {
-        Category::LocalBranch.to_full_name(alloc, text)
-    }
-}
-
-/// What a branch is fetched from, as a text.
+/// What a branch is fetched from, as a text: the last `branch.<short>.merge`, below `refs/heads/` where it doesn't begin
+/// with `refs/`. None where the configuration has no such entry.
 #[tactic(auto, unfolding(crate::specs::Branches::merge_of))]
 pub(crate) fn merge_text(
     alloc: Global,

@@ -11,9 +11,7 @@ ghost use Rattle.fetch_lookup.specs.Saved as spec;
 
 use crate::direction::Direction;
 use crate::lines::address_key;
-use crate::names::is_same_name;
-use crate::remote::is_subsection;
-use fetch_config::{File, Meta, Section};
+use fetch_config::{File, Meta, Section, is_same_name, is_same_sub};
 use fetch_store::Text;
 
 /// The keys go from all sections of the remote, and sections that this empties go too.
@@ -59,7 +57,7 @@ fn remove_keys(file: &mut File, index: usize)
 pub(crate) fn is_of_remote(section: &Section, name: &[u8]) -> bool
     ensures { result ≡ spec.is_of_remote name.now section.now }
 {
-    is_same_name(section.name.as_bytes(), b"remote") && is_subsection(&section.sub, name)
+    is_same_name(section.name.as_bytes(), b"remote") && is_same_sub(&section.sub, Some(name))
 }
 
 fn is_emptied(section: &Section) -> bool
@@ -104,8 +102,8 @@ fn is_same_path(a: &Option<Text>, b: &Option<Text>) -> bool
     ensures { result ≡ lookups.is_same_sub a.now b.now }
 {
     match b {
-        Some(b) => is_subsection(a, b.as_bytes()),
-        None => a.is_none(),
+        Some(b) => is_same_sub(a, Some(b.as_bytes())),
+        None => is_same_sub(a, None),
     }
 }
 

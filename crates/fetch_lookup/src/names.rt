@@ -3,14 +3,13 @@
 ghost use Rattle.std.specs.Prelude.{◌≡◌, ◌||◌, IfOk, OnOk, option_map, filter};
 ghost use Rattle.std.specs.List.{find};
 ghost use Rattle.std.specs.Str.{bytes_eq, is_utf8 as is_valid};
-ghost use Rattle.fetch_config.specs.Pieces as pieces;
 ghost use Rattle.fetch_lookup.specs.Names as spec;
 ghost use Rattle.fetch_lookup.specs.Ordered.{ascending, placed};
 
 use crate::direction::Direction;
 use crate::name::{Name, named};
 use crate::utf8::is_utf8;
-use fetch_config::{File, Section};
+use fetch_config::{File, Section, is_same_name};
 use fetch_store::{NoMemory, Text};
 use std::alloc::Global;
 use std::collections::BTreeSet;
@@ -71,12 +70,6 @@ pub fn branch_remote_name(
         return Ok(None);
     };
     named(alloc, text)
-}
-
-pub(crate) fn is_same_name(a: &[u8], b: &[u8]) -> bool
-    ensures { result ≡ pieces.is_same_name a.now b.now }
-{
-    a.eq_ignore_ascii_case(b)
 }
 
 #[tactic(auto, unfolding(crate::specs::Ordered::placed))]

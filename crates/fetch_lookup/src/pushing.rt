@@ -1,9 +1,9 @@
-//! What a branch is called on its remote, and where that is tracked.
+//! What a branch is called on its remote.
 
-ghost use Rattle.std.specs.Prelude.{◌≡◌, IfOk, List, ℕ, Option, Some, Result, Ok};
+ghost use Rattle.std.specs.Prelude.{◌≡◌, IfOk, List, ℕ, Option, Result};
 ghost use Rattle.std.specs.Option.{option_copied};
 ghost use Rattle.fetch_store.specs.Answers.{AnswersUnless};
-ghost use Rattle.fetch_lookup.specs.Branches.{destination_in, merge_of};
+ghost use Rattle.fetch_lookup.specs.Branches.{merge_of};
 ghost use Rattle.fetch_lookup.specs.Pushed as spec;
 ghost use Rattle.fetch_lookup.specs.Results.{AnswersMaybe};
 ghost use Rattle.fetch_lookup.specs.declared.branch.Error.{Error as Refusal};
@@ -36,58 +36,6 @@ pub fn branch_remote_ref_name(
         alloc,
         counterpart(alloc, file, remote, name, direction, lenient),
     )
-}
-
-/// Where what a branch is called on its remote is tracked: the first destination that the remote's refspecs to fetch
-/// by give to it. None where nothing says that name, without a remote, and where the refspecs give none.
-pub fn branch_remote_tracking_ref_name(
-    alloc: Global,
-    file: &File,
-    remote: Option<&RemoteParts>,
-    name: &FullName,
-    direction: Direction,
-    lenient: bool,
-) -> Option<Result<FullName, Error>>
-    ensures { AnswersMaybe spec.is_memory (spec.tracked_in file.now.sections (option_copied remote.entry) name.now direction lenient) result }
-{
-    let there = branch_remote_ref_name(alloc, file, remote, name, direction, lenient);
-    tracked(alloc, remote, there)
-}
-
-fn tracked(
-    alloc: Global,
-    remote: Option<&RemoteParts>,
-    there: Option<Result<FullName, Error>>,
-) -> Option<Result<FullName, Error>>
-    ensures { (expected : Option (Result (List ℕ) Refusal)) → AnswersMaybe spec.is_memory expected there → AnswersMaybe spec.is_memory (spec.tracked_by (option_copied remote.entry) expected) result }
-{
-    match there {
-        Some(Ok(there)) => tracked_there(alloc, remote, &there),
-        Some(Err(e)) => Some(Err(e)),
-        None => None,
-    }
-}
-
-fn tracked_there(
-    alloc: Global,
-    remote: Option<&RemoteParts>,
-    there: &FullName,
-) -> Option<Result<FullName, Error>>
-    ensures { AnswersMaybe spec.is_memory (spec.tracked_by (option_copied remote.entry) (Some (Ok there.now))) result }
-{
-    match remote {
-        Some(remote) => told(alloc, tracking(alloc, remote, there)),
-        None => None,
-    }
-}
-
-fn tracking(alloc: Global, remote: &RemoteParts, there: &FullName) -> Result<Option<Text>, Error>
-    ensures { AnswersUnless spec.is_memory (Ok (destination_in remote.now.fetch_specs there.now)) result }
-{
-    match destination(alloc, remote.fetch_specs.as_slice(), there) {
-        Ok(text) => Ok(text),
-        Err(_) => Err(Error::NoMemory),
-    }
 }
 
 /// The name that a text is, where there is one.

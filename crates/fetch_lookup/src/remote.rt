@@ -11,9 +11,8 @@ ghost use Rattle.fetch_lookup.specs.Remotes.{is_memory};
 use crate::direction::Direction;
 use crate::find::Error;
 use crate::name::{Name, is_place, named};
-use crate::names::is_same_name;
 use crate::refspecs::{in_order, parse_all};
-use fetch_config::{File, Section};
+use fetch_config::{File, Section, is_same_name, is_same_sub};
 use fetch_specs::{Operation, RefSpec, SpecError, Tags};
 use fetch_store::{List, NoMemory, Text};
 use std::alloc::Global;
@@ -33,6 +32,26 @@ pub struct RemoteParts {
     pub push_specs: List<RefSpec>,
     /// Which tags are fetched beside.
     pub fetch_tags: Tags,
+}
+
+impl RemoteParts {
+    /// An equal remote.
+    pub fn try_clone(&self) -> Result<RemoteParts, NoMemory>
+        ensures { IfOk result (λ copy. copy ≡ self.now) }
+    {
+        let name = match &self.name {
+            Some(name) => Some(name.try_clone()?),
+            None => None,
+        };
+        Ok(RemoteParts {
+            name,
+            urls: self.urls.try_clone_with(Text::try_clone)?,
+            push_urls: self.push_urls.try_clone_with(Text::try_clone)?,
+            fetch_specs: self.fetch_specs.try_clone_with(RefSpec::try_clone)?,
+            push_specs: self.push_specs.try_clone_with(RefSpec::try_clone)?,
+            fetch_tags: self.fetch_tags,
+        })
+    }
 }
 
 /// The remote that has trusted sections `remote "<name>"`; none where there is no such section. An empty address clears
@@ -61,17 +80,8 @@ fn is_section_of(section: &Section, name: &[u8]) -> bool
     ensures { result ≡ lookups.is_meant names.remote (Some name.now) true section.now }
 {
     is_same_name(section.name.as_bytes(), b"remote")
-        && is_subsection(&section.sub, name)
+        && is_same_sub(&section.sub, Some(name))
         && section.meta.trusted
-}
-
-pub(crate) fn is_subsection(own: &Option<Text>, name: &[u8]) -> bool
-    ensures { result ≡ lookups.is_same_sub own.now (Some name.now) }
-{
-    match own {
-        Some(own) => own.as_bytes() == name,
-        None => false,
-    }
 }
 
 /// The parts of a remote, each refused in its turn.

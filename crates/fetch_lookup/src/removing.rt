@@ -7,8 +7,8 @@ ghost use Rattle.fetch_config.specs.Contents.{with_sections};
 ghost use Rattle.fetch_lookup.specs.Edited.{edited_at};
 ghost use Rattle.fetch_lookup.specs.Removed as spec;
 
-use crate::names::{Names, is_same_name};
-use fetch_config::{File, Origin, Section};
+use crate::names::Names;
+use fetch_config::{File, Origin, Section, is_same_name};
 use fetch_store::Text;
 
 /// Whether there is a local section `branch "<name>"` of one of these short names.

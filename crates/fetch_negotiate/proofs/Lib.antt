@@ -17,3 +17,4 @@ pub mod Copying
 pub mod Windowing
 pub mod Rounding
 pub mod Passed
+pub mod GivingBack

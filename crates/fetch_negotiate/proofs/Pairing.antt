@@ -1,7 +1,8 @@
 -- The pairs of commits, one more at a time.
-use Rattle.std.proofs.Common.{◌≡◌, ℕ, ◌+◌, ◌<◌, Bool, true, false, cond, [], ◌∷◌, ◌++◌, take, get_or, length, Option, Some, unwrap_or, refl, sym, ap, subst, ◌∙◌, arith}
+use Rattle.std.proofs.Common.{◌≡◌, ℕ, ◌+◌, ◌<◌, Bool, true, false, cond, List, [], ◌∷◌, ◌++◌, take, get_or, length, Option, Some, unwrap_or, refl, sym, ap, subst, ◌∙◌, arith}
 use Rattle.std.specs.BTreeMap as tree
-use Rattle.std.specs.BTreeMap.{BTreeMap}
+use Rattle.std.specs.BTreeMap.{BTreeMap, is_at}
+use Rattle.std.specs.Map.{lookup}
 use Rattle.std.specs.Cmp.{Equal-is}
 use Rattle.std.specs.Ordering.{eq_by_cmp}
 use Rattle.std.specs.declared.cmp.Ordering.{Ordering}
@@ -45,3 +46,7 @@ entered_more handed entered s t p v lt at is updates c =
     now q false e =
         ap (λ (o : Option Skip). unwrap_or o no_skip) (by q ∙ ap (λ b. cond b (Some v) (tree.get id_cmp s q)) e) ∙ c.each q
         ∙ sym (ap (λ b. cond b (higher (pair_of (take entered handed) q) p.1) (pair_of (take entered handed) q)) e)
+
+-- before the first pair
+pub nothing_entered : (pairs : BTreeMap ObjectId Skip) (q : ObjectId) → pairs.entries ≡ [] → skip_in pairs q ≡ no_skip
+nothing_entered pairs q none = ap (λ (es : List (ObjectId × Skip)). unwrap_or (lookup (is_at (id_cmp q)) es) no_skip) none

@@ -8,8 +8,8 @@ use Rattle.fetch_negotiate.specs.Commits.{Known}
 use Rattle.fetch_negotiate.specs.Exact.{IsExact}
 use Rattle.fetch_negotiate.specs.Haves.{Negotiation}
 use Rattle.fetch_negotiate.specs.Queues.{IsLineIn, tips_in}
-use Rattle.fetch_negotiate.specs.Reading.{Table, read_in, commit_at}
-use Rattle.fetch_negotiate.specs.Sharing.{IsCommonIn}
+use Rattle.fetch_negotiate.specs.Reading.{Table, Grows, read_in, commit_at}
+use Rattle.fetch_negotiate.specs.Sharing.{IsCommonIn, Extends}
 
 -- What a walk keeps, of what is shared and of its line.
 pub record IsWalk (w : HaveWalk) : Type 0 where
@@ -32,3 +32,11 @@ pub record IsReady (g : Graph) (w : HaveWalk) : Type 0 where
 -- The commit was read.
 abbrev pub IsRead : HaveWalk → ObjectId → Type 0
 IsRead w id = is_some (commit_at (read_in w.table) id) ≡ true
+
+-- Commits were taken in between, after those before, and more may have been read.
+pub record GoesOn (w v : HaveWalk) : Type 0 where
+  pub grows : Grows (read_in w.table) (read_in v.table)
+  pub tips : tips_in v.line ≡ tips_in w.line
+  pub border : v.border ≡ w.border
+  pub acknowledged : v.common.acknowledged.items ≡ w.common.acknowledged.items
+  pub taken : Extends w.line.taken.items v.line.taken.items

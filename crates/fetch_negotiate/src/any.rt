@@ -103,6 +103,7 @@ impl Negotiator for AnyNegotiator {
         ensures algorithm { algorithm_of self.new ≡ algorithm_of self.old }
         ensures next { IfOk result (λ next. next ≡ (offer_of (O.graph objects.now) (algorithm_of self.old) (so_far_of self.old)).have) }
         ensures ok { OnOk result (so_far_of self.new ≡ (offer_of (O.graph objects.now) (algorithm_of self.old) (so_far_of self.old)).later) }
+        ensures unchanged { OnErr result (so_far_of self.new ≡ so_far_of self.old) }
         ensures later { OnErr result (offer_of (O.graph objects.now) (algorithm_of self.old) (so_far_of self.new) ≡ offer_of (O.graph objects.now) (algorithm_of self.old) (so_far_of self.old)) }
         ensures stored { IfOk result (λ next. IfSome next (λ id. IsStoredCommit (O.graph objects.now) id)) }
         ensures fresh { IfOk result (λ next. IfSome next (λ id. has (given_by self.old) id ≡ false)) }

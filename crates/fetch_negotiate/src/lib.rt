@@ -12,6 +12,7 @@ mod links;
 mod negotiator;
 mod once;
 mod request;
+mod returning;
 mod skip;
 mod skipping;
 mod skips;

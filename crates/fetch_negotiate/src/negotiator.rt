@@ -10,7 +10,8 @@ use fetch_store::{NoMemory, ObjectId, Objects};
 use std::alloc::Global;
 
 /// Tells commits one after another, each once, and takes in which of them the other side has. It keeps what it reads
-/// of the objects, which have to tell that as before in each call.
+/// of the objects, which have to tell that as before in each call. That each commit is stored and told once is the law
+/// of the trait; which commit comes next, and that those in common don't, each type says of its own calls.
 pub trait Negotiator {
     /// The ids that were read, each with the stored commit that was found.
     ghost known: { Self → Read };
@@ -27,7 +28,7 @@ pub trait Negotiator {
         ensures err { OnErr result (given self.new ≡ given self.old) }
         ensures told { IsTold (known self.new) (O.graph objects.now) };
 
-    /// Takes in that the other side has a commit. It and its ancestors are told no more.
+    /// Takes in that the other side has a commit.
     fn in_common<O: Objects>(
         &mut self,
         alloc: Global,

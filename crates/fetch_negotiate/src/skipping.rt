@@ -12,11 +12,12 @@ ghost use Rattle.fetch_negotiate.specs.Reading.{Grows, IsTold, commit_at, links_
 ghost use Rattle.fetch_negotiate.specs.Sharing.{Covers};
 ghost use Rattle.fetch_negotiate.specs.Skipped.{IsSkipping, AnyStored, HasParents, IsOffered};
 ghost use Rattle.fetch_negotiate.specs.Skips.{offers, next_offered};
-ghost use Rattle.fetch_negotiate.specs.Walking.{IsWalk, IsRead, so_far_in, known_in};
+ghost use Rattle.fetch_negotiate.specs.Walking.{GoesOn, IsWalk, IsRead, so_far_in, known_in};
 
 use crate::commits::{Table, read};
 use crate::links::links;
 use crate::negotiator::Negotiator;
+use crate::returning::{Mark, give_back};
 use crate::skip::Skip;
 use crate::skips::{Skips, hand, make_room, pair};
 use crate::walk::{HaveWalk, come_next, share, take};
@@ -84,6 +85,7 @@ impl Negotiator for Skipping {
         requires { IsTold (read_by self.old.known) (O.graph objects.now) }
         ensures next { IfOk result (λ next. next ≡ (next_offered (O.graph objects.now) self.old.so_far).have) }
         ensures ok { OnOk result (self.new.so_far ≡ (next_offered (O.graph objects.now) self.old.so_far).later) }
+        ensures unchanged { OnErr result (self.new.so_far ≡ self.old.so_far) }
         ensures later { OnErr result (next_offered (O.graph objects.now) self.new.so_far ≡ next_offered (O.graph objects.now) self.old.so_far) }
         ensures stored { IfOk result (λ next. IfSome next (λ id. IsStoredCommit (O.graph objects.now) id)) }
         ensures fresh { IfOk result (λ next. IfSome next (λ id. has self.old.offered id ≡ false)) }
@@ -92,7 +94,7 @@ impl Negotiator for Skipping {
         ensures told { IsTold (read_by self.new.known) (O.graph objects.now) }
     {
         self.offered.reserve(1)?;
-        match skip_on(&mut self.walk, &mut self.skips, alloc, objects)? {
+        match skip_or_stay(&mut self.walk, &mut self.skips, alloc, objects)? {
             Some(id) => {
                 self.offered.push_reserved(id);
                 Ok(Some(id))
@@ -117,7 +119,33 @@ impl Negotiator for Skipping {
     }
 }
 
-/// Takes commits until one is offered or none is left.
+/// Takes commits until one is offered or none is left. Where memory runs out, none was taken.
+fn skip_or_stay<O: Objects>(
+    walk: &mut HaveWalk,
+    skips: &mut Skips,
+    alloc: Global,
+    objects: &O,
+) -> Result<Option<ObjectId>, NoMemory>
+    requires skipping { IsSkipping walk.old skips.old }
+    requires told { IsTold (read_in walk.old.table) (O.graph objects.now) }
+    ensures skipping { IsSkipping walk.new skips.new }
+    ensures told { IsTold (read_in walk.new.table) (O.graph objects.now) }
+    ensures next { IfOk result (λ next. next ≡ (next_offered (O.graph objects.now) (so_far_in walk.old)).have) }
+    ensures ok { OnOk result (so_far_in walk.new ≡ (next_offered (O.graph objects.now) (so_far_in walk.old)).later) }
+    ensures err { OnErr result (so_far_in walk.new ≡ so_far_in walk.old) }
+    ensures more { Covers walk.old.line.taken.items walk.new.line.taken.items }
+{
+    let mark = Mark::of(walk, skips);
+    match skip_on(walk, skips, alloc, objects) {
+        Ok(next) => Ok(next),
+        Err(NoMemory) => {
+            give_back(walk, skips, mark);
+            Err(NoMemory)
+        }
+    }
+}
+
+/// Takes commits until one is offered or none is left. Where memory runs out, some may have been taken.
 fn skip_on<O: Objects>(
     walk: &mut HaveWalk,
     skips: &mut Skips,
@@ -130,7 +158,7 @@ fn skip_on<O: Objects>(
     ensures told { IsTold (read_in walk.new.table) (O.graph objects.now) }
     ensures next { IfOk result (λ next. next ≡ (next_offered (O.graph objects.now) (so_far_in walk.old)).have) }
     ensures ok { OnOk result (so_far_in walk.new ≡ (next_offered (O.graph objects.now) (so_far_in walk.old)).later) }
-    ensures later { OnErr result (next_offered (O.graph objects.now) (so_far_in walk.new) ≡ next_offered (O.graph objects.now) (so_far_in walk.old)) }
+    ensures goes { GoesOn walk.old walk.new }
     ensures more { Covers walk.old.line.taken.items walk.new.line.taken.items }
 {
     while let Some(id) = come_next(walk, alloc, objects)? {
@@ -154,6 +182,7 @@ fn pass<O: Objects>(
     requires read { IsRead walk.old id.now }
     ensures skipping { IsSkipping walk.new skips.new }
     ensures told { IsTold (read_in walk.new.table) (O.graph objects.now) }
+    ensures grows { Grows (read_in walk.old.table) (read_in walk.new.table) }
     ensures offered { IfOk result (λ offered. offered ≡ offers (O.graph objects.now) (so_far_in walk.old) id.now) }
     ensures ok { OnOk result (so_far_in walk.new ≡ taking (so_far_in walk.old) (Some id.now)) }
     ensures err { OnErr result (so_far_in walk.new ≡ so_far_in walk.old) }

@@ -1,6 +1,6 @@
 //! The pairs of commits.
 
-ghost use Rattle.std.specs.Prelude.{◌≡◌, ◌+◌, ◌<◌, ◌≤◌, ◌++◌, map, IfOk, OnOk, length, vec_len, vec_capacity};
+ghost use Rattle.std.specs.Prelude.{◌≡◌, ◌+◌, ◌<◌, ◌≤◌, ◌++◌, map, IfOk, OnOk, length, take, vec_len, vec_capacity};
 ghost use Rattle.fetch_negotiate.specs.Copies.{IsSameSkips};
 ghost use Rattle.fetch_negotiate.specs.Paired.{IsPaired, skip_in};
 ghost use Rattle.fetch_negotiate.specs.Skips as spec;
@@ -30,6 +30,16 @@ impl Skips {
             entered: 0,
             pairs: BTreeMap::new(alloc),
         })
+    }
+
+    /// The first pairs alone. Each commit gets its pair anew.
+    pub(crate) fn cut(&mut self, handed: usize)
+        ensures handed { self.new.handed.items ≡ take handed self.old.handed.items }
+        ensures paired { IsPaired self.new }
+    {
+        self.handed.truncate(handed);
+        self.entered = 0;
+        self.pairs.clear();
     }
 
     /// Equal pairs.

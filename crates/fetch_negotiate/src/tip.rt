@@ -42,7 +42,7 @@ fn ends<O: Objects>(alloc: Global, refs: &Refs, objects: &O) -> Result<Vec<Objec
 {
     let mut ids = Vec::new(alloc);
     for (name, target) in refs.iter() {
-        if let Some(id) = end(alloc, refs, objects, name, target)? {
+        if let Some(id) = end(refs, objects, name, target)? {
             ids.push(id)?;
         }
     }
@@ -51,7 +51,6 @@ fn ends<O: Objects>(alloc: Global, refs: &Refs, objects: &O) -> Result<Vec<Objec
 
 /// The stored commit that a reference peels to, if there is one.
 fn end<O: Objects>(
-    alloc: Global,
     refs: &Refs,
     objects: &O,
     name: &[u8],
@@ -60,22 +59,18 @@ fn end<O: Objects>(
     ensures { IfOk result (λ end. end ≡ tip_of refs.now.names (O.graph objects.now) (name.now, seen target.entry)) }
 {
     match if_found(refs.resolve(name, target))? {
-        Some(id) => end_in_objects(alloc, objects, id),
+        Some(id) => Ok(end_in_objects(objects, id)),
         None => Ok(None),
     }
 }
 
-/// The stored commit at the end of a way through stored tags, if there is one.
-fn end_in_objects<O: Objects>(
-    alloc: Global,
-    objects: &O,
-    id: ObjectId,
-) -> Result<Option<ObjectId>, NoMemory>
-    ensures { IfOk result (λ end. end ≡ if_commit (O.graph objects.now) (found (through (O.graph objects.now) (map.len (O.graph objects.now)) [] id))) }
+/// The stored commit at the end of a way through stored tags, if there is one. This takes no memory.
+fn end_in_objects<O: Objects>(objects: &O, id: ObjectId) -> Option<ObjectId>
+    ensures { result ≡ if_commit (O.graph objects.now) (found (through (O.graph objects.now) (map.len (O.graph objects.now)) [] id)) }
 {
-    match if_found(peel_tags(alloc, objects, id))? {
-        Some(end) => Ok(when_commit(objects, end)),
-        None => Ok(None),
+    match peel_tags(objects, id) {
+        Ok(end) => when_commit(objects, end),
+        Err(_) => None,
     }
 }
 

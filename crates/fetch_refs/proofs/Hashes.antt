@@ -8,16 +8,8 @@ use Rattle.fetch_refs.specs.Names.{RefsValue}
 
 -- a direct reference
 pub direct : (r : RefsValue) (a : Bool) → a ≡ list_all leads (map.entries r.names) → a ≡ false → a ≡ has_no_ids r
-direct r a p f = f ∙ ap (λ (x : Bool). x && (is_empty (map.entries r.logs) && is_empty (map.entries r.packed))) (sym f ∙ p)
+direct r a p f = f ∙ ap (λ (x : Bool). x && is_empty (map.entries r.logs)) (sym f ∙ p)
 
--- a line
-pub lined : (r : RefsValue) (a b : Bool) → a ≡ list_all leads (map.entries r.names) → a ≡ true → b ≡ is_empty (map.entries r.logs) → b ≡ false → b ≡ has_no_ids r
-lined r a b p t q f =
-    f ∙ ap (λ (y : Bool). y && is_empty (map.entries r.packed)) (sym f ∙ q)
-    ∙ ap (λ (x : Bool). x && (is_empty (map.entries r.logs) && is_empty (map.entries r.packed))) (sym t ∙ p)
-
--- the packed list alone decides
-pub packed : (r : RefsValue) (a b d : Bool) → a ≡ list_all leads (map.entries r.names) → a ≡ true → b ≡ is_empty (map.entries r.logs) → b ≡ true → d ≡ is_empty (map.entries r.packed) → d ≡ has_no_ids r
-packed r a b d p t q u s =
-    s ∙ ap (λ (y : Bool). y && is_empty (map.entries r.packed)) (sym u ∙ q)
-    ∙ ap (λ (x : Bool). x && (is_empty (map.entries r.logs) && is_empty (map.entries r.packed))) (sym t ∙ p)
+-- the lines alone decide
+pub lined : (r : RefsValue) (a b : Bool) → a ≡ list_all leads (map.entries r.names) → a ≡ true → b ≡ is_empty (map.entries r.logs) → b ≡ has_no_ids r
+lined r a b p t q = q ∙ ap (λ (x : Bool). x && is_empty (map.entries r.logs)) (sym t ∙ p)

@@ -6,6 +6,7 @@ pub mod Overlays
 pub mod Undoing
 pub mod Standing
 pub mod Packs
+pub mod Sifted
 pub mod GainedLines
 pub mod LowerHex
 pub mod FullTexts
@@ -14,6 +15,8 @@ pub mod PackedLines
 pub mod FirstLines
 pub mod Walks
 pub mod TagWays
+pub mod TagSteps
 pub mod NameWays
 pub mod PackedAnswers
 pub mod Hashes
+pub mod Checks

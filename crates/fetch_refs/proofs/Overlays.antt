@@ -119,3 +119,7 @@ same_lines es k =
 -- lines that were written over others are taken back
 pub lines_back : (es : List (List ℕ × List LogLine)) (k : List ℕ) (ls : List LogLine) → with_lines (with_lines (logs_of es) k ls) k (lines_of (logs_of es) k) ≡ logs_of es
 lines_back es k ls = slot_twice (logs_of es) k (shown_lines ls) (shown_lines (lines_of (logs_of es) k)) ∙ same_lines es k
+
+-- a name without lines has no reflog
+pub lines_gone : (es : List (List ℕ × List LogLine)) (k : List ℕ) → lines_of (logs_of es) k ≡ [] → logs_of es ≡ finmap.remove (logs_of es) k
+lines_gone es k none = sym (same_lines es k) ∙ ap (with_lines (logs_of es) k) none

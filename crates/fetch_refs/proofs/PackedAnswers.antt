@@ -25,7 +25,7 @@ use Rattle.fetch_refs.proofs.LowerHex.{id_written}
 use Rattle.fetch_refs.proofs.PackedLines.{from_end, no_line, out_of_order, one_more, unnamed, whole}
 
 -- ---- the last of a list
-last-append : {X : Type 0} (o : Option X) (xs : List X) (x : X) → last_or o (xs ++ x ∷ []) ≡ Some x
+pub last-append : {X : Type 0} (o : Option X) (xs : List X) (x : X) → last_or o (xs ++ x ∷ []) ≡ Some x
 last-append o [] x = refl
 last-append o (y ∷ xs) x = last-append (Some y) xs x
 
@@ -117,7 +117,7 @@ module _ (kind : Kind) where
               ]
         ]
 
-    none_yet : AreAscending kind []
+    pub none_yet : AreAscending kind []
     unfolding IsStrictlySortedBy
     none_yet = record { entries = tt; ascending = tt }
 

@@ -15,13 +15,12 @@ use Rattle.fetch_store.specs.declared.id.ObjectId.{ObjectId}
 use Rattle.fetch_store.specs.Lines.{IsWithout}
 use Rattle.fetch_specs.specs.Names.{is_full_name}
 use Rattle.fetch_refs.specs.declared.error.PackedError.{PackedError}
-use Rattle.fetch_refs.specs.declared.error.PackedError.TheVariants as errors
 use Rattle.fetch_refs.specs.declared.slot.Slot.{Slot}
 use Rattle.fetch_refs.specs.declared.target.Target.{Target}
 use Rattle.fetch_refs.specs.declared.target.Target.TheVariants.{Object}
 use Rattle.fetch_refs.specs.Contents.{value_of, packed_of, list_of, names_of}
 use Rattle.fetch_refs.specs.Iter.{standing}
-use Rattle.fetch_refs.specs.Names.{Logs, Names, PackedList, RefsValue, name_cmp}
+use Rattle.fetch_refs.specs.Names.{Logs, Names, PackedList, name_cmp}
 use Rattle.fetch_refs.specs.Packed.{packed_line, packed_text}
 use Rattle.fetch_refs.specs.ReadSteps.{direct_slot, slots_of, AreReadTo, AreRead}
 use Rattle.fetch_refs.specs.Reading.{IsEntry, GoesOnAt, IsReadAs, IsNoLineAt, IsOutOfOrderAt}
@@ -29,7 +28,7 @@ use Rattle.fetch_refs.specs.Slots.{over, each}
 use Rattle.fetch_refs.proofs.FullTexts.{feedless_name}
 use Rattle.fetch_refs.proofs.Maps.{insert-last}
 use Rattle.fetch_refs.proofs.Names.{name_cmp_total}
-use Rattle.fetch_refs.proofs.PackedReads.{Entries, lines, same_parts, IsRight}
+use Rattle.fetch_refs.proofs.PackedReads.{Entries, lines, same_parts}
 use Rattle.fetch_refs.proofs.Standing.{entries-each}
 
 keys-slots : (es : Entries) → keys_of (slots_of es) ≡ keys_of es
@@ -158,6 +157,17 @@ module _ (kind : Kind) (text rest : List ℕ) (places : List (List ℕ × Slot))
           slots = is ∙ ap (λ (ps : List (List ℕ × Slot)). insert_entry name_cmp ps name (direct_slot id)) read.slots ∙ last ∙ sym slots;
         }
 
+    -- the same, with the place at the end
+    pub one_place : ((others : List (List ℕ × Slot)) (last : List ℕ × Slot) → places ≡ others ++ last ∷ [] → true ≡ is_lt (name_cmp last.0 name)) → AreReadTo kind text more (places ++ (name, direct_slot id) ∷ [])
+    one_place above =
+        let e : List ℕ × ObjectId = (name, id) in
+        record {
+          list = read.list ++ e ∷ [];
+          all = record { entries = all_more (IsEntry kind) read.list e read.all.entries entry; ascending = more_sorted above };
+          whole = text_more read.list e text rest more read.whole next;
+          slots = ap (λ (ps : List (List ℕ × Slot)). ps ++ (name, direct_slot id) ∷ []) read.slots ∙ sym (slots-append read.list e);
+        }
+
 -- what is read of the whole text
 pub whole : (kind : Kind) (text : List ℕ) (places : List (List ℕ × Slot)) (logs : Logs) → AreRead kind text places → logs ≡ finmap.empty
     → IsReadAs kind text (record { hash = kind; names = names_of places; logs = logs; packed = list_of places })
@@ -190,12 +200,3 @@ pub unnamed : (kind : Kind) (rest more : List ℕ) (e : List ℕ × ObjectId) �
 unnamed kind rest more e is none short f after entry also =
     let parts = same_parts e f more after none (feedless_name f.0 entry.name) (sym is ∙ also) in
     absurd (let h : false ≡ true = sym short ∙ ap is_full_name parts.name ∙ entry.name in cc)
-
--- the answers of a whole text
-module _ (kind : Kind) (text : List ℕ) where
-  pub right_error : (found : Result RefsValue PackedError) (e : PackedError) → IsErrAnd found (λ x. x ≡ e)
-      → ((place : ℕ) → e ≡ errors.Line place → IsNoLineAt kind text place) → ((place : ℕ) → e ≡ errors.Order place → IsOutOfOrderAt kind text place) → IsRight kind text found
-  right_error (Ok x) e is line order = absurd is
-  right_error (Err (errors.Line place)) e is line order = inl (line place (sym is))
-  right_error (Err (errors.Order place)) e is line order = inl (order place (sym is))
-  right_error (Err errors.NoMemory) e is line order = inr refl

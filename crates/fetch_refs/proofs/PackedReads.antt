@@ -4,6 +4,7 @@ use Rattle.std.specs.Prelude.{◌↔◌}
 use Rattle.std.specs.List.{AllByRecursion, flat_map}
 use Rattle.std.specs.List.Sorted.{IsStrictlySortedBy}
 use Rattle.std.specs.Map.{keys_of}
+use Rattle.std.specs.Result.{IsErrAnd}
 use Rattle.std.specs.FinMap as finmap
 use Rattle.std.specs.declared.cmp.Ordering.TheVariants.{Less}
 use Rattle.hex.specs.Hex.{encode_lower}
@@ -17,7 +18,7 @@ use Rattle.fetch_refs.specs.declared.error.PackedError.TheVariants as errors
 use Rattle.fetch_refs.specs.Names.{PackedList, RefsValue, name_cmp}
 use Rattle.fetch_refs.specs.Packed.{packed_line, packed_text}
 use Rattle.fetch_refs.specs.ReadSteps.{AreAscending}
-use Rattle.fetch_refs.specs.Reading.{IsEntry, AreEntries, IsReadAs, IsNoLineAt, IsOutOfOrderAt, IsAnswer, AnswersWhere, references_of}
+use Rattle.fetch_refs.specs.Reading.{IsEntry, AreEntries, IsReadAs, IsNoLineAt, IsOutOfOrderAt, IsAnswer, AnswersWhere, IsRefusedAs, references_of}
 use Rattle.fetch_refs.proofs.FullTexts.{feedless_name}
 use Rattle.fetch_refs.proofs.LowerHex.{spaceless}
 use Rattle.fetch_refs.proofs.Maps.{sorted_entries}
@@ -201,27 +202,41 @@ module _ (kind : Kind) where
     one_answer (Err (errors.Order p)) (Err errors.NoMemory) ha hb = absurd hb
     one_answer (Err errors.NoMemory) b ha hb = absurd ha
 
-    -- an answer that is right, but where memory ran out
-    abbrev pub IsRight : Result RefsValue PackedError → Type 0
-    IsRight found = IsAnswer kind text found ⊎ (found ≡ Err errors.NoMemory)
+    -- what is read, or why it isn't
+    abbrev pub IsSound : Result RefsValue PackedError → Type 0
+    IsSound (Ok refs) = IsReadAs kind text refs
+    IsSound (Err e) = IsRefusedAs kind text e
 
-    -- a right answer is each answer that the text has
-    always : (found answer : Result RefsValue PackedError) → IsRight found → IsAnswer kind text answer → (found ≡ answer) ⊎ (found ≡ Err errors.NoMemory)
-    always found answer (inl right) h = inl (one_answer found answer right h)
-    always found answer (inr none) h = inr none
+    pub sound_error : (found : Result RefsValue PackedError) (e : PackedError) → IsErrAnd found (λ x. x ≡ e) → IsRefusedAs kind text e → IsSound found
+    sound_error (Ok x) e is h = absurd is
+    sound_error (Err x) e is h = subst (IsRefusedAs kind text) (sym is) h
 
-    told : (found answer : Result RefsValue PackedError) → IsRight found → (answer ≡ Err errors.NoMemory → ⊥) → found ≡ answer → IsAnswer kind text answer
-    told found answer (inl right) some is = subst (IsAnswer kind text) is right
-    told found answer (inr none) some is = absurd (some (sym is ∙ none))
+    always : (found : Result RefsValue PackedError) → IsSound found → (refs : RefsValue) → IsReadAs kind text refs → (found ≡ Ok refs) ⊎ (found ≡ Err errors.NoMemory)
+    always (Ok x) sound refs h = inl (ap (λ (r : RefsValue). Ok r) (same_refs x refs sound h))
+    always (Err (errors.Line p)) sound refs h = absurd (read_line refs p h sound)
+    always (Err (errors.Order p)) sound refs h = absurd (read_order refs p h sound)
+    always (Err errors.NoMemory) sound refs h = inr refl
 
-    pub where_ok : (found : Result RefsValue PackedError) → IsRight found → (refs : RefsValue) → AnswersWhere found (Ok refs) (IsReadAs kind text refs)
-    where_ok found right refs = record { told = told found (Ok refs) right (λ e. cc); always = always found (Ok refs) right }
+    pub where_ok : (found : Result RefsValue PackedError) → IsSound found → (refs : RefsValue) → AnswersWhere found (Ok refs) (IsReadAs kind text refs)
+    where_ok found sound refs = record { told = λ e. subst IsSound e sound; always = always found sound refs }
 
-    pub where_line : (found : Result RefsValue PackedError) → IsRight found → (place : ℕ) → AnswersWhere found (Err (errors.Line place)) (IsNoLineAt kind text place)
-    where_line found right place = record { told = told found (Err (errors.Line place)) right (λ e. cc); always = always found (Err (errors.Line place)) right }
+    is_line : (found : Result RefsValue PackedError) → IsSound found → (place : ℕ) → IsNoLineAt kind text place → found ≡ Err (errors.Line place)
+    is_line (Ok x) sound place h = absurd (read_line x place sound h)
+    is_line (Err (errors.Line p)) sound place h = ap (λ (n : ℕ). Err (errors.Line n)) (same_lines p place sound h)
+    is_line (Err (errors.Order p)) sound place h = absurd (line_order place p h sound)
+    is_line (Err errors.NoMemory) sound place h = absurd (read_line sound.0 place sound.1 h)
 
-    pub where_order : (found : Result RefsValue PackedError) → IsRight found → (place : ℕ) → AnswersWhere found (Err (errors.Order place)) (IsOutOfOrderAt kind text place)
-    where_order found right place = record { told = told found (Err (errors.Order place)) right (λ e. cc); always = always found (Err (errors.Order place)) right }
+    pub where_line : (found : Result RefsValue PackedError) → IsSound found → (place : ℕ) → (found ≡ Err (errors.Line place)) ↔ IsNoLineAt kind text place
+    where_line found sound place = (λ e. subst IsSound e sound, is_line found sound place)
+
+    is_order : (found : Result RefsValue PackedError) → IsSound found → (place : ℕ) → IsOutOfOrderAt kind text place → found ≡ Err (errors.Order place)
+    is_order (Ok x) sound place h = absurd (read_order x place sound h)
+    is_order (Err (errors.Line p)) sound place h = absurd (line_order p place sound h)
+    is_order (Err (errors.Order p)) sound place h = ap (λ (n : ℕ). Err (errors.Order n)) (same_orders p place sound h)
+    is_order (Err errors.NoMemory) sound place h = absurd (read_order sound.0 place sound.1 h)
+
+    pub where_order : (found : Result RefsValue PackedError) → IsSound found → (place : ℕ) → (found ≡ Err (errors.Order place)) ↔ IsOutOfOrderAt kind text place
+    where_order found sound place = (λ e. subst IsSound e sound, is_order found sound place)
 
 -- what is written is read back
 pub read_back : (kind : Kind) (list : PackedList) (answer : Result RefsValue PackedError) → AreEntries kind list → IsAnswer kind (packed_text list) answer ↔ (answer ≡ Ok (references_of kind list))

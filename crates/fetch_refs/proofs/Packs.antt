@@ -1,5 +1,5 @@
 -- The text of the packed list, and whether edits change it.
-use Rattle.std.proofs.Common.{◌≡◌, ℕ, Bool, true, false, List, [], ◌∷◌, ◌++◌, Option, Some, None, unwrap_or, subst, refl, sym, ap, ◌∙◌, append_assoc}
+use Rattle.std.proofs.Common.{◌≡◌, ℕ, Bool, true, false, List, [], ◌∷◌, ◌++◌, Option, Some, None, unwrap_or, refl, sym, ap, ◌∙◌, append_assoc}
 use Rattle.std.specs.Prelude.{◌&&◌}
 use Rattle.std.specs.List.{flat_map, list_all}
 use Rattle.std.specs.List.Sorted.{IsStrictlySortedBy}
@@ -8,16 +8,16 @@ use Rattle.std.specs.Cmp.{Equal-is}
 use Rattle.std.specs.FinMap as finmap
 use Rattle.std.specs.BTreeMap.{is_at}
 use Rattle.std.specs.Option.{option_map, option_and_then}
-use Rattle.std.proofs.lemmas.Map.Made.{lookup-map_values}
 use Rattle.fetch_refs.proofs.Maps.{find-lookup}
 use Rattle.fetch_refs.proofs.Names.{name_cmp_total, name_cmp_exact}
 use Rattle.fetch_store.specs.Stores.{id_cmp}
 use Rattle.fetch_store.specs.declared.id.ObjectId.{ObjectId}
+use Rattle.fetch_refs.specs.declared.slot.Listed.{Listed}
 use Rattle.fetch_refs.specs.declared.slot.Slot.{Slot}
 use Rattle.fetch_refs.specs.declared.target.Target.{Target}
 use Rattle.fetch_refs.specs.declared.undo.Undo.{Undo}
 use Rattle.fetch_refs.specs.declared.undo.Undo.TheVariants as undos
-use Rattle.fetch_refs.specs.Contents.{value_of, packed_of, names_of, list_of, packed_slot, undone, unwound}
+use Rattle.fetch_refs.specs.Contents.{value_of, names_of, listed, undone, unwound}
 use Rattle.fetch_refs.specs.Iter.{stands, standing}
 use Rattle.fetch_refs.specs.Names.{PackedList, RefsValue, name_cmp}
 use Rattle.fetch_refs.specs.Packed.{packed_line, packed_text, direct_id, all_direct}
@@ -31,16 +31,16 @@ line_first : (name : List ℕ) (id : Option ObjectId) (rest : List (List ℕ × 
 line_first name None rest = refl
 line_first name (Some id) rest = refl
 
--- a line more of the text
-pub line_more : (text more whole : List ℕ) (all rest : List (List ℕ × Slot)) (name : List ℕ) (slot : Slot) → text ++ flat_map packed_line (standing (each packed_of all)) ≡ whole
-    → all ≡ (name, slot) ∷ rest → more ≡ text ++ line_if name slot.packed → more ++ flat_map packed_line (standing (each packed_of rest)) ≡ whole
-line_more text more whole all rest name slot so_far next is =
-    ap (λ (xs : List ℕ). xs ++ flat_map packed_line (standing (each packed_of rest))) is ∙ append_assoc text (line_if name slot.packed) (flat_map packed_line (standing (each packed_of rest)))
-    ∙ ap (λ (xs : List ℕ). text ++ xs) (sym (line_first name slot.packed (standing (each packed_of rest))))
-    ∙ ap (λ (es : List (List ℕ × Slot)). text ++ flat_map packed_line (standing (each packed_of es))) (sym next) ∙ so_far
+-- a line more of the text of a list
+pub line_more : (list : Listed) (text more whole : List ℕ) (all rest : List (List ℕ × Slot)) (name : List ℕ) (slot : Slot) → text ++ flat_map packed_line (standing (each (listed list) all)) ≡ whole
+    → all ≡ (name, slot) ∷ rest → more ≡ text ++ line_if name (listed list slot) → more ++ flat_map packed_line (standing (each (listed list) rest)) ≡ whole
+line_more list text more whole all rest name slot so_far next is =
+    ap (λ (xs : List ℕ). xs ++ flat_map packed_line (standing (each (listed list) rest))) is ∙ append_assoc text (line_if name (listed list slot)) (flat_map packed_line (standing (each (listed list) rest)))
+    ∙ ap (λ (xs : List ℕ). text ++ xs) (sym (line_first name (listed list slot) (standing (each (listed list) rest))))
+    ∙ ap (λ (es : List (List ℕ × Slot)). text ++ flat_map packed_line (standing (each (listed list) es))) (sym next) ∙ so_far
 
-pub whole_text : (text : List ℕ) (es : List (List ℕ × Slot)) → IsStrictlySortedBy name_cmp (keys_of es) → text ≡ flat_map packed_line (standing (each packed_of es)) → text ≡ packed_text (list_of es)
-whole_text text es s is = is ∙ ap (flat_map packed_line) (sym (entries-each packed_of es s))
+pub whole_text : (list : Listed) (text : List ℕ) (es : List (List ℕ × Slot)) → IsStrictlySortedBy name_cmp (keys_of es) → text ≡ flat_map packed_line (standing (each (listed list) es)) → text ≡ packed_text (over finmap.empty (each (listed list) es))
+whole_text list text es s is = is ∙ ap (flat_map packed_line) (sym (entries-each (listed list) es s))
 
 option_is : (a b : Option ObjectId) → same_option a b ≡ true → a ≡ b
 option_is None None is = refl
@@ -66,37 +66,22 @@ pub list_kept : (us : List Undo) (r : RefsValue) → list_all (keeps_packed r.pa
 list_kept [] r is = refl
 list_kept (u ∷ us) r is = kept u r (unwound us r) (list_kept us r (second _ _ is)) (first _ _ is)
 
--- all direct references packed
-pub pack-values : (es : List (List ℕ × Slot)) → each value_of (each packed_slot es) ≡ each value_of es
-pack-values [] = refl
-pack-values (e ∷ es) = ap (λ (xs : List (List ℕ × Option Target)). (e.0, e.1.value) ∷ xs) (pack-values es)
-
-packed_value_is : (o : Option Slot) → unwrap_or (option_map packed_of (option_map packed_slot o)) None ≡ unwrap_or (option_map direct_id (unwrap_or (option_map value_of o) None)) None
-packed_value_is None = refl
-packed_value_is (Some s) = inside s.value
+direct_is : (o : Option Slot) → unwrap_or (option_map (λ (s : Slot). option_and_then direct_id s.value) o) None ≡ unwrap_or (option_map direct_id (unwrap_or (option_map value_of o) None)) None
+direct_is None = refl
+direct_is (Some s) = inside s.value
   where
     inside : (v : Option Target) → option_and_then direct_id v ≡ unwrap_or (option_map direct_id v) None
     inside None = refl
     inside (Some t) = refl
 
-pub pack-list : (es : List (List ℕ × Slot)) → list_of (each packed_slot es) ≡ all_direct (names_of es)
-pack-list es =
+-- the ids of the direct references
+pub direct_list : (es : List (List ℕ × Slot)) → over finmap.empty (each (λ (s : Slot). option_and_then direct_id s.value) es) ≡ all_direct (names_of es)
+direct_list es =
     finmap.same_map name_cmp_total name_cmp_exact _ _ (λ q.
-    get-each packed_of (each packed_slot es) q
-    ∙ ap (λ (o : Option Slot). unwrap_or (option_map packed_of o) None) (lookup-map_values packed_slot (is_at (name_cmp q)) es)
-    ∙ packed_value_is (lookup (is_at (name_cmp q)) es)
+    get-each (λ (s : Slot). option_and_then direct_id s.value) es q
+    ∙ direct_is (lookup (is_at (name_cmp q)) es)
     ∙ ap (λ (o : Option Target). unwrap_or (option_map direct_id o) None) (sym (get-each value_of es q) ∙ finmap.get-entries (names_of es) q ∙ sym (find-lookup name_cmp q (finmap.entries (names_of es))))
     ∙ sym (get-each direct_id (finmap.entries (names_of es)) q))
-
-keys-packed : (es : List (List ℕ × Slot)) → keys_of (each packed_slot es) ≡ keys_of es
-keys-packed [] = refl
-keys-packed (e ∷ es) = ap (λ (ks : List (List ℕ)). e.0 ∷ ks) (keys-packed es)
-
-pub packed_order : (es : List (List ℕ × Slot)) → IsStrictlySortedBy name_cmp (keys_of es) → IsStrictlySortedBy name_cmp (keys_of (each packed_slot es))
-packed_order es s = subst (IsStrictlySortedBy name_cmp) (sym (keys-packed es)) s
-
-pub names-packed : (es : List (List ℕ × Slot)) → names_of (each packed_slot es) ≡ names_of es
-names-packed es = ap (over finmap.empty) (pack-values es)
 
 pub no_text : [] ≡ packed_text finmap.empty
 no_text = ap (flat_map packed_line) (sym entries-none)

@@ -60,7 +60,7 @@ module _ {X : Type 0} where
       get-over finmap.empty es q ∙ ap (unwrap_or (lookup (is_at (name_cmp q)) es)) (finmap.get-empty name_cmp q) ∙ sym (find-standing es q s) ∙ sym (finmap.get-from_entries name_cmp_total (standing es) q)))
       ∙ entries-sorted name_cmp_total name_cmp_exact (standing es) (sorted-standing es s)
 
-  keys-each : {S : Type 0} (f : S → Option X) (es : List (List ℕ × S)) → keys_of (each f es) ≡ keys_of es
+  pub keys-each : {S : Type 0} (f : S → Option X) (es : List (List ℕ × S)) → keys_of (each f es) ≡ keys_of es
   keys-each f [] = refl
   keys-each f (e ∷ es) = ap (λ (ks : List (List ℕ)). e.0 ∷ ks) (keys-each f es)
 

@@ -16,25 +16,20 @@ use Rattle.fetch_store.proofs.Pigeons.{no_more, are_distinct}
 use Rattle.fetch_refs.specs.declared.error.RefError.{RefError}
 use Rattle.fetch_refs.specs.declared.error.RefError.TheVariants as errors
 use Rattle.fetch_refs.specs.Leading.{Leads, next_tag, IsTagWay, EndsTags}
-use Rattle.fetch_refs.specs.Peeled.{open_tag, through}
-use Rattle.fetch_refs.proofs.Walks.{met, distinct_more, is_in, was_met, unmet, Trace, trace, IsWalk, at_met, at_stop, at_last}
+use Rattle.fetch_refs.specs.Peeled.{open_tag, stopped, through}
+use Rattle.fetch_refs.proofs.Walks.{met, apart_way, distinct_more, is_in, was_met, unmet, Trace, trace, IsWalk, at_met, at_stop, at_last}
 use Rattle.fetch_refs.proofs.Ways.{through-cycle, through-end, through-open, open-tag}
 
-abbrev eq : ObjectId → ObjectId → Bool
+abbrev pub eq : ObjectId → ObjectId → Bool
 eq = eq_by_cmp id_cmp
 
-self : (a : ObjectId) → eq a a ≡ true
+pub self : (a : ObjectId) → eq a a ≡ true
 self a = ap is_eq (tied_itself id_cmp_total a)
 
-exact : (a b : ObjectId) → eq a b ≡ true → a ≡ b
+pub exact : (a b : ObjectId) → eq a b ≡ true → a ≡ b
 exact a b h = id_cmp_exact a b ((Equal-is (id_cmp a b)).0 h)
 
--- an object that is no tag, or none
-abbrev stopped : ObjectId → Option Node → Result ObjectId RefError
-stopped id None = Err (errors.MissingObject id)
-stopped id (Some n) = Ok id
-
-open_stop : (id : ObjectId) (o : Option Node) (f : ObjectId → Result ObjectId RefError) → option_and_then (λ (n : Node). n.target) o ≡ None → open_tag id o f ≡ stopped id o
+pub open_stop : (id : ObjectId) (o : Option Node) (f : ObjectId → Result ObjectId RefError) → option_and_then (λ (n : Node). n.target) o ≡ None → open_tag id o f ≡ stopped id o
 open_stop id None f none = refl
 open_stop id (Some n) f none = ap (λ (t : Option ObjectId). Rattle.std.specs.Option.option_map_or f t (Ok id)) none
 
@@ -145,5 +140,14 @@ module _ (graph : Graph) where
   ended first (Err (errors.Unborn name)) h = absurd h
   ended first (Err errors.NoMemory) h = absurd h
 
+  -- where a way comes to an end, its end is answered
+  pub ended_at : (first : ObjectId) (way : List ObjectId) (end : ObjectId) → Leads next first way end → next end ≡ None → through graph (finmap.len graph) [] first ≡ stopped end (finmap.get graph end)
+  ended_at first way end leads none =
+      ended first (stopped end (finmap.get graph end)) (ends_stop first end way (finmap.get graph end) (record { leads = leads; distinct = apart_way eq next exact self way first end leads none }) refl none)
+
   pub tags_end : (first : ObjectId) (answer : Result ObjectId RefError) → (through graph (finmap.len graph) [] first ≡ answer) ↔ EndsTags graph first answer
   tags_end first answer = (λ e. subst (EndsTags graph first) e (answered first (trace eq next (finmap.len graph) [] first start)), ended first answer)
+
+  -- tags take no memory
+  pub never_memory : (first : ObjectId) → through graph (finmap.len graph) [] first ≡ Err errors.NoMemory → ⊥
+  never_memory first is = (tags_end first (Err errors.NoMemory)).0 is

@@ -141,3 +141,113 @@ module _ {A : Type 0} (eq : A → A → Bool) where
         step : (t : Bool) → eq w q ≡ t → met ws q ≡ false → (t || met ws q) ≡ false
         step true is rest = absurd (let h : Some leads.1.0 ≡ None = sym leads.1.1 ∙ ap next (exact w q is) ∙ none in cc)
         step false is rest = rest
+
+    -- ---- a way to one that leads nowhere
+
+    -- two such ways from one start are as long
+    alike : (way other : List A) (x end last : A) → Leads next x way end → Leads next x other last → next end ≡ None → next last ≡ None → length way ≡ length other
+    alike [] [] x end last leads also stops here = refl
+    alike [] (o ∷ os) x end last leads also stops here = absurd (let h : Some also.1.0 ≡ None = sym also.1.1 ∙ ap next (sym also.0 ∙ leads) ∙ stops in cc)
+    alike (w ∷ ws) [] x end last leads also stops here = absurd (let h : Some leads.1.0 ≡ None = sym leads.1.1 ∙ ap next (sym leads.0 ∙ also) ∙ here in cc)
+    alike (w ∷ ws) (o ∷ os) x end last leads also stops here =
+        let same : Some leads.1.0 ≡ Some also.1.0 = sym leads.1.1 ∙ ap next (sym leads.0 ∙ also.0) ∙ also.1.1 in
+        let one : leads.1.0 ≡ also.1.0 = cc in
+        let rest = alike ws os leads.1.0 end last leads.1.2 (subst (λ (a : A). Leads next a os last) (sym one) also.1.2) stops here in
+        omega (arith, rest)
+
+    -- from one of a way on
+    pub record Tail (ws : List A) (x end : A) : Type 0 where
+      pub rest : List A
+      pub leads : Leads next x rest end
+      pub within : length rest ≤ length ws
+
+    tail_from : ((a b : A) → eq a b ≡ true → a ≡ b) → (ws : List A) (y end x : A) → Leads next y ws end → met ws x ≡ true → Tail ws x end
+    tail_from exact [] y end x leads has = absurd cc
+    tail_from exact (w ∷ ws) y end x leads has = step (eq w x) refl has (tail_from exact ws leads.1.0 end x leads.1.2)
+      where
+        step : (t : Bool) → eq w x ≡ t → (t || met ws x) ≡ true → (met ws x ≡ true → Tail ws x end) → Tail (w ∷ ws) x end
+        step true is h on = record { rest = w ∷ ws; leads = (sym (exact w x is), leads.1); within = omega arith }
+        step false is h on =
+            let t = on h in
+            let n = t.within in
+            record { rest = t.rest; leads = t.leads; within = omega (arith, n) }
+
+    none_of : ((a b : A) → eq a b ≡ true → a ≡ b) → ((a : A) → eq a a ≡ true) → (x : A) (ms : List A) → met ms x ≡ false → AllByRecursion (λ y. eq x y ≡ false) ms
+    none_of exact self x [] new = tt
+    none_of exact self x (m ∷ ms) new =
+        let parts = or_parts (eq m x) (met ms x) new in
+        (by_test (eq x m) refl parts.0, none_of exact self x ms parts.1)
+      where
+        by_test : (t : Bool) → eq x m ≡ t → eq m x ≡ false → eq x m ≡ false
+        by_test true is not_so = absurd (let h : true ≡ false = sym (self m) ∙ ap (eq m) (sym (exact x m is)) ∙ not_so in cc)
+        by_test false is not_so = is
+
+    -- such a way has no name twice
+    pub apart_way : ((a b : A) → eq a b ≡ true → a ≡ b) → ((a : A) → eq a a ≡ true) → (way : List A) (x end : A) → Leads next x way end → next end ≡ None → IsDistinct eq way
+    unfolding IsDistinct
+    apart_way exact self [] x end leads none = tt
+    apart_way exact self (w ∷ ws) x end leads none = (none_of exact self w ws (by_test (met ws w) refl), apart_way exact self ws leads.1.0 end leads.1.2 none)
+      where
+        by_test : (t : Bool) → met ws w ≡ t → met ws w ≡ false
+        by_test true is =
+            let t = tail_from exact ws leads.1.0 end w leads.1.2 is in
+            let n = t.within in
+            let m = alike (w ∷ ws) t.rest w end end (refl, leads.1) t.leads none none in
+            absurd (omega (arith, n, m))
+        by_test false is = is
+
+    -- one step more of a way
+    pub leads_on : (way : List A) (x end y : A) → Leads next x way end → next end ≡ Some y → Leads next x (way ++ end ∷ []) y
+    leads_on [] x end y leads is = (leads, (y, is, refl))
+    leads_on (w ∷ ws) x end y leads is = (leads.0, (leads.1.0, leads.1.1, leads_on ws leads.1.0 end y leads.1.2 is))
+
+    -- The rest of a way from one on has another exactly where the way has it.
+    pub record IsRest (way : List A) (end at : A) (left : ℕ) (q : A) : Type 0 where
+      pub rest : List A
+      pub leads : Leads next at rest end
+      pub count : length rest ≡ left
+      pub same : met way q ≡ met rest q
+
+    pub whole_rest : (way : List A) (x end q : A) (left : ℕ) → Leads next x way end → length way ≡ left → IsRest way end x left q
+    whole_rest way x end q left leads count = record { rest = way; leads = leads; count = count; same = refl }
+
+    module _ (way : List A) (end at : A) (left : ℕ) (q : A) (r : IsRest way end at left q) where
+      -- it stands here
+      pub rest-here : 0 < left → eq at q ≡ true → true ≡ met way q
+      rest-here some is = go r.rest r.leads r.count ∙ sym r.same
+        where
+          go : (rest : List A) → Leads next at rest end → length rest ≡ left → true ≡ met rest q
+          go [] leads count = absurd (omega (arith, count, some))
+          go (x ∷ xs) leads count = ap (λ (t : Bool). t || met xs q) (sym (ap (λ (a : A). eq a q) (sym leads.0) ∙ is))
+
+      -- it may stand further on
+      pub rest-next : (target : A) → 0 < left → eq at q ≡ false → next at ≡ Some target → IsRest way end target (left - 1) q
+      rest-next target some other is = go r.rest r.leads r.count r.same
+        where
+          go : (rest : List A) → Leads next at rest end → length rest ≡ left → met way q ≡ met rest q → IsRest way end target (left - 1) q
+          go [] leads count same = absurd (omega (arith, count, some))
+          go (x ∷ xs) leads count same =
+              let two : Some leads.1.0 ≡ Some target = sym leads.1.1 ∙ ap next (sym leads.0) ∙ is in
+              let one : leads.1.0 ≡ target = cc in
+              record {
+                rest = xs;
+                leads = subst (λ (a : A). Leads next a xs end) one leads.1.2;
+                count = omega (arith, count);
+                same = same ∙ ap (λ (t : Bool). t || met xs q) (ap (λ (a : A). eq a q) (sym leads.0) ∙ other);
+              }
+
+      -- the way goes on
+      pub rest-none : next at ≡ None → (0 < left → ⊥)
+      rest-none none some = go r.rest r.leads r.count
+        where
+          go : (rest : List A) → Leads next at rest end → length rest ≡ left → ⊥
+          go [] leads count = absurd (omega (arith, count, some))
+          go (x ∷ xs) leads count = absurd (let h : Some leads.1.0 ≡ None = sym leads.1.1 ∙ ap next (sym leads.0) ∙ none in cc)
+
+      -- the way is over
+      pub rest-over : (0 < left → ⊥) → false ≡ met way q
+      rest-over none = go r.rest r.count ∙ sym r.same
+        where
+          go : (rest : List A) → length rest ≡ left → false ≡ met rest q
+          go [] count = refl
+          go (x ∷ xs) count = absurd (none (omega (arith, count)))

@@ -1,12 +1,13 @@
 -- Ways through symbolic references and through tags, one step at a time.
 use Rattle.std.proofs.Common.{◌≡◌, ℕ, zero, suc, ◌-◌, ◌<◌, Bool, true, false, cond, List, [], ◌∷◌, ◌++◌, map, Option, Some, None, Result, Ok, Err, refl, sym, ap, ◌∙◌, subst, arith}
-use Rattle.std.specs.Prelude.{if◌then◌else◌, ◌||◌, is_some}
+use Rattle.std.specs.Prelude.{if◌then◌else◌, ◌||◌, is_some, IsTrue}
 use Rattle.std.specs.BTreeSet.{BTreeSet, contains, Updates}
 use Rattle.std.specs.Cmp.{eq_by_cmp_equiv}
 use Rattle.std.specs.FinMap as finmap
 use Rattle.std.specs.List.{list_any}
 use Rattle.std.specs.Option.{option_map, option_and_then}
 use Rattle.std.specs.Ordering.{eq_by_cmp}
+use Rattle.std.specs.Result.{IsErrAnd}
 use Rattle.std.specs.declared.cmp.Ordering.{Ordering}
 use Rattle.std.proofs.lemmas.List.Folds.{list_any-append}
 use Rattle.fetch_store.specs.Graph.{Graph, Node}
@@ -22,7 +23,7 @@ use Rattle.fetch_refs.specs.declared.target.Target.TheVariants.{Symbolic}
 use Rattle.fetch_store.specs.Answers.{AnswersUnless}
 use Rattle.fetch_refs.specs.Answers.{is_memory}
 use Rattle.fetch_refs.specs.Names.{Names}
-use Rattle.fetch_refs.specs.Peeled.{is_met, is_met_id, read, open_tag, follow, through, and_then, peeled}
+use Rattle.fetch_refs.specs.Peeled.{is_met, is_met_id, read, open_tag, follow, through, and_then, peeled, has_name}
 
 pub list_any-map : {X Y : Type 0} (p : Y → Bool) (f : X → Y) (xs : List X) → list_any p (map f xs) ≡ list_any (λ x. p (f x)) xs
 list_any-map p f [] = refl
@@ -157,6 +158,42 @@ answers-first expected first next (errors.Unborn name) same h = same ∙ ap (λ 
 answers-first expected first next (errors.MissingObject id) same h = same ∙ ap (λ r. and_then r next) h
 answers-first expected first next (errors.TagCycle id) same h = same ∙ ap (λ r. and_then r next) h
 answers-first expected first next errors.NoMemory same h = tt
+
+-- a refusal with a name, which is copied
+pub is_named : (a b : Result ObjectId RefError) → b ≡ a → IsTrue (has_name a) → IsTrue (has_name b)
+is_named a b same h = subst (λ (e : Result ObjectId RefError). IsTrue (has_name e)) (sym same) h
+
+-- it goes past the next step
+pub name_stays : (r : Result ObjectId RefError) (next : ObjectId → Result ObjectId RefError) → IsTrue (has_name r) → IsTrue (has_name (and_then r next))
+name_stays (Ok id) next h = absurd cc
+name_stays (Err e) next h = h
+
+-- a name at which nothing stands
+pub peeled-none : (names : Names) (graph : Graph) (name : List ℕ) → finmap.get names name ≡ None → peeled names graph name ≡ Err (errors.Unborn name)
+unfolding peeled
+peeled-none names graph name is = ap (λ (o : Option Target). read name o (λ id. Ok id) (λ _. and_then (follow names 5 [] name) (through graph (finmap.len graph) []))) is
+
+abbrev same_answers : Result ObjectId RefError → Result ObjectId RefError → Type 0
+same_answers a b = a ≡ b
+
+-- what a `?` hands on
+pub handed_memory : (found : Result ObjectId RefError) (e : RefError) → IsErrAnd found (λ x. x ≡ e) → found ≡ Err errors.NoMemory → e ≡ errors.NoMemory
+handed_memory (Ok x) e is none = absurd is
+handed_memory (Err x) e is none = sym is ∙ inner x none
+  where
+    inner : (y : RefError) → same_answers (Err y) (Err errors.NoMemory) → y ≡ errors.NoMemory
+    inner y none = cc
+
+-- what is answered is what is expected
+pub answered : (found expected : Result ObjectId RefError) → expected ≡ found → AnswersUnless is_memory expected found
+answered (Ok id) expected is = is
+answered (Err (errors.Expectation index value)) expected is = is
+answered (Err (errors.Cycle name)) expected is = is
+answered (Err (errors.Depth name)) expected is = is
+answered (Err (errors.Unborn name)) expected is = is
+answered (Err (errors.MissingObject id)) expected is = is
+answered (Err (errors.TagCycle id)) expected is = is
+answered (Err errors.NoMemory) expected is = tt
 
 -- an answer that is the same
 pub same_answer : (a b : Result ObjectId RefError) (found : Result ObjectId RefError) → b ≡ a → AnswersUnless is_memory a found → AnswersUnless is_memory b found

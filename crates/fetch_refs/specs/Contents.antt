@@ -1,5 +1,5 @@
 -- What references are kept in, and what takes an edit back.
-use Rattle.std.specs.Prelude.{◌≡◌, ℕ, Bool, true, ◌&&◌, List, [], ◌∷◌, Option, Some, None, is_some, take}
+use Rattle.std.specs.Prelude.{◌≡◌, ℕ, Bool, true, ◌&&◌, ◌||◌, if◌then◌else◌, List, [], ◌∷◌, Option, Some, None, is_some, take}
 use Rattle.std.specs.BTreeMap.{is_at}
 use Rattle.std.specs.FinMap as finmap
 use Rattle.std.specs.Map.{lookup}
@@ -7,6 +7,8 @@ use Rattle.std.specs.Option.{option_and_then}
 use Rattle.fetch_store.specs.declared.id.ObjectId.{ObjectId}
 use Rattle.fetch_refs.specs.declared.contents.Contents.{Contents}
 use Rattle.fetch_refs.specs.declared.slot.Slot.{Slot}
+use Rattle.fetch_refs.specs.declared.slot.Listed.{Listed}
+use Rattle.fetch_refs.specs.declared.slot.Listed.TheVariants as lists
 use Rattle.fetch_refs.specs.declared.target.Target.{Target}
 use Rattle.fetch_refs.specs.declared.undo.Undo.{Undo}
 use Rattle.fetch_refs.specs.declared.undo.Undo.TheVariants as undos
@@ -27,6 +29,23 @@ packed_of s = s.packed
 -- the place after all direct references are packed
 abbrev pub packed_slot : Slot → Slot
 packed_slot s = record { value = s.value; packed = option_and_then direct_id s.value }
+
+-- the place without its entry in the packed list
+abbrev pub loose_slot : Slot → Slot
+loose_slot s = record { value = s.value; packed = None }
+
+-- whether a place holds anything
+abbrev pub is_held : Slot → Bool
+is_held s = is_some s.value || is_some s.packed
+
+-- the place, unless it holds nothing
+abbrev pub held : Slot → Option Slot
+held s = if is_held s then Some s else None
+
+-- the id that a list has for a place: the packed list, or that of direct references
+abbrev pub listed : Listed → Slot → Option ObjectId
+listed lists.Packed s = s.packed
+listed lists.Direct s = option_and_then direct_id s.value
 
 -- the values that stand
 abbrev pub names_of : List (List ℕ × Slot) → Names

@@ -27,10 +27,10 @@ is_id None = false
 abbrev pub leads : List ℕ × Target → Bool
 leads e = is_name e.1
 
--- Each reference leads to a name, no reflog has a line, and nothing is packed.
+-- Each reference leads to a name, and no reflog has a line.
 abbrev pub has_no_ids : RefsValue → Bool
-has_no_ids r = list_all leads (map.entries r.names) && (is_empty (map.entries r.logs) && is_empty (map.entries r.packed))
+has_no_ids r = list_all leads (map.entries r.names) && is_empty (map.entries r.logs)
 
--- the same names, in a repository of this hash
+-- the same names, in a repository of this hash, and nothing packed
 abbrev pub of_hash : Kind → RefsValue → RefsValue
-of_hash kind r = record { hash = kind; names = r.names; logs = r.logs; packed = r.packed }
+of_hash kind r = record { hash = kind; names = r.names; logs = r.logs; packed = map.empty }

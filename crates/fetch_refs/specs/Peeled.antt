@@ -1,5 +1,5 @@
 -- The id that a name stands for.
-use Rattle.std.specs.Prelude.{ℕ, zero, suc, Bool, List, [], ◌∷◌, ◌++◌, Option, Some, None, Result, Ok, Err, if◌then◌else◌}
+use Rattle.std.specs.Prelude.{ℕ, zero, suc, Bool, true, false, List, [], ◌∷◌, ◌++◌, Option, Some, None, Result, Ok, Err, if◌then◌else◌}
 use Rattle.std.specs.FinMap as map
 use Rattle.std.specs.List.{list_any}
 use Rattle.std.specs.Option.{option_map_or}
@@ -49,6 +49,18 @@ unfoldable pub through : Graph → ℕ → List ObjectId → ObjectId → Result
 through graph zero met id = Err (if is_met_id met id then errors.TagCycle id else errors.MissingObject id)
 through graph (suc left) met id =
     if is_met_id met id then Err (errors.TagCycle id) else open_tag id (map.get graph id) (λ target. through graph left (met ++ id ∷ []) target)
+
+-- the id of an object that is stored
+abbrev pub stopped : ObjectId → Option Node → Result ObjectId RefError
+stopped id None = Err (errors.MissingObject id)
+stopped id (Some n) = Ok id
+
+-- whether an answer is a refusal with a name, which is copied
+abbrev pub has_name : Result ObjectId RefError → Bool
+has_name (Err (errors.Unborn name)) = true
+has_name (Err (errors.Cycle name)) = true
+has_name (Err (errors.Depth name)) = true
+has_name answer = false
 
 -- the next step, where the one before gave an id
 abbrev pub and_then : Result ObjectId RefError → (ObjectId → Result ObjectId RefError) → Result ObjectId RefError

@@ -1,8 +1,9 @@
 -- The places of the names that a packed text has.
-use Rattle.std.specs.Prelude.{◌≡◌, ℕ, List, [], ◌++◌, Some}
-use Rattle.std.specs.List.{AllByRecursion, flat_map}
+use Rattle.std.specs.Prelude.{◌≡◌, ℕ, List, [], ◌++◌, Some, None}
+use Rattle.std.specs.List.{AllByRecursion, flat_map, last_or}
 use Rattle.std.specs.List.Sorted.{IsStrictlySortedBy}
 use Rattle.std.specs.Map.{keys_of}
+use Rattle.std.specs.Option.{option_map_or}
 use Rattle.fetch_store.specs.declared.id.Kind.{Kind}
 use Rattle.fetch_store.specs.declared.id.ObjectId.{ObjectId}
 use Rattle.fetch_refs.specs.declared.slot.Slot.{Slot}
@@ -31,6 +32,16 @@ pub record AreReadTo (kind : Kind) (text rest : List ℕ) (places : List (List �
   pub all : AreAscending kind list
   pub whole : text ≡ flat_map packed_line list ++ rest
   pub slots : places ≡ slots_of list
+
+-- the name of the last place, or no bytes where there is none
+abbrev pub last_name : List (List ℕ × Slot) → List ℕ
+last_name places = option_map_or (λ (e : List ℕ × Slot). e.0) (last_or None places) []
+
+-- the lines of ascending entries stand before the rest, and the last of them has this name
+pub record AreCheckedTo (kind : Kind) (text rest last : List ℕ) : Type 0 where
+  pub places : List (List ℕ × Slot)
+  pub read : AreReadTo kind text rest places
+  pub name : last ≡ last_name places
 
 -- the whole text is read
 abbrev pub AreRead : Kind → List ℕ → List (List ℕ × Slot) → Type 0

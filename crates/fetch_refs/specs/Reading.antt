@@ -65,6 +65,12 @@ pub record AnswersWhere {X : Type 0} (found answer : Result X PackedError) (fact
   pub told : found ≡ answer → fact
   pub always : fact → (found ≡ answer) ⊎ (found ≡ Err errors.NoMemory)
 
+-- why a text is refused: a line of it, or want of memory where it is a packed one
+abbrev pub IsRefusedAs : Kind → List ℕ → PackedError → Type 0
+IsRefusedAs kind text (errors.Line place) = IsNoLineAt kind text place
+IsRefusedAs kind text (errors.Order place) = IsOutOfOrderAt kind text place
+IsRefusedAs kind text errors.NoMemory = (refs : RefsValue) × IsReadAs kind text refs
+
 -- what is answered for a text, with ample memory
 abbrev pub IsAnswer : Kind → List ℕ → Result RefsValue PackedError → Type 0
 IsAnswer kind text (Ok refs) = IsReadAs kind text refs

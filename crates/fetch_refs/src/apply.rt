@@ -186,7 +186,7 @@ fn log(
                 None => Ok(None),
             }
         }
-        Change::Delete { .. } => Ok(Some(contents.clear_lines(&edit.name)?)),
+        Change::Delete { .. } => contents.clear_lines(&edit.name),
     }
 }
 

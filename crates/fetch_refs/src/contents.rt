@@ -8,7 +8,7 @@ ghost use Rattle.fetch_refs.specs.Logs.{lines_of};
 ghost use Rattle.fetch_refs.specs.Names.{name_cmp};
 ghost use Rattle.fetch_refs.specs.Overlay.{logs_of, with_lines};
 ghost use Rattle.fetch_refs.specs.Targets.{seen};
-ghost use Rattle.fetch_refs.specs.Contents.{shown_in, with_slot_in, undone, has_place, TakesBack, KeepsPlaces};
+ghost use Rattle.fetch_refs.specs.Contents.{shown_in, with_slot_in, undone, has_place, TakesBack, TakesBackIf, KeepsPlaces};
 ghost use Rattle.fetch_refs.specs.Changed.{with_line_in, without_lines_in};
 
 use crate::log::LogLine;
@@ -105,20 +105,23 @@ impl Contents {
         })
     }
 
-    /// Takes the lines of a name away.
-    pub(crate) fn clear_lines(&mut self, name: &FullName) -> Result<Undo, NoMemory>
+    /// Takes the lines of a name away, if it has any.
+    pub(crate) fn clear_lines(&mut self, name: &FullName) -> Result<Option<Undo>, NoMemory>
         ensures written { OnOk result (shown_in self.new ≡ without_lines_in (shown_in self.old) name.now) }
-        ensures undo { IfOk result (TakesBack self.old self.new) }
+        ensures undo { IfOk result (TakesBackIf self.old self.new) }
         ensures err { OnErr result (shown_in self.new ≡ shown_in self.old) }
         ensures keeps { KeepsPlaces self.old self.new }
     {
+        if self.lines(name).is_empty() {
+            return Ok(None);
+        }
         let key = name.try_clone()?;
         let name = name.try_clone()?;
         let old = self.logs.insert(key, List::new(self.alloc))?;
-        Ok(Undo::Lines {
+        Ok(Some(Undo::Lines {
             name,
             old: lines_or_none(self.alloc, old),
-        })
+        }))
     }
 
     /// Takes a change back, which needs no memory.

@@ -1,9 +1,11 @@
-//! Copies of maps of names.
+//! Copies of maps of names. What holds nothing isn't copied: places of names that are gone, and reflogs without lines.
 
 ghost use Rattle.std.specs.Prelude.{◌≡◌, IfOk, OnOk};
 ghost use Rattle.std.specs.BTreeMap.{insert_entry, IsOrdered};
-ghost use Rattle.fetch_refs.specs.Contents.{shown_in, packed_slot};
+ghost use Rattle.fetch_refs.specs.Contents.{shown_in, held};
+ghost use Rattle.fetch_refs.specs.Iter.{standing};
 ghost use Rattle.fetch_refs.specs.Names.{name_cmp};
+ghost use Rattle.fetch_refs.specs.Overlay.{shown_lines};
 ghost use Rattle.fetch_refs.specs.Slots.{each};
 
 use crate::contents::Contents;
@@ -30,14 +32,20 @@ fn copy_names(
     alloc: Global,
     names: &BTreeMap<FullName, Slot>,
 ) -> Result<BTreeMap<FullName, Slot>, NoMemory>
-    ensures { IfOk result (λ copy. copy.entries ≡ names.now.entries) }
+    ensures entries { IfOk result (λ copy. copy.entries ≡ standing (each held names.now.entries)) }
+    ensures ordered { IsOrdered name_cmp names.now }
+    ensures copied { IfOk result (λ copy. IsOrdered name_cmp copy) }
 {
     let mut copy = BTreeMap::new(alloc);
     // The keys ascend.
     let _count = names.len();
     'names: for (name, slot) in names {
-        add(&mut copy, name.try_clone()?, copy_slot(slot)?)?;
+        if slot.is_held() {
+            add(&mut copy, name.try_clone()?, copy_slot(slot)?)?;
+        }
     }
+    // So do those of the copy.
+    let _copied = copy.len();
     Ok(copy)
 }
 
@@ -60,50 +68,24 @@ pub(crate) fn copy_value(value: &Option<Target>) -> Result<Option<Target>, NoMem
     }
 }
 
-/// The places, where the packed list has each direct reference.
-pub(crate) fn packed_names(
-    alloc: Global,
-    names: &BTreeMap<FullName, Slot>,
-) -> Result<BTreeMap<FullName, Slot>, NoMemory>
-    ensures entries { IfOk result (λ copy. copy.entries ≡ each packed_slot names.now.entries) }
-    ensures ordered { IsOrdered name_cmp names.now }
-{
-    let mut copy = BTreeMap::new(alloc);
-    // The keys ascend.
-    let _count = names.len();
-    'names: for (name, slot) in names {
-        add(&mut copy, name.try_clone()?, pack_slot(slot)?)?;
-    }
-    Ok(copy)
-}
-
-fn pack_slot(slot: &Slot) -> Result<Slot, NoMemory>
-    ensures { IfOk result (λ packed. packed ≡ packed_slot slot.now) }
-{
-    match &slot.value {
-        Some(target) => Ok(Slot {
-            value: Some(target.try_clone()?),
-            packed: target.direct_id(),
-        }),
-        None => Ok(Slot {
-            value: None,
-            packed: None,
-        }),
-    }
-}
-
 fn copy_logs(
     alloc: Global,
     logs: &BTreeMap<FullName, List<LogLine>>,
 ) -> Result<BTreeMap<FullName, List<LogLine>>, NoMemory>
-    ensures { IfOk result (λ copy. copy.entries ≡ logs.now.entries) }
+    ensures entries { IfOk result (λ copy. copy.entries ≡ standing (each shown_lines logs.now.entries)) }
+    ensures ordered { IsOrdered name_cmp logs.now }
+    ensures copied { IfOk result (λ copy. IsOrdered name_cmp copy) }
 {
     let mut copy = BTreeMap::new(alloc);
     // The keys ascend.
     let _count = logs.len();
     'logs: for (name, lines) in logs {
-        add(&mut copy, name.try_clone()?, copy_lines(lines)?)?;
+        if !lines.is_empty() {
+            add(&mut copy, name.try_clone()?, copy_lines(lines)?)?;
+        }
     }
+    // So do those of the copy.
+    let _copied = copy.len();
     Ok(copy)
 }
 

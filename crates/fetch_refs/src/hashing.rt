@@ -3,7 +3,7 @@
 ghost use Rattle.std.specs.Prelude.{◌≡◌, true};
 ghost use Rattle.std.specs.BTreeMap.{IsOrdered};
 ghost use Rattle.std.specs.List.{list_all};
-ghost use Rattle.fetch_refs.specs.Contents.{packed_of, value_of};
+ghost use Rattle.fetch_refs.specs.Contents.{value_of};
 ghost use Rattle.fetch_refs.specs.Hashing as spec;
 ghost use Rattle.fetch_refs.specs.Iter.{standing};
 ghost use Rattle.fetch_refs.specs.Names.{name_cmp};
@@ -11,28 +11,30 @@ ghost use Rattle.fetch_refs.specs.Overlay.{shown_lines};
 ghost use Rattle.fetch_refs.specs.Slots.{each};
 
 use crate::log::LogLine;
+use crate::packing::unpack_all;
 use crate::refs::Refs;
 use crate::slot::Slot;
 use crate::target::Target;
 use fetch_specs::FullName;
-use fetch_store::{Kind, List};
+use fetch_store::{Kind, List, Text};
 use std::collections::BTreeMap;
 
 impl Refs {
-    /// Whether nothing has an id: each reference leads to a name, no reflog has a line, and nothing is packed.
+    /// Whether nothing has an id: each reference leads to a name, and no reflog has a line.
     pub fn has_no_ids(&self) -> bool
         ensures { result ≡ spec.has_no_ids self.now }
     {
-        lead_to_names(&self.contents.names)
-            && (have_no_lines(&self.contents.logs) && are_loose(&self.contents.names))
+        lead_to_names(&self.contents.names) && have_no_lines(&self.contents.logs)
     }
 
-    /// The same names, in a repository of this hash. This takes no memory.
+    /// The same names, in a repository of this hash, with nothing in the packed list. This takes no memory.
     pub fn change_hash(&mut self, kind: Kind)
         requires { spec.has_no_ids self.old ≡ true }
         ensures { self.new ≡ spec.of_hash kind self.old }
     {
+        unpack_all(&mut self.contents.names);
         self.contents.hash = kind;
+        self.text = Text::from(Vec::new(self.contents.alloc));
     }
 }
 
@@ -66,21 +68,6 @@ fn have_no_lines(logs: &BTreeMap<FullName, List<LogLine>>) -> bool
     let _count = logs.len();
     'places: for entry in logs {
         if !entry.1.is_empty() {
-            return false;
-        }
-    }
-    true
-}
-
-/// Whether nothing is packed.
-fn are_loose(names: &BTreeMap<FullName, Slot>) -> bool
-    ensures packed { result ≡ spec.is_empty (standing (each packed_of names.now.entries)) }
-    ensures ordered { IsOrdered name_cmp names.now }
-{
-    // The keys ascend.
-    let _count = names.len();
-    'places: for entry in names {
-        if entry.1.packed.is_some() {
             return false;
         }
     }

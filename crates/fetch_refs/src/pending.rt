@@ -12,6 +12,7 @@ use crate::journal::Journal;
 use crate::log::Signature;
 use crate::packing::{keeps_list, text_of};
 use crate::refs::Refs;
+use crate::slot::Listed;
 use fetch_store::{NoMemory, Text};
 use std::marker::Model;
 
@@ -122,7 +123,8 @@ fn edit_all(
     if keeps_list(&journal.contents, journal.undo.as_slice()) {
         return Ok(None);
     }
-    Ok(Some(text_of(journal.contents.alloc, &journal.contents.names)?))
+    let contents = &journal.contents;
+    Ok(Some(text_of(contents.alloc, &contents.names, Listed::Packed)?))
 }
 
 impl Restore for Pending {

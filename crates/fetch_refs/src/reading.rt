@@ -1,6 +1,6 @@
 //! Reading a packed text.
 
-ghost use Rattle.std.specs.Prelude.{◌≡◌, ◌++◌, ◌∷◌, [], List, ℕ, Ok, Err, Some, None, IfOk, IfErr, IfSome, IsTrue, false};
+ghost use Rattle.std.specs.Prelude.{◌≡◌, ◌↔◌, ◌++◌, ◌∷◌, [], List, ℕ, Ok, Err, Some, None, IfOk, IfErr, IfSome, IsTrue, true, false};
 ghost use Rattle.std.specs.Char.{is_ascii_uppercase};
 ghost use Rattle.std.specs.List.{list_any};
 ghost use Rattle.std.specs.Ordering.{is_lt};
@@ -11,7 +11,7 @@ ghost use Rattle.fetch_store.specs.Lines.{IsWithout};
 ghost use Rattle.fetch_store.specs.declared.id.ObjectId.{ObjectId};
 ghost use Rattle.fetch_refs.specs.Names.{RefsValue, name_cmp};
 ghost use Rattle.fetch_refs.specs.Packed.{packed_line};
-ghost use Rattle.fetch_refs.specs.Reading.{AnswersWhere, IsEntry, IsNoLineAt, IsOutOfOrderAt, IsReadAs};
+ghost use Rattle.fetch_refs.specs.Reading.{AnswersWhere, IsEntry, IsNoLineAt, IsOutOfOrderAt, IsReadAs, IsRefusedAs};
 ghost use Rattle.fetch_refs.specs.ReadSteps as steps;
 ghost use Rattle.fetch_refs.specs.ReadSteps.{AreRead};
 ghost use Rattle.fetch_refs.specs.declared.error.PackedError.TheVariants as errors;
@@ -34,13 +34,13 @@ impl Refs {
     ///
     /// `Line` is the start of the first line that isn't an id of the hash in lower-case hex, a
     /// space, a full name and a line feed; `Order` is the start of the first line whose name isn't
-    /// above the one before. The earlier place is told.
+    /// above the one before. The earlier place is told. Out of memory comes of a packed text alone.
     pub fn read_packed(alloc: Global, kind: Kind, text: &[u8]) -> Result<Refs, PackedError>
         ensures ok { (refs : RefsValue) → AnswersWhere result (Ok refs) (IsReadAs kind text.now refs) }
-        ensures line { (place : ℕ) → AnswersWhere result (Err (errors.Line place)) (IsNoLineAt kind text.now place) }
-        ensures order { (place : ℕ) → AnswersWhere result (Err (errors.Order place)) (IsOutOfOrderAt kind text.now place) }
+        ensures line { (place : ℕ) → (result ≡ Err (errors.Line place)) ↔ IsNoLineAt kind text.now place }
+        ensures order { (place : ℕ) → (result ≡ Err (errors.Order place)) ↔ IsOutOfOrderAt kind text.now place }
     {
-        let names = read_lines(alloc, kind, text)?;
+        let names = read_places(alloc, kind, text)?;
         let text = Text::new(alloc, text)?;
         let contents = Contents {
             alloc,
@@ -59,6 +59,53 @@ struct PackedLine<'a> {
     name: &'a [u8],
     /// What stands after the line.
     rest: &'a [u8],
+}
+
+/// The places of the names. Out of memory comes of a packed text alone.
+fn read_places(
+    alloc: Global,
+    kind: Kind,
+    text: &[u8],
+) -> Result<BTreeMap<FullName, Slot>, PackedError>
+    ensures ok { IfOk result (λ names. AreRead kind text.now names.entries) }
+    ensures refused { IfErr result (λ e. IsRefusedAs kind text.now e) }
+{
+    match read_lines(alloc, kind, text) {
+        Ok(names) => Ok(names),
+        Err(PackedError::Line { place }) => Err(PackedError::Line { place }),
+        Err(PackedError::Order { place }) => Err(PackedError::Order { place }),
+        Err(PackedError::NoMemory) => Err(first_refused(kind, text)),
+    }
+}
+
+/// The first line that is refused, or out of memory where none is. This takes no memory.
+fn first_refused(kind: Kind, text: &[u8]) -> PackedError
+    ensures { IsRefusedAs kind text.now result }
+{
+    let mut last: &[u8] = b"";
+    let mut rest = text;
+    'lines: while !rest.is_empty() {
+        let place = text.len() - rest.len();
+        let Some(line) = first_line(kind, rest) else {
+            return PackedError::Line { place };
+        };
+        if !FullName::is_valid(line.name) {
+            return PackedError::Line { place };
+        }
+        if !comes_after(last, line.name) {
+            return PackedError::Order { place };
+        }
+        last = line.name;
+        rest = line.rest;
+    }
+    PackedError::NoMemory
+}
+
+/// Whether a name is above the last one.
+fn comes_after(last: &[u8], name: &[u8]) -> bool
+    ensures { result ≡ is_lt (name_cmp last.now name.now) }
+{
+    last.cmp(name).is_lt()
 }
 
 /// The places of the names, line by line.

@@ -8,10 +8,11 @@ ghost use Rattle.fetch_refs.specs.Targets.{seen};
 ghost use Rattle.fetch_refs.specs.declared.error.RefError.TheVariants as errors;
 
 use crate::contents::Contents;
-use crate::copies::{copy_contents, packed_names};
+use crate::copies::copy_contents;
 use crate::error::RefError;
 use crate::log::LogLine;
-use crate::packing::text_of;
+use crate::packing::{pack_all, text_of};
+use crate::slot::Listed;
 use crate::target::TargetRef;
 use fetch_specs::FullName;
 use fetch_store::{Kind, NoMemory, Text};
@@ -84,10 +85,8 @@ impl Refs {
         ensures err { OnErr result (self.new ≡ self.old) }
         ensures memory { IfErr result (λ e. e ≡ errors.NoMemory) }
     {
-        let alloc = self.contents.alloc;
-        let names = packed_names(alloc, &self.contents.names)?;
-        let text = text_of(alloc, &names)?;
-        self.contents.names = names;
+        let text = text_of(self.contents.alloc, &self.contents.names, Listed::Direct)?;
+        pack_all(&mut self.contents.names);
         self.text = text;
         Ok(())
     }

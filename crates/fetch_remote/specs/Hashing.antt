@@ -6,7 +6,7 @@ use Rattle.fetch_store.specs.declared.id.Kind.{Kind}
 use Rattle.fetch_refs.specs.Hashing.{has_no_ids, of_hash as refs_of_hash}
 use Rattle.fetch_remote.specs.RepositoryValues.{State, Setup}
 
--- no object, no commit in the border, and no id in references, reflogs and the packed list
+-- no object, no commit in the border, and no id in references and reflogs
 pub record HasNoIds (s : State) : Type 0 where
   pub objects : map.len s.objects ≡ 0
   pub border : s.border ≡ set.empty

@@ -1,7 +1,7 @@
 -- The mappings and the sources, in their order.
 use Rattle.std.proofs.Common.{◌≡◌, ◌↔◌, ℕ, zero, suc, ◌+◌, ◌<◌, Bool, true, false, cond, not, ◌&&◌, ◌||◌, eqb, ltb, ◌⊎◌, List, [], ◌∷◌, ◌++◌, map, Option, Some, None, refl, sym, ap, subst, ◌∙◌, inl, inr, arith}
 use Rattle.std.specs.Prelude.{is_some, option_and_then, option_map, slice_get}
-use Rattle.std.specs.List.{Contains, list_all}
+use Rattle.std.specs.List.{Contains, filter, list_all}
 use Rattle.std.specs.Str.{bytes_eq}
 use Rattle.std.proofs.lemmas.Bool.{and_parts, and_from, le-ltb, ltb-false, eqb-true}
 use Rattle.std.proofs.lemmas.Bool.Decides.{Decides-eqb}
@@ -13,7 +13,7 @@ use Rattle.fetch_store.specs.declared.id.ObjectId.{ObjectId}
 use Rattle.fetch_specs.specs.declared.found.SourceRef.TheVariants as sources
 use Rattle.fetch_specs.specs.declared.found.Match.{Match}
 use Rattle.fetch_specs.specs.Specs.{Spec}
-use Rattle.fetch_specs.specs.Matches.{is_same, key_of, found, numbered, id_mapping, id_match, name_mapping, name_match, name_matches, leading, sources_leading, source_matches, source_id, source_taken, is_exclusion, is_excluded, is_of, ids_from, names_from, specs_from, mappings_of, sources_of, expanded}
+use Rattle.fetch_specs.specs.Matches.{once, is_same, key_of, found, numbered, id_mapping, id_match, name_mapping, name_match, name_matches, leading, sources_leading, source_matches, source_id, source_taken, is_exclusion, is_excluded, is_of, ids_from, names_from, specs_from, mappings_of, sources_of, expanded}
 use Rattle.fetch_specs.specs.Made.{mapping_at, IsMapping, IsLead, comes_before, places_before, are_ordered, IsFirst}
 use Rattle.fetch_specs.proofs.Members.{none_in, first_in, only, first_or_rest, in_rest}
 use Rattle.fetch_specs.proofs.Firsts.{first_of_each, all_from, not_before}
@@ -334,3 +334,46 @@ each_source specs names m =
     first_of_each (IsLead specs names) false (specs_from (source_matches specs) 0 specs names) (lead_members specs names)
     (specs_ordered (source_matches specs) (leads_make specs) (λ i spec j name. leads_ordered i j name (sources_leading specs spec name)) specs names)
     (same_lead specs names) m
+
+-- ---- the order of what is told
+all_filtered : {X : Type 0} (p q : X → Bool) (xs : List X) → list_all p xs ≡ true → list_all p (filter q xs) ≡ true
+all_filtered p q [] all = refl
+all_filtered p q (x ∷ xs) all = let both = and_parts (p x) (list_all p xs) all in by_test (q x) both.0 (all_filtered p q xs both.1)
+  where
+    by_test : (t : Bool) → p x ≡ true → list_all p (filter q xs) ≡ true → list_all p (cond t (x ∷ filter q xs) (filter q xs)) ≡ true
+    by_test true here rest = and_from (p x) (list_all p (filter q xs)) here rest
+    by_test false here rest = rest
+
+all_once : {X : Type 0} (p : X → Bool) (same : X → X → Bool) (xs : List X) → list_all p xs ≡ true → list_all p (once same xs) ≡ true
+all_once p same [] all = refl
+all_once p same (x ∷ xs) all =
+    let both = and_parts (p x) (list_all p xs) all in
+    and_from (p x) (list_all p (filter (λ y. not (same x y)) (once same xs))) both.0 (all_filtered p (λ y. not (same x y)) (once same xs) (all_once p same xs both.1))
+
+ordered_filtered : (q : Match → Bool) (ms : List Match) → are_ordered ms ≡ true → are_ordered (filter q ms) ≡ true
+ordered_filtered q [] up = refl
+ordered_filtered q (m ∷ ms) up =
+    let both = and_parts (list_all (λ x. not (comes_before x m)) ms) (are_ordered ms) up in
+    by_test (q m) (all_filtered (λ x. not (comes_before x m)) q ms both.0) (ordered_filtered q ms both.1)
+  where
+    by_test : (t : Bool) → list_all (λ x. not (comes_before x m)) (filter q ms) ≡ true → are_ordered (filter q ms) ≡ true → are_ordered (cond t (m ∷ filter q ms) (filter q ms)) ≡ true
+    by_test true here rest = and_from _ _ here rest
+    by_test false here rest = rest
+
+ordered_once : (same : Match → Match → Bool) (ms : List Match) → are_ordered ms ≡ true → are_ordered (once same ms) ≡ true
+ordered_once same [] up = refl
+ordered_once same (m ∷ ms) up =
+    let both = and_parts (list_all (λ x. not (comes_before x m)) ms) (are_ordered ms) up in
+    and_from _ _
+    (all_filtered (λ x. not (comes_before x m)) (λ y. not (same m y)) (once same ms) (all_once (λ x. not (comes_before x m)) same ms both.0))
+    (ordered_filtered (λ y. not (same m y)) (once same ms) (ordered_once same ms both.1))
+
+pub mappings_in_order : (specs : List Spec) (names : List (List ℕ)) (kind : Kind) → are_ordered (mappings_of specs names kind) ≡ true
+unfolding mappings_of
+mappings_in_order specs names kind = ordered_once (is_same true) (all_mappings specs names kind) (mappings_ordered specs names kind)
+
+pub sources_in_order : (specs : List Spec) (names : List (List ℕ)) → are_ordered (sources_of specs names) ≡ true
+unfolding sources_of
+sources_in_order specs names =
+    ordered_once (is_same false) (specs_from (source_matches specs) 0 specs names)
+    (specs_ordered (source_matches specs) (leads_make specs) (λ i spec j name. leads_ordered i j name (sources_leading specs spec name)) specs names)

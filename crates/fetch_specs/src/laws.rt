@@ -41,12 +41,15 @@ pub fn the_tag_refspec_alone_brings_all_tags()
 /// A match is told exactly where it is what its refspec maps of its item, or its refspec's id, and no
 /// earlier one has its source and destination. Ids come first, then refspec by refspec and item by item.
 pub fn each_mapping_is_told_once()
-    ensures { (specs : List Spec) (names : List (List ℕ)) (kind : Kind) (m : Match) → Contains (mappings_of specs names kind) m ↔ IsFirst (IsMapping specs names kind) true m }
+    ensures ordered { (specs : List Spec) (names : List (List ℕ)) (kind : Kind) → IsTrue (are_ordered (mappings_of specs names kind)) }
+    ensures told { (specs : List Spec) (names : List (List ℕ)) (kind : Kind) (m : Match) → Contains (mappings_of specs names kind) m ↔ IsFirst (IsMapping specs names kind) true m }
 {}
 
-/// A source is told exactly where its refspec leads from it to its item and no earlier one has that source.
+/// A source is told exactly where its refspec leads from it to its item and no earlier one has that source. They stand
+/// refspec by refspec and item by item.
 pub fn each_source_is_told_once()
-    ensures { (specs : List Spec) (names : List (List ℕ)) (m : Match) → Contains (sources_of specs names) m ↔ IsFirst (IsLead specs names) false m }
+    ensures ordered { (specs : List Spec) (names : List (List ℕ)) → IsTrue (are_ordered (sources_of specs names)) }
+    ensures told { (specs : List Spec) (names : List (List ℕ)) (m : Match) → Contains (sources_of specs names) m ↔ IsFirst (IsLead specs names) false m }
 {}
 
 /// A source is told for a name exactly where the refspec maps it there: a name that is the refspec's own

@@ -1,6 +1,6 @@
 //! The prefixes that a listing is asked for.
 
-ghost use Rattle.std.specs.Prelude.{ℕ, List, [], false, is_some, IsTrue, ◌≡◌, ◌++◌, ◌∷◌, ◌≤◌, ◌==◌, length, take, drop, IfOk, OnOk, IsOkUnless, MatchOption};
+ghost use Rattle.std.specs.Prelude.{ℕ, List, [], false, is_some, IsTrue, ◌≡◌, ◌++◌, ◌≤◌, ◌==◌, length, take, IfOk, OnOk, IsOkUnless};
 ghost use Rattle.std.specs.List.{Contains, flat_map, list_any, position_or_len};
 ghost use Rattle.std.specs.Option.{option_copied};
 ghost use Rattle.std.specs.Str.{bytes_eq};
@@ -18,7 +18,7 @@ use crate::reading::id_named;
 use crate::spec::RefSpec;
 use fetch_store::{NoMemory, Text};
 use std::alloc::Global;
-use std::cmp::Ordering;
+use std::collections::BTreeSet;
 
 /// What a listing is to be asked for, sorted and each prefix once. No prefix asks for everything: so it is where a star
 /// has no `refs/x/` before it, for a name that it takes need not begin with a prefix of another refspec. The only error
@@ -28,12 +28,22 @@ pub fn prefixes(alloc: Global, specs: &[RefSpec]) -> Result<Vec<Text>, SpecError
     ensures prefixes { IfOk result (λ texts. texts.items ≡ prefixes_of specs.now) }
     ensures memory { IsOkUnless result errors.NoMemory }
 {
-    let mut texts = Vec::new(alloc);
     if some_asks_for_all(specs) {
-        return Ok(texts);
+        return Ok(Vec::new(alloc));
     }
+    let mut texts = BTreeSet::new(alloc);
     put_specs(alloc, &mut texts, specs)?;
-    Ok(texts)
+    Ok(in_a_list(alloc, texts)?)
+}
+
+fn in_a_list(alloc: Global, texts: BTreeSet<Text>) -> Result<Vec<Text>, NoMemory>
+    ensures { IfOk result (λ list. list.items ≡ texts.keys) }
+{
+    let mut list = Vec::with_capacity(alloc, texts.len())?;
+    for text in texts {
+        list.push(text)?;
+    }
+    Ok(list)
 }
 
 #[tactic(auto, unfolding(crate::specs::Categories::refs))]
@@ -66,8 +76,8 @@ fn some_asks_for_all(specs: &[RefSpec]) -> bool
     specs.iter().any(|spec| asks_for_all(spec))
 }
 
-fn put_specs(alloc: Global, texts: &mut Vec<Text>, specs: &[RefSpec]) -> Result<(), NoMemory>
-    ensures { OnOk result (texts.new.items ≡ put_all texts.old.items (flat_map words.spec_prefixes specs.now)) }
+fn put_specs(alloc: Global, texts: &mut BTreeSet<Text>, specs: &[RefSpec]) -> Result<(), NoMemory>
+    ensures { OnOk result (texts.new.keys ≡ put_all texts.old.keys (flat_map words.spec_prefixes specs.now)) }
 {
     for i in 0..specs.len() {
         put_spec(alloc, texts, &specs[i])?;
@@ -75,8 +85,8 @@ fn put_specs(alloc: Global, texts: &mut Vec<Text>, specs: &[RefSpec]) -> Result<
     Ok(())
 }
 
-fn put_spec(alloc: Global, texts: &mut Vec<Text>, spec: &RefSpec) -> Result<(), NoMemory>
-    ensures { OnOk result (texts.new.items ≡ put_all texts.old.items (words.spec_prefixes spec.now)) }
+fn put_spec(alloc: Global, texts: &mut BTreeSet<Text>, spec: &RefSpec) -> Result<(), NoMemory>
+    ensures { OnOk result (texts.new.keys ≡ put_all texts.old.keys (words.spec_prefixes spec.now)) }
 {
     if spec.is_exclusion() {
         return Ok(());
@@ -88,8 +98,8 @@ fn put_spec(alloc: Global, texts: &mut Vec<Text>, spec: &RefSpec) -> Result<(), 
 }
 
 #[tactic(auto, unfolding(crate::specs::Parses::head, crate::specs::Categories::refs))]
-fn put_source(alloc: Global, texts: &mut Vec<Text>, source: &[u8]) -> Result<(), NoMemory>
-    ensures { OnOk result (texts.new.items ≡ put_all texts.old.items (words.source_prefixes source.now)) }
+fn put_source(alloc: Global, texts: &mut BTreeSet<Text>, source: &[u8]) -> Result<(), NoMemory>
+    ensures { OnOk result (texts.new.keys ≡ put_all texts.old.keys (words.source_prefixes source.now)) }
 {
     if id_named(source).is_some() {
         return Ok(());
@@ -107,8 +117,8 @@ fn put_source(alloc: Global, texts: &mut Vec<Text>, source: &[u8]) -> Result<(),
 }
 
 /// Puts the prefix of a source up to its second slash.
-fn put_front(alloc: Global, texts: &mut Vec<Text>, source: &[u8]) -> Result<(), NoMemory>
-    ensures { OnOk result (texts.new.items ≡ put_all texts.old.items (words.refs_prefix source.now)) }
+fn put_front(alloc: Global, texts: &mut BTreeSet<Text>, source: &[u8]) -> Result<(), NoMemory>
+    ensures { OnOk result (texts.new.keys ≡ put_all texts.old.keys (words.refs_prefix source.now)) }
 {
     let front = front_of(source);
     if has_star(front) {
@@ -140,8 +150,8 @@ fn slash_or_end(text: &[u8]) -> usize
 }
 
 #[tactic(auto, unfolding(crate::specs::Categories::refs, crate::specs::Categories::tags, crate::specs::Categories::heads, crate::specs::Categories::remotes, crate::specs::Matches::slash_head))]
-fn put_expansions(alloc: Global, texts: &mut Vec<Text>, source: &[u8]) -> Result<(), NoMemory>
-    ensures { OnOk result (texts.new.items ≡ put_all texts.old.items (words.expansions source.now)) }
+fn put_expansions(alloc: Global, texts: &mut BTreeSet<Text>, source: &[u8]) -> Result<(), NoMemory>
+    ensures { OnOk result (texts.new.keys ≡ put_all texts.old.keys (words.expansions source.now)) }
 {
     put(texts, Text::new(alloc, source)?)?;
     put_joined(alloc, texts, b"refs/", source)?;
@@ -162,39 +172,21 @@ fn joined(alloc: Global, front: &[u8], back: &[u8]) -> Result<Vec<u8>, NoMemory>
 
 fn put_joined(
     alloc: Global,
-    texts: &mut Vec<Text>,
+    texts: &mut BTreeSet<Text>,
     front: &[u8],
     back: &[u8],
 ) -> Result<(), NoMemory>
-    ensures { OnOk result (texts.new.items ≡ words.put (front.now ++ back.now) texts.old.items) }
+    ensures { OnOk result (texts.new.keys ≡ words.put (front.now ++ back.now) texts.old.keys) }
 {
     let text = joined(alloc, front, back)?;
     put(texts, Text::from(text))
 }
 
 /// Puts a text among sorted ones, unless it is there.
-fn put(texts: &mut Vec<Text>, text: Text) -> Result<(), NoMemory>
-    ensures { OnOk result (texts.new.items ≡ words.put text texts.old.items) }
+#[tactic(auto, using(crate::proofs::Placing::put_key))]
+fn put(texts: &mut BTreeSet<Text>, text: Text) -> Result<(), NoMemory>
+    ensures { OnOk result (texts.new.keys ≡ words.put text texts.old.keys) }
 {
-    match place(texts.as_slice(), &text) {
-        Some(i) => {
-            texts.insert(i, text)?;
-            Ok(())
-        }
-        None => Ok(()),
-    }
-}
-
-/// Where a text belongs among sorted ones, unless it is there.
-fn place(texts: &[Text], text: &Text) -> Option<usize>
-    ensures { MatchOption result (words.put text.now texts.now ≡ texts.now) (λ i. (i ≤ length texts.now) × (words.put text.now texts.now ≡ take i texts.now ++ text.now ∷ drop i texts.now)) }
-{
-    for i in 0..texts.len() {
-        match text.cmp(&texts[i]) {
-            Ordering::Less => return Some(i),
-            Ordering::Equal => return None,
-            Ordering::Greater => {}
-        }
-    }
-    Some(texts.len())
+    texts.insert(text)?;
+    Ok(())
 }

@@ -60,6 +60,13 @@ impl FullName {
         })
     }
 
+    /// Whether a text is a full name. This takes no memory.
+    pub fn is_valid(text: &[u8]) -> bool
+        ensures { result ≡ is_full_name text.now }
+    {
+        grammar::full_name_trouble(text).is_none()
+    }
+
     /// The bytes, lent.
     pub fn as_bytes(&self) -> &[u8]
         ensures bytes { result.now ≡ self.now }

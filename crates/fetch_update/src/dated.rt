@@ -11,7 +11,8 @@ use std::marker::Brand;
 use std::sync::ledger::{Blank, Ledger};
 
 /// Whether a dated path leads from one stored commit to another: stored commits, each next one a parent of the one
-/// before, none with fewer seconds than the last. One step is one commit read or one parent link read.
+/// before, none with fewer seconds than the last. One step is one commit read or one parent link read. Of one id no more than
+/// one commit is read.
 pub fn is_dated_ancestor<O: Objects, L: Ledger>(
     alloc: Global,
     objects: &O,
@@ -23,6 +24,7 @@ pub fn is_dated_ancestor<O: Objects, L: Ledger>(
     requires to { IsCommit (O.graph objects.now) to.now }
     ensures path { IfOk result (λ found. IsTrue found ↔ HasDatedPath (O.graph objects.now) from.now to.now) }
     ensures cost { steps.new ≤ steps.old + (commit_count (O.graph objects.now) + link_count (O.graph objects.now)) }
+    ensures equal { from.now ≡ to.now → steps.new ≤ steps.old + 1 }
     ensures rises { steps.old ≤ steps.new }
 {
     if same_id(from, to) {

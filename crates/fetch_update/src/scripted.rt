@@ -11,7 +11,7 @@ use fetch_store::{List, NoMemory};
 use std::marker::Model;
 
 /// A list of worktrees. The calls whose numbers are listed fail, each with the fault that is listed
-/// for it first, where numbers count the calls from 0. A listed out of memory is none.
+/// for it first, where numbers count the calls from 0. A listed out of memory is no fault: it raises no count.
 #[derive(Debug, Drop)]
 pub struct ScriptedWorktrees {
     list: List<Worktree>,

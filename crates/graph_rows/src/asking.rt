@@ -23,7 +23,7 @@ fn ask_of_id(
     } else if what == b"reached".as_slice() {
         reaching::tell_reached(alloc, world, id, out)?;
     } else if what == b"tags".as_slice() {
-        references::tell_tags(alloc, &world.store, id, out)?;
+        references::tell_tags(&world.store, id, out)?;
     } else {
         return Ok(false);
     }
@@ -113,7 +113,7 @@ fn ask_of_references(
     } else if what == b"compact".as_slice() {
         references::compact(&mut world.refs, out)?;
     } else if what == b"read-packed".as_slice() {
-        references::read_packed(alloc, &mut world.refs, rest, out)?;
+        references::read_packed(alloc, world, rest, out)?;
     } else {
         return references::ask_of_name(alloc, world, what, rest, out);
     }

@@ -76,12 +76,17 @@ pub(crate) fn tell<O: Objects>(
     }
 }
 
-/// A store that counts the commits and the parent links that are read.
+/// A store that counts the commits and the parent links that are read, and how often it is asked what an object is.
 #[derive(Drop)]
 struct Counting<'a> {
     store: &'a Store,
+    kinds: Cell<u64>,
     commits: Cell<u64>,
     links: Cell<u64>,
+}
+
+fn count(calls: &Cell<u64>) {
+    calls.set(calls.get().wrapping_add(1));
 }
 
 impl Objects for Counting<'_> {
@@ -92,26 +97,29 @@ impl Objects for Counting<'_> {
     }
 
     fn kind_of(&self, id: &ObjectId) -> Option<ObjectKind> {
+        count(&self.kinds);
         self.store.kind_of(id)
     }
 
     fn parents(&self, id: &ObjectId) -> Parents<'_> {
         for _parent in self.store.parents(id) {
-            self.links.set(self.links.get().wrapping_add(1));
+            count(&self.links);
         }
         self.store.parents(id)
     }
 
     fn parent(&self, id: &ObjectId, index: usize) -> Option<ObjectId> {
+        count(&self.links);
         self.store.parent(id, index)
     }
 
     fn seconds(&self, id: &ObjectId) -> Option<u64> {
-        self.commits.set(self.commits.get().wrapping_add(1));
+        count(&self.commits);
         self.store.seconds(id)
     }
 
     fn tag_target(&self, id: &ObjectId) -> Option<ObjectId> {
+        count(&self.kinds);
         self.store.tag_target(id)
     }
 }
@@ -130,6 +138,7 @@ pub(crate) fn tell_reads(
     };
     let counting = Counting {
         store,
+        kinds: Cell::new(0),
         commits: Cell::new(0),
         links: Cell::new(0),
     };
@@ -138,12 +147,14 @@ pub(crate) fn tell_reads(
     Ok(true)
 }
 
-/// `<commits> <links>`: whether no more are read.
+/// `<commits> <links>`: whether no more are read. It is asked what an object is once for each commit, and once more for each
+/// of the two ids, which are tested first.
 fn tell_counts(counting: &Counting<'_>, most: &[u8], out: &mut Vec<u8>) -> Result<(), NoMemory> {
     let (commits, links) = split_word(most);
     let commits = decimal(commits).unwrap_or(0);
     let links = decimal(links).unwrap_or(0);
-    if counting.commits.get() <= commits && counting.links.get() <= links {
+    let few_kinds = counting.kinds.get() <= commits.saturating_add(2);
+    if few_kinds && counting.commits.get() <= commits && counting.links.get() <= links {
         say(out, &[b"within"])
     } else {
         say(out, &[b"beyond"])

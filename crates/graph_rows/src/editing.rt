@@ -17,10 +17,23 @@ pub(crate) fn target_of(alloc: Global, word: &[u8]) -> Result<Option<Target>, No
     }
 }
 
+/// What an update expects: nothing, its own value, that or nothing, or whatever stands there.
+fn expected_of(word: &[u8], new: &Target) -> Result<PreviousValue, NoMemory> {
+    if word == b"new".as_slice() {
+        Ok(PreviousValue::MustNotExist)
+    } else if word == b"match".as_slice() {
+        Ok(PreviousValue::MustExistAndMatch(new.try_clone()?))
+    } else if word == b"unless-other".as_slice() {
+        Ok(PreviousValue::ExistingMustMatch(new.try_clone()?))
+    } else {
+        Ok(PreviousValue::Any)
+    }
+}
+
 /// An update with the message `made`, which `force` writes where no reflog would be written, and `log` writes alone.
 fn update_of(alloc: Global, word: &[u8], name: FullName, new: Target) -> Result<RefEdit, NoMemory> {
     let is_alone = word == b"log".as_slice();
-    let is_new = word == b"new".as_slice();
+    let expected = expected_of(word, &new)?;
     Ok(RefEdit {
         change: Change::Update {
             log: LogChange {
@@ -32,11 +45,7 @@ fn update_of(alloc: Global, word: &[u8], name: FullName, new: Target) -> Result<
                 force_create_reflog: word == b"force".as_slice(),
                 message: Text::new(alloc, b"made")?,
             },
-            expected: if is_new {
-                PreviousValue::MustNotExist
-            } else {
-                PreviousValue::Any
-            },
+            expected,
             new,
         },
         name,
@@ -59,11 +68,14 @@ fn is_update(word: &[u8]) -> bool {
         b"new".as_slice(),
         b"force".as_slice(),
         b"log".as_slice(),
+        b"match".as_slice(),
+        b"unless-other".as_slice(),
     ]
     .contains(&word)
 }
 
-/// The edit that a line asks for: `set`, `new`, `force` or `log`, a name and a target; or `delete` or `delete-log` and a name.
+/// The edit that a line asks for: `set`, `new`, `force`, `log`, `match` or `unless-other`, a name and a target; or `delete` or
+/// `delete-log` and a name.
 pub(crate) fn edit_of(
     alloc: Global,
     word: &[u8],

@@ -1,6 +1,6 @@
 //! What mappings are told.
 
-use crate::words::{id_of, name_of, say, say_number, say_printed, split_word};
+use crate::words::{decoded, id_of, name_of, say, say_number, say_printed, split_word};
 use crate::world::World;
 use fetch_refs::Change;
 use fetch_specs::{Operation, RefSpec, SpecError, Tags, parse};
@@ -163,7 +163,7 @@ pub(crate) fn check_out(
     };
     worktrees.push(Worktree {
         branch,
-        directory: Text::new(alloc, directory)?,
+        directory: Text::from(decoded(alloc, directory)?),
     })?;
     Ok(true)
 }

@@ -3,12 +3,14 @@
 use crate::words::{append_id, decoded, name_of, refuse, say, say_id, say_number};
 use crate::world::World;
 use fetch_negotiate::tips;
-use fetch_refs::{LogLine, PackedRefs, RefEdit, RefError, Refs, Signature, TargetRef, peel_tags};
+use fetch_refs::{
+    LogLine, PackedRefs, RefEdit, RefError, Refs, Signature, Target, TargetRef, peel_tags,
+};
 use fetch_specs::FullName;
-use fetch_store::{Kind, NoMemory, ObjectId, Store, Text};
+use fetch_store::{NoMemory, ObjectId, Store, Text};
 use std::alloc::Global;
 
-/// A refusal, and the name or the id that it tells.
+/// A refusal, and the name, the id or the value found that it tells.
 fn tell_refusal(out: &mut Vec<u8>, e: &RefError) -> Result<(), NoMemory> {
     refuse(out, e)?;
     match e {
@@ -17,7 +19,16 @@ fn tell_refusal(out: &mut Vec<u8>, e: &RefError) -> Result<(), NoMemory> {
         RefError::Unborn { name } => say(out, &[b"at", name.as_bytes()]),
         RefError::MissingObject { id } => say_id(out, b"at", id),
         RefError::TagCycle { id } => say_id(out, b"at", id),
-        RefError::Expectation { .. } | RefError::NoMemory => Ok(()),
+        RefError::Expectation { found, .. } => tell_found(out, found),
+        RefError::NoMemory => Ok(()),
+    }
+}
+
+/// What stands at the name of a refused edit.
+fn tell_found(out: &mut Vec<u8>, found: &Option<Target>) -> Result<(), NoMemory> {
+    match found {
+        Some(target) => tell_target(out, Some(target.as_ref())),
+        None => tell_target(out, None),
     }
 }
 
@@ -146,13 +157,8 @@ pub(crate) fn ask_of_name(
 }
 
 /// Where tags lead from an object.
-pub(crate) fn tell_tags(
-    alloc: Global,
-    store: &Store,
-    id: ObjectId,
-    out: &mut Vec<u8>,
-) -> Result<(), NoMemory> {
-    tell_end(out, peel_tags(alloc, store, id))
+pub(crate) fn tell_tags(store: &Store, id: ObjectId, out: &mut Vec<u8>) -> Result<(), NoMemory> {
+    tell_end(out, peel_tags(store, id))
 }
 
 /// The commits that the references lead to.
@@ -177,16 +183,16 @@ pub(crate) fn compact(refs: &mut Refs, out: &mut Vec<u8>) -> Result<(), NoMemory
     }
 }
 
-/// `<text>`: reads a packed list of SHA-1 in place of the references.
+/// `<text>`: reads a packed list of the world's hash in place of the references.
 pub(crate) fn read_packed(
     alloc: Global,
-    refs: &mut Refs,
+    world: &mut World,
     text: &[u8],
     out: &mut Vec<u8>,
 ) -> Result<(), NoMemory> {
     let text = decoded(alloc, text)?;
-    match Refs::read_packed(alloc, Kind::Sha1, text.as_slice()) {
-        Ok(read) => *refs = read,
+    match Refs::read_packed(alloc, world.store.kind(), text.as_slice()) {
+        Ok(read) => world.refs = read,
         Err(e) => refuse(out, &e)?,
     }
     Ok(())

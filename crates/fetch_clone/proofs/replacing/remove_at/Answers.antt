@@ -14,9 +14,9 @@ other news s e = rw e refl
 pub returns-then-is_replaced : goal.returns-then-is_replaced
 returns-then-is_replaced c =
     let s = c.index-sections-index.result in
-    goes c.args.file.now c.args.index (gone_at c.args.news.now.sections) c.sections.result.now s c.sections.ensures c.requires c.index-sections-index.is _ (gone c.args.news.now.sections s (sym c.is_replaced.ensures ∙ c.if-is_replaced.true)) c.remove_section.ensures
+    goes c.args.file.now c.args.index (gone_at c.args.news.now.sections) c.sections.result.now s c.sections.ensures.sections c.requires c.index-sections-index.is _ (gone c.args.news.now.sections s (sym c.is_replaced.ensures ∙ c.if-is_replaced.true)) c.remove_section.ensures
 
 pub returns-else-is_replaced : goal.returns-else-is_replaced
 returns-else-is_replaced c =
     let s = c.index-sections-index.result in
-    stays c.args.file.now c.args.index (gone_at c.args.news.now.sections) c.sections.result.now s c.sections.ensures c.requires c.index-sections-index.is (other c.args.news.now.sections s (sym c.is_replaced.ensures ∙ c.if-is_replaced.false))
+    stays c.args.file.now c.args.index (gone_at c.args.news.now.sections) c.sections.result.now s c.sections.ensures.sections c.requires c.index-sections-index.is (other c.args.news.now.sections s (sym c.is_replaced.ensures ∙ c.if-is_replaced.false))

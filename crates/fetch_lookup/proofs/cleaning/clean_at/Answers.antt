@@ -20,16 +20,16 @@ pub returns-then-not-is_of_remote : goal.returns-then-not-is_of_remote
 returns-then-not-is_of_remote c =
     let s = c.index-sections-index.result in
     let off : c.is_of_remote.result ≡ false = search (rules, c.if-not-is_of_remote.true) in
-    stays c.args.file.now c.args.index (spec.cleaned_at c.args.name.now) c.sections.result.now s c.sections.ensures c.requires c.index-sections-index.is (of-other c.args.name.now s (sym c.is_of_remote.ensures ∙ off))
+    stays c.args.file.now c.args.index (spec.cleaned_at c.args.name.now) c.sections.result.now s c.sections.ensures.sections c.requires c.index-sections-index.is (of-other c.args.name.now s (sym c.is_of_remote.ensures ∙ off))
 
 pub returns-then-is_emptied : goal.returns-then-is_emptied
 returns-then-is_emptied c =
     let s = c.index-sections-index.result in
     let on : c.is_of_remote.result ≡ true = search (rules, c.if-not-is_of_remote.false) in
-    goes c.args.file.now c.args.index (spec.cleaned_at c.args.name.now) c.sections.result.now s c.sections.ensures c.requires c.index-sections-index.is _ (emptied c.args.name.now s (sym c.is_of_remote.ensures ∙ on) (sym c.is_emptied.ensures ∙ c.if-is_emptied.true)) c.remove_section.ensures
+    goes c.args.file.now c.args.index (spec.cleaned_at c.args.name.now) c.sections.result.now s c.sections.ensures.sections c.requires c.index-sections-index.is _ (emptied c.args.name.now s (sym c.is_of_remote.ensures ∙ on) (sym c.is_emptied.ensures ∙ c.if-is_emptied.true)) c.remove_section.ensures
 
 pub returns-else-is_emptied : goal.returns-else-is_emptied
 returns-else-is_emptied c =
     let s = c.index-sections-index.result in
     let on : c.is_of_remote.result ≡ true = search (rules, c.if-not-is_of_remote.false) in
-    changes c.args.file.now c.args.index (spec.cleaned_at c.args.name.now) c.sections.result.now s c.sections.ensures c.requires c.index-sections-index.is _ spec.cleaned_section (others-left c.args.name.now s (sym c.is_of_remote.ensures ∙ on) (sym c.is_emptied.ensures ∙ c.if-is_emptied.false)) c.remove_keys.ensures
+    changes c.args.file.now c.args.index (spec.cleaned_at c.args.name.now) c.sections.result.now s c.sections.ensures.sections c.requires c.index-sections-index.is _ spec.cleaned_section (others-left c.args.name.now s (sym c.is_of_remote.ensures ∙ on) (sym c.is_emptied.ensures ∙ c.if-is_emptied.false)) c.remove_keys.ensures

@@ -14,9 +14,9 @@ other names s e = rw e refl
 pub returns-then-is_branch_of : goal.returns-then-is_branch_of
 returns-then-is_branch_of c =
     let s = c.index-sections-index.result in
-    goes c.args.file.now c.args.index (gone_at c.args.names.now.keys) c.sections.result.now s c.sections.ensures c.requires c.index-sections-index.is _ (gone c.args.names.now.keys s (sym c.is_branch_of.ensures ∙ c.if-is_branch_of.true)) c.remove_section.ensures
+    goes c.args.file.now c.args.index (gone_at c.args.names.now.keys) c.sections.result.now s c.sections.ensures.sections c.requires c.index-sections-index.is _ (gone c.args.names.now.keys s (sym c.is_branch_of.ensures ∙ c.if-is_branch_of.true)) c.remove_section.ensures
 
 pub returns-else-is_branch_of : goal.returns-else-is_branch_of
 returns-else-is_branch_of c =
     let s = c.index-sections-index.result in
-    stays c.args.file.now c.args.index (gone_at c.args.names.now.keys) c.sections.result.now s c.sections.ensures c.requires c.index-sections-index.is (other c.args.names.now.keys s (sym c.is_branch_of.ensures ∙ c.if-is_branch_of.false))
+    stays c.args.file.now c.args.index (gone_at c.args.names.now.keys) c.sections.result.now s c.sections.ensures.sections c.requires c.index-sections-index.is (other c.args.names.now.keys s (sym c.is_branch_of.ensures ∙ c.if-is_branch_of.false))

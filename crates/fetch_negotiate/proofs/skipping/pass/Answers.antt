@@ -6,7 +6,7 @@ use Rattle.fetch_negotiate.specs.Reading.{Table, Grows, IsTold, links_at, read_i
 use Rattle.fetch_negotiate.specs.Skips.{Pairs, handed, pairs_of}
 use Rattle.fetch_negotiate.specs.Walking.{so_far_in}
 use Rattle.fetch_negotiate.proofs.Choosing.{links_told}
-use Rattle.fetch_negotiate.proofs.Growing.{commit_stays, read_of}
+use Rattle.fetch_negotiate.proofs.Growing.{commit_stays, grows_none, read_of}
 use Rattle.fetch_negotiate.proofs.Handing.{linked, still, told_before, handed_on, offers_by}
 use Rattle.fetch_negotiate.proofs.skipping.pass.Goals as goal
 
@@ -53,3 +53,15 @@ returns-clause-offered g c =
     let h = g.O.Objects.graph c.args.objects.now in
     let o = c.in_ok-offered.ensures in
     offers_by h (so_far_in c.args.walk.now) c.args.id.now c.args.skips.now.handed.items c.in_ok-skip.skip c.in_ok-offered.offered (c.requires.skipping.handed h c.requires.told) c.in_ok-skip.ensures.pair (o.offered.says h o.told)
+
+pub returns-in_err-hand_on-clause-grows : goal.returns-in_err-hand_on-clause-grows
+returns-in_err-hand_on-clause-grows g c = subst (λ (t : Table). Grows (read_in c.args.walk.now.table) (read_in t)) (sym c.hand_on.ensures.table) c.is_offered.ensures.grows
+
+pub returns-clause-grows : goal.returns-clause-grows
+returns-clause-grows g c = subst (λ (t : Table). Grows (read_in c.args.walk.now.table) (read_in t)) (sym c.hand_on.ensures.table) c.is_offered.ensures.grows
+
+pub returns-in_err-skip-clause-grows : goal.returns-in_err-skip-clause-grows
+returns-in_err-skip-clause-grows g c = grows_none (read_in c.args.walk.now.table)
+
+pub returns-in_err-offered-clause-grows : goal.returns-in_err-offered-clause-grows
+returns-in_err-offered-clause-grows g c = c.in_err-offered.ensures.grows

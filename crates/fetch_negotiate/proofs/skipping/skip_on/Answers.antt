@@ -4,7 +4,34 @@ use Rattle.fetch_negotiate.specs.Skips.{Offer, offers, next_offered}
 use Rattle.fetch_negotiate.specs.Walking.{so_far_in}
 use Rattle.fetch_negotiate.proofs.Counting.{come_to, ends_none, ends_some, found_next, more_taken, none, passed_over, smaller, some}
 use Rattle.fetch_negotiate.proofs.Handing.{still}
+use Rattle.fetch_negotiate.proofs.GivingBack.{here, stays_on, goes_one}
 use Rattle.fetch_negotiate.proofs.skipping.skip_on.Goals as goal
+
+pub loop-id-init : goal.loop-id-init
+loop-id-init g c =
+    record {
+      skipping = c.requires.skipping;
+      told = c.requires.told;
+      later = refl;
+      goes = here c.args.walk.now;
+      more = record { stays = λ q h. h };
+    }
+
+pub returns-in_err-id-clause-goes : goal.returns-in_err-id-clause-goes
+returns-in_err-id-clause-goes g c = stays_on c.args.walk.now c.loop-id.walk c.come_next.new.walk c.loop-id.invariant.goes c.in_err-id.ensures.grows c.in_err-id.ensures.so_far
+
+pub returns-in_err-pass-clause-goes : goal.returns-in_err-pass-clause-goes
+returns-in_err-pass-clause-goes g c =
+    stays_on c.args.walk.now c.come_next.new.walk c.pass.new.walk (stays_on c.args.walk.now c.loop-id.walk c.come_next.new.walk c.loop-id.invariant.goes c.in_ok-id.ensures.grows c.in_ok-id.ensures.so_far)
+    c.pass.ensures.grows c.in_err-pass.ensures.err
+
+pub returns-then-branch-clause-goes : goal.returns-then-branch-clause-goes
+returns-then-branch-clause-goes g c =
+    goes_one c.args.walk.now c.come_next.new.walk c.pass.new.walk c.in-Some.id (stays_on c.args.walk.now c.loop-id.walk c.come_next.new.walk c.loop-id.invariant.goes c.in_ok-id.ensures.grows c.in_ok-id.ensures.so_far)
+    c.pass.ensures.grows c.in_ok-pass.ensures.ok
+
+pub returns-clause-goes : goal.returns-clause-goes
+returns-clause-goes g c = stays_on c.args.walk.now c.loop-id.walk c.come_next.new.walk c.loop-id.invariant.goes c.in_ok-id.ensures.grows c.in_ok-id.ensures.so_far
 
 pub returns-in_err-id-clause-skipping : goal.returns-in_err-id-clause-skipping
 returns-in_err-id-clause-skipping g c =
@@ -68,6 +95,7 @@ loop-id-preserved g c =
     record {
       skipping = p.skipping;
       told = p.told;
+      goes = goes_one c.args.walk.now c.come_next.new.walk c.pass.new.walk id (stays_on c.args.walk.now c.loop-id.walk c.come_next.new.walk c.loop-id.invariant.goes e.grows e.so_far) c.pass.ensures.grows p.ok;
       later = ap (λ (x : Negotiation). next_offered h x) p.ok ∙ sym (passed_over h m id next passed) ∙ ap (λ (x : Negotiation). next_offered h x) e.so_far ∙ c.loop-id.invariant.later;
       more = more_taken c.args.walk.now.line.taken.items n m (so_far_in c.pass.new.walk) id c.loop-id.invariant.more e.so_far p.ok;
     }

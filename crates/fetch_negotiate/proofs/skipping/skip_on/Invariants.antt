@@ -3,7 +3,7 @@ use Rattle.fetch_negotiate.specs.Reading.{IsTold, read_in}
 use Rattle.fetch_negotiate.specs.Sharing.{Covers}
 use Rattle.fetch_negotiate.specs.Skipped.{IsSkipping}
 use Rattle.fetch_negotiate.specs.Skips.{next_offered}
-use Rattle.fetch_negotiate.specs.Walking.{so_far_in}
+use Rattle.fetch_negotiate.specs.Walking.{GoesOn, so_far_in}
 use Rattle.fetch_negotiate.proofs.Counting.{untaken}
 use Rattle.fetch_negotiate.proofs.skipping.skip_on.Given as goal
 
@@ -13,6 +13,7 @@ invariant-loop-id g l =
       skipping : IsSkipping l.walk l.skips;
       told : IsTold (read_in l.walk.table) (g.O.Objects.graph l.objects);
       later : next_offered (g.O.Objects.graph l.objects) (so_far_in l.walk) ≡ next_offered (g.O.Objects.graph l.objects) (so_far_in l.fn.walk);
+      goes : GoesOn l.fn.walk l.walk;
       more : Covers l.fn.walk.line.taken.items l.walk.line.taken.items;
     }
 

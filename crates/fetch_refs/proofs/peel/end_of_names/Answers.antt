@@ -1,59 +1,135 @@
-use Rattle.std.proofs.Common.{◌≡◌, ℕ, ◌-◌, Bool, List, [], ◌∷◌, ◌++◌, map, Some, Err, Bor, sym, ap, ◌∙◌, arith}
-use Rattle.fetch_refs.specs.declared.error.RefError.TheVariants as errors
+use Rattle.std.proofs.Common.{◌≡◌, true, false, [], ◌∷◌, ◌++◌, length-append, Some, refl, sym, ap, ◌∙◌, arith}
+use Rattle.std.specs.Option.{option_and_then}
+use Rattle.std.specs.Str.{bytes_eq}
 use Rattle.fetch_refs.specs.declared.target.TargetRef.{TargetRef}
-use Rattle.fetch_refs.specs.Targets.{seen}
+use Rattle.fetch_refs.specs.Leading.{name_in, next_name}
 use Rattle.fetch_refs.specs.Names.{Names}
-use Rattle.fetch_refs.specs.Peeled.{is_met, follow}
-use Rattle.fetch_refs.proofs.Ways.{follow-cycle, follow-depth, follow-some, map-append_one, same_answer}
+use Rattle.fetch_refs.specs.Peeled.{is_met}
+use Rattle.fetch_refs.specs.Targets.{seen}
+use Rattle.fetch_refs.proofs.Walks.{leads_on}
+use Rattle.fetch_refs.proofs.Ways.{follow-cycle, follow-depth, follow-some, is_named, same_answer}
 use Rattle.fetch_refs.proofs.peel.end_of_names.Goals as goal
 
-abbrev shown : List (Bor (List ℕ)) → List (List ℕ)
-shown ms = map (λ (x : Bor (List ℕ)). x.now) ms
+pub names-init : goal.names-init
+names-init c = ([], refl, refl, refl, omega arith)
 
-met_is : (ms items : List (Bor (List ℕ))) (bytes name : List ℕ) (r b : Bool) → ms ≡ items → bytes ≡ name → r ≡ is_met (shown ms) bytes → r ≡ b → is_met (shown items) name ≡ b
-met_is ms items bytes name r b same also is value = ap (λ (xs : List (Bor (List ℕ))). is_met (shown xs) name) (sym same) ∙ ap (λ (n : List ℕ). is_met (shown ms) n) (sym also) ∙ sym is ∙ value
-
-pub returns-then-is_met : goal.returns-then-is_met
-returns-then-is_met c =
+pub returns-then-is_met-clause-answer : goal.returns-then-is_met-clause-answer
+returns-then-is_met-clause-answer c =
     let names : Names = c.args.refs.now.names in
-    same_answer _ _ c.cycle.result
-    (sym c.names.invariant ∙ follow-cycle names (shown c.names.met.items) c.names.name.now c.names.left (met_is _ _ _ _ _ _ c.as_slice.ensures.value c.as_bytes.ensures.bytes c.is_met.ensures c.if-is_met.true))
-    c.cycle.ensures
+    let way = c.names.invariant.0 in
+    let leads = c.names.invariant.1 in
+    let count = c.names.invariant.2 in
+    let same = c.names.invariant.3 in
+    let few = c.names.invariant.4 in
+    let met : is_met (c.args.first.now ∷ way) c.names.name.now ≡ true = sym (c.is_met.ensures way c.names.name.now leads (omega (arith, count))) ∙ c.if-is_met.true in
+    same_answer _ _ c.cycle.result (sym same ∙ follow-cycle names (c.args.first.now ∷ way) c.names.name.now c.names.left met) c.cycle.ensures
 
-pub returns-in-None : goal.returns-in-None
-returns-in-None c =
+pub returns-then-is_met-clause-memory : goal.returns-then-is_met-clause-memory
+returns-then-is_met-clause-memory c =
     let names : Names = c.args.refs.now.names in
-    same_answer _ _ c.unborn.result
-    (sym c.names.invariant ∙ follow-some names (shown c.names.met.items) c.names.name.now c.names.left _ c.names-test.true (met_is _ _ _ _ _ _ c.as_slice.ensures.value c.as_bytes.ensures.bytes c.is_met.ensures c.if-is_met.false) (sym c.in-None.ensures))
-    c.unborn.ensures
+    let way = c.names.invariant.0 in
+    let leads = c.names.invariant.1 in
+    let count = c.names.invariant.2 in
+    let same = c.names.invariant.3 in
+    let few = c.names.invariant.4 in
+    let met : is_met (c.args.first.now ∷ way) c.names.name.now ≡ true = sym (c.is_met.ensures way c.names.name.now leads (omega (arith, count))) ∙ c.if-is_met.true in
+    λ _. is_named _ _ (sym same ∙ follow-cycle names (c.args.first.now ∷ way) c.names.name.now c.names.left met) refl
 
-pub returns-in-Some-Object : goal.returns-in-Some-Object
-returns-in-Some-Object c =
+pub returns-in-None-clause-answer : goal.returns-in-None-clause-answer
+returns-in-None-clause-answer c =
     let names : Names = c.args.refs.now.names in
-    sym c.names.invariant
-    ∙ follow-some names (shown c.names.met.items) c.names.name.now c.names.left _ c.names-test.true (met_is _ _ _ _ _ _ c.as_slice.ensures.value c.as_bytes.ensures.bytes c.is_met.ensures c.if-is_met.false)
-    (sym c.in-Some-Object.ensures ∙ ap (λ (t : TargetRef). Some (seen t)) c.in-Some-Object.field-0-is)
+    let way = c.names.invariant.0 in
+    let leads = c.names.invariant.1 in
+    let count = c.names.invariant.2 in
+    let same = c.names.invariant.3 in
+    let few = c.names.invariant.4 in
+    let met : is_met (c.args.first.now ∷ way) c.names.name.now ≡ false = sym (c.is_met.ensures way c.names.name.now leads (omega (arith, count))) ∙ c.if-is_met.false in
+    same_answer _ _ c.unborn.result (sym same ∙ follow-some names (c.args.first.now ∷ way) c.names.name.now c.names.left _ c.names-test.true met (sym c.in-None.ensures)) c.unborn.ensures
+
+pub returns-in-None-clause-memory : goal.returns-in-None-clause-memory
+returns-in-None-clause-memory c =
+    let names : Names = c.args.refs.now.names in
+    let way = c.names.invariant.0 in
+    let leads = c.names.invariant.1 in
+    let count = c.names.invariant.2 in
+    let same = c.names.invariant.3 in
+    let few = c.names.invariant.4 in
+    let met : is_met (c.args.first.now ∷ way) c.names.name.now ≡ false = sym (c.is_met.ensures way c.names.name.now leads (omega (arith, count))) ∙ c.if-is_met.false in
+    λ _. is_named _ _ (sym same ∙ follow-some names (c.args.first.now ∷ way) c.names.name.now c.names.left _ c.names-test.true met (sym c.in-None.ensures)) refl
+
+pub returns-in-Some-Object-clause-answer : goal.returns-in-Some-Object-clause-answer
+returns-in-Some-Object-clause-answer c =
+    let names : Names = c.args.refs.now.names in
+    let way = c.names.invariant.0 in
+    let leads = c.names.invariant.1 in
+    let count = c.names.invariant.2 in
+    let same = c.names.invariant.3 in
+    let few = c.names.invariant.4 in
+    let met : is_met (c.args.first.now ∷ way) c.names.name.now ≡ false = sym (c.is_met.ensures way c.names.name.now leads (omega (arith, count))) ∙ c.if-is_met.false in
+    rw c.in-Some-Object.field-0-is (sym same ∙ follow-some names (c.args.first.now ∷ way) c.names.name.now c.names.left _ c.names-test.true met (sym c.in-Some-Object.ensures ∙ ap (λ (t : TargetRef). Some (seen t)) c.in-Some-Object.field-0-is))
 
 pub names-preserved : goal.names-preserved
 names-preserved c =
     let names : Names = c.args.refs.now.names in
-    ap (λ (ms : List (Bor (List ℕ))). follow names (c.names.left - 1) (shown ms) c.in-Some-Symbolic.target.now) c.in_ok-push-in-Some-Symbolic.ensures.items
-    ∙ ap (λ (ms : List (List ℕ)). follow names (c.names.left - 1) ms c.in-Some-Symbolic.target.now) (map-append_one (λ (x : Bor (List ℕ)). x.now) c.names.met.items c.as_bytes-in-Some-Symbolic.result)
-    ∙ ap (λ (n : List ℕ). follow names (c.names.left - 1) (shown c.names.met.items ++ n ∷ []) c.in-Some-Symbolic.target.now) c.as_bytes-in-Some-Symbolic.ensures.bytes
-    ∙ sym (follow-some names (shown c.names.met.items) c.names.name.now c.names.left _ c.names-test.true (met_is _ _ _ _ _ _ c.as_slice.ensures.value c.as_bytes.ensures.bytes c.is_met.ensures c.if-is_met.false)
-    (sym c.in-Some-Symbolic.ensures ∙ ap (λ (t : TargetRef). Some (seen t)) c.in-Some-Symbolic.field-0-is))
-    ∙ c.names.invariant
+    let way = c.names.invariant.0 in
+    let leads = c.names.invariant.1 in
+    let count = c.names.invariant.2 in
+    let same = c.names.invariant.3 in
+    let few = c.names.invariant.4 in
+    let met : is_met (c.args.first.now ∷ way) c.names.name.now ≡ false = sym (c.is_met.ensures way c.names.name.now leads (omega (arith, count))) ∙ c.if-is_met.false in
+    let n = length-append way (c.names.name.now ∷ []) in
+    let some = c.names-test.true in (
+      way ++ c.names.name.now ∷ [],
+      rw c.in-Some-Symbolic.field-0-is (leads_on bytes_eq (next_name names) way c.args.next.now c.names.name.now c.in-Some-Symbolic.target.now leads (ap (option_and_then name_in) (sym c.in-Some-Symbolic.ensures ∙ ap (λ (t : TargetRef). Some (seen t)) c.in-Some-Symbolic.field-0-is))),
+      omega (arith, n, count, some),
+      rw c.in-Some-Symbolic.field-0-is (sym (follow-some names (c.args.first.now ∷ way) c.names.name.now c.names.left _ c.names-test.true met (sym c.in-Some-Symbolic.ensures ∙ ap (λ (t : TargetRef). Some (seen t)) c.in-Some-Symbolic.field-0-is)) ∙ same),
+      omega (arith, few),
+    )
 
-pub returns-then-is_met-2 : goal.returns-then-is_met-2
-returns-then-is_met-2 c =
+pub returns-then-is_met-2-clause-answer : goal.returns-then-is_met-2-clause-answer
+returns-then-is_met-2-clause-answer c =
     let names : Names = c.args.refs.now.names in
-    same_answer _ _ c.cycle-then-is_met-2.result
-    (sym c.names.invariant ∙ follow-cycle names (shown c.names.met.items) c.names.name.now c.names.left (met_is _ _ _ _ _ _ c.as_slice-2.ensures.value c.as_bytes-2.ensures.bytes c.is_met-2.ensures c.if-is_met-2.true))
-    c.cycle-then-is_met-2.ensures
+    let way = c.names.invariant.0 in
+    let leads = c.names.invariant.1 in
+    let count = c.names.invariant.2 in
+    let same = c.names.invariant.3 in
+    let few = c.names.invariant.4 in
+    let over = c.names-test.false in
+    let met : is_met (c.args.first.now ∷ way) c.names.name.now ≡ true = sym (c.is_met-2.ensures way c.names.name.now leads (omega (arith, count, over))) ∙ c.if-is_met-2.true in
+    same_answer _ _ c.cycle-then-is_met-2.result (sym same ∙ follow-cycle names (c.args.first.now ∷ way) c.names.name.now c.names.left met) c.cycle-then-is_met-2.ensures
 
-pub returns : goal.returns
-returns c =
+pub returns-then-is_met-2-clause-memory : goal.returns-then-is_met-2-clause-memory
+returns-then-is_met-2-clause-memory c =
     let names : Names = c.args.refs.now.names in
-    sym c.names.invariant
-    ∙ follow-depth names (shown c.names.met.items) c.names.name.now c.names.left (λ p. omega (arith, c.names-test.false)) (met_is _ _ _ _ _ _ c.as_slice-2.ensures.value c.as_bytes-2.ensures.bytes c.is_met-2.ensures c.if-is_met-2.false)
-    ∙ ap (λ (n : List ℕ). Err (errors.Depth n)) (sym c.in_ok-try_clone.ensures)
+    let way = c.names.invariant.0 in
+    let leads = c.names.invariant.1 in
+    let count = c.names.invariant.2 in
+    let same = c.names.invariant.3 in
+    let few = c.names.invariant.4 in
+    let over = c.names-test.false in
+    let met : is_met (c.args.first.now ∷ way) c.names.name.now ≡ true = sym (c.is_met-2.ensures way c.names.name.now leads (omega (arith, count, over))) ∙ c.if-is_met-2.true in
+    λ _. is_named _ _ (sym same ∙ follow-cycle names (c.args.first.now ∷ way) c.names.name.now c.names.left met) refl
+
+pub returns-clause-answer : goal.returns-clause-answer
+returns-clause-answer c =
+    let names : Names = c.args.refs.now.names in
+    let way = c.names.invariant.0 in
+    let leads = c.names.invariant.1 in
+    let count = c.names.invariant.2 in
+    let same = c.names.invariant.3 in
+    let few = c.names.invariant.4 in
+    let over = c.names-test.false in
+    let met : is_met (c.args.first.now ∷ way) c.names.name.now ≡ false = sym (c.is_met-2.ensures way c.names.name.now leads (omega (arith, count, over))) ∙ c.if-is_met-2.false in
+    same_answer _ _ c.too_deep.result (sym same ∙ follow-depth names (c.args.first.now ∷ way) c.names.name.now c.names.left (λ p. omega (arith, c.names-test.false)) met) c.too_deep.ensures
+
+pub returns-clause-memory : goal.returns-clause-memory
+returns-clause-memory c =
+    let names : Names = c.args.refs.now.names in
+    let way = c.names.invariant.0 in
+    let leads = c.names.invariant.1 in
+    let count = c.names.invariant.2 in
+    let same = c.names.invariant.3 in
+    let few = c.names.invariant.4 in
+    let over = c.names-test.false in
+    let met : is_met (c.args.first.now ∷ way) c.names.name.now ≡ false = sym (c.is_met-2.ensures way c.names.name.now leads (omega (arith, count, over))) ∙ c.if-is_met-2.false in
+    λ _. is_named _ _ (sym same ∙ follow-depth names (c.args.first.now ∷ way) c.names.name.now c.names.left (λ p. omega (arith, c.names-test.false)) met) refl

@@ -13,11 +13,11 @@ loop-i-preserved c =
     let i = c.loop-i.i in
     let rest : List (List ℕ) = flat_map spec_prefixes (drop (i + 1) specs) in
     ap (λ (ts : List (List ℕ)). put_all ts rest) c.in_ok-put_spec.ensures
-    ∙ sym (put_all-append c.loop-i.texts.items (spec_prefixes c.index-specs-i.result) rest)
-    ∙ sym (ap (λ (xs : List RefSpec). put_all c.loop-i.texts.items (flat_map spec_prefixes xs)) (from specs i c.index-specs-i.result c.loop-i-test.true c.index-specs-i.is))
+    ∙ sym (put_all-append c.loop-i.texts.keys (spec_prefixes c.index-specs-i.result) rest)
+    ∙ sym (ap (λ (xs : List RefSpec). put_all c.loop-i.texts.keys (flat_map spec_prefixes xs)) (from specs i c.index-specs-i.result c.loop-i-test.true c.index-specs-i.is))
     ∙ c.loop-i.invariant
 
 pub returns : goal.returns
 returns c =
-    sym (ap (λ (xs : List RefSpec). put_all c.loop-i.texts.items (flat_map spec_prefixes xs)) (drop_all c.loop-i.i c.args.specs.now c.loop-i-test.false))
+    sym (ap (λ (xs : List RefSpec). put_all c.loop-i.texts.keys (flat_map spec_prefixes xs)) (drop_all c.loop-i.i c.args.specs.now c.loop-i-test.false))
     ∙ c.loop-i.invariant

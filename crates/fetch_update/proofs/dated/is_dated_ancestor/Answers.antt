@@ -119,3 +119,21 @@ returns-clause-path g c =
     let none : a.waiting ≡ [] = c.in_default.ensures.popped in
     let other : from ≢ to = λ same. absurd (let found = c.same_id.ensures.1 same in let no = c.if-same_id.false in cc) in
     (λ found. absurd cc, λ path. absurd (no_path graph limit from to a (ended graph limit from to a c.commits.invariant.walk none) c.commits.invariant.walk.start other path))
+
+pub returns-in_err-walk-clause-equal : goal.returns-in_err-walk-clause-equal
+returns-in_err-walk-clause-equal g c = λ same. absurd (let found = c.same_id.ensures.1 same in let no = c.if-same_id.false in cc)
+
+pub returns-in_err-discover-clause-equal : goal.returns-in_err-discover-clause-equal
+returns-in_err-discover-clause-equal g c = λ same. absurd (let found = c.same_id.ensures.1 same in let no = c.if-same_id.false in cc)
+
+pub returns-in_err-expand-clause-equal : goal.returns-in_err-expand-clause-equal
+returns-in_err-expand-clause-equal g c = λ same. absurd (let found = c.same_id.ensures.1 same in let no = c.if-same_id.false in cc)
+
+pub returns-then-branch-clause-equal : goal.returns-then-branch-clause-equal
+returns-then-branch-clause-equal g c = λ same. absurd (let found = c.same_id.ensures.1 same in let no = c.if-same_id.false in cc)
+
+pub returns-clause-equal : goal.returns-clause-equal
+returns-clause-equal g c = λ same. absurd (let found = c.same_id.ensures.1 same in let no = c.if-same_id.false in cc)
+
+pub returns-then-same_id-clause-equal : goal.returns-then-same_id-clause-equal
+returns-then-same_id-clause-equal g c = λ _. omega arith

@@ -1,12 +1,25 @@
-use Rattle.std.proofs.Common.{[], unwrap_or, ap, sym, ◌∙◌}
-use Rattle.std.specs.Prelude.{is_some, List, Option}
+use Rattle.std.proofs.Common.{◌≡◌, ℕ, Bool, true, [], ◌∷◌, length, unwrap_or, refl, ap, sym, ◌∙◌, arith}
+use Rattle.std.specs.Prelude.{◌==◌, is_some, List, Option}
 use Rattle.std.specs.Map.{lookup}
 use Rattle.std.specs.BTreeMap.{is_at}
 use Rattle.fetch_refs.specs.declared.log.LogLine.{LogLine}
 use Rattle.fetch_refs.specs.Names.{Logs, name_cmp}
 use Rattle.fetch_refs.specs.Contents.{names_of, list_of}
+use Rattle.fetch_refs.proofs.Overlays.{lines_gone}
 use Rattle.fetch_refs.proofs.Undoing.{lines_put, lines_undone}
 use Rattle.fetch_refs.proofs.contents.Contents.clear_lines.Goals as goal
+
+none_in : (n : ℕ) (b : Bool) → b ≡ (n == 0) → b ≡ true → n ≡ 0
+none_in n b is so = grind (arith)
+
+nothing : (ls : List LogLine) (b : Bool) → b ≡ (length ls == 0) → b ≡ true → ls ≡ []
+nothing [] b is so = refl
+nothing (l ∷ ls) b is so = absurd (let none = none_in (length (l ∷ ls)) b is so in omega (arith, none))
+
+pub returns-then-is_empty-clause-written : goal.returns-then-is_empty-clause-written
+returns-then-is_empty-clause-written c =
+    ap (λ (m : Logs). record { hash = c.args.self.now.hash; names = names_of c.args.self.now.names.entries; logs = m; packed = list_of c.args.self.now.names.entries })
+    (lines_gone c.args.self.now.logs.entries c.args.name.now (sym c.lines.ensures ∙ nothing c.lines.result.now c.is_empty.result c.is_empty.ensures c.if-is_empty.true))
 
 pub returns-clause-written : goal.returns-clause-written
 returns-clause-written c =

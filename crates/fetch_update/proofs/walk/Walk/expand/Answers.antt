@@ -2,7 +2,7 @@ use Rattle.std.proofs.Common.{◌≡◌, ◌≢◌, true, ◌∷◌, [], length,
 use Rattle.fetch_store.specs.References.{parents_left}
 use Rattle.fetch_update.specs.Dated.{parents_at}
 use Rattle.fetch_update.specs.Walks.{State, state, has, Grows}
-use Rattle.fetch_update.proofs.Expansions.{grows_then, passed_none, one_of, passed_more, passed_all, commit_parents}
+use Rattle.fetch_update.proofs.Expansions.{grows_then, one_of, passed_more, passed_all}
 use Rattle.fetch_update.proofs.walk.Walk.expand.Goals as goal
 
 pub returns-clause-done : goal.returns-clause-done
