@@ -19,6 +19,7 @@ use Rattle.fetch_wire.specs.declared.requests.records.FetchReply.{FetchReply}
 use Rattle.fetch_wire.specs.declared.listings.reference.Ref.{Ref}
 use Rattle.fetch_wire.specs.declared.lines.section.Trouble.{Trouble}
 use Rattle.fetch_wire.specs.Awaited.{step_of, told_at, at_listed}
+use Rattle.fetch_wire.specs.KnownIds.{each_once}
 use Rattle.fetch_wire.specs.FetchReplies.{at_packfile, at_rest, at_beginning, at_acknowledgment, behind_ready, at_change, at_band, by_band, acknowledged_in, shallow_in, unshallow_in, is_acknowledgments, is_nak, is_ready, reply_step, no_reply, with_bytes}
 use Rattle.fetch_wire.specs.Lines.{line_at, line_len}
 use Rattle.fetch_wire.specs.Listings.{if_new, ref_in}
@@ -126,7 +127,7 @@ band_line asked reply lines.End = tt
 
 reply_line : (asked : AskedReply) (part : Part) (reply : FetchReply) (line : Line) → Does replies (reply_step asked part reply line)
 reply_line asked parts.Beginning reply line = does_line replies breaks breaks (at_beginning asked reply) line tt tt (beginning asked reply)
-reply_line asked parts.Acknowledgments reply line = does_line replies (ends (told.Reply (record reply { last = false }))) breaks (at_acknowledgment asked reply) line tt tt (acknowledgment asked reply)
+reply_line asked parts.Acknowledgments reply line = does_line replies (ends (told.Reply (record reply { acknowledged = each_once reply.acknowledged; last = false }))) breaks (at_acknowledgment asked reply) line tt tt (acknowledgment asked reply)
 reply_line asked parts.Ready reply line = ready_line asked reply line
 reply_line asked parts.Rest reply line = does_line replies breaks breaks (at_rest asked reply) line tt tt (rest asked reply)
 reply_line asked parts.ShallowInfo reply line =

@@ -11,8 +11,8 @@ use Rattle.fetch_wire.specs.declared.replies.awaited.Told.{Told}
 use Rattle.fetch_wire.specs.declared.lines.line.Line.{Line}
 use Rattle.fetch_wire.specs.Awaited.{told_at}
 use Rattle.fetch_wire.specs.Written.{line_text, lines_text}
-use Rattle.fetch_conversation.specs.Conversation.{Conversation, ends, asks, sent_in, answer_in, ends_in, awaits_more, IsDue, IsAwaited, after_reply, after_answer, and_then, map_refusal, told_as, beside, Concludes, RefusesWith, IsRefusedBy, Breaks}
-use Rattle.fetch_conversation.proofs.Due.{all_both, all_as, all_behind}
+use Rattle.fetch_conversation.specs.Conversation.{Conversation, ends, asks, sent_in, answer_in, ends_in, awaits_more, IsDue, AllGave, IsAwaited, after_reply, after_answer, and_then, map_refusal, told_as, beside, Concludes, RefusesWith, IsRefusedBy, Breaks}
+use Rattle.fetch_conversation.proofs.Due.{all_both, all_as, all_behind, gave_then, all_gave_then}
 
 abbrev pub sent_behind : {X Y E : Type 0} → ℕ → (X → Conversation Y E) → Result (X × List ℕ) E → List Line
 sent_behind bound f (Ok x) = sent_in bound (f x.0) x.1
@@ -123,31 +123,32 @@ not_answered bound (asks lines awaited failed next) f stream is = nothing_behind
 sent_early : {X Y E : Type 0} (bound : ℕ) (c : Conversation X E) (f : X → Conversation Y E) (stream : List ℕ) → awaits_more bound c stream ≡ true → sent_in bound (and_then c f) stream ≡ sent_in bound c stream
 sent_early bound c f stream is = sent_then bound c f stream ∙ ap (λ (l : List Line). sent_in bound c stream ++ l) (not_answered bound c f stream is) ∙ append-nil (sent_in bound c stream)
 
-due_early : {X Y E : Type 0} (bound : ℕ) (c : Conversation X E) (f : X → Conversation Y E) (pending : List ℕ) (r : Receive) → IsDue bound c pending r → IsDue bound (and_then c f) pending r
+pub due_early : {X Y E : Type 0} (bound : ℕ) (c : Conversation X E) (f : X → Conversation Y E) (pending : List ℕ) (r : Receive) → IsDue bound c pending r → IsDue bound (and_then c f) pending r
 due_early bound c f pending r h = record {
   heard = h.heard ∙ ap lines_text (sym (sent_early bound c f (pending ++ r.given) h.awaited));
   awaited = awaits_early bound c f (pending ++ r.given) h.awaited;
 }
 
 pub awaited_early : {X Y E : Type 0} (bound : ℕ) (old new : Option Talk) (pending : List ℕ) (c : Conversation X E) (f : X → Conversation Y E) → IsAwaited bound old new pending c → IsAwaited bound old new pending (and_then c f)
-awaited_early bound old new pending c f h = record { receives = h.receives; made = h.made; due = all_as (IsDue bound c pending) (IsDue bound (and_then c f) pending) h.receives (due_early bound c f pending) h.due }
+awaited_early bound old new pending c f h = record { receives = h.receives; made = h.made; due = all_as (IsDue bound c pending) (IsDue bound (and_then c f) pending) h.receives (due_early bound c f pending) h.due; gave = h.gave }
 
 -- A receive of the second comes after all that the first was said and heard.
-due_late : {X Y E : Type 0} (bound : ℕ) (pending rest said heard : List ℕ) (c : Conversation X E) (f : X → Conversation Y E) (x : X) → ((more : List ℕ) → lines_text (sent_in bound c (pending ++ (said ++ more))) ≡ heard)
+pub due_late : {X Y E : Type 0} (bound : ℕ) (pending rest said heard : List ℕ) (c : Conversation X E) (f : X → Conversation Y E) (x : X) → ((more : List ℕ) → lines_text (sent_in bound c (pending ++ (said ++ more))) ≡ heard)
     → ((more : List ℕ) → answer_in bound c (pending ++ (said ++ more)) ≡ Ok (x, rest ++ more)) → (r : Receive) → IsDue bound (f x) rest r → IsDue bound (and_then c f) pending (behind heard said r)
 due_late bound pending rest said heard c f x asked answered r h = record {
   heard = ap (λ (l : List ℕ). l ++ r.heard) (sym (asked r.given)) ∙ ap (λ (l : List ℕ). lines_text (sent_in bound c (pending ++ (said ++ r.given))) ++ l) h.heard ∙ sym (text_then bound c f (pending ++ (said ++ r.given)) (rest ++ r.given) x (answered r.given));
   awaited = awaits_late bound c f (pending ++ (said ++ r.given)) x (rest ++ r.given) (answered r.given) ∙ h.awaited;
 }
 
-pub awaited_then : {X Y E : Type 0} (answers : Bool) (bound : ℕ) (old mid new : Option Talk) (pending rest said heard : List ℕ) (c : Conversation X E) (f : X → Conversation Y E) (x : X) → Talks answers old mid heard said
+abbrev pub awaited_then : {X Y E : Type 0} (answers : Bool) (bound : ℕ) (old mid new : Option Talk) (pending rest said heard : List ℕ) (c : Conversation X E) (f : X → Conversation Y E) (x : X) → Talks answers old mid heard said
     → ((more : List ℕ) → lines_text (sent_in bound c (pending ++ (said ++ more))) ≡ heard) → ((more : List ℕ) → answer_in bound c (pending ++ (said ++ more)) ≡ Ok (x, rest ++ more))
-    → IsAwaited bound old mid pending c → IsAwaited bound mid new rest (f x) → IsAwaited bound old new pending (and_then c f)
-awaited_then answers bound old mid new pending rest said heard c f x passed asked answered h k = record {
+    → (h : IsAwaited bound old mid pending c) → AllGave said h.receives → IsAwaited bound mid new rest (f x) → IsAwaited bound old new pending (and_then c f)
+awaited_then answers bound old mid new pending rest said heard c f x passed asked answered h gave k = record {
   receives = h.receives ++ map (behind heard said) k.receives;
   made = Makes-then answers old mid new heard said h.receives k.receives passed h.made k.made;
   due = all_both (IsDue bound (and_then c f) pending) h.receives (map (behind heard said) k.receives) (all_as (IsDue bound c pending) (IsDue bound (and_then c f) pending) h.receives (due_early bound c f pending) h.due)
       (all_behind (IsDue bound (f x) rest) (IsDue bound (and_then c f) pending) heard said k.receives (due_late bound pending rest said heard c f x asked answered) k.due);
+  gave = gave_then heard said h.receives k.receives h.gave gave k.gave;
 }
 
 -- both to their ends
@@ -157,7 +158,8 @@ concludes_then answers bound old mid new pending rest left c f x y h k = record 
   said = h.said ++ k.said;
   heard = h.heard ++ k.heard;
   passed = Talks-then answers old mid new h.heard h.said k.heard k.said h.passed k.passed;
-  needed = awaited_then answers bound old mid new pending rest h.said h.heard c f x h.passed h.asked h.answered h.needed k.needed;
+  needed = awaited_then answers bound old mid new pending rest h.said h.heard c f x h.passed h.asked h.answered h.needed h.gave k.needed;
+  gave = all_gave_then h.heard h.said k.said h.needed.receives k.needed.receives h.gave k.gave;
   asked = λ more. rw append_assoc (text_then bound c f _ _ x (h.answered (k.said ++ more)) ∙ ap (λ (l : List ℕ). l ++ _) (h.asked (k.said ++ more)) ∙ ap (λ (l : List ℕ). h.heard ++ l) (k.asked more));
   answered = λ more. rw append_assoc (answer_then bound c f _ ∙ ap (answer_behind bound f) (h.answered (k.said ++ more)) ∙ k.answered more);
 }
@@ -180,15 +182,16 @@ late_by bound now pending rest said heard said' heard' c f x e asked answered (i
 late_by bound now pending rest said heard said' heard' c f x e asked answered (inr last) = inr (last.0, late_with bound pending rest said heard said' heard' c f x e asked answered last.1)
 
 -- the first to its end, and the second broken off
-pub breaks_late : {X Y E : Type 0} (free : E → Bool) (answers : Bool) (bound : ℕ) (old mid new : Option Talk) (pending rest : List ℕ) (c : Conversation X E) (f : X → Conversation Y E) (x : X) (e : E)
-    → Concludes answers bound old mid pending c x rest → Breaks free answers bound mid new rest (f x) e → Breaks free answers bound old new pending (and_then c f) e
-breaks_late free answers bound old mid new pending rest c f x e h k = record {
+pub breaks_late : {X Y E : Type 0} (free stopped : E → Bool) (answers : Bool) (bound : ℕ) (old mid new : Option Talk) (pending rest : List ℕ) (c : Conversation X E) (f : X → Conversation Y E) (x : X) (e : E)
+    → Concludes answers bound old mid pending c x rest → Breaks free stopped answers bound mid new rest (f x) e → Breaks free stopped answers bound old new pending (and_then c f) e
+breaks_late free stopped answers bound old mid new pending rest c f x e h k = record {
   said = h.said ++ k.said;
   heard = h.heard ++ k.heard;
   passed = Talks-then answers old mid new h.heard h.said k.heard k.said h.passed k.passed;
-  needed = awaited_then answers bound old mid new pending rest h.said h.heard c f x h.passed h.asked h.answered h.needed k.needed;
+  needed = awaited_then answers bound old mid new pending rest h.said h.heard c f x h.passed h.asked h.answered h.needed h.gave k.needed;
   front = (k.front.0, text_then bound c f _ _ x (h.answered k.said) ∙ ap (λ (l : List ℕ). l ++ _) (h.asked k.said) ∙ ap (λ (l : List ℕ). h.heard ++ l) k.front.1 ∙ sym (append_assoc h.heard k.heard k.front.0));
   why = λ bound_to. late_by bound new pending rest h.said h.heard k.said k.heard c f x e h.asked h.answered (k.why bound_to);
+  due = λ is. due_late bound pending rest h.said h.heard c f x h.asked h.answered (record { heard = k.heard; given = k.said }) (k.due is);
 }
 
 early_with : {X Y E : Type 0} (bound : ℕ) (stream heard : List ℕ) (c : Conversation X E) (f : X → Conversation Y E) (e : E) → RefusesWith bound c stream heard e → RefusesWith bound (and_then c f) stream heard e
@@ -202,15 +205,16 @@ early_by bound now stream heard c f e (inl all) = inl (λ more. early_with bound
 early_by bound now stream heard c f e (inr last) = inr (last.0, early_with bound stream heard c f e last.1)
 
 -- the first broken off
-pub breaks_early : {X Y E : Type 0} (free : E → Bool) (answers : Bool) (bound : ℕ) (old new : Option Talk) (pending : List ℕ) (c : Conversation X E) (f : X → Conversation Y E) (e : E)
-    → Breaks free answers bound old new pending c e → Breaks free answers bound old new pending (and_then c f) e
-breaks_early free answers bound old new pending c f e h = record {
+pub breaks_early : {X Y E : Type 0} (free stopped : E → Bool) (answers : Bool) (bound : ℕ) (old new : Option Talk) (pending : List ℕ) (c : Conversation X E) (f : X → Conversation Y E) (e : E)
+    → Breaks free stopped answers bound old new pending c e → Breaks free stopped answers bound old new pending (and_then c f) e
+breaks_early free stopped answers bound old new pending c f e h = record {
   said = h.said;
   heard = h.heard;
   passed = h.passed;
   needed = awaited_early bound old new pending c f h.needed;
   front = front_then bound c f _ h.heard h.front;
   why = λ bound_to. early_by bound new _ h.heard c f e (h.why bound_to);
+  due = λ is. due_early bound c f pending (record { heard = h.heard; given = h.said }) (h.due is);
 }
 
 sent_asking_as : {X E F : Type 0} (bound : ℕ) (g : E → F) (next : Told → Conversation X E) (reading : Result (Told × List ℕ) Fault)
@@ -224,11 +228,11 @@ unfolding sent_in told_as
 sent_as bound g (ends answer) stream = refl
 sent_as bound g (asks lines awaited failed next) stream = ap (λ (l : List Line). lines ++ l) (sent_asking_as bound g next (told_at bound awaited stream) (λ told rest. sent_as bound g (next told) rest))
 
-due_as : {X E F : Type 0} (bound : ℕ) (g : E → F) (c : Conversation X E) (pending : List ℕ) (r : Receive) → IsDue bound c pending r → IsDue bound (told_as g c) pending r
+pub due_as : {X E F : Type 0} (bound : ℕ) (g : E → F) (c : Conversation X E) (pending : List ℕ) (r : Receive) → IsDue bound c pending r → IsDue bound (told_as g c) pending r
 due_as bound g c pending r h = record { heard = h.heard ∙ ap lines_text (sym (sent_as bound g c (pending ++ r.given))); awaited = awaits_as bound g c (pending ++ r.given) h.awaited }
 
-pub awaited_as : {X E F : Type 0} (bound : ℕ) (old new : Option Talk) (pending : List ℕ) (g : E → F) (c : Conversation X E) → IsAwaited bound old new pending c → IsAwaited bound old new pending (told_as g c)
-awaited_as bound old new pending g c h = record { receives = h.receives; made = h.made; due = all_as (IsDue bound c pending) (IsDue bound (told_as g c) pending) h.receives (due_as bound g c pending) h.due }
+abbrev pub awaited_as : {X E F : Type 0} (bound : ℕ) (old new : Option Talk) (pending : List ℕ) (g : E → F) (c : Conversation X E) → IsAwaited bound old new pending c → IsAwaited bound old new pending (told_as g c)
+awaited_as bound old new pending g c h = record { receives = h.receives; made = h.made; due = all_as (IsDue bound c pending) (IsDue bound (told_as g c) pending) h.receives (due_as bound g c pending) h.due; gave = h.gave }
 
 end_as : {X E F : Type 0} (g : E → F) (answer : Result X E) (stream : List ℕ) → beside stream (map_refusal g answer) ≡ map_refusal g (beside stream answer)
 end_as g (Ok x) stream = refl
@@ -252,6 +256,7 @@ concludes_as answers bound old new pending rest g c x h = record {
   heard = h.heard;
   passed = h.passed;
   needed = awaited_as bound old new pending g c h.needed;
+  gave = h.gave;
   asked = λ more. ap lines_text (sent_as bound g c _) ∙ h.asked more;
   answered = λ more. answer_as bound g c _ ∙ ap (map_refusal g) (h.answered more);
 }
@@ -266,13 +271,14 @@ as_by : {X E F : Type 0} (bound : ℕ) (now : Option Talk) (stream heard : List 
 as_by bound now stream heard g c e (inl all) = inl (λ more. as_with bound (stream ++ more) heard g c e (all more))
 as_by bound now stream heard g c e (inr last) = inr (last.0, as_with bound stream heard g c e last.1)
 
-pub breaks_as : {X E F : Type 0} (free : E → Bool) (free' : F → Bool) (answers : Bool) (bound : ℕ) (old new : Option Talk) (pending : List ℕ) (g : E → F) (c : Conversation X E) (e : E)
-    → (free' (g e) ≡ false → free e ≡ false) → Breaks free answers bound old new pending c e → Breaks free' answers bound old new pending (told_as g c) (g e)
-breaks_as free free' answers bound old new pending g c e same h = record {
+pub breaks_as : {X E F : Type 0} (free stopped : E → Bool) (free' stopped' : F → Bool) (answers : Bool) (bound : ℕ) (old new : Option Talk) (pending : List ℕ) (g : E → F) (c : Conversation X E) (e : E)
+    → (free' (g e) ≡ false → free e ≡ false) → (stopped' (g e) ≡ true → stopped e ≡ true) → Breaks free stopped answers bound old new pending c e → Breaks free' stopped' answers bound old new pending (told_as g c) (g e)
+breaks_as free stopped free' stopped' answers bound old new pending g c e same stops h = record {
   said = h.said;
   heard = h.heard;
   passed = h.passed;
   needed = awaited_as bound old new pending g c h.needed;
   front = (h.front.0, ap lines_text (sent_as bound g c _) ∙ h.front.1);
   why = λ bound_to. as_by bound new _ h.heard g c e (h.why (same bound_to));
+  due = λ is. due_as bound g c pending (record { heard = h.heard; given = h.said }) (h.due (stops is));
 }

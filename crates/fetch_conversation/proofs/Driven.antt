@@ -1,5 +1,5 @@
 -- A session goes on, step by step.
-use Rattle.std.proofs.Common.{◌≡◌, ◌≢◌, ℕ, Bool, true, false, List, [], ◌∷◌, ◌++◌, length, Option, Some, None, Result, Ok, Err, refl, sym, ap, ◌∙◌, subst, append_assoc, inl, inr}
+use Rattle.std.proofs.Common.{◌≡◌, ◌≢◌, ◌<◌, ℕ, Bool, true, false, List, [], ◌∷◌, ◌++◌, length, Option, Some, None, Result, Ok, Err, refl, sym, ap, ◌∙◌, subst, append_assoc, inl, inr}
 use Rattle.std.specs.Prelude.{is_some, map, ◌⊎◌, ◌||◌, ◌==◌}
 use Rattle.std.specs.List.{AllByRecursion}
 use Rattle.std.proofs.lemmas.Bool.{eqb-true}
@@ -12,7 +12,6 @@ use Rattle.fetch_wire.specs.declared.error.WireError.{WireError}
 use Rattle.fetch_wire.specs.declared.error.WireError.TheVariants as wire
 use Rattle.fetch_wire.specs.declared.greetings.handshake.Handshake.{Handshake}
 use Rattle.fetch_wire.specs.declared.lines.line.Line.{Line}
-use Rattle.fetch_wire.specs.declared.replies.reading.Reading.{Reading}
 use Rattle.fetch_wire.specs.declared.session.turn.Turn.TheVariants as turns
 use Rattle.fetch_wire.specs.Greetings.{offers}
 use Rattle.fetch_wire.specs.Intakes.{Intake, told_with, taking}
@@ -23,46 +22,16 @@ use Rattle.fetch_wire.specs.SessionStates.{SessionState, IsAlike, fed, ended, af
 use Rattle.fetch_wire.specs.Talks.{Talk, Talks, Receive, Makes, behind, at_once, IsDrained, IsFront, Talks-then, Talks-none, Talks-stay, Makes-none, Makes-then}
 use Rattle.fetch_wire.specs.Written.{first_too_long}
 use Rattle.fetch_wire.proofs.Conversing.{same, fed_is}
-use Rattle.fetch_wire.proofs.SessionAlike.{stays_alike}
+use Rattle.fetch_wire.proofs.SessionAlike.{stays_alike, alike_then}
 use Rattle.fetch_wire.proofs.SessionPieces.{pieces, stuck}
 use Rattle.fetch_conversation.specs.Drives.{IsDrivable, IsWaiting, IsItsTurn, IsFed, with_heard, GoesOn, Finishes, Refuses, Explains, Stops, IsUnsent, Takes, made_by}
 use Rattle.fetch_conversation.specs.declared.drive.Stop.{Stop}
 use Rattle.fetch_conversation.specs.declared.drive.Stop.TheVariants as stops
-use Rattle.fetch_conversation.proofs.Due.{all_both}
+use Rattle.fetch_conversation.specs.Conversation.{AllButLastGave, AllGave}
+use Rattle.fetch_conversation.proofs.Due.{all_both, gave_then, all_gave_then}
 use Rattle.fetch_conversation.proofs.Sending.{heard_stays}
 
 -- ---- sessions that are alike
-
-intakes_then : (a b c : Intake) → intakes.IsAlike a b → intakes.IsAlike b c → intakes.IsAlike a c
-intakes_then a b c h k = record {
-  bound = h.bound ∙ k.bound;
-  told = λ more. h.told more ∙ k.told more;
-  resting = λ none. h.resting none ∙ k.resting (ap (λ (i : Intake). i.reading) (sym (h.resting none)) ∙ none);
-}
-
-pub alike_then : (a b c : SessionState) → IsAlike a b → IsAlike b c → IsAlike a c
-alike_then a b c h k = record {
-  intake = intakes_then a.intake b.intake c.intake h.intake k.intake;
-  others = ap (λ (s : SessionState). record s { intake = c.intake }) h.others ∙ k.others;
-}
-
-not_both : (a b : Intake) (r : Reading) → a.reading ≡ Some r → b.reading ≡ None → told_with a [] ≡ told_with b [] → ⊥
-not_both a b r some none same = absurd (cc)
-
-intakes_back : (a b : Intake) (reading : Option Reading) → a.reading ≡ reading → intakes.IsAlike a b → b.reading ≡ None → b ≡ a
-intakes_back a b None is h none = sym (h.resting is)
-intakes_back a b (Some r) is h none = absurd (not_both a b r is none (h.told []))
-
--- sessions that are alike are so either way
-pub alike_back : (a b : SessionState) → IsAlike a b → IsAlike b a
-alike_back a b h = record {
-  intake = record {
-    bound = sym h.intake.bound;
-    told = λ more. sym (h.intake.told more);
-    resting = λ none. intakes_back a.intake b.intake a.intake.reading refl h.intake none;
-  };
-  others = ap (λ (s : SessionState). record s { intake = a.intake }) (sym h.others);
-}
 
 alike_heard : (heard : List ℕ) (a b : SessionState) → IsAlike a b → IsAlike (with_heard heard a) (with_heard heard b)
 alike_heard heard a b h = record {
@@ -163,28 +132,34 @@ waits_behind heard a b h w = waits_alike (with_heard heard a) b h (record { well
 -- ---- receives
 
 -- none was made
-fed_none : (old : Option Talk) (s : SessionState) → IsFed old old s
-fed_none old s = record { receives = []; made = Makes-none old; turns = tt }
+abbrev fed_none : (old : Option Talk) (s : SessionState) → IsFed old old s
+fed_none old s = record { receives = []; made = Makes-none old; turns = tt; gave = tt }
 
 -- these more were made
-fed_then : (answers : Bool) (old mid new : Option Talk) (s : SessionState) (heard said : List ℕ) (receives : List Receive) → Talks answers old mid heard said → IsFed old mid s → Makes mid new receives
-    → AllByRecursion (IsItsTurn s) (map (behind heard said) receives) → IsFed old new s
-fed_then answers old mid new s heard said receives talk h made turns = record {
+abbrev fed_then : (answers : Bool) (old mid new : Option Talk) (s : SessionState) (heard said : List ℕ) (receives : List Receive) → Talks answers old mid heard said → (h : IsFed old mid s) → AllGave said h.receives → Makes mid new receives
+    → AllByRecursion (IsItsTurn s) (map (behind heard said) receives) → AllButLastGave receives → IsFed old new s
+fed_then answers old mid new s heard said receives talk h all made turns gave = record {
   receives = h.receives ++ map (behind heard said) receives;
   made = Makes-then answers old mid new heard said h.receives receives talk h.made made;
   turns = all_both (IsItsTurn s) h.receives (map (behind heard said) receives) h.turns turns;
+  gave = gave_then heard said h.receives receives h.gave all gave;
 }
 
 -- none more
-fed_still : (answers : Bool) (old mid new : Option Talk) (s now : SessionState) → GoesOn answers old mid s now → Makes mid new [] → IsFed old new s
-fed_still answers old mid new s now h made = fed_then answers old mid new s h.heard h.said [] h.passed h.awaited made tt
+abbrev fed_still : (answers : Bool) (old mid new : Option Talk) (s now : SessionState) → GoesOn answers old mid s now → Makes mid new [] → IsFed old new s
+fed_still answers old mid new s now h made = fed_then answers old mid new s h.heard h.said [] h.passed h.awaited h.gave made tt tt
 
 -- one more, where all was sent and a reply is awaited
-fed_more : (answers : Bool) (old mid new : Option Talk) (s now : SessionState) → GoesOn answers old mid s now → now.outgoing ≡ [] → IsWaiting now → Makes mid new (at_once ∷ []) → IsFed old new s
+abbrev fed_more : (answers : Bool) (old mid new : Option Talk) (s now : SessionState) → GoesOn answers old mid s now → now.outgoing ≡ [] → IsWaiting now → Makes mid new (at_once ∷ []) → IsFed old new s
 fed_more answers old mid new s now h sent waits made =
     let heard : h.heard ++ [] ≡ (fed s h.said).outgoing = ap (λ (l : List ℕ). h.heard ++ l) (sym sent) ∙ same_outgoing (with_heard h.heard now) (fed s h.said) h.is in
     let turn : IsItsTurn s (behind h.heard h.said at_once) = subst (λ (l : List ℕ). IsItsTurn s (record { heard = h.heard ++ []; given = l })) (sym (append-nil h.said)) (record { heard = heard; waits = waits_behind h.heard now (fed s h.said) h.is waits }) in
-    fed_then answers old mid new s h.heard h.said (at_once ∷ []) h.passed h.awaited made (turn, tt)
+    fed_then answers old mid new s h.heard h.said (at_once ∷ []) h.passed h.awaited h.gave made (turn, tt) tt
+
+-- and it gave these bytes
+gave_one : (answers : Bool) (old mid : Option Talk) (s now : SessionState) (piece : List ℕ) → (h : GoesOn answers old mid s now) → 0 < length piece → AllGave (h.said ++ piece) (h.awaited.receives ++ map (behind h.heard h.said) (at_once ∷ []))
+gave_one answers old mid s now piece h some =
+    all_gave_then h.heard h.said piece h.awaited.receives (at_once ∷ []) h.gave (some, tt)
 
 -- ---- steps
 
@@ -194,6 +169,7 @@ goes_none answers old s h = record {
   said = [];
   passed = Talks-none answers old;
   awaited = fed_none old s;
+  gave = tt;
   is = h.read;
 }
 
@@ -204,6 +180,7 @@ goes_sent answers old mid new s now h talk made = record {
   said = h.said;
   passed = subst (Talks answers old new (h.heard ++ now.outgoing)) (append-nil h.said) (Talks-then answers old mid new h.heard h.said now.outgoing [] h.passed talk);
   awaited = fed_still answers old mid new s now h made;
+  gave = all_both (λ (r : Receive). length r.given < length h.said) h.awaited.receives [] h.gave tt;
   is = subst (λ (l : List ℕ). IsAlike (record now { outgoing = l }) (fed s h.said)) (sym (append-nil (h.heard ++ now.outgoing))) h.is;
 }
 
@@ -214,12 +191,14 @@ heard_fed s now next heard said piece h is =
     subst (λ (x : SessionState). IsAlike (with_heard heard next) x) (pieces s said piece s.trouble refl) (alike_then (with_heard heard next) (fed (with_heard heard now) piece) (fed (fed s said) piece) first second)
 
 -- a piece was fed
-goes_fed : (answers : Bool) (old mid new : Option Talk) (s now next : SessionState) (piece : List ℕ) → GoesOn answers old mid s now → IsFed old new s → Talks false mid new [] piece → IsAlike next (fed now piece) → GoesOn answers old new s next
-goes_fed answers old mid new s now next piece h awaited talk is = record {
+goes_fed : (answers : Bool) (old mid new : Option Talk) (s now next : SessionState) (piece : List ℕ) → (h : GoesOn answers old mid s now) → (awaited : IsFed old new s) → AllGave (h.said ++ piece) awaited.receives → Talks false mid new [] piece → IsAlike next (fed now piece)
+    → GoesOn answers old new s next
+goes_fed answers old mid new s now next piece h awaited gave talk is = record {
   heard = h.heard;
   said = h.said ++ piece;
   passed = subst (λ (l : List ℕ). Talks answers old new l (h.said ++ piece)) (append-nil h.heard) (Talks-then answers old mid new h.heard h.said [] piece h.passed (Talks-stay answers mid new [] piece talk));
   awaited = awaited;
+  gave = gave;
   is = heard_fed s now next h.heard h.said piece h.is is;
 }
 
@@ -241,10 +220,6 @@ stops_sending answers old mid new s now front e h is talk made free = record {
   why = unsent_explains new (h.heard ++ front) (fed s h.said) e free;
 }
 
--- no call
-pub stops_free : (answers : Bool) (old new : Option Talk) (s now : SessionState) (e : Stop) → GoesOn answers old new s now → IsUnsent e → Stops answers old new s e
-stops_free answers old new s now e h free = stops_sending answers old new new s now [] e h (now.outgoing, refl) (Talks-none answers new) (Makes-none new) free
-
 behind_refuses : (now : Option Talk) (heard : List ℕ) (a : SessionState) (e : WireError) → Refuses now a e → Refuses now (with_heard heard a) e
 behind_refuses now heard a e (inl is) = inl is
 behind_refuses now heard a e (inr x) = inr (x.0, x.1, end_is (with_heard heard a) ∙ sym (end_is a) ∙ x.2)
@@ -254,7 +229,7 @@ explains_behind now heard a b (stops.Refused w) h why = λ isnt.
     let x = why isnt in
     (sym (append-nil heard) ∙ ap (λ (l : List ℕ). heard ++ l) x.0 ∙ same_outgoing (with_heard heard a) b h, same_refusal now (with_heard heard a) b w h (behind_refuses now heard a w x.1))
 explains_behind now heard a b stops.Failed h why = tt
-explains_behind now heard a b stops.Interrupted h why = tt
+explains_behind now heard a b stops.Interrupted h why = (sym (append-nil heard) ∙ ap (λ (l : List ℕ). heard ++ l) why.0 ∙ same_outgoing (with_heard heard a) b h, waits_behind heard a b h why.1)
 
 stops_at : (answers : Bool) (old new : Option Talk) (s a : SessionState) (heard said : List ℕ) (e : Stop) → Talks answers old new heard said → IsFed old new s → IsAlike (with_heard heard a) (fed s said) → Explains new [] a e → Stops answers old new s e
 stops_at answers old new s a heard said e talk awaited h why = record {
@@ -268,8 +243,8 @@ stops_at answers old new s a heard said e talk awaited h why = record {
 
 stops_said : (answers : Bool) (old mid new : Option Talk) (s now : SessionState) (piece : List ℕ) (e : Stop) → GoesOn answers old mid s now → IsFed old new s → Talks false mid new [] piece → (Explains new [] (fed now piece) e ⊎ ((piece ≡ []) × Explains new [] now e)) → Stops answers old new s e
 stops_said answers old mid new s now piece e h awaited talk (inl why) =
-    let next : GoesOn answers old new s (fed now piece) = goes_fed answers old mid new s now (fed now piece) piece h awaited talk (same (fed now piece)) in
-    stops_at answers old new s (fed now piece) next.heard next.said e next.passed next.awaited next.is why
+    let passed : Talks answers old new h.heard (h.said ++ piece) = subst (λ (l : List ℕ). Talks answers old new l (h.said ++ piece)) (append-nil h.heard) (Talks-then answers old mid new h.heard h.said [] piece h.passed (Talks-stay answers mid new [] piece talk)) in
+    stops_at answers old new s (fed now piece) h.heard (h.said ++ piece) e passed awaited (heard_fed s now (fed now piece) h.heard h.said piece h.is (same (fed now piece))) why
 stops_said answers old mid new s now piece e h awaited talk (inr x) =
     let passed : Talks answers old new (h.heard ++ []) (h.said ++ piece) = Talks-then answers old mid new h.heard h.said [] piece h.passed (Talks-stay answers mid new [] piece talk) in
     let same_said : h.said ++ piece ≡ h.said = ap (λ (l : List ℕ). h.said ++ l) x.0 ∙ append-nil h.said in
@@ -320,7 +295,7 @@ well_by s None false awaits is sent reads = (λ t. absurd (cc), λ t. absurd (cc
 well_by s None true true is sent reads = (λ t. record { sent = no_bytes s.outgoing sent; trouble = sym (told_true s.refused s.trouble) ∙ ap (λ (b : Bool). if_told (s.refused || b) s.trouble) (sym sent) ∙ is; awaited = reads }, λ t. absurd (cc))
 well_by s None true false is sent reads = (λ t. absurd (cc), λ t. record { sent = no_bytes s.outgoing sent; trouble = sym (told_true s.refused s.trouble) ∙ ap (λ (b : Bool). if_told (s.refused || b) s.trouble) (sym sent) ∙ is; awaited = reads })
 
-receiving : (s : SessionState) → turn_of s ≡ turns.Receive → IsWell s true
+pub receiving : (s : SessionState) → turn_of s ≡ turns.Receive → IsWell s true
 receiving s is = (well_by s (refusal_of s) (is_all_sent s) (is_some s.intake.reading) refl refl refl).0 is
 
 -- a reply is awaited that isn't whole yet
@@ -328,9 +303,9 @@ waiting : (s : SessionState) → turn_of s ≡ turns.Receive → IsAwaiting s �
 waiting s turn short = record { well = (receiving s turn).trouble; short = short }
 
 -- a piece was received in its turn
-pub goes_received : (answers : Bool) (old mid new : Option Talk) (s now next : SessionState) → GoesOn answers old mid s now → turn_of now ≡ turns.Receive → IsAwaiting now → ((piece : List ℕ) × Talks false mid new [] piece × IsAlike next (fed now piece)) → Makes mid new (at_once ∷ [])
-    → GoesOn answers old new s next
-goes_received answers old mid new s now next h turn short took made = goes_fed answers old mid new s now next took.0 h (fed_more answers old mid new s now h (receiving now turn).sent (waiting now turn short) made) took.1 took.2
+pub goes_received : (answers : Bool) (old mid new : Option Talk) (s now next : SessionState) → GoesOn answers old mid s now → turn_of now ≡ turns.Receive → IsAwaiting now → Takes {T = Unit {0}} mid new now next (Ok tt) → Makes mid new (at_once ∷ []) → GoesOn answers old new s next
+goes_received answers old mid new s now next h turn short took made =
+    goes_fed answers old mid new s now next took.0 h (fed_more answers old mid new s now h (receiving now turn).sent (waiting now turn short) made) (gave_one answers old mid s now took.0 h took.1) took.2 took.3
 
 fed_by_stop : (T : Type 0) (answers : Bool) (old mid new : Option Talk) (s now : SessionState) (e : Stop) → GoesOn answers old mid s now → turn_of now ≡ turns.Receive → IsAwaiting now → Makes mid new (made_by {T = T} (Err e)) → IsFed old new s
 fed_by_stop T answers old mid new s now (stops.Refused e) h turn short made = fed_more answers old mid new s now h (receiving now turn).sent (waiting now turn short) made
@@ -345,6 +320,29 @@ stops_in_turn T answers old mid new s now next e h turn short took made = stops_
 pub resting : (s : SessionState) → turn_of s ≡ turns.Idle → IsWell s false
 resting s is = (well_by s (refusal_of s) (is_all_sent s) (is_some s.intake.reading) refl refl refl).1 is
 
+-- something is to be sent
+sends_some : (refusal : Option WireError) (outgoing : List ℕ) (awaits : Bool) → turn_by refusal (length outgoing == 0) awaits ≡ turns.Send → outgoing ≡ [] → ⊥
+sends_some (Some e) outgoing awaits is none = absurd (cc)
+sends_some None outgoing true is none = absurd (let told = rw none at is in cc)
+sends_some None outgoing false is none = absurd (let told = rw none at is in cc)
+
+pub sending_some : (s : SessionState) → turn_of s ≡ turns.Send → s.outgoing ≢ []
+sending_some s turn = sends_some (refusal_of s) s.outgoing (is_some s.intake.reading) turn
+
+stays_troubled : (s : SessionState) (e : WireError) (trouble : Option WireError) (found : Option (Result (Told × List ℕ) Fault)) → s.trouble ≡ trouble → trouble ≡ Some e → (after_end s trouble found).trouble ≢ None
+stays_troubled s e (Some f) found is some = λ none. absurd (cc)
+stays_troubled s e None found is some = absurd (cc)
+
+told_trouble : (b : Bool) (trouble : Option WireError) (e : WireError) → if_told b trouble ≡ Some e → trouble ≡ Some e
+told_trouble true trouble e is = is
+told_trouble false trouble e is = absurd (cc)
+
+-- a refusal stands at the end
+pub failed_end : (s : SessionState) → turn_of s ≡ turns.Failed → (ended s).trouble ≢ None
+failed_end s turn =
+    let failed = failed_by (refusal_of s) (is_all_sent s) (is_some s.intake.reading) turn in
+    stays_troubled s failed.0 s.trouble (told_with s.intake []) refl (told_trouble (s.refused || is_all_sent s) s.trouble failed.0 failed.1)
+
 -- ---- what a call answers
 
 -- an error but out of memory is the refusal
@@ -356,6 +354,20 @@ refuses_with refusal (wire.LineTooLong n) h other = h
 refuses_with refusal (wire.MissingFeature name) h other = h
 refuses_with refusal (wire.BadParameter text place) h other = h
 refuses_with refusal wire.NoMemory h other = absurd (other refl)
+
+-- a yes before a receive
+pub takes_yes : (now : Option Talk) (s : SessionState) → turn_of s ≡ turns.Receive → IsAwaiting s → Explains now [] s stops.Interrupted
+takes_yes now s turn short = (sym (receiving s turn).sent, waiting s turn short)
+
+unrefused_by : (refusal : Option WireError) (all_sent awaits : Bool) → turn_by refusal all_sent awaits ≡ turns.Receive → refusal ≡ None
+unrefused_by None all_sent awaits is = refl
+unrefused_by (Some e) all_sent awaits is = absurd (cc)
+
+-- a session refuses once what came was refused
+pub fed_troubled : (s now : SessionState) (f : WireError) → turn_of s ≡ turns.Receive → (refusal_of s ≡ None → refusal_of now ≡ Some f) → now.trouble ≢ None
+fed_troubled s now f turn stands =
+    let some = told_trouble (now.refused || is_all_sent now) now.trouble f (stands (unrefused_by (refusal_of s) (is_all_sent s) (is_some s.intake.reading) turn)) in
+    λ none. absurd (cc)
 
 -- what came was refused
 pub takes_refusal : (now : Option Talk) (s : SessionState) (piece : List ℕ) (f : WireError) → s.refused ≡ false → RefusesUnless {X = Unit {0}} is_memory (refusal_of (fed s piece)) (Err f) → Explains now [] (fed s piece) (stops.Refused f)
@@ -377,6 +389,13 @@ takes_end now s f turn short drained h = λ other.
     let end = end_at s short.0 s.trouble (told_with s.intake []) well.trouble short.1 in
     let is = refuses_f (wire.Malformed short.0) f (refusal_of (ended s)) end.0 h other in
     (sym well.sent, inr (drained, well.trouble, end.1 ∙ ap (λ (e : WireError). Some e) (sym is)))
+
+-- and once the end was told
+pub end_troubled : (s now : SessionState) → turn_of s ≡ turns.Receive → IsAwaiting s → now ≡ ended s → now.trouble ≢ None
+end_troubled s now turn short is =
+    let some = (end_at s short.0 s.trouble (told_with s.intake []) (receiving s turn).trouble short.1).1 in
+    let same = ap (λ (t : SessionState). t.trouble) is in
+    λ none. absurd (cc)
 
 no_answer : (e : WireError) (refusal : Option WireError) → refusal ≡ Some e → refusal ≡ None → ⊥
 no_answer e refusal is none = absurd (cc)

@@ -23,12 +23,12 @@ use Rattle.fetch_wire.specs.SessionStates.{SessionState, IsAlike, fed, requested
 use Rattle.fetch_wire.specs.SessionStates as session
 use Rattle.fetch_wire.specs.Talks.{Talk}
 use Rattle.fetch_wire.specs.Written.{lines_text, first_too_long, TellsTooLong}
-use Rattle.fetch_wire.proofs.SessionAlike.{stays_alike}
+use Rattle.fetch_wire.proofs.SessionAlike.{stays_alike, alike_then, alike_back}
 use Rattle.fetch_negotiate.specs.Requests.{fetch_request}
 use Rattle.fetch_conversation.specs.Conversation.{Conversation, ends, asks, sent_in, answer_in, RefusesWith, Converses}
 use Rattle.fetch_conversation.specs.Conversing.{found_in, IsAsked}
 use Rattle.fetch_conversation.specs.Drives.{IsDrivable, Finishes, Stops}
-use Rattle.fetch_conversation.specs.Errors.{is_free_receiving, fetch_of_wire, fetch_of_stop}
+use Rattle.fetch_conversation.specs.Errors.{is_free_receiving, is_stopped, fetch_of_wire, fetch_of_stop}
 use Rattle.fetch_conversation.specs.Exchange.{TermsValue, asked_by, too_long, failed, replied, reply_to, other_reply, exchange}
 use Rattle.fetch_conversation.specs.ListStage.{IsReady, shown}
 use Rattle.fetch_conversation.specs.declared.drive.Stop.{Stop}
@@ -37,12 +37,13 @@ use Rattle.fetch_conversation.specs.declared.fetch.Error.{Error}
 use Rattle.fetch_conversation.specs.declared.fetch.Error.TheVariants as errors
 use Rattle.fetch_conversation.specs.declared.listing.Listed.{Listed}
 use Rattle.fetch_conversation.proofs.AwaitedTold.{TellsReply, reply_tells}
-use Rattle.fetch_conversation.proofs.Driven.{resting, alike_then, alike_back, told_refused, finished_unrefused}
+use Rattle.fetch_conversation.proofs.Driven.{resting, told_refused, finished_unrefused}
 use Rattle.fetch_conversation.proofs.Replied.{finding, question, tied, requested_read, fed_requested, asking_state, reply_state}
+use Rattle.fetch_conversation.proofs.Heeded.{fetches}
 use Rattle.fetch_conversation.proofs.Tied.{IsTied, IsWord, concluded, refused_at_end, broken, broken_first, tied_alike}
 
 abbrev pub Exchanges : Bool → ℕ → Option Talk → Option Talk → List ℕ → List ℕ → TermsValue → List ObjectId → Bool → Result FetchReply Error → Type 0
-Exchanges answers bound old new pending rest t haves done result = Converses is_free_receiving answers bound old new pending rest (exchange bound t haves done) result
+Exchanges answers bound old new pending rest t haves done result = Converses is_free_receiving is_stopped answers bound old new pending rest (exchange bound t haves done) result
 
 -- ---- a line that is too long
 
@@ -67,7 +68,7 @@ refusing bound c e stream is = rw is (record { answer = refl; asked = refl })
 pub exchange_long : (answers : Bool) (bound : ℕ) (old : Option Talk) (pending rest : List ℕ) (t : TermsValue) (haves : List ObjectId) (done : Bool) (e : WireError) → TellsTooLong (first_too_long (fetch_request (asked_by t) haves done)) e
     → Exchanges answers bound old old pending rest t haves done (Err (fetch_of_wire e))
 exchange_long answers bound old pending rest t haves done e h = record {
-  held = broken_first is_free_receiving answers bound old pending (exchange bound t haves done) (fetch_of_wire e) (λ isnt stream. refusing bound (exchange bound t haves done) (fetch_of_wire e) stream (long_is bound t haves done e h isnt));
+  held = broken_first is_free_receiving is_stopped answers bound old pending (exchange bound t haves done) (fetch_of_wire e) (sym (fetches e)) (λ isnt stream. refusing bound (exchange bound t haves done) (fetch_of_wire e) stream (long_is bound t haves done e h isnt));
 }
 
 -- ---- a request that was given to a session
@@ -127,26 +128,26 @@ word_by (wire.MissingFeature name) isnt = (λ e. cc, refl)
 word_by (wire.LineTooLong n) isnt = (λ e. cc, refl)
 word_by (wire.BadParameter text place) isnt = (λ e. cc, refl)
 
-word_is : (stop : Stop) → IsWord is_free_receiving errors.Fetch stop (fetch_of_stop stop)
-word_is (stops.Refused e) = word_by e
-word_is stops.Failed = refl
+word_is : (stop : Stop) → IsWord is_free_receiving is_stopped errors.Fetch stop (fetch_of_stop stop)
+word_is (stops.Refused e) = (word_by e, sym (fetches e))
+word_is stops.Failed = (refl, refl)
 word_is stops.Interrupted = refl
 
 pub exchange_stopped : (answers : Bool) (bound : ℕ) (old new : Option Talk) (rest : List ℕ) (t : TermsValue) (haves : List ObjectId) (done : Bool) (before now : SessionState) (stop : Stop) → turn_of before ≡ turns.Idle → before.intake.bound ≡ bound
     → IsAsked t haves done before now → Stops answers old new now stop → Exchanges answers bound old new before.intake.pending rest t haves done (Err (fetch_of_stop stop))
 exchange_stopped answers bound old new rest t haves done before now stop idle same a stopped = record {
-  held = broken errors.Fetch (finding (λ (r : FetchReply). Ok r)) is_free_receiving answers bound old new now (exchange bound t haves done) before.intake.pending stop (fetch_of_stop stop) (exchange_tied bound t haves done before now idle same a) stopped (word_is stop);
+  held = broken errors.Fetch (finding (λ (r : FetchReply). Ok r)) is_free_receiving is_stopped answers bound old new now (exchange bound t haves done) before.intake.pending stop (fetch_of_stop stop) (exchange_tied bound t haves done before now idle same a) stopped (word_is stop);
 }
 
 -- ---- a session that was driven to its end
 
 answered_by : (answers : Bool) (bound : ℕ) (old new : Option Talk) (c : Conversation FetchReply Error) (pending : List ℕ) (now last : SessionState) (reply : Option FetchReply) → last.reply ≡ reply
-    → IsTied errors.Fetch (finding (λ (r : FetchReply). Ok r)) bound now c pending → Finishes answers old new now last → Converses is_free_receiving answers bound old new pending last.intake.pending c (found_in (λ (r : FetchReply). Ok r) reply)
+    → IsTied errors.Fetch (finding (λ (r : FetchReply). Ok r)) bound now c pending → Finishes answers old new now last → Converses is_free_receiving is_stopped answers bound old new pending last.intake.pending c (found_in (λ (r : FetchReply). Ok r) reply)
 answered_by answers bound old new c pending now last (Some r) is ties finished = record {
   held = concluded errors.Fetch (finding (λ (r : FetchReply). Ok r)) answers bound old new now last c pending r ties finished (ap (found_in (λ (r : FetchReply). Ok r)) is);
 }
 answered_by answers bound old new c pending now last None is ties finished = record {
-  held = refused_at_end errors.Fetch (finding (λ (r : FetchReply). Ok r)) is_free_receiving answers bound old new now last c pending other_reply ties finished (λ isnt. ap (found_in (λ (r : FetchReply). Ok r)) is);
+  held = refused_at_end errors.Fetch (finding (λ (r : FetchReply). Ok r)) is_free_receiving is_stopped answers bound old new now last c pending other_reply ties finished refl (λ isnt. ap (found_in (λ (r : FetchReply). Ok r)) is);
 }
 
 -- what is answered is what the session keeps

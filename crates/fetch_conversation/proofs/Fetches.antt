@@ -9,7 +9,7 @@ use Rattle.fetch_negotiate.specs.declared.algorithm.Round.{Round}
 use Rattle.fetch_conversation.specs.Conversation.{Conversation, ends, and_then, Concludes, Breaks, ConversesBy, Converses}
 use Rattle.fetch_conversation.specs.Conversing.{Tells, IsClear, negotiated_of}
 use Rattle.fetch_conversation.specs.ConverseStage.{unmapped, unlike, unfit, lacked, is_border_needed, algorithm_in, received, fetching, wanting, converse_stage}
-use Rattle.fetch_conversation.specs.Errors.{is_free_receiving}
+use Rattle.fetch_conversation.specs.Errors.{is_free_receiving, is_stopped}
 use Rattle.fetch_conversation.specs.Exchange.{TermsValue, other_reply}
 use Rattle.fetch_conversation.specs.ListStage.{is_nil}
 use Rattle.fetch_conversation.specs.Rounds.{Negotiated, first_course, negotiating}
@@ -21,15 +21,15 @@ use Rattle.fetch_conversation.proofs.Chained.{concludes_then, breaks_late, break
 use Rattle.fetch_conversation.proofs.Held.{concluded_at_once, broken_at_once}
 
 abbrev Holds : Bool → ℕ → Option Talk → Option Talk → List ℕ → List ℕ → Graph → TermsValue → Result (Option Received) Error → Type 0
-Holds answers bound old new pending rest g t result = Converses is_free_receiving answers bound old new pending rest (converse_stage bound g t) result
+Holds answers bound old new pending rest g t result = Converses is_free_receiving is_stopped answers bound old new pending rest (converse_stage bound g t) result
 
 -- ---- nothing is sent
 
 not_memory : (e : Error) → is_free_receiving e ≡ false → e ≢ errors.NoMemory
 not_memory e isnt is = cc
 
-pub holds_refusal : (answers : Bool) (bound : ℕ) (old : Option Talk) (pending rest : List ℕ) (g : Graph) (t : TermsValue) (e : Error) → (is_free_receiving e ≡ false → converse_stage bound g t ≡ ends (Err e)) → Holds answers bound old old pending rest g t (Err e)
-holds_refusal answers bound old pending rest g t e is = record { held = broken_at_once is_free_receiving answers bound old pending (converse_stage bound g t) e is }
+pub holds_refusal : (answers : Bool) (bound : ℕ) (old : Option Talk) (pending rest : List ℕ) (g : Graph) (t : TermsValue) (e : Error) → is_stopped e ≡ false → (is_free_receiving e ≡ false → converse_stage bound g t ≡ ends (Err e)) → Holds answers bound old old pending rest g t (Err e)
+holds_refusal answers bound old pending rest g t e going is = record { held = broken_at_once is_free_receiving is_stopped answers bound old pending (converse_stage bound g t) e going is }
 
 pub none_told : {T : Type 0} (refusal : Option Error) (x : T) → Tells refusal (Ok x) → refusal ≡ None
 none_told None x h = refl
@@ -86,42 +86,42 @@ stage_is : (bound : ℕ) (g : Graph) (t : TermsValue) → IsClear t → is_nil t
 stage_is bound g t clear some = clear_stage bound g t clear ∙ wanted_by bound g t t.view.wants some ∙ fetching_is bound g t
 
 stage_by : (answers : Bool) (bound : ℕ) (old new : Option Talk) (pending rest : List ℕ) (g : Graph) (t : TermsValue) (result : Result (Option Received) Error) → IsClear t → is_nil t.view.wants ≡ false
-    → ConversesBy is_free_receiving answers bound old new pending rest (and_then (rounds_in bound g t) (λ n. brings t n)) result → Holds answers bound old new pending rest g t result
+    → ConversesBy is_free_receiving is_stopped answers bound old new pending rest (and_then (rounds_in bound g t) (λ n. brings t n)) result → Holds answers bound old new pending rest g t result
 stage_by answers bound old new pending rest g t result clear some h = record {
-  held = subst (λ (c : Conversation (Option Received) Error). ConversesBy is_free_receiving answers bound old new pending rest c result) (sym (stage_is bound g t clear some)) h;
+  held = subst (λ (c : Conversation (Option Received) Error). ConversesBy is_free_receiving is_stopped answers bound old new pending rest c result) (sym (stage_is bound g t clear some)) h;
 }
 
 -- the rounds break off
 pub holds_broken : (answers : Bool) (bound : ℕ) (old new : Option Talk) (pending rest : List ℕ) (g : Graph) (t : TermsValue) (e : Error) → IsClear t → is_nil t.view.wants ≡ false
-    → Breaks is_free_receiving answers bound old new pending (rounds_in bound g t) e → Holds answers bound old new pending rest g t (Err e)
+    → Breaks is_free_receiving is_stopped answers bound old new pending (rounds_in bound g t) e → Holds answers bound old new pending rest g t (Err e)
 holds_broken answers bound old new pending rest g t e clear some h =
-    stage_by answers bound old new pending rest g t (Err e) clear some (breaks_early is_free_receiving answers bound old new pending (rounds_in bound g t) (λ n. brings t n) e h)
+    stage_by answers bound old new pending rest g t (Err e) clear some (breaks_early is_free_receiving is_stopped answers bound old new pending (rounds_in bound g t) (λ n. brings t n) e h)
 
 -- what the rounds bring is answered
 abbrev pub Finds : TermsValue → Negotiated → Result (Option Received) Error → Type 0
 Finds t n (Ok x) = received t n ≡ Ok x
-Finds t n (Err e) = is_free_receiving e ≡ false → received t n ≡ Err e
+Finds t n (Err e) = (is_stopped e ≡ false) × (is_free_receiving e ≡ false → received t n ≡ Err e)
 
 found_by : (answers : Bool) (bound : ℕ) (old new : Option Talk) (pending rest : List ℕ) (g : Graph) (t : TermsValue) (n : Negotiated) (result : Result (Option Received) Error) → Concludes answers bound old new pending (rounds_in bound g t) n rest → Finds t n result
-    → ConversesBy is_free_receiving answers bound old new pending rest (and_then (rounds_in bound g t) (λ n. brings t n)) result
+    → ConversesBy is_free_receiving is_stopped answers bound old new pending rest (and_then (rounds_in bound g t) (λ n. brings t n)) result
 found_by answers bound old new pending rest g t n (Ok x) h found =
     concludes_then answers bound old new new pending rest rest (rounds_in bound g t) (λ n. brings t n) n x h (concluded_at_once answers bound new rest (brings t n) x (ap (λ (r : Result (Option Received) Error). ends r) found))
 found_by answers bound old new pending rest g t n (Err e) h found =
-    breaks_late is_free_receiving answers bound old new new pending rest (rounds_in bound g t) (λ n. brings t n) n e h (broken_at_once is_free_receiving answers bound new rest (brings t n) e (λ isnt. ap (λ (r : Result (Option Received) Error). ends r) (found isnt)))
+    breaks_late is_free_receiving is_stopped answers bound old new new pending rest (rounds_in bound g t) (λ n. brings t n) n e h (broken_at_once is_free_receiving is_stopped answers bound new rest (brings t n) e found.0 (λ isnt. ap (λ (r : Result (Option Received) Error). ends r) (found.1 isnt)))
 
 abbrev pub FindsIn : TermsValue → List Round → Option FetchReply → Result (Option Received) Error → Type 0
 FindsIn t rounds (Some reply) result = Finds t (record { rounds = rounds; reply = reply }) result
 FindsIn t rounds None result = result ≡ Err other_reply
 
 held_by : (answers : Bool) (bound : ℕ) (old new : Option Talk) (pending rest : List ℕ) (g : Graph) (t : TermsValue) (n : Negotiate) (kept : Option FetchReply) (result : Result (Option Received) Error)
-    → ConversesBy is_free_receiving answers bound old new pending rest (rounds_in bound g t) (negotiated_of (Ok n) kept) → FindsIn t n.rounds kept result
-    → ConversesBy is_free_receiving answers bound old new pending rest (and_then (rounds_in bound g t) (λ n. brings t n)) result
+    → ConversesBy is_free_receiving is_stopped answers bound old new pending rest (rounds_in bound g t) (negotiated_of (Ok n) kept) → FindsIn t n.rounds kept result
+    → ConversesBy is_free_receiving is_stopped answers bound old new pending rest (and_then (rounds_in bound g t) (λ n. brings t n)) result
 held_by answers bound old new pending rest g t n (Some reply) result h found = found_by answers bound old new pending rest g t (record { rounds = n.rounds; reply = reply }) result h found
 held_by answers bound old new pending rest g t n None result h found =
-    subst (λ (r : Result (Option Received) Error). ConversesBy is_free_receiving answers bound old new pending rest (and_then (rounds_in bound g t) (λ n. brings t n)) r) (sym found)
-    (breaks_early is_free_receiving answers bound old new pending (rounds_in bound g t) (λ n. brings t n) other_reply h)
+    subst (λ (r : Result (Option Received) Error). ConversesBy is_free_receiving is_stopped answers bound old new pending rest (and_then (rounds_in bound g t) (λ n. brings t n)) r) (sym found)
+    (breaks_early is_free_receiving is_stopped answers bound old new pending (rounds_in bound g t) (λ n. brings t n) other_reply h)
 
 -- the rounds were held to their end
 pub holds_found : (answers : Bool) (bound : ℕ) (old new : Option Talk) (pending rest : List ℕ) (g : Graph) (t : TermsValue) (n : Negotiate) (kept : Option FetchReply) (result : Result (Option Received) Error) → IsClear t → is_nil t.view.wants ≡ false
-    → ConversesBy is_free_receiving answers bound old new pending rest (rounds_in bound g t) (negotiated_of (Ok n) kept) → FindsIn t n.rounds kept result → Holds answers bound old new pending rest g t result
+    → ConversesBy is_free_receiving is_stopped answers bound old new pending rest (rounds_in bound g t) (negotiated_of (Ok n) kept) → FindsIn t n.rounds kept result → Holds answers bound old new pending rest g t result
 holds_found answers bound old new pending rest g t n kept result clear some h found = stage_by answers bound old new pending rest g t result clear some (held_by answers bound old new pending rest g t n kept result h found)

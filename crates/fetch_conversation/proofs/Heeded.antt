@@ -13,18 +13,18 @@ use Rattle.fetch_conversation.specs.declared.drive.Stop.TheVariants as stops
 
 -- ---- how many receives were made
 
-received_none : (a : Option Talk) → HasReceived 0 a a
+pub received_none : (a : Option Talk) → HasReceived 0 a a
 received_none None = tt
 received_none (Some a) = omega arith
 
-received_then : (n m : ℕ) (a b c : Option Talk) → HasReceived n a b → HasReceived m b c → HasReceived (n + m) a c
+pub received_then : (n m : ℕ) (a b c : Option Talk) → HasReceived n a b → HasReceived m b c → HasReceived (n + m) a c
 received_then n m None b c p q = tt
 received_then n m (Some a) None c p q = absurd p
 received_then n m (Some a) (Some b) None p q = absurd q
 received_then n m (Some a) (Some b) (Some c) p q = omega (arith, p, q)
 
 -- as many as are told
-received_so : (a b : Option Talk) (receives : List Receive) → Makes a b receives → HasReceived (length receives) a b
+pub received_so : (a b : Option Talk) (receives : List Receive) → Makes a b receives → HasReceived (length receives) a b
 received_so None b receives made = tt
 received_so (Some a) None receives made = absurd made
 received_so (Some a) (Some b) receives made =
@@ -70,7 +70,7 @@ heeded_once says will will' a b result none never next made = record {
   later = λ n y. next n (subst will (omega (arith, none)) y);
 }
 
-no_yes_by : (will will' : ℕ → Type 0) (k m : ℕ) → ((n : ℕ) → n < k → will n → ⊥) → ((n : ℕ) → will (k + n) → will' n) → ((n : ℕ) → n < m → will' n → ⊥) → (n : ℕ) → n < k + m → will n → (n < k) ⊎ (k ≤ n) → ⊥
+pub no_yes_by : (will will' : ℕ → Type 0) (k m : ℕ) → ((n : ℕ) → n < k → will n → ⊥) → ((n : ℕ) → will (k + n) → will' n) → ((n : ℕ) → n < m → will' n → ⊥) → (n : ℕ) → n < k + m → will n → (n < k) ⊎ (k ≤ n) → ⊥
 no_yes_by will will' k m first next second n few y (inl less) = first n less y
 no_yes_by will will' k m first next second n few y (inr more) =
     let e : n ≡ k + (n - k) = omega arith in
@@ -120,7 +120,7 @@ pub none_asked : {T E : Type 0} (says : E → Bool) (result : Result T E) → If
 none_asked says (Ok x) own = refl
 none_asked says (Err e) own = sym (by_test (says e) false own)
 
-prepares : (e : WireError) → false ≡ is_interrupted (prepare_of_wire e)
+pub prepares : (e : WireError) → false ≡ is_interrupted (prepare_of_wire e)
 prepares (wire.Malformed place) = refl
 prepares (wire.ServerError text) = refl
 prepares (wire.ReplyTooLong bound) = refl
@@ -129,7 +129,7 @@ prepares (wire.LineTooLong length) = refl
 prepares (wire.BadParameter text place) = refl
 prepares wire.NoMemory = refl
 
-fetches : (e : WireError) → false ≡ is_stopped (fetch_of_wire e)
+pub fetches : (e : WireError) → false ≡ is_stopped (fetch_of_wire e)
 fetches (wire.Malformed place) = refl
 fetches (wire.ServerError text) = refl
 fetches (wire.ReplyTooLong bound) = refl

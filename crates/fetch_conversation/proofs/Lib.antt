@@ -13,9 +13,12 @@ pub mod Listings
 pub mod Requests
 pub mod Exchanged
 pub mod Heeded
+pub mod Blame
 pub mod Held
 pub mod Told
 pub mod Ending
 pub mod Fetches
 pub mod Turns
 pub mod Writing
+pub mod Valid
+pub mod Asked

@@ -1,5 +1,6 @@
 -- The first stage is held.
 use Rattle.std.proofs.Common.{◌≡◌, ◌≢◌, ℕ, Bool, true, false, List, [], ◌∷◌, map, Option, Some, None, Result, Ok, Err, refl, sym, ap, ◌∙◌, subst}
+use Rattle.std.specs.Prelude.{IfErr}
 use Rattle.fetch_specs.specs.Conflicts.{conflicts_of}
 use Rattle.fetch_specs.specs.Matches.{mappings_of}
 use Rattle.fetch_specs.specs.declared.conflict.Conflict.{Conflict}
@@ -18,7 +19,7 @@ use Rattle.fetch_wire.specs.References.{name_in}
 use Rattle.fetch_wire.proofs.Conversing.{same}
 use Rattle.fetch_conversation.specs.Conversation.{Conversation, ends, sent_in, answer_in, Concludes, RefusesWith, Converses}
 use Rattle.fetch_conversation.specs.Drives.{IsDrivable, Finishes, Stops}
-use Rattle.fetch_conversation.specs.Errors.{is_free_listing, prepare_of, prepare_of_wire, prepare_of_stop}
+use Rattle.fetch_conversation.specs.Errors.{is_free_listing, is_interrupted, prepare_of, prepare_of_wire, prepare_of_stop}
 use Rattle.fetch_conversation.specs.Listing.{IsOpened, TellsUnopened, Answers, TellsConflicts, TellsUntold, found_in, first_of}
 use Rattle.fetch_conversation.specs.ListStage.{InquiryValue, ListedValue, prefixes_asked, all_specs, handshaking, too_long, no_specs, mapped, mapped_unless, map_of, inquiry_stage, list_stage, answer_shown, left_by, shown, is_nil}
 use Rattle.fetch_conversation.specs.declared.drive.Stop.{Stop}
@@ -29,6 +30,7 @@ use Rattle.fetch_conversation.specs.declared.prepare.Error.TheVariants as errors
 use Rattle.fetch_conversation.specs.declared.ref_map.Error.{Error as MapError}
 use Rattle.fetch_conversation.specs.declared.ref_map.Error.TheVariants as ref_map
 use Rattle.fetch_conversation.proofs.Inquired.{finding, inquiring, tied}
+use Rattle.fetch_conversation.proofs.Heeded.{prepares}
 use Rattle.fetch_conversation.proofs.Tied.{IsTied, IsWord, concluded, refused_at_end, broken, broken_free, broken_first}
 
 -- ---- nothing is sent
@@ -37,17 +39,17 @@ abbrev bound_of : InquiryValue → ℕ
 bound_of q = q.options.max_reply_bytes
 
 abbrev Inquires : Bool → Option Talk → Option Talk → InquiryValue → Result Listed Error → Type 0
-Inquires answers old new q result = Converses is_free_listing answers (bound_of q) old new [] (left_by result) (inquiry_stage (bound_of q) q) (answer_shown result)
+Inquires answers old new q result = Converses is_free_listing is_interrupted answers (bound_of q) old new [] (left_by result) (inquiry_stage (bound_of q) q) (answer_shown result)
 
 refusing : {X E : Type 0} (bound : ℕ) (c : Conversation X E) (e : E) (stream : List ℕ) → c ≡ ends (Err e) → RefusesWith bound c stream [] e
 unfolding sent_in answer_in
 refusing bound c e stream is = rw is (record { answer = refl; asked = refl })
 
-pub inquires_free : (answers : Bool) (old : Option Talk) (q : InquiryValue) (e : Error) → is_free_listing e ≡ true → Inquires answers old old q (Err e)
-inquires_free answers old q e free = record { held = broken_free is_free_listing answers (bound_of q) old [] (inquiry_stage (bound_of q) q) e free }
+pub inquires_free : (answers : Bool) (old : Option Talk) (q : InquiryValue) (e : Error) → is_free_listing e ≡ true → is_interrupted e ≡ false → Inquires answers old old q (Err e)
+inquires_free answers old q e free going = record { held = broken_free is_free_listing is_interrupted answers (bound_of q) old [] (inquiry_stage (bound_of q) q) e free going }
 
-inquires_refusal : (answers : Bool) (old : Option Talk) (q : InquiryValue) (e : Error) → inquiry_stage (bound_of q) q ≡ ends (Err e) → Inquires answers old old q (Err e)
-inquires_refusal answers old q e is = record { held = broken_first is_free_listing answers (bound_of q) old [] (inquiry_stage (bound_of q) q) e (λ isnt stream. refusing (bound_of q) (inquiry_stage (bound_of q) q) e stream is) }
+inquires_refusal : (answers : Bool) (old : Option Talk) (q : InquiryValue) (e : Error) → is_interrupted e ≡ false → inquiry_stage (bound_of q) q ≡ ends (Err e) → Inquires answers old old q (Err e)
+inquires_refusal answers old q e going is = record { held = broken_first is_free_listing is_interrupted answers (bound_of q) old [] (inquiry_stage (bound_of q) q) e going (λ isnt stream. refusing (bound_of q) (inquiry_stage (bound_of q) q) e stream is) }
 
 bad_stage : (bound : ℕ) (q : InquiryValue) (text : List ℕ) (place : ℕ) → first_bad (texts_told q.address q.options.handshake_parameters q.agent) ≡ Some (text, place) → inquiry_stage bound q ≡ ends (Err (handshaking (wire.BadParameter text place)))
 unfolding inquiry_stage
@@ -59,9 +61,9 @@ long_stage bound q n good is = rw (good, is) refl
 
 -- what can't be sent
 pub inquires_unopened : (answers : Bool) (old : Option Talk) (q : InquiryValue) (e : WireError) → TellsUnopened q e → Inquires answers old old q (Err (prepare_of_wire e))
-inquires_unopened answers old q wire.NoMemory h = inquires_free answers old q errors.NoMemory refl
-inquires_unopened answers old q (wire.BadParameter text place) h = inquires_refusal answers old q (handshaking (wire.BadParameter text place)) (bad_stage (bound_of q) q text place h)
-inquires_unopened answers old q (wire.LineTooLong n) h = inquires_refusal answers old q (too_long n) (long_stage (bound_of q) q n h.0 h.1)
+inquires_unopened answers old q wire.NoMemory h = inquires_free answers old q errors.NoMemory refl refl
+inquires_unopened answers old q (wire.BadParameter text place) h = inquires_refusal answers old q (handshaking (wire.BadParameter text place)) refl (bad_stage (bound_of q) q text place h)
+inquires_unopened answers old q (wire.LineTooLong n) h = inquires_refusal answers old q (too_long n) refl (long_stage (bound_of q) q n h.0 h.1)
 inquires_unopened answers old q (wire.Malformed place) h = absurd h
 inquires_unopened answers old q (wire.ServerError text) h = absurd h
 inquires_unopened answers old q (wire.ReplyTooLong bound) h = absurd h
@@ -101,25 +103,25 @@ word_by (wire.MissingFeature name) isnt = (λ e. cc, refl)
 word_by (wire.LineTooLong n) isnt = (λ e. cc, refl)
 word_by (wire.BadParameter text place) isnt = (λ e. cc, refl)
 
-word_is : (stop : Stop) → IsWord is_free_listing handshaking stop (prepare_of_stop stop)
-word_is (stops.Refused e) = word_by e
-word_is stops.Failed = refl
+word_is : (stop : Stop) → IsWord is_free_listing is_interrupted handshaking stop (prepare_of_stop stop)
+word_is (stops.Refused e) = (word_by e, sym (prepares e))
+word_is stops.Failed = (refl, refl)
 word_is stops.Interrupted = refl
 
 pub inquires_stopped : (answers : Bool) (old new : Option Talk) (q : InquiryValue) (s : SessionState) (stop : Stop) → IsOpened q s → Stops answers old new s stop → Inquires answers old new q (Err (prepare_of_stop stop))
 inquires_stopped answers old new q s stop h stopped = record {
-  held = broken handshaking (finding q) is_free_listing answers (bound_of q) old new s (inquiry_stage (bound_of q) q) [] stop (prepare_of_stop stop) (stage_tied q s h) stopped (word_is stop);
+  held = broken handshaking (finding q) is_free_listing is_interrupted answers (bound_of q) old new s (inquiry_stage (bound_of q) q) [] stop (prepare_of_stop stop) (stage_tied q s h) stopped (word_is stop);
 }
 
 -- ---- a session that was driven to its end
 
-pub inquires_found : (answers : Bool) (old new : Option Talk) (q : InquiryValue) (s now : SessionState) (result : Result Listed Error) → IsOpened q s → Finishes answers old new s now → Answers q now result → Inquires answers old new q result
-inquires_found answers old new q s now (Ok l) h finished a = record {
+pub inquires_found : (answers : Bool) (old new : Option Talk) (q : InquiryValue) (s now : SessionState) (result : Result Listed Error) → IsOpened q s → Finishes answers old new s now → IfErr result (λ e. is_interrupted e ≡ false) → Answers q now result → Inquires answers old new q result
+inquires_found answers old new q s now (Ok l) h finished going a = record {
   held = subst (λ (t : SessionState). Concludes answers (bound_of q) old new [] (inquiry_stage (bound_of q) q) (shown l) t.intake.pending) (sym a.1)
       (concluded handshaking (finding q) answers (bound_of q) old new s now (inquiry_stage (bound_of q) q) [] (shown l) (stage_tied q s h) finished a.0);
 }
-inquires_found answers old new q s now (Err e) h finished a = record {
-  held = refused_at_end handshaking (finding q) is_free_listing answers (bound_of q) old new s now (inquiry_stage (bound_of q) q) [] e (stage_tied q s h) finished a;
+inquires_found answers old new q s now (Err e) h finished going a = record {
+  held = refused_at_end handshaking (finding q) is_free_listing is_interrupted answers (bound_of q) old new s now (inquiry_stage (bound_of q) q) [] e (stage_tied q s h) finished going a;
 }
 
 -- the bound stays
@@ -129,7 +131,7 @@ inquired_bound answers old new q s now h finished = finished.went.is.intake.boun
 -- ---- with a refspec, and without one
 
 abbrev Lists : Bool → Option Talk → Option Talk → InquiryValue → Result Listed Error → Type 0
-Lists answers old new q result = Converses is_free_listing answers (bound_of q) old new [] (left_by result) (list_stage (bound_of q) q) (answer_shown result)
+Lists answers old new q result = Converses is_free_listing is_interrupted answers (bound_of q) old new [] (left_by result) (list_stage (bound_of q) q) (answer_shown result)
 
 missing_stage : (bound : ℕ) (q : InquiryValue) → no_specs q ≡ Some errors.MissingRefSpecs → list_stage bound q ≡ ends (Err errors.MissingRefSpecs)
 unfolding list_stage
@@ -138,7 +140,7 @@ missing_stage bound q is = rw is refl
 -- no refspec
 pub lists_missing : (answers : Bool) (old : Option Talk) (q : InquiryValue) → no_specs q ≡ Some errors.MissingRefSpecs → Lists answers old old q (Err errors.MissingRefSpecs)
 lists_missing answers old q is = record {
-  held = broken_first is_free_listing answers (bound_of q) old [] (list_stage (bound_of q) q) errors.MissingRefSpecs (λ isnt stream. refusing (bound_of q) (list_stage (bound_of q) q) errors.MissingRefSpecs stream (missing_stage (bound_of q) q is));
+  held = broken_first is_free_listing is_interrupted answers (bound_of q) old [] (list_stage (bound_of q) q) errors.MissingRefSpecs refl (λ isnt stream. refusing (bound_of q) (list_stage (bound_of q) q) errors.MissingRefSpecs stream (missing_stage (bound_of q) q is));
 }
 
 named_stage : (bound : ℕ) (q : InquiryValue) → no_specs q ≡ None → inquiry_stage bound q ≡ list_stage bound q
@@ -148,7 +150,7 @@ named_stage bound q is = rw is refl
 -- some refspec
 pub lists_named : (answers : Bool) (old new : Option Talk) (q : InquiryValue) (result : Result Listed Error) → no_specs q ≡ None → Inquires answers old new q result → Lists answers old new q result
 lists_named answers old new q result is h =
-    subst (λ (c : Conversation ListedValue Error). Converses is_free_listing answers (bound_of q) old new [] (left_by result) c (answer_shown result)) (named_stage (bound_of q) q is) h
+    subst (λ (c : Conversation ListedValue Error). Converses is_free_listing is_interrupted answers (bound_of q) old new [] (left_by result) c (answer_shown result)) (named_stage (bound_of q) q is) h
 
 -- ---- what was listed
 

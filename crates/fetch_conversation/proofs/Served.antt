@@ -131,7 +131,7 @@ refused_by is_request rule serve bound new c said heard e s only answered is (in
 refused_by is_request rule serve bound new c said heard e s only answered is (inr last) =
     refused_with is_request rule serve bound c said heard e s only answered (is ∙ ap (λ (l : List ℕ). said ++ l) last.0 ∙ append-nil said) last.1
 
-pub broken : {X E : Type 0} (is_request : List Line → Bool) (rule : List ℕ → List ℕ) (serve : List Line → List ℕ) (answers : Bool) (bound : ℕ) (old : Option Talk) (new : Talk) (c : Conversation X E) (free : E → Bool) (e : E)
-    → Serves is_request rule serve → AsksOnly is_request c → IsAnswered bound serve c → IsFresh rule old → Follows rule new → Breaks free answers bound old (Some new) [] c e → free e ≡ false → answer_with bound serve c ≡ Err e
-broken is_request rule serve answers bound old new c free e s only answered fresh follows h bound_to =
+pub broken : {X E : Type 0} (is_request : List Line → Bool) (rule : List ℕ → List ℕ) (serve : List Line → List ℕ) (answers : Bool) (bound : ℕ) (old : Option Talk) (new : Talk) (c : Conversation X E) (free stopped : E → Bool) (e : E)
+    → Serves is_request rule serve → AsksOnly is_request c → IsAnswered bound serve c → IsFresh rule old → Follows rule new → Breaks free stopped answers bound old (Some new) [] c e → free e ≡ false → answer_with bound serve c ≡ Err e
+broken is_request rule serve answers bound old new c free stopped e s only answered fresh follows h bound_to =
     refused_by is_request rule serve bound new c h.said h.heard e s only answered (given_by rule answers old new h.heard h.said fresh follows h.passed) (h.why bound_to)

@@ -19,7 +19,7 @@ use Rattle.fetch_wire.specs.Written.{lines_text}
 use Rattle.fetch_wire.proofs.Conversing.{fed_is}
 use Rattle.fetch_wire.proofs.SessionAlike.{stays_alike}
 use Rattle.fetch_wire.proofs.SessionPieces.{pieces, stuck}
-use Rattle.fetch_conversation.specs.Conversation.{Conversation, sent_in, answer_in, awaits_more, IsDue, IsAwaited, beside, Concludes, RefusesWith, IsRefusedBy, Breaks}
+use Rattle.fetch_conversation.specs.Conversation.{Conversation, sent_in, answer_in, awaits_more, IsDue, AllGave, IsAwaited, beside, Concludes, RefusesWith, IsRefusedBy, Breaks}
 use Rattle.fetch_conversation.specs.Drives.{IsWaiting, IsItsTurn, IsFed, with_heard, Finishes, Refuses, Stops}
 use Rattle.fetch_conversation.specs.declared.drive.Stop.{Stop}
 use Rattle.fetch_conversation.specs.declared.drive.Stop.TheVariants as stops
@@ -83,16 +83,17 @@ tied_alike refused finding bound a b c pending h tied = record {
 due_by : {X E : Type 0} (refused : WireError → E) (finding : Finding X E) (bound : ℕ) (s : SessionState) (c : Conversation X E) (pending : List ℕ) → IsTied refused finding bound s c pending → (r : Receive) → IsItsTurn s r → IsDue bound c pending r
 due_by refused finding bound s c pending tied r h = record { heard = h.heard ∙ sym (tied.sent r.given); awaited = tied.awaited r.given h.waits }
 
-awaited_by : {X E : Type 0} (refused : WireError → E) (finding : Finding X E) (bound : ℕ) (old new : Option Talk) (s : SessionState) (c : Conversation X E) (pending : List ℕ) → IsTied refused finding bound s c pending → IsFed old new s → IsAwaited bound old new pending c
+abbrev awaited_by : {X E : Type 0} (refused : WireError → E) (finding : Finding X E) (bound : ℕ) (old new : Option Talk) (s : SessionState) (c : Conversation X E) (pending : List ℕ) → IsTied refused finding bound s c pending → IsFed old new s → IsAwaited bound old new pending c
 awaited_by refused finding bound old new s c pending tied h = record {
   receives = h.receives;
   made = h.made;
   due = all_as (IsItsTurn s) (IsDue bound c pending) h.receives (due_by refused finding bound s c pending tied) h.turns;
+  gave = h.gave;
 }
 
 -- no receive was made
-pub awaited_first : {X E : Type 0} (bound : ℕ) (old : Option Talk) (pending : List ℕ) (c : Conversation X E) → IsAwaited bound old old pending c
-awaited_first bound old pending c = record { receives = []; made = Makes-none old; due = tt }
+abbrev pub awaited_first : {X E : Type 0} (bound : ℕ) (old : Option Talk) (pending : List ℕ) (c : Conversation X E) → IsAwaited bound old old pending c
+awaited_first bound old pending c = record { receives = []; made = Makes-none old; due = tt; gave = tt }
 
 -- ---- nothing is awaited, or something is wrong
 
@@ -129,6 +130,7 @@ record Rests (answers : Bool) (old new : Option Talk) (s now : SessionState) : T
   said : List ℕ
   passed : Talks answers old new heard said
   fed_so : IsFed old new s
+  gave : AllGave said fed_so.receives
   after : (more : List ℕ) → fed s (said ++ more) ≡ record now { outgoing = heard; intake = taking more now.intake }
   well : now.trouble ≡ None
   none : now.intake.reading ≡ None
@@ -145,6 +147,7 @@ rests_after answers old new s now h =
       said = h.went.said;
       passed = h.went.passed;
       fed_so = h.went.awaited;
+      gave = h.went.gave;
       after = λ more. sym (pieces s h.went.said more s.trouble refl) ∙ ap (λ (t : SessionState). fed t more) (sym same) ∙ at_rest g more well.trouble none
           ∙ ap (λ (l : List ℕ). record now { outgoing = l; intake = taking more now.intake }) out;
       well = well.trouble;
@@ -172,14 +175,15 @@ concluded refused finding answers bound old new s now c pending x tied h found =
       heard = r.heard;
       passed = r.passed;
       needed = awaited_by refused finding bound old new s c pending tied r.fed_so;
+      gave = r.gave;
       asked = λ more. tied.sent (r.said ++ more) ∙ ap (λ (t : SessionState). t.outgoing) (r.after more);
       answered = λ more. rest_answers refused finding bound s now c pending r.said r.heard more tied (r.after more) r.well r.none ∙ ap (beside (now.intake.pending ++ more)) found;
     }
 
 -- It was held to its end, which is a refusal.
-pub refused_at_end : {X E : Type 0} (refused : WireError → E) (finding : Finding X E) (free : E → Bool) (answers : Bool) (bound : ℕ) (old new : Option Talk) (s now : SessionState) (c : Conversation X E) (pending : List ℕ) (e : E)
-    → IsTied refused finding bound s c pending → Finishes answers old new s now → (free e ≡ false → finding now.handshake now.refs now.reply ≡ Err e) → Breaks free answers bound old new pending c e
-refused_at_end refused finding free answers bound old new s now c pending e tied h found =
+pub refused_at_end : {X E : Type 0} (refused : WireError → E) (finding : Finding X E) (free stopped : E → Bool) (answers : Bool) (bound : ℕ) (old new : Option Talk) (s now : SessionState) (c : Conversation X E) (pending : List ℕ) (e : E)
+    → IsTied refused finding bound s c pending → Finishes answers old new s now → stopped e ≡ false → (free e ≡ false → finding now.handshake now.refs now.reply ≡ Err e) → Breaks free stopped answers bound old new pending c e
+refused_at_end refused finding free stopped answers bound old new s now c pending e tied h going found =
     let r = rests_after answers old new s now h in
     let front : lines_text (sent_in bound c (pending ++ (r.said ++ []))) ≡ r.heard = tied.sent (r.said ++ []) ∙ ap (λ (t : SessionState). t.outgoing) (r.after []) in
     record {
@@ -192,15 +196,16 @@ refused_at_end refused finding free answers bound old new s now c pending e tied
         answer = rest_answers refused finding bound s now c pending r.said r.heard more tied (r.after more) r.well r.none ∙ ap (beside (now.intake.pending ++ more)) (found isnt);
         asked = tied.sent (r.said ++ more) ∙ ap (λ (t : SessionState). t.outgoing) (r.after more);
       }));
+      due = λ is. absurd (cc);
     }
 
 -- ---- a session that was stopped
 
--- how a stop is told: a refusal as it is, unless memory ran out
-abbrev pub IsWord : {E : Type 0} → (E → Bool) → (WireError → E) → Stop → E → Type 0
-IsWord free refused (stops.Refused w) e = free e ≡ false → (w ≢ wire.NoMemory) × (e ≡ refused w)
-IsWord free refused stops.Failed e = free e ≡ true
-IsWord free refused stops.Interrupted e = free e ≡ true
+-- how a stop is told: a refusal as it is, unless memory ran out; a yes alone by an error that tells one
+abbrev pub IsWord : {E : Type 0} → (E → Bool) → (E → Bool) → (WireError → E) → Stop → E → Type 0
+IsWord free stopped refused (stops.Refused w) e = (free e ≡ false → (w ≢ wire.NoMemory) × (e ≡ refused w)) × (stopped e ≡ false)
+IsWord free stopped refused stops.Failed e = (free e ≡ true) × (stopped e ≡ false)
+IsWord free stopped refused stops.Interrupted e = free e ≡ true
 
 troubled : {X E : Type 0} (refused : WireError → E) (bound : ℕ) (pending : List ℕ) (found : Result X E) (w : WireError) (trouble : Option WireError) (told : Option (Result (Told × List ℕ) Fault)) → trouble ≡ Some w
     → answer_by refused bound pending found trouble told ≡ Err (refused w)
@@ -232,49 +237,59 @@ refuses_by refused finding bound new s c pending said heard w tied all (inr x) =
       },
     )
 
-stop_why : {X E : Type 0} (refused : WireError → E) (finding : Finding X E) (free : E → Bool) (answers : Bool) (bound : ℕ) (old new : Option Talk) (s : SessionState) (c : Conversation X E) (pending : List ℕ) (stop : Stop) (e : E) → IsTied refused finding bound s c pending
-    → (h : Stops answers old new s stop) → IsWord free refused stop e → free e ≡ false → IsRefusedBy bound new c (pending ++ h.said) h.heard e
-stop_why refused finding free answers bound old new s c pending (stops.Refused w) e tied h word isnt =
-    let is = word isnt in
+stop_why : {X E : Type 0} (refused : WireError → E) (finding : Finding X E) (free stopped : E → Bool) (answers : Bool) (bound : ℕ) (old new : Option Talk) (s : SessionState) (c : Conversation X E) (pending : List ℕ) (stop : Stop) (e : E) → IsTied refused finding bound s c pending
+    → (h : Stops answers old new s stop) → IsWord free stopped refused stop e → free e ≡ false → IsRefusedBy bound new c (pending ++ h.said) h.heard e
+stop_why refused finding free stopped answers bound old new s c pending (stops.Refused w) e tied h word isnt =
+    let is = word.0 isnt in
     let x = h.why is.0 in
     subst (IsRefusedBy bound new c (pending ++ h.said) h.heard) (sym is.1) (refuses_by refused finding bound new s c pending h.said h.heard w tied x.0 x.1)
-stop_why refused finding free answers bound old new s c pending stops.Failed e tied h word isnt = absurd (cc)
-stop_why refused finding free answers bound old new s c pending stops.Interrupted e tied h word isnt = absurd (cc)
+stop_why refused finding free stopped answers bound old new s c pending stops.Failed e tied h word isnt = let is = word.0 in absurd (cc)
+stop_why refused finding free stopped answers bound old new s c pending stops.Interrupted e tied h word isnt = absurd (cc)
+
+stop_due : {X E : Type 0} (refused : WireError → E) (finding : Finding X E) (free stopped : E → Bool) (answers : Bool) (bound : ℕ) (old new : Option Talk) (s : SessionState) (c : Conversation X E) (pending : List ℕ) (stop : Stop) (e : E) → IsTied refused finding bound s c pending
+    → (h : Stops answers old new s stop) → IsWord free stopped refused stop e → stopped e ≡ true → IsDue bound c pending (record { heard = h.heard; given = h.said })
+stop_due refused finding free stopped answers bound old new s c pending (stops.Refused w) e tied h word is = let isnt = word.1 in absurd (cc)
+stop_due refused finding free stopped answers bound old new s c pending stops.Failed e tied h word is = let isnt = word.1 in absurd (cc)
+stop_due refused finding free stopped answers bound old new s c pending stops.Interrupted e tied h word is =
+    let due = h.why in due_by refused finding bound s c pending tied (record { heard = h.heard; given = h.said }) (record { heard = due.0; waits = due.1 })
 
 -- It broke off.
-pub broken : {X E : Type 0} (refused : WireError → E) (finding : Finding X E) (free : E → Bool) (answers : Bool) (bound : ℕ) (old new : Option Talk) (s : SessionState) (c : Conversation X E) (pending : List ℕ) (stop : Stop) (e : E) → IsTied refused finding bound s c pending
-    → Stops answers old new s stop → IsWord free refused stop e → Breaks free answers bound old new pending c e
-broken refused finding free answers bound old new s c pending stop e tied h word = record {
+pub broken : {X E : Type 0} (refused : WireError → E) (finding : Finding X E) (free stopped : E → Bool) (answers : Bool) (bound : ℕ) (old new : Option Talk) (s : SessionState) (c : Conversation X E) (pending : List ℕ) (stop : Stop) (e : E) → IsTied refused finding bound s c pending
+    → Stops answers old new s stop → IsWord free stopped refused stop e → Breaks free stopped answers bound old new pending c e
+broken refused finding free stopped answers bound old new s c pending stop e tied h word = record {
   said = h.said;
   heard = h.heard;
   passed = h.passed;
   needed = awaited_by refused finding bound old new s c pending tied h.awaited;
   front = (h.front.0, tied.sent h.said ∙ h.front.1);
-  why = stop_why refused finding free answers bound old new s c pending stop e tied h word;
+  why = stop_why refused finding free stopped answers bound old new s c pending stop e tied h word;
+  due = stop_due refused finding free stopped answers bound old new s c pending stop e tied h word;
 }
 
 -- ---- nothing was said
 
 -- nothing was sent, and the refusal is a free one
-pub broken_free : {X E : Type 0} (free : E → Bool) (answers : Bool) (bound : ℕ) (old : Option Talk) (pending : List ℕ) (c : Conversation X E) (e : E) → free e ≡ true → Breaks free answers bound old old pending c e
-broken_free free answers bound old pending c e is = record {
+pub broken_free : {X E : Type 0} (free stopped : E → Bool) (answers : Bool) (bound : ℕ) (old : Option Talk) (pending : List ℕ) (c : Conversation X E) (e : E) → free e ≡ true → stopped e ≡ false → Breaks free stopped answers bound old old pending c e
+broken_free free stopped answers bound old pending c e is going = record {
   said = [];
   heard = [];
   passed = Talks-none answers old;
   needed = awaited_first bound old pending c;
   front = (lines_text (sent_in bound c (pending ++ [])), refl);
   why = λ isnt. absurd (cc);
+  due = λ told. absurd (cc);
 }
 
 -- nothing was sent, and the conversation is a refusal
-pub broken_first : {X E : Type 0} (free : E → Bool) (answers : Bool) (bound : ℕ) (old : Option Talk) (pending : List ℕ) (c : Conversation X E) (e : E) → (free e ≡ false → (stream : List ℕ) → RefusesWith bound c stream [] e) → Breaks free answers bound old old pending c e
-broken_first free answers bound old pending c e is = record {
+pub broken_first : {X E : Type 0} (free stopped : E → Bool) (answers : Bool) (bound : ℕ) (old : Option Talk) (pending : List ℕ) (c : Conversation X E) (e : E) → stopped e ≡ false → (free e ≡ false → (stream : List ℕ) → RefusesWith bound c stream [] e) → Breaks free stopped answers bound old old pending c e
+broken_first free stopped answers bound old pending c e going is = record {
   said = [];
   heard = [];
   passed = Talks-none answers old;
   needed = awaited_first bound old pending c;
   front = (lines_text (sent_in bound c (pending ++ [])), refl);
   why = λ isnt. inl (λ more. is isnt ((pending ++ []) ++ more));
+  due = λ told. absurd (cc);
 }
 
 -- nothing was sent, and the conversation is an answer
@@ -284,6 +299,7 @@ concluded_first answers bound old pending c x is nothing = record {
   heard = [];
   passed = Talks-none answers old;
   needed = awaited_first bound old pending c;
+  gave = tt;
   asked = λ more. nothing (pending ++ more);
   answered = λ more. is (pending ++ more);
 }

@@ -1,20 +1,17 @@
 -- What a server writes is heard to its end.
-use Rattle.std.proofs.Common.{◌≡◌, ◌≢◌, ◌<◌, ◌≤◌, ◌+◌, ℕ, zero, suc, Bool, true, false, not, List, [], ◌∷◌, ◌++◌, map, length, Option, Some, None, Result, Ok, Err, IfSome, unwrap_or, refl, sym, ap, ◌∙◌, subst, arith, append_assoc}
+use Rattle.std.proofs.Common.{◌≡◌, ◌≢◌, ◌<◌, ◌+◌, ℕ, zero, suc, Bool, false, not, List, [], ◌∷◌, ◌++◌, map, length, Option, Some, None, Ok, Err, unwrap_or, refl, sym, ap, ◌∙◌, arith, append_assoc}
 use Rattle.std.specs.FinMap as map
-use Rattle.std.specs.Option.{option_or}
 use Rattle.fetch_pack.specs.Reading.{Contents, read}
-use Rattle.fetch_pack.specs.declared.error.PackError.{PackError}
 use Rattle.fetch_specs.specs.Conflicts.{conflicts_of}
 use Rattle.fetch_specs.specs.Matches.{mappings_of}
 use Rattle.fetch_specs.specs.declared.conflict.Conflict.{Conflict}
 use Rattle.fetch_store.specs.Graph.{Graph}
 use Rattle.fetch_store.specs.declared.id.ObjectId.{ObjectId}
 use Rattle.fetch_wire.specs.Awaited.{told_at}
-use Rattle.fetch_wire.specs.Greetings.{handshake_of, offers}
+use Rattle.fetch_wire.specs.Greetings.{handshake_of}
 use Rattle.fetch_wire.specs.References.{name_in}
 use Rattle.fetch_wire.specs.Requests.{listing_lines}
 use Rattle.fetch_wire.specs.ServerLines.{greeting_lines, listing_lines_of}
-use Rattle.fetch_wire.specs.SessionStates.{listing_feature}
 use Rattle.fetch_wire.specs.Written.{lines_text, first_too_long}
 use Rattle.fetch_wire.specs.declared.replies.awaited.Await.TheVariants as awaits
 use Rattle.fetch_wire.specs.declared.replies.awaited.Fault.{Fault}
@@ -30,14 +27,14 @@ use Rattle.fetch_wire.proofs.ListingLines.{listing_tells}
 use Rattle.fetch_wire.proofs.Moving.{text_tells}
 use Rattle.fetch_wire.proofs.ReplyLines.{round_tells, last_tells, ready_tells}
 use Rattle.fetch_negotiate.specs.declared.algorithm.Algorithm.{Algorithm}
-use Rattle.fetch_conversation.specs.Conversation.{Conversation, ends, asks, asks_unless, after_reply, beside, answer_in}
-use Rattle.fetch_conversation.specs.ConverseStage.{no_mapping, other_hash, unfit, lacking, algorithm_in, rejected, result_unless, unpacked, read_of, received, with_pack, fetching, wanting, converse_stage}
+use Rattle.fetch_conversation.specs.Conversation.{Conversation, ends, asks, after_reply, beside, answer_in}
+use Rattle.fetch_conversation.specs.ConverseStage.{algorithm_in, rejected, result_unless, unpacked, read_of, received, with_pack, fetching, wanting, converse_stage}
 use Rattle.fetch_conversation.specs.Conversing.{IsClear}
-use Rattle.fetch_conversation.specs.Exchange.{TermsValue, haves_told, too_long, failed, replied, reply_to, exchange}
+use Rattle.fetch_conversation.specs.Exchange.{TermsValue, failed, replied, exchange}
 use Rattle.fetch_conversation.specs.Listing.{first_of}
 use Rattle.fetch_conversation.specs.ListStage.{InquiryValue, ListedValue, prefixes_asked, all_specs, mapped, mapped_unless, map_of, unless, listed, listing, greeted, list_stage, inquiry_stage}
 use Rattle.fetch_conversation.specs.ListStage as stage
-use Rattle.fetch_conversation.specs.Rounds.{CourseValue, Negotiated, first_course, next_window, is_short, is_end, rounds_with, course_after, negotiating}
+use Rattle.fetch_conversation.specs.Rounds.{CourseValue, Negotiated, first_course, negotiating}
 use Rattle.fetch_conversation.specs.Writing.{AreWithin, IsAskable, IsListing, listing_text, Answer, acknowledges, packs, readies, lines_of, reply_of, MayBe, asked_in, request_in, AnswersRound, after, AnswerRounds, negotiated_by, negotiated_in, answers_text, IsPacking}
 use Rattle.fetch_conversation.specs.declared.conversing.Received.{Received}
 use Rattle.fetch_conversation.specs.declared.fetch.Error.{Error}

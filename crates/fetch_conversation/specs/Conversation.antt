@@ -1,5 +1,5 @@
 -- A conversation: lines that are sent, what the reply tells, and how it goes on by that.
-use Rattle.std.specs.Prelude.{◌≡◌, ◌⊎◌, ℕ, Bool, true, false, List, [], ◌++◌, Option, Some, None, Result, Ok, Err}
+use Rattle.std.specs.Prelude.{◌≡◌, ◌≢◌, ◌⊎◌, ◌<◌, ⊤, ℕ, Bool, true, false, List, [], ◌∷◌, ◌++◌, length, Option, Some, None, Result, Ok, Err}
 use Rattle.std.specs.List.{AllByRecursion}
 use Rattle.fetch_wire.specs.Awaited.{told_at}
 use Rattle.fetch_wire.specs.Talks.{Talk, Talks, Receive, Makes, IsDrained, IsFront}
@@ -60,16 +60,33 @@ unfoldable pub awaits_more : {X E : Type 0} → ℕ → Conversation X E → Lis
 awaits_more bound (ends answer) stream = false
 awaits_more bound (asks lines awaited failed next) stream = ends_in (λ told rest. awaits_more bound (next told) rest) (told_at bound awaited stream)
 
+-- The peer's bytes are replies to the requests before one that it didn't hear whole: its reply is awaited, and nothing is
+-- wrong with the bytes.
+pub record IsUnheard {X E : Type 0} (bound : ℕ) (c : Conversation X E) (heard stream : List ℕ) : Type 0 where
+  pub awaited : awaits_more bound c stream ≡ true
+  pub unheard : heard ≢ lines_text (sent_in bound c stream)
+
 -- A receive was due: all that was to be sent so far had been heard, and a reply was still awaited.
 pub record IsDue {X E : Type 0} (bound : ℕ) (c : Conversation X E) (pending : List ℕ) (receive : Receive) : Type 0 where
   pub heard : receive.heard ≡ lines_text (sent_in bound c (pending ++ receive.given))
   pub awaited : awaits_more bound c (pending ++ receive.given) ≡ true
 
--- Each receive that was made was due.
+-- Each receive but the last gave something: more had been given before the next one.
+abbrev pub AllButLastGave : List Receive → Type 0
+AllButLastGave [] = ⊤
+AllButLastGave (receive ∷ []) = ⊤
+AllButLastGave (receive ∷ next ∷ receives) = (length receive.given < length next.given) × AllButLastGave (next ∷ receives)
+
+-- Each receive gave something: before it less had been given than these bytes, which are all.
+abbrev pub AllGave : List ℕ → List Receive → Type 0
+AllGave given receives = AllByRecursion (λ receive. length receive.given < length given) receives
+
+-- Each receive that was made was due, and none came behind one that gave nothing.
 pub record IsAwaited {X E : Type 0} (bound : ℕ) (old new : Option Talk) (pending : List ℕ) (c : Conversation X E) : Type 0 where
   pub receives : List Receive
   pub made : Makes old new receives
   pub due : AllByRecursion (IsDue bound c pending) receives
+  pub gave : AllButLastGave receives
 
 -- one conversation after another
 abbrev pub after_answer : {X Y E : Type 0} → (X → Conversation Y E) → Result X E → Conversation Y E
@@ -92,12 +109,14 @@ told_as g (ends answer) = ends (map_refusal g answer)
 told_as g (asks lines awaited failed next) = asks lines awaited (λ fault. g (failed fault)) (λ told. told_as g (next told))
 
 -- The conversation was held to its end: the peer heard its lines, and this is its answer, whatever comes after. No
--- receive was made before all that was to be sent so far had been heard, and none after a reply that was whole.
+-- receive was made before all that was to be sent so far had been heard, and none after a reply that was whole. Each gave
+-- something.
 pub record Concludes {X E : Type 0} (answers : Bool) (bound : ℕ) (old new : Option Talk) (pending : List ℕ) (c : Conversation X E) (x : X) (rest : List ℕ) : Type 0 where
   pub said : List ℕ
   pub heard : List ℕ
   pub passed : Talks answers old new heard said
   pub needed : IsAwaited bound old new pending c
+  pub gave : AllGave said needed.receives
   pub asked : (more : List ℕ) → lines_text (sent_in bound c (pending ++ (said ++ more))) ≡ heard
   pub answered : (more : List ℕ) → answer_in bound c (pending ++ (said ++ more)) ≡ Ok (x, rest ++ more)
 
@@ -113,20 +132,35 @@ IsRefusedBy bound now c stream heard e =
 
 -- It broke off: the peer heard a prefix of its lines, and each receive was due. Unless the refusal is a free one, as want
 -- of memory and a counted fault are, it is the one of this conversation with this peer, which heard all lines up to it.
-pub record Breaks {X E : Type 0} (free : E → Bool) (answers : Bool) (bound : ℕ) (old new : Option Talk) (pending : List ℕ) (c : Conversation X E) (e : E) : Type 0 where
+-- Where it was stopped by a yes, a receive was due.
+pub record Breaks {X E : Type 0} (free stopped : E → Bool) (answers : Bool) (bound : ℕ) (old new : Option Talk) (pending : List ℕ) (c : Conversation X E) (e : E) : Type 0 where
   pub said : List ℕ
   pub heard : List ℕ
   pub passed : Talks answers old new heard said
   pub needed : IsAwaited bound old new pending c
   pub front : IsFront heard (lines_text (sent_in bound c (pending ++ said)))
   pub why : free e ≡ false → IsRefusedBy bound new c (pending ++ said) heard e
+  pub due : stopped e ≡ true → IsDue bound c pending (record { heard = heard; given = said })
 
 -- What a conversation held gives: an answer, or where it broke off.
-abbrev pub ConversesBy : {X E : Type 0} → (E → Bool) → Bool → ℕ → Option Talk → Option Talk → List ℕ → List ℕ → Conversation X E → Result X E → Type 0
-ConversesBy free answers bound old new pending rest c (Ok x) = Concludes answers bound old new pending c x rest
-ConversesBy free answers bound old new pending rest c (Err e) = Breaks free answers bound old new pending c e
+abbrev pub ConversesBy : {X E : Type 0} → (E → Bool) → (E → Bool) → Bool → ℕ → Option Talk → Option Talk → List ℕ → List ℕ → Conversation X E → Result X E → Type 0
+ConversesBy free stopped answers bound old new pending rest c (Ok x) = Concludes answers bound old new pending c x rest
+ConversesBy free stopped answers bound old new pending rest c (Err e) = Breaks free stopped answers bound old new pending c e
 
 -- What a call leaves that holds the conversation. Pending is what was received and not read before it, and rest what
 -- was received and not read after it.
-pub record Converses {X E : Type 0} (free : E → Bool) (answers : Bool) (bound : ℕ) (old new : Option Talk) (pending rest : List ℕ) (c : Conversation X E) (result : Result X E) : Type 0 where
-  pub held : ConversesBy free answers bound old new pending rest c result
+pub record Converses {X E : Type 0} (free stopped : E → Bool) (answers : Bool) (bound : ℕ) (old new : Option Talk) (pending rest : List ℕ) (c : Conversation X E) (result : Result X E) : Type 0 where
+  pub held : ConversesBy free stopped answers bound old new pending rest c result
+
+-- What a peer gave in a call and has still to give are valid replies: to all requests of the conversation, or at least to
+-- each that was heard whole.
+pub record HasValidReplies {X E : Type 0} (bound : ℕ) (old new : Option Talk) (c : Conversation X E) : Type 0 where
+  pub before : Talk
+  pub after : Talk
+  pub told_before : old ≡ Some before
+  pub told_after : new ≡ Some after
+  pub heard : List ℕ
+  pub said : List ℕ
+  pub heard_so : after.heard ≡ before.heard ++ heard
+  pub gave_so : after.given ≡ before.given ++ said
+  pub valid : ((x : X × List ℕ) × (answer_in bound c (said ++ after.to_come) ≡ Ok x)) ⊎ IsUnheard bound c heard (said ++ after.to_come)

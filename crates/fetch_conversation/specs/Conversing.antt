@@ -89,7 +89,7 @@ pub record IsHeld (answers : Bool) (bound : ℕ) (old new : Option Talk) (pendin
 -- A round is held, or the rounds break off.
 abbrev pub Holds : Bool → ℕ → Option Talk → Option Talk → List ℕ → List ℕ → TermsValue → Graph → Algorithm → CourseValue → CourseValue → Option FetchReply → Result Bool Error → Type 0
 Holds answers bound old new pending rest t g algorithm c now kept (Ok last) = IsHeld answers bound old new pending rest t g algorithm c now kept last
-Holds answers bound old new pending rest t g algorithm c now kept (Err e) = (more : ℕ) → Breaks is_free_receiving answers bound old new pending (negotiating (suc more) bound t g algorithm c) e
+Holds answers bound old new pending rest t g algorithm c now kept (Err e) = (more : ℕ) → Breaks is_free_receiving is_stopped answers bound old new pending (negotiating (suc more) bound t g algorithm c) e
 
 -- what the rounds end with, the reply being the one that a session keeps
 abbrev pub negotiated_of : Result Negotiate Error → Option FetchReply → Result Negotiated Error

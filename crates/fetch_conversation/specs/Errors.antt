@@ -1,5 +1,5 @@
 -- How an inner refusal is told by an outer call, and which refusals have a count or nothing in place of a cause.
-use Rattle.std.specs.Prelude.{Bool, true, false}
+use Rattle.std.specs.Prelude.{Bool, true, false, Option, Some, None, Result, Ok, Err}
 use Rattle.fetch_pack.specs.declared.error.PackError.{PackError}
 use Rattle.fetch_pack.specs.declared.error.PackError.TheVariants as pack
 use Rattle.fetch_update.specs.declared.update.Error.{Error as UpdateError}
@@ -56,6 +56,12 @@ abbrev pub fetch_of_stop : Stop → ReceiveError
 fetch_of_stop (stops.Refused e) = fetch_of_wire e
 fetch_of_stop stops.Failed = fetch.Client
 fetch_of_stop stops.Interrupted = fetch.Interrupted
+
+-- a fault of the peer
+abbrev pub is_failed : Stop → Bool
+is_failed (stops.Refused e) = false
+is_failed stops.Failed = true
+is_failed stops.Interrupted = false
 
 -- a yes of the interrupt
 abbrev pub is_yes : Stop → Bool
@@ -176,3 +182,24 @@ is_free_receiving (fetch.Fetch e) = false
 is_free_receiving (fetch.RejectShallowRemote id) = false
 is_free_receiving (fetch.Pack e) = false
 is_free_receiving (fetch.Collision id) = false
+
+-- a server lacks what is needed
+abbrev pub is_lacking : WireError → Bool
+is_lacking (wire.MissingFeature name) = true
+is_lacking _ = false
+
+-- A refusal that comes before anything is sent for a pack.
+abbrev pub is_unasked : ReceiveError → Bool
+is_unasked (fetch.NoMapping specs count) = true
+is_unasked (fetch.IncompatibleObjectHash local remote) = true
+is_unasked (fetch.RejectShallowRemoteConfig value) = true
+is_unasked (fetch.NegotiationAlgorithmConfig value) = true
+is_unasked (fetch.PackThreads value) = true
+is_unasked (fetch.Fetch e) = is_lacking e
+is_unasked _ = false
+
+-- Nothing was sent for a pack: it is refused before, or nothing is wanted.
+abbrev pub asks_nothing : {X : Type 0} → Result (Option X) ReceiveError → Bool
+asks_nothing (Ok None) = true
+asks_nothing (Ok (Some x)) = false
+asks_nothing (Err e) = is_unasked e

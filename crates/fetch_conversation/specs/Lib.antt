@@ -9,6 +9,7 @@ pub mod Listing
 pub mod Mapped
 pub mod ReadSettings
 pub mod Receiving
+pub mod Blame
 pub mod Requested
 pub mod Rounds
 pub mod Served

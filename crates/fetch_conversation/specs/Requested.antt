@@ -2,6 +2,7 @@
 use Rattle.std.specs.Prelude.{◌≡◌, ◌≢◌, false, List, [], ◌∷◌, ◌++◌, ⊤}
 use Rattle.fetch_store.specs.declared.id.ObjectId.{ObjectId}
 use Rattle.fetch_store.specs.Graph.{Graph}
+use Rattle.fetch_wire.specs.KnownIds.{each_once}
 use Rattle.fetch_wire.specs.declared.lines.line.Line.{Line}
 use Rattle.fetch_negotiate.specs.Any.{begun}
 use Rattle.fetch_negotiate.specs.Requests.{Asked, fetch_request}
@@ -15,7 +16,7 @@ use Rattle.fetch_conversation.specs.Exchange.{TermsValue, asked_by, haves_told}
 -- was, and then its window; and `done` where its round has that.
 abbrev pub requests_of : Asked → List ObjectId → List Round → List Line
 requests_of a shared [] = []
-requests_of a shared (r ∷ rounds) = fetch_request a (haves_told shared r.haves) r.done ++ requests_of a (shared ++ r.acknowledged) rounds
+requests_of a shared (r ∷ rounds) = fetch_request a (haves_told shared r.haves) r.done ++ requests_of a (each_once (shared ++ r.acknowledged)) rounds
 
 -- None but the last of the rounds has `done`.
 abbrev pub AreOpen : List Round → Type 0

@@ -2,6 +2,7 @@
 use Rattle.std.specs.Prelude.{ℕ, zero, suc, Bool, ◌||◌, List, [], ◌∷◌, ◌++◌, length, Ok, Err, nat_lt, if◌then◌else◌}
 use Rattle.fetch_store.specs.declared.id.ObjectId.{ObjectId}
 use Rattle.fetch_store.specs.Graph.{Graph}
+use Rattle.fetch_wire.specs.KnownIds.{each_once}
 use Rattle.fetch_wire.specs.declared.requests.records.FetchReply.{FetchReply}
 use Rattle.fetch_negotiate.specs.Any.{begun}
 use Rattle.fetch_negotiate.specs.Haves.{Negotiation}
@@ -14,7 +15,7 @@ use Rattle.fetch_conversation.specs.Exchange.{TermsValue, haves_told, other_repl
 use Rattle.fetch_conversation.specs.declared.conversing.View.{View}
 use Rattle.fetch_conversation.specs.declared.fetch.Error.{Error}
 
--- How far the rounds are: the negotiation, the ids that were acknowledged, the rounds that were held, and how many
+-- How far the rounds are: the negotiation, the ids that were acknowledged, each once, the rounds that were held, and how many
 -- commits the next window may have.
 pub record CourseValue : Type 0 where
   pub so_far : Negotiation
@@ -46,7 +47,7 @@ rounds_with c w reply = c.rounds ++ round_of c w reply ∷ []
 abbrev pub course_after : Algorithm → CourseValue → Window → FetchReply → CourseValue
 course_after algorithm c w reply = record {
   so_far = sharing_all algorithm w.later reply.acknowledged;
-  shared = c.shared ++ reply.acknowledged;
+  shared = each_once (c.shared ++ reply.acknowledged);
   rounds = rounds_with c w reply;
   size = next_size c.size;
 }

@@ -1,12 +1,12 @@
 -- What a server writes, by which a fetch comes to its end.
-use Rattle.std.specs.Prelude.{◌≡◌, ◌≢◌, ◌≤◌, ℕ, true, false, List, [], ◌∷◌, ◌++◌, map, Option, Some, None, Ok, All, IfSome, sum_by, unwrap_or}
+use Rattle.std.specs.Prelude.{◌≡◌, ◌≢◌, ◌≤◌, ℕ, true, false, List, [], ◌∷◌, ◌++◌, map, Option, None, Ok, All, IfSome, sum_by, unwrap_or}
 use Rattle.fetch_pack.specs.Reading.{Contents, read}
 use Rattle.fetch_specs.specs.Conflicts.{conflicts_of}
 use Rattle.fetch_specs.specs.Matches.{mappings_of}
 use Rattle.fetch_store.specs.Graph.{Graph}
 use Rattle.fetch_store.specs.declared.id.ObjectId.{ObjectId}
 use Rattle.fetch_wire.specs.Bands.{Band}
-use Rattle.fetch_wire.specs.FetchReplies.{has_id}
+use Rattle.fetch_wire.specs.KnownIds.{has_id, each_once}
 use Rattle.fetch_wire.specs.Greetings.{handshake_of, offers}
 use Rattle.fetch_wire.specs.Lines.{line_len}
 use Rattle.fetch_wire.specs.NamesTold.{AreNamedOnce}
@@ -77,7 +77,7 @@ lines_of (readies ids change bands) = ready_lines ids change bands
 abbrev pub reply_of : Answer → FetchReply
 reply_of (acknowledges ids) = in_round ids
 reply_of (packs change bands) = at_last change bands
-reply_of (readies ids change bands) = record (at_last change bands) { acknowledged = ids }
+reply_of (readies ids change bands) = record (at_last change bands) { acknowledged = each_once ids }
 
 -- these are ids of the server's hash, and haves of the request
 pub record AreHaves (asked : AskedReply) (ids : List ObjectId) : Type 0 where

@@ -1,15 +1,15 @@
 //! Asking for the pack, and reading it.
 
-ghost use Rattle.std.specs.Prelude.{◌≡◌, IfErr, IfOk, IfSome, OnOk, IsErrOf};
-ghost use Rattle.fetch_store.specs.Faults.{Rose, Counts};
+ghost use Rattle.std.specs.Prelude.{◌≡◌, IfErr, IfOk, IfSome, OnOk, IsErrOf, true};
+ghost use Rattle.fetch_conversation.specs.Blame.{BlamesPeer, BlamesInterrupt, is_told};
+ghost use Rattle.fetch_conversation.specs.Receiving.{last_question};
 ghost use Rattle.fetch_store.specs.Collisions.{HasDistinctIds};
 ghost use Rattle.fetch_store.specs.Stores.{AreOf};
 ghost use Rattle.fetch_conversation.specs.Conversation.{Converses};
 ghost use Rattle.fetch_conversation.specs.ConverseStage.{converse_stage};
 ghost use Rattle.fetch_conversation.specs.Conversing.{IsClear, IsRefusal, IsOwn, terms_told};
-ghost use Rattle.fetch_conversation.specs.Errors.{is_free_receiving, is_stopped};
+ghost use Rattle.fetch_conversation.specs.Errors.{is_free_receiving, is_client, is_stopped, asks_nothing};
 ghost use Rattle.fetch_conversation.specs.ListStage.{IsReady, shown, pending_of};
-ghost use Rattle.fetch_conversation.specs.Receiving.{IsHeeded};
 ghost use Rattle.fetch_conversation.specs.declared.fetch.Error.TheVariants as errors;
 
 use crate::copies::copied_ids;
@@ -128,27 +128,24 @@ pub fn converse<R: Threads + Sync, P: Peer, I: Interrupt, Q: Progress, O: Object
     interrupt: &mut I,
 ) -> Result<Option<Received>, fetch::Error>
     requires { IsReady listed.old }
-    ensures held { Converses is_free_receiving P.answers listed.old.session.intake.bound (P.told peer.old) (P.told peer.new) (pending_of listed.old) (pending_of listed.new)
+    ensures held { Converses is_free_receiving is_stopped P.answers listed.old.session.intake.bound (P.told peer.old) (P.told peer.new) (pending_of listed.old) (pending_of listed.new)
         (converse_stage listed.old.session.intake.bound (O.graph objects.now) (terms_told (shown listed.old) terms.now)) result }
     ensures of_kind { IfOk result (λ found. IfSome found (λ r. AreOf listed.old.handshake.object_hash r.objects)) }
     ensures distinct { IfOk result (λ found. IfSome found (λ r. HasDistinctIds r.objects)) }
     ensures kept { shown listed.new ≡ shown listed.old }
-    ensures counts { Counts (P.faults peer.old) (P.faults peer.new) }
-    ensures client { IsErrOf result errors.Client → Rose (P.faults peer.old) (P.faults peer.new) }
-    ensures asked { Counts (I.yes interrupt.old) (I.yes interrupt.new) }
-    ensures interrupted { IsErrOf result errors.Interrupted → Rose (I.yes interrupt.old) (I.yes interrupt.new) }
-    ensures uninterrupted { OnOk result ((I.yes interrupt.new).count ≡ (I.yes interrupt.old).count) }
-    ensures questions { IsHeeded is_stopped (I.will_stop interrupt.old) (I.will_stop interrupt.new) (P.told peer.old) (P.told peer.new) result }
+    ensures unasked { asks_nothing result ≡ true → listed.new ≡ listed.old }
+    ensures peer { BlamesPeer (P.faults peer.old) (P.faults peer.new) (is_told is_client result) }
+    ensures interrupt { BlamesInterrupt (I.yes interrupt.old) (I.yes interrupt.new) (I.will_stop interrupt.old) (I.will_stop interrupt.new) (P.told peer.old) (P.told peer.new) (last_question is_stopped result) }
 {
     refuse(alloc, listed, terms)?;
     if terms.view.wants.is_empty() {
         return Ok(None);
     }
     let negotiate = negotiate(alloc, listed, terms, objects, peer, interrupt)?;
-    let Some(reply) = listed.session.reply() else {
+    let Some(reply) = listed.session.take_reply() else {
         return Err(fetch::Error::Fetch(WireError::Malformed { place: 0 }));
     };
     tell(progress, reply.progress.as_slice());
-    let received = received(rt, alloc, listed, terms, negotiate, reply)?;
+    let received = received(rt, alloc, listed, terms, negotiate, &reply)?;
     Ok(Some(received))
 }

@@ -1,10 +1,12 @@
 //! A session is driven: what it has to send is sent, and what its peer says is fed to it.
 
-ghost use Rattle.std.specs.Prelude.{◌≡◌, ◌<◌, [], false, length, IfErr, OnOk, IsErrOf};
-ghost use Rattle.fetch_store.specs.Faults.{Rose, Counts};
-ghost use Rattle.fetch_conversation.specs.Drives.{IsDrivable, Drives, IsDriven, IsUnsent, Takes, made_by};
-ghost use Rattle.fetch_conversation.specs.Errors.{is_yes};
-ghost use Rattle.fetch_conversation.specs.Receiving.{IsHeeded};
+ghost use Rattle.std.specs.Prelude.{◌≡◌, ◌≢◌, ◌<◌, [], false, None, length, IfErr, OnOk, OnErr};
+ghost use Rattle.fetch_conversation.specs.Blame.{BlamesPeer, BlamesInterrupt, is_told};
+ghost use Rattle.fetch_conversation.specs.Receiving.{last_question};
+ghost use Rattle.fetch_conversation.specs.Drives.{IsDrivable, Drives, IsDriven, IsUnsent, RunsOut, Takes, made_by};
+ghost use Rattle.fetch_conversation.specs.declared.drive.Stop.TheVariants as stops;
+ghost use Rattle.fetch_wire.specs.declared.error.WireError.TheVariants as wire;
+ghost use Rattle.fetch_conversation.specs.Errors.{is_failed, is_yes};
 ghost use Rattle.fetch_wire.specs.SessionStates.{turn_of, IsAwaiting};
 ghost use Rattle.fetch_wire.specs.Talks.{Sends, Makes};
 ghost use Rattle.fetch_wire.specs.declared.session.turn.Turn.TheVariants as turns;
@@ -52,11 +54,11 @@ impl From<AllocError> for Stop {
 /// Sends what is to be sent.
 fn send<P: Peer>(session: &mut Session, peer: &mut P) -> Result<(), Stop>
     ensures session { OnOk result (session.new ≡ record session.old { outgoing = [] }) }
+    ensures unsent { OnErr result (session.new ≡ session.old) }
     ensures talk { Sends P.answers (P.told peer.old) (P.told peer.new) result session.old.outgoing }
     ensures receives { Makes (P.told peer.old) (P.told peer.new) [] }
     ensures cause { IfErr result (λ e. IsUnsent e) }
-    ensures counts { Counts (P.faults peer.old) (P.faults peer.new) }
-    ensures failed { IsErrOf result Stop.Failed → Rose (P.faults peer.old) (P.faults peer.new) }
+    ensures peer { BlamesPeer (P.faults peer.old) (P.faults peer.new) (is_told is_failed result) }
 {
     match peer.send(session.outgoing()) {
         Ok(()) => {
@@ -80,13 +82,10 @@ fn receive<P: Peer, I: Interrupt>(
     requires unrefused { session.old.refused ≡ false }
     requires room { 0 < length buffer.old }
     ensures taken { Takes (P.told peer.old) (P.told peer.new) session.old session.new result }
+    ensures memory { IfErr result (λ e. e ≡ stops.Refused wire.NoMemory → session.new.trouble ≢ None) }
     ensures receives { Makes (P.told peer.old) (P.told peer.new) (made_by result) }
-    ensures counts { Counts (P.faults peer.old) (P.faults peer.new) }
-    ensures failed { IsErrOf result Stop.Failed → Rose (P.faults peer.old) (P.faults peer.new) }
-    ensures asked { Counts (I.yes interrupt.old) (I.yes interrupt.new) }
-    ensures interrupted { IsErrOf result Stop.Interrupted → Rose (I.yes interrupt.old) (I.yes interrupt.new) }
-    ensures uninterrupted { OnOk result ((I.yes interrupt.new).count ≡ (I.yes interrupt.old).count) }
-    ensures questions { IsHeeded is_yes (I.will_stop interrupt.old) (I.will_stop interrupt.new) (P.told peer.old) (P.told peer.new) result }
+    ensures peer { BlamesPeer (P.faults peer.old) (P.faults peer.new) (is_told is_failed result) }
+    ensures interrupt { BlamesInterrupt (I.yes interrupt.old) (I.yes interrupt.new) (I.will_stop interrupt.old) (I.will_stop interrupt.new) (P.told peer.old) (P.told peer.new) (last_question is_yes result) }
 {
     if interrupt.asked() {
         return Err(Stop::Interrupted);
@@ -103,7 +102,7 @@ fn receive<P: Peer, I: Interrupt>(
 }
 
 /// Sends and receives by this buffer until nothing is to be sent and no reply is awaited. The interrupt is asked once
-/// before each receive.
+/// before each receive. It comes to an end since a reply has a bound, and each receive brings some of it.
 fn take_turns<P: Peer, I: Interrupt>(
     session: &mut Session,
     peer: &mut P,
@@ -114,7 +113,7 @@ fn take_turns<P: Peer, I: Interrupt>(
     requires room { 0 < length buffer.old }
     ensures { IsDriven P.answers (P.told peer.old) (P.told peer.new) session.old session.new (P.faults peer.old) (P.faults peer.new) (I.yes interrupt.old) (I.yes interrupt.new) (I.will_stop interrupt.old) (I.will_stop interrupt.new) result }
 {
-    'turns: for _ in 0..u64::MAX {
+    'turns: loop {
         match session.poll() {
             Turn::Send => send(session, peer)?,
             Turn::Receive => receive(session, peer, interrupt, buffer)?,
@@ -122,7 +121,6 @@ fn take_turns<P: Peer, I: Interrupt>(
             Turn::Failed => session.end()?,
         }
     }
-    Err(Stop::Refused(WireError::NoMemory))
 }
 
 /// Sends and receives until nothing is to be sent and no reply is awaited. The interrupt is asked once before each
@@ -135,12 +133,9 @@ pub(crate) fn drive<P: Peer, I: Interrupt>(
 ) -> Result<(), Stop>
     requires { IsDrivable session.old }
     ensures driven { Drives P.answers (P.told peer.old) (P.told peer.new) session.old session.new result }
-    ensures counts { Counts (P.faults peer.old) (P.faults peer.new) }
-    ensures failed { IsErrOf result Stop.Failed → Rose (P.faults peer.old) (P.faults peer.new) }
-    ensures asked { Counts (I.yes interrupt.old) (I.yes interrupt.new) }
-    ensures interrupted { IsErrOf result Stop.Interrupted → Rose (I.yes interrupt.old) (I.yes interrupt.new) }
-    ensures uninterrupted { OnOk result ((I.yes interrupt.new).count ≡ (I.yes interrupt.old).count) }
-    ensures questions { IsHeeded is_yes (I.will_stop interrupt.old) (I.will_stop interrupt.new) (P.told peer.old) (P.told peer.new) result }
+    ensures memory { RunsOut session.old session.new result }
+    ensures peer { BlamesPeer (P.faults peer.old) (P.faults peer.new) (is_told is_failed result) }
+    ensures interrupt { BlamesInterrupt (I.yes interrupt.old) (I.yes interrupt.new) (I.will_stop interrupt.old) (I.will_stop interrupt.new) (P.told peer.old) (P.told peer.new) (last_question is_yes result) }
 {
     let mut buffer = vec![in alloc; 0u8; PIECE]?;
     take_turns(session, peer, interrupt, &mut buffer)

@@ -1,14 +1,14 @@
 //! One request for a pack, and its reply.
 
-ghost use Rattle.std.specs.Prelude.{◌≡◌, IfErr, OnOk, IsErrOf};
-ghost use Rattle.fetch_store.specs.Faults.{Rose, Counts};
+ghost use Rattle.std.specs.Prelude.{◌≡◌, IfErr, OnOk, IsErrOf, false};
+ghost use Rattle.fetch_conversation.specs.Blame.{BlamesPeer, BlamesInterrupt, is_told};
+ghost use Rattle.fetch_conversation.specs.Receiving.{last_question};
 ghost use Rattle.fetch_conversation.specs.Conversation.{Converses};
 ghost use Rattle.fetch_conversation.specs.Conversing.{IsAsked, reply_of, terms_told};
-ghost use Rattle.fetch_conversation.specs.Errors.{is_free_receiving, is_stopped};
+ghost use Rattle.fetch_conversation.specs.Errors.{is_free_receiving, is_client, is_stopped, is_unasked};
 ghost use Rattle.fetch_conversation.specs.Exchange as spec;
 ghost use Rattle.fetch_conversation.specs.Exchange.{asked_by, haves_told};
 ghost use Rattle.fetch_conversation.specs.ListStage.{IsReady, shown, pending_of};
-ghost use Rattle.fetch_conversation.specs.Receiving.{IsHeeded};
 ghost use Rattle.fetch_conversation.specs.declared.fetch.Error.TheVariants as errors;
 ghost use Rattle.fetch_negotiate.specs.Requests.{fetch_request};
 ghost use Rattle.fetch_wire.specs.Written.{first_too_long, TellsTooLong};
@@ -62,17 +62,14 @@ pub(crate) fn exchange<P: Peer, I: Interrupt>(
     interrupt: &mut I,
 ) -> Result<(), fetch::Error>
     requires { IsReady listed.old }
-    ensures held { Converses is_free_receiving P.answers listed.old.session.intake.bound (P.told peer.old) (P.told peer.new) (pending_of listed.old) (pending_of listed.new)
+    ensures held { Converses is_free_receiving is_stopped P.answers listed.old.session.intake.bound (P.told peer.old) (P.told peer.new) (pending_of listed.old) (pending_of listed.new)
         (spec.exchange listed.old.session.intake.bound (terms_told (shown listed.old) terms.now) (haves_told shared.now round.now.haves) round.now.done) (reply_of result listed.new.session.reply) }
+    ensures asked { IfErr result (λ e. is_unasked e ≡ false) }
     ensures ready { OnOk result (IsReady listed.new) }
     ensures bound { OnOk result (listed.new.session.intake.bound ≡ listed.old.session.intake.bound) }
     ensures kept { shown listed.new ≡ shown listed.old }
-    ensures counts { Counts (P.faults peer.old) (P.faults peer.new) }
-    ensures client { IsErrOf result errors.Client → Rose (P.faults peer.old) (P.faults peer.new) }
-    ensures asked { Counts (I.yes interrupt.old) (I.yes interrupt.new) }
-    ensures interrupted { IsErrOf result errors.Interrupted → Rose (I.yes interrupt.old) (I.yes interrupt.new) }
-    ensures uninterrupted { OnOk result ((I.yes interrupt.new).count ≡ (I.yes interrupt.old).count) }
-    ensures questions { IsHeeded is_stopped (I.will_stop interrupt.old) (I.will_stop interrupt.new) (P.told peer.old) (P.told peer.new) result }
+    ensures peer { BlamesPeer (P.faults peer.old) (P.faults peer.new) (is_told is_client result) }
+    ensures interrupt { BlamesInterrupt (I.yes interrupt.old) (I.yes interrupt.new) (I.will_stop interrupt.old) (I.will_stop interrupt.new) (P.told peer.old) (P.told peer.new) (last_question is_stopped result) }
 {
     let alloc = round.haves.allocator();
     ask(alloc, listed, terms, shared, round)?;

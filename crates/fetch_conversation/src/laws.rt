@@ -1,6 +1,6 @@
 //! What holds of every conversation.
 
-ghost use Rattle.std.specs.Prelude.{◌≡◌, ℕ, suc, ◌+◌, ◌++◌, Bool, false, List, [], Option, Some, Result, Ok, Err};
+ghost use Rattle.std.specs.Prelude.{◌≡◌, ℕ, suc, ◌+◌, ◌++◌, Bool, true, false, List, [], Option, Some, Result, Ok, Err};
 ghost use Rattle.std.specs.FinMap as map;
 ghost use Rattle.fetch_wire.specs.Talks.{Talk};
 ghost use Rattle.fetch_wire.specs.declared.lines.line.Line.{Line};
@@ -11,7 +11,7 @@ ghost use Rattle.fetch_pack.specs.Reading.{Contents};
 ghost use Rattle.fetch_wire.specs.Greetings.{handshake_of};
 ghost use Rattle.fetch_wire.specs.declared.greetings.handshake.Capability.{Capability};
 ghost use Rattle.fetch_wire.specs.declared.listings.reference.Ref.{Ref};
-ghost use Rattle.fetch_conversation.specs.Conversation.{Conversation, Concludes, Breaks, sent_in, answer_in};
+ghost use Rattle.fetch_conversation.specs.Conversation.{Conversation, Concludes, Breaks, HasValidReplies, sent_in, answer_in};
 ghost use Rattle.fetch_conversation.specs.ConverseStage.{converse_stage, with_pack};
 ghost use Rattle.fetch_conversation.specs.Exchange.{TermsValue};
 ghost use Rattle.fetch_conversation.specs.ListStage.{InquiryValue, list_stage, map_of};
@@ -28,9 +28,15 @@ pub fn a_served_conversation<X, E>()
     ensures concluded { (is_request : List Line → Bool) (rule : List ℕ → List ℕ) (serve : List Line → List ℕ) (answers : Bool) (bound : ℕ) (old : Option Talk) (new : Talk) (c : Conversation X E) (x : X) (rest : List ℕ)
         → Serves is_request rule serve → AsksOnly is_request c → IsAnswered bound serve c → IsFresh rule old → Follows rule new
         → Concludes answers bound old (Some new) [] c x rest → answer_with bound serve c ≡ Ok x }
-    ensures broken { (is_request : List Line → Bool) (rule : List ℕ → List ℕ) (serve : List Line → List ℕ) (answers : Bool) (bound : ℕ) (old : Option Talk) (new : Talk) (c : Conversation X E) (free : E → Bool) (e : E)
+    ensures broken { (is_request : List Line → Bool) (rule : List ℕ → List ℕ) (serve : List Line → List ℕ) (answers : Bool) (bound : ℕ) (old : Option Talk) (new : Talk) (c : Conversation X E) (free stopped : E → Bool) (e : E)
         → Serves is_request rule serve → AsksOnly is_request c → IsAnswered bound serve c → IsFresh rule old → Follows rule new
-        → Breaks free answers bound old (Some new) [] c e → free e ≡ false → answer_with bound serve c ≡ Err e }
+        → Breaks free stopped answers bound old (Some new) [] c e → free e ≡ false → answer_with bound serve c ≡ Err e }
+{}
+
+/// A peer whose replies are valid, at least to each request that it heard whole, is never refused but for a free cause.
+pub fn valid_replies_are_never_refused<X, E>()
+    ensures { (free stopped : E → Bool) (answers : Bool) (bound : ℕ) (old new : Option Talk) (c : Conversation X E) (e : E)
+        → Breaks free stopped answers bound old new [] c e → HasValidReplies bound old new c → free e ≡ true }
 {}
 
 /// Whatever a peer says, what is sent to it for a pack are the requests of rounds: each tells the ids acknowledged before

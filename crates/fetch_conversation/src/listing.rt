@@ -1,12 +1,12 @@
 //! Listing the references of a remote, and mapping them.
 
 ghost use Rattle.std.specs.Prelude.{◌≡◌, [], true, false, None, ◌&&◌, ◌++◌, IfOk, IfErr, OnOk, IsErrOf};
-ghost use Rattle.fetch_store.specs.Faults.{Rose, Counts};
+ghost use Rattle.fetch_conversation.specs.Blame.{BlamesPeer, BlamesInterrupt, is_told};
+ghost use Rattle.fetch_conversation.specs.Receiving.{last_question};
 ghost use Rattle.fetch_conversation.specs.Conversation.{Converses};
 ghost use Rattle.fetch_conversation.specs.Errors.{is_free_listing, is_transport, is_interrupted};
 ghost use Rattle.fetch_conversation.specs.ListStage.{InquiryValue, inquiry_stage, list_stage, answer_shown, left_by, IsReady, all_specs, with_tags, is_nil};
 ghost use Rattle.fetch_conversation.specs.Listing.{IsOpened, TellsUnopened, TellsUntold, Answers};
-ghost use Rattle.fetch_conversation.specs.Receiving.{IsHeeded};
 ghost use Rattle.fetch_wire.specs.SessionStates.{turn_of};
 ghost use Rattle.fetch_wire.specs.declared.session.turn.Turn.TheVariants as turns;
 ghost use Rattle.fetch_conversation.specs.declared.prepare.Error.TheVariants as errors;
@@ -142,16 +142,12 @@ pub fn inquire<P: Peer, I: Interrupt>(
     interrupt: &mut I,
     options: Options,
 ) -> Result<Listed, prepare::Error>
-    ensures held { Converses is_free_listing P.answers options.max_reply_bytes (P.told peer.old) (P.told peer.new) [] (left_by result)
+    ensures held { Converses is_free_listing is_interrupted P.answers options.max_reply_bytes (P.told peer.old) (P.told peer.new) [] (left_by result)
         (inquiry_stage options.max_reply_bytes (record { address = inquiry.now.address.now; agent = inquiry.now.agent.now; specs = inquiry.now.specs.now; tags = inquiry.now.tags; options = options })) (answer_shown result) }
     ensures ready { IfOk result (λ l. IsReady l) }
     ensures bound { IfOk result (λ l. l.session.intake.bound ≡ options.max_reply_bytes) }
-    ensures counts { Counts (P.faults peer.old) (P.faults peer.new) }
-    ensures transport { IsErrOf result (errors.RefMap ref_map_errors.Transport) → Rose (P.faults peer.old) (P.faults peer.new) }
-    ensures asked { Counts (I.yes interrupt.old) (I.yes interrupt.new) }
-    ensures interrupted { IsErrOf result (errors.RefMap ref_map_errors.Interrupted) → Rose (I.yes interrupt.old) (I.yes interrupt.new) }
-    ensures uninterrupted { OnOk result ((I.yes interrupt.new).count ≡ (I.yes interrupt.old).count) }
-    ensures questions { IsHeeded is_interrupted (I.will_stop interrupt.old) (I.will_stop interrupt.new) (P.told peer.old) (P.told peer.new) result }
+    ensures peer { BlamesPeer (P.faults peer.old) (P.faults peer.new) (is_told is_transport result) }
+    ensures interrupt { BlamesInterrupt (I.yes interrupt.old) (I.yes interrupt.new) (I.will_stop interrupt.old) (I.will_stop interrupt.new) (P.told peer.old) (P.told peer.new) (last_question is_interrupted result) }
 {
     let extra = specs_with_tags(alloc, inquiry.tags, options.extra_refspecs.as_slice())?;
     let specs = joined_specs(alloc, inquiry.specs, &extra)?;
@@ -169,16 +165,12 @@ pub fn list<P: Peer, I: Interrupt>(
     interrupt: &mut I,
     options: Options,
 ) -> Result<Listed, prepare::Error>
-    ensures held { Converses is_free_listing P.answers options.max_reply_bytes (P.told peer.old) (P.told peer.new) [] (left_by result)
+    ensures held { Converses is_free_listing is_interrupted P.answers options.max_reply_bytes (P.told peer.old) (P.told peer.new) [] (left_by result)
         (list_stage options.max_reply_bytes (record { address = inquiry.now.address.now; agent = inquiry.now.agent.now; specs = inquiry.now.specs.now; tags = inquiry.now.tags; options = options })) (answer_shown result) }
     ensures ready { IfOk result (λ l. IsReady l) }
     ensures bound { IfOk result (λ l. l.session.intake.bound ≡ options.max_reply_bytes) }
-    ensures counts { Counts (P.faults peer.old) (P.faults peer.new) }
-    ensures transport { IsErrOf result (errors.RefMap ref_map_errors.Transport) → Rose (P.faults peer.old) (P.faults peer.new) }
-    ensures asked { Counts (I.yes interrupt.old) (I.yes interrupt.new) }
-    ensures interrupted { IsErrOf result (errors.RefMap ref_map_errors.Interrupted) → Rose (I.yes interrupt.old) (I.yes interrupt.new) }
-    ensures uninterrupted { OnOk result ((I.yes interrupt.new).count ≡ (I.yes interrupt.old).count) }
-    ensures questions { IsHeeded is_interrupted (I.will_stop interrupt.old) (I.will_stop interrupt.new) (P.told peer.old) (P.told peer.new) result }
+    ensures peer { BlamesPeer (P.faults peer.old) (P.faults peer.new) (is_told is_transport result) }
+    ensures interrupt { BlamesInterrupt (I.yes interrupt.old) (I.yes interrupt.new) (I.will_stop interrupt.old) (I.will_stop interrupt.new) (P.told peer.old) (P.told peer.new) (last_question is_interrupted result) }
 {
     if names_none(inquiry, &options) {
         return Err(prepare::Error::MissingRefSpecs);

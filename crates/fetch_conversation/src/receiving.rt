@@ -6,7 +6,7 @@ ghost use Rattle.fetch_store.specs.Stores.{AreOf};
 ghost use Rattle.fetch_conversation.specs.ConverseStage as spec;
 ghost use Rattle.fetch_conversation.specs.ConverseStage.{rejected, without_pack, read_of};
 ghost use Rattle.fetch_conversation.specs.Conversing.{Tells, IsOwn, terms_told};
-ghost use Rattle.fetch_conversation.specs.Errors.{is_free_receiving};
+ghost use Rattle.fetch_conversation.specs.Errors.{is_free_receiving, is_unasked};
 ghost use Rattle.fetch_conversation.specs.ListStage.{shown};
 ghost use Rattle.fetch_conversation.specs.ReadSettings.{rejects_shallow_of};
 
@@ -44,6 +44,7 @@ pub(crate) fn tell<Q: Progress>(progress: &mut Q, texts: &[Text]) {
 fn refuse_border(terms: &Terms<'_>, reply: &FetchReply) -> Result<(), fetch::Error>
     ensures told { Tells (rejected terms.now.settings.now terms.now.view.now terms.now.shallow.now reply.now) result }
     ensures own { IfErr result (λ e. IsOwn e) }
+    ensures asked { IfErr result (λ e. is_unasked e ≡ false) }
 {
     if !is_rejecting(terms.settings) || !is_no_change(terms.shallow) {
         return Ok(());
@@ -109,6 +110,7 @@ fn unpack<R: Threads + Sync>(
     ensures of_kind { IfOk result (λ r. AreOf kind r.objects) }
     ensures distinct { IfOk result (λ r. HasDistinctIds r.objects) }
     ensures own { IfErr result (λ e. IsOwn e) }
+    ensures asked { IfErr result (λ e. is_unasked e ≡ false) }
 {
     let mut received = unpacked(alloc, negotiate, reply)?;
     if terms.dry_run {
@@ -138,6 +140,7 @@ pub(crate) fn received<R: Threads + Sync>(
     ensures of_kind { IfOk result (λ r. AreOf listed.now.handshake.object_hash r.objects) }
     ensures distinct { IfOk result (λ r. HasDistinctIds r.objects) }
     ensures own { IfErr result (λ e. IsOwn e) }
+    ensures asked { IfErr result (λ e. is_unasked e ≡ false) }
 {
     refuse_border(terms, reply)?;
     unpack(

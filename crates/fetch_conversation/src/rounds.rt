@@ -1,9 +1,11 @@
 //! The rounds of a fetch: one request after another, until one of them ends the rounds.
 
-ghost use Rattle.std.specs.Prelude.{◌≡◌, ◌+◌, ◌∷◌, ◌++◌, ◌||◌, [], false, suc, None, IfOk, OnOk, IsErrOf};
+ghost use Rattle.std.specs.Prelude.{◌≡◌, ◌+◌, ◌∷◌, ◌++◌, ◌||◌, [], false, suc, None, IfOk, OnOk, IsErrOf, IfErr};
 ghost use Rattle.std.specs.FinMap as map;
-ghost use Rattle.fetch_store.specs.Faults.{Rose, Counts};
+ghost use Rattle.fetch_conversation.specs.Blame.{BlamesPeer, BlamesInterrupt, is_told};
+ghost use Rattle.fetch_conversation.specs.Receiving.{last_question};
 ghost use Rattle.fetch_store.specs.declared.id.ObjectId.{ObjectId as Id};
+ghost use Rattle.fetch_wire.specs.KnownIds.{each_once};
 ghost use Rattle.fetch_negotiate.specs.Any.{algorithm_of, known_by, so_far_of};
 ghost use Rattle.fetch_negotiate.specs.Reading.{IsTold};
 ghost use Rattle.fetch_negotiate.specs.Rounds.{sharing_all};
@@ -11,9 +13,8 @@ ghost use Rattle.fetch_negotiate.specs.Windows.{next_size};
 ghost use Rattle.fetch_conversation.specs.Conversation.{Converses};
 ghost use Rattle.fetch_conversation.specs.ConverseStage.{algorithm_in};
 ghost use Rattle.fetch_conversation.specs.Conversing.{Holds, course_of, negotiated_of, terms_told};
-ghost use Rattle.fetch_conversation.specs.Errors.{is_free_receiving, is_stopped};
+ghost use Rattle.fetch_conversation.specs.Errors.{is_free_receiving, is_client, is_stopped, is_unasked};
 ghost use Rattle.fetch_conversation.specs.ListStage.{IsReady, shown, pending_of};
-ghost use Rattle.fetch_conversation.specs.Receiving.{IsHeeded};
 ghost use Rattle.fetch_conversation.specs.Rounds as spec;
 ghost use Rattle.fetch_conversation.specs.declared.fetch.Error.TheVariants as errors;
 
@@ -27,7 +28,7 @@ use crate::reading_settings::algorithm;
 use crate::settings::Settings;
 use fetch_negotiate::{Algorithm, AnyNegotiator, Negotiator, Round};
 use fetch_store::{List, NoMemory, ObjectId, Objects};
-use fetch_wire::{FetchReply, Interrupt, Peer, WireError};
+use fetch_wire::{FetchReply, Interrupt, Peer, WireError, each_once};
 use std::alloc::Global;
 
 /// How many commits the first window has, if so many are to be told.
@@ -40,7 +41,7 @@ const LARGEST_SIZE: usize = 1024;
 #[derive(Debug, Drop)]
 pub(crate) struct Course {
     negotiator: AnyNegotiator,
-    /// The ids acknowledged so far, as the replies list them.
+    /// The ids acknowledged so far, each once, in the order in which each first was.
     shared: Vec<ObjectId>,
     rounds: List<Round>,
     /// How many commits the next window may have.
@@ -126,7 +127,7 @@ impl Course {
         requires { IsTold (known_by self.old.negotiator) (O.graph objects.now) }
         ensures course { OnOk result (course_of self.new ≡ record {
           so_far = sharing_all (algorithm_of self.old.negotiator) (course_of self.old).so_far ids.now;
-          shared = self.old.shared.items ++ ids.now;
+          shared = each_once (self.old.shared.items ++ ids.now);
           rounds = self.old.rounds;
           size = next_size self.old.size;
         }) }
@@ -135,6 +136,7 @@ impl Course {
     {
         self.tell(objects, ids)?;
         self.shared.extend_from_slice(ids)?;
+        self.shared = each_once(self.rounds.allocator(), &self.shared)?;
         self.size = next_size(self.size);
         Ok(())
     }
@@ -151,7 +153,7 @@ impl Course {
         ensures rounds { OnOk result (self.new.rounds ≡ self.old.rounds ++ (record { haves = round.haves; acknowledged = reply.now.acknowledged; done = round.done }) ∷ []) }
         ensures goes { IfOk result (λ last. last ≡ false → course_of self.new ≡ record {
           so_far = sharing_all (algorithm_of self.old.negotiator) (course_of self.old).so_far reply.now.acknowledged;
-          shared = self.old.shared.items ++ reply.now.acknowledged;
+          shared = each_once (self.old.shared.items ++ reply.now.acknowledged);
           rounds = self.old.rounds ++ (record { haves = round.haves; acknowledged = reply.now.acknowledged; done = round.done }) ∷ [];
           size = next_size self.old.size;
         }) }
@@ -185,17 +187,14 @@ fn hold_round<P: Peer, I: Interrupt, O: Objects>(
     requires told { IsTold (known_by course.old.negotiator) (O.graph objects.now) }
     ensures held { Holds P.answers listed.old.session.intake.bound (P.told peer.old) (P.told peer.new) (pending_of listed.old) (pending_of listed.new)
         (terms_told (shown listed.old) terms.now) (O.graph objects.now) (algorithm_of course.old.negotiator) (course_of course.old) (course_of course.new) listed.new.session.reply result }
+    ensures asked { IfErr result (λ e. is_unasked e ≡ false) }
     ensures algorithm { OnOk result (algorithm_of course.new.negotiator ≡ algorithm_of course.old.negotiator) }
     ensures told { OnOk result (IsTold (known_by course.new.negotiator) (O.graph objects.now)) }
     ensures ready { OnOk result (IsReady listed.new) }
     ensures bound { OnOk result (listed.new.session.intake.bound ≡ listed.old.session.intake.bound) }
     ensures kept { shown listed.new ≡ shown listed.old }
-    ensures counts { Counts (P.faults peer.old) (P.faults peer.new) }
-    ensures client { IsErrOf result errors.Client → Rose (P.faults peer.old) (P.faults peer.new) }
-    ensures asked { Counts (I.yes interrupt.old) (I.yes interrupt.new) }
-    ensures interrupted { IsErrOf result errors.Interrupted → Rose (I.yes interrupt.old) (I.yes interrupt.new) }
-    ensures uninterrupted { OnOk result ((I.yes interrupt.new).count ≡ (I.yes interrupt.old).count) }
-    ensures questions { IsHeeded is_stopped (I.will_stop interrupt.old) (I.will_stop interrupt.new) (P.told peer.old) (P.told peer.new) result }
+    ensures peer { BlamesPeer (P.faults peer.old) (P.faults peer.new) (is_told is_client result) }
+    ensures interrupt { BlamesInterrupt (I.yes interrupt.old) (I.yes interrupt.new) (I.will_stop interrupt.old) (I.will_stop interrupt.new) (P.told peer.old) (P.told peer.new) (last_question is_stopped result) }
 {
     let round = course.next(objects)?;
     exchange(
@@ -234,16 +233,13 @@ pub(crate) fn negotiate<P: Peer, I: Interrupt, O: Objects>(
     interrupt: &mut I,
 ) -> Result<Negotiate, fetch::Error>
     requires { IsReady listed.old }
-    ensures held { Converses is_free_receiving P.answers listed.old.session.intake.bound (P.told peer.old) (P.told peer.new) (pending_of listed.old) (pending_of listed.new)
+    ensures held { Converses is_free_receiving is_stopped P.answers listed.old.session.intake.bound (P.told peer.old) (P.told peer.new) (pending_of listed.old) (pending_of listed.new)
         (spec.negotiating (suc (map.len (O.graph objects.now))) listed.old.session.intake.bound (terms_told (shown listed.old) terms.now) (O.graph objects.now) (algorithm_in terms.now.settings.now)
         (spec.first_course (algorithm_in terms.now.settings.now) terms.now.view.now)) (negotiated_of result listed.new.session.reply) }
+    ensures asked { IfErr result (λ e. is_unasked e ≡ false) }
     ensures kept { shown listed.new ≡ shown listed.old }
-    ensures counts { Counts (P.faults peer.old) (P.faults peer.new) }
-    ensures client { IsErrOf result errors.Client → Rose (P.faults peer.old) (P.faults peer.new) }
-    ensures asked { Counts (I.yes interrupt.old) (I.yes interrupt.new) }
-    ensures interrupted { IsErrOf result errors.Interrupted → Rose (I.yes interrupt.old) (I.yes interrupt.new) }
-    ensures uninterrupted { OnOk result ((I.yes interrupt.new).count ≡ (I.yes interrupt.old).count) }
-    ensures questions { IsHeeded is_stopped (I.will_stop interrupt.old) (I.will_stop interrupt.new) (P.told peer.old) (P.told peer.new) result }
+    ensures peer { BlamesPeer (P.faults peer.old) (P.faults peer.new) (is_told is_client result) }
+    ensures interrupt { BlamesInterrupt (I.yes interrupt.old) (I.yes interrupt.new) (I.will_stop interrupt.old) (I.will_stop interrupt.new) (P.told peer.old) (P.told peer.new) (last_question is_stopped result) }
 {
     let most = most_rounds(objects)?;
     let mut course = Course::new(alloc, terms)?;

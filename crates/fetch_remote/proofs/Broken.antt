@@ -1,11 +1,11 @@
 -- A conversation that broke off, stage by stage.
-use Rattle.std.proofs.Common.{◌≡◌, ℕ, Bool, false, List, [], ◌++◌, Option, Result, Ok, refl, sym, ap, ◌∙◌, append_assoc}
+use Rattle.std.proofs.Common.{◌≡◌, ℕ, Bool, true, false, List, [], ◌++◌, Option, Result, Ok, refl, sym, ap, ◌∙◌, append_assoc}
 use Rattle.std.proofs.lemmas.List.Concat.{flat_map-append}
 use Rattle.fetch_wire.specs.Talks.{Talk, IsFront}
 use Rattle.fetch_wire.specs.Written.{line_text, lines_text}
 use Rattle.fetch_wire.specs.declared.lines.line.Line.{Line}
 use Rattle.fetch_conversation.specs.Conversation.{Conversation, ends, sent_in, answer_in, and_then, map_refusal, told_as, Concludes, Breaks}
-use Rattle.fetch_conversation.specs.Errors.{is_free_listing, is_free_map, is_free_receiving}
+use Rattle.fetch_conversation.specs.Errors.{is_free_listing, is_free_map, is_free_receiving, is_interrupted, is_stopped}
 use Rattle.fetch_conversation.specs.ListStage.{ListedValue}
 use Rattle.fetch_conversation.specs.declared.fetch.Error.{Error as ReceiveError}
 use Rattle.fetch_conversation.specs.declared.fetch.Error.TheVariants as receive
@@ -14,7 +14,7 @@ use Rattle.fetch_conversation.specs.declared.prepare.Error.TheVariants as prepar
 use Rattle.fetch_conversation.specs.declared.ref_map.Error.{Error as RefMapError}
 use Rattle.fetch_conversation.specs.declared.ref_map.Error.TheVariants as ref_map
 use Rattle.fetch_conversation.proofs.Chained.{breaks_early, breaks_late, breaks_as, concludes_as, sent_then, sent_as, sent_behind, text_then, answer_as}
-use Rattle.fetch_remote.specs.Errors.{preparing, receiving, is_free}
+use Rattle.fetch_remote.specs.Errors.{preparing, receiving, is_free, is_yes}
 use Rattle.fetch_remote.specs.Form.{Given}
 use Rattle.fetch_remote.specs.Repositories.{State}
 use Rattle.fetch_remote.specs.Stages.{bound_of, listing_stage, pack_stage, receiving_stage, conversation}
@@ -53,29 +53,54 @@ free_receiving (receive.UpdateRefs e) sure = refl
 free_receiving (receive.RemovePackKeepFile path) sure = refl
 free_receiving receive.NoMemory sure = sure
 
+-- a yes is told as one
+
+yes_listing : (e : PrepareError) → is_yes (preparing e) ≡ true → is_interrupted e ≡ true
+yes_listing prepare.MissingRefSpecs told = told
+yes_listing (prepare.RefMap e) told = told
+yes_listing prepare.NoMemory told = told
+
+yes_receiving : (e : ReceiveError) → is_yes (receiving e) ≡ true → is_stopped e ≡ true
+yes_receiving (receive.NoMapping specs count) told = told
+yes_receiving (receive.IncompatibleObjectHash local remote) told = told
+yes_receiving (receive.Disconnected link) told = told
+yes_receiving (receive.RejectShallowRemoteConfig value) told = told
+yes_receiving (receive.NegotiationAlgorithmConfig value) told = told
+yes_receiving (receive.PackThreads value) told = told
+yes_receiving (receive.Fetch e) told = told
+yes_receiving receive.Client told = told
+yes_receiving receive.Interrupted told = told
+yes_receiving (receive.RejectShallowRemote id) told = told
+yes_receiving (receive.Pack e) told = told
+yes_receiving (receive.Collision id) told = told
+yes_receiving (receive.KeepFile path) told = told
+yes_receiving (receive.UpdateRefs e) told = told
+yes_receiving (receive.RemovePackKeepFile path) told = told
+yes_receiving receive.NoMemory told = told
+
 -- ---- the whole broke off
 
-listing_as : (answers : Bool) (old new : Option Talk) (g : Given) (e : PrepareError) → Breaks is_free_listing answers (bound_of g) old new [] (listing_stage g) e → Breaks is_free answers (bound_of g) old new [] (told_as preparing (listing_stage g)) (preparing e)
-listing_as answers old new g e h = breaks_as is_free_listing is_free answers (bound_of g) old new [] preparing (listing_stage g) e (λ sure. sym (free_listing e) ∙ sure) h
+listing_as : (answers : Bool) (old new : Option Talk) (g : Given) (e : PrepareError) → Breaks is_free_listing is_interrupted answers (bound_of g) old new [] (listing_stage g) e → Breaks is_free is_yes answers (bound_of g) old new [] (told_as preparing (listing_stage g)) (preparing e)
+listing_as answers old new g e h = breaks_as is_free_listing is_interrupted is_free is_yes answers (bound_of g) old new [] preparing (listing_stage g) e (λ sure. sym (free_listing e) ∙ sure) (yes_listing e) h
 
-receiving_as : (answers : Bool) (old new : Option Talk) (g : Given) (s : State) (l : ListedValue) (behind : List ℕ) (e : ReceiveError) → Breaks is_free_receiving answers (bound_of g) old new behind (pack_stage g s l) e
-    → Breaks is_free answers (bound_of g) old new behind (receiving_stage g s l) (receiving e)
+receiving_as : (answers : Bool) (old new : Option Talk) (g : Given) (s : State) (l : ListedValue) (behind : List ℕ) (e : ReceiveError) → Breaks is_free_receiving is_stopped answers (bound_of g) old new behind (pack_stage g s l) e
+    → Breaks is_free is_yes answers (bound_of g) old new behind (receiving_stage g s l) (receiving e)
 unfolding receiving_stage
 receiving_as answers old new g s l behind e h =
-    breaks_early is_free answers (bound_of g) old new behind (told_as receiving (pack_stage g s l)) _ (receiving e)
-    (breaks_as is_free_receiving is_free answers (bound_of g) old new behind receiving (pack_stage g s l) e (free_receiving e) h)
+    breaks_early is_free is_yes answers (bound_of g) old new behind (told_as receiving (pack_stage g s l)) _ (receiving e)
+    (breaks_as is_free_receiving is_stopped is_free is_yes answers (bound_of g) old new behind receiving (pack_stage g s l) e (free_receiving e) (yes_receiving e) h)
 
-pub whole_listing : (answers : Bool) (old new : Option Talk) (g : Given) (s : State) (e : PrepareError) → Breaks is_free_listing answers (bound_of g) old new [] (listing_stage g) e
-    → Breaks is_free answers (bound_of g) old new [] (conversation g s) (preparing e)
+pub whole_listing : (answers : Bool) (old new : Option Talk) (g : Given) (s : State) (e : PrepareError) → Breaks is_free_listing is_interrupted answers (bound_of g) old new [] (listing_stage g) e
+    → Breaks is_free is_yes answers (bound_of g) old new [] (conversation g s) (preparing e)
 unfolding conversation
-whole_listing answers old new g s e h = breaks_early is_free answers (bound_of g) old new [] (told_as preparing (listing_stage g)) (receiving_stage g s) (preparing e) (listing_as answers old new g e h)
+whole_listing answers old new g s e h = breaks_early is_free is_yes answers (bound_of g) old new [] (told_as preparing (listing_stage g)) (receiving_stage g s) (preparing e) (listing_as answers old new g e h)
 
 pub whole_receiving : (answers : Bool) (old mid new : Option Talk) (g : Given) (s : State) (l : ListedValue) (behind : List ℕ) (e : ReceiveError)
-    → Concludes answers (bound_of g) old mid [] (listing_stage g) l behind → Breaks is_free_receiving answers (bound_of g) mid new behind (pack_stage g s l) e
-    → Breaks is_free answers (bound_of g) old new [] (conversation g s) (receiving e)
+    → Concludes answers (bound_of g) old mid [] (listing_stage g) l behind → Breaks is_free_receiving is_stopped answers (bound_of g) mid new behind (pack_stage g s l) e
+    → Breaks is_free is_yes answers (bound_of g) old new [] (conversation g s) (receiving e)
 unfolding conversation
 whole_receiving answers old mid new g s l behind e h k =
-    breaks_late is_free answers (bound_of g) old mid new [] behind (told_as preparing (listing_stage g)) (receiving_stage g s) l (receiving e)
+    breaks_late is_free is_yes answers (bound_of g) old mid new [] behind (told_as preparing (listing_stage g)) (receiving_stage g s) l (receiving e)
     (concludes_as answers (bound_of g) old mid [] behind preparing (listing_stage g) l h) (receiving_as answers mid new g s l behind e k)
 
 -- ---- a prefix of the requests

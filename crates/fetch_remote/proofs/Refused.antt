@@ -7,7 +7,7 @@ use Rattle.fetch_wire.specs.Talks.{Talk, Talks, IsFront, Talks-then}
 use Rattle.fetch_wire.specs.Written.{lines_text}
 use Rattle.fetch_conversation.specs.Conversation.{answer_in, IsAwaited, Breaks}
 use Rattle.fetch_conversation.specs.Conversation as held
-use Rattle.fetch_conversation.specs.Errors.{is_free_listing}
+use Rattle.fetch_conversation.specs.Errors.{is_free_listing, is_interrupted}
 use Rattle.fetch_conversation.specs.ListStage.{ListedValue}
 use Rattle.fetch_conversation.specs.declared.conversing.Received.{Received}
 use Rattle.fetch_conversation.specs.declared.fetch.Error.{Error as ReceiveError}
@@ -16,7 +16,7 @@ use Rattle.fetch_conversation.specs.declared.prepare.Error.{Error as PrepareErro
 use Rattle.fetch_conversation.specs.declared.prepare.Error.TheVariants as prepare
 use Rattle.fetch_remote.specs.declared.fetching.fetch_error.FetchError.{FetchError}
 use Rattle.fetch_remote.specs.declared.fetching.fetch_error.FetchError.TheVariants as errors
-use Rattle.fetch_remote.specs.Errors.{preparing, receiving, is_free}
+use Rattle.fetch_remote.specs.Errors.{preparing, receiving, is_free, is_yes}
 use Rattle.fetch_remote.specs.Fetching.{manner_in, taken_in, keep_made, settled_in, requests_in, left_by, left_in, keep_left_by, keep_left_in}
 use Rattle.fetch_remote.specs.Form.{Given}
 use Rattle.fetch_remote.specs.Keeping.{AreFiles, with_keep}
@@ -78,7 +78,7 @@ early_by now g trees before files said heard e (inl all) = inl (λ more. early_w
 early_by now g trees before files said heard e (inr last) = inr (last.0, early_with g trees before files said heard e last.1)
 
 -- with a cause
-broken_for : (answers : Bool) (old new : Option Talk) (known : Option (List Worktree)) (files : Option Tree) (g : Given) (before : State) (e : FetchError) → is_free e ≡ false → Breaks is_free answers (bound_of g) old new [] (conversation g before) e
+broken_for : (answers : Bool) (old new : Option Talk) (known : Option (List Worktree)) (files : Option Tree) (g : Given) (before : State) (e : FetchError) → is_free e ≡ false → Breaks is_free is_yes answers (bound_of g) old new [] (conversation g before) e
     → IsRefused answers old new known files files g before before e
 broken_for answers old new known files g before e sure h = record {
   said = h.said;
@@ -133,7 +133,7 @@ no_listing_pack (receive.UpdateRefs e) x is = absurd (cc)
 no_listing_pack (receive.RemovePackKeepFile path) x is = absurd (cc)
 no_listing_pack receive.NoMemory x is = absurd (cc)
 
-listing_by : (answers : Bool) (old new : Option Talk) (known : Option (List Worktree)) (files : Option Tree) (g : Given) (before : State) (e : PrepareError) → Breaks is_free_listing answers (bound_of g) old new [] (listing_stage g) e → (b : Bool) → is_free (preparing e) ≡ b
+listing_by : (answers : Bool) (old new : Option Talk) (known : Option (List Worktree)) (files : Option Tree) (g : Given) (before : State) (e : PrepareError) → Breaks is_free_listing is_interrupted answers (bound_of g) old new [] (listing_stage g) e → (b : Bool) → is_free (preparing e) ≡ b
     → IsRefused answers old new known files files g before before (preparing e)
 listing_by answers old new known files g before e h false sure = broken_for answers old new known files g before (preparing e) sure (whole_listing answers old new g before e h)
 listing_by answers old new known files g before e h true free =

@@ -2,11 +2,12 @@
 use Rattle.std.proofs.Common.{◌≡◌, ℕ, Bool, List, [], ◌++◌, Option, Ok, refl, ap, ◌∙◌, append_assoc}
 use Rattle.fetch_wire.specs.Talks.{Talk, Talks, Talks-then, Talks-none}
 use Rattle.fetch_wire.specs.Written.{lines_text}
-use Rattle.fetch_conversation.specs.Conversation.{Conversation, ends, sent_in, answer_in, and_then, map_refusal, told_as, IsAwaited, Concludes}
+use Rattle.fetch_conversation.specs.Conversation.{Conversation, ends, sent_in, answer_in, and_then, map_refusal, told_as, AllGave, IsAwaited, Concludes}
 use Rattle.fetch_conversation.proofs.Chained.{text_then, answer_then, answer_behind, sent_as, answer_as, awaited_early, awaited_as, awaited_then}
 use Rattle.fetch_conversation.proofs.Tied.{awaited_first}
 use Rattle.fetch_conversation.specs.ListStage.{ListedValue}
 use Rattle.fetch_conversation.specs.declared.conversing.Received.{Received}
+use Rattle.fetch_conversation.proofs.Due.{all_gave_then}
 use Rattle.fetch_remote.specs.Errors.{preparing, receiving}
 use Rattle.fetch_remote.specs.Form.{Given}
 use Rattle.fetch_remote.specs.Repositories.{State}
@@ -18,14 +19,15 @@ pub record Spoke {X E : Type 0} (answers : Bool) (bound : ℕ) (old new : Option
   pub asked : (more : List ℕ) → lines_text (sent_in bound c (pending ++ (said ++ more))) ≡ heard
   pub answered : (more : List ℕ) → answer_in bound c (pending ++ (said ++ more)) ≡ Ok (x, rest ++ more)
   pub needed : IsAwaited bound old new pending c
+  pub gave : AllGave said needed.receives
 
 pub spoke : {X E : Type 0} (answers : Bool) (bound : ℕ) (old new : Option Talk) (pending rest : List ℕ) (c : Conversation X E) (x : X) → (h : Concludes answers bound old new pending c x rest)
     → Spoke answers bound old new pending c x rest h.said h.heard
-spoke answers bound old new pending rest c x h = record { passed = h.passed; asked = h.asked; answered = h.answered; needed = h.needed }
+spoke answers bound old new pending rest c x h = record { passed = h.passed; asked = h.asked; answered = h.answered; needed = h.needed; gave = h.gave }
 
 spoke_end : {X E : Type 0} (answers : Bool) (bound : ℕ) (now : Option Talk) (pending : List ℕ) (x : X) → Spoke {X = X} {E = E} answers bound now now pending (ends (Ok x)) x pending [] []
 unfolding sent_in answer_in
-spoke_end answers bound now pending x = record { passed = Talks-none answers now; asked = λ more. refl; answered = λ more. refl; needed = awaited_first bound now pending (ends (Ok x)) }
+spoke_end answers bound now pending x = record { passed = Talks-none answers now; asked = λ more. refl; answered = λ more. refl; needed = awaited_first bound now pending (ends (Ok x)); gave = tt }
 
 spoke_as : {X E F : Type 0} (answers : Bool) (bound : ℕ) (old new : Option Talk) (pending rest said heard : List ℕ) (g : E → F) (c : Conversation X E) (x : X)
     → Spoke answers bound old new pending c x rest said heard → Spoke answers bound old new pending (told_as g c) x rest said heard
@@ -34,6 +36,7 @@ spoke_as answers bound old new pending rest said heard g c x h = record {
   asked = λ more. ap lines_text (sent_as bound g c _) ∙ h.asked more;
   answered = λ more. answer_as bound g c _ ∙ ap (map_refusal g) (h.answered more);
   needed = awaited_as bound old new pending g c h.needed;
+  gave = h.gave;
 }
 
 spoke_then : {X Y E : Type 0} (answers : Bool) (bound : ℕ) (old mid new : Option Talk) (pending rest left said heard said' heard' : List ℕ) (c : Conversation X E) (f : X → Conversation Y E) (x : X) (y : Y)
@@ -42,7 +45,8 @@ spoke_then answers bound old mid new pending rest left said heard said' heard' c
   passed = Talks-then answers old mid new heard said heard' said' h.passed k.passed;
   asked = λ more. rw append_assoc (text_then bound c f _ _ x (h.answered (said' ++ more)) ∙ ap (λ (l : List ℕ). l ++ lines_text (sent_in bound (f x) (rest ++ (said' ++ more)))) (h.asked (said' ++ more)) ∙ ap (λ (l : List ℕ). heard ++ l) (k.asked more));
   answered = λ more. rw append_assoc (answer_then bound c f _ ∙ ap (answer_behind bound f) (h.answered (said' ++ more)) ∙ k.answered more);
-  needed = awaited_then answers bound old mid new pending rest said heard c f x h.passed h.asked h.answered h.needed k.needed;
+  needed = awaited_then answers bound old mid new pending rest said heard c f x h.passed h.asked h.answered h.needed h.gave k.needed;
+  gave = all_gave_then heard said said' h.needed.receives k.needed.receives h.gave k.gave;
 }
 
 -- ---- the two stages as one
@@ -80,5 +84,5 @@ pub needed_receiving : (answers : Bool) (g : Given) (s : State) (old mid new : O
 unfolding conversation receiving_stage
 needed_receiving answers g s old mid new l behind h k =
     awaited_then answers (bound_of g) old mid new [] behind h.said h.heard (told_as preparing (listing_stage g)) (receiving_stage g s) l h.passed (λ more. ap lines_text (sent_as (bound_of g) preparing (listing_stage g) _) ∙ h.asked more)
-    (λ more. answer_as (bound_of g) preparing (listing_stage g) _ ∙ ap (map_refusal preparing) (h.answered more)) (awaited_as (bound_of g) old mid [] preparing (listing_stage g) h.needed)
+    (λ more. answer_as (bound_of g) preparing (listing_stage g) _ ∙ ap (map_refusal preparing) (h.answered more)) (awaited_as (bound_of g) old mid [] preparing (listing_stage g) h.needed) h.gave
     (awaited_early (bound_of g) mid new behind (told_as receiving (pack_stage g s l)) _ (awaited_as (bound_of g) mid new behind receiving (pack_stage g s l) k))

@@ -27,7 +27,7 @@ use Rattle.fetch_wire.specs.declared.greetings.handshake.Handshake.{Handshake}
 use Rattle.fetch_wire.specs.declared.lines.line.Line.{Line}
 use Rattle.fetch_wire.specs.declared.listings.reference.Ref.{Ref}
 use Rattle.fetch_conversation.specs.Conversation.{Conversation, ends, asks, asks_unless, answer_in, after_reply, Concludes, Breaks, IsRefusedBy}
-use Rattle.fetch_conversation.specs.Errors.{is_free_listing, is_free_receiving, prepare_of}
+use Rattle.fetch_conversation.specs.Errors.{is_free_listing, is_free_receiving, prepare_of, is_interrupted, is_stopped}
 use Rattle.fetch_conversation.specs.ListStage.{InquiryValue, ListedValue, all_specs, handshaking, too_long, failed, inquiry_stage, listing, listed, greeted, mapped, mapped_unless, unless, unlisted, unsendable, shown, pending_of}
 use Rattle.fetch_conversation.specs.declared.conversing.Received.{Received}
 use Rattle.fetch_conversation.specs.declared.fetch.Error.{Error as ReceiveError}
@@ -74,12 +74,12 @@ breaks_off answers old new g s e h = inl (record { cause = e; told = refl; broke
 
 -- the second one breaks off
 pub breaks_on : (answers : Bool) (old mid new : Option Talk) (g : Given) (s : State) (listed : Listed) (e : ReceiveError) → HasListed answers old mid (inquiry_in g) listed
-    → Breaks is_free_receiving answers (bound_of g) mid new (pending_of listed) (pack_stage g s (shown listed)) e → BreaksListing answers old new g (receiving e) ⊎ BreaksReceiving answers old new g s (receiving e)
+    → Breaks is_free_receiving is_stopped answers (bound_of g) mid new (pending_of listed) (pack_stage g s (shown listed)) e → BreaksListing answers old new g (receiving e) ⊎ BreaksReceiving answers old new g s (receiving e)
 breaks_on answers old mid new g s listed e h b = inr (record { between = mid; behind = pending_of listed; listed = shown listed; list = h.list; cause = e; told = refl; broke = b })
 
 -- memory runs out before it
-pub gives_up_here : (answers : Bool) (mid : Option Talk) (g : Given) (s : State) (listed : Listed) → Breaks is_free_receiving answers (bound_of g) mid mid (pending_of listed) (pack_stage g s (shown listed)) receive.NoMemory
-gives_up_here answers mid g s listed = broken_free is_free_receiving answers (bound_of g) mid (pending_of listed) (pack_stage g s (shown listed)) receive.NoMemory refl
+pub gives_up_here : (answers : Bool) (mid : Option Talk) (g : Given) (s : State) (listed : Listed) → Breaks is_free_receiving is_stopped answers (bound_of g) mid mid (pending_of listed) (pack_stage g s (shown listed)) receive.NoMemory
+gives_up_here answers mid g s listed = broken_free is_free_receiving is_stopped answers (bound_of g) mid (pending_of listed) (pack_stage g s (shown listed)) receive.NoMemory refl refl
 
 -- what is received is of the repository's hash
 pub kind_on : (answers : Bool) (mid new : Option Talk) (g : Given) (s : State) (listed : Listed) (rest : List ℕ) (r : Option Received) → g.setup.settings.kind ≡ s.hash
@@ -88,9 +88,9 @@ kind_on answers mid new g s listed rest r same k = sym (is_received (bound_of g)
 
 -- it is refused by nothing that comes after it
 pub is_spoken : (answers : Bool) (mid new : Option Talk) (g : Given) (s : State) (listed : Listed) (e x : ReceiveError) → (IsOther x → ⊥) → is_free_receiving x ≡ false
-    → Breaks is_free_receiving answers (bound_of g) mid new (pending_of listed) (pack_stage g s (shown listed)) e → e ≡ x → ⊥
+    → Breaks is_free_receiving is_stopped answers (bound_of g) mid new (pending_of listed) (pack_stage g s (shown listed)) e → e ≡ x → ⊥
 is_spoken answers mid new g s listed e x apart sure b is =
-    let k = subst (λ (y : ReceiveError). Breaks is_free_receiving answers (bound_of g) mid new (pending_of listed) (pack_stage g s (shown listed)) y) is b in
+    let k = subst (λ (y : ReceiveError). Breaks is_free_receiving is_stopped answers (bound_of g) mid new (pending_of listed) (pack_stage g s (shown listed)) y) is b in
     refused_as new g s (shown listed) _ _ x apart (k.why sure)
 
 -- memory runs out after the listing
@@ -230,31 +230,31 @@ names_inquiry bound q =
     names_unless (unsendable q) _ (named_unsendable (first_bad (texts_told q.address q.options.handshake_parameters q.agent)))
     (names_long (first_too_long (first_line q.address q.options.handshake_parameters ∷ [])) _ (names_asks _ awaits.Greeting (failed bound) (greeted bound q) (λ fault. tt) (λ t. names_greeted bound q t)))
 
-never_missing : (answers : Bool) (old new : Option Talk) (bound : ℕ) (q : InquiryValue) → Breaks is_free_listing answers bound old new [] (inquiry_stage bound q) prepare.MissingRefSpecs → ⊥
+never_missing : (answers : Bool) (old new : Option Talk) (bound : ℕ) (q : InquiryValue) → Breaks is_free_listing is_interrupted answers bound old new [] (inquiry_stage bound q) prepare.MissingRefSpecs → ⊥
 never_missing answers old new bound q b = by (b.why refl)
   where
     by : IsRefusedBy bound new (inquiry_stage bound q) ([] ++ b.said) b.heard prepare.MissingRefSpecs → ⊥
     by (inl all) = is_named bound (inquiry_stage bound q) (([] ++ b.said) ++ []) (names_inquiry bound q) (all []).answer
     by (inr last) = is_named bound (inquiry_stage bound q) ([] ++ b.said) (names_inquiry bound q) last.1.answer
 
-pub is_not_missing : (answers : Bool) (old new : Option Talk) (bound : ℕ) (q : InquiryValue) (e : PrepareError) → Breaks is_free_listing answers bound old new [] (inquiry_stage bound q) e → is_missing e ≡ false
+pub is_not_missing : (answers : Bool) (old new : Option Talk) (bound : ℕ) (q : InquiryValue) (e : PrepareError) → Breaks is_free_listing is_interrupted answers bound old new [] (inquiry_stage bound q) e → is_missing e ≡ false
 is_not_missing answers old new bound q prepare.MissingRefSpecs b = absurd (never_missing answers old new bound q b)
 is_not_missing answers old new bound q (prepare.RefMap e) b = refl
 is_not_missing answers old new bound q prepare.NoMemory b = refl
 
 -- ---- and its refusal is told by the map's error
 
-told_free : (answers : Bool) (old new : Option Talk) (bound : ℕ) (c : Conversation ListedValue PrepareError) (e x : PrepareError) → is_free_listing x ≡ true → Breaks is_free_listing answers bound old new [] c e → Breaks is_free_listing answers bound old new [] c x
-told_free answers old new bound c e x free b = record { said = b.said; heard = b.heard; passed = b.passed; needed = b.needed; front = b.front; why = λ sure. absurd (cc (free, sure)) }
+told_free : (answers : Bool) (old new : Option Talk) (bound : ℕ) (c : Conversation ListedValue PrepareError) (e x : PrepareError) → is_free_listing x ≡ true → is_interrupted x ≡ false → Breaks is_free_listing is_interrupted answers bound old new [] c e → Breaks is_free_listing is_interrupted answers bound old new [] c x
+told_free answers old new bound c e x free going b = record { said = b.said; heard = b.heard; passed = b.passed; needed = b.needed; front = b.front; why = λ sure. absurd (cc (free, sure)); due = λ told. absurd (cc (going, told)) }
 
-told_map : (answers : Bool) (old new : Option Talk) (bound : ℕ) (c : Conversation ListedValue PrepareError) (e : MapError) → Breaks is_free_listing answers bound old new [] c (prepare.RefMap e) → Breaks is_free_listing answers bound old new [] c (prepare_of e)
+told_map : (answers : Bool) (old new : Option Talk) (bound : ℕ) (c : Conversation ListedValue PrepareError) (e : MapError) → Breaks is_free_listing is_interrupted answers bound old new [] c (prepare.RefMap e) → Breaks is_free_listing is_interrupted answers bound old new [] c (prepare_of e)
 told_map answers old new bound c (ref_map.Handshake e) b = b
 told_map answers old new bound c ref_map.Transport b = b
 told_map answers old new bound c ref_map.Interrupted b = b
 told_map answers old new bound c (ref_map.InitRefMap conflicts) b = b
-told_map answers old new bound c ref_map.NoMemory b = told_free answers old new bound c (prepare.RefMap ref_map.NoMemory) prepare.NoMemory refl b
+told_map answers old new bound c ref_map.NoMemory b = told_free answers old new bound c (prepare.RefMap ref_map.NoMemory) prepare.NoMemory refl refl b
 
-pub told_by : (answers : Bool) (old new : Option Talk) (bound : ℕ) (c : Conversation ListedValue PrepareError) (e : PrepareError) → is_missing e ≡ false → Breaks is_free_listing answers bound old new [] c e → Breaks is_free_listing answers bound old new [] c (prepare_of (listing_error e))
+pub told_by : (answers : Bool) (old new : Option Talk) (bound : ℕ) (c : Conversation ListedValue PrepareError) (e : PrepareError) → is_missing e ≡ false → Breaks is_free_listing is_interrupted answers bound old new [] c e → Breaks is_free_listing is_interrupted answers bound old new [] c (prepare_of (listing_error e))
 told_by answers old new bound c prepare.MissingRefSpecs isnt b = absurd (cc)
 told_by answers old new bound c (prepare.RefMap e) isnt b = told_map answers old new bound c e b
 told_by answers old new bound c prepare.NoMemory isnt b = b

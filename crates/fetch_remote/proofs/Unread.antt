@@ -16,6 +16,7 @@ use Rattle.fetch_wire.specs.declared.replies.reading.Reading.{Reading}
 use Rattle.fetch_wire.specs.declared.replies.reading.Reading.TheVariants as reading
 use Rattle.fetch_wire.specs.declared.requests.records.FetchReply.{FetchReply}
 use Rattle.fetch_wire.specs.Awaited.{step_of, told_at}
+use Rattle.fetch_wire.specs.KnownIds.{each_once}
 use Rattle.fetch_wire.specs.FetchReplies.{no_reply, is_packfile, is_shallow_info, is_acknowledgments, is_nak, is_ready, acknowledged_in, shallow_in, unshallow_in, with_bytes, at_packfile, at_rest, at_beginning, at_acknowledgment, behind_ready, at_change}
 use Rattle.fetch_wire.specs.Lines.{line_at, line_len}
 use Rattle.fetch_wire.specs.Stepping.{Step, goes, ends, breaks, says, or_breaks, after_step, after_line, read_within}
@@ -124,7 +125,7 @@ module _ (asked : AskedReply) (reply : FetchReply) where
   ready : (line : Line) → Follows asked reply (behind_ready asked reply line) (behind_ready (up_to_pack asked) reply line)
   ready (Payload payload) = tt
   ready Flush = tt
-  ready Delim = on parts.Rest reply tt same_reply refl
+  ready Delim = on parts.Rest (record reply { acknowledged = each_once reply.acknowledged }) tt (record { pack = refl; progress = refl }) refl
   ready End = tt
 
   change : (a b : Option ObjectId) → Follows asked reply (at_change asked reply a b) (at_change (up_to_pack asked) reply a b)
@@ -132,8 +133,8 @@ module _ (asked : AskedReply) (reply : FetchReply) where
   change None (Some id) = on parts.ShallowInfo (record reply { unshallow = reply.unshallow ++ id ∷ [] }) tt (record { pack = refl; progress = refl }) refl
   change None None = tt
 
-  more_comes : Follows asked reply (ends (told.Reply (record reply { last = false }))) (ends (told.Reply (record reply { last = false })))
-  more_comes = record { whole = record reply { last = false }; keeps = record { pack = refl; progress = refl }; is = refl; same = refl }
+  more_comes : Follows asked reply (ends (told.Reply (record reply { acknowledged = each_once reply.acknowledged; last = false }))) (ends (told.Reply (record reply { acknowledged = each_once reply.acknowledged; last = false })))
+  more_comes = record { whole = record reply { acknowledged = each_once reply.acknowledged; last = false }; keeps = record { pack = refl; progress = refl }; is = refl; same = refl }
 
   step_follows : (part : Part) (line : Line) → IsEarly part → Follows asked reply (step_of (reading.Reply asked part reply) line) (step_of (reading.Reply (up_to_pack asked) part reply) line)
   unfolding step_of

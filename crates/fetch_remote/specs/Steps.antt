@@ -8,7 +8,7 @@ use Rattle.fetch_store.specs.Trees.{Tree}
 use Rattle.fetch_update.specs.declared.worktrees.Worktree.{Worktree}
 use Rattle.fetch_wire.specs.Talks.{Talk}
 use Rattle.fetch_conversation.specs.Conversation.{Concludes, Breaks}
-use Rattle.fetch_conversation.specs.Errors.{is_free_listing, is_free_receiving, is_interrupted, prepare_of}
+use Rattle.fetch_conversation.specs.Errors.{is_free_listing, is_free_receiving, is_interrupted, prepare_of, is_stopped}
 use Rattle.fetch_conversation.specs.ListStage.{InquiryValue, ListedValue, list_stage, inquiry_stage, shown, pending_of}
 use Rattle.fetch_conversation.specs.Receiving.{IsHeeded}
 use Rattle.fetch_conversation.specs.declared.conversing.Received.{Received}
@@ -89,7 +89,7 @@ pub record HasListed (answers : Bool) (old now : Option Talk) (q : InquiryValue)
 
 -- The listing broke off.
 pub record BreaksOff (answers : Bool) (old now : Option Talk) (q : InquiryValue) (e : PrepareError) : Type 0 where
-  pub broke : Breaks is_free_listing answers q.options.max_reply_bytes old now [] (list_stage q.options.max_reply_bytes q) e
+  pub broke : Breaks is_free_listing is_interrupted answers q.options.max_reply_bytes old now [] (list_stage q.options.max_reply_bytes q) e
 
 -- The listing broke off, with the peer left so. The peer's fault is told only where its count rose, and the interrupt was
 -- asked once before each receive.
@@ -120,7 +120,7 @@ listing_error prepare.NoMemory = ref_map.NoMemory
 
 -- The listing broke off.
 pub record IsUninquired (answers : Bool) (old now : Option Talk) (q : InquiryValue) (e : MapError) : Type 0 where
-  pub broke : Breaks is_free_listing answers q.options.max_reply_bytes old now [] (inquiry_stage q.options.max_reply_bytes q) (prepare_of e)
+  pub broke : Breaks is_free_listing is_interrupted answers q.options.max_reply_bytes old now [] (inquiry_stage q.options.max_reply_bytes q) (prepare_of e)
 
 -- ---- the second stage
 
@@ -133,7 +133,7 @@ pub record HasReceived (answers : Bool) (mid new : Option Talk) (g : Given) (s :
 -- What was received after the listing, or where that broke off.
 abbrev pub TalksOnBy : Bool → Option Talk → Option Talk → Given → State → Listed → Result Talked ReceiveError → Type 0
 TalksOnBy answers mid new g s listed (Ok t) = HasReceived answers mid new g s listed t
-TalksOnBy answers mid new g s listed (Err e) = Breaks is_free_receiving answers (bound_of g) mid new (pending_of listed) (pack_stage g s (shown listed)) e
+TalksOnBy answers mid new g s listed (Err e) = Breaks is_free_receiving is_stopped answers (bound_of g) mid new (pending_of listed) (pack_stage g s (shown listed)) e
 
 -- What the call leaves that holds the second stage, once this was listed.
 pub record TalksOn (answers : Bool) (mid new : Option Talk) (g : Given) (s : State) (listed : Listed) (result : Result Talked ReceiveError) : Type 0 where

@@ -2,7 +2,7 @@
 use Rattle.std.specs.Prelude.{◌≡◌, ℕ, Bool, List, [], Option}
 use Rattle.fetch_wire.specs.Talks.{Talk}
 use Rattle.fetch_conversation.specs.Conversation.{Concludes, Breaks}
-use Rattle.fetch_conversation.specs.Errors.{is_free_listing, is_free_receiving}
+use Rattle.fetch_conversation.specs.Errors.{is_free_listing, is_free_receiving, is_interrupted, is_stopped}
 use Rattle.fetch_conversation.specs.ListStage.{ListedValue, shown, pending_of}
 use Rattle.fetch_conversation.specs.declared.conversing.Received.{Received}
 use Rattle.fetch_conversation.specs.declared.fetch.Error.{Error as ReceiveError}
@@ -25,7 +25,7 @@ pub record HasTold (answers : Bool) (old new : Option Talk) (g : Given) (s : Sta
 pub record BreaksListing (answers : Bool) (old new : Option Talk) (g : Given) (e : FetchError) : Type 0 where
   pub cause : PrepareError
   pub told : e ≡ preparing cause
-  pub broke : Breaks is_free_listing answers (bound_of g) old new [] (listing_stage g) cause
+  pub broke : Breaks is_free_listing is_interrupted answers (bound_of g) old new [] (listing_stage g) cause
 
 -- The references were listed, and then it broke off.
 pub record BreaksReceiving (answers : Bool) (old new : Option Talk) (g : Given) (s : State) (e : FetchError) : Type 0 where
@@ -35,7 +35,7 @@ pub record BreaksReceiving (answers : Bool) (old new : Option Talk) (g : Given) 
   pub list : Concludes answers (bound_of g) old between [] (listing_stage g) listed behind
   pub cause : ReceiveError
   pub told : e ≡ receiving cause
-  pub broke : Breaks is_free_receiving answers (bound_of g) between new behind (pack_stage g s listed) cause
+  pub broke : Breaks is_free_receiving is_stopped answers (bound_of g) between new behind (pack_stage g s listed) cause
 
 -- It came to its end, with these wants asked for.
 pub record HasEnded (answers : Bool) (old new : Option Talk) (g : Given) (s : State) (t : Talked) : Type 0 where

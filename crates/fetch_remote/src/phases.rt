@@ -1,14 +1,14 @@
 //! The stages of a fetch, one call each.
 
-ghost use Rattle.std.specs.Prelude.{◌≡◌, [], IfOk, IfSome, OnOk, IsErrOf};
-ghost use Rattle.fetch_store.specs.Faults.{Rose, Counts};
+ghost use Rattle.std.specs.Prelude.{◌≡◌, [], IfOk, IfSome, OnOk, IsErrOf, true};
+ghost use Rattle.fetch_conversation.specs.Blame.{BlamesPeer, BlamesInterrupt, is_told};
+ghost use Rattle.fetch_conversation.specs.Receiving.{last_question};
 ghost use Rattle.fetch_store.specs.Collisions.{HasDistinctIds};
 ghost use Rattle.fetch_store.specs.Stores.{AreOf};
 ghost use Rattle.fetch_conversation.specs.Conversation.{Converses};
 ghost use Rattle.fetch_conversation.specs.ConverseStage.{converse_stage};
-ghost use Rattle.fetch_conversation.specs.Errors.{is_free_listing, is_free_receiving, is_interrupted, is_stopped};
+ghost use Rattle.fetch_conversation.specs.Errors.{is_free_listing, is_free_receiving, is_client, is_interrupted, is_stopped, is_transport, asks_nothing};
 ghost use Rattle.fetch_conversation.specs.ListStage.{list_stage, answer_shown, left_by, IsReady, shown, pending_of};
-ghost use Rattle.fetch_conversation.specs.Receiving.{IsHeeded};
 ghost use Rattle.fetch_conversation.specs.declared.fetch.Error.TheVariants as receive_errors;
 ghost use Rattle.fetch_conversation.specs.declared.prepare.Error.TheVariants as prepare_errors;
 ghost use Rattle.fetch_conversation.specs.declared.ref_map.Error.TheVariants as ref_map_errors;
@@ -43,16 +43,12 @@ pub fn list<P: Peer, I: Interrupt>(
     interrupt: &mut I,
     options: Options,
 ) -> Result<Listed, prepare::Error>
-    ensures held { Converses is_free_listing P.answers options.max_reply_bytes (P.told peer.old) (P.told peer.new) [] (left_by result)
+    ensures held { Converses is_free_listing is_interrupted P.answers options.max_reply_bytes (P.told peer.old) (P.told peer.new) [] (left_by result)
         (list_stage options.max_reply_bytes (inquiry_of remote.now settings.now options)) (answer_shown result) }
     ensures ready { IfOk result (λ l. IsReady l) }
     ensures bound { IfOk result (λ l. l.session.intake.bound ≡ options.max_reply_bytes) }
-    ensures counts { Counts (P.faults peer.old) (P.faults peer.new) }
-    ensures transport { IsErrOf result (prepare_errors.RefMap ref_map_errors.Transport) → Rose (P.faults peer.old) (P.faults peer.new) }
-    ensures asked { Counts (I.yes interrupt.old) (I.yes interrupt.new) }
-    ensures interrupted { IsErrOf result (prepare_errors.RefMap ref_map_errors.Interrupted) → Rose (I.yes interrupt.old) (I.yes interrupt.new) }
-    ensures uninterrupted { OnOk result ((I.yes interrupt.new).count ≡ (I.yes interrupt.old).count) }
-    ensures questions { IsHeeded is_interrupted (I.will_stop interrupt.old) (I.will_stop interrupt.new) (P.told peer.old) (P.told peer.new) result }
+    ensures peer { BlamesPeer (P.faults peer.old) (P.faults peer.new) (is_told is_transport result) }
+    ensures interrupt { BlamesInterrupt (I.yes interrupt.old) (I.yes interrupt.new) (I.will_stop interrupt.old) (I.will_stop interrupt.new) (P.told peer.old) (P.told peer.new) (last_question is_interrupted result) }
 {
     let inquiry = Inquiry {
         address: remote.address(),
@@ -81,7 +77,7 @@ pub fn converse<R: Threads + Sync, P: Peer, I: Interrupt, Q: Progress, O: Object
     interrupt: &mut I,
 ) -> Result<Option<Received>, fetch::Error>
     requires { IsReady listed.old }
-    ensures held { Converses is_free_receiving P.answers listed.old.session.intake.bound (P.told peer.old) (P.told peer.new) (pending_of listed.old) (pending_of listed.new)
+    ensures held { Converses is_free_receiving is_stopped P.answers listed.old.session.intake.bound (P.told peer.old) (P.told peer.new) (pending_of listed.old) (pending_of listed.new)
         (converse_stage listed.old.session.intake.bound (O.graph objects.now) (record {
           listed = shown listed.old;
           settings = settings.now;
@@ -93,12 +89,9 @@ pub fn converse<R: Threads + Sync, P: Peer, I: Interrupt, Q: Progress, O: Object
     ensures of_kind { IfOk result (λ found. IfSome found (λ r. AreOf listed.old.handshake.object_hash r.objects)) }
     ensures distinct { IfOk result (λ found. IfSome found (λ r. HasDistinctIds r.objects)) }
     ensures kept { shown listed.new ≡ shown listed.old }
-    ensures counts { Counts (P.faults peer.old) (P.faults peer.new) }
-    ensures client { IsErrOf result receive_errors.Client → Rose (P.faults peer.old) (P.faults peer.new) }
-    ensures asked { Counts (I.yes interrupt.old) (I.yes interrupt.new) }
-    ensures interrupted { IsErrOf result receive_errors.Interrupted → Rose (I.yes interrupt.old) (I.yes interrupt.new) }
-    ensures uninterrupted { OnOk result ((I.yes interrupt.new).count ≡ (I.yes interrupt.old).count) }
-    ensures questions { IsHeeded is_stopped (I.will_stop interrupt.old) (I.will_stop interrupt.new) (P.told peer.old) (P.told peer.new) result }
+    ensures unasked { asks_nothing result ≡ true → listed.new ≡ listed.old }
+    ensures peer { BlamesPeer (P.faults peer.old) (P.faults peer.new) (is_told is_client result) }
+    ensures interrupt { BlamesInterrupt (I.yes interrupt.old) (I.yes interrupt.new) (I.will_stop interrupt.old) (I.will_stop interrupt.new) (P.told peer.old) (P.told peer.new) (last_question is_stopped result) }
 {
     let terms = Terms {
         settings,

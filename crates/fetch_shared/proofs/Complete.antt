@@ -8,8 +8,8 @@ use Rattle.fetch_wire.specs.Written.{lines_text}
 use Rattle.fetch_wire.specs.declared.replies.awaited.Fault.{Fault}
 use Rattle.fetch_wire.specs.declared.replies.awaited.Told.{Told as Reply}
 use Rattle.fetch_wire.specs.Awaited.{told_at}
-use Rattle.fetch_conversation.specs.Conversation.{Conversation, ends, asks, after_reply, ends_in, sent_in, answer_in, awaits_more, IsRefusedBy, Breaks}
-use Rattle.fetch_conversation.specs.Errors.{is_free_listing, is_worktree_fault}
+use Rattle.fetch_conversation.specs.Conversation.{Conversation, ends, asks, after_reply, ends_in, sent_in, answer_in, awaits_more, IsUnheard, IsRefusedBy, Breaks}
+use Rattle.fetch_conversation.specs.Errors.{is_free_listing, is_interrupted, is_worktree_fault}
 use Rattle.fetch_conversation.specs.declared.fetch.Error.TheVariants as receive
 use Rattle.fetch_conversation.specs.declared.prepare.Error.TheVariants as prepare
 use Rattle.fetch_remote.specs.Errors as remote
@@ -31,7 +31,7 @@ use Rattle.fetch_shared.specs.Seen.{IsStateAt}
 use Rattle.fetch_shared.specs.Settling.{IsUnjudged}
 use Rattle.fetch_shared.specs.Shared.{SharedValue}
 use Rattle.fetch_shared.specs.Talking.{Line}
-use Rattle.fetch_shared.specs.Valid.{IsUnheard, HasListing, HasReplies, AreJudgeableAt, IsValidFrom, HasValidInput, is_free}
+use Rattle.fetch_shared.specs.Valid.{HasListing, HasReplies, AreJudgeableAt, IsValidFrom, HasValidInput, is_free}
 use Rattle.fetch_shared.proofs.Journals.{begins_trans}
 
 -- ---- one conversation
@@ -87,8 +87,8 @@ module _ (line : Line) (c : Call) (receipt : Receipt) (v : HasValidInput line c 
       append_cancel_left v.before.heard heard v.heard (sym q.heard_more ∙ v.hears)
 
   -- what broke off was refused for a free cause
-  broke_free : {X E : Type 0} (free : E → Bool) (bound : ℕ) (k : Conversation X E) (e : E) → Breaks free line.answers bound line.old line.new [] k e → IsReplied bound k v.heard stream → free e ≡ true
-  broke_free {X} {E} free bound k e h replied = by (free e) refl
+  broke_free : {X E : Type 0} (free stopped : E → Bool) (bound : ℕ) (k : Conversation X E) (e : E) → Breaks free stopped line.answers bound line.old line.new [] k e → IsReplied bound k v.heard stream → free e ≡ true
+  broke_free {X} {E} free stopped bound k e h replied = by (free e) refl
     where
       at : free e ≡ false → IsRefusedBy bound (Some v.after) k v.said v.heard e
       at sure =
@@ -109,7 +109,7 @@ module _ (line : Line) (c : Call) (receipt : Receipt) (v : HasValidInput line c 
   ValidBy r = IsValidFrom c r.judged v.heard stream r.planned
 
   unlisted : (e : FetchError) → IsUnlisted line c receipt e → remote.is_free e ≡ true
-  unlisted e h = ap remote.is_free h.broke.told ∙ (free_listing h.broke.cause ∙ broke_free is_free_listing (bound_of c.given) (listing_stage c.given) h.broke.cause h.broke.broke (listed (subst ValidBy h.receipt_is v.valid)))
+  unlisted e h = ap remote.is_free h.broke.told ∙ (free_listing h.broke.cause ∙ broke_free is_free_listing is_interrupted (bound_of c.given) (listing_stage c.given) h.broke.cause h.broke.broke (listed (subst ValidBy h.receipt_is v.valid)))
     where
       listed : HasListing c.given stream ⊎ IsUnheard (bound_of c.given) (listing_stage c.given) v.heard stream → IsReplied (bound_of c.given) (listing_stage c.given) v.heard stream
       listed (inl l) = inl ((l.listed, l.behind), l.replies)
@@ -123,7 +123,7 @@ module _ (line : Line) (c : Call) (receipt : Receipt) (v : HasValidInput line c 
   unanswered e h =
       let s = h.seen.repository.state in
       ap remote.is_free h.broke.told
-      ∙ broke_free remote.is_free (bound_of c.given) (conversation c.given s) (receiving h.broke.cause)
+      ∙ broke_free remote.is_free remote.is_yes (bound_of c.given) (conversation c.given s) (receiving h.broke.cause)
       (whole_receiving line.answers line.old h.broke.between line.new c.given s h.broke.listed h.broke.behind h.broke.cause h.broke.list h.broke.broke) (replied None s ((subst ValidBy h.receipt_is v.valid) h.seen h.at))
 
   module _ (cause : UpdateError) (h : IsStopped line c receipt (errors.Fetch (fetch.Receive (receive.UpdateRefs cause)))) (u : IsUnjudged (matter_in c.given h.conversed.seen.repository.state h.told) (course_in c h.conversed.seen.journal) h.judged h.place cause) where

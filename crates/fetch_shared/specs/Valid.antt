@@ -1,11 +1,10 @@
 -- Input that is promised a fetch over a shared repository. It is asked for as far as the call came: with the states at the
 -- places that the receipt tells.
-use Rattle.std.specs.Prelude.{◌≡◌, ◌≢◌, ◌⊎◌, ℕ, Bool, true, false, List, ◌++◌, Option, Some, None, Ok, IfSome}
+use Rattle.std.specs.Prelude.{◌≡◌, ◌⊎◌, ℕ, Bool, true, false, List, ◌++◌, Option, Some, None, Ok, IfSome}
 use Rattle.fetch_update.specs.declared.worktrees.Worktree.{Worktree}
 use Rattle.fetch_wire.specs.Talks.{Talk}
-use Rattle.fetch_wire.specs.Written.{lines_text}
 use Rattle.fetch_wire.specs.declared.listings.mapping.RefMap.{RefMap}
-use Rattle.fetch_conversation.specs.Conversation.{Conversation, sent_in, answer_in, awaits_more}
+use Rattle.fetch_conversation.specs.Conversation.{answer_in, IsUnheard}
 use Rattle.fetch_conversation.specs.ListStage.{ListedValue}
 use Rattle.fetch_remote.specs.Errors as remote
 use Rattle.fetch_remote.specs.Fetching.{manner_in}
@@ -22,12 +21,6 @@ use Rattle.fetch_shared.specs.Fetching.{Call}
 use Rattle.fetch_shared.specs.Seen.{IsStateAt}
 use Rattle.fetch_shared.specs.Shared.{SharedValue}
 use Rattle.fetch_shared.specs.Talking.{Line}
-
--- The peer's bytes are replies to the requests before one that it didn't hear whole: its reply is awaited, and nothing is
--- wrong with the bytes.
-pub record IsUnheard {X E : Type 0} (bound : ℕ) (c : Conversation X E) (heard stream : List ℕ) : Type 0 where
-  pub awaited : awaits_more bound c stream ≡ true
-  pub unheard : heard ≢ lines_text (sent_in bound c stream)
 
 -- The references are listed by replies to the requests for that, by their grammar, and nothing stands against it.
 pub record HasListing (g : Given) (stream : List ℕ) : Type 0 where

@@ -7,6 +7,7 @@ use Rattle.fetch_wire.specs.declared.replies.awaited.Fault.TheVariants as faults
 use Rattle.fetch_wire.specs.declared.replies.awaited.Told.{Told}
 use Rattle.fetch_wire.specs.declared.replies.awaited.Told.TheVariants as told
 use Rattle.fetch_wire.specs.declared.error.WireError.{WireError}
+use Rattle.fetch_wire.specs.declared.error.WireError.TheVariants as errors
 use Rattle.fetch_wire.specs.declared.greetings.handshake.Handshake.{Handshake}
 use Rattle.fetch_wire.specs.declared.session.intake.Found.{Found}
 use Rattle.fetch_wire.specs.declared.requests.records.Request.{Request}
@@ -14,11 +15,11 @@ use Rattle.fetch_wire.specs.Greetings.{offers}
 use Rattle.fetch_wire.specs.Intakes.{Intake, told_with, awaiting, taking, Finds, ReadsOn}
 use Rattle.fetch_wire.specs.RequestLines.{request_lines}
 use Rattle.fetch_wire.specs.Requests.{listing_lines}
-use Rattle.fetch_wire.specs.SessionStates.{SessionState, IsAlike, stored, Takes, after_told, read_one, rests, asks, asks_listing, keeps, listing_feature, fed, fed_by, read_on, requested, asked_by, refusal_of, if_told}
+use Rattle.fetch_wire.specs.SessionStates.{SessionState, IsAlike, IsKept, lost, stored, Takes, after_told, read_one, rests, asks, asks_listing, keeps, listing_feature, fed, fed_by, read_on, requested, asked_by, refusal_of, if_told}
 use Rattle.fetch_wire.specs.Written.{lines_text, first_too_long}
 
 pub same : (s : SessionState) → IsAlike s s
-same s = record { intake = record { bound = refl; told = λ more. refl; resting = λ e. refl }; others = refl }
+same s = record { intake = record { bound = refl; told = λ more. refl; room = refl; behind = refl; resting = λ e. refl }; others = refl }
 
 -- what was found of the awaited reply was kept
 pub stored_is : (s : SessionState) (i before : Intake) (what : Found) (found : Option (Result (Told × List ℕ) Fault)) → Finds before found i what
@@ -75,6 +76,18 @@ unread s piece refuses = by_trouble s.trouble refl
 pub taken_is : (s : SessionState) (piece : List ℕ) (i : Intake) (what : Found) (now : SessionState) → s.trouble ≡ None → ReadsOn (taking piece s.intake) i what → Takes what (record s { intake = i }) now → IsAlike now (fed s piece)
 taken_is s piece i what now well reads takes =
     subst (IsAlike now) (sym (fed_is s piece s.trouble well)) (taken_by s (taking piece s.intake) i what now (told_with (taking piece s.intake) []) refl reads takes)
+
+lost_by : (a b : SessionState) → a.intake.bound ≡ b.intake.bound → record a { intake = b.intake } ≡ b → lost a ≡ lost b
+lost_by a b bound others =
+    ap (λ (n : ℕ). record a { intake = record { bound = n; place = 0; pending = []; reading = None }; trouble = Some errors.NoMemory; refused = true }) bound
+    ∙ ap (λ (s : SessionState). record s { intake = record { bound = b.intake.bound; place = 0; pending = []; reading = None }; trouble = Some errors.NoMemory; refused = true }) others
+
+-- what is lost is all that wasn't told
+pub lost_kept : (s now : SessionState) → IsKept s now → lost now ≡ lost s
+lost_kept s now h = lost_by now s h.bound h.others
+
+pub lost_alike : (a b : SessionState) → IsAlike a b → lost a ≡ lost b
+lost_alike a b h = lost_by a b h.intake.bound h.others
 
 pub same_refusal : (a b : SessionState) → IsAlike a b → refusal_of a ≡ refusal_of b
 same_refusal a b h = ap refusal_of h.others

@@ -1,20 +1,21 @@
 -- A reply is read on line by line, while its bytes come in pieces.
-use Rattle.std.proofs.Common.{◌≡◌, ℕ, true, ◌≤◌, ◌<◌, List, [], ◌++◌, length, Some, None, Result, Ok, Err, refl, sym, ap, ◌∙◌, arith}
+use Rattle.std.proofs.Common.{◌≡◌, ℕ, true, ◌≤◌, ◌<◌, List, [], ◌++◌, length, Some, None, Result, Ok, Err, refl, sym, ap, ◌∙◌, subst, arith}
 use Rattle.std.proofs.lemmas.List.{append-nil}
 use Rattle.fetch_wire.specs.declared.replies.awaited.Fault.TheVariants as faults
 use Rattle.fetch_wire.specs.declared.lines.line.Line.{Line}
 use Rattle.fetch_wire.specs.declared.replies.reading.Reading.{Reading}
 use Rattle.fetch_wire.specs.declared.lines.section.Trouble.{Trouble}
 use Rattle.fetch_wire.specs.declared.lines.section.Trouble.TheVariants.{Short, Broken, TooLong}
-use Rattle.fetch_wire.specs.Awaited.{step_of, told_from}
+use Rattle.fetch_wire.specs.Awaited.{replies_behind, step_of, told_from}
 use Rattle.fetch_wire.specs.Progressing.{told_of, is_lasting}
-use Rattle.fetch_wire.specs.Feeding.{Feeding, found_in, need_in, next_in, left_by, behind_next}
+use Rattle.fetch_wire.specs.Feeding.{Feeding, room_at, found_in, need_in, next_in, left_by, behind_next}
 use Rattle.fetch_wire.specs.Lines.{line_at}
 use Rattle.fetch_wire.specs.SectionLaws.{line_at-more}
 use Rattle.fetch_wire.specs.StepLaws.{read_by-step, line_then}
-use Rattle.fetch_wire.specs.LineLaws.{line_at-len, line_at-short, least}
+use Rattle.fetch_wire.specs.LineLaws.{line_at-is, line_at-len, line_at-short, least}
 use Rattle.fetch_wire.specs.Stepping.{goes, ends, breaks, says, after_line, after_step, fault_of, read_within}
 use Rattle.fetch_wire.specs.declared.replies.awaited.Told.{Told}
+use Rattle.fetch_wire.proofs.Staying.{Stays, stays}
 
 -- what bytes tell is what their first line does
 by_line : (f : Feeding) (reading : Reading) (more : List ℕ) (found : Result (Line × List ℕ) Trouble) → line_at f.bound f.place (f.pending ++ more) ≡ found
@@ -98,6 +99,21 @@ smaller_by f line (Err TooLong) is need = absurd (cc)
 -- a line that was read is over
 pub smaller : (f : Feeding) (line : Line) → next_in f ≡ Ok (Some line) → length (behind_next f).pending < length f.pending
 smaller f line need = smaller_by f line (found_in f) refl need
+
+room_by : (f : Feeding) (line : Line) (found : Result (Line × List ℕ) Trouble) → found_in f ≡ found → need_in found ≡ Ok (Some line)
+    → room_at (left_by f found).bound (left_by f found).place (left_by f found).pending ≡ room_at f.bound f.place f.pending
+room_by f line (Ok x) is need = omega (arith, line_at-len f.bound f.place f.pending x.1 x.0 is, (line_at-is f.bound f.place f.pending x.1 x.0 is).within)
+room_by f line (Err (Short place)) is need = absurd (cc)
+room_by f line (Err (Broken place)) is need = absurd (cc)
+room_by f line (Err TooLong) is need = absurd (cc)
+
+-- a line that is read takes from the room what it takes from the bytes
+pub same_room : (f : Feeding) (line : Line) → next_in f ≡ Ok (Some line) → room_at (behind_next f).bound (behind_next f).place (behind_next f).pending ≡ room_at f.bound f.place f.pending
+same_room f line need = room_by f line (found_in f) refl need
+
+-- the same reply is read on
+pub same_behind : (reading next : Reading) (line : Line) → step_of reading line ≡ goes next → replies_behind next ≡ replies_behind reading
+same_behind reading next line is = subst (Stays (replies_behind reading)) is (stays reading line)
 
 -- ---- what the line that is there does
 

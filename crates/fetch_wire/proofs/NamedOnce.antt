@@ -28,6 +28,7 @@ use Rattle.fetch_wire.specs.Advertisements.{is_version_1, at_first, at_advertise
 use Rattle.fetch_wire.specs.Awaited.{step_of, start_of, told_at, at_greeting, at_capability, at_listed}
 use Rattle.fetch_wire.specs.FetchReplies.{reply_step, at_beginning, at_rest, at_packfile, at_acknowledgment, at_change, at_band, behind_ready, with_bytes, acknowledged_in, shallow_in, unshallow_in, is_acknowledgments, is_nak, is_ready, is_packfile, is_shallow_info}
 use Rattle.fetch_wire.specs.Greetings.{is_version_2, if_known, capability_in, handshake_of}
+use Rattle.fetch_wire.specs.KnownIds.{each_once}
 use Rattle.fetch_wire.specs.Listings.{is_listed, if_new, ref_in}
 use Rattle.fetch_wire.specs.NamesTold.{AreNamedOnce, NamesOnce}
 use Rattle.fetch_wire.specs.References.{name_in}
@@ -235,7 +236,7 @@ band_keeps asked reply lines.End = tt
 
 reply_keeps : (asked : AskedReply) (part : Part) (reply : FetchReply) (line : Line) → Keeps (reply_step asked part reply line)
 reply_keeps asked parts.Beginning reply line = keeps_line breaks breaks (at_beginning asked reply) line tt tt (beginning_keeps asked reply)
-reply_keeps asked parts.Acknowledgments reply line = keeps_line (ends (told.Reply (record reply { last = false }))) breaks (at_acknowledgment asked reply) line tt tt (acknowledgment_keeps asked reply)
+reply_keeps asked parts.Acknowledgments reply line = keeps_line (ends (told.Reply (record reply { acknowledged = each_once reply.acknowledged; last = false }))) breaks (at_acknowledgment asked reply) line tt tt (acknowledgment_keeps asked reply)
 reply_keeps asked parts.Ready reply line = ready_keeps asked reply line
 reply_keeps asked parts.Rest reply line = keeps_line breaks breaks (at_rest asked reply) line tt tt (rest_keeps asked reply)
 reply_keeps asked parts.ShallowInfo reply line =

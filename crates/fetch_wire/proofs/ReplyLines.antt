@@ -22,7 +22,8 @@ use Rattle.fetch_wire.specs.declared.requests.records.FetchReply.{FetchReply}
 use Rattle.fetch_wire.specs.Awaited.{step_of, start_of}
 use Rattle.fetch_wire.specs.Cutting.{in_pieces}
 use Rattle.fetch_wire.specs.Bands.{Band, Piece, packed, band_line, pieces_of, texts_of, pack_lines, behind, bands_tell}
-use Rattle.fetch_wire.specs.FetchReplies.{no_reply, is_acknowledgments, is_nak, is_ready, has_id, if_have, acknowledged_in, shallow_in, unshallow_in, at_rest, at_acknowledgment, at_change, at_beginning, is_packfile, is_shallow_info}
+use Rattle.fetch_wire.specs.FetchReplies.{no_reply, is_acknowledgments, is_nak, is_ready, if_have, acknowledged_in, shallow_in, unshallow_in, at_rest, at_acknowledgment, at_change, at_beginning, is_packfile, is_shallow_info}
+use Rattle.fetch_wire.specs.KnownIds.{has_id, each_once}
 use Rattle.fetch_wire.specs.LinesTold.{Tells}
 use Rattle.fetch_wire.specs.RequestLines.{id_lines}
 use Rattle.fetch_wire.specs.Requests.{sent, text_line}
@@ -69,7 +70,7 @@ ack : (asked : AskedReply) (before : List ObjectId) (id : ObjectId) → IsIdOf a
     → step_of (reading.Reply asked Acknowledgments (so_far before [] [])) (text_line (codes "ACK " ++ encode_lower (bytes_of id))) ≡ goes (reading.Reply asked Acknowledgments (so_far (before ++ id ∷ []) [] []))
 unfolding step_of
 ack asked before id is has =
-    by_text_line (ends (told.Reply (record (so_far before [] []) { last = false }))) breaks (at_acknowledgment asked (so_far before [] [])) (codes "ACK " ++ encode_lower (bytes_of id)) (ack_fails_not (encode_lower (bytes_of id)))
+    by_text_line (ends (told.Reply (record (so_far (each_once before) [] []) { last = false }))) breaks (at_acknowledgment asked (so_far before [] [])) (codes "ACK " ++ encode_lower (bytes_of id)) (ack_fails_not (encode_lower (bytes_of id)))
     ∙ at_ack asked (so_far before [] []) id is has
 
 acks : (asked : AskedReply) (before ids : List ObjectId) → All (IsIdOf asked.kind) ids → All (λ id. has_id id asked.haves ≡ true) ids
@@ -256,24 +257,24 @@ ready : (asked : AskedReply) (reply : FetchReply) → step_of (reading.Reply ask
 unfolding step_of is_error without_lf is_nak is_ready
 ready asked reply = refl
 
-ready_ends : (asked : AskedReply) (reply : FetchReply) → step_of (reading.Reply asked Ready reply) Delim ≡ goes (reading.Reply asked Rest reply)
+ready_ends : (asked : AskedReply) (reply : FetchReply) → step_of (reading.Reply asked Ready reply) Delim ≡ goes (reading.Reply asked Rest (record reply { acknowledged = each_once reply.acknowledged }))
 unfolding step_of
 ready_ends asked reply = refl
 
 pub ready_tells : (asked : AskedReply) (ids : List ObjectId) (change : Option BorderChange) (bands : List Band) → asked.done ≡ false → asked.read_pack ≡ true
     → All (IsIdOf asked.kind) ids → All (λ id. has_id id asked.haves ≡ true) ids → IfSome change (IsChangeOf asked.kind)
-    → Tells step_of (start_of (Reply asked)) (ready_lines ids change bands) (told.Reply (record (at_last change bands) { acknowledged = ids }))
+    → Tells step_of (start_of (Reply asked)) (ready_lines ids change bands) (told.Reply (record (at_last change bands) { acknowledged = each_once ids }))
 ready_tells asked ids change bands more reads are had is =
     let reply = so_far ids [] [] in
-    let all = record (at_last change bands) { acknowledged = ids } in
+    let all = record (at_last change bands) { acknowledged = each_once ids } in
     moves_tell step_of (reading.Reply asked Beginning no_reply) (reading.Reply asked Ready reply) (sent (codes "acknowledgments" ∷ acknowledged_texts ids ++ codes "ready" ∷ [])) (Delim ∷ last_lines change bands) (told.Reply all) (
       reading.Reply asked Acknowledgments no_reply,
       opens asked more,
       sent_on (reading.Reply asked Acknowledgments no_reply) (reading.Reply asked Acknowledgments reply) (reading.Reply asked Ready reply) (acknowledged_texts ids) (codes "ready" ∷ [])
           (all_acks asked ids are had) (reading.Reply asked Ready reply, ready asked reply, refl),
     )
-    (first_tells step_of (reading.Reply asked Ready reply) (reading.Reply asked Rest reply) Delim (last_lines change bands) (told.Reply all) (ready_ends asked reply)
-    (last_from asked Rest ids change bands (rest_stands asked) reads is))
+    (first_tells step_of (reading.Reply asked Ready reply) (reading.Reply asked Rest (so_far (each_once ids) [] [])) Delim (last_lines change bands) (told.Reply all) (ready_ends asked reply)
+    (last_from asked Rest (each_once ids) change bands (rest_stands asked) reads is))
 
 -- ---- a pack in bands
 

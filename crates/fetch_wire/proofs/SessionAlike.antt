@@ -1,5 +1,5 @@
 -- Sessions that are alike stay alike.
-use Rattle.std.proofs.Common.{◌≡◌, ℕ, Bool, true, false, List, [], ◌++◌, Option, Some, None, Result, Ok, Err, refl, sym, ap, ◌∙◌, subst, append_assoc}
+use Rattle.std.proofs.Common.{◌≡◌, ℕ, Bool, true, false, List, [], ◌++◌, Option, Some, None, Result, Ok, Err, refl, sym, ap, ◌∙◌, subst, append_assoc, length-append, arith}
 use Rattle.std.specs.Prelude.{is_some}
 use Rattle.fetch_wire.specs.declared.replies.awaited.Fault.{Fault}
 use Rattle.fetch_wire.specs.declared.replies.awaited.Fault.TheVariants as faults
@@ -29,6 +29,8 @@ taking_alike : (i j : Intake) (piece : List ℕ) → intakes.IsAlike i j → int
 taking_alike i j piece h = record {
   bound = h.bound;
   told = λ more. taking_by i.bound i.place i.pending piece more i.reading ∙ h.told (piece ++ more) ∙ sym (taking_by j.bound j.place j.pending piece more j.reading);
+  room = omega (arith, h.room, length-append i.pending piece, length-append j.pending piece);
+  behind = h.behind;
   resting = λ none. ap (taking piece) (h.resting none);
 }
 
@@ -123,6 +125,8 @@ intake_back : (i j : Intake) → intakes.IsAlike i j → intakes.IsAlike j i
 intake_back i j h = record {
   bound = sym h.bound;
   told = λ more. sym (h.told more);
+  room = sym h.room;
+  behind = sym h.behind;
   resting = λ none. sym (h.resting (none_told i i.reading refl (h.told [] ∙ (rw none refl))));
 }
 
@@ -130,6 +134,8 @@ intake_then : (i j k : Intake) → intakes.IsAlike i j → intakes.IsAlike j k �
 intake_then i j k h g = record {
   bound = h.bound ∙ g.bound;
   told = λ more. h.told more ∙ g.told more;
+  room = h.room ∙ g.room;
+  behind = h.behind ∙ g.behind;
   resting = λ none. h.resting none ∙ g.resting (subst (λ (x : Intake). x.reading ≡ None) (h.resting none) none);
 }
 

@@ -19,7 +19,8 @@ use Rattle.fetch_wire.specs.declared.replies.reading.Reading.{Reading}
 use Rattle.fetch_wire.specs.declared.replies.reading.Reading.TheVariants as reading
 use Rattle.fetch_wire.specs.declared.requests.records.FetchReply.{FetchReply}
 use Rattle.fetch_wire.specs.Awaited.{step_of}
-use Rattle.fetch_wire.specs.FetchReplies.{no_reply, is_acknowledgments, is_nak, is_ready, is_shallow_info, has_id, if_have, acknowledged_in, shallow_in, unshallow_in, at_packfile, at_rest, at_beginning, at_acknowledgment, at_change}
+use Rattle.fetch_wire.specs.FetchReplies.{no_reply, is_acknowledgments, is_nak, is_ready, is_shallow_info, if_have, acknowledged_in, shallow_in, unshallow_in, at_packfile, at_rest, at_beginning, at_acknowledgment, at_change}
+use Rattle.fetch_wire.specs.KnownIds.{has_id, each_once}
 use Rattle.fetch_wire.specs.LinesTold.{Tells}
 use Rattle.fetch_wire.specs.Spellings.{IsText, AreTexts, Spells, Acknowledgment, Nak, Ack, acknowledgment_text, IsAcknowledgment, acknowledged_by, Move, Comes, Leaves, move_text, IsMove, coming, leaving, IsRest, IsReplyTo, IsReply}
 use Rattle.fetch_wire.specs.Stepping.{Step, goes, ends, breaks, or_breaks}
@@ -265,7 +266,7 @@ no_ack_ends asked reply said x = λ is. by_words (is_nak said) (is_ready said) i
     by_words false true h = cc
     by_words false false h = never_ends (acknowledged_in asked said) (λ id. reading.Reply asked parts.Acknowledgments (record reply { acknowledged = reply.acknowledged ++ id ∷ [] })) x h
 
-ready_goes : (asked : AskedReply) (reply : FetchReply) (line : Line) (t : Reading) → step_of (reading.Reply asked parts.Ready reply) line ≡ goes t → (line ≡ Delim) × (reading.Reply asked parts.Rest reply ≡ t)
+ready_goes : (asked : AskedReply) (reply : FetchReply) (line : Line) (t : Reading) → step_of (reading.Reply asked parts.Ready reply) line ≡ goes t → (line ≡ Delim) × (reading.Reply asked parts.Rest (record reply { acknowledged = each_once reply.acknowledged }) ≡ t)
 unfolding step_of
 ready_goes asked reply (Payload payload) t is = absurd cc
 ready_goes asked reply Flush t is = absurd cc
@@ -282,9 +283,9 @@ ready_never_ends asked reply End x = λ is. cc
 -- words after those that were told before, up to the flush, or up to `ready` and its delimiter
 data Acked (asked : AskedReply) (ids : List ObjectId) (lines : List Line) (x : Told) : Type 0 where
   flushed : (words : List Acknowledgment) (front : List Line) → lines ≡ front ++ Flush ∷ [] → AreTexts (map acknowledgment_text words) front → All (IsAcknowledgment asked) words
-      → x ≡ tolds.Reply (record no_reply { acknowledged = ids ++ acknowledged_by words; last = false }) → Acked asked ids lines x
+      → x ≡ tolds.Reply (record no_reply { acknowledged = each_once (ids ++ acknowledged_by words); last = false }) → Acked asked ids lines x
   readied : (words : List Acknowledgment) (front others : List Line) → lines ≡ front ++ Delim ∷ others → AreTexts (map acknowledgment_text words ++ codes "ready" ∷ []) front → All (IsAcknowledgment asked) words
-      → Rested asked (ids ++ acknowledged_by words) others x → Acked asked ids lines x
+      → Rested asked (each_once (ids ++ acknowledged_by words)) others x → Acked asked ids lines x
 
 acked_more : (word : Acknowledgment) (words : List Acknowledgment) → acknowledged_by (word ∷ []) ++ acknowledged_by words ≡ acknowledged_by (word ∷ words)
 acked_more Nak words = refl
@@ -297,10 +298,10 @@ one_acked : (asked : AskedReply) (ids : List ObjectId) (said : List ℕ) (line :
     → Acked asked (ids ++ acknowledged_by (word ∷ [])) lines x → Acked asked ids (line ∷ lines) x
 one_acked asked ids said line lines x word text is had (flushed words front same texts each told) =
     flushed (word ∷ words) (line ∷ front) (ap (λ (l : List Line). line ∷ l) same) (subst (λ (s : List ℕ). IsText s line) text is, texts) (All-cons (IsAcknowledgment asked) word words had each)
-    (told ∙ ap (λ (l : List ObjectId). tolds.Reply (record no_reply { acknowledged = l; last = false })) (ids_more ids word words))
+    (told ∙ ap (λ (l : List ObjectId). tolds.Reply (record no_reply { acknowledged = each_once l; last = false })) (ids_more ids word words))
 one_acked asked ids said line lines x word text is had (readied words front others same texts each rest) =
     readied (word ∷ words) (line ∷ front) others (ap (λ (l : List Line). line ∷ l) same) (subst (λ (s : List ℕ). IsText s line) text is, texts) (All-cons (IsAcknowledgment asked) word words had each)
-    (subst (λ (l : List ObjectId). Rested asked l others x) (ids_more ids word words) rest)
+    (subst (λ (l : List ObjectId). Rested asked (each_once l) others x) (ids_more ids word words) rest)
 
 ready_acked : (asked : AskedReply) (ids : List ObjectId) (said : List ℕ) (line : Line) (lines : List Line) (x : Told) → said ≡ codes "ready" → IsText said line → Tells step_of (reading.Reply asked parts.Ready (bare ids [] [])) lines x → Acked asked ids (line ∷ lines) x
 ready_acked asked ids said line [] x word is h = absurd h
@@ -308,16 +309,16 @@ ready_acked asked ids said line (delim ∷ []) x word is h = absurd (ready_never
 ready_acked asked ids said line (delim ∷ next ∷ lines) x word is (t, goes_on, h) =
     let g = ready_goes asked (bare ids [] []) delim t goes_on in
     readied [] (line ∷ []) (next ∷ lines) (ap (λ (l : Line). line ∷ l ∷ next ∷ lines) g.0) (subst (λ (s : List ℕ). IsText s line) word is, tt) (All-nil (IsAcknowledgment asked))
-    (subst (λ (l : List ObjectId). Rested asked l (next ∷ lines) x) (sym (append-nil ids)) (rested asked ids (next ∷ lines) x (subst (λ (r : Reading). Tells step_of r (next ∷ lines) x) (sym g.1) h)))
+    (subst (λ (l : List ObjectId). Rested asked (each_once l) (next ∷ lines) x) (sym (append-nil ids)) (rested asked (each_once ids) (next ∷ lines) x (subst (λ (r : Reading). Tells step_of r (next ∷ lines) x) (sym g.1) h)))
 
 acked : (asked : AskedReply) (ids : List ObjectId) (lines : List Line) (x : Told) → Tells step_of (reading.Reply asked parts.Acknowledgments (bare ids [] [])) lines x → Acked asked ids lines x
 unfolding step_of
 acked asked ids [] x h = absurd h
 acked asked ids (line ∷ []) x h =
-    let e = flush_ends (tolds.Reply (record (bare ids [] []) { last = false })) (at_acknowledgment asked (bare ids [] [])) line x (λ said. no_ack_ends asked (bare ids [] []) said x) h in
-    flushed [] [] (ap (λ (l : Line). l ∷ []) e.0) tt (All-nil (IsAcknowledgment asked)) (sym e.1 ∙ ap (λ (l : List ObjectId). tolds.Reply (record no_reply { acknowledged = l; last = false })) (sym (append-nil ids)))
+    let e = flush_ends (tolds.Reply (record (bare (each_once ids) [] []) { last = false })) (at_acknowledgment asked (bare ids [] [])) line x (λ said. no_ack_ends asked (bare ids [] []) said x) h in
+    flushed [] [] (ap (λ (l : Line). l ∷ []) e.0) tt (All-nil (IsAcknowledgment asked)) (sym e.1 ∙ ap (λ (l : List ObjectId). tolds.Reply (record no_reply { acknowledged = each_once l; last = false })) (sym (append-nil ids)))
 acked asked ids (line ∷ next ∷ lines) x (t, goes_on, h) =
-    let g = text_goes (ends (tolds.Reply (record (bare ids [] []) { last = false }))) breaks (at_acknowledgment asked (bare ids [] [])) line t (λ e. cc) (λ e. cc) goes_on in
+    let g = text_goes (ends (tolds.Reply (record (bare (each_once ids) [] []) { last = false }))) breaks (at_acknowledgment asked (bare ids [] [])) line t (λ e. cc) (λ e. cc) goes_on in
     by_word g.0 g.1 (ack_goes asked (bare ids [] []) g.0 t g.2) (λ l. acked asked l (next ∷ lines) x)
   where
     by_word : (said : List ℕ) → IsText said line → AckOrReady asked (bare ids [] []) said t
@@ -342,8 +343,8 @@ replied_done asked lines x done r = record { reply = r.reply; is = subst (λ (b 
 
 acked_reply : (asked : AskedReply) (said : List ℕ) (line : Line) (lines : List Line) (x : Told) → asked.done ≡ false → said ≡ codes "acknowledgments" → IsText said line → Acked asked [] lines x → Replied asked (line ∷ lines) x
 acked_reply asked said line lines x more word is (flushed words front same texts each told) = record {
-  reply = record no_reply { acknowledged = acknowledged_by words; last = false };
-  is = subst (λ (b : Bool). IsReplyTo b asked (record no_reply { acknowledged = acknowledged_by words; last = false }) (line ∷ lines)) (sym more) (inl (record {
+  reply = record no_reply { acknowledged = each_once (acknowledged_by words); last = false };
+  is = subst (λ (b : Bool). IsReplyTo b asked (record no_reply { acknowledged = each_once (acknowledged_by words); last = false }) (line ∷ lines)) (sym more) (inl (record {
     acknowledgments = words;
     front = line ∷ front;
     is = ap (λ (l : List Line). line ∷ l) same;

@@ -40,6 +40,15 @@ start_of Greeting = reading.Greeting
 start_of (Listing kind) = reading.Listing kind []
 start_of (Reply asked) = reading.Reply asked parts.Beginning no_reply
 
+-- how many replies come behind this one without another request: after a greeting the listing
+abbrev pub replies_behind : Reading → ℕ
+replies_behind reading.Greeting = 1
+replies_behind (reading.Capabilities before) = 1
+replies_behind reading.Version = 1
+replies_behind (reading.Advertisement handshake before next) = 1
+replies_behind (reading.Listing kind before) = 0
+replies_behind (reading.Reply asked part reply) = 0
+
 -- the next line, where this was told before it
 unfoldable pub step_of : Reading → Line → Step Reading Told
 step_of reading.Greeting line = by_text at_greeting line

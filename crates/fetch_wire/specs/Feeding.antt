@@ -1,5 +1,5 @@
 -- Lines of a reply, while its bytes come in pieces.
-use Rattle.std.specs.Prelude.{ℕ, ◌+◌, List, ◌++◌, Option, Some, None, Result, Ok, Err}
+use Rattle.std.specs.Prelude.{ℕ, ◌+◌, ◌-◌, List, ◌++◌, length, Option, Some, None, Result, Ok, Err}
 use Rattle.fetch_wire.specs.declared.error.WireError.{WireError}
 use Rattle.fetch_wire.specs.declared.error.WireError.TheVariants as errors
 use Rattle.fetch_wire.specs.declared.lines.line.Line.{Line}
@@ -15,6 +15,11 @@ pub record Feeding : Type 0 where
   pub bound : ℕ
   pub place : ℕ
   pub pending : List ℕ
+
+-- How many bytes may still come of a reply that isn't whole, and one more: its lines end within the bound, and fewer than
+-- four bytes may begin another.
+abbrev pub room_at : ℕ → ℕ → List ℕ → ℕ
+room_at bound place pending = ((bound - place) + 4) - length pending
 
 -- the same, with more bytes after
 abbrev pub fed : Feeding → List ℕ → Feeding

@@ -1,10 +1,9 @@
 -- What a server answers to a fetch request, line by line.
 use Rattle.std.specs.Prelude.{ℕ, Bool, true, false, List, [], ◌∷◌, ◌++◌, Option, Some, None, ◌==◌, if◌then◌else◌, codes}
-use Rattle.std.specs.List.{list_any}
 use Rattle.std.specs.Option.{option_and_then}
 use Rattle.std.specs.Str.{bytes_eq}
 use Rattle.fetch_store.specs.Scan.{after}
-use Rattle.fetch_store.specs.Id.{bytes_of, id_in_hex}
+use Rattle.fetch_store.specs.Id.{id_in_hex}
 use Rattle.fetch_store.specs.declared.id.Kind.{Kind}
 use Rattle.fetch_store.specs.declared.id.ObjectId.{ObjectId}
 use Rattle.fetch_wire.specs.declared.replies.awaited.AskedReply.{AskedReply}
@@ -17,6 +16,7 @@ use Rattle.fetch_wire.specs.declared.replies.reading.Part.TheVariants.{Beginning
 use Rattle.fetch_wire.specs.declared.replies.reading.Reading.{Reading}
 use Rattle.fetch_wire.specs.declared.replies.reading.Reading.TheVariants as reading
 use Rattle.fetch_wire.specs.declared.requests.records.FetchReply.{FetchReply}
+use Rattle.fetch_wire.specs.KnownIds.{has_id, each_once}
 use Rattle.fetch_wire.specs.Stepping.{Step, goes, ends, breaks, says, or_breaks}
 use Rattle.fetch_wire.specs.Steps.{by_line, by_text}
 
@@ -43,10 +43,6 @@ is_packfile text = bytes_eq text (codes "packfile")
 -- whether a text begins the moves of the border
 unfoldable pub is_shallow_info : List ℕ → Bool
 is_shallow_info text = bytes_eq text (codes "shallow-info")
-
--- whether an id is one of these
-abbrev pub has_id : ObjectId → List ObjectId → Bool
-has_id id ids = list_any (λ x. bytes_eq (bytes_of x) (bytes_of id)) ids
 
 -- an id, where it is one of the haves
 abbrev pub if_have : List ObjectId → ObjectId → Option ObjectId
@@ -85,11 +81,11 @@ at_acknowledgment asked reply text =
     if is_ready text then goes (reading.Reply asked Ready reply) else or_breaks (acknowledged_in asked text)
     (λ id. goes (reading.Reply asked Acknowledgments (record reply { acknowledged = reply.acknowledged ++ id ∷ [] }))))
 
--- after `ready`: the delimiter alone
+-- after `ready`: the delimiter alone. What was acknowledged is told once.
 abbrev pub behind_ready : AskedReply → FetchReply → Line → Step Reading Told
 behind_ready asked reply (Payload payload) = breaks
 behind_ready asked reply Flush = breaks
-behind_ready asked reply Delim = goes (reading.Reply asked Rest reply)
+behind_ready asked reply Delim = goes (reading.Reply asked Rest (record reply { acknowledged = each_once reply.acknowledged }))
 behind_ready asked reply End = breaks
 
 -- the id of `shallow <id>`, or that of `unshallow <id>`
@@ -120,10 +116,11 @@ at_band asked reply End = breaks
 
 -- The next line of a reply to this request. Without `done` it is `acknowledgments` up to a flush, and no rest follows,
 -- or up to `ready` and a delimiter, and the rest follows. With `done` the rest stands alone: `shallow-info` up to a
--- delimiter, where the border changes, then `packfile`, and bands up to a flush.
+-- delimiter, where the border changes, then `packfile`, and bands up to a flush. Each acknowledged id is told once, where it
+-- first was.
 abbrev pub reply_step : AskedReply → Part → FetchReply → Line → Step Reading Told
 reply_step asked Beginning reply line = by_text (at_beginning asked reply) line
-reply_step asked Acknowledgments reply line = by_line (ends (told.Reply (record reply { last = false }))) breaks (at_acknowledgment asked reply) line
+reply_step asked Acknowledgments reply line = by_line (ends (told.Reply (record reply { acknowledged = each_once reply.acknowledged; last = false }))) breaks (at_acknowledgment asked reply) line
 reply_step asked Ready reply line = behind_ready asked reply line
 reply_step asked Rest reply line = by_text (at_rest asked reply) line
 reply_step asked ShallowInfo reply line = by_line breaks (goes (reading.Reply asked Packfile reply)) (λ text. at_change asked reply (shallow_in asked.kind text) (unshallow_in asked.kind text)) line

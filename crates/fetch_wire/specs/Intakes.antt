@@ -8,7 +8,8 @@ use Rattle.fetch_wire.specs.declared.replies.awaited.Told.{Told}
 use Rattle.fetch_wire.specs.declared.session.intake.Found.{Found}
 use Rattle.fetch_wire.specs.declared.session.intake.Found.TheVariants as found
 use Rattle.fetch_wire.specs.declared.replies.reading.Reading.{Reading}
-use Rattle.fetch_wire.specs.Awaited.{start_of, told_from}
+use Rattle.fetch_wire.specs.Awaited.{start_of, replies_behind, told_from}
+use Rattle.fetch_wire.specs.Feeding.{room_at}
 use Rattle.fetch_wire.specs.Progressing.{is_short_at}
 
 -- How many bytes a reply may have, what was fed and not yet read, and, where a reply is awaited, what it told so far and
@@ -40,10 +41,22 @@ awaiting await i = record i { place = 0; reading = Some (start_of await) }
 abbrev pub taking : List ℕ → Intake → Intake
 taking piece i = record i { pending = i.pending ++ piece }
 
--- The same but for how much of the awaited reply was read: whatever comes next, both are told the same.
+-- how many replies come behind the awaited one without another request
+abbrev pub behind_awaited : Option Reading → ℕ
+behind_awaited None = 0
+behind_awaited (Some reading) = replies_behind reading
+
+-- how many bytes may still come of the awaited reply, and one more
+abbrev pub room_in : Intake → ℕ
+room_in i = room_at i.bound i.place i.pending
+
+-- The same but for how much of the awaited reply was read: whatever comes next, both are told the same, and as much may
+-- come.
 pub record IsAlike (a b : Intake) : Type 0 where
   pub bound : a.bound ≡ b.bound
   pub told : (more : List ℕ) → told_with a more ≡ told_with b more
+  pub room : room_in a ≡ room_in b
+  pub behind : behind_awaited a.reading ≡ behind_awaited b.reading
   pub resting : a.reading ≡ None → a ≡ b
 
 -- What is found of the awaited reply, by what is told of it: nothing, while it is short.

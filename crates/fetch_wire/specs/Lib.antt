@@ -17,6 +17,7 @@ pub mod Requests
 pub mod RequestLines
 pub mod Stepping
 pub mod Steps
+pub mod KnownIds
 pub mod FetchReplies
 pub mod Advertisements
 pub mod Awaited

@@ -6,8 +6,8 @@ use Rattle.fetch_wire.specs.declared.replies.awaited.Told.{Told}
 use Rattle.fetch_wire.specs.declared.replies.progress.Progress.{Progress}
 use Rattle.fetch_wire.specs.declared.replies.progress.Progress.TheVariants.{On, Whole, Refused}
 use Rattle.fetch_wire.specs.declared.replies.reading.Reading.{Reading}
-use Rattle.fetch_wire.specs.Awaited.{told_from}
-use Rattle.fetch_wire.specs.Feeding.{Feeding}
+use Rattle.fetch_wire.specs.Awaited.{replies_behind, told_from}
+use Rattle.fetch_wire.specs.Feeding.{Feeding, room_at}
 
 -- what a reply tells where these bytes come next
 abbrev pub told_of : Feeding → Reading → List ℕ → Result (Told × List ℕ) Fault
@@ -20,9 +20,11 @@ is_lasting (Broken place) = true
 is_lasting TooLong = true
 is_lasting (Said text) = true
 
--- The lines that are there were read: nothing is whole yet, and whatever comes next is told as before.
+-- The lines that are there were read: nothing is whole yet, whatever comes next is told as before, and as much may come.
 pub record IsShortBehind (before now : Feeding) (reading next : Reading) : Type 0 where
   pub bound : now.bound ≡ before.bound
+  pub room : room_at now.bound now.place now.pending ≡ room_at before.bound before.place before.pending
+  pub behind : replies_behind next ≡ replies_behind reading
   pub told : (more : List ℕ) → told_of now next more ≡ told_of before reading more
   pub short : told_of now next [] ≡ Err (Short now.place)
 

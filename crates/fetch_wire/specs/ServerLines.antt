@@ -14,6 +14,7 @@ use Rattle.fetch_wire.specs.declared.listings.reference.Ref.{Ref}
 use Rattle.fetch_wire.specs.Bands.{Band, Piece, pack_lines, packed}
 use Rattle.fetch_wire.specs.Cutting.{in_pieces}
 use Rattle.fetch_wire.specs.FetchReplies.{no_reply}
+use Rattle.fetch_wire.specs.KnownIds.{each_once}
 use Rattle.fetch_wire.specs.Greetings.{is_known}
 use Rattle.fetch_wire.specs.References.{name_in, id_in, peeled_in, target_in}
 use Rattle.fetch_wire.specs.RequestLines.{id_lines}
@@ -103,7 +104,7 @@ round_lines ids = sent (codes "acknowledgments" ∷ acknowledged_texts ids) ++ F
 
 -- what that reply tells
 abbrev pub in_round : List ObjectId → FetchReply
-in_round ids = record no_reply { acknowledged = ids; last = false }
+in_round ids = record no_reply { acknowledged = each_once ids; last = false }
 
 -- the commits that come to the border, and those that leave it
 pub record BorderChange : Type 0 where

@@ -1,5 +1,5 @@
 -- A session: what it sends, what it takes in, and what it was told.
-use Rattle.std.specs.Prelude.{◌≡◌, ℕ, Bool, true, false, List, [], ◌∷◌, ◌++◌, Option, Some, None, Result, Ok, Err, codes, is_some, length, ◌==◌, ◌||◌, ⊤}
+use Rattle.std.specs.Prelude.{◌≡◌, ◌⊎◌, ℕ, Bool, true, false, List, [], ◌∷◌, ◌++◌, Option, Some, None, Result, Ok, Err, codes, is_some, length, ◌==◌, ◌||◌, ⊤}
 use Rattle.fetch_store.specs.declared.id.Kind.{Kind}
 use Rattle.fetch_store.specs.declared.id.Kind.TheVariants.{Sha1}
 use Rattle.fetch_wire.specs.declared.replies.awaited.AskedReply.{AskedReply}
@@ -134,6 +134,19 @@ fed s piece = fed_by s.trouble s piece
 pub record IsAlike (a b : SessionState) : Type 0 where
   pub intake : intakes.IsAlike a.intake b.intake
   pub others : record a { intake = b.intake } ≡ b
+
+-- the same but for what came and wasn't read yet
+pub record IsKept (before now : SessionState) : Type 0 where
+  pub bound : now.intake.bound ≡ before.intake.bound
+  pub others : record now { intake = before.intake } ≡ before
+
+-- it goes on no more, for want of memory
+abbrev pub lost : SessionState → SessionState
+lost s = record (failing errors.NoMemory s) { refused = true }
+
+-- Memory ran out while a piece was taken: what was told before it is kept, or what was told with it.
+abbrev pub IsLost : SessionState → List ℕ → SessionState → Type 0
+IsLost s piece now = (now ≡ lost s) ⊎ (now ≡ lost (fed s piece))
 
 -- ---- what is answered
 

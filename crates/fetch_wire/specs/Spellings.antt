@@ -14,7 +14,8 @@ use Rattle.fetch_wire.specs.declared.lines.line.Line.TheVariants.{Payload, Flush
 use Rattle.fetch_wire.specs.declared.requests.records.FetchReply.{FetchReply}
 use Rattle.fetch_wire.specs.declared.listings.reference.Ref.{Ref}
 use Rattle.fetch_wire.specs.Bands.{Band, band_line, pieces_of, texts_of}
-use Rattle.fetch_wire.specs.FetchReplies.{has_id, no_reply}
+use Rattle.fetch_wire.specs.FetchReplies.{no_reply}
+use Rattle.fetch_wire.specs.KnownIds.{has_id, each_once}
 use Rattle.fetch_wire.specs.Greetings.{handshake_of}
 use Rattle.fetch_wire.specs.NamesTold.{AreNamedOnce}
 use Rattle.fetch_wire.specs.References.{name_in, id_in, peeled_in, target_in}
@@ -222,7 +223,7 @@ pub record IsRound (asked : AskedReply) (reply : FetchReply) (lines : List Line)
   pub front : List Line
   pub is : lines ≡ front ++ Flush ∷ []
   pub acknowledged : AreAcknowledged asked acknowledgments [] front
-  pub told : reply ≡ record no_reply { acknowledged = acknowledged_by acknowledgments; last = false }
+  pub told : reply ≡ record no_reply { acknowledged = each_once (acknowledged_by acknowledgments); last = false }
 
 -- A reply to a request without `done` that ends the rounds by `ready`: its rest stands after a delimiter.
 pub record IsReady (asked : AskedReply) (reply : FetchReply) (lines : List Line) : Type 0 where
@@ -231,7 +232,7 @@ pub record IsReady (asked : AskedReply) (reply : FetchReply) (lines : List Line)
   pub behind : List Line
   pub is : lines ≡ front ++ Delim ∷ behind
   pub acknowledged : AreAcknowledged asked acknowledgments (codes "ready" ∷ []) front
-  pub rest : IsRest asked (acknowledged_by acknowledgments) reply behind
+  pub rest : IsRest asked (each_once (acknowledged_by acknowledgments)) reply behind
 
 -- the reply to a request with `done`, where the rest stands alone, or without
 abbrev pub IsReplyTo : Bool → AskedReply → FetchReply → List Line → Type 0

@@ -31,7 +31,8 @@ ghost use Rattle.fetch_wire.specs.ServerLines.{greeting_lines, IsTellable, listi
 ghost use Rattle.fetch_wire.specs.AdvertisementLines.{advertisement_lines, IsOneWord, IsAdvertisable};
 ghost use Rattle.fetch_wire.specs.Advertisements.{handshake_1, is_null};
 ghost use Rattle.fetch_wire.specs.Greetings.{handshake_of};
-ghost use Rattle.fetch_wire.specs.FetchReplies.{has_id, no_reply};
+ghost use Rattle.fetch_wire.specs.FetchReplies.{no_reply};
+ghost use Rattle.fetch_wire.specs.KnownIds.{each_once, has_id};
 ghost use Rattle.fetch_wire.specs.Requests.{text_line};
 ghost use Rattle.fetch_wire.specs.Written.{lines_text, first_too_long};
 ghost use Rattle.fetch_wire.specs.declared.greetings.handshake.Capability.{Capability};
@@ -219,7 +220,7 @@ pub fn unread_replies_end_at_the_pack()
 pub fn ready_replies_are_read_back()
     ensures { (asked : AskedReply) (ids : List ObjectId) (change : Option BorderChange) (bands : List Band) → asked.done ≡ false → asked.read_pack ≡ true
         → All (IsIdOf asked.kind) ids → All (λ id. has_id id asked.haves ≡ true) ids → IfSome change (IsChangeOf asked.kind)
-        → Tells step_of (start_of (Reply asked)) (ready_lines ids change bands) (told.Reply (record (at_last change bands) { acknowledged = ids })) }
+        → Tells step_of (start_of (Reply asked)) (ready_lines ids change bands) (told.Reply (record (at_last change bands) { acknowledged = each_once ids })) }
 {}
 
 /// What bytes tell of a reply is told by lines, which they write with digits of either case before what follows them.

@@ -23,6 +23,7 @@ pub use listings::mapping::{Mapping, RefMap, SpecIndex};
 pub use listings::reference::{Ref, Source};
 pub use replies::awaited::{AskedReply, Await, Fault, Told};
 pub use replies::bound::ReplyBound;
+pub use replies::haves::{Haves, each_once};
 pub use replies::reply_reader::ReplyReader;
 pub use requests::records::{FetchReply, Request};
 pub use requests::request_parts::{

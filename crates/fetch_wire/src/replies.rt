@@ -3,6 +3,7 @@
 pub mod awaited;
 pub mod bound;
 pub mod fetch_reply;
+pub mod haves;
 pub mod progress;
 pub mod reading;
 pub mod reply_reader;

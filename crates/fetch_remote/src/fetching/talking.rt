@@ -1,12 +1,12 @@
 //! The conversation of a fetch.
 
 ghost use Rattle.std.specs.Prelude.{◌≡◌, IfOk, IfSome, OnOk, IsErrOf};
-ghost use Rattle.fetch_store.specs.Faults.{Rose, Counts};
+ghost use Rattle.fetch_conversation.specs.Blame.{BlamesPeer, BlamesInterrupt, is_told};
+ghost use Rattle.fetch_conversation.specs.Receiving.{last_question};
 ghost use Rattle.fetch_store.specs.Collisions.{HasDistinctIds};
 ghost use Rattle.fetch_store.specs.Stores.{AreOf};
 ghost use Rattle.fetch_conversation.specs.ListStage.{IsReady};
-ghost use Rattle.fetch_conversation.specs.Errors.{is_stopped};
-ghost use Rattle.fetch_conversation.specs.Receiving.{IsHeeded};
+ghost use Rattle.fetch_conversation.specs.Errors.{is_client, is_stopped};
 ghost use Rattle.fetch_conversation.specs.declared.fetch.Error.TheVariants as receive_errors;
 ghost use Rattle.fetch_remote.specs.Repositories.{state_of, setup_of};
 ghost use Rattle.fetch_remote.specs.Stages as spec;
@@ -50,12 +50,8 @@ pub(crate) fn talk_on<R: Threads + Sync, P: Peer, Q: Progress, I: Interrupt>(
     ensures held { TalksOn P.answers (P.told peer.old) (P.told peer.new) (record { remote = remote.now; options = options.now; setup = setup_of repo.now }) (state_of repo.now) listed result }
     ensures of_kind { IfOk result (λ t. IfSome t.received (λ r. AreOf (state_of repo.now).hash r.objects)) }
     ensures distinct { IfOk result (λ t. IfSome t.received (λ r. HasDistinctIds r.objects)) }
-    ensures counts { Counts (P.faults peer.old) (P.faults peer.new) }
-    ensures client { IsErrOf result receive_errors.Client → Rose (P.faults peer.old) (P.faults peer.new) }
-    ensures asked { Counts (I.yes interrupt.old) (I.yes interrupt.new) }
-    ensures stopped { IsErrOf result receive_errors.Interrupted → Rose (I.yes interrupt.old) (I.yes interrupt.new) }
-    ensures uninterrupted { OnOk result ((I.yes interrupt.new).count ≡ (I.yes interrupt.old).count) }
-    ensures questions { IsHeeded is_stopped (I.will_stop interrupt.old) (I.will_stop interrupt.new) (P.told peer.old) (P.told peer.new) result }
+    ensures peer { BlamesPeer (P.faults peer.old) (P.faults peer.new) (is_told is_client result) }
+    ensures interrupt { BlamesInterrupt (I.yes interrupt.old) (I.yes interrupt.new) (I.will_stop interrupt.old) (I.will_stop interrupt.new) (P.told peer.old) (P.told peer.new) (last_question is_stopped result) }
 {
     let mut listed = listed;
     let tags = remote.fetch_tags();

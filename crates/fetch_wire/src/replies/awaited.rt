@@ -4,8 +4,9 @@ ghost use Rattle.std.specs.Prelude.{◌≡◌, IfOk};
 
 use crate::greetings::handshake::Handshake;
 use crate::listings::reference::Ref;
+use crate::replies::haves::Haves;
 use crate::requests::records::FetchReply;
-use fetch_store::{Kind, List, NoMemory, ObjectId, Text, TryClone};
+use fetch_store::{Kind, List, NoMemory, Text, TryClone};
 
 /// What the reply to a fetch request depends on.
 #[derive(Debug, Drop)]
@@ -13,7 +14,7 @@ pub struct AskedReply {
     /// The kind of the ids, which the greeting names.
     pub kind: Kind,
     /// The haves of the request. An `ACK` of another id is malformed.
-    pub haves: List<ObjectId>,
+    pub haves: Haves,
     /// Whether the request ends the rounds, so that the reply has no acknowledgments.
     pub done: bool,
     /// Whether the pack is read. Where it isn't, the reply ends with the line `packfile`.

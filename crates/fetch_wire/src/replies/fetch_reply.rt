@@ -2,7 +2,8 @@
 
 ghost use Rattle.std.specs.Prelude.{◌≡◌, Some, IfOk, false};
 ghost use Rattle.std.specs.Option.{option_copied};
-ghost use Rattle.fetch_wire.specs.FetchReplies.{is_acknowledgments, is_nak, is_ready, has_id, acknowledged_in, shallow_in, unshallow_in, at_beginning, at_rest, at_packfile, at_acknowledgment, behind_ready, at_change, with_bytes, by_band, at_band, reply_step, is_packfile, is_shallow_info};
+ghost use Rattle.fetch_wire.specs.FetchReplies.{is_acknowledgments, is_nak, is_ready, acknowledged_in, shallow_in, unshallow_in, at_beginning, at_rest, at_packfile, at_acknowledgment, behind_ready, at_change, with_bytes, by_band, at_band, reply_step, is_packfile, is_shallow_info};
+ghost use Rattle.fetch_wire.specs.KnownIds.{each_once};
 ghost use Rattle.fetch_wire.specs.LineViews.{line_of};
 ghost use Rattle.fetch_wire.specs.ReadSteps.{step_in, by_saying, at_text};
 ghost use Rattle.fetch_wire.specs.Stepping.{ends, breaks, goes};
@@ -12,10 +13,11 @@ ghost use Rattle.fetch_wire.specs.declared.replies.reading.Reading.TheVariants a
 
 use crate::lines::line::LineRef;
 use crate::replies::awaited::{AskedReply, Told};
+use crate::replies::haves::each_once;
 use crate::replies::reading::{Part, Read, Reading};
 use crate::replies::saying::{Saying, said_by};
 use crate::requests::records::FetchReply;
-use fetch_store::{Kind, NoMemory, ObjectId, Text, after};
+use fetch_store::{Kind, List, NoMemory, ObjectId, Text, after};
 use std::alloc::Global;
 
 #[tactic(auto, unfolding(crate::specs::FetchReplies::is_acknowledgments))]
@@ -53,18 +55,6 @@ fn says_shallow_info(text: &[u8]) -> bool
     text == b"shallow-info".as_slice()
 }
 
-/// Whether the id is one of these.
-fn contains_id(ids: &[ObjectId], id: &ObjectId) -> bool
-    ensures { result ≡ has_id id.now ids.now }
-{
-    for other in ids {
-        if other.as_bytes() == id.as_bytes() {
-            return true;
-        }
-    }
-    false
-}
-
 /// The have that `ACK <id>` acknowledges.
 #[tactic(auto, unfolding(crate::specs::FetchReplies::acknowledged_in))]
 fn acknowledged(asked: &AskedReply, text: &[u8]) -> Option<ObjectId>
@@ -72,7 +62,7 @@ fn acknowledged(asked: &AskedReply, text: &[u8]) -> Option<ObjectId>
 {
     let hex = after(b"ACK ", text)?;
     let id = ObjectId::in_hex(asked.kind, hex)?;
-    if contains_id(asked.haves.as_slice(), &id) {
+    if asked.haves.contains(&id) {
         Some(id)
     } else {
         None
@@ -137,6 +127,19 @@ fn beginning(alloc: Global, asked: AskedReply, reply: FetchReply, text: &[u8]) -
         return Read::On(Reading::Reply(asked, Part::Acknowledgments, reply));
     }
     Read::Broken
+}
+
+/// The reply with each acknowledged id once.
+fn told_once(reply: FetchReply) -> Result<FetchReply, NoMemory>
+    ensures { IfOk result (λ told. told ≡ record reply { acknowledged = each_once reply.acknowledged }) }
+{
+    let mut reply = reply;
+    let once = each_once(
+        reply.acknowledged.allocator(),
+        reply.acknowledged.as_slice(),
+    )?;
+    reply.acknowledged = List::from(once);
+    Ok(reply)
 }
 
 /// Reads `NAK`, `ready`, or `ACK <id>`.
@@ -229,13 +232,13 @@ fn read_acknowledgment(
     reply: FetchReply,
     saying: Saying<'_>,
 ) -> Result<Read, NoMemory>
-    ensures { IfOk result (λ read. step_in read ≡ by_saying (ends (told.Reply (record reply { last = false }))) breaks (at_acknowledgment asked reply) saying.entry) }
+    ensures { IfOk result (λ read. step_in read ≡ by_saying (ends (told.Reply (record reply { acknowledged = each_once reply.acknowledged; last = false }))) breaks (at_acknowledgment asked reply) saying.entry) }
 {
     match saying {
         Saying::Text(text) => acknowledgment(asked, reply, text),
         Saying::Error(text) => Read::said(alloc, text),
         Saying::Flush => {
-            let mut reply = reply;
+            let mut reply = told_once(reply)?;
             reply.last = false;
             Ok(Read::Whole(Told::Reply(reply)))
         }
@@ -261,12 +264,15 @@ fn read_change(
 }
 
 /// Reads the line after `ready`.
-fn read_ready(asked: AskedReply, reply: FetchReply, line: LineRef<'_>) -> Read
-    ensures { step_in result ≡ behind_ready asked reply (line_of line.entry) }
+fn read_ready(asked: AskedReply, reply: FetchReply, line: LineRef<'_>) -> Result<Read, NoMemory>
+    ensures { IfOk result (λ read. step_in read ≡ behind_ready asked reply (line_of line.entry)) }
 {
     match line {
-        LineRef::Delim => Read::On(Reading::Reply(asked, Part::Rest, reply)),
-        LineRef::Payload(_) | LineRef::Flush | LineRef::End => Read::Broken,
+        LineRef::Delim => {
+            let reply = told_once(reply)?;
+            Ok(Read::On(Reading::Reply(asked, Part::Rest, reply)))
+        }
+        LineRef::Payload(_) | LineRef::Flush | LineRef::End => Ok(Read::Broken),
     }
 }
 
@@ -304,7 +310,7 @@ pub(crate) fn read_reply(
 {
     match part {
         Part::Acknowledgments => read_acknowledgment(alloc, asked, reply, said_by(line)),
-        Part::Ready => Ok(read_ready(asked, reply, line)),
+        Part::Ready => read_ready(asked, reply, line),
         Part::ShallowInfo => read_change(alloc, asked, reply, said_by(line)),
         Part::Bands => read_band(alloc, asked, reply, line),
         Part::Beginning | Part::Rest | Part::Packfile => {

@@ -49,7 +49,6 @@ pub(crate) enum Part {
 }
 
 /// A reply that is being read: what was told so far, and by that what may come next.
-#[derive(Drop)]
 pub(crate) enum Reading {
     /// Nothing of a greeting.
     Greeting,
@@ -142,5 +141,18 @@ impl Reading {
 impl TryClone for Reading {
     fn try_clone(&self) -> Result<Reading, NoMemory> {
         self.try_clone()
+    }
+}
+
+impl Drop for Reading {
+    fn drop(self) {
+        match self {
+            Reading::Greeting => {}
+            Reading::Capabilities(_) => {}
+            Reading::Version => {}
+            Reading::Advertisement(_, _, _) => {}
+            Reading::Listing(_, _) => {}
+            Reading::Reply(_, _, _) => {}
+        }
     }
 }

@@ -12,7 +12,6 @@ use std::marker::Model;
 
 /// A reader of one reply, whose bytes are fed in pieces. It reads as soon as a line is whole. Contracts see what all
 /// that was fed tells, with any bytes after it.
-#[derive(Drop)]
 pub struct ReplyReader {
     lines: LineReader,
     progress: Option<Progress>,
@@ -107,5 +106,14 @@ impl ReplyReader {
         ensures { (told : Told) (rest : List ℕ) → tells self.now [] ≡ Some (Ok (told, rest)) → result.now ≡ rest }
     {
         self.lines.pending()
+    }
+}
+
+impl Drop for ReplyReader {
+    fn drop(self) {
+        let ReplyReader {
+            lines: _,
+            progress: _,
+        } = self;
     }
 }

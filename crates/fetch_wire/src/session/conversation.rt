@@ -8,6 +8,7 @@ use crate::lines::write::{write_line, write_lines};
 use crate::listings::reference::Ref;
 use crate::replies::awaited::{AskedReply, Await, Fault, Told};
 use crate::replies::bound::ReplyBound;
+use crate::replies::haves::Haves;
 use crate::requests::records::{FetchReply, Request};
 use crate::requests::request_parts::{first_line, listing_request};
 use crate::session::intake::{Found, Intake};
@@ -18,7 +19,6 @@ use std::marker::Model;
 
 /// A conversation: it sends the first line, the listing request, and each request that it is given. It reads as soon as
 /// bytes are fed, also replies whose requests are still to be sent. Contracts see what it sends, awaits and was told.
-#[derive(Drop)]
 pub struct Session {
     agent: Text,
     prefixes: List<Text>,
@@ -54,7 +54,7 @@ impl Model for Session {
 }
 
 impl Session {
-    ghost use Rattle.std.specs.Prelude.{◌≡◌, ◌≢◌, ◌≤◌, ◌⊎◌, ◌∷◌, [], true, None, Some, is_some, Ok, Err, length, drop, IfOk, IfErr, IfSome, OnOk, IsErr};
+    ghost use Rattle.std.specs.Prelude.{◌≡◌, ◌≢◌, ◌≤◌, ◌⊎◌, ◌∷◌, [], true, None, Some, is_some, Ok, Err, length, drop, IfOk, IfErr, IfSome, OnOk, OnErr, IsErr};
     ghost use Rattle.std.specs.Option.{option_copied};
     ghost use Rattle.fetch_store.specs.Answers.{RefusesUnless};
     ghost use Rattle.fetch_wire.specs.declared.replies.awaited.Await.TheVariants as awaits;
@@ -175,7 +175,7 @@ impl Session {
         self.handshake.as_ref()
     }
 
-    /// The references, once the listing was read whole. Version 1 lists them in its greeting.
+    /// The references, once the listing was read whole, until they are taken. Version 1 lists them in its greeting.
     pub fn refs(&self) -> Option<&[Ref]>
         ensures { option_copied result ≡ self.now.refs }
     {
@@ -193,11 +193,19 @@ impl Session {
         self.refs.take()
     }
 
-    /// The reply to the last request, once it was read whole.
+    /// The reply to the last request, once it was read whole, until it is taken.
     pub fn reply(&self) -> Option<&FetchReply>
         ensures { option_copied result ≡ self.now.reply }
     {
         self.reply.as_ref()
+    }
+
+    /// That reply, handed over without a copy: the session has none after it.
+    pub fn take_reply(&mut self) -> Option<FetchReply>
+        ensures taken { result ≡ self.old.reply }
+        ensures left { self.new ≡ record self.old { reply = None } }
+    {
+        self.reply.take()
     }
 
     /// What stands of a refusal, or out of memory in its place.
@@ -283,12 +291,14 @@ impl Session {
 
     /// Asks for the references, and reads them as far as they are there.
     fn ask_listing(&mut self, handshake: Handshake) -> Result<(), NoMemory>
-        ensures { OnOk result (spec.IsAlike self.new (spec.read_one spec.rests (spec.asks_listing handshake (spec.keeps (told.Greeting handshake) self.old)))) }
+        ensures asked { OnOk result (spec.IsAlike self.new (spec.read_one spec.rests (spec.asks_listing handshake (spec.keeps (told.Greeting handshake) self.old)))) }
+        ensures kept { OnErr result (spec.IsKept self.old self.new) }
     {
         match self.listing_text(&handshake) {
             Ok(text) => {
-                self.outgoing.extend_from_slice(&text)?;
+                self.outgoing.reserve(text.len())?;
                 let found = self.intake.start(Await::Listing(handshake.object_hash))?;
+                self.outgoing.extend_from_slice(&text).unwrap();
                 self.handshake = Some(handshake);
                 self.store(found);
                 Ok(())
@@ -304,7 +314,8 @@ impl Session {
 
     /// Keeps what was found of the awaited reply. After a greeting of version 2 the references are asked for.
     fn take(&mut self, found: Found) -> Result<(), NoMemory>
-        ensures { OnOk result (spec.Takes found self.old self.new) }
+        ensures taken { OnOk result (spec.Takes found self.old self.new) }
+        ensures kept { OnErr result (spec.IsKept self.old self.new) }
     {
         match found {
             Found::Told(Told::Greeting(handshake)) => self.ask_listing(handshake),
@@ -318,7 +329,8 @@ impl Session {
     /// Takes the next bytes, and reads on as far as replies are whole.
     fn take_in(&mut self, piece: &[u8]) -> Result<(), WireError>
         requires { self.old.trouble ≡ None }
-        ensures { OnOk result (spec.IsAlike self.new (spec.fed self.old piece.now)) }
+        ensures fed { OnOk result (spec.IsAlike self.new (spec.fed self.old piece.now)) }
+        ensures kept { OnErr result (spec.IsKept self.old self.new) }
     {
         let found = self.intake.feed(piece)?;
         self.take(found)?;
@@ -327,7 +339,7 @@ impl Session {
 
     /// Memory ran out, and what was read of a reply is lost.
     fn lose(&mut self)
-        ensures { self.new ≡ record (spec.failing errors.NoMemory self.old) { refused = true } }
+        ensures { self.new ≡ spec.lost self.old }
     {
         self.fail(WireError::NoMemory);
         self.refused = true;
@@ -339,6 +351,7 @@ impl Session {
         ensures ok { spec.refusal_of self.old ≡ None → result ≡ Ok tt }
         ensures stands { IfErr result (λ e. spec.refusal_of self.new ≡ Some e) }
         ensures kept { result ≢ Err errors.NoMemory → self.new ≡ self.old }
+        ensures lost { result ≡ Err errors.NoMemory → self.new ≡ spec.lost self.old }
     {
         match self.answer() {
             Ok(()) => Ok(()),
@@ -353,12 +366,14 @@ impl Session {
     /// Takes the next bytes of the peer, and reads on as far as replies are whole. A refusal stands where all is sent
     /// and the awaited reply breaks its grammar, passes the bound or is the server's own refusal, where a greeting lists
     /// nothing, or where the listing request doesn't fit; each later call answers it again. Out of memory is such a
-    /// refusal too: what this call answers first is what stands.
+    /// refusal too: what this call answers first is what stands. What was read and told before is kept then, and what is
+    /// to be sent.
     pub fn feed(&mut self, piece: &[u8]) -> Result<(), WireError>
         ensures fed { result ≢ Err errors.NoMemory → spec.IsAlike self.new (spec.fed self.old piece.now) }
         ensures answers { RefusesUnless spec.is_memory (spec.refusal_of (spec.fed self.old piece.now)) result }
         ensures unchanged { spec.refusal_of self.old ≢ None → self.new ≡ self.old }
         ensures stands { spec.refusal_of self.old ≡ None → IfErr result (λ e. spec.refusal_of self.new ≡ Some e) }
+        ensures lost { spec.refusal_of self.old ≡ None → result ≡ Err errors.NoMemory → spec.IsLost self.old piece.now self.new }
     {
         self.answer()?;
         if self.trouble.is_some() {
@@ -406,7 +421,7 @@ impl Session {
     {
         Ok(AskedReply {
             kind: self.kind(),
-            haves: request.haves.try_clone()?,
+            haves: Haves::new(request.haves.try_clone()?)?,
             done: request.done,
             read_pack,
         })
@@ -443,5 +458,22 @@ impl Session {
         self.reply = None;
         self.store(found);
         Ok(())
+    }
+}
+
+impl Drop for Session {
+    fn drop(self) {
+        let Session {
+            agent: _,
+            prefixes: _,
+            outgoing: _,
+            sent: _,
+            intake: _,
+            handshake: _,
+            refs: _,
+            reply: _,
+            trouble: _,
+            refused: _,
+        } = self;
     }
 }

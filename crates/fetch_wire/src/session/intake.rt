@@ -22,7 +22,6 @@ pub(crate) enum Found {
 }
 
 /// What a peer sent and wasn't read yet, and what the reply that is awaited told so far.
-#[derive(Drop)]
 pub(crate) struct Intake {
     lines: LineReader,
     reading: Option<Reading>,
@@ -158,5 +157,14 @@ impl Intake {
         self.reading = None;
         self.lines.next_reply();
         self.read(Reading::start(alloc, awaited))
+    }
+}
+
+impl Drop for Intake {
+    fn drop(self) {
+        let Intake {
+            lines: _,
+            reading: _,
+        } = self;
     }
 }

@@ -11,7 +11,6 @@ use Rattle.fetch_conversation.specs.declared.conversing.Received.{Received}
 use Rattle.fetch_conversation.specs.declared.fetch.Error.{Error}
 use Rattle.fetch_conversation.proofs.Fetches.{FindsIn, holds_refusal, holds_nothing, holds_broken, holds_found}
 use Rattle.fetch_conversation.proofs.Nil.{nil_by, nil_is}
-use Rattle.fetch_conversation.proofs.Heeded.{heeded_still, heeded_as, no_question}
 use Rattle.fetch_conversation.proofs.conversing.converse.Goals as goal
 
 -- ---- what the rounds bring
@@ -19,8 +18,8 @@ use Rattle.fetch_conversation.proofs.conversing.converse.Goals as goal
 finds_none : (t : TermsValue) (rounds : List Round) (kept : Option FetchReply) → kept ≡ None → FindsIn t rounds kept (Err other_reply)
 finds_none t rounds kept is = rw is refl
 
-finds_refusal : (t : TermsValue) (rounds : List Round) (kept : Option FetchReply) (r : FetchReply) (e : Error) → kept ≡ Some r → (is_free_receiving e ≡ false → received t (record { rounds = rounds; reply = r }) ≡ Err e) → FindsIn t rounds kept (Err e)
-finds_refusal t rounds kept r e is h = rw is h
+finds_refusal : (t : TermsValue) (rounds : List Round) (kept : Option FetchReply) (r : FetchReply) (e : Error) → kept ≡ Some r → is_stopped e ≡ false → (is_free_receiving e ≡ false → received t (record { rounds = rounds; reply = r }) ≡ Err e) → FindsIn t rounds kept (Err e)
+finds_refusal t rounds kept r e is going h = rw is (going, h)
 
 finds_received : (t : TermsValue) (rounds : List Round) (kept : Option FetchReply) (r : FetchReply) (x : Received) → kept ≡ Some r → received t (record { rounds = rounds; reply = r }) ≡ Ok (Some x) → FindsIn t rounds kept (Ok (Some x))
 finds_received t rounds kept r x is h = rw is h
@@ -30,7 +29,7 @@ returns-in_err-refuse-clause-held g c =
     let t : TermsValue = terms_told (shown c.args.listed.now) c.args.terms.now in
     let h = g.O.Objects.graph c.args.objects.now in
     let p = err_from_is_err_and c.from_residual.result c.from_residual.ensures.1 in
-    rw (p.1, p.2) (holds_refusal g.P.Peer.answers c.args.listed.now.session.intake.bound (g.P.Peer.told c.args.peer.now) _ _ h t c.in_err-refuse.field-0.0 (λ isnt. c.in_err-refuse.ensures.refused isnt c.args.listed.now.session.intake.bound h))
+    rw (p.1, p.2) (holds_refusal g.P.Peer.answers c.args.listed.now.session.intake.bound (g.P.Peer.told c.args.peer.now) _ _ h t c.in_err-refuse.field-0.0 c.in_err-refuse.ensures.own.1 (λ isnt. c.in_err-refuse.ensures.refused isnt c.args.listed.now.session.intake.bound h))
 
 pub returns-then-is_empty-clause-held : goal.returns-then-is_empty-clause-held
 returns-then-is_empty-clause-held g c =
@@ -52,8 +51,8 @@ returns-in_default-clause-held g c =
     let some : is_nil c.args.terms.now.view.now.wants ≡ false = sym (nil_by c.args.terms.now.view.now.wants c.is_empty.result c.is_empty.ensures) ∙ c.if-is_empty.false in
     let n = c.in_ok-negotiate.negotiate in
     let none : c.negotiate.new.listed.session.reply ≡ None = grind arith in
-    holds_found g.P.Peer.answers c.args.listed.now.session.intake.bound (g.P.Peer.told c.args.peer.now) (g.P.Peer.told c.negotiate.new.peer) _ _ (g.O.Objects.graph c.args.objects.now) t n c.negotiate.new.listed.session.reply (Err other_reply) c.in_ok-refuse.ensures.clear some
-    c.in_ok-negotiate.ensures.held.held (finds_none t n.rounds c.negotiate.new.listed.session.reply none)
+    rw c.take_reply.ensures.left (holds_found g.P.Peer.answers c.args.listed.now.session.intake.bound (g.P.Peer.told c.args.peer.now) (g.P.Peer.told c.negotiate.new.peer) _ _ (g.O.Objects.graph c.args.objects.now) t n c.negotiate.new.listed.session.reply (Err other_reply) c.in_ok-refuse.ensures.clear some
+    c.in_ok-negotiate.ensures.held.held (finds_none t n.rounds c.negotiate.new.listed.session.reply none))
 
 pub returns-in_err-received-clause-held : goal.returns-in_err-received-clause-held
 returns-in_err-received-clause-held g c =
@@ -62,10 +61,10 @@ returns-in_err-received-clause-held g c =
     let n = c.in_ok-negotiate.negotiate in
     let e : Error = c.in_err-received.field-0.0 in
     let p = err_from_is_err_and c.from_residual-in_err-received.result c.from_residual-in_err-received.ensures.1 in
-    let told : c.negotiate.new.listed.session.reply ≡ Some c.in-Some.reply.now = grind arith in
-    let refused = subst (λ (l : ListedValue). is_free_receiving e ≡ false → received (terms_told l c.args.terms.now) (record { rounds = n.rounds; reply = c.in-Some.reply.now }) ≡ Err e) c.in_ok-negotiate.ensures.kept c.in_err-received.ensures.refused in
-    rw (p.1, p.2) (holds_found g.P.Peer.answers c.args.listed.now.session.intake.bound (g.P.Peer.told c.args.peer.now) (g.P.Peer.told c.negotiate.new.peer) _ _ (g.O.Objects.graph c.args.objects.now) t n c.negotiate.new.listed.session.reply (Err e) c.in_ok-refuse.ensures.clear some
-    c.in_ok-negotiate.ensures.held.held (finds_refusal t n.rounds c.negotiate.new.listed.session.reply c.in-Some.reply.now e told refused))
+    let told : c.negotiate.new.listed.session.reply ≡ Some c.in-Some.reply = grind arith in
+    let refused = subst (λ (l : ListedValue). is_free_receiving e ≡ false → received (terms_told l c.args.terms.now) (record { rounds = n.rounds; reply = c.in-Some.reply }) ≡ Err e) c.in_ok-negotiate.ensures.kept c.in_err-received.ensures.refused in
+    rw (p.1, p.2, c.take_reply.ensures.left) (holds_found g.P.Peer.answers c.args.listed.now.session.intake.bound (g.P.Peer.told c.args.peer.now) (g.P.Peer.told c.negotiate.new.peer) _ _ (g.O.Objects.graph c.args.objects.now) t n c.negotiate.new.listed.session.reply (Err e) c.in_ok-refuse.ensures.clear some
+    c.in_ok-negotiate.ensures.held.held (finds_refusal t n.rounds c.negotiate.new.listed.session.reply c.in-Some.reply e told c.in_err-received.ensures.own.1 refused))
 
 pub returns-clause-held : goal.returns-clause-held
 returns-clause-held g c =
@@ -73,31 +72,7 @@ returns-clause-held g c =
     let some : is_nil c.args.terms.now.view.now.wants ≡ false = sym (nil_by c.args.terms.now.view.now.wants c.is_empty.result c.is_empty.ensures) ∙ c.if-is_empty.false in
     let n = c.in_ok-negotiate.negotiate in
     let x : Received = c.in_ok-received.received in
-    let told : c.negotiate.new.listed.session.reply ≡ Some c.in-Some.reply.now = grind arith in
-    let received_so = subst (λ (l : ListedValue). received (terms_told l c.args.terms.now) (record { rounds = n.rounds; reply = c.in-Some.reply.now }) ≡ Ok (Some x)) c.in_ok-negotiate.ensures.kept c.in_ok-received.ensures.received in
-    holds_found g.P.Peer.answers c.args.listed.now.session.intake.bound (g.P.Peer.told c.args.peer.now) (g.P.Peer.told c.negotiate.new.peer) _ _ (g.O.Objects.graph c.args.objects.now) t n c.negotiate.new.listed.session.reply (Ok (Some x)) c.in_ok-refuse.ensures.clear some
-    c.in_ok-negotiate.ensures.held.held (finds_received t n.rounds c.negotiate.new.listed.session.reply c.in-Some.reply.now x told received_so)
-
-pub returns-in_err-refuse-clause-questions : goal.returns-in_err-refuse-clause-questions
-returns-in_err-refuse-clause-questions g c =
-    let p = err_from_is_err_and c.from_residual.result c.from_residual.ensures.1 in
-    rw (p.1, p.2) (heeded_still _ _ _ _ (no_question (Unit {0}) is_stopped c.in_err-refuse.field-0.0 c.in_err-refuse.ensures.own.1))
-
-pub returns-then-is_empty-clause-questions : goal.returns-then-is_empty-clause-questions
-returns-then-is_empty-clause-questions g c = heeded_still _ _ _ _ refl
-
-pub returns-in_err-negotiate-clause-questions : goal.returns-in_err-negotiate-clause-questions
-returns-in_err-negotiate-clause-questions g c =
-    let p = err_from_is_err_and c.from_residual-in_err-negotiate.result c.from_residual-in_err-negotiate.ensures.1 in
-    rw (p.1, p.2) (heeded_as _ _ _ _ _ _ _ _ refl c.in_err-negotiate.ensures.questions)
-
-pub returns-in_default-clause-questions : goal.returns-in_default-clause-questions
-returns-in_default-clause-questions g c = heeded_as _ _ _ _ _ _ _ _ refl c.in_ok-negotiate.ensures.questions
-
-pub returns-in_err-received-clause-questions : goal.returns-in_err-received-clause-questions
-returns-in_err-received-clause-questions g c =
-    let p = err_from_is_err_and c.from_residual-in_err-received.result c.from_residual-in_err-received.ensures.1 in
-    rw (p.1, p.2) (heeded_as _ _ _ _ _ _ _ _ (sym (no_question (Unit {0}) is_stopped c.in_err-received.field-0.0 c.in_err-received.ensures.own.1)) c.in_ok-negotiate.ensures.questions)
-
-pub returns-clause-questions : goal.returns-clause-questions
-returns-clause-questions g c = heeded_as _ _ _ _ _ _ _ _ refl c.in_ok-negotiate.ensures.questions
+    let told : c.negotiate.new.listed.session.reply ≡ Some c.in-Some.reply = grind arith in
+    let received_so = subst (λ (l : ListedValue). received (terms_told l c.args.terms.now) (record { rounds = n.rounds; reply = c.in-Some.reply }) ≡ Ok (Some x)) c.in_ok-negotiate.ensures.kept c.in_ok-received.ensures.received in
+    rw c.take_reply.ensures.left (holds_found g.P.Peer.answers c.args.listed.now.session.intake.bound (g.P.Peer.told c.args.peer.now) (g.P.Peer.told c.negotiate.new.peer) _ _ (g.O.Objects.graph c.args.objects.now) t n c.negotiate.new.listed.session.reply (Ok (Some x)) c.in_ok-refuse.ensures.clear some
+    c.in_ok-negotiate.ensures.held.held (finds_received t n.rounds c.negotiate.new.listed.session.reply c.in-Some.reply x told received_so))

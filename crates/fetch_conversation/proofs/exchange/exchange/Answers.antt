@@ -5,8 +5,11 @@ use Rattle.fetch_conversation.specs.Conversing.{found_in, terms_told}
 use Rattle.fetch_conversation.specs.Exchange.{TermsValue, haves_told}
 use Rattle.fetch_conversation.specs.ListStage.{shown}
 use Rattle.fetch_conversation.specs.declared.listing.Listed.{Listed}
+use Rattle.fetch_conversation.specs.Errors.{fetch_of_stop}
+use Rattle.fetch_conversation.proofs.Asked.{breaks_asked, long_asked}
 use Rattle.fetch_conversation.proofs.Exchanged.{Exchanges, asked_drivable, exchange_long, exchange_stopped, exchange_found, ready_again, bound_again}
-use Rattle.fetch_conversation.proofs.Heeded.{heeded_still, heeded_as, fetch_asks, stop_fetched}
+use Rattle.fetch_conversation.proofs.Heeded.{fetch_asks, stop_fetched}
+use Rattle.fetch_conversation.proofs.Blame.{interrupt_still, interrupt_as}
 use Rattle.fetch_conversation.proofs.exchange.exchange.Goals as goal
 
 pub returns-in_err-ask-clause-held : goal.returns-in_err-ask-clause-held
@@ -49,18 +52,25 @@ returns-in-None-clause-held g c =
     subst (λ (o : Option FetchReply). Exchanges g.P.Peer.answers c.args.listed.now.session.intake.bound (g.P.Peer.told c.args.peer.now) (g.P.Peer.told c.drive.new.peer) c.args.listed.now.session.intake.pending c.drive.new.session.intake.pending t (haves_told c.args.shared.now c.args.round.now.haves) c.args.round.now.done (found_in (λ (r : FetchReply). Ok r) o)) none
     (exchange_found g.P.Peer.answers c.args.listed.now.session.intake.bound (g.P.Peer.told c.args.peer.now) (g.P.Peer.told c.drive.new.peer) t (haves_told c.args.shared.now c.args.round.now.haves) c.args.round.now.done c.args.listed.now.session c.ask.new.listed.session c.drive.new.session c.requires.turn refl c.in_ok-ask.ensures.asked c.in_ok-drive.ensures.driven)
 
-pub returns-in_err-ask-clause-questions : goal.returns-in_err-ask-clause-questions
-returns-in_err-ask-clause-questions g c =
+pub returns-in_err-ask-clause-interrupt : goal.returns-in_err-ask-clause-interrupt
+returns-in_err-ask-clause-interrupt g c =
     let p = err_from_is_err_and c.from_residual.result c.from_residual.ensures.1 in
-    rw (p.1, p.2) (heeded_still _ _ _ _ (fetch_asks (Unit {0}) c.in_err-ask.field-0.0))
+    rw (p.1, p.2) (interrupt_still _ _ _ _ (fetch_asks (Unit {0}) c.in_err-ask.field-0.0))
 
-pub returns-in_err-drive-clause-questions : goal.returns-in_err-drive-clause-questions
-returns-in_err-drive-clause-questions g c =
+pub returns-in_err-ask-clause-asked : goal.returns-in_err-ask-clause-asked
+returns-in_err-ask-clause-asked g c =
+    let p = err_from_is_err_and c.from_residual.result c.from_residual.ensures.1 in
+    rw (p.1, p.2) (long_asked _ c.in_err-ask.field-0.0 c.in_err-ask.ensures.too_long)
+
+pub returns-in_err-drive-clause-asked : goal.returns-in_err-drive-clause-asked
+returns-in_err-drive-clause-asked g c =
+    let t : TermsValue = terms_told (shown c.args.listed.now) c.args.terms.now in
+    let haves = haves_told c.args.shared.now c.args.round.now.haves in
     let p = err_from_is_err_and c.from_residual-in_err-drive.result c.from_residual-in_err-drive.ensures.1 in
-    rw (p.1, p.2) (heeded_as _ _ _ _ _ _ _ _ (stop_fetched (Unit {0}) (Unit {0}) c.in_err-drive.field-0.0) c.in_err-drive.ensures.questions)
+    rw (p.1, p.2) (breaks_asked g.P.Peer.answers c.args.listed.now.session.intake.bound (g.P.Peer.told c.args.peer.now) (g.P.Peer.told c.drive.new.peer) _ t haves c.args.round.now.done (fetch_of_stop c.in_err-drive.field-0.0)
+    (exchange_stopped g.P.Peer.answers c.args.listed.now.session.intake.bound (g.P.Peer.told c.args.peer.now) (g.P.Peer.told c.drive.new.peer) c.args.listed.now.session.intake.pending t haves c.args.round.now.done c.args.listed.now.session c.ask.new.listed.session c.in_err-drive.field-0.0 c.requires.turn refl c.in_ok-ask.ensures.asked c.in_err-drive.ensures.driven).held)
 
-pub returns-in-Some-clause-questions : goal.returns-in-Some-clause-questions
-returns-in-Some-clause-questions g c = heeded_as _ _ _ _ _ _ _ _ refl c.in_ok-drive.ensures.questions
-
-pub returns-in-None-clause-questions : goal.returns-in-None-clause-questions
-returns-in-None-clause-questions g c = heeded_as _ _ _ _ _ _ _ _ refl c.in_ok-drive.ensures.questions
+pub returns-in_err-drive-clause-interrupt : goal.returns-in_err-drive-clause-interrupt
+returns-in_err-drive-clause-interrupt g c =
+    let p = err_from_is_err_and c.from_residual-in_err-drive.result c.from_residual-in_err-drive.ensures.1 in
+    rw (p.1, p.2) (interrupt_as _ _ _ _ _ _ _ _ (stop_fetched (Unit {0}) (Unit {0}) c.in_err-drive.field-0.0) c.in_err-drive.ensures.interrupt)

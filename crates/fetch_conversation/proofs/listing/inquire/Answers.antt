@@ -1,43 +1,32 @@
-use Rattle.std.proofs.Common.{◌≡◌, ℕ, true, false, Result, Ok, Err, IfOk, IfErr, refl, sym, ap, ◌∙◌, subst}
+use Rattle.std.proofs.Common.{◌≡◌, ℕ, Result, Ok, Err, IfOk, refl, ap, ◌∙◌}
 use Rattle.std.proofs.lemmas.Result.{err_from_is_err_and}
 use Rattle.fetch_wire.specs.SessionStates.{SessionState}
-use Rattle.fetch_conversation.specs.Errors.{is_transport, is_interrupted}
 use Rattle.fetch_conversation.specs.Listing.{Answers}
 use Rattle.fetch_conversation.specs.ListStage.{InquiryValue}
 use Rattle.fetch_conversation.specs.declared.listing.Listed.{Listed}
 use Rattle.fetch_conversation.specs.declared.prepare.Error.{Error}
 use Rattle.fetch_conversation.specs.declared.prepare.Error.TheVariants as errors
-use Rattle.fetch_conversation.specs.declared.ref_map.Error.TheVariants as ref_map
 use Rattle.fetch_conversation.proofs.Driven.{finished_unrefused}
 use Rattle.fetch_conversation.proofs.Listings.{inquires_free, inquires_unopened, inquires_stopped, inquires_found, inquired_bound, opened_drivable}
-use Rattle.fetch_conversation.proofs.Heeded.{heeded_still, heeded_as, none_asked, prepare_asks, stop_prepared}
+use Rattle.fetch_conversation.proofs.Heeded.{prepare_asks, stop_prepared}
+use Rattle.fetch_conversation.proofs.Blame.{interrupt_still, interrupt_as}
 use Rattle.fetch_conversation.proofs.listing.inquire.Goals as goal
 
 bound_by : (q : InquiryValue) (s : SessionState) (result : Result Listed Error) (n : ℕ) → Answers q s result → s.intake.bound ≡ n → IfOk result (λ l. l.session.intake.bound ≡ n)
 bound_by q s (Ok l) n a is = ap (λ (t : SessionState). t.intake.bound) a.1 ∙ is
 bound_by q s (Err e) n a is = tt
 
-not_transport : (r : Result Listed Error) → IfErr r (λ e. is_transport e ≡ false) → r ≡ Err (errors.RefMap ref_map.Transport) → ⊥
-not_transport r own is =
-    let wrong : true ≡ false = subst (λ (x : Result Listed Error). IfErr x (λ e. is_transport e ≡ false)) is own in
-    cc
-
-not_interrupted : (r : Result Listed Error) → IfErr r (λ e. is_interrupted e ≡ false) → r ≡ Err (errors.RefMap ref_map.Interrupted) → ⊥
-not_interrupted r own is =
-    let wrong : true ≡ false = subst (λ (x : Result Listed Error). IfErr x (λ e. is_interrupted e ≡ false)) is own in
-    cc
-
 pub returns-in_err-extra-clause-held : goal.returns-in_err-extra-clause-held
 returns-in_err-extra-clause-held g c =
     let q : InquiryValue = record { address = c.args.inquiry.now.address.now; agent = c.args.inquiry.now.agent.now; specs = c.args.inquiry.now.specs.now; tags = c.args.inquiry.now.tags; options = c.args.options } in
     let p = err_from_is_err_and c.from_residual.result c.from_residual.ensures.1 in
-    rw (p.1, p.2) (inquires_free g.P.Peer.answers (g.P.Peer.told c.args.peer.now) q errors.NoMemory refl)
+    rw (p.1, p.2) (inquires_free g.P.Peer.answers (g.P.Peer.told c.args.peer.now) q errors.NoMemory refl refl)
 
 pub returns-in_err-specs-clause-held : goal.returns-in_err-specs-clause-held
 returns-in_err-specs-clause-held g c =
     let q : InquiryValue = record { address = c.args.inquiry.now.address.now; agent = c.args.inquiry.now.agent.now; specs = c.args.inquiry.now.specs.now; tags = c.args.inquiry.now.tags; options = c.args.options } in
     let p = err_from_is_err_and c.from_residual-in_err-specs.result c.from_residual-in_err-specs.ensures.1 in
-    rw (p.1, p.2) (inquires_free g.P.Peer.answers (g.P.Peer.told c.args.peer.now) q errors.NoMemory refl)
+    rw (p.1, p.2) (inquires_free g.P.Peer.answers (g.P.Peer.told c.args.peer.now) q errors.NoMemory refl refl)
 
 pub returns-in_err-session-clause-held : goal.returns-in_err-session-clause-held
 returns-in_err-session-clause-held g c =
@@ -54,7 +43,7 @@ returns-in_err-drive-clause-held g c =
 pub returns-clause-held : goal.returns-clause-held
 returns-clause-held g c =
     let q : InquiryValue = record { address = c.args.inquiry.now.address.now; agent = c.args.inquiry.now.agent.now; specs = c.args.inquiry.now.specs.now; tags = c.args.inquiry.now.tags; options = c.args.options } in
-    inquires_found g.P.Peer.answers (g.P.Peer.told c.args.peer.now) (g.P.Peer.told c.drive.new.peer) q c.in_ok-session.session c.drive.new.session c.map_listed.result c.in_ok-session.ensures.opened c.in_ok-drive.ensures.driven c.map_listed.ensures.answer
+    inquires_found g.P.Peer.answers (g.P.Peer.told c.args.peer.now) (g.P.Peer.told c.drive.new.peer) q c.in_ok-session.session c.drive.new.session c.map_listed.result c.in_ok-session.ensures.opened c.in_ok-drive.ensures.driven c.map_listed.ensures.uninterrupted c.map_listed.ensures.answer
 
 pub returns-clause-bound : goal.returns-clause-bound
 returns-clause-bound g c =
@@ -62,36 +51,17 @@ returns-clause-bound g c =
     bound_by q c.drive.new.session c.map_listed.result c.args.options.max_reply_bytes c.map_listed.ensures.answer
     (inquired_bound g.P.Peer.answers (g.P.Peer.told c.args.peer.now) (g.P.Peer.told c.drive.new.peer) q c.in_ok-session.session c.drive.new.session c.in_ok-session.ensures.opened c.in_ok-drive.ensures.driven)
 
-pub returns-clause-transport : goal.returns-clause-transport
-returns-clause-transport g c = λ is. absurd (not_transport c.map_listed.result c.map_listed.ensures.heard is)
-
-pub returns-clause-interrupted : goal.returns-clause-interrupted
-returns-clause-interrupted g c = λ is. absurd (not_interrupted c.map_listed.result c.map_listed.ensures.uninterrupted is)
-
-pub returns-in_err-extra-clause-questions : goal.returns-in_err-extra-clause-questions
-returns-in_err-extra-clause-questions g c =
-    let p = err_from_is_err_and c.from_residual.result c.from_residual.ensures.1 in
-    rw (p.1, p.2) (heeded_still _ _ _ _ refl)
-
-pub returns-in_err-specs-clause-questions : goal.returns-in_err-specs-clause-questions
-returns-in_err-specs-clause-questions g c =
-    let p = err_from_is_err_and c.from_residual-in_err-specs.result c.from_residual-in_err-specs.ensures.1 in
-    rw (p.1, p.2) (heeded_still _ _ _ _ refl)
-
-pub returns-in_err-session-clause-questions : goal.returns-in_err-session-clause-questions
-returns-in_err-session-clause-questions g c =
-    let p = err_from_is_err_and c.from_residual-in_err-session.result c.from_residual-in_err-session.ensures.1 in
-    rw (p.1, p.2) (heeded_still _ _ _ _ (prepare_asks (Unit {0}) c.in_err-session.field-0.0))
-
-pub returns-in_err-drive-clause-questions : goal.returns-in_err-drive-clause-questions
-returns-in_err-drive-clause-questions g c =
-    let p = err_from_is_err_and c.from_residual-in_err-drive.result c.from_residual-in_err-drive.ensures.1 in
-    rw (p.1, p.2) (heeded_as _ _ _ _ _ _ _ _ (stop_prepared (Unit {0}) (Unit {0}) c.in_err-drive.field-0.0) c.in_err-drive.ensures.questions)
-
-pub returns-clause-questions : goal.returns-clause-questions
-returns-clause-questions g c = heeded_as _ _ _ _ _ _ _ _ (none_asked is_interrupted c.map_listed.result c.map_listed.ensures.uninterrupted) c.in_ok-drive.ensures.questions
-
 pub map_listed-requires-clause-unrefused : goal.map_listed-requires-clause-unrefused
 map_listed-requires-clause-unrefused g c =
     let q : InquiryValue = record { address = c.args.inquiry.now.address.now; agent = c.args.inquiry.now.agent.now; specs = c.args.inquiry.now.specs.now; tags = c.args.inquiry.now.tags; options = c.args.options } in
     finished_unrefused g.P.Peer.answers (g.P.Peer.told c.args.peer.now) (g.P.Peer.told c.drive.new.peer) c.in_ok-session.session c.drive.new.session (opened_drivable q c.in_ok-session.session c.in_ok-session.ensures.opened).unrefused c.in_ok-drive.ensures.driven
+
+pub returns-in_err-session-clause-interrupt : goal.returns-in_err-session-clause-interrupt
+returns-in_err-session-clause-interrupt g c =
+    let p = err_from_is_err_and c.from_residual-in_err-session.result c.from_residual-in_err-session.ensures.1 in
+    rw (p.1, p.2) (interrupt_still _ _ _ _ (prepare_asks (Unit {0}) c.in_err-session.field-0.0))
+
+pub returns-in_err-drive-clause-interrupt : goal.returns-in_err-drive-clause-interrupt
+returns-in_err-drive-clause-interrupt g c =
+    let p = err_from_is_err_and c.from_residual-in_err-drive.result c.from_residual-in_err-drive.ensures.1 in
+    rw (p.1, p.2) (interrupt_as _ _ _ _ _ _ _ _ (stop_prepared (Unit {0}) (Unit {0}) c.in_err-drive.field-0.0) c.in_err-drive.ensures.interrupt)

@@ -1,9 +1,8 @@
-use Rattle.std.proofs.Common.{◌≡◌, Bool, true, false, Some, None, refl, sym, ap, ◌∙◌}
+use Rattle.std.proofs.Common.{◌≡◌, Bool, true, false, Some, None, sym, ap, ◌∙◌}
 use Rattle.std.specs.Prelude.{◌&&◌, if◌then◌else◌}
 use Rattle.fetch_conversation.specs.ListStage.{InquiryValue, no_specs, is_nil}
 use Rattle.fetch_conversation.specs.declared.prepare.Error.TheVariants as errors
 use Rattle.fetch_conversation.proofs.Listings.{lists_missing, lists_named}
-use Rattle.fetch_conversation.proofs.Heeded.{heeded_still}
 use Rattle.fetch_conversation.proofs.listing.list.Goals as goal
 
 none_named : (q : InquiryValue) (b : Bool) → b ≡ (is_nil q.specs && is_nil q.options.extra_refspecs) → b ≡ true → no_specs q ≡ Some errors.MissingRefSpecs
@@ -21,6 +20,3 @@ pub returns-clause-held : goal.returns-clause-held
 returns-clause-held g c =
     let q : InquiryValue = record { address = c.args.inquiry.now.address.now; agent = c.args.inquiry.now.agent.now; specs = c.args.inquiry.now.specs.now; tags = c.args.inquiry.now.tags; options = c.args.options } in
     lists_named g.P.Peer.answers (g.P.Peer.told c.args.peer.now) (g.P.Peer.told c.inquire.new.peer) q c.inquire.result (some_named q c.names_none.result c.names_none.ensures c.if-names_none.false) c.inquire.ensures.held
-
-pub returns-then-names_none-clause-questions : goal.returns-then-names_none-clause-questions
-returns-then-names_none-clause-questions g c = heeded_still _ _ _ _ refl

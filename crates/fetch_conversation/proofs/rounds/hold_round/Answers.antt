@@ -9,14 +9,13 @@ use Rattle.fetch_conversation.specs.ListStage.{shown, pending_of}
 use Rattle.fetch_conversation.specs.Rounds.{CourseValue}
 use Rattle.fetch_conversation.specs.declared.fetch.Error.TheVariants as errors
 use Rattle.fetch_conversation.proofs.Held.{IsNext, Exchanged, unanswered, untold, unwindowed}
-use Rattle.fetch_conversation.proofs.Heeded.{heeded_still, heeded_as}
 use Rattle.fetch_conversation.proofs.rounds.hold_round.Goals as goal
 
 pub returns-in_err-round-clause-held : goal.returns-in_err-round-clause-held
 returns-in_err-round-clause-held g c =
     let t : TermsValue = terms_told (shown c.args.listed.now) c.args.terms.now in
     let p = err_from_is_err_and c.from_residual.result c.from_residual.ensures.1 in
-    rw (p.1, p.2) (λ more. unwindowed c.args.listed.now.session.intake.bound t (g.O.Objects.graph c.args.objects.now) (algorithm_of c.args.course.now.negotiator) g.P.Peer.answers (g.P.Peer.told c.args.peer.now) (pending_of c.args.listed.now) more (course_of c.args.course.now) errors.NoMemory refl)
+    rw (p.1, p.2) (λ more. unwindowed c.args.listed.now.session.intake.bound t (g.O.Objects.graph c.args.objects.now) (algorithm_of c.args.course.now.negotiator) g.P.Peer.answers (g.P.Peer.told c.args.peer.now) (pending_of c.args.listed.now) more (course_of c.args.course.now) errors.NoMemory refl refl)
 
 pub returns-in_err-exchange-clause-held : goal.returns-in_err-exchange-clause-held
 returns-in_err-exchange-clause-held g c =
@@ -47,7 +46,7 @@ returns-in_err-take_in-in-Some-clause-held g c =
     let told : c.exchange.new.listed.session.reply ≡ Some c.in-Some.reply.now = grind arith in
     let held = subst (λ (o : Option FetchReply). Exchanged bound t graph algorithm g.P.Peer.answers (g.P.Peer.told c.args.peer.now) (g.P.Peer.told c.exchange.new.peer) (pending_of c.args.listed.now) (pending_of c.exchange.new.listed) shared round (found_in (λ (r : FetchReply). Ok r) o)) told c.in_ok-exchange.ensures.held.held in
     let p = err_from_is_err_and c.from_residual-in_err-take_in-in-Some.result c.from_residual-in_err-take_in-in-Some.ensures.1 in
-    rw (p.1, p.2) (λ more. untold bound t graph algorithm g.P.Peer.answers (g.P.Peer.told c.args.peer.now) (g.P.Peer.told c.exchange.new.peer) (pending_of c.args.listed.now) (pending_of c.exchange.new.listed) more before d round shared c.in-Some.reply.now errors.NoMemory next held refl)
+    rw (p.1, p.2) (λ more. untold bound t graph algorithm g.P.Peer.answers (g.P.Peer.told c.args.peer.now) (g.P.Peer.told c.exchange.new.peer) (pending_of c.args.listed.now) (pending_of c.exchange.new.listed) more before d round shared c.in-Some.reply.now errors.NoMemory next held refl refl)
 
 pub returns-in-None-clause-held : goal.returns-in-None-clause-held
 returns-in-None-clause-held g c =
@@ -64,21 +63,3 @@ returns-in-None-clause-held g c =
     let none : c.exchange.new.listed.session.reply ≡ None = grind arith in
     let held = subst (λ (o : Option FetchReply). Exchanged bound t graph algorithm g.P.Peer.answers (g.P.Peer.told c.args.peer.now) (g.P.Peer.told c.exchange.new.peer) (pending_of c.args.listed.now) (pending_of c.exchange.new.listed) shared round (found_in (λ (r : FetchReply). Ok r) o)) none c.in_ok-exchange.ensures.held.held in
     λ more. unanswered bound t graph algorithm g.P.Peer.answers (g.P.Peer.told c.args.peer.now) (g.P.Peer.told c.exchange.new.peer) (pending_of c.args.listed.now) (pending_of c.exchange.new.listed) more before d round shared other_reply next held
-
-pub returns-in_err-round-clause-questions : goal.returns-in_err-round-clause-questions
-returns-in_err-round-clause-questions g c =
-    let p = err_from_is_err_and c.from_residual.result c.from_residual.ensures.1 in
-    rw (p.1, p.2) (heeded_still _ _ _ _ refl)
-
-pub returns-in_err-exchange-clause-questions : goal.returns-in_err-exchange-clause-questions
-returns-in_err-exchange-clause-questions g c =
-    let p = err_from_is_err_and c.from_residual-in_err-exchange.result c.from_residual-in_err-exchange.ensures.1 in
-    rw (p.1, p.2) (heeded_as _ _ _ _ _ _ _ _ refl c.in_err-exchange.ensures.questions)
-
-pub returns-in_err-take_in-in-Some-clause-questions : goal.returns-in_err-take_in-in-Some-clause-questions
-returns-in_err-take_in-in-Some-clause-questions g c =
-    let p = err_from_is_err_and c.from_residual-in_err-take_in-in-Some.result c.from_residual-in_err-take_in-in-Some.ensures.1 in
-    rw (p.1, p.2) (heeded_as _ _ _ _ _ _ _ _ refl c.in_ok-exchange.ensures.questions)
-
-pub returns-in-None-clause-questions : goal.returns-in-None-clause-questions
-returns-in-None-clause-questions g c = heeded_as _ _ _ _ _ _ _ _ refl c.in_ok-exchange.ensures.questions

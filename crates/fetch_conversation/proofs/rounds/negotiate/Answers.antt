@@ -9,14 +9,13 @@ use Rattle.fetch_negotiate.specs.Any.{algorithm_of}
 use Rattle.fetch_negotiate.specs.declared.algorithm.Algorithm.{Algorithm}
 use Rattle.fetch_conversation.specs.ConverseStage.{algorithm_in}
 use Rattle.fetch_conversation.specs.Conversing.{Holds, course_of, terms_told}
-use Rattle.fetch_conversation.specs.Errors.{is_stopped}
 use Rattle.fetch_conversation.specs.Exchange.{TermsValue}
 use Rattle.fetch_conversation.specs.ListStage.{ListedValue, shown, pending_of}
 use Rattle.fetch_conversation.specs.Rounds.{CourseValue, first_course}
 use Rattle.fetch_conversation.specs.declared.conversing.Terms.{Terms}
 use Rattle.fetch_conversation.specs.declared.fetch.Error.{Error}
 use Rattle.fetch_conversation.specs.declared.fetch.Error.TheVariants as errors
-use Rattle.fetch_conversation.proofs.Heeded.{heeded_still, heeded_then, heeded_as}
+use Rattle.fetch_conversation.proofs.Blame.{interrupt_then}
 use Rattle.fetch_conversation.proofs.Held.{goes_again, goes_to_end, goes_off, goes_out, goes_nowhere}
 use Rattle.fetch_conversation.proofs.rounds.negotiate.Goals as goal
 
@@ -34,7 +33,7 @@ returns-in_err-most-clause-held g c =
     let graph = g.O.Objects.graph c.args.objects.now in
     let algorithm = algorithm_in c.args.terms.now.settings.now in
     let p = err_from_is_err_and c.from_residual.result c.from_residual.ensures.1 in
-    rw (p.1, p.2) (goes_nowhere c.args.listed.now.session.intake.bound t graph algorithm g.P.Peer.answers (g.P.Peer.told c.args.peer.now) (pending_of c.args.listed.now) (pending_of c.args.listed.now) (suc (map.len graph)) (first_course algorithm c.args.terms.now.view.now) errors.NoMemory refl)
+    rw (p.1, p.2) (goes_nowhere c.args.listed.now.session.intake.bound t graph algorithm g.P.Peer.answers (g.P.Peer.told c.args.peer.now) (pending_of c.args.listed.now) (pending_of c.args.listed.now) (suc (map.len graph)) (first_course algorithm c.args.terms.now.view.now) errors.NoMemory refl refl)
 
 pub returns-in_err-course-clause-held : goal.returns-in_err-course-clause-held
 returns-in_err-course-clause-held g c =
@@ -42,7 +41,7 @@ returns-in_err-course-clause-held g c =
     let graph = g.O.Objects.graph c.args.objects.now in
     let algorithm = algorithm_in c.args.terms.now.settings.now in
     let p = err_from_is_err_and c.from_residual-in_err-course.result c.from_residual-in_err-course.ensures.1 in
-    rw (p.1, p.2) (goes_nowhere c.args.listed.now.session.intake.bound t graph algorithm g.P.Peer.answers (g.P.Peer.told c.args.peer.now) (pending_of c.args.listed.now) (pending_of c.args.listed.now) (suc (map.len graph)) (first_course algorithm c.args.terms.now.view.now) errors.NoMemory refl)
+    rw (p.1, p.2) (goes_nowhere c.args.listed.now.session.intake.bound t graph algorithm g.P.Peer.answers (g.P.Peer.told c.args.peer.now) (pending_of c.args.listed.now) (pending_of c.args.listed.now) (suc (map.len graph)) (first_course algorithm c.args.terms.now.view.now) errors.NoMemory refl refl)
 
 pub returns-in_err-hold_round-clause-held : goal.returns-in_err-hold_round-clause-held
 returns-in_err-hold_round-clause-held g c =
@@ -86,10 +85,8 @@ loop-preserved g c =
       kept = e.kept ∙ i.kept;
       algorithm = e.algorithm ∙ i.algorithm;
       told = e.told;
-      counts = Counts-then (g.P.Peer.faults c.args.peer.now) (g.P.Peer.faults c.loop.peer) (g.P.Peer.faults c.hold_round.new.peer) i.counts e.counts;
-      asked = Counts-then (g.I.Interrupt.yes c.args.interrupt.now) (g.I.Interrupt.yes c.loop.interrupt) (g.I.Interrupt.yes c.hold_round.new.interrupt) i.asked e.asked;
-      quiet = e.uninterrupted ∙ i.quiet;
-      questions = heeded_then is_stopped is_stopped _ _ _ _ _ _ (Ok tt) (Ok tt) refl i.questions (heeded_as _ is_stopped _ _ _ _ _ (Ok tt) refl e.questions);
+      counts = Counts-then (g.P.Peer.faults c.args.peer.now) (g.P.Peer.faults c.loop.peer) (g.P.Peer.faults c.hold_round.new.peer) i.counts e.peer.counts;
+      interrupt = interrupt_then (g.I.Interrupt.yes c.args.interrupt.now) (g.I.Interrupt.yes c.loop.interrupt) (g.I.Interrupt.yes c.hold_round.new.interrupt) _ _ _ _ _ _ 0 i.interrupt e.interrupt;
     }
 
 pub returns-clause-held : goal.returns-clause-held
@@ -101,23 +98,10 @@ returns-clause-held g c =
     let out : c.loop.counter ≡ suc (map.len graph) = (let test = c.loop-test.false in let len = c.in_ok-most.ensures in let end = c.loop.auto.counter-end in omega arith) in
     goes_out bound t graph algorithm g.P.Peer.answers (g.P.Peer.told c.args.peer.now) (g.P.Peer.told c.loop.peer) (pending_of c.args.listed.now) (pending_of c.loop.listed) (pending_of c.loop.listed) (suc (map.len graph)) (first_course algorithm c.args.terms.now.view.now) (course_of c.loop.course) c.loop.counter out c.loop.invariant.goes
 
-pub returns-in_err-most-clause-questions : goal.returns-in_err-most-clause-questions
-returns-in_err-most-clause-questions g c =
-    let p = err_from_is_err_and c.from_residual.result c.from_residual.ensures.1 in
-    rw (p.1, p.2) (heeded_still _ _ _ _ refl)
-
-pub returns-in_err-course-clause-questions : goal.returns-in_err-course-clause-questions
-returns-in_err-course-clause-questions g c =
-    let p = err_from_is_err_and c.from_residual-in_err-course.result c.from_residual-in_err-course.ensures.1 in
-    rw (p.1, p.2) (heeded_still _ _ _ _ refl)
-
-pub returns-in_err-hold_round-clause-questions : goal.returns-in_err-hold_round-clause-questions
-returns-in_err-hold_round-clause-questions g c =
+pub returns-in_err-hold_round-clause-interrupt : goal.returns-in_err-hold_round-clause-interrupt
+returns-in_err-hold_round-clause-interrupt g c =
     let p = err_from_is_err_and c.from_residual-in_err-hold_round.result c.from_residual-in_err-hold_round.ensures.1 in
-    rw (p.1, p.2) (heeded_then _ _ _ _ _ _ _ _ _ _ refl c.loop.invariant.questions (heeded_as _ _ _ _ _ _ _ _ refl c.in_err-hold_round.ensures.questions))
+    rw (p.1, p.2) (interrupt_then _ _ _ _ _ _ _ _ _ _ c.loop.invariant.interrupt c.in_err-hold_round.ensures.interrupt)
 
-pub returns-then-branch-clause-questions : goal.returns-then-branch-clause-questions
-returns-then-branch-clause-questions g c = heeded_then _ _ _ _ _ _ _ _ _ _ refl c.loop.invariant.questions (heeded_as _ _ _ _ _ _ _ _ refl c.in_ok-hold_round.ensures.questions)
-
-pub returns-clause-questions : goal.returns-clause-questions
-returns-clause-questions g c = heeded_as _ _ _ _ _ _ _ _ refl c.loop.invariant.questions
+pub returns-then-branch-clause-interrupt : goal.returns-then-branch-clause-interrupt
+returns-then-branch-clause-interrupt g c = interrupt_then _ _ _ _ _ _ _ _ _ _ c.loop.invariant.interrupt c.in_ok-hold_round.ensures.interrupt

@@ -1,15 +1,13 @@
-use Rattle.std.proofs.Common.{◌≡◌, suc, Ok}
+use Rattle.std.proofs.Common.{◌≡◌, suc}
 use Rattle.std.specs.FinMap as map
 use Rattle.fetch_store.specs.Faults.{Counts}
 use Rattle.fetch_negotiate.specs.Any.{algorithm_of, known_by}
 use Rattle.fetch_negotiate.specs.Reading.{IsTold}
 use Rattle.fetch_conversation.specs.ConverseStage.{algorithm_in}
 use Rattle.fetch_conversation.specs.Conversing.{course_of, terms_told}
-use Rattle.fetch_conversation.specs.Errors.{is_stopped}
+use Rattle.fetch_conversation.specs.Blame.{BlamesInterrupt}
 use Rattle.fetch_conversation.specs.ListStage.{IsReady, shown, pending_of}
-use Rattle.fetch_conversation.specs.Receiving.{IsHeeded}
 use Rattle.fetch_conversation.specs.Rounds.{first_course}
-use Rattle.fetch_conversation.specs.declared.fetch.Error.{Error}
 use Rattle.fetch_conversation.proofs.Held.{Goes}
 use Rattle.fetch_conversation.proofs.rounds.negotiate.Given as goal
 
@@ -23,7 +21,5 @@ invariant-loop g l = record {
   algorithm : algorithm_of l.course.negotiator ≡ algorithm_in l.terms.settings.now;
   told : IsTold (known_by l.course.negotiator) (g.O.Objects.graph l.objects);
   counts : Counts (g.P.Peer.faults l.fn.peer) (g.P.Peer.faults l.peer);
-  asked : Counts (g.I.Interrupt.yes l.fn.interrupt) (g.I.Interrupt.yes l.interrupt);
-  quiet : (g.I.Interrupt.yes l.interrupt).count ≡ (g.I.Interrupt.yes l.fn.interrupt).count;
-  questions : IsHeeded {T = Unit {0}} {E = Error} is_stopped (g.I.Interrupt.will_stop l.fn.interrupt) (g.I.Interrupt.will_stop l.interrupt) (g.P.Peer.told l.fn.peer) (g.P.Peer.told l.peer) (Ok tt);
+  interrupt : BlamesInterrupt (g.I.Interrupt.yes l.fn.interrupt) (g.I.Interrupt.yes l.interrupt) (g.I.Interrupt.will_stop l.fn.interrupt) (g.I.Interrupt.will_stop l.interrupt) (g.P.Peer.told l.fn.peer) (g.P.Peer.told l.peer) 0;
 }

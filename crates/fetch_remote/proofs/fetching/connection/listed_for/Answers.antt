@@ -7,7 +7,7 @@ use Rattle.fetch_remote.proofs.fetching.connection.listed_for.Goals as goal
 pub returns-in_err-map-clause-refused : goal.returns-in_err-map-clause-refused
 returns-in_err-map-clause-refused g c =
     let p = err_from_is_err_and c.from_residual.result c.from_residual.ensures.1 in
-    rw (p.1, p.2) (record { broke = broken_free _ _ _ _ _ _ _ refl })
+    rw (p.1, p.2) (record { broke = broken_free _ _ _ _ _ _ _ _ refl refl })
 
 pub returns-in_err-listed-clause-refused : goal.returns-in_err-listed-clause-refused
 returns-in_err-listed-clause-refused g c =

@@ -1,6 +1,6 @@
-use Rattle.std.proofs.Common.{refl}
+use Rattle.std.proofs.Common.{refl, rules}
 use Rattle.std.proofs.lemmas.Result.{err_from_is_err_and}
-use Rattle.fetch_conversation.proofs.Heeded.{heeded_still, heeded_as}
+use Rattle.fetch_conversation.proofs.Blame.{interrupt_still}
 use Rattle.fetch_remote.specs.Form.{Given}
 use Rattle.fetch_remote.specs.Repositories.{state_of, setup_of}
 use Rattle.fetch_remote.proofs.Steps.{gives_up_here, kind_on}
@@ -30,15 +30,12 @@ returns-clause-of_kind g c =
     let same = rw c.settings.ensures.settings at c.settings.ensures.hash in
     rw (kind_on _ _ _ given (state_of c.args.repo.now) c.args.listed _ c.in_ok-received.received same k.held) at c.in_ok-received.ensures.of_kind
 
-pub returns-in_err-view-clause-questions : goal.returns-in_err-view-clause-questions
-returns-in_err-view-clause-questions g c =
+pub returns-in_err-view-clause-interrupt : goal.returns-in_err-view-clause-interrupt
+returns-in_err-view-clause-interrupt g c =
     let p = err_from_is_err_and c.from_residual.result c.from_residual.ensures.1 in
-    rw (p.1, p.2) (heeded_still _ _ _ _ refl)
+    rw (p.1, p.2) (interrupt_still _ _ _ _ refl)
 
-pub returns-in_err-received-clause-questions : goal.returns-in_err-received-clause-questions
-returns-in_err-received-clause-questions g c =
+pub returns-in_err-received-clause-interrupt : goal.returns-in_err-received-clause-interrupt
+returns-in_err-received-clause-interrupt g c =
     let p = err_from_is_err_and c.from_residual-in_err-received.result c.from_residual-in_err-received.ensures.1 in
-    rw (p.1, p.2) (heeded_as _ _ _ _ _ _ _ _ refl c.in_err-received.ensures.questions)
-
-pub returns-clause-questions : goal.returns-clause-questions
-returns-clause-questions g c = heeded_as _ _ _ _ _ _ _ _ refl c.in_ok-received.ensures.questions
+    rw (p.1, p.2) c.in_err-received.ensures.interrupt

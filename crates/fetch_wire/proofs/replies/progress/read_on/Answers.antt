@@ -9,6 +9,8 @@ returns-in-Ok-More-clause-read c =
     let same = c.next.follows.holds-at-none ∙ on.nothing_left c.lines.lines given in
     rw same (record {
       bound = i.bound;
+      room = i.room;
+      behind = i.behind;
       told = i.told;
       short = on.short c.lines.lines c.lines.reading (rw c.place-place.ensures.place at c.place-place.ensures.within) given;
     })
@@ -36,6 +38,8 @@ lines-preserved c =
     let step = rw c.in-On.is at c.in_ok-read-in-Ok-Line.ensures in
     rw behind (record {
       bound = on.same_bound c.lines.lines ∙ i.bound;
+      room = on.same_room c.lines.lines _ given ∙ i.room;
+      behind = on.same_behind c.lines.reading c.in-On.next _ (sym step) ∙ i.behind;
       told = λ more. on.goes_on c.lines.lines c.lines.reading c.in-On.next _ given (sym step) more ∙ i.told more;
     })
 
