@@ -28,7 +28,7 @@ pub trait Negotiator {
         ensures err { OnErr result (given self.new ≡ given self.old) }
         ensures told { IsTold (known self.new) (O.graph objects.now) };
 
-    /// Takes in that the other side has a commit.
+    /// Takes in that the other side has a commit. Each negotiator says by clauses of its own what is told no more.
     fn in_common<O: Objects>(
         &mut self,
         alloc: Global,

@@ -4,7 +4,8 @@ ghost use Rattle.std.specs.Prelude.{◌≡◌, IfOk};
 
 use fetch_store::{NoMemory, ObjectId, Text};
 
-/// Who changed a reference, and when.
+/// Who changed a reference, and when. A repository keeps one from its opening on, so the lines of reflogs have that time;
+/// who wants another opens the repository again with it.
 #[derive(Debug, Drop)]
 pub struct Signature {
     /// The person's name, any bytes.

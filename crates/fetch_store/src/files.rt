@@ -21,6 +21,9 @@ use crate::text::Text;
 ///
 /// Who writes files of the outside, as those of a host, tells no tree: others change it, too, and a write that was refused
 /// may have written a part. Promises that speak of a tree then say nothing, and those on faults stand.
+///
+/// A fetch makes and removes one keep file; it writes no objects and no references. `MemoryFiles::new(alloc,
+/// Vec::new(alloc))` stands for none.
 pub trait Files {
     /// How often a call failed. A `u64` that rises by one and stands still at its end will do.
     ghost faults: { Self → Faults };

@@ -45,7 +45,8 @@ pub enum WorktreeFault {
     NoMemory,
 }
 
-/// The worktrees of a repository, however they are found.
+/// The work trees of a repository, however they are found. The main one has to be told too: which branches are checked
+/// out is asked of this list alone, and never of `HEAD`. With an empty list nothing is checked out.
 pub trait Worktrees {
     ghost use Rattle.fetch_update.specs.declared.worktrees.Worktree.{Worktree};
 
@@ -59,7 +60,8 @@ pub trait Worktrees {
     /// The list, where it is known.
     ghost told: { Self → Option (Items Worktree) };
 
-    /// The branches that are checked out, and where.
+    /// The branches that are checked out, and where, that of the main work tree among them. It is asked once a fetch, after
+    /// the objects were taken and before the first verdict.
     fn list(&mut self) -> Result<Vec<Worktree>, WorktreeFault>
         ensures listing_counts { Counts (listing self.old) (listing self.new) }
         ensures open_repo_counts { Counts (open_repo self.old) (open_repo self.new) }

@@ -26,7 +26,9 @@ impl ReplyBound {
     /// The greatest bound.
     pub const GREATEST: u32 = 1 << 30;
 
-    /// A bound of that many bytes, where it is in range.
+    /// A bound of that many bytes, where it is in range. It is over the bytes of one reply, uncompressed. A longer one is
+    /// refused as `ReplyTooLong`; then fetch in slices: `Shallow::DepthAtRemote`, and then `Shallow::Deepen` until the
+    /// repository is shallow no more.
     pub fn new(bytes: u32) -> Option<ReplyBound>
         ensures in_range { IsSome result ↔ ((1 ≤ bytes) × (bytes ≤ 1073741824)) }
         ensures bytes { IfSome result (λ bound. bound ≡ bytes) }

@@ -18,7 +18,14 @@ pub enum SendFault {
     NoMemory,
 }
 
-/// The other end of a conversation.
+/// The other end of one conversation: a connection to a server, or what stands for one.
+///
+/// A peer serves one listing or one fetch, and is of no use afterwards: nothing closes the conversation, so who made the
+/// peer closes its connection. It is asked to receive only where all that was to be sent has been sent, and a reply is
+/// awaited. A request is handed over whole, in one `send`, so a peer over HTTP may post it at its flush.
+///
+/// `told` is what it lets contracts know of its bytes. None is right for a socket: then no clause of a fetch says which
+/// bytes were sent and received, while all that is said of the repository, of the outcome and of refusals stands.
 pub trait Peer {
     /// What it received, what it gave and what it has still to give, and each receive that was made of it, where it tells
     /// them.
@@ -29,15 +36,19 @@ pub trait Peer {
     /// Whether what it receives may add to what it has still to give.
     ghost answers: { Bool };
 
-    /// Sends all of the bytes. At a refusal a prefix of them may have been received.
+    /// Sends all of the bytes. At a refusal a prefix of them may have been received. `Failed` where the other side can't be
+    /// reached or a time-out ran off; count it, and keep what you know of the cause: the error of a fetch has no room for it.
     fn send(&mut self, bytes: &[u8]) -> Result<(), SendFault>
         ensures talk { Sends answers (told self.old) (told self.new) result bytes.now }
         ensures receives { Makes (told self.old) (told self.new) [] }
         ensures counts { Counts (faults self.old) (faults self.new) }
         ensures cause { IsErrOf result SendFault.Failed → Rose (faults self.old) (faults self.new) };
 
-    /// Fills the front of `into` and answers how many bytes came. 0 is the end. What is to come grows in no such call.
-    /// It is one receive, at a refusal too.
+    /// Fills the front of `into` and answers how many bytes came, one or more. 0 is the end of what the other side has to
+    /// say: inside a reply that is `Malformed`, and no fault of the peer. So a connection that broke off, also at its end in
+    /// the midst of a conversation, answers `Failed`, which a caller may try again (`is_spurious`). There is no answer for
+    /// "nothing yet": wait, or answer `Failed` after a time of your own. What is to come grows in no such call. It is one
+    /// receive, at a refusal too.
     fn receive(&mut self, into: &mut [u8]) -> Result<usize, Failed>
         ensures bound { IfOk result (λ count. count ≤ length into.new) }
         ensures talk { Receives (told self.old) (told self.new) result into.new }
@@ -46,7 +57,8 @@ pub trait Peer {
         ensures cause { OnErr result (Rose (faults self.old) (faults self.new)) };
 }
 
-/// What is asked whether to stop.
+/// What is asked whether to stop: once before each receive, and at no other time. So it isn't asked while a receive
+/// waits, while bytes are sent, or while objects are hashed and taken.
 pub trait Interrupt {
     /// The count of yes answers.
     ghost yes: { Self → Faults };
