@@ -5,15 +5,14 @@ import tempfile
 import unittest
 
 from realgit.mutating import Mutator, raced, split_lines
-from realgit.rows import ROWS, rows
+from realgit.rows import CRATES, rows, scenes
 from realgit.trouble import read_file
 from realgit.trying import Ended, minimised
 from test_tools import DOUBLE, run
 
-SCENES = [scene for _, scene, _ in rows(*(read_file(os.path.join(ROWS, name)) for name in ("stdin", "stdout")))]
-REPORT = read_file(os.path.join(ROWS, "..", "bagjulen", "stdout"))
-RACES = os.path.join(ROWS, "..", "race_rows")
-TWO_JOBS = read_file(os.path.join(ROWS, "..", "..", "examples", "two-jobs.race"))
+SCENES = [scene for _, scene, _ in scenes()]
+REPORT = read_file(os.path.join(CRATES, "bagjulen", "stdout"))
+TWO_JOBS = read_file(os.path.join(CRATES, "..", "examples", "two-jobs.race"))
 
 
 def ended(status, written, is_late=False, asked="fetch"):
@@ -50,17 +49,16 @@ class Faults(unittest.TestCase):
     def test_reports_that_are_stated(self):
         self.assertIsNone(ended(0, REPORT).fault(b""))
         self.assertIsNone(ended(4, b"malformed 12\n").fault(b"0" * 12))
-        for name, _, report in rows(*(read_file(os.path.join(ROWS, name)) for name in ("stdin", "stdout"))):
+        for name, _, report in scenes():
             text, status = report.encode("utf-8", "surrogateescape").rsplit(b"== status ", 1)
             self.assertIsNone(ended(int(status), text).fault(b"0" * 100000), name)
 
     def test_reports_of_races_that_are_stated(self):
-        told = read_file(os.path.join(RACES, "stdout")).split(b"== ")[1:]
-        reports = [pair for pair in zip(told, told[1:]) if pair[1].startswith(b"status ") and not pair[0].startswith(b"entries ")]
+        reports = [row for row in rows("shared_rows") if row.whose == "race"]
         self.assertGreater(len(reports), 6)
-        for name, status in reports:
-            text = name.partition(b"\n")[2]
-            self.assertIsNone(ended(int(status.removeprefix(b"status ")), text, asked="race").fault(b"0" * 100000), name)
+        for row in reports:
+            text, status = row.answer.rsplit(b"== status ", 1)
+            self.assertIsNone(ended(int(status), text, asked="race").fault(b"0" * 100000), row.about)
         self.assertEqual(ended(1, b"refused 0 ServerError a\nrefused 3 Client\n", asked="race").word(), "status 1, Client")
         self.assertEqual(ended(1, b"refused NotClosed %s %s\n" % (b"0" * 40, b"1" * 40), asked="race").word(), "status 1, NotClosed")
         self.assertEqual(ended(0, b"refused 0 Client\n", asked="race").fault(b""), "lines with status 0")

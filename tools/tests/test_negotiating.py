@@ -1,7 +1,6 @@
 """Checks of what is told of a repository, and of the tools around it."""
 
 import os
-import re
 import subprocess
 import sys
 import tempfile
@@ -13,9 +12,8 @@ sys.path.insert(0, TOOLS)
 from realgit.lines import Mark  # noqa: E402
 from realgit.negotiating import (Client, Skipping, commit, line_of, scene_of_line, tag, told, told_first,  # noqa: E402
                                  windows_of, windows_traced)
-from realgit.rows import ROWS  # noqa: E402
+from realgit.rows import rows  # noqa: E402
 from realgit.scene import read_scene  # noqa: E402
-from realgit.trouble import read_file  # noqa: E402
 
 
 def tool(*words):
@@ -84,10 +82,9 @@ class Lines(unittest.TestCase):
 class Rows(unittest.TestCase):
     def test_all_scenes_are_shown(self):
         status, out = tool("dev/show-rows")
-        inputs, reports = (read_file(os.path.join(ROWS, name)) for name in ("stdin", "stdout"))
-        others = len(re.findall(rb"^(\?|! \S+ \S+ \d+ )", inputs, flags=re.MULTILINE))
-        self.assertGreater(others, 0)
-        self.assertEqual((status, out.count("\n== status ")), (0, reports.count(b"\n== status ") - others))
+        kinds = [(row.whose, bool(row.lines)) for row in rows("fetch_rows")]
+        self.assertGreater(len(set(kinds)), 3)
+        self.assertEqual((status, out.count("\n== status ")), (0, kinds.count(("fetch", False))))
 
     def test_rows_are_found_by_words(self):
         status, out = tool("dev/show-rows", "single", "bytes")

@@ -1,10 +1,14 @@
 //! The lines of a row, and which question each asks.
 
 use crate::editing::edit_of;
-use crate::words::{id_of, ids_of, say, split_word};
+use crate::words::{id_of, ids_of};
 use crate::world::World;
-use crate::{dated, judging, negotiating, objects, reaching, references, taking};
+use crate::{
+    calling, dated, judging, lines, negotiating, objects, reaching, references, replies, taking,
+    walks,
+};
 use fetch_store::{Kind, NoMemory, ObjectId, Store};
+use rows::{lines as lines_of, say, split_word};
 use std::alloc::Global;
 use std::thread::Threads;
 
@@ -120,6 +124,22 @@ fn ask_of_references(
     Ok(true)
 }
 
+/// Asks of what is read or walked over, without objects and references. Whether one of these questions is asked.
+fn ask_of_lines(
+    alloc: Global,
+    what: &[u8],
+    rest: &[u8],
+    out: &mut Vec<u8>,
+) -> Result<bool, NoMemory> {
+    if what == b"walk".as_slice() {
+        return walks::tell(alloc, rest, out);
+    }
+    if lines::ask(alloc, what, rest, out)? {
+        return Ok(true);
+    }
+    replies::ask(alloc, what, rest, out)
+}
+
 /// Tells what is asked. Whether something is.
 fn ask(
     rt: &(impl Threads + Sync),
@@ -129,6 +149,12 @@ fn ask(
     out: &mut Vec<u8>,
 ) -> Result<bool, NoMemory> {
     let (what, rest) = split_word(question);
+    if ask_of_lines(alloc, what, rest, out)? {
+        return Ok(true);
+    }
+    if calling::ask(alloc, world, what, out)? {
+        return Ok(true);
+    }
     if ask_of_objects(rt, alloc, world, what, rest, out)? {
         return Ok(true);
     }
@@ -171,7 +197,7 @@ fn put(
 
 /// Begins a row with nothing, for ids of SHA-1 (`=`) or of SHA-256 (`==`), or tells what a line asks for, or adds what it
 /// puts down. Whether it is such a line.
-pub(crate) fn tell_line(
+fn tell_line(
     rt: &(impl Threads + Sync),
     alloc: Global,
     world: &mut World,
@@ -194,4 +220,30 @@ pub(crate) fn tell_line(
         return Ok(true);
     }
     put(rt, alloc, world, line, out)
+}
+
+fn tell_lines(
+    rt: &(impl Threads + Sync),
+    alloc: Global,
+    world: &mut World,
+    bytes: &[u8],
+    out: &mut Vec<u8>,
+) -> Result<bool, NoMemory> {
+    for line in &lines_of(alloc, bytes)? {
+        if !tell_line(rt, alloc, world, line, out)? {
+            return Ok(false);
+        }
+    }
+    Ok(true)
+}
+
+/// Tells what all lines ask for. Whether each of them is such a line.
+pub(crate) fn tell_all(
+    rt: &(impl Threads + Sync),
+    alloc: Global,
+    bytes: &[u8],
+    out: &mut Vec<u8>,
+) -> Result<bool, NoMemory> {
+    let mut world = World::new(alloc, Kind::Sha1);
+    tell_lines(rt, alloc, &mut world, bytes, out)
 }

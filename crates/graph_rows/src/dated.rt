@@ -4,9 +4,10 @@ ghost use Rattle.std.specs.Prelude.{◌≡◌, ◌↔◌, ◌<◌, IsTrue, IfOk}
 ghost use Rattle.fetch_store.specs.Graph.{graph_of};
 ghost use Rattle.fetch_update.specs.Dated.{IsCommit, HasDatedPath};
 
-use crate::words::{id_of, say, split_word};
+use crate::words::id_of;
 use fetch_store::{NoMemory, ObjectId, ObjectKind, Objects, Parents, Steps, Store, decimal};
 use fetch_update::laws::is_dated_ancestor;
+use rows::{say, split_word};
 use std::alloc::Global;
 use std::cell::Cell;
 use std::marker::Brand;

@@ -1,9 +1,10 @@
 //! Edits of references, as lines say them.
 
-use crate::words::{id_of, name_of, split_word};
+use crate::words::id_of;
 use fetch_refs::{Change, LogChange, PreviousValue, RefEdit, RefLog, Target};
 use fetch_specs::FullName;
 use fetch_store::{NoMemory, Text};
+use rows::{name_of, split_word};
 use std::alloc::Global;
 
 /// The target that a word is: an id, or a name.

@@ -1,6 +1,6 @@
 //! What mappings are told.
 
-use crate::words::{decoded, id_of, name_of, say, say_number, say_printed, split_word};
+use crate::words::id_of;
 use crate::world::World;
 use fetch_refs::Change;
 use fetch_specs::{Operation, RefSpec, SpecError, Tags, parse};
@@ -9,6 +9,7 @@ use fetch_update::laws::update;
 use fetch_update::update::{Error, Outcome, Update};
 use fetch_update::{Mode, RefLogMessage, TypeChange, Worktree};
 use fetch_wire::{Mapping, Ref, Source, SpecIndex};
+use rows::{decoded, name_of, say, say_number, say_printed, split_word};
 use std::alloc::Global;
 
 /// The mark that Git prints for what a mapping is told.

@@ -4,10 +4,11 @@ ghost use Rattle.fetch_negotiate.specs.Any.{known_by};
 ghost use Rattle.fetch_negotiate.specs.Reading.{IsTold};
 
 use crate::reaching::border_of;
-use crate::words::{id_of, say_ids, split_word};
+use crate::words::{id_of, say_ids};
 use crate::world::World;
 use fetch_negotiate::{Algorithm, AnyNegotiator, Negotiator};
 use fetch_store::{Border, NoMemory, ObjectId, Objects, Store};
+use rows::split_word;
 use std::alloc::Global;
 
 fn algorithm_of(word: &[u8]) -> Algorithm {

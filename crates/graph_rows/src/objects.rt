@@ -5,9 +5,10 @@ ghost use Rattle.fetch_store.specs.Id.{kind_of};
 ghost use Rattle.fetch_store.specs.Stores.{AreOf};
 ghost use Rattle.fetch_store.specs.declared.id.Kind.TheVariants as kinds;
 
-use crate::words::{decoded, id_of, ids_of, refuse, split_word};
+use crate::words::{id_of, ids_of};
 use fetch_pack::read_pack;
 use fetch_store::{Kind, NoMemory, Object, ObjectId, ObjectKind, Store, StoreError, append_hex};
+use rows::{decoded, refuse, split_word};
 use std::alloc::Global;
 use std::thread::Threads;
 

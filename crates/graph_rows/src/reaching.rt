@@ -2,9 +2,10 @@
 
 ghost use Rattle.std.specs.Prelude.{◌≡◌, ◌<◌};
 
-use crate::words::{refuse, say, say_id, say_number};
+use crate::words::say_id;
 use crate::world::World;
 use fetch_store::{Border, Graph, List, NoMemory, ObjectId, Objects, Steps, Store, reached};
+use rows::{refuse, say, say_number};
 use std::alloc::Global;
 use std::marker::Brand;
 use std::sync::ledger::{Blank, Ledger};

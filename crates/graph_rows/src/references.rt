@@ -1,13 +1,17 @@
 //! References: how edits are made, and what stands then.
 
-use crate::words::{append_id, decoded, name_of, refuse, say, say_id, say_number};
+ghost use Rattle.std.specs.Prelude.{◌≡◌, OnOk, OnErr};
+ghost use Rattle.fetch_refs.specs.Logs.{after};
+
+use crate::words::{append_id, say_id};
 use crate::world::World;
 use fetch_negotiate::tips;
 use fetch_refs::{
-    LogLine, PackedRefs, RefEdit, RefError, Refs, Signature, Target, TargetRef, peel_tags,
+    LogLine, PackedRefs, Prepared, RefEdit, RefError, Refs, Signature, Target, TargetRef, peel_tags,
 };
 use fetch_specs::FullName;
 use fetch_store::{NoMemory, ObjectId, Store, Text};
+use rows::{decoded, name_of, refuse, say, say_number};
 use std::alloc::Global;
 
 /// A refusal, and the name, the id or the value found that it tells.
@@ -41,21 +45,27 @@ fn signature(alloc: Global) -> Result<Signature, NoMemory> {
     })
 }
 
+/// Prepared and committed, the references are those after the edits; refused, they are as before.
 fn commit(
-    alloc: Global,
     refs: &mut Refs,
     edits: &[RefEdit],
+    committer: &Signature,
     logging: bool,
     packed: PackedRefs,
-) -> Result<(), RefError> {
-    let committer = signature(alloc)?;
-    refs.prepare(edits, &committer, logging, packed)?.commit();
+) -> Result<(), RefError>
+    ensures ok { OnOk result (refs.new ≡ after committer.now logging packed refs.old edits.now) }
+    ensures err { OnErr result (refs.new ≡ refs.old) }
+{
+    let prepared: Prepared<'_> = refs.prepare(edits, committer, logging, packed)?;
+    prepared.commit();
     Ok(())
 }
 
-fn drop_prepared(alloc: Global, refs: &mut Refs, edits: &[RefEdit]) -> Result<(), RefError> {
-    let committer = signature(alloc)?;
-    let _prepared = refs.prepare(edits, &committer, true, PackedRefs::Only)?;
+/// Prepared and dropped, they are as before.
+fn drop_prepared(refs: &mut Refs, edits: &[RefEdit], committer: &Signature) -> Result<(), RefError>
+    ensures { refs.new ≡ refs.old }
+{
+    let _prepared = refs.prepare(edits, committer, true, PackedRefs::Only)?;
     Ok(())
 }
 
@@ -67,14 +77,21 @@ pub(crate) fn make_edits(
     how: &[u8],
     out: &mut Vec<u8>,
 ) -> Result<(), NoMemory> {
+    let committer = signature(alloc)?;
     let edits = world.edits.as_slice();
     let made = if how == b"dropped".as_slice() {
-        drop_prepared(alloc, &mut world.refs, edits)
+        drop_prepared(&mut world.refs, edits, &committer)
     } else if how == b"packed".as_slice() {
-        commit(alloc, &mut world.refs, edits, true, PackedRefs::Only)
+        commit(&mut world.refs, edits, &committer, true, PackedRefs::Only)
     } else {
         let logging = how != b"unlogged".as_slice();
-        commit(alloc, &mut world.refs, edits, logging, PackedRefs::Never)
+        commit(
+            &mut world.refs,
+            edits,
+            &committer,
+            logging,
+            PackedRefs::Never,
+        )
     };
     world.edits = Vec::new(alloc);
     match made {

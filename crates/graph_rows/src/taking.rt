@@ -2,12 +2,13 @@
 
 use crate::objects::{is_sha1, pack_of};
 use crate::reaching::border_of;
-use crate::words::{ids_of, refuse, say, say_ids, say_number, split_word};
+use crate::words::{ids_of, say_ids};
 use crate::world::World;
 use fetch_store::{
     Graph, Missing, NoMemory, Object, ObjectId, Objects, Store, Take, ascending, first_missing,
     first_missing_of_take, split_first,
 };
+use rows::{refuse, say, say_number, split_word};
 use std::alloc::Global;
 use std::thread::Threads;
 

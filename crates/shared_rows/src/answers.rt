@@ -3,7 +3,8 @@
 use crate::refusals::tell_refusal;
 use crate::running::Answer;
 use fetch_shared::Plan;
-use fetch_store::{NoMemory, ObjectId, append_hex, append_number};
+use fetch_store::{NoMemory, ObjectId, append_number};
+use rows::say_id;
 
 /// A line of a word and these numbers.
 pub(crate) fn tell_numbers(
@@ -13,20 +14,17 @@ pub(crate) fn tell_numbers(
 ) -> Result<(), NoMemory> {
     out.extend_from_slice(word)?;
     for number in numbers {
-        out.extend_from_slice(b" ")?;
+        out.push(b' ')?;
         append_number(out, *number as usize)?;
     }
-    out.extend_from_slice(b"\n")?;
+    out.push(b'\n')?;
     Ok(())
 }
 
 /// A line of a word and an id, for each of these.
 pub(crate) fn tell_ids(out: &mut Vec<u8>, word: &[u8], ids: &[ObjectId]) -> Result<(), NoMemory> {
     for id in ids {
-        out.extend_from_slice(word)?;
-        out.extend_from_slice(b" ")?;
-        append_hex(out, id)?;
-        out.extend_from_slice(b"\n")?;
+        say_id(out, word, id)?;
     }
     Ok(())
 }

@@ -1,11 +1,23 @@
 //! What the lines of a row ask for.
 
-use crate::words::{ids_of, name_of, split_word};
 use fetch_refs::{Change, LogChange, PreviousValue, RefEdit, RefLog, Signature, Target};
 use fetch_specs::FullName;
 use fetch_store::{Kind, List, NoMemory, ObjectId, Text, decimal, split_first};
 use fetch_wire::{Mapping, RefMap, Source, SpecIndex};
+use rows::{name_of, split_word};
 use std::alloc::Global;
+
+/// The ids that these words are, up to the first that is none.
+fn ids_of(alloc: Global, words: &[u8]) -> Result<Vec<ObjectId>, NoMemory> {
+    let mut ids = Vec::new(alloc);
+    for word in words.split(|b| *b == b' ') {
+        let Some(id) = ObjectId::in_hex(Kind::Sha1, word) else {
+            break;
+        };
+        ids.push(id)?;
+    }
+    Ok(ids)
+}
 
 /// A pack to be taken.
 #[derive(Drop)]

@@ -1,23 +1,23 @@
-//! Makes the events of each row of its input over a shared repository, or hands out its passes, and writes what came of it.
+//! Makes the events of each row of its input over a shared repository, hands out its passes, or races its jobs, and writes what
+//! came of it.
 #![tactic(auto)]
 
 mod answers;
 mod events;
+mod gated;
 mod journals;
 mod opening;
 mod passes;
+mod racing;
 mod refusals;
 mod replays;
-mod rows;
 mod running;
 mod sharing;
 mod thread_safe;
-mod words;
 
 use fetch_store::{NoMemory, after};
-use rows::{Row, row_at};
+use rows::{Row, end, read_input, rows_of, say};
 use std::alloc::Global;
-use std::io::{self, Read, Write};
 use std::process::ExitCode;
 use std::sync::Wait;
 use std::thread::Threads;
@@ -29,52 +29,44 @@ fn tell_row(
     row: &Row<'_>,
     out: &mut Vec<u8>,
 ) -> Result<bool, NoMemory> {
-    out.extend_from_slice(b"= ")?;
-    out.extend_from_slice(row.about)?;
-    out.extend_from_slice(b"\n")?;
+    say(out, &[b"=", row.whose, row.about])?;
+    if row.whose == b"race".as_slice() {
+        racing::tell(rt, alloc, row.scene, out)?;
+        return Ok(true);
+    }
+    if row.whose == b"both".as_slice() {
+        racing::tell_both(rt, alloc, row.scene, out)?;
+        return Ok(true);
+    }
     match after(b"passes ", row.lines) {
         Some(line) => passes::tell(rt, alloc, row.scene, line, out),
         None => sharing::tell(rt, alloc, row, out),
     }
 }
 
-/// What all rows tell. None where something stands among them that is no row.
+/// What all rows tell. Whether they are rows.
 fn tell_all(
     rt: &(impl Threads + Wait + Sync),
     alloc: Global,
     bytes: &[u8],
-) -> Result<Option<Vec<u8>>, NoMemory> {
-    let mut out = Vec::new(alloc);
-    let mut rest = bytes;
-    for _ in 0..bytes.len() {
-        let Some((row, behind)) = row_at(rest) else {
-            break;
-        };
-        if !tell_row(rt, alloc, &row, &mut out)? {
-            return Ok(None);
+    out: &mut Vec<u8>,
+) -> Result<bool, NoMemory> {
+    let Some(rows) = rows_of(alloc, bytes)? else {
+        return Ok(false);
+    };
+    for row in &rows {
+        if !tell_row(rt, alloc, row, out)? {
+            return Ok(false);
         }
-        rest = behind;
     }
-    Ok(if rest.is_empty() { Some(out) } else { None })
-}
-
-fn read_all(rt: &HostRuntime) -> io::Result<Vec<u8>> {
-    let mut bytes = Vec::new(rt.alloc());
-    rt.stdin().read_to_end(&mut bytes)?;
-    Ok(bytes)
+    Ok(true)
 }
 
 fn main(rt: HostRuntime) -> ExitCode {
     thread_safe::shared_types_cross_threads();
-    let Ok(bytes) = read_all(&rt) else {
-        return ExitCode::from(2);
-    };
-    match tell_all(&rt, rt.alloc(), &bytes) {
-        Ok(Some(out)) => match rt.stdout().write_all(&out) {
-            Ok(()) => ExitCode::SUCCESS,
-            Err(_) => ExitCode::from(3),
-        },
-        Ok(None) => ExitCode::from(4),
-        Err(NoMemory) => ExitCode::from(5),
+    let mut out = Vec::new(rt.alloc());
+    match read_input(&rt) {
+        Ok(bytes) => end(&rt, tell_all(&rt, rt.alloc(), &bytes, &mut out), &out),
+        Err(_) => ExitCode::from(2),
     }
 }

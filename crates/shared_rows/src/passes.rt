@@ -6,11 +6,11 @@ use crate::answers::tell_numbers;
 use crate::journals::tell_journal;
 use crate::opening::open;
 use crate::refusals::tell_refusal;
-use crate::words::{name_of, split_word};
 use fetch_remote::Repository;
 use fetch_shared::{Entry, Pass, SharedError, SharedRepository};
 use fetch_specs::FullName;
 use fetch_store::{NoMemory, decimal, split_first};
+use rows::{name_of, split_word};
 use std::alloc::Global;
 use std::sync::Wait;
 use std::thread::Threads;
@@ -179,8 +179,33 @@ fn tell_told(out: &mut Vec<u8>, told: &Result<Told, SharedError>) -> Result<(), 
     }
 }
 
-/// Shares the repository of a row, and tells of its passes: `<numbers> <numbers> <name>`, how many numbers are split off in
-/// each round, and what is deleted. Whether the line says so.
+/// Shares a repository, and tells of its passes.
+fn tell_shared<R: Wait>(
+    rt: &R,
+    alloc: Global,
+    repo: Repository,
+    numbers: Numbers,
+    names: &[FullName],
+    out: &mut Vec<u8>,
+) -> Result<(), NoMemory> {
+    let told = share(rt, alloc, repo, numbers, names);
+    tell_told(out, &told)
+}
+
+/// `<numbers> <numbers> <name>`: how many numbers are split off in each round, and what is deleted.
+fn round_of(alloc: Global, line: &[u8]) -> Result<Option<(Numbers, FullName)>, NoMemory> {
+    let (first, rest) = split_word(line);
+    let (second, name) = split_word(rest);
+    let (Some(first), Some(second)) = (decimal(first), decimal(second)) else {
+        return Ok(None);
+    };
+    match name_of(alloc, name)? {
+        Some(name) => Ok(Some(([first, second], name))),
+        None => Ok(None),
+    }
+}
+
+/// Shares the repository of a row, and tells of its passes, as its line says. Whether the line says so.
 pub(crate) fn tell(
     rt: &(impl Threads + Wait + Sync),
     alloc: Global,
@@ -189,21 +214,15 @@ pub(crate) fn tell(
     out: &mut Vec<u8>,
 ) -> Result<bool, NoMemory> {
     let (line, _) = split_first(b'\n', line).unwrap_or((line, &[]));
-    let (first, rest) = split_word(line);
-    let (second, name) = split_word(rest);
-    let (Some(first), Some(second), Some(name)) = (
-        decimal(first),
-        decimal(second),
-        name_of(alloc, name)?,
-    ) else {
+    let Some((numbers, name)) = round_of(alloc, line)? else {
         return Ok(false);
     };
-    let mut names = Vec::new(alloc);
-    names.push(name)?;
-    let Some((repo, _)) = open(rt, alloc, scene)? else {
-        return Ok(false);
-    };
-    let told = share(rt, alloc, repo, [first, second], names.as_slice());
-    tell_told(out, &told)?;
-    Ok(true)
+    let names = vec![in alloc; name]?;
+    match open(rt, alloc, scene)? {
+        Some((repo, _)) => {
+            tell_shared(rt, alloc, repo, numbers, names.as_slice(), out)?;
+            Ok(true)
+        }
+        None => Ok(false),
+    }
 }

@@ -1,7 +1,6 @@
 //! Journals that are replayed, whole or in part.
 
 use crate::answers::{tell_ids, tell_numbers};
-use crate::words::split_word;
 use fetch_refs::{Refs, Target, TargetRef};
 use fetch_remote::Repository;
 use fetch_shared::{Entry, ReplayFault, Replayed, replay};
@@ -77,14 +76,11 @@ fn entry_at<'a>(journal: &'a [Entry], word: &[u8]) -> Option<&'a Entry> {
 /// The entries at these places, up to the first that is none.
 fn entries_at(alloc: Global, journal: &[Entry], places: &[u8]) -> Result<Vec<Entry>, NoMemory> {
     let mut entries = Vec::new(alloc);
-    let mut rest = places;
-    for _ in 0..places.len() {
-        let (word, behind) = split_word(rest);
+    for word in places.split(|b| *b == b' ') {
         match entry_at(journal, word) {
             Some(entry) => entries.push(entry.try_clone()?)?,
             None => break,
         }
-        rest = behind;
     }
     Ok(entries)
 }

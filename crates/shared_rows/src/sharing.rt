@@ -8,11 +8,11 @@ use crate::journals::tell_journal;
 use crate::opening::open;
 use crate::refusals::tell_refusal;
 use crate::replays::tell_replay;
-use crate::rows::Row;
 use crate::running::run;
 use fetch_remote::Repository;
 use fetch_shared::{Entry, SharedState};
-use fetch_store::{Kind, NoMemory, Text, after, split_first};
+use fetch_store::{Kind, NoMemory, Text, after};
+use rows::{Row, lines as lines_of, say};
 use std::alloc::Global;
 use std::thread::Threads;
 
@@ -60,8 +60,7 @@ fn tell_line(
     requires { state.old.repository.state.hash ≡ desk.now.kind }
     ensures { state.new.repository.state.hash ≡ desk.now.kind }
 {
-    out.extend_from_slice(line)?;
-    out.extend_from_slice(b"\n")?;
+    say(out, &[b"?", line])?;
     match event_of(alloc, line)? {
         Some(event) => {
             let answer = run(rt, alloc, desk.kind, state, desk.packs, event);
@@ -82,18 +81,12 @@ fn tell_lines(
 ) -> Result<bool, NoMemory>
     requires { state.old.repository.state.hash ≡ desk.now.kind }
 {
-    let mut rest = lines;
-    for _ in 0..lines.len() {
-        let Some((line, behind)) = split_first(b'\n', rest) else {
-            break;
-        };
-        out.extend_from_slice(b"? ")?;
+    for line in &lines_of(alloc, lines)? {
         if !tell_line(rt, alloc, desk, state, line, out)? {
             return Ok(false);
         }
-        rest = behind;
     }
-    Ok(rest.is_empty())
+    Ok(true)
 }
 
 /// Shares a repository, and tells what these lines answer. Whether they all ask for something.

@@ -2,9 +2,9 @@
 
 ghost use Rattle.std.specs.Prelude.{◌≤◌, length};
 
-use crate::words::{decoded, refuse, say, say_number, say_printed, split_word};
 use fetch_config::{ConfigError, File, Meta, Origin};
 use fetch_store::{NoMemory, decimal};
+use rows::{decoded, refuse, say, say_number, say_printed, split_word};
 use std::alloc::Global;
 
 fn meta(source: Origin, trusted: bool) -> Meta {

@@ -1,7 +1,7 @@
 //! Files in memory, and the calls that are to fail.
 
-use crate::words::{refuse, say, split_word};
 use fetch_store::{FileError, Files, MemoryFiles, NoMemory, Node, Text, decimal};
+use rows::{refuse, say, split_word};
 use std::alloc::Global;
 use std::fmt::Display;
 

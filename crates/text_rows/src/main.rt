@@ -3,59 +3,25 @@
 
 mod asking;
 mod configurations;
+mod copies;
 mod files;
 mod kinds;
 mod names;
 mod objects;
+mod orders;
 mod packs;
+mod pieces;
 mod refspecs;
 mod remotes;
-mod words;
 
-use asking::{Desk, tell_line};
-use fetch_store::{NoMemory, split_first};
-use std::alloc::Global;
-use std::io::{self, Read, Write};
+use asking::tell_all;
+use rows::{end, read_input};
 use std::process::ExitCode;
-use std::thread::Threads;
-
-/// What all lines tell. None where one of them asks for nothing.
-fn tell_all(
-    rt: &(impl Threads + Sync),
-    alloc: Global,
-    bytes: &[u8],
-) -> Result<Option<Vec<u8>>, NoMemory> {
-    let mut out = Vec::new(alloc);
-    let mut desk = Desk::new(alloc)?;
-    let mut rest = bytes;
-    for _ in 0..bytes.len() {
-        let Some((line, behind)) = split_first(b'\n', rest) else {
-            break;
-        };
-        if !tell_line(rt, alloc, &mut desk, line, &mut out)? {
-            return Ok(None);
-        }
-        rest = behind;
-    }
-    Ok(if rest.is_empty() { Some(out) } else { None })
-}
-
-fn read_all(rt: &HostRuntime) -> io::Result<Vec<u8>> {
-    let mut bytes = Vec::new(rt.alloc());
-    rt.stdin().read_to_end(&mut bytes)?;
-    Ok(bytes)
-}
 
 fn main(rt: HostRuntime) -> ExitCode {
-    let Ok(bytes) = read_all(&rt) else {
-        return ExitCode::from(2);
-    };
-    match tell_all(&rt, rt.alloc(), &bytes) {
-        Ok(Some(out)) => match rt.stdout().write_all(&out) {
-            Ok(()) => ExitCode::SUCCESS,
-            Err(_) => ExitCode::from(3),
-        },
-        Ok(None) => ExitCode::from(4),
-        Err(NoMemory) => ExitCode::from(5),
+    let mut out = Vec::new(rt.alloc());
+    match read_input(&rt) {
+        Ok(bytes) => end(&rt, tell_all(&rt, rt.alloc(), &bytes, &mut out), &out),
+        Err(_) => ExitCode::from(2),
     }
 }

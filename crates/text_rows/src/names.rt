@@ -1,8 +1,8 @@
 //! Names of references.
 
-use crate::words::{refuse, say};
 use fetch_specs::{Category, FullName, NameError, PartialName};
 use fetch_store::NoMemory;
+use rows::{refuse, say};
 use std::alloc::Global;
 
 /// `<text>`: a plus before a name, a minus before another text, as the table of Git's verdicts has them.

@@ -2,12 +2,12 @@
 //! refspecs or of names has commas between.
 
 use crate::kinds::{hash_of, operation_of};
-use crate::words::{refuse, say, say_number, split_word};
 use fetch_specs::{
     Conflict, Item, Match, MatchGroup, Operation, RefSpec, SourceRef, SpecError, Tags, parse,
     prefixes, validate,
 };
 use fetch_store::{Kind, NoMemory, Text, append_number};
+use rows::{refuse, say, say_number, split_word};
 use std::alloc::Global;
 
 fn tell_spec(alloc: Global, spec: &RefSpec, out: &mut Vec<u8>) -> Result<(), SpecError> {

@@ -1,7 +1,6 @@
 //! Remotes and branches of a configuration.
 
 use crate::refspecs::{specs_of, tags_of};
-use crate::words::{decoded, refuse, say, split_word};
 use fetch_config::File;
 use fetch_lookup::{
     Direction, Names, RemoteParts, branch_names, find_remote, has_branch_sections, remote_names,
@@ -9,29 +8,13 @@ use fetch_lookup::{
 };
 use fetch_specs::{Operation, RefSpec, SpecError, Tags};
 use fetch_store::{List, NoMemory, Text};
+use rows::{decoded, refuse, say, say_specs, say_texts, split_word};
 use std::alloc::Global;
 use std::collections::BTreeSet;
 
 fn say_names(out: &mut Vec<u8>, word: &[u8], names: &Names) -> Result<(), NoMemory> {
     for name in names {
         say(out, &[word, name.as_bytes()])?;
-    }
-    Ok(())
-}
-
-fn say_texts(out: &mut Vec<u8>, word: &[u8], texts: &[Text]) -> Result<(), NoMemory> {
-    for text in texts {
-        say(out, &[word, text.as_bytes()])?;
-    }
-    Ok(())
-}
-
-fn say_specs(out: &mut Vec<u8>, specs: &[RefSpec]) -> Result<(), NoMemory> {
-    for spec in specs {
-        match spec.to_bstring(*out.allocator()) {
-            Ok(text) => say(out, &[b"refspec", text.as_bytes()])?,
-            Err(e) => refuse(out, &e)?,
-        }
     }
     Ok(())
 }
@@ -45,7 +28,7 @@ fn tell_names(alloc: Global, file: &File, out: &mut Vec<u8>) -> Result<(), NoMem
 fn tell_remote(out: &mut Vec<u8>, remote: &RemoteParts) -> Result<(), NoMemory> {
     say_texts(out, b"url", remote.urls.as_slice())?;
     say_texts(out, b"push-url", remote.push_urls.as_slice())?;
-    say_specs(out, remote.fetch_specs.as_slice())?;
+    say_specs(out, b"refspec", remote.fetch_specs.as_slice())?;
     match remote.fetch_tags {
         Tags::All => say(out, &[b"all tags"]),
         Tags::None => say(out, &[b"no tags"]),
@@ -168,7 +151,7 @@ fn extend(
     if let Err(e) = extended(alloc, &mut list, is_replaced, second) {
         refuse(out, &e)?;
     }
-    say_specs(out, list.as_slice())?;
+    say_specs(out, b"refspec", list.as_slice())?;
     Ok(true)
 }
 

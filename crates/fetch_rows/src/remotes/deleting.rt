@@ -1,0 +1,166 @@
+//! Branches that are deleted, and a repository that is opened again.
+
+use super::opening::{CONFIG, files, worktrees};
+use super::setting::{Setting, names_of};
+use super::{branches, finding, refusals};
+use fetch_remote::Repository;
+use fetch_specs::FullName;
+use fetch_store::{FileError, Files, MemoryFiles, NoMemory, Text};
+use fetch_update::ScriptedWorktrees;
+use itoa::Buffer;
+use rows::{say, say_lines};
+use std::alloc::Global;
+
+/// What stands beside the configuration while it is replaced.
+const LOCK: &[u8] = b"/w/.git/config.lock";
+
+fn tell_reference(
+    alloc: Global,
+    repo: &Repository,
+    name: &[u8],
+    out: &mut Vec<u8>,
+) -> Result<(), NoMemory> {
+    let Ok(full) = FullName::new(alloc, name) else {
+        return Err(NoMemory);
+    };
+    let mut buffer = Buffer::new();
+    let lines = buffer.format(repo.refs().reflog(&full).len());
+    say(out, &[b"ref", name, lines.as_bytes()])
+}
+
+/// Each reference, with the number of lines in its reflog.
+fn tell_references(alloc: Global, repo: &Repository, out: &mut Vec<u8>) -> Result<(), NoMemory> {
+    for (name, _target) in repo.refs().iter() {
+        tell_reference(alloc, repo, name, out)?;
+    }
+    Ok(())
+}
+
+fn read(files: &mut MemoryFiles, path: &[u8]) -> Result<Option<Text>, FileError> {
+    files.read(path)
+}
+
+/// A file's text. Where the call that is to fail is this one, it is made again.
+fn text_of(files: &mut MemoryFiles, path: &[u8]) -> Result<Option<Text>, NoMemory> {
+    for _ in 0..2 {
+        if let Ok(text) = read(files, path) {
+            return Ok(text);
+        }
+    }
+    Err(NoMemory)
+}
+
+fn tell_file(files: &mut MemoryFiles, path: &[u8], out: &mut Vec<u8>) -> Result<(), NoMemory> {
+    match text_of(files, path)? {
+        Some(text) => {
+            say(out, &[b"file", path])?;
+            say_lines(out, text.as_bytes())
+        }
+        None => Ok(()),
+    }
+}
+
+fn tell_files(files: &mut MemoryFiles, out: &mut Vec<u8>) -> Result<(), NoMemory> {
+    tell_file(files, CONFIG, out)?;
+    tell_file(files, LOCK, out)
+}
+
+fn tell_left(
+    alloc: Global,
+    repo: &Repository,
+    files: &mut MemoryFiles,
+    out: &mut Vec<u8>,
+) -> Result<(), NoMemory> {
+    tell_references(alloc, repo, out)?;
+    branches::names(alloc, repo, out)?;
+    tell_files(files, out)
+}
+
+/// Deletes branches, and tells the answer.
+fn delete_from(
+    alloc: Global,
+    repo: &mut Repository,
+    names: &[FullName],
+    files: &mut MemoryFiles,
+    worktrees: &mut ScriptedWorktrees,
+    out: &mut Vec<u8>,
+) -> Result<(), NoMemory> {
+    match repo.delete_local_branches(alloc, names, worktrees, files) {
+        Ok(()) => say(out, &[b"ok"]),
+        Err(e) => refusals::deleted(out, &e),
+    }
+}
+
+/// Deletes branches, and tells what is left: references, branches in memory, and files.
+fn delete_over(
+    alloc: Global,
+    repo: &mut Repository,
+    names: &[FullName],
+    files: &mut MemoryFiles,
+    worktrees: &mut ScriptedWorktrees,
+    out: &mut Vec<u8>,
+) -> Result<(), NoMemory> {
+    delete_from(alloc, repo, names, files, worktrees, out)?;
+    tell_left(alloc, repo, files, out)
+}
+
+/// The same over the files and the work trees of a row.
+fn delete(
+    alloc: Global,
+    setting: &Setting,
+    repo: &mut Repository,
+    names: &[FullName],
+    out: &mut Vec<u8>,
+) -> Result<(), NoMemory> {
+    let mut worktrees = worktrees(alloc, setting)?;
+    let mut files = files(alloc, setting)?;
+    delete_over(alloc, repo, names, &mut files, &mut worktrees, out)
+}
+
+/// Opens a repository again, and tells the answer.
+fn reload_from(
+    alloc: Global,
+    repo: &mut Repository,
+    files: &mut MemoryFiles,
+    out: &mut Vec<u8>,
+) -> Result<(), NoMemory> {
+    match repo.reload(alloc, files) {
+        Ok(()) => say(out, &[b"ok"]),
+        Err(e) => refusals::opened(out, &e),
+    }
+}
+
+/// Opens a repository again, and tells its remotes.
+fn reload(
+    alloc: Global,
+    setting: &Setting,
+    repo: &mut Repository,
+    out: &mut Vec<u8>,
+) -> Result<(), NoMemory> {
+    let mut files = files(alloc, setting)?;
+    reload_from(alloc, repo, &mut files, out)?;
+    finding::names(alloc, repo, out)
+}
+
+/// Does what is asked for over files. Whether that is something.
+pub(crate) fn ask(
+    alloc: Global,
+    setting: &Setting,
+    repo: &mut Repository,
+    what: &[u8],
+    rest: &[u8],
+    out: &mut Vec<u8>,
+) -> Result<bool, NoMemory> {
+    if what == b"reload".as_slice() {
+        reload(alloc, setting, repo, out)?;
+        return Ok(true);
+    }
+    if what != b"delete".as_slice() {
+        return Ok(false);
+    }
+    let Some(names) = names_of(alloc, rest)? else {
+        return Ok(false);
+    };
+    delete(alloc, setting, repo, names.as_slice(), out)?;
+    Ok(true)
+}

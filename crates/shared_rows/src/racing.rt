@@ -1,0 +1,100 @@
+//! Races: their whole reports, or how many entries they make.
+
+use crate::gated::race_gated;
+use fetch_cli::{MemorySink, MemorySource};
+use fetch_store::{NoMemory, Text, append_number};
+use race_cli::{read_race_scene, run_race, set_up_race};
+use rows::{lines, say, say_number};
+use std::alloc::Global;
+use std::sync::Wait;
+use std::thread::Threads;
+
+/// Races what a scene says. All that the program writes goes to this sink; the answer is its status.
+fn run_into(
+    rt: &(impl Threads + Wait + Sync),
+    alloc: Global,
+    scene: &[u8],
+    sink: &mut MemorySink,
+) -> Result<u8, NoMemory> {
+    let mut words = Vec::new(alloc);
+    words.push(Vec::from_slice(alloc, b"race")?)?;
+    let mut source = MemorySource::new(Text::new(alloc, scene)?, Vec::new(alloc));
+    Ok(run_race(rt, alloc, &words, &mut source, sink))
+}
+
+fn say_status(out: &mut Vec<u8>, status: u8) -> Result<(), NoMemory> {
+    say_number(out, b"== status", usize::from(status))
+}
+
+/// Puts down the report of a race, and its status.
+pub(crate) fn tell(
+    rt: &(impl Threads + Wait + Sync),
+    alloc: Global,
+    scene: &[u8],
+    out: &mut Vec<u8>,
+) -> Result<(), NoMemory> {
+    let mut sink = MemorySink::new(alloc, Vec::new(alloc));
+    let status = run_into(rt, alloc, scene, &mut sink)?;
+    out.extend_from_slice(sink.bytes())?;
+    say_status(out, status)
+}
+
+/// Whether a line of a report is the first of an entry.
+fn begins_entry(line: &[u8]) -> bool {
+    line.starts_with(b"take ") || line.starts_with(b"commit ") || line.starts_with(b"delete ")
+}
+
+/// How many entries a report tells.
+fn entries_in(alloc: Global, report: &[u8]) -> Result<usize, NoMemory> {
+    let mut count: usize = 0;
+    for line in &lines(alloc, report)? {
+        if begins_entry(line) {
+            count = count.saturating_add(1);
+        }
+    }
+    Ok(count)
+}
+
+/// Puts down how many entries the report of a race tells, and its status: what the report says of them depends on the order
+/// of the jobs' steps.
+fn tell_entries(
+    rt: &(impl Threads + Wait + Sync),
+    alloc: Global,
+    scene: &[u8],
+    out: &mut Vec<u8>,
+) -> Result<(), NoMemory> {
+    let mut sink = MemorySink::new(alloc, Vec::new(alloc));
+    let status = run_into(rt, alloc, scene, &mut sink)?;
+    say_number(out, b"== entries", entries_in(alloc, sink.bytes())?)?;
+    say_status(out, status)
+}
+
+/// How many entries a race of a scene's first two jobs makes, where each of their peers holds its reply until the other one
+/// was asked, and both are done.
+fn gated_entries(
+    rt: &(impl Threads + Wait + Sync),
+    alloc: Global,
+    scene: &[u8],
+) -> Result<Option<usize>, NoMemory> {
+    match read_race_scene(rt, alloc, scene) {
+        Ok(scene) => race_gated(rt, alloc, set_up_race(alloc, scene)?),
+        Err(_) => Ok(None),
+    }
+}
+
+/// Races what a scene says twice, the second time by peers that hold their replies until both were asked, and puts down how
+/// many entries were made.
+pub(crate) fn tell_both(
+    rt: &(impl Threads + Wait + Sync),
+    alloc: Global,
+    scene: &[u8],
+    out: &mut Vec<u8>,
+) -> Result<(), NoMemory> {
+    tell_entries(rt, alloc, scene, out)?;
+    let told = match gated_entries(rt, alloc, scene)? {
+        Some(4) => b"== both were asked before either was answered; four entries".as_slice(),
+        Some(_) => b"== both were asked before either was answered".as_slice(),
+        None => b"== not done".as_slice(),
+    };
+    say(out, &[told])
+}
