@@ -11,6 +11,7 @@ pub mod Refused
 pub mod Ordered
 pub mod Kept
 pub mod Asked
+pub mod Blamed
 pub mod Overrides
 pub mod Lost
 pub mod Judged

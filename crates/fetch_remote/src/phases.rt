@@ -1,6 +1,6 @@
 //! The stages of a fetch, one call each.
 
-ghost use Rattle.std.specs.Prelude.{◌≡◌, [], IfOk, IfSome, OnOk, IsErrOf, true};
+ghost use Rattle.std.specs.Prelude.{◌≡◌, [], true, IfOk, IfSome};
 ghost use Rattle.fetch_conversation.specs.Blame.{BlamesPeer, BlamesInterrupt, is_told};
 ghost use Rattle.fetch_conversation.specs.Receiving.{last_question};
 ghost use Rattle.fetch_store.specs.Collisions.{HasDistinctIds};
@@ -9,9 +9,6 @@ ghost use Rattle.fetch_conversation.specs.Conversation.{Converses};
 ghost use Rattle.fetch_conversation.specs.ConverseStage.{converse_stage};
 ghost use Rattle.fetch_conversation.specs.Errors.{is_free_listing, is_free_receiving, is_client, is_interrupted, is_stopped, is_transport, asks_nothing};
 ghost use Rattle.fetch_conversation.specs.ListStage.{list_stage, answer_shown, left_by, IsReady, shown, pending_of};
-ghost use Rattle.fetch_conversation.specs.declared.fetch.Error.TheVariants as receive_errors;
-ghost use Rattle.fetch_conversation.specs.declared.prepare.Error.TheVariants as prepare_errors;
-ghost use Rattle.fetch_conversation.specs.declared.ref_map.Error.TheVariants as ref_map_errors;
 ghost use Rattle.fetch_remote.specs.Stages.{inquiry_of};
 
 pub use crate::fetching::connection::{inquired, listed_for};

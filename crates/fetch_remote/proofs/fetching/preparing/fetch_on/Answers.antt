@@ -1,15 +1,16 @@
-use Rattle.std.proofs.Common.{◌≡◌, ◌≢◌, false, refl, ◌∙◌, IfOk, IfErr, Result, Ok, Err}
+use Rattle.std.proofs.Common.{◌≡◌, ◌≢◌, false, refl, ap, ◌∙◌, IfOk, IfErr, Result, Ok, Err}
 use Rattle.std.proofs.lemmas.Result.{err_from_is_err_and}
 use Rattle.fetch_update.specs.declared.update.Error.TheVariants as update
-use Rattle.fetch_conversation.specs.Errors.{is_stopped}
+use Rattle.fetch_conversation.specs.Errors.{is_client, is_stopped}
 use Rattle.fetch_conversation.specs.ListStage.{shown}
 use Rattle.fetch_conversation.specs.declared.fetch.Error.{Error}
 use Rattle.fetch_conversation.specs.declared.fetch.Error.TheVariants as receive
-use Rattle.fetch_conversation.proofs.Heeded.{heeded_still, heeded_as, none_asked}
+use Rattle.fetch_conversation.proofs.Heeded.{heeded_still, none_asked}
 use Rattle.fetch_remote.specs.Errors.{receiving}
 use Rattle.fetch_remote.specs.Form.{Given}
 use Rattle.fetch_remote.specs.Repositories.{state_of, setup_of}
 use Rattle.fetch_remote.proofs.Asked.{receiving_yes, settling_yes}
+use Rattle.fetch_remote.proofs.Blamed.{heeded_by, one_more, at_ok}
 use Rattle.fetch_remote.proofs.Complete.{complete}
 use Rattle.fetch_remote.proofs.Fetched.{is_fetched}
 use Rattle.fetch_remote.proofs.Refused.{broken_off, not_settled}
@@ -55,7 +56,18 @@ returns-in_err-talked-clause-complete g c =
 pub returns-in_err-talked-clause-questions : goal.returns-in_err-talked-clause-questions
 returns-in_err-talked-clause-questions g c =
     let p = err_from_is_err_and c.from_residual-in_err-talked.result c.from_residual-in_err-talked.ensures.1 in
-    rw (p.1, p.2) (heeded_as _ _ _ _ _ _ _ _ refl c.in_err-talked.ensures.questions)
+    rw (p.1, p.2) (heeded_by _ _ _ _ _ _ _ _ _ refl c.in_err-talked.ensures.interrupt)
+
+pub returns-in_err-talked-clause-client : goal.returns-in_err-talked-clause-client
+returns-in_err-talked-clause-client g c is =
+    let p = err_from_is_err_and c.from_residual-in_err-talked.result c.from_residual-in_err-talked.ensures.1 in
+    c.in_err-talked.ensures.peer.cause (ap is_client (same_error c.from_residual-in_err-talked.result _ _ _ p.1 p.2 is))
+
+pub returns-in_err-talked-clause-stopped : goal.returns-in_err-talked-clause-stopped
+returns-in_err-talked-clause-stopped g c is =
+    let p = err_from_is_err_and c.from_residual-in_err-talked.result c.from_residual-in_err-talked.ensures.1 in
+    let e = c.in_err-talked.field-0.0 in
+    c.in_err-talked.ensures.interrupt.cause (one_more (Unit {0}) is_stopped e (ap is_stopped (same_error c.from_residual-in_err-talked.result _ _ _ p.1 p.2 is)))
 
 pub returns-in_err-talked-clause-listing : goal.returns-in_err-talked-clause-listing
 returns-in_err-talked-clause-listing g c is =
@@ -131,4 +143,7 @@ returns-clause-complete g c =
     c.settle.ensures.refused
 
 pub returns-clause-questions : goal.returns-clause-questions
-returns-clause-questions g c = heeded_as _ _ _ _ _ _ _ _ (none_asked is_stopped c.settle.result (unstopped _ c.settle.result c.settle.ensures.refused (λ e u. u.by.unheard.1))) c.in_ok-talked.ensures.questions
+returns-clause-questions g c = heeded_by _ _ _ _ _ _ _ _ _ (none_asked is_stopped c.settle.result (unstopped _ c.settle.result c.settle.ensures.refused (λ e u. u.by.unheard.1))) c.in_ok-talked.ensures.interrupt
+
+pub returns-clause-uninterrupted : goal.returns-clause-uninterrupted
+returns-clause-uninterrupted g c = at_ok c.settle.result (c.in_ok-talked.ensures.interrupt.quiet refl)
