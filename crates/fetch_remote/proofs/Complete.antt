@@ -9,7 +9,7 @@ use Rattle.fetch_update.specs.declared.update.Error.{Error as UpdateError}
 use Rattle.fetch_update.specs.declared.update.Outcome.{Outcome as Updates}
 use Rattle.fetch_update.specs.declared.worktrees.Worktree.{Worktree}
 use Rattle.fetch_update.proofs.Refused.{refused_with}
-use Rattle.fetch_wire.specs.Talks.{Talk, Talks, IsDrained}
+use Rattle.fetch_wire.specs.Talks.{Talk, Talks}
 use Rattle.fetch_wire.specs.declared.listings.mapping.Mapping.{Mapping}
 use Rattle.fetch_wire.specs.declared.listings.mapping.RefMap.{RefMap}
 use Rattle.fetch_conversation.specs.declared.conversing.Received.{Received}
@@ -17,7 +17,7 @@ use Rattle.fetch_conversation.specs.Conversation.{map_refusal}
 use Rattle.fetch_remote.specs.Errors.{is_free, receiving}
 use Rattle.fetch_remote.specs.Fetching.{manner_in, taken_in, fetched_in}
 use Rattle.fetch_remote.specs.Form.{Given}
-use Rattle.fetch_remote.specs.Judging.{IsTold, judged_of}
+use Rattle.fetch_remote.specs.Judging.{judged_of}
 use Rattle.fetch_remote.specs.Refused.{IsRefusedBy, IsRefused}
 use Rattle.fetch_remote.specs.Repositories.{State}
 use Rattle.fetch_remote.specs.Settling.{brought, taken, pack_of, after_take, policy_in, done}

@@ -1,23 +1,23 @@
 -- Keep files that are made and removed.
 use Rattle.std.proofs.Common.{◌≡◌, ℕ, Bool, true, false, cond, ◌||◌, List, [], ◌∷◌, Option, Some, None, refl, sym, ap, subst, ◌∙◌}
-use Rattle.std.specs.Prelude.{IfSome, is_some, if◌then◌else◌}
-use Rattle.std.specs.Option.{option_and_then, option_map}
+use Rattle.std.specs.Prelude.{is_some, if◌then◌else◌}
+use Rattle.std.specs.Option.{option_and_then}
 use Rattle.std.specs.FinMap as map
 use Rattle.std.specs.FinMap.{get-insert}
-use Rattle.std.specs.Ordering.{eq_by_cmp, is_eq}
+use Rattle.std.specs.Ordering.{is_eq}
 use Rattle.std.specs.Cmp.{tied_itself}
 use Rattle.fetch_store.specs.declared.id.ObjectId.{ObjectId}
 use Rattle.fetch_store.specs.FileCalls.{IsRefused}
-use Rattle.fetch_store.specs.Paths.{Path, path_cmp, parts_of, parents_of}
+use Rattle.fetch_store.specs.Paths.{Path, parts_of, parents_of}
 use Rattle.fetch_store.specs.Trees.{Tree, node_at, is_file, is_directory, is_blocked, with_each, written, without_file}
 use Rattle.fetch_store.specs.declared.node.TreeNode.{TreeNode}
-use Rattle.fetch_store.specs.declared.node.TreeNode.TheVariants.{File, Directory}
+use Rattle.fetch_store.specs.declared.node.TreeNode.TheVariants.{File}
 use Rattle.fetch_store.proofs.TreeChanges.{path_cmp_total}
 use Rattle.fetch_update.specs.declared.update.Outcome.{Outcome as Updates}
 use Rattle.fetch_conversation.specs.declared.conversing.Received.{Received}
 use Rattle.fetch_remote.specs.Keeping.{AreFiles, stays, kept, made, keep_in, made_in, removed_in, with_keep, without_keep, left_tree}
 use Rattle.fetch_remote.specs.Paths.{keep_path}
-use Rattle.fetch_remote.specs.Settling.{brought, pack_read, status_of, status_by, told_of, kept_of, released_of, IsUnreleased}
+use Rattle.fetch_remote.specs.Settling.{pack_read, status_of, status_by, told_of, kept_of, released_of, IsUnreleased}
 use Rattle.fetch_conversation.specs.declared.fetch.Error.{Error}
 use Rattle.fetch_remote.specs.declared.fetching.outcome.Status.{Status}
 use Rattle.fetch_remote.specs.declared.fetching.settling.Taken.{Taken}

@@ -1,6 +1,6 @@
 -- What a fetch leaves, in words of references and ids.
-use Rattle.std.proofs.Common.{◌≡◌, ◌≢◌, ℕ, zero, suc, ◌+◌, ◌<◌, Bool, true, false, cond, List, [], ◌∷◌, length, map, filter, Option, Some, None, Result, Ok, Err, refl, sym, ap, subst, ◌∙◌, inl, inr, arith, get_or, Contains}
-use Rattle.std.specs.Prelude.{◌⊎◌, ◌&&◌, is_some, IsTrue, if◌then◌else◌}
+use Rattle.std.proofs.Common.{◌≡◌, ◌≢◌, ℕ, zero, suc, ◌+◌, ◌<◌, Bool, true, false, cond, List, [], ◌∷◌, length, map, filter, Option, Some, None, Result, Ok, Err, refl, sym, ap, subst, ◌∙◌, inl, inr, arith, Contains}
+use Rattle.std.specs.Prelude.{◌⊎◌, ◌&&◌, is_some, if◌then◌else◌}
 use Rattle.std.specs.FinMap as finmap
 use Rattle.std.specs.List.{filter_map, slice_get, range_with_len}
 use Rattle.std.specs.Option.{option_or, option_and_then, option_flatten, option_map}
@@ -23,7 +23,6 @@ use Rattle.fetch_specs.proofs.AllTags.{known as is_the_tag_spec}
 use Rattle.fetch_refs.specs.Edits.{written, written_in, refs_after}
 use Rattle.fetch_refs.specs.declared.edit.PackedRefs.{PackedRefs}
 use Rattle.fetch_refs.specs.Laws.{last_that, writes, left_by, new_value, mode_of, touches_reference}
-use Rattle.fetch_refs.specs.Names.{Names}
 use Rattle.fetch_refs.specs.declared.edit.Change.{Change}
 use Rattle.fetch_refs.specs.declared.edit.Change.TheVariants.{Update as Writes, Delete}
 use Rattle.fetch_refs.specs.declared.edit.RefEdit.{RefEdit}
@@ -45,7 +44,7 @@ use Rattle.fetch_wire.specs.declared.listings.reference.Ref.{Ref}
 use Rattle.fetch_wire.specs.declared.listings.reference.Ref.TheVariants as remote
 use Rattle.fetch_wire.specs.declared.listings.reference.Source.{Source}
 use Rattle.fetch_wire.specs.declared.listings.reference.Source.TheVariants as sources
-use Rattle.fetch_update.specs.Accepted.{HasOneEach, EditsCarryOut, CarriesOut, edit_for, is_found}
+use Rattle.fetch_update.specs.Accepted.{HasOneEach, EditsCarryOut, edit_for, is_found}
 use Rattle.fetch_update.specs.Accepting.{is_accepting}
 use Rattle.fetch_update.specs.Policy.{Policy, value_of, is_stored}
 use Rattle.fetch_update.specs.Rejecting.{IsNotFound, IsRejected}
@@ -70,7 +69,6 @@ use Rattle.fetch_remote.specs.Repositories.{State, Setup}
 use Rattle.fetch_remote.specs.Settling.{told_with, status_of, moved, outcome_in, settled}
 use Rattle.fetch_remote.specs.Stages.{Told, bound_of, conversation, receiving_stage}
 use Rattle.fetch_remote.specs.declared.fetching.fetch_error.FetchError.{FetchError}
-use Rattle.fetch_remote.specs.declared.fetching.fetch_error.FetchError.TheVariants as errors
 use Rattle.fetch_remote.specs.declared.fetching.settling.Manner.{Manner}
 use Rattle.fetch_remote.proofs.Settled.{SettledAs, settled_as}
 use Rattle.fetch_remote.proofs.Wanted.{first_in, later_in, cases_in, either, stored_node}

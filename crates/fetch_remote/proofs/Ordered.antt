@@ -1,10 +1,9 @@
 -- The requests of a fetch come in order.
-use Rattle.std.proofs.Common.{◌≡◌, ℕ, suc, Bool, true, false, List, [], ◌∷◌, ◌++◌, Option, Some, None, Result, Ok, Err, refl, sym, ap, ◌∙◌}
+use Rattle.std.proofs.Common.{◌≡◌, ℕ, Bool, false, List, [], ◌∷◌, ◌++◌, Option, Some, None, Result, Ok, Err, refl, sym, ap, ◌∙◌}
 use Rattle.std.specs.Prelude.{is_some}
-use Rattle.std.specs.FinMap as map
 use Rattle.std.specs.Option.{option_map, option_or}
 use Rattle.std.proofs.lemmas.List.{append-nil}
-use Rattle.fetch_store.specs.Graph.{Graph, graph_of}
+use Rattle.fetch_store.specs.Graph.{graph_of}
 use Rattle.fetch_store.specs.declared.id.ObjectId.{ObjectId}
 use Rattle.fetch_negotiate.specs.Requests.{Asked, fetch_request}
 use Rattle.fetch_negotiate.specs.declared.algorithm.Round.{Round}
@@ -18,23 +17,22 @@ use Rattle.fetch_wire.specs.declared.replies.awaited.Told.TheVariants as told
 use Rattle.fetch_wire.specs.declared.greetings.handshake.Handshake.{Handshake}
 use Rattle.fetch_wire.specs.declared.lines.line.Line.{Line}
 use Rattle.fetch_conversation.specs.Conversation.{Conversation, ends, asks, asks_unless, after_reply, sent_in, answer_in, and_then, told_as, map_refusal}
-use Rattle.fetch_conversation.specs.ConverseStage.{algorithm_in, converse_stage, fetching, wanting}
-use Rattle.fetch_conversation.specs.Exchange.{TermsValue, asked_by, exchange}
+use Rattle.fetch_conversation.specs.ConverseStage.{converse_stage, fetching, wanting}
+use Rattle.fetch_conversation.specs.Exchange.{asked_by, exchange}
 use Rattle.fetch_conversation.specs.ListStage.{ListedValue, is_nil, list_stage, inquiry_stage, greeted, listing, listed, unless, unlisted, unsendable, no_specs}
 use Rattle.fetch_conversation.specs.ListStage as list
 use Rattle.fetch_conversation.specs.Requested.{requests_of}
-use Rattle.fetch_conversation.specs.Rounds.{negotiating, first_course, next_window, is_short}
+use Rattle.fetch_conversation.specs.Rounds.{negotiating}
 use Rattle.fetch_conversation.specs.declared.conversing.Received.{Received}
 use Rattle.fetch_conversation.specs.declared.fetch.Error.{Error as ReceiveError}
 use Rattle.fetch_conversation.specs.declared.prepare.Error.{Error as PrepareError}
 use Rattle.fetch_conversation.proofs.Chained.{sent_then, sent_as, answer_as, sent_behind}
-use Rattle.fetch_conversation.proofs.Held.{round_in, behind_round, negotiating_is}
 use Rattle.fetch_conversation.proofs.Told.{wanting_sends}
 use Rattle.fetch_remote.specs.Errors.{preparing, receiving}
 use Rattle.fetch_remote.specs.Fetching.{requests_in}
 use Rattle.fetch_remote.specs.Form.{Given}
 use Rattle.fetch_remote.specs.Repositories.{State}
-use Rattle.fetch_remote.specs.Requested.{unless_refused, first_request, first_refusal, listing_request, listing_refusal, listing_to, listing_behind, listing_sent, first_fetch, fetch_refusal, AreFetchRequests, FetchesWanted, FetchesUnless, FetchesBehind, AsksInOrder}
+use Rattle.fetch_remote.specs.Requested.{unless_refused, first_request, first_refusal, listing_request, listing_refusal, listing_to, listing_behind, listing_sent, first_fetch, fetch_refusal, FetchesWanted, FetchesUnless, FetchesBehind, AsksInOrder}
 use Rattle.fetch_remote.specs.Stages.{Told, bound_of, inquiry_in, wants_in, terms_in, listing_stage, pack_stage, receiving_stage, conversation}
 use Rattle.fetch_remote.specs.declared.fetching.fetch_error.FetchError.{FetchError}
 

@@ -1,5 +1,5 @@
 -- Overrides that were tested are refused only where memory runs out.
-use Rattle.std.proofs.Common.{◌≡◌, ℕ, Bool, true, false, List, [], ◌∷◌, Option, Some, None, refl}
+use Rattle.std.proofs.Common.{◌≡◌, ℕ, Bool, true, false, List, [], ◌∷◌, None, refl}
 use Rattle.std.specs.Prelude.{find, not, ◌&&◌}
 use Rattle.fetch_remote.specs.declared.repository.open_error.OpenError.{OpenError}
 use Rattle.fetch_remote.specs.declared.repository.open_error.OpenError.TheVariants as errors

@@ -16,7 +16,6 @@ use Rattle.fetch_lookup.specs.declared.upstream.Error.{Error as LookupUpstreamEr
 use Rattle.fetch_lookup.specs.declared.upstream.Error.TheVariants as lookup_upstream
 use Rattle.fetch_remote.specs.Finding.{branch_remote_in, existing_refusal}
 use Rattle.fetch_remote.specs.Remotes.{RemoteValue, parts_of, value_of}
-use Rattle.fetch_remote.specs.RepositoryValues.{RepositoryValue}
 use Rattle.fetch_remote.specs.declared.branch.Error.{Error}
 use Rattle.fetch_remote.specs.declared.branch.Error.TheVariants.{Name, Remote, PushDefault, NoMemory}
 use Rattle.fetch_remote.specs.declared.find.existing.Error.{Error as ExistingError}

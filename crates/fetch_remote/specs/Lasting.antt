@@ -1,5 +1,5 @@
 -- What a fetch leaves, in words of references and ids.
-use Rattle.std.specs.Prelude.{◌≡◌, ◌≢◌, ℕ, Bool, List, Option, Some, IsTrue, Contains}
+use Rattle.std.specs.Prelude.{◌≡◌, ◌≢◌, ℕ, Bool, List, Some, IsTrue, Contains}
 use Rattle.fetch_refs.specs.Laws.{IsAlike}
 use Rattle.fetch_refs.specs.declared.edit.RefEdit.{RefEdit}
 use Rattle.fetch_update.specs.Accepted.{edit_for}

@@ -1,5 +1,5 @@
 -- Files of a repository: the directory's path, a slash, and the file's name.
-use Rattle.std.specs.Prelude.{ℕ, Bool, true, List, ◌++◌, Option, Some, codes}
+use Rattle.std.specs.Prelude.{ℕ, true, List, ◌++◌, Option, Some, codes}
 use Rattle.std.specs.Option.{unwrap_or}
 use Rattle.hex.specs.Hex.{encode_lower}
 use Rattle.fetch_store.specs.declared.id.ObjectId.{ObjectId}

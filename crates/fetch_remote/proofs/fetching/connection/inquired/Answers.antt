@@ -6,7 +6,7 @@ use Rattle.fetch_conversation.specs.declared.ref_map.Error.TheVariants as ref_ma
 use Rattle.fetch_conversation.proofs.Heeded.{same_question}
 use Rattle.fetch_remote.specs.Steps.{listing_error}
 use Rattle.fetch_remote.proofs.Blamed.{heeded_by, one_more}
-use Rattle.fetch_remote.proofs.Steps.{is_not_missing, told_by, transport_is, interrupted_is}
+use Rattle.fetch_remote.proofs.Steps.{is_not_missing, transport_is, interrupted_is}
 use Rattle.fetch_remote.proofs.fetching.connection.inquired.Goals as goal
 
 pub listing_error-requires : goal.listing_error-requires
