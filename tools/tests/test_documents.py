@@ -7,7 +7,7 @@ import unittest
 from common import tool
 
 CRATE_MAP, CALL_INDEX, DEFINITIONS = tool("dev/crate-map"), tool("dev/call-index"), tool("dev/definitions")
-DEAD_NAMES = tool("dev/dead-names")
+DEAD_NAMES, DOC_SIZES = tool("dev/dead-names"), tool("dev/doc-sizes")
 
 ROOT = """\
 mod line;
@@ -97,6 +97,22 @@ class Links(InAFolder):
         dead = [DEAD_NAMES.dead_link("a.md", shown, link) for shown, link in (
             ("b", "b.md#what-it-does-and-what-it-doesnt"), ("b", "b.md#none"), ("`found`", "b.md"), ("`lost`", "b.md"), ("c", "c.md"))]
         self.assertEqual(dead, [None, "no heading b.md#none", None, "no name lost in b.md", "no file c.md"])
+
+
+class Sizes(unittest.TestCase):
+    def test_what_is_too_long(self):
+        promise, words = " ".join(["x"] * 26), " ".join(["x"] * 901)
+        for path, text, found in (
+                ("README.md", "x\n" * 111, ["README.md: 111 lines, where 110 may be"]),
+                ("README.md", f"| {promise} |\n", []),
+                ("crates/a/README.md", f"| a | {promise} |\n", ["crates/a/README.md:1: 26 words in a promise, where 25 may be"]),
+                ("crates/a_rows/README.md", f"| a | {promise} |\n", []),
+                ("crates/a_rows/README.md", words, ["crates/a_rows/README.md: 901 words, where 900 may be"])):
+            self.assertEqual(list(DOC_SIZES.too_long(path, text)), found)
+
+    def test_what_is_quoted_is_left_out(self):
+        text = "a\n<!-- quoted: b.rt c -->\n```rust\nfn c() {}\n```\nd\n"
+        self.assertEqual(DOC_SIZES.QUOTED.sub("", text).split(), ["a", "d"])
 
 
 if __name__ == "__main__":
