@@ -110,9 +110,9 @@ class Sizes(unittest.TestCase):
                 ("crates/a_rows/README.md", words, ["crates/a_rows/README.md: 901 words, where 900 may be"])):
             self.assertEqual(list(DOC_SIZES.too_long(path, text)), found)
 
-    def test_what_is_quoted_is_left_out(self):
-        text = "a\n<!-- quoted: b.rt c -->\n```rust\nfn c() {}\n```\nd\n"
-        self.assertEqual(DOC_SIZES.QUOTED.sub("", text).split(), ["a", "d"])
+    def test_what_tools_made_is_left_out(self):
+        text = "a\n<!-- quoted: b.rt c -->\n```rust\nfn c() {}\n```\nd <!-- made by e -->\nf\n<!-- as far as here -->\ng\n"
+        self.assertEqual(DOC_SIZES.MADE.sub("", text).split(), ["a", "d", "g"])
 
 
 if __name__ == "__main__":
