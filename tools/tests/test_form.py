@@ -127,7 +127,7 @@ fn long(a: u8) -> u8
     requires { a }
     ensures held { b
         (c) }
-    ensures * cause { d }
+    ensures* cause { d }
 {
     short();
     a
