@@ -76,10 +76,10 @@ class CallIndex(InAFolder):
     def test_what_a_root_hands_out(self):
         for name, text in (("lib", ROOT), ("line", LINE), ("laws", LAWS)):
             write(f"crates/a/src/{name}.rt", text)
-        self.assertEqual(CALL_INDEX.section("a")[4:-1], [
-            "| [`laws::lines_are_the_text`](../crates/a/src/laws.rt) | Each text is its lines |",
-            "| [`Line::text`](../crates/a/src/line.rt) | The text |",
-            "| [`cut`](../crates/a/src/line.rt) | Cuts a text into lines |",
+        self.assertEqual(list(CALL_INDEX.rows_of("a")), [
+            ("a", "laws::lines_are_the_text", "crates/a/src/laws.rt", "Each text is its lines"),
+            ("a", "Line::text", "crates/a/src/line.rt", "The text"),
+            ("a", "cut", "crates/a/src/line.rt", "Cuts a text into lines"),
         ])
 
 
@@ -109,10 +109,6 @@ class Sizes(unittest.TestCase):
                 ("crates/a_rows/README.md", f"| a | {promise} |\n", []),
                 ("crates/a_rows/README.md", words, ["crates/a_rows/README.md: 901 words, where 900 may be"])):
             self.assertEqual(list(DOC_SIZES.too_long(path, text)), found)
-
-    def test_what_tools_made_is_left_out(self):
-        text = "a\n<!-- quoted: b.rt c -->\n```rust\nfn c() {}\n```\nd <!-- made by e -->\nf\n<!-- as far as here -->\ng\n"
-        self.assertEqual(DOC_SIZES.MADE.sub("", text).split(), ["a", "d", "g"])
 
 
 if __name__ == "__main__":
