@@ -46,15 +46,17 @@ def why(messages):
 
 
 class Repository:
-    """A repository on this machine."""
+    """A repository on this machine. Of a path inside its work tree, Git runs at the top: in a folder below `git index-pack`
+    would put its pack there.
+    """
 
     def __init__(self, path):
-        status, out, messages = run_git(["-C", path, "rev-parse", "--absolute-git-dir", "--git-common-dir"])
+        status, out, messages = run_git(["-C", path, "rev-parse", "--absolute-git-dir", "--git-common-dir", "--show-cdup"])
         if status != 0:
             raise Trouble(BAD_INPUT, f"{path} is no repository: {why(messages)}")
-        self.path = path
-        self.git_dir, common = decoded_text(out).splitlines()
+        self.git_dir, common, *up = decoded_text(out).splitlines()
         self.common_dir = os.path.normpath(os.path.join(path, common))
+        self.path = os.path.normpath(os.path.join(path, *up))
 
     def git(self, *words, given=b"", more=None):
         """What Git writes when it runs in this repository."""

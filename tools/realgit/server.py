@@ -6,10 +6,10 @@ import tempfile
 from realgit.lines import MAX_PAYLOAD, Mark, encoded, pieces, placed_lines, text_of
 from realgit.plainpack import write_pack
 from realgit.repository import git, objects_in
-from realgit.trouble import BAD_INPUT, Trouble, read_file
+from realgit.trouble import BAD_INPUT, Trouble
+from realgit.wire import is_bundle
 
 PACK_WORDS = {"plain-pack": 1, "plain-pack-2": 2}
-BUNDLES = (b"# v2 git bundle\n", b"# v3 git bundle\n")
 FORMAT = "object-format="
 
 
@@ -100,7 +100,7 @@ def _in_bands(pack, others):
 
 def unbundled(path, folder):
     """A repository with what a bundle has, below a folder."""
-    if not read_file(path).startswith(BUNDLES):
+    if not is_bundle(path):
         raise Trouble(BAD_INPUT, f"{path} is no bundle")
     target = os.path.join(folder, "bundle.git")
     git(["clone", "-q", "--mirror", path, target])

@@ -16,6 +16,7 @@ PROTOCOL = {"GIT_PROTOCOL": "version=2"}
 RESPONSE_END = b"0002"
 SCHEME = re.compile(r"([A-Za-z][\w+.-]*)://")
 HELPER = re.compile(r"([\w-]+)::")
+BUNDLES = (b"# v2 git bundle\n", b"# v3 git bundle\n")
 GIT_PORT = 9418
 
 
@@ -78,6 +79,14 @@ def lines_from(reader, heard=lambda line: None):
         heard(data)
 
 
+def is_bundle(path):
+    """Whether a bundle stands there."""
+    if not os.path.isfile(path):
+        return False
+    with open(path, "rb") as file:
+        return file.readline(64) in BUNDLES
+
+
 def connect(address, name=""):
     """The connection with the server of an address, as `git fetch` takes addresses; a name is that of the remote."""
     scheme = SCHEME.match(address)
@@ -85,6 +94,8 @@ def connect(address, name=""):
         raise Trouble(BAD_INPUT, f"strange pathname '{address}' blocked")
     if HELPER.match(address) or scheme and scheme[1] not in WAYS:
         raise Trouble(BAD_INPUT, f"the transport '{(HELPER.match(address) or scheme)[1]}' isn't supported")
+    if is_bundle(address):
+        raise Trouble(BAD_INPUT, f"'{address}' is a bundle, which git bagjulen doesn't fetch from")
     if scheme:
         return WAYS[scheme[1]](address, name)
     host, colon, path = address.partition(":")

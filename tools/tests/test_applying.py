@@ -59,6 +59,15 @@ class Applied(WithReports):
         self.assertEqual(self.log(MAIN), f"{NULL} {self.tip} caller <caller@x> 9 +0100\tfetch: storing ref\n")
         self.assertEqual(self.apply(), (0, b"0 objects stored, 0 references moved\n", ""))
 
+    def test_from_a_folder_of_the_work_tree(self):
+        below = os.path.join(self.client, "below")
+        os.mkdir(below)
+        self.scene(self.server, SPEC)
+        self.report()
+        self.assertEqual(run("apply-report", self.path("scene"), self.path("report"), below)[0], 0)
+        self.assertEqual((self.ids(self.client), os.listdir(below)), (self.ids(self.server), []))
+        self.assertEqual(self.references()[MAIN], self.tip)
+
     def test_the_committer_of_the_scene(self):
         self.scene(self.server, SPEC)
         self.report()

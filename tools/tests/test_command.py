@@ -124,6 +124,17 @@ class Fetched(WithServer):
         self.git(self.path("ours"), "pull", "-q", "--ff-only")
         self.assertEqual(self.git(self.path("ours"), "log", "-1", "--format=%s"), "c5\n")
 
+    def test_from_a_folder_of_the_work_tree(self):
+        self.clients()
+        self.move()
+        for client in ("theirs", "ours"):
+            os.mkdir(self.path(f"{client}/below"))
+        (status, out, messages), ours = [self.run_git(self.path(f"{client}/below"), *front, "fetch", "../server.git")
+                                         for client, front in (("theirs", ()), ("ours", ("bagjulen",)))]
+        self.assertEqual(ours, (status, out, messages))
+        self.assertEqual(self.state("ours"), self.state("theirs"))
+        self.assertEqual(os.listdir(self.path("ours/below")), [])
+
     def test_words(self):
         address = f"file://{self.server}"
         for words, status in [
@@ -208,12 +219,14 @@ class Fetched(WithServer):
 
     def test_what_is_refused(self):
         self.clients()
+        self.work("bundle", "create", "-q", self.path("one.bundle"), "main")
         for words, text in [
             (["--prune"], "--prune isn't supported by git bagjulen"), (["--jobs=4"], "--jobs isn't supported"),
             (["ftp://x/y"], "the transport 'ftp' isn't supported"), (["ext::sh"], "the transport 'ext' isn't supported"),
             (["nowhere"], "'nowhere' does not appear to be a git repository"), (["--depth", "0"], "depth 0 is not a positive"),
             (["--unshallow"], "--unshallow on a complete repository does not make sense"), (["origin", "tag"], "tag name"),
             (["--depth=1", "--deepen=1"], "cannot be used together"), (["origin", "absent"], "couldn't find remote ref absent"),
+            (["../one.bundle"], "is a bundle, which git bagjulen doesn't fetch from"),
             (["origin", "a..b"], "a..b")]:
             before = self.state("ours")
             status, out, messages = self.run_git(self.path("ours"), "bagjulen", "fetch", *words)

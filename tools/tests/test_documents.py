@@ -7,7 +7,7 @@ import unittest
 from common import tool
 
 CRATE_MAP, CALL_INDEX, DEFINITIONS = tool("dev/crate-map"), tool("dev/call-index"), tool("dev/definitions")
-DEAD_NAMES = tool("dev/dead-names")
+DEAD_NAMES, DOC_SIZES = tool("dev/dead-names"), tool("dev/doc-sizes")
 
 ROOT = """\
 mod line;
@@ -76,10 +76,10 @@ class CallIndex(InAFolder):
     def test_what_a_root_hands_out(self):
         for name, text in (("lib", ROOT), ("line", LINE), ("laws", LAWS)):
             write(f"crates/a/src/{name}.rt", text)
-        self.assertEqual(CALL_INDEX.section("a")[4:-1], [
-            "| [`laws::lines_are_the_text`](../crates/a/src/laws.rt) | Each text is its lines |",
-            "| [`Line::text`](../crates/a/src/line.rt) | The text |",
-            "| [`cut`](../crates/a/src/line.rt) | Cuts a text into lines |",
+        self.assertEqual(list(CALL_INDEX.rows_of("a")), [
+            ("a", "laws::lines_are_the_text", "crates/a/src/laws.rt", "Each text is its lines"),
+            ("a", "Line::text", "crates/a/src/line.rt", "The text"),
+            ("a", "cut", "crates/a/src/line.rt", "Cuts a text into lines"),
         ])
 
 
@@ -97,6 +97,18 @@ class Links(InAFolder):
         dead = [DEAD_NAMES.dead_link("a.md", shown, link) for shown, link in (
             ("b", "b.md#what-it-does-and-what-it-doesnt"), ("b", "b.md#none"), ("`found`", "b.md"), ("`lost`", "b.md"), ("c", "c.md"))]
         self.assertEqual(dead, [None, "no heading b.md#none", None, "no name lost in b.md", "no file c.md"])
+
+
+class Sizes(unittest.TestCase):
+    def test_what_is_too_long(self):
+        promise, words = " ".join(["x"] * 26), " ".join(["x"] * 901)
+        for path, text, found in (
+                ("README.md", "x\n" * 111, ["README.md: 111 lines, where 110 may be"]),
+                ("README.md", f"| {promise} |\n", []),
+                ("crates/a/README.md", f"| a | {promise} |\n", ["crates/a/README.md:1: 26 words in a promise, where 25 may be"]),
+                ("crates/a_rows/README.md", f"| a | {promise} |\n", []),
+                ("crates/a_rows/README.md", words, ["crates/a_rows/README.md: 901 words, where 900 may be"])):
+            self.assertEqual(list(DOC_SIZES.too_long(path, text)), found)
 
 
 if __name__ == "__main__":

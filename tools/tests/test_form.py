@@ -52,6 +52,10 @@ pub(super) fn nine(
 ) -> Result<(), Map<u8, u8>>
     requires { a, b }
 {}
+
+fn late(text: &mut Text, out: Vec<u8>, alloc: Global) {}
+
+fn early(text: &Text, alloc: Global, out: &mut Vec<u8>) {}
 """
 
 TYPES = """\
@@ -118,6 +122,31 @@ pub record Two : Type 0 where
   pub field : one
 """
 
+CONTRACTS = """\
+fn long(a: u8) -> u8
+    requires { a }
+    ensures held { b
+        (c) }
+    ensures* cause { d }
+{
+    short();
+    a
+}
+
+fn short() {}
+"""
+
+RECORDS = """\
+-- It is done.
+pub record IsDone {X E : Type 0} (old new : ℕ) : Type 0 where
+  pub one : old ≡ new
+  pub two :
+    (x : X) → E
+
+pub record Line : Type 0 where
+  pub text : List ℕ
+"""
+
 
 class Survey(unittest.TestCase):
     def setUp(self):
@@ -128,8 +157,8 @@ class Survey(unittest.TestCase):
         self.assertEqual(found, ["receive", "Late", "Lost", "text"])
 
     def test_a_reason_stands_for_the_arguments(self):
-        self.assertEqual([each.partition(": ")[2] for each in SURVEY.functions("a.rt", self.lines)],
-                         ["eight has 8 arguments", "nine has 9 arguments"])
+        self.assertEqual([each.partition(": ")[2] for _, each in SURVEY.functions("a.rt", self.lines)],
+                         ["eight has 8 arguments", "nine has 9 arguments", "late has its output before the allocator"])
 
     def test_owning_types_that_cant_be_copied(self):
         lines = [SURVEY.Line(number, text) for number, text in enumerate(TYPES.splitlines(), 1)]
@@ -145,6 +174,14 @@ class Survey(unittest.TestCase):
     def test_definitions_without_a_comment(self):
         lines = [SURVEY.Line(number, text) for number, text in enumerate(DEFINITIONS.splitlines(), 1)]
         self.assertEqual(list(SURVEY.uncommented("A.antt", lines)), ["A.antt:9: Two has no comment"])
+
+
+    def test_what_a_contract_asks(self):
+        lines = [SURVEY.Line(number, text) for number, text in enumerate(CONTRACTS.splitlines(), 1)]
+        self.assertEqual(list(SURVEY.clauses_of("a.rt", lines)), [(["held", "cause"], "long", "a.rt"), ([], "short", "a.rt")])
+        self.assertEqual(SURVEY.code_lines(SURVEY.body_of(lines, 0)), 5)
+        lines = [SURVEY.Line(number, text) for number, text in enumerate(RECORDS.splitlines(), 1)]
+        self.assertEqual(list(SURVEY.records_of("A.antt", lines)), [(4, 2, "IsDone", "A.antt"), (0, 1, "Line", "A.antt")])
 
 
 class DeadNames(unittest.TestCase):

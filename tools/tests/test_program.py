@@ -1,6 +1,7 @@
 """Each status of the program, as it stands built here or as BAGJULEN names it, over its real ends."""
 
 import os
+import re
 import resource
 import subprocess
 import tempfile
@@ -59,8 +60,19 @@ class Statuses(unittest.TestCase):
         for given, place in ((b"", 0), (scene[:-1], len(scene) - 4), (scene + b"x", len(scene)), (b"0" + scene, 0)):
             self.assertEqual(self.ended(["fetch"], given), (4, b"malformed %d\n" % place))
         for words, number in (([], 1), (["clone"], 1), (["fetch", "x"], 2), (["bench"], 2), (["bench", "0"], 2),
-                              (["bench", "1", "x"], 3), (["race", "x"], 2), ([b"\xff"], 1)):
+                              (["bench", "1", "x"], 3), (["race", "x"], 2), (["--help", "x"], 2)):
             self.assertEqual(self.ended(words), (4, b"malformed word %d\n" % number), words)
+
+    def test_a_word_of_any_bytes_is_malformed_at_its_own_place(self):
+        long = b"x" * 70000
+        for words, number in (([b"\xff"], 1), (["fetch", b"\xff"], 2), (["race", b"\xff"], 2), (["bench", b"\xff"], 2),
+                              (["bench", "1", b"\xff"], 3), ([b""], 1), ([long], 1), (["fetch", long], 2)):
+            self.assertEqual(self.ended(words), (4, b"malformed word %d\n" % number), words)
+
+    def test_help_offers_each_word(self):
+        status, text = self.ended(["--help"])
+        self.assertEqual(status, 0)
+        self.assertEqual(re.findall(rb"^(?:usage:|      ) bagjulen (\w+)", text, flags=re.MULTILINE), [b"fetch", b"bench", b"race"])
 
     @IN_OWN_MEMORY
     def test_a_scene_that_is_a_byte_too_long(self):

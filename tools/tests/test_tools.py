@@ -142,8 +142,8 @@ class LargeScenes(unittest.TestCase):
 class Help(unittest.TestCase):
     def test_each_tool_tells_its_words(self):
         folders = [os.path.join(TOOLS, each) for each in ("", "measure", "dev")]
-        tools = [os.path.join(folder, each) for folder in folders for each in os.listdir(folder) if "." not in each]
-        tools = [each for each in tools if os.path.isfile(each) and not each.endswith("test-tools")]
+        files = [os.path.join(folder, each) for folder in folders for each in os.listdir(folder)]
+        tools = [each for each in files if os.path.isfile(each) and os.access(each, os.X_OK) and not each.endswith("test-tools")]
         self.assertGreater(len(tools), 14)
         for tool in tools:
             with self.subTest(tool):

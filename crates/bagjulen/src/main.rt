@@ -1,41 +1,82 @@
 //! Fetches what a scene says, or races its jobs, and writes a report.
 #![tactic(auto)]
 
-use fetch_cli::{StdSink, StdSource, run};
+use fetch_cli::{Sink, StdSink, StdSource, run};
+use fetch_store::NoMemory;
+use fetch_wire::SendFault;
 use race_cli::run_race;
+use std::env::{Env, FillError};
 use std::process::ExitCode;
-use std::{env, io};
+
+/// How many bytes there is room for when a word is read first.
+const ROOM: usize = 256;
+
+/// What `--help` writes after the help of `run`, which reads all other words.
+const RACE_HELP: &[u8] = b"\
+\nusage: bagjulen race < SCENE\n\n\
+race reads a scene with one to eight remotes, fetches from all of them side by side,\n\
+and writes what each entered, in its order, and the repository as it then stands.\n\
+Its statuses are those above: 0 where all jobs were done, and 1 where one was refused.\n";
+
+/// The word of this number, whatever its bytes, if there is one. Room is doubled until it fits.
+fn word(rt: &HostRuntime, number: usize) -> Result<Option<Vec<u8>>, NoMemory> {
+    let mut room = ROOM;
+    for _ in 0..usize::BITS {
+        let mut word = vec![in rt.alloc(); 0u8; room]?;
+        match rt.arg(number, &mut word) {
+            Ok(count) => {
+                word.truncate(count);
+                return Ok(Some(word));
+            }
+            Err(FillError::NotPresent) => return Ok(None),
+            Err(FillError::TooLong) => room = room.saturating_mul(2),
+        }
+    }
+    Err(NoMemory)
+}
 
 /// The words after the program's name.
-fn words(rt: &HostRuntime) -> io::Result<Vec<Vec<u8>>> {
+fn words(rt: &HostRuntime) -> Result<Vec<Vec<u8>>, NoMemory> {
     let mut words = Vec::new(rt.alloc());
-    for word in env::args(rt)?.skip(1) {
-        words.push(word.into_bytes())?;
+    for number in 1..usize::MAX {
+        match word(rt, number)? {
+            Some(word) => words.push(word)?,
+            None => break,
+        }
     }
     Ok(words)
 }
 
-/// Whether a race is asked for, which starts threads of its own.
-fn is_race(words: &[Vec<u8>]) -> bool {
+/// Whether the first of the words is this one.
+fn begins_with(words: &[Vec<u8>], wanted: &[u8]) -> bool {
     match words {
-        [word, ..] => word.as_slice() == b"race".as_slice(),
+        [word, ..] => word.as_slice() == wanted,
         [] => false,
     }
 }
 
+/// The help of a race, after that of `run`, and the status.
+fn help_on<K: Sink>(sink: &mut K) -> u8 {
+    match sink.write_all(RACE_HELP) {
+        Ok(()) => 0,
+        Err(SendFault::Failed) => 3,
+        Err(SendFault::NoMemory) => 5,
+    }
+}
+
 fn main(rt: HostRuntime) -> ExitCode {
-    let words = match words(&rt) {
-        Ok(words) => words,
-        // A word that isn't UTF-8 is no word of the program, as where there is none.
-        Err(e) if e.kind() == io::ErrorKind::InvalidData => Vec::new(rt.alloc()),
-        Err(_) => return ExitCode::from(5),
+    let Ok(words) = words(&rt) else {
+        return ExitCode::from(5);
     };
     let mut source = StdSource::new(rt.stdin());
     let mut sink = StdSink::new(rt.stdout());
-    let status = if is_race(&words) {
-        run_race(&rt, rt.alloc(), &words, &mut source, &mut sink)
-    } else {
-        run(&rt, rt.alloc(), &words, &mut source, &mut sink)
-    };
+    // A race starts threads of its own.
+    if begins_with(&words, b"race") {
+        return ExitCode::from(run_race(&rt, rt.alloc(), &words, &mut source, &mut sink));
+    }
+    let status = run(&rt, rt.alloc(), &words, &mut source, &mut sink);
+    if status == 0 && begins_with(&words, b"--help") {
+        return ExitCode::from(help_on(&mut sink));
+    }
     ExitCode::from(status)
 }

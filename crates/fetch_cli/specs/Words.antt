@@ -1,5 +1,5 @@
 -- The words of the command line.
-use Rattle.std.specs.Prelude.{ℕ, ◌<◌, ◌≤◌, ◌&&◌, nat_lt, nat_le, List, [], ◌∷◌, codes, Option, Some, None, Result, Ok, Err, ⊤, option_and_then, option_map, if◌then◌else◌}
+use Rattle.std.specs.Prelude.{ℕ, ◌<◌, ◌≤◌, ◌&&◌, nat_lt, nat_le, List, [], ◌∷◌, ◌++◌, codes, Option, Some, None, Result, Ok, Err, ⊤, option_and_then, option_map, if◌then◌else◌}
 use Rattle.std.specs.Str.{bytes_eq}
 use Rattle.fetch_cli.specs.declared.program.words.Command.{Command}
 use Rattle.fetch_cli.specs.declared.program.words.Command.TheVariants.{Fetch, Bench, Help, Version}
@@ -52,7 +52,14 @@ IsWithin Version = ⊤
 
 -- what `--help` writes
 unfoldable pub help_text : List ℕ
-help_text = codes "usage: bagjulen fetch < SCENE\n       bagjulen race < SCENE\n       bagjulen bench N\n\nfetch reads a scene from standard input: a repository, a remote and what its peer says.\nIt fetches, and writes a report: the lines sent, what became of each reference,\nand the repository as it then stands.\n\nrace reads a scene with one to eight remotes, fetches from all of them side by side,\nand writes what each entered, in its order, and the repository as it then stands.\n\nbench fetches the second half of a line of N commits, from 1 to 100000,\nfrom a server in memory, and writes a summary.\n\nstatus 0  the fetch was done\n       1  it was refused, and the report says why\n       2  the input could not be read\n       3  the output could not be written\n       4  the words or the scene are malformed\n       5  memory ran out\n"
+help_text =
+    codes "usage: bagjulen fetch < SCENE\n       bagjulen bench N\n\n"
+    ++ codes "fetch reads a scene from standard input: a repository, a remote and what its peer says.\n"
+    ++ codes "It fetches, and writes a report: the lines sent, what became of each reference,\nand the repository as it then stands.\n\n"
+    ++ codes "bench fetches the second half of a line of N commits, from 1 to 100000,\nfrom a server in memory, and writes a summary.\n\n"
+    ++ codes "status 0  the fetch was done\n       1  it was refused, and the report says why\n"
+    ++ codes "       2  the input could not be read\n       3  the output could not be written\n"
+    ++ codes "       4  the words or the scene are malformed\n       5  memory ran out\n"
 
 -- what `--version` writes
 unfoldable pub version_text : List ℕ

@@ -22,8 +22,20 @@ pub enum Command {
 }
 
 /// What `--help` writes.
-pub const HELP: &[u8] =
-    b"usage: bagjulen fetch < SCENE\n       bagjulen race < SCENE\n       bagjulen bench N\n\nfetch reads a scene from standard input: a repository, a remote and what its peer says.\nIt fetches, and writes a report: the lines sent, what became of each reference,\nand the repository as it then stands.\n\nrace reads a scene with one to eight remotes, fetches from all of them side by side,\nand writes what each entered, in its order, and the repository as it then stands.\n\nbench fetches the second half of a line of N commits, from 1 to 100000,\nfrom a server in memory, and writes a summary.\n\nstatus 0  the fetch was done\n       1  it was refused, and the report says why\n       2  the input could not be read\n       3  the output could not be written\n       4  the words or the scene are malformed\n       5  memory ran out\n";
+pub const HELP: &[u8] = b"\
+usage: bagjulen fetch < SCENE\n\
+\x20      bagjulen bench N\n\n\
+fetch reads a scene from standard input: a repository, a remote and what its peer says.\n\
+It fetches, and writes a report: the lines sent, what became of each reference,\n\
+and the repository as it then stands.\n\n\
+bench fetches the second half of a line of N commits, from 1 to 100000,\n\
+from a server in memory, and writes a summary.\n\n\
+status 0  the fetch was done\n\
+\x20      1  it was refused, and the report says why\n\
+\x20      2  the input could not be read\n\
+\x20      3  the output could not be written\n\
+\x20      4  the words or the scene are malformed\n\
+\x20      5  memory ran out\n";
 
 /// What `--version` writes.
 pub const VERSION: &[u8] = b"bagjulen 0.1.0\n";
