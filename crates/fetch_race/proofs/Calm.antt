@@ -1,29 +1,26 @@
 -- Files, work trees and an interrupt that never fail have no fault and no yes.
 use Rattle.std.proofs.Common.{◌≡◌, ◌⊎◌, ℕ, Bool, true, false, List, [], Option, Some, None, Result, Ok, Err, refl, sym, ap, ◌∙◌, subst, arith}
+use Rattle.std.specs.Prelude.{if◌then◌else◌}
 use Rattle.std.specs.FinMap as finmap
 use Rattle.fetch_store.specs.Faults.{Faults, Rose, Counts}
 use Rattle.fetch_store.specs.FileCalls.{IsRefused as IsBlocked}
 use Rattle.fetch_store.specs.Trees.{Tree}
 use Rattle.fetch_update.specs.declared.update.Error.{Error as UpdateError}
 use Rattle.fetch_update.specs.declared.update.Error.TheVariants as update
+use Rattle.fetch_wire.specs.Talks.{Talk}
+use Rattle.fetch_conversation.specs.Blame.{BlamesInterrupt}
 use Rattle.fetch_conversation.specs.declared.fetch.Error.{Error as ReceiveError}
 use Rattle.fetch_conversation.specs.declared.fetch.Error.TheVariants as receive
-use Rattle.fetch_conversation.specs.declared.prepare.Error.{Error as PrepareError}
-use Rattle.fetch_conversation.specs.declared.prepare.Error.TheVariants as prepare
-use Rattle.fetch_conversation.specs.declared.ref_map.Error.{Error as RefMapError}
-use Rattle.fetch_conversation.specs.declared.ref_map.Error.TheVariants as ref_map
 use Rattle.fetch_remote.specs.Keeping.{with_keep}
 use Rattle.fetch_remote.specs.Settling.{pack_read}
-use Rattle.fetch_remote.specs.declared.fetching.fetch_error.FetchError.{FetchError}
 use Rattle.fetch_remote.specs.declared.fetching.fetch_error.FetchError.TheVariants as fetch
 use Rattle.fetch_shared.specs.declared.error.SharedError.{SharedError}
 use Rattle.fetch_shared.specs.declared.error.SharedError.TheVariants as errors
 use Rattle.fetch_shared.specs.declared.receipt.Receipt.{Receipt}
-use Rattle.fetch_shared.specs.Errors.{is_of_peer, is_yes}
+use Rattle.fetch_shared.specs.Errors.{is_yes}
 use Rattle.fetch_shared.specs.Fetching.{Call, IsSharedRefused, course_in, matter_in, IsStopped}
 use Rattle.fetch_shared.specs.Settling as settling
 use Rattle.fetch_shared.specs.Settling.{IsUnkept}
-use Rattle.fetch_shared.specs.Talking as talking
 use Rattle.fetch_shared.specs.Talking.{Line}
 use Rattle.fetch_race.specs.Racing.{is_of_files}
 use Rattle.fetch_race.proofs.Keeps.{never_unmade}
@@ -36,75 +33,61 @@ no_fault before now none counts zero rose = let same : now.count ≡ before.coun
 pub no_count : (before now : Faults) (possible : Bool) → before ≡ record { count = 0; possible = possible } → possible ≡ false → Counts before now → Rose before now → ⊥
 no_count before now possible is none counts rose = no_fault before now (ap (λ (f : Faults). f.possible) is ∙ none) counts (ap (λ (f : Faults). f.count) is) rose
 
--- None of these is told, and a fault of the peer has this cause.
-pub record IsCalm (R : Type 0) (e : SharedError) : Type 0 where
-  pub transport : e ≡ talking.transport → R
-  pub client : e ≡ talking.client → R
-  pub interrupted : e ≡ talking.interrupted → ⊥
-  pub stopped : e ≡ talking.stopped → ⊥
+-- an interrupt that never says yes isn't told
+pub no_yes : (before now : Faults) (will will' : ℕ → Type 0) (a b : Option Talk) (e : SharedError) → before ≡ record { count = 0; possible = false } → BlamesInterrupt before now will will' a b (if is_yes e then 1 else 0) → is_yes e ≡ false
+no_yes before now will will' a b e none h = by (is_yes e) refl
+  where
+    by : (told : Bool) → is_yes e ≡ told → told ≡ false
+    by false same = refl
+    by true same = absurd (no_count before now false none refl h.counts (h.cause (ap (λ (x : Bool). if x then 1 else 0) same)))
+
+-- None of these is told.
+pub record IsCalm (e : SharedError) : Type 0 where
   pub listing : e ≡ settling.unlisted → ⊥
   pub open_repo : e ≡ settling.unopened → ⊥
   pub follow_symref : e ≡ settling.unfollowed → ⊥
   pub unmade : (path : List ℕ) → e ≡ settling.unmade path → ⊥
   pub unremoved : (path : List ℕ) → e ≡ settling.unremoved path → ⊥
 
-abbrev Never : Type 0 → SharedError → Type 0
-Never R e = (is_of_peer e ≡ true → R) × (is_yes e ≡ false) × (is_of_files e ≡ false)
+calm_judging : (e : UpdateError) → IsCalm (errors.Fetch (fetch.Receive (receive.UpdateRefs e))) → is_of_files (errors.Fetch (fetch.Receive (receive.UpdateRefs e))) ≡ false
+calm_judging (update.FindReference name) c = refl
+calm_judging (update.InvalidRefName name) c = refl
+calm_judging (update.FindCommit id) c = refl
+calm_judging (update.PeelToId name cause) c = refl
+calm_judging update.WorktreeListing c = absurd (c.listing refl)
+calm_judging update.OpenWorktreeRepo c = absurd (c.open_repo refl)
+calm_judging update.FollowSymref c = absurd (c.follow_symref refl)
+calm_judging update.NoMemory c = refl
 
-calm_map : (R : Type 0) (e : RefMapError) → IsCalm R (errors.Fetch (fetch.Prepare (prepare.RefMap e))) → Never R (errors.Fetch (fetch.Prepare (prepare.RefMap e)))
-calm_map R (ref_map.Handshake e) c = (λ h. absurd cc, refl, refl)
-calm_map R ref_map.Transport c = (λ h. c.transport refl, refl, refl)
-calm_map R ref_map.Interrupted c = absurd (c.interrupted refl)
-calm_map R (ref_map.InitRefMap conflicts) c = (λ h. absurd cc, refl, refl)
-calm_map R ref_map.NoMemory c = (λ h. absurd cc, refl, refl)
+calm_receiving : (e : ReceiveError) → IsCalm (errors.Fetch (fetch.Receive e)) → is_of_files (errors.Fetch (fetch.Receive e)) ≡ false
+calm_receiving (receive.NoMapping specs count) c = refl
+calm_receiving (receive.IncompatibleObjectHash local remote) c = refl
+calm_receiving (receive.Disconnected link) c = refl
+calm_receiving (receive.RejectShallowRemoteConfig value) c = refl
+calm_receiving (receive.NegotiationAlgorithmConfig value) c = refl
+calm_receiving (receive.PackThreads value) c = refl
+calm_receiving (receive.Fetch e) c = refl
+calm_receiving receive.Client c = refl
+calm_receiving receive.Interrupted c = refl
+calm_receiving (receive.RejectShallowRemote id) c = refl
+calm_receiving (receive.Pack e) c = refl
+calm_receiving (receive.Collision id) c = refl
+calm_receiving receive.NoMemory c = refl
+calm_receiving (receive.KeepFile path) c = absurd (c.unmade path refl)
+calm_receiving (receive.UpdateRefs e) c = calm_judging e c
+calm_receiving (receive.RemovePackKeepFile path) c = absurd (c.unremoved path refl)
 
-calm_listing : (R : Type 0) (e : PrepareError) → IsCalm R (errors.Fetch (fetch.Prepare e)) → Never R (errors.Fetch (fetch.Prepare e))
-calm_listing R prepare.MissingRefSpecs c = (λ h. absurd cc, refl, refl)
-calm_listing R (prepare.RefMap e) c = calm_map R e c
-calm_listing R prepare.NoMemory c = (λ h. absurd cc, refl, refl)
-
-calm_judging : (R : Type 0) (e : UpdateError) → IsCalm R (errors.Fetch (fetch.Receive (receive.UpdateRefs e))) → Never R (errors.Fetch (fetch.Receive (receive.UpdateRefs e)))
-calm_judging R (update.FindReference name) c = (λ h. absurd cc, refl, refl)
-calm_judging R (update.InvalidRefName name) c = (λ h. absurd cc, refl, refl)
-calm_judging R (update.FindCommit id) c = (λ h. absurd cc, refl, refl)
-calm_judging R (update.PeelToId name cause) c = (λ h. absurd cc, refl, refl)
-calm_judging R update.WorktreeListing c = absurd (c.listing refl)
-calm_judging R update.OpenWorktreeRepo c = absurd (c.open_repo refl)
-calm_judging R update.FollowSymref c = absurd (c.follow_symref refl)
-calm_judging R update.NoMemory c = (λ h. absurd cc, refl, refl)
-
-calm_receiving : (R : Type 0) (e : ReceiveError) → IsCalm R (errors.Fetch (fetch.Receive e)) → Never R (errors.Fetch (fetch.Receive e))
-calm_receiving R receive.Client c = (λ h. c.client refl, refl, refl)
-calm_receiving R receive.Interrupted c = absurd (c.stopped refl)
-calm_receiving R receive.NoMemory c = (λ h. absurd cc, refl, refl)
-calm_receiving R (receive.NoMapping specs count) c = (λ h. absurd cc, refl, refl)
-calm_receiving R (receive.IncompatibleObjectHash local remote) c = (λ h. absurd cc, refl, refl)
-calm_receiving R (receive.Disconnected link) c = (λ h. absurd cc, refl, refl)
-calm_receiving R (receive.RejectShallowRemoteConfig value) c = (λ h. absurd cc, refl, refl)
-calm_receiving R (receive.NegotiationAlgorithmConfig value) c = (λ h. absurd cc, refl, refl)
-calm_receiving R (receive.PackThreads value) c = (λ h. absurd cc, refl, refl)
-calm_receiving R (receive.Fetch e) c = (λ h. absurd cc, refl, refl)
-calm_receiving R (receive.RejectShallowRemote id) c = (λ h. absurd cc, refl, refl)
-calm_receiving R (receive.Pack e) c = (λ h. absurd cc, refl, refl)
-calm_receiving R (receive.Collision id) c = (λ h. absurd cc, refl, refl)
-calm_receiving R (receive.KeepFile path) c = absurd (c.unmade path refl)
-calm_receiving R (receive.UpdateRefs e) c = calm_judging R e c
-calm_receiving R (receive.RemovePackKeepFile path) c = absurd (c.unremoved path refl)
-
-calm_fetch : (R : Type 0) (e : FetchError) → IsCalm R (errors.Fetch e) → Never R (errors.Fetch e)
-calm_fetch R (fetch.Prepare e) c = calm_listing R e c
-calm_fetch R (fetch.Receive e) c = calm_receiving R e c
-calm_fetch R fetch.NoMemory c = (λ h. absurd cc, refl, refl)
-
--- so neither a yes nor a fault of the files or of the work trees is
-pub calm : (R : Type 0) (e : SharedError) → IsCalm R e → Never R e
-calm R (errors.NotClosed link) c = (λ h. absurd cc, refl, refl)
-calm R (errors.Disconnected link) c = (λ h. absurd cc, refl, refl)
-calm R (errors.Collision id) c = (λ h. absurd cc, refl, refl)
-calm R (errors.EditReferences name found) c = (λ h. absurd cc, refl, refl)
-calm R (errors.Fetch e) c = calm_fetch R e c
-calm R (errors.Delete e) c = (λ h. absurd cc, refl, refl)
-calm R errors.NoMemory c = (λ h. absurd cc, refl, refl)
+-- so no fault of the files or of the work trees is
+pub calm : (e : SharedError) → IsCalm e → is_of_files e ≡ false
+calm (errors.NotClosed link) c = refl
+calm (errors.Disconnected link) c = refl
+calm (errors.Collision id) c = refl
+calm (errors.EditReferences name found) c = refl
+calm (errors.Fetch (fetch.Prepare e)) c = refl
+calm (errors.Fetch (fetch.Receive e)) c = calm_receiving e c
+calm (errors.Fetch fetch.NoMemory) c = refl
+calm (errors.Delete e) c = refl
+calm errors.NoMemory c = refl
 
 -- Files that begin with nothing, and don't fail by themselves, take each keep file.
 pub never_kept : (line : Line) (c : Call) (receipt : Receipt) (e : SharedError) (files : Option Tree) → files ≡ Some finmap.empty → IsSharedRefused line c receipt e

@@ -1,14 +1,16 @@
 -- The fetch of a job, from what a fetch over a shared repository says.
 use Rattle.std.proofs.Common.{◌≡◌, ℕ, Bool, true, false, List, Option, Some, None, Result, Ok, Err, refl, sym, ap, subst}
 use Rattle.std.specs.FinMap as map
-use Rattle.fetch_store.specs.Faults.{Rose, Counts, Counts-none}
+use Rattle.fetch_store.specs.Faults.{Counts-none}
 use Rattle.fetch_store.specs.Trees.{Tree}
 use Rattle.fetch_update.specs.declared.worktrees.Worktree.{Worktree}
+use Rattle.fetch_conversation.specs.Blame.{BlamesPeer}
 use Rattle.fetch_remote.specs.declared.fetching.options.FetchOptions.{FetchOptions}
 use Rattle.fetch_remote.specs.declared.fetching.outcome.Outcome.{Outcome}
 use Rattle.fetch_shared.specs.declared.error.SharedError.{SharedError}
 use Rattle.fetch_shared.specs.declared.error.SharedError.TheVariants as errors
 use Rattle.fetch_shared.specs.declared.receipt.Receipt.{Receipt}
+use Rattle.fetch_shared.specs.Errors.{is_of_peer, is_yes}
 use Rattle.fetch_shared.specs.Fetching.{Call, IsSharedFetch, IsSharedRefused, receipt_of}
 use Rattle.fetch_shared.specs.Passes.{Holder, IsBack}
 use Rattle.fetch_shared.specs.Receipts.{IsReceipt}
@@ -31,34 +33,30 @@ module _ {P : Type 0} (race : Race P) (job : Job P) (peer : P) (before after : H
   same_call : (options : FetchOptions) (known : Option (List Worktree)) (files : Option Tree) → options ≡ job.options → known ≡ Some race.trees → files ≡ Some map.empty → call options known files ≡ call job.options (Some race.trees) (Some map.empty)
   same_call options known files chosen told nothing = λ i. call (chosen i) (told i) (nothing i)
 
-  pub done : (options : FetchOptions) (known : Option (List Worktree)) (files : Option Tree) (outcome : Outcome) → options ≡ job.options → known ≡ Some race.trees → files ≡ Some map.empty → IsBack before after → IsReceipt before after receipt → Counts (race.faults job.peer) (race.faults peer)
+  pub done : (options : FetchOptions) (known : Option (List Worktree)) (files : Option Tree) (outcome : Outcome) → options ≡ job.options → known ≡ Some race.trees → files ≡ Some map.empty → IsBack before after → IsReceipt before after receipt → BlamesPeer (race.faults job.peer) (race.faults peer) false
       → IsSharedFetch line (call options known files) receipt outcome → IsDone race job peer before after receipt (Ok outcome)
-  done options known files outcome chosen told nothing back order counts fetched = record {
+  done options known files outcome chosen told nothing back order blames fetched = record {
     left = left;
     back = back;
     in_order = order;
     answered = subst (λ (c : Call). IsSharedFetch line c receipt outcome) (same_call options known files chosen told nothing) fetched;
-    counts = counts;
-    cause = tt;
+    blames = blames;
     never = tt;
     complete = tt;
   }
 
-  pub refused : (options : FetchOptions) (known : Option (List Worktree)) (files : Option Tree) (e : SharedError) → options ≡ job.options → known ≡ Some race.trees → files ≡ Some map.empty → IsBack before after → IsReceipt before after receipt → Counts (race.faults job.peer) (race.faults peer)
-      → IsSharedRefused line (call options known files) receipt e → IsCalm (Rose (race.faults job.peer) (race.faults peer)) e → (HasValidInput line (call options known files) receipt → is_free e ≡ true)
+  pub refused : (options : FetchOptions) (known : Option (List Worktree)) (files : Option Tree) (e : SharedError) → options ≡ job.options → known ≡ Some race.trees → files ≡ Some map.empty → IsBack before after → IsReceipt before after receipt → BlamesPeer (race.faults job.peer) (race.faults peer) (is_of_peer e)
+      → IsSharedRefused line (call options known files) receipt e → is_yes e ≡ false → IsCalm e → (HasValidInput line (call options known files) receipt → is_free e ≡ true)
       → IsDone race job peer before after receipt (Err e)
-  refused options known files e chosen told nothing back order counts why quiet complete =
-      let n = calm (Rose (race.faults job.peer) (race.faults peer)) e quiet in
-      record {
-        left = left;
-        back = back;
-        in_order = order;
-        answered = subst (λ (c : Call). IsSharedRefused line c receipt e) (same_call options known files chosen told nothing) why;
-        counts = counts;
-        cause = n.0;
-        never = (n.1, n.2);
-        complete = λ v. complete (subst (λ (c : Call). HasValidInput line c receipt) (sym (same_call options known files chosen told nothing)) v);
-      }
+  refused options known files e chosen told nothing back order blames why unasked quiet complete = record {
+    left = left;
+    back = back;
+    in_order = order;
+    answered = subst (λ (c : Call). IsSharedRefused line c receipt e) (same_call options known files chosen told nothing) why;
+    blames = blames;
+    never = (unasked, calm e quiet);
+    complete = λ v. complete (subst (λ (c : Call). HasValidInput line c receipt) (sym (same_call options known files chosen told nothing)) v);
+  }
 
 -- Memory ran out before anything was asked.
 pub forgot : {P : Type 0} (race : Race P) (job : Job P) (before : Holder) → IsDone race job job.peer before before (receipt_of before None None None) (Err errors.NoMemory)
@@ -68,8 +66,7 @@ forgot {P} race job before = record {
   in_order = receipt_none before before;
   answered = ran_out (line race job job.peer before before (receipt_of before None None None) (Some map.empty)) (call race job job.peer before before (receipt_of before None None None) (Some map.empty) job.options (Some race.trees) (Some map.empty)) refl refl refl
       (λ s. silent race.answers (race.told job.peer) (given_to job.remote job.options before) s);
-  counts = Counts-none (race.faults job.peer);
-  cause = λ h. absurd cc;
+  blames = record { counts = Counts-none (race.faults job.peer); cause = λ h. absurd cc };
   never = (refl, refl);
   complete = λ v. refl;
 }

@@ -1,10 +1,11 @@
 -- Jobs that are done side by side, each by a pass of its own, over one repository.
 use Rattle.std.specs.Prelude.{◌≡◌, ℕ, ◌≤◌, Bool, true, false, ◌||◌, List, [], length, Option, Some, None, Result, Ok, Err, IfErr, slice_get}
 use Rattle.std.specs.FinMap as map
-use Rattle.fetch_store.specs.Faults.{Faults, Rose, Counts}
+use Rattle.fetch_store.specs.Faults.{Faults}
 use Rattle.fetch_store.specs.Trees.{Tree}
 use Rattle.fetch_update.specs.declared.worktrees.Worktree.{Worktree}
 use Rattle.fetch_wire.specs.Talks.{Talk}
+use Rattle.fetch_conversation.specs.Blame.{BlamesPeer, is_told}
 use Rattle.fetch_conversation.specs.declared.fetch.Error.TheVariants as receive
 use Rattle.fetch_remote.specs.Errors.{is_unkept, is_unlisted}
 use Rattle.fetch_remote.specs.RepositoryValues.{RepositoryValue}
@@ -57,8 +58,7 @@ pub record IsDone {P : Type 0} (race : Race P) (job : Job P) (peer : P) (before 
   pub in_order : IsReceipt before after receipt
   pub answered : IsAnswered (record { answers = race.answers; old = race.told job.peer; new = race.told peer })
       (record { given = given_to job.remote job.options before; before = before; after = after; known = Some race.trees; files = Some map.empty; left = left }) receipt answer
-  pub counts : Counts (race.faults job.peer) (race.faults peer)
-  pub cause : IfErr answer (λ e. is_of_peer e ≡ true → Rose (race.faults job.peer) (race.faults peer))
+  pub blames : BlamesPeer (race.faults job.peer) (race.faults peer) (is_told is_of_peer answer)
   pub never : IfErr answer (λ e. (is_yes e ≡ false) × (is_of_files e ≡ false))
   pub complete : IfErr answer (λ e. HasValidInput (record { answers = race.answers; old = race.told job.peer; new = race.told peer })
       (record { given = given_to job.remote job.options before; before = before; after = after; known = Some race.trees; files = Some map.empty; left = left }) receipt → is_free e ≡ true)

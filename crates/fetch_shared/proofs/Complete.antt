@@ -1,17 +1,18 @@
 -- Valid input is fetched, unless a refusal comes that has a count, or an event is refused by what others entered.
 use Rattle.std.proofs.Common.{◌≡◌, ◌≢◌, ◌⊎◌, ℕ, Bool, true, false, List, [], ◌∷◌, ◌++◌, Option, Some, None, Result, Ok, Err, refl, sym, ap, subst, ◌∙◌, inl, inr}
 use Rattle.std.specs.Prelude.{IfSome}
-use Rattle.std.proofs.lemmas.List.{append-nil, append_cancel_left}
+use Rattle.std.proofs.lemmas.List.{append_cancel_left}
 use Rattle.fetch_update.specs.declared.update.Error.{Error as UpdateError}
 use Rattle.fetch_wire.specs.Talks.{Talk, Talks}
 use Rattle.fetch_wire.specs.Written.{lines_text}
 use Rattle.fetch_wire.specs.declared.replies.awaited.Fault.{Fault}
 use Rattle.fetch_wire.specs.declared.replies.awaited.Told.{Told as Reply}
 use Rattle.fetch_wire.specs.Awaited.{told_at}
-use Rattle.fetch_conversation.specs.Conversation.{Conversation, ends, asks, after_reply, ends_in, sent_in, answer_in, awaits_more, IsUnheard, IsRefusedBy, Breaks}
+use Rattle.fetch_conversation.specs.Conversation.{Conversation, ends, asks, after_reply, ends_in, answer_in, awaits_more, IsUnheard, Breaks}
 use Rattle.fetch_conversation.specs.Errors.{is_free_listing, is_interrupted, is_worktree_fault}
 use Rattle.fetch_conversation.specs.declared.fetch.Error.TheVariants as receive
 use Rattle.fetch_conversation.specs.declared.prepare.Error.TheVariants as prepare
+use Rattle.fetch_conversation.proofs.Valid.{never_refused}
 use Rattle.fetch_remote.specs.Errors as remote
 use Rattle.fetch_remote.specs.Errors.{preparing, receiving}
 use Rattle.fetch_remote.specs.Fetching.{manner_in, requests_in}
@@ -35,18 +36,6 @@ use Rattle.fetch_shared.specs.Valid.{HasListing, HasReplies, AreJudgeableAt, IsV
 use Rattle.fetch_shared.proofs.Journals.{begins_trans}
 
 -- ---- one conversation
-
-refused_no : {X E : Type 0} (bound : ℕ) (now : Talk) (c : Conversation X E) (said heard : List ℕ) (e : E) → IsRefusedBy bound (Some now) c said heard e → (x : X × List ℕ) → answer_in bound c (said ++ now.to_come) ≡ Ok x → ⊥
-refused_no bound now c said heard e (inl all) x is = let k = (all now.to_come).answer in absurd (cc)
-refused_no {X} {E} bound now c said heard e (inr last) x is =
-    let same : answer_in bound c said ≡ Ok x = ap (λ (l : List ℕ). answer_in bound c l) (sym (append-nil said) ∙ ap (λ (l : List ℕ). said ++ l) (sym last.0)) ∙ is in
-    let k = last.1.answer in
-    absurd (cc)
-
--- what is refused was heard whole
-refused_heard : {X E : Type 0} (bound : ℕ) (now : Talk) (c : Conversation X E) (said heard : List ℕ) (e : E) → IsRefusedBy bound (Some now) c said heard e → lines_text (sent_in bound c (said ++ now.to_come)) ≡ heard
-refused_heard bound now c said heard e (inl all) = (all now.to_come).asked
-refused_heard bound now c said heard e (inr last) = ap (λ (l : List ℕ). lines_text (sent_in bound c l)) (ap (λ (l : List ℕ). said ++ l) last.0 ∙ append-nil said) ∙ last.1.asked
 
 awaited_after : {X E : Type 0} (bound : ℕ) (failed : Fault → E) (next : Reply → Conversation X E) (reading : Result (Reply × List ℕ) Fault) (x : X × List ℕ) → ((t : Reply) (rest : List ℕ) → awaits_more bound (next t) rest ≡ true → answer_in bound (next t) rest ≡ Ok x → ⊥)
     → ends_in (λ told rest. awaits_more bound (next told) rest) reading ≡ true → after_reply (λ fault. Err (failed fault)) (λ told rest. answer_in bound (next told) rest) reading ≡ Ok x → ⊥
@@ -81,27 +70,20 @@ module _ (line : Line) (c : Call) (receipt : Receipt) (v : HasValidInput line c 
       let q : Talks line.answers (Some v.before) (Some v.after) heard said = rw (v.told_before, v.told_after) at p in
       append_cancel_left v.before.given said v.said (sym q.gave_more ∙ v.gave)
 
-  heard_same : (heard said : List ℕ) → Talks line.answers line.old line.new heard said → heard ≡ v.heard
-  heard_same heard said p =
-      let q : Talks line.answers (Some v.before) (Some v.after) heard said = rw (v.told_before, v.told_after) at p in
-      append_cancel_left v.before.heard heard v.heard (sym q.heard_more ∙ v.hears)
-
   -- what broke off was refused for a free cause
   broke_free : {X E : Type 0} (free stopped : E → Bool) (bound : ℕ) (k : Conversation X E) (e : E) → Breaks free stopped line.answers bound line.old line.new [] k e → IsReplied bound k v.heard stream → free e ≡ true
-  broke_free {X} {E} free stopped bound k e h replied = by (free e) refl
-    where
-      at : free e ≡ false → IsRefusedBy bound (Some v.after) k v.said v.heard e
-      at sure =
-          let why : IsRefusedBy bound (Some v.after) k h.said h.heard e = rw v.told_after at (h.why sure) in
-          subst (λ (x : List ℕ × List ℕ). IsRefusedBy bound (Some v.after) k x.0 x.1 e) (λ i. (said_same h.heard h.said h.passed i, heard_same h.heard h.said h.passed i)) why
-
-      no : free e ≡ false → IsReplied bound k v.heard stream → ⊥
-      no sure (inl r) = refused_no bound v.after k v.said v.heard e (at sure) r.0 r.1
-      no sure (inr u) = u.unheard (sym (refused_heard bound v.after k v.said v.heard e (at sure)))
-
-      by : (b : Bool) → free e ≡ b → b ≡ true
-      by true sure = refl
-      by false sure = absurd (no sure replied)
+  broke_free free stopped bound k e h replied =
+      never_refused free stopped line.answers bound line.old line.new k e h (record {
+        before = v.before;
+        after = v.after;
+        told_before = v.told_before;
+        told_after = v.told_after;
+        heard = v.heard;
+        said = v.said;
+        heard_so = v.hears;
+        gave_so = v.gave;
+        valid = replied;
+      })
 
   -- ---- each refusal
 

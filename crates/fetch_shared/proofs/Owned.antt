@@ -1,25 +1,29 @@
--- Refusals that a shared repository makes by itself: none of them is one of a fetch.
+-- Refusals that a shared repository makes by itself: none of them is one of a fetch. Those behind the conversation are neither
+-- the peer's fault nor a yes.
 use Rattle.std.proofs.Common.{◌≡◌, ◌⊎◌, ℕ, Bool, false, true, List, Option, Some, refl, sym, ap, ◌∙◌, subst, inl, inr}
 use Rattle.fetch_store.specs.declared.id.ObjectId.{ObjectId}
 use Rattle.fetch_store.specs.declared.missing.Missing.{Missing}
 use Rattle.fetch_refs.specs.declared.edit.RefEdit.{RefEdit}
 use Rattle.fetch_refs.specs.declared.log.Signature.{Signature}
 use Rattle.fetch_refs.specs.declared.target.Target.{Target}
+use Rattle.fetch_store.specs.Faults.{Faults}
+use Rattle.fetch_conversation.specs.Blame.{BlamesPeer}
 use Rattle.fetch_conversation.specs.declared.conversing.Received.{Received}
 use Rattle.fetch_conversation.specs.declared.fetch.Error.{Error as ReceiveError}
 use Rattle.fetch_conversation.specs.declared.fetch.Error.TheVariants as receive
 use Rattle.fetch_remote.specs.Errors.{receiving}
 use Rattle.fetch_remote.specs.Settling.{brought, pack_of}
 use Rattle.fetch_remote.specs.declared.fetching.fetch_error.FetchError.{FetchError}
+use Rattle.fetch_remote.specs.declared.fetching.fetch_error.FetchError.TheVariants as fetch
 use Rattle.fetch_shared.specs.declared.error.SharedError.{SharedError}
 use Rattle.fetch_shared.specs.declared.error.SharedError.TheVariants as errors
 use Rattle.fetch_shared.specs.Bringing.{IsUnbrought}
-use Rattle.fetch_shared.specs.Errors.{fetching}
+use Rattle.fetch_shared.specs.Errors.{fetching, is_of_peer, is_yes}
 use Rattle.fetch_shared.specs.Machine.{held}
 use Rattle.fetch_shared.specs.Machine.Event.{Take, Commit}
 use Rattle.fetch_shared.specs.Passes.{Holder}
 use Rattle.fetch_shared.specs.Seen.{IsRefusedAt}
-use Rattle.fetch_shared.specs.Settling.{IsUnmoved, IsOfJudging, is_early}
+use Rattle.fetch_shared.specs.Settling.{Matter, Course, IsUnsettled, IsUnmoved, IsOfJudging, is_early}
 use Rattle.fetch_shared.proofs.Settled.{take_refused, commit_refused}
 
 pub unbrought_own : (before after : Holder) (dry_run : Bool) (wants : List ObjectId) (r : Option Received) (e : SharedError) (x : FetchError) → IsUnbrought before after dry_run wants r e → e ≡ errors.Fetch x → ⊥
@@ -78,3 +82,34 @@ judging_late cause e told h early = by cause h (subst (λ (x : SharedError). is_
     by (receive.Pack x) k is = absurd k
     by (receive.Collision id) k is = absurd k
     by (receive.RemovePackKeepFile path) k is = absurd k
+
+-- ---- behind the conversation
+
+pub unsettled_calm : (m : Matter) (c : Course) (judged place : Option ℕ) (e : SharedError) → IsUnsettled m c judged place e → (is_of_peer e ≡ false) × (is_yes e ≡ false)
+unsettled_calm m c judged place (errors.NotClosed link) h = (refl, refl)
+unsettled_calm m c judged place (errors.Disconnected link) h = (refl, refl)
+unsettled_calm m c judged place (errors.Collision id) h = (refl, refl)
+unsettled_calm m c judged place (errors.EditReferences name found) h = (refl, refl)
+unsettled_calm m c judged place (errors.Delete cause) h = (refl, refl)
+unsettled_calm m c judged place errors.NoMemory h = (refl, refl)
+unsettled_calm m c judged place (errors.Fetch fetch.NoMemory) h = (refl, refl)
+unsettled_calm m c judged place (errors.Fetch (fetch.Prepare cause)) h = absurd h
+unsettled_calm m c judged place (errors.Fetch (fetch.Receive (receive.NoMapping specs count))) h = (refl, refl)
+unsettled_calm m c judged place (errors.Fetch (fetch.Receive (receive.IncompatibleObjectHash local remote))) h = (refl, refl)
+unsettled_calm m c judged place (errors.Fetch (fetch.Receive (receive.Disconnected link))) h = (refl, refl)
+unsettled_calm m c judged place (errors.Fetch (fetch.Receive (receive.RejectShallowRemoteConfig value))) h = (refl, refl)
+unsettled_calm m c judged place (errors.Fetch (fetch.Receive (receive.NegotiationAlgorithmConfig value))) h = (refl, refl)
+unsettled_calm m c judged place (errors.Fetch (fetch.Receive (receive.PackThreads value))) h = (refl, refl)
+unsettled_calm m c judged place (errors.Fetch (fetch.Receive (receive.Fetch x))) h = (refl, refl)
+unsettled_calm m c judged place (errors.Fetch (fetch.Receive receive.Client)) h = absurd h
+unsettled_calm m c judged place (errors.Fetch (fetch.Receive receive.Interrupted)) h = absurd h
+unsettled_calm m c judged place (errors.Fetch (fetch.Receive (receive.RejectShallowRemote id))) h = (refl, refl)
+unsettled_calm m c judged place (errors.Fetch (fetch.Receive (receive.Pack x))) h = (refl, refl)
+unsettled_calm m c judged place (errors.Fetch (fetch.Receive (receive.Collision id))) h = (refl, refl)
+unsettled_calm m c judged place (errors.Fetch (fetch.Receive (receive.KeepFile path))) h = (refl, refl)
+unsettled_calm m c judged place (errors.Fetch (fetch.Receive (receive.UpdateRefs cause))) h = (refl, refl)
+unsettled_calm m c judged place (errors.Fetch (fetch.Receive (receive.RemovePackKeepFile path))) h = (refl, refl)
+unsettled_calm m c judged place (errors.Fetch (fetch.Receive receive.NoMemory)) h = (refl, refl)
+
+pub still_blamed : (old new : Faults) (blamed : Bool) → blamed ≡ false → BlamesPeer old new false → BlamesPeer old new blamed
+still_blamed old new blamed calm h = subst (λ (b : Bool). BlamesPeer old new b) (sym calm) h

@@ -3,15 +3,11 @@ use Rattle.std.specs.Prelude.{◌≡◌, ◌⊎◌, ℕ, Bool, List, [], Option,
 use Rattle.fetch_wire.specs.Talks.{Talk}
 use Rattle.fetch_conversation.specs.Conversation.{Concludes}
 use Rattle.fetch_conversation.specs.ListStage.{ListedValue, shown, pending_of}
-use Rattle.fetch_conversation.specs.declared.fetch.Error.TheVariants as receive
-use Rattle.fetch_conversation.specs.declared.prepare.Error.TheVariants as prepare
-use Rattle.fetch_conversation.specs.declared.ref_map.Error.TheVariants as ref_map
 use Rattle.fetch_remote.specs.Form.{Given}
 use Rattle.fetch_remote.specs.Remotes.{RemoteValue}
 use Rattle.fetch_remote.specs.Stages.{bound_of, wants_in, listing_stage}
 use Rattle.fetch_remote.specs.Talking.{HasTold, BreaksListing, BreaksReceiving}
 use Rattle.fetch_remote.specs.declared.fetching.fetch_error.FetchError.{FetchError}
-use Rattle.fetch_remote.specs.declared.fetching.fetch_error.FetchError.TheVariants as fetch
 use Rattle.fetch_remote.specs.declared.fetching.options.FetchOptions.{FetchOptions}
 use Rattle.fetch_shared.specs.declared.error.SharedError.{SharedError}
 use Rattle.fetch_shared.specs.declared.error.SharedError.TheVariants as errors
@@ -79,21 +75,3 @@ pub record BrokeReceiving (line : Line) (g : Given) (before after : Holder) (pla
 -- the conversation broke off while listing, while planning, or while receiving
 abbrev pub HasBroken : Line → Given → Holder → Holder → Option ℕ → SharedError → Type 0
 HasBroken line g before after planned e = BrokeListing line g planned e ⊎ (BrokePlanning line g planned e ⊎ BrokeReceiving line g before after planned e)
-
--- ---- refusals that have a count: faults of the peer, and a yes of the interrupt
-
--- the peer failed while listing
-abbrev pub transport : SharedError
-transport = errors.Fetch (fetch.Prepare (prepare.RefMap ref_map.Transport))
-
--- the interrupt said yes while listing
-abbrev pub interrupted : SharedError
-interrupted = errors.Fetch (fetch.Prepare (prepare.RefMap ref_map.Interrupted))
-
--- the peer failed after the listing
-abbrev pub client : SharedError
-client = errors.Fetch (fetch.Receive receive.Client)
-
--- the interrupt said yes after the listing
-abbrev pub stopped : SharedError
-stopped = errors.Fetch (fetch.Receive receive.Interrupted)

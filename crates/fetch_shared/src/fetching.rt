@@ -1,16 +1,17 @@
 //! A fetch over a shared repository.
 
-ghost use Rattle.std.specs.Prelude.{◌≡◌, ℕ, false, true, List, None, Some, IfOk, IfErr, MatchResult, OnOk};
+ghost use Rattle.std.specs.Prelude.{◌≡◌, ℕ, false, true, List, None, Some, IfOk, IfErr, MatchResult};
 ghost use Rattle.fetch_store.specs.Faults.{Rose, Counts};
 ghost use Rattle.fetch_store.specs.FileCalls.{IsRefused as IsBlocked};
-ghost use Rattle.fetch_conversation.specs.Receiving.{IsHeeded};
+ghost use Rattle.fetch_conversation.specs.Blame.{BlamesPeer, BlamesInterrupt, is_told};
+ghost use Rattle.fetch_conversation.specs.Receiving.{last_question};
 ghost use Rattle.fetch_remote.specs.Keeping.{made_in, with_keep};
-ghost use Rattle.fetch_shared.specs.Errors.{is_yes};
+ghost use Rattle.fetch_shared.specs.Errors.{is_of_peer, is_yes};
 ghost use Rattle.fetch_shared.specs.Fetching.{IsSharedFetch, IsSharedRefused};
 ghost use Rattle.fetch_shared.specs.Passes.{IsBack};
 ghost use Rattle.fetch_shared.specs.Receipts.{IsReceipt};
 ghost use Rattle.fetch_shared.specs.Settling as settling;
-ghost use Rattle.fetch_shared.specs.Talking as talking;
+ghost use Rattle.fetch_shared.specs.Talking.{given_to};
 ghost use Rattle.fetch_shared.specs.Valid.{HasValidInput, is_free};
 
 use crate::error::SharedError;
@@ -53,17 +54,11 @@ pub fn fetch_shared<R: Threads + Wait + Sync, P: Peer, I: Interrupt, F: Files, W
     ensures back { MatchResult result (λ r. IsBack pass r.0) (λ r. IsBack pass r.0) }
     ensures receipt { MatchResult result (λ r. IsReceipt pass r.0 r.1) (λ r. IsReceipt pass r.0 r.1) }
     ensures fetched { IfOk result (λ r. IsSharedFetch (record { answers = P.answers; old = P.told peer.old; new = P.told peer.new })
-        (record { given = talking.given_to remote.now options pass; before = pass; after = r.0; known = W.told worktrees.old; files = F.told files.old; left = F.told files.new }) r.1 r.2) }
+        (record { given = given_to remote.now options pass; before = pass; after = r.0; known = W.told worktrees.old; files = F.told files.old; left = F.told files.new }) r.1 r.2) }
     ensures refused { IfErr result (λ r. IsSharedRefused (record { answers = P.answers; old = P.told peer.old; new = P.told peer.new })
-        (record { given = talking.given_to remote.now options pass; before = pass; after = r.0; known = W.told worktrees.old; files = F.told files.old; left = F.told files.new }) r.1 r.2) }
-    ensures counts { Counts (P.faults peer.old) (P.faults peer.new) }
-    ensures transport { IfErr result (λ r. r.2 ≡ talking.transport → Rose (P.faults peer.old) (P.faults peer.new)) }
-    ensures client { IfErr result (λ r. r.2 ≡ talking.client → Rose (P.faults peer.old) (P.faults peer.new)) }
-    ensures asked { Counts (I.yes interrupt.old) (I.yes interrupt.new) }
-    ensures interrupted { IfErr result (λ r. r.2 ≡ talking.interrupted → Rose (I.yes interrupt.old) (I.yes interrupt.new)) }
-    ensures stopped { IfErr result (λ r. r.2 ≡ talking.stopped → Rose (I.yes interrupt.old) (I.yes interrupt.new)) }
-    ensures uninterrupted { OnOk result ((I.yes interrupt.new).count ≡ (I.yes interrupt.old).count) }
-    ensures questions { IsHeeded (λ r. is_yes r.2) (I.will_stop interrupt.old) (I.will_stop interrupt.new) (P.told peer.old) (P.told peer.new) result }
+        (record { given = given_to remote.now options pass; before = pass; after = r.0; known = W.told worktrees.old; files = F.told files.old; left = F.told files.new }) r.1 r.2) }
+    ensures peer { BlamesPeer (P.faults peer.old) (P.faults peer.new) (is_told (λ r. is_of_peer r.2) result) }
+    ensures interrupt { BlamesInterrupt (I.yes interrupt.old) (I.yes interrupt.new) (I.will_stop interrupt.old) (I.will_stop interrupt.new) (P.told peer.old) (P.told peer.new) (last_question (λ r. is_yes r.2) result) }
     ensures dry { options.dry_run ≡ true → files.new ≡ files.old }
     ensures unread { IfOk result (λ r. made_in shared.now.opening.setup.settings.git_dir r.2.status ≡ None → files.new ≡ files.old) }
     ensures early { IfErr result (λ r. settling.is_early r.2 ≡ true → files.new ≡ files.old) }
@@ -81,7 +76,7 @@ pub fn fetch_shared<R: Threads + Wait + Sync, P: Peer, I: Interrupt, F: Files, W
     ensures open_repo { IfErr result (λ r. r.2 ≡ settling.unopened → Rose (W.open_repo worktrees.old) (W.open_repo worktrees.new)) }
     ensures follow_symref { IfErr result (λ r. r.2 ≡ settling.unfollowed → Rose (W.follow_symref worktrees.old) (W.follow_symref worktrees.new)) }
     ensures complete { IfErr result (λ r. HasValidInput (record { answers = P.answers; old = P.told peer.old; new = P.told peer.new })
-        (record { given = talking.given_to remote.now options pass; before = pass; after = r.0; known = W.told worktrees.old; files = F.told files.old; left = F.told files.new }) r.1 → is_free r.2 ≡ true) }
+        (record { given = given_to remote.now options pass; before = pass; after = r.0; known = W.told worktrees.old; files = F.told files.old; left = F.told files.new }) r.1 → is_free r.2 ≡ true) }
 {
     let number = pass.number();
     let how = match manner(alloc, remote.fetch_tags(), &options) {

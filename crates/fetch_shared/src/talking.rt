@@ -1,16 +1,16 @@
 //! The conversation of a fetch over a plan.
 
-ghost use Rattle.std.specs.Prelude.{◌≡◌, IfOk, IfErr, IfSome, MatchResult, OnOk};
-ghost use Rattle.fetch_store.specs.Faults.{Rose, Counts};
+ghost use Rattle.std.specs.Prelude.{◌≡◌, IfOk, IfErr, IfSome, MatchResult};
 ghost use Rattle.fetch_store.specs.Stores.{AreOf};
 ghost use Rattle.fetch_pack.specs.Once.{AreNamed};
-ghost use Rattle.fetch_conversation.specs.Receiving.{IsHeeded};
+ghost use Rattle.fetch_conversation.specs.Blame.{BlamesPeer, BlamesInterrupt, is_told};
+ghost use Rattle.fetch_conversation.specs.Receiving.{last_question};
 ghost use Rattle.fetch_remote.specs.Errors.{preparing, receiving};
-ghost use Rattle.fetch_shared.specs.Errors.{fetching, is_yes};
+ghost use Rattle.fetch_shared.specs.Errors.{fetching, is_of_peer, is_yes};
 ghost use Rattle.fetch_shared.specs.Journals.{entries_of};
 ghost use Rattle.fetch_shared.specs.Passes.{IsBack};
 ghost use Rattle.fetch_shared.specs.Shared.{plan_of};
-ghost use Rattle.fetch_shared.specs.Talking.{HasBroken, HasPlanned, HasTalked, client, given_to, interrupted, stopped, transport};
+ghost use Rattle.fetch_shared.specs.Talking.{HasBroken, HasPlanned, HasTalked, given_to};
 ghost use Rattle.fetch_shared.specs.declared.error.SharedError.TheVariants as errors;
 
 use crate::error::SharedError;
@@ -57,14 +57,8 @@ pub(crate) fn talk<R: Threads + Wait + Sync, P: Peer, I: Interrupt>(
     ensures broken { IfErr result (λ r. HasBroken (record { answers = P.answers; old = P.told peer.old; new = P.told peer.new }) (given_to remote.now options pass) pass r.0 r.1 r.2) }
     ensures of_kind { IfOk result (λ r. IfSome r.2.received (λ x. AreOf pass.shared.opening.state.hash x.objects)) }
     ensures named { IfOk result (λ r. IfSome r.2.received (λ x. AreNamed x.objects)) }
-    ensures counts { Counts (P.faults peer.old) (P.faults peer.new) }
-    ensures transport { IfErr result (λ r. r.2 ≡ transport → Rose (P.faults peer.old) (P.faults peer.new)) }
-    ensures client { IfErr result (λ r. r.2 ≡ client → Rose (P.faults peer.old) (P.faults peer.new)) }
-    ensures asked { Counts (I.yes interrupt.old) (I.yes interrupt.new) }
-    ensures interrupted { IfErr result (λ r. r.2 ≡ interrupted → Rose (I.yes interrupt.old) (I.yes interrupt.new)) }
-    ensures stopped { IfErr result (λ r. r.2 ≡ stopped → Rose (I.yes interrupt.old) (I.yes interrupt.new)) }
-    ensures uninterrupted { OnOk result ((I.yes interrupt.new).count ≡ (I.yes interrupt.old).count) }
-    ensures questions { IsHeeded (λ r. is_yes r.2) (I.will_stop interrupt.old) (I.will_stop interrupt.new) (P.told peer.old) (P.told peer.new) result }
+    ensures peer { BlamesPeer (P.faults peer.old) (P.faults peer.new) (is_told (λ r. is_of_peer r.2) result) }
+    ensures interrupt { BlamesInterrupt (I.yes interrupt.old) (I.yes interrupt.new) (I.will_stop interrupt.old) (I.will_stop interrupt.new) (P.told peer.old) (P.told peer.new) (last_question (λ r. is_yes r.2) result) }
 {
     let FetchOptions {
         map,

@@ -2,6 +2,9 @@ use Rattle.std.proofs.Common.{None, Some, refl, sym, ap, ◌∙◌}
 use Rattle.fetch_conversation.specs.ListStage.{shown}
 use Rattle.fetch_conversation.specs.declared.fetch.Error.TheVariants as receive
 use Rattle.fetch_update.specs.declared.update.Error.TheVariants as update
+use Rattle.fetch_conversation.proofs.Blame.{interrupt_still, interrupt_as}
+use Rattle.fetch_conversation.proofs.Heeded.{no_question}
+use Rattle.fetch_shared.specs.Errors.{is_yes}
 use Rattle.fetch_shared.specs.Fetching.{Call}
 use Rattle.fetch_shared.specs.Passes.{Which}
 use Rattle.fetch_shared.specs.Settling.{Matter}
@@ -9,6 +12,7 @@ use Rattle.fetch_shared.specs.Talking.{Line, given_to}
 use Rattle.fetch_shared.proofs.Back.{back_trans}
 use Rattle.fetch_shared.proofs.Complete.{complete}
 use Rattle.fetch_shared.proofs.Fetched.{silent, ran_out, broken, broken_other, stopped, fetched}
+use Rattle.fetch_shared.proofs.Owned.{unsettled_calm, still_blamed}
 use Rattle.fetch_shared.proofs.Places.{receipt_none, receipt_broken, receipt_settled, receipt_unsettled}
 use Rattle.fetch_shared.proofs.Saw.{back_self}
 use Rattle.fetch_shared.proofs.fetching.fetch_shared.Goals as goal
@@ -73,6 +77,23 @@ returns-clause-refused g c =
     rw (c.receipt-receipt-in-Err-settle_in_turns.ensures, c.number-number.ensures)
     (stopped line call c.in-Ok-answer.talked.0 c.in-Ok-answer.talked.1 t c.in-Ok-answer.ensures.talked c.in-Ok-answer.ensures.back c.in-Ok-answer.ensures.none c.in-Err-settle_in_turns.ensures.back
     m (ap (λ (w : Which). w.opening.setup) (sym c.requires)) how refl refl c.in-Err-settle_in_turns.judged c.in-Err-settle_in_turns.place c.in-Err-settle_in_turns.e c.in-Err-settle_in_turns.ensures.refused)
+
+-- ---- who is blamed
+
+pub returns-in-Err-clause-interrupt : goal.returns-in-Err-clause-interrupt
+returns-in-Err-clause-interrupt g c = interrupt_still _ _ _ _ refl
+
+pub returns-clause-peer : goal.returns-clause-peer
+returns-clause-peer g c =
+    let calm = unsettled_calm _ _ _ _ c.in-Err-settle_in_turns.e c.in-Err-settle_in_turns.ensures.refused in
+    still_blamed _ _ _ calm.0 c.in-Ok-answer.ensures.peer
+
+pub returns-clause-interrupt : goal.returns-clause-interrupt
+returns-clause-interrupt g c =
+    let calm = unsettled_calm _ _ _ _ c.in-Err-settle_in_turns.e c.in-Err-settle_in_turns.ensures.refused in
+    interrupt_as _ _ _ _ _ _ _ _ (sym (no_question (Unit {0}) is_yes c.in-Err-settle_in_turns.e calm.1)) c.in-Ok-answer.ensures.interrupt
+
+-- ---- refusals that have a count
 
 pub returns-in-Err-answer-clause-keep_file : goal.returns-in-Err-answer-clause-keep_file
 returns-in-Err-answer-clause-keep_file g c path is = absurd (broken_other _ _ _ _ _ _ c.in-Err-answer.ensures.broken (receive.KeepFile path) (λ h. h) refl is)
