@@ -13,7 +13,6 @@ use Rattle.fetch_wire.specs.declared.listings.mapping.RefMap.{RefMap}
 use Rattle.fetch_remote.specs.Repositories.{state_of, setup_of}
 use Rattle.fetch_remote.specs.RepositoryValues.{RepositoryValue, Setup, State}
 use Rattle.fetch_clone.specs.Aims.{is_memory}
-use Rattle.fetch_clone.specs.Creation.{TellsStill}
 use Rattle.fetch_clone.specs.Heading.{FollowsIf, HasHead, IsHeadRefusal, IsNoAim, IsToldAs, IsUnsaved, IsWritten, aim_of, followed, moved, told_as}
 use Rattle.fetch_clone.specs.declared.aim.Aim.{Aim}
 use Rattle.fetch_clone.specs.declared.aim.Unaimed.{Unaimed}
@@ -126,7 +125,7 @@ module _ (may_fail : Bool) (told now : Option Tree) (before mid after : Reposito
   pub headed : FollowsIf (setup_of mid) (setup_of after) told now local → HasHead told now before after map message remote ref_name revision
   headed f = record { aim = aim; takes = takes; state = state; follows = subst (λ (o : Option Contents). FollowsIf (setup_of before) (setup_of after) told now o) follows (subst (λ (s : Setup). FollowsIf s (setup_of after) told now local) setup f) }
 
-  pub unwritten : (e : Error) → TellsStill told now → setup_of after ≡ setup_of mid → IsUnsaved may_fail told (setup_of mid).settings.git_dir local e → IsHeadRefusal may_fail told now before after map message remote ref_name revision e
+  pub unwritten : (e : Error) → now ≡ told → setup_of after ≡ setup_of mid → IsUnsaved may_fail told (setup_of mid).settings.git_dir local e → IsHeadRefusal may_fail told now before after map message remote ref_name revision e
   unwritten errors.Consumed tree same why = absurd why
   unwritten (errors.ParseConfig x) tree same why = absurd why
   unwritten (errors.RemoteName x) tree same why = absurd why
@@ -159,7 +158,7 @@ module _ (may_fail : Bool) (told now : Option Tree) (before mid after : Reposito
   unwritten (errors.PeelRevision x) tree same why = absurd why
   unwritten errors.NoMemory tree same why = inr (record { aim = aim; takes = takes; state = state; setup = same ∙ setup; local = why.0; follows = sym follows ∙ why.1; tree = tree })
 
-  pub not-saved : {X : Type 0} (r : Result X Error) → TellsStill told now → OnErr r (setup_of after ≡ setup_of mid) → IfErr r (IsUnsaved may_fail told (setup_of mid).settings.git_dir local) → IfErr r (IsHeadRefusal may_fail told now before after map message remote ref_name revision)
+  pub not-saved : {X : Type 0} (r : Result X Error) → OnErr r (now ≡ told) → OnErr r (setup_of after ≡ setup_of mid) → IfErr r (IsUnsaved may_fail told (setup_of mid).settings.git_dir local) → IfErr r (IsHeadRefusal may_fail told now before after map message remote ref_name revision)
   not-saved (Ok x) tree same why = tt
   not-saved (Err e) tree same why = unwritten e tree same why
 

@@ -89,10 +89,10 @@ no-fault was is new local initial.NoMemory why t = absurd (false≢true t)
 
 -- what out of memory leaves of the files
 stopped-told : (may_fail : Bool) (stood now : Option Tree) (step : Step) → IsStopAt may_fail stood step now creating.NoMemory → TellsStill stood now
-stopped-told may_fail stood now (Clear path) w = w
+stopped-told may_fail stood now (Clear path) w = ap is_some w
 stopped-told may_fail stood now (Vacant path) w = ap is_some w
-stopped-told may_fail stood now (Directory path) w = w
-stopped-told may_fail stood now (File path bytes) w = w
+stopped-told may_fail stood now (Directory path) w = ap is_some w
+stopped-told may_fail stood now (File path bytes) w = ap is_some w
 
 -- It wasn't created.
 pub uncreated : (may_fail : Bool) (before now : Option Tree) (steps : List Step) (new : New) (e : CreateError) → IsStopped may_fail before steps now e → IsInitRefusal may_fail before steps new now (creation_refusal e)

@@ -8,7 +8,6 @@ use Rattle.fetch_config.specs.Contents.{Contents}
 use Rattle.fetch_config.specs.Print.{text_of}
 use Rattle.fetch_remote.specs.RepositoryValues.{Setup}
 use Rattle.fetch_remote.specs.declared.repository.open_error.OpenError.TheVariants as opening
-use Rattle.fetch_clone.specs.Creation.{TellsStill}
 use Rattle.fetch_clone.specs.Hashed.{IsLocal, IsUnversioned}
 use Rattle.fetch_clone.specs.Heading.{IsUnsaved}
 use Rattle.fetch_clone.specs.Mirrors.{path_of}
@@ -16,7 +15,7 @@ use Rattle.fetch_clone.specs.Versioned.{versioned}
 use Rattle.fetch_clone.specs.declared.clone.fetch.Error.TheVariants as errors
 
 module _ (may_fail : Bool) (told now : Option Tree) (kind : Kind) (setup : Setup) (local file : Contents) (read : IsLocal told setup local) (is : file ≡ versioned kind local) where
-  pub unversioned : TellsStill told now → IsUnsaved may_fail told setup.settings.git_dir (Some file) errors.SaveConfigIo → IsUnversioned may_fail told now kind setup (errors.ReopenWithObjectHash opening.Io)
+  pub unversioned : now ≡ told → IsUnsaved may_fail told setup.settings.git_dir (Some file) errors.SaveConfigIo → IsUnversioned may_fail told now kind setup (errors.ReopenWithObjectHash opening.Io)
   unversioned tree why =
       let e : why.0 ≡ versioned kind local = cc in
       record { local = local; read = read; tree = tree; refused = subst (λ (f : Contents). IsRefused may_fail told (λ t. written t (parts_of (path_of setup)) (text_of f.sections))) e why.2; cause = refl }

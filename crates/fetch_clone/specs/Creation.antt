@@ -67,7 +67,7 @@ pub record Reaches (before : Option Tree) (steps : List Step) (now : Option Tree
 abbrev pub HasEntry : Tree → List ℕ → Type 0
 HasEntry t path = (name : List ℕ) × (names : List (List ℕ)) × (listed_in t path ≡ Some (Some (name ∷ names)))
 
--- what a failed call leaves
+-- the files tell a tree still, where they did
 abbrev pub TellsStill : Option Tree → Option Tree → Type 0
 TellsStill stood now = is_some now ≡ is_some stood
 
@@ -77,17 +77,16 @@ IsOpenRefusal may_fail stood path asked now (IoOpen told) = (told ≡ path) × (
 IsOpenRefusal may_fail stood path asked now NoMemory = now ≡ stood
 IsOpenRefusal may_fail stood path asked now e = ⊥
 
--- Why a step is refused, at the tree that stood then. What is found there, or can't be asked, leaves it as it is.
+-- Why a step is refused, at the tree that stood then, which stays.
 abbrev pub IsStopAt : Bool → Option Tree → Step → Option Tree → Error → Type 0
 IsStopAt may_fail stood (Clear path) now (DirectoryNotEmpty told) = (told ≡ path) × (now ≡ stood) × IfSome stood (λ t. HasEntry t path)
 IsStopAt may_fail stood (Clear path) now (IoOpen told) = (told ≡ path) × (now ≡ stood) × IsRefused may_fail stood (λ t. listed_in t path)
-IsStopAt may_fail stood (Clear path) now (CreateDirectory told) = (told ≡ path) × TellsStill stood now × IsRefused may_fail stood (λ t. with_directories t (parts_of path))
+IsStopAt may_fail stood (Clear path) now (CreateDirectory told) = (told ≡ path) × (now ≡ stood) × IsRefused may_fail stood (λ t. with_directories t (parts_of path))
 IsStopAt may_fail stood (Vacant path) now (DirectoryExists told) = (told ≡ path) × (now ≡ stood) × IfSome stood (λ t. kind_in t (parts_of path) ≡ Some (Some nodes.Directory))
 IsStopAt may_fail stood (Vacant path) now (IoOpen told) = (told ≡ path) × (now ≡ stood) × IsRefused may_fail stood (λ t. kind_in t (parts_of path))
-IsStopAt may_fail stood (Directory path) now (CreateDirectory told) = (told ≡ path) × TellsStill stood now × IsRefused may_fail stood (λ t. with_directories t (parts_of path))
-IsStopAt may_fail stood (File path bytes) now (IoWrite told) = (told ≡ path) × TellsStill stood now × IsRefused may_fail stood (λ t. written t (parts_of path) bytes)
-IsStopAt may_fail stood (Vacant path) now NoMemory = now ≡ stood
-IsStopAt may_fail stood step now NoMemory = TellsStill stood now
+IsStopAt may_fail stood (Directory path) now (CreateDirectory told) = (told ≡ path) × (now ≡ stood) × IsRefused may_fail stood (λ t. with_directories t (parts_of path))
+IsStopAt may_fail stood (File path bytes) now (IoWrite told) = (told ≡ path) × (now ≡ stood) × IsRefused may_fail stood (λ t. written t (parts_of path) bytes)
+IsStopAt may_fail stood step now NoMemory = now ≡ stood
 IsStopAt may_fail stood step now e = ⊥
 
 -- The first steps were done, that many, and the next one was refused.

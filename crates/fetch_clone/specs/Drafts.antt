@@ -86,13 +86,13 @@ is_clone_fault NoMemory = false
 abbrev pub is_removed : Draft → Bool
 is_removed draft = if draft.free then is_some draft.repo else false
 
--- The removal was asked for: the place is gone with all that is in it; or the files failed, which is ignored.
+-- The removal was asked for: the place is gone with all that is in it.
 abbrev pub IsGone : Option Tree → List ℕ → Option Tree → Type 0
 IsGone before place now = TellsStill before now × IfSome before (λ t. without_all t (parts_of place) ≡ now)
 
--- The removal was refused: its fault is counted, and something is in the way, unless the files fail by themselves.
+-- The removal was refused, and all stays: its fault is counted, and something is in the way, unless the files fail by themselves.
 abbrev pub IsNotGone : Faults → Faults → Bool → Option Tree → List ℕ → Option Tree → Type 0
-IsNotGone was is may_fail before place now = Rose was is × (TellsStill before now × IsRefused may_fail before (λ t. without_all t (parts_of place)))
+IsNotGone was is may_fail before place now = Rose was is × ((now ≡ before) × IsRefused may_fail before (λ t. without_all t (parts_of place)))
 
 -- The place is gone, or its removal was refused.
 abbrev pub IsRemoved : Faults → Faults → Bool → Option Tree → List ℕ → Option Tree → Type 0

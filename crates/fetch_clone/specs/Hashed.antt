@@ -12,7 +12,6 @@ use Rattle.fetch_remote.specs.Repositories.{state_of, setup_of}
 use Rattle.fetch_remote.specs.RepositoryValues.{RepositoryValue, Setup, State, resolved_of}
 use Rattle.fetch_remote.specs.declared.repository.Resolved.{Resolved}
 use Rattle.fetch_remote.specs.declared.repository.open_error.OpenError.TheVariants as opening
-use Rattle.fetch_clone.specs.Creation.{TellsStill}
 use Rattle.fetch_clone.specs.Heading.{IsWritten}
 use Rattle.fetch_clone.specs.Mirrors.{path_of}
 use Rattle.fetch_clone.specs.Versioned.{versioned}
@@ -63,13 +62,13 @@ IsUnread may_fail told setup e = ⊥
 pub record IsUnversioned (may_fail : Bool) (told now : Option Tree) (kind : Kind) (setup : Setup) (e : Error) : Type 0 where
   pub local : Contents
   pub read : IsLocal told setup local
-  pub tree : TellsStill told now
+  pub tree : now ≡ told
   pub refused : IsRefused may_fail told (λ t. written t (parts_of (path_of setup)) (text_of (versioned kind local).sections))
   pub cause : e ≡ errors.ReopenWithObjectHash opening.Io
 
--- The file wasn't read, or couldn't be written. Where memory ran out, it may have been.
+-- The file wasn't read, or couldn't be written, and stays as it is.
 abbrev pub IsUnreread : Bool → Option Tree → Option Tree → Kind → Setup → Error → Type 0
-IsUnreread may_fail told now kind setup errors.NoMemory = TellsStill told now
+IsUnreread may_fail told now kind setup errors.NoMemory = now ≡ told
 IsUnreread may_fail told now kind setup e = ((now ≡ told) × IsUnread may_fail told setup e) ⊎ IsUnversioned may_fail told now kind setup e
 
 -- The hash is another, nothing has an id, and the file `config` wasn't read and written.

@@ -139,7 +139,7 @@ pub record IsUnwritten (may_fail : Bool) (told now : Option Tree) (before after 
   pub setup : setup_of after ≡ setup_of before
   pub local : Contents
   pub follows : followed (setup_of before) remote aim ≡ Some local
-  pub tree : TellsStill told now
+  pub tree : now ≡ told
   pub refused : IsRefused may_fail told (λ t. written t (parts_of (config_path (setup_of before).settings.git_dir)) (text_of local.sections))
 
 -- Nothing has changed.
@@ -156,7 +156,7 @@ pub record IsMovedOnly (told now : Option Tree) (before after : RepositoryValue)
   pub setup : setup_of after ≡ setup_of before
   pub local : Contents
   pub follows : followed (setup_of before) remote aim ≡ Some local
-  pub tree : TellsStill told now
+  pub tree : now ≡ told
 
 -- Memory ran out before anything was changed, or while the branch's section was saved.
 abbrev pub IsWanting : Option Tree → Option Tree → RepositoryValue → RepositoryValue → RefMap → List ℕ → List ℕ → Option (List ℕ) → Option Spec → Type 0

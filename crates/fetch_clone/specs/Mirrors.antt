@@ -11,7 +11,6 @@ use Rattle.fetch_remote.specs.Reloads.{HasRead, IsRefusedAt}
 use Rattle.fetch_remote.specs.Remotes.{RemoteValue, parts_of}
 use Rattle.fetch_remote.specs.RepositoryValues.{Setup}
 use Rattle.fetch_remote.specs.declared.repository.open_error.OpenError.TheVariants as opening
-use Rattle.fetch_clone.specs.Creation.{TellsStill}
 use Rattle.fetch_clone.specs.Heading.{IsWritten}
 use Rattle.fetch_clone.specs.Replacing.{replaced}
 use Rattle.fetch_clone.specs.declared.clone.fetch.Error.{Error}
@@ -35,12 +34,12 @@ pub record IsMirrored (told : Option Tree) (setup : Setup) (now : Option Tree) (
 pub record IsUnmirrored (may_fail : Bool) (told : Option Tree) (setup : Setup) (section : Contents) (now : Option Tree) : Type 0 where
   pub local : Contents
   pub read : HasRead told (path_of setup) setup.local.meta local
-  pub tree : TellsStill told now
+  pub tree : now ≡ told
   pub refused : IsRefused may_fail told (λ t. written t (parts_of_path (path_of setup)) (text_of (replaced section.sections local).sections))
 
 -- The remote can't be saved; the file is missing, can't be read or breaks the grammar; or it can't be written.
 abbrev pub IsMirrorRefusal : Bool → Option Tree → Setup → RemoteValue → List ℕ → Option Tree → Error → Type 0
-IsMirrorRefusal may_fail told setup remote name now errors.NoMemory = TellsStill told now
+IsMirrorRefusal may_fail told setup remote name now errors.NoMemory = now ≡ told
 IsMirrorRefusal may_fail told setup remote name now (errors.SaveConfig e) = (now ≡ told) × (save_as_verdict name (parts_of remote) ≡ Err e)
 IsMirrorRefusal may_fail told setup remote name now (errors.LoadConfig opening.Io) = (now ≡ told) × IsRefused may_fail told (λ t. read_in t (parts_of_path (path_of setup)))
 IsMirrorRefusal may_fail told setup remote name now (errors.LoadConfig opening.NoMemory) = ⊥

@@ -4,7 +4,6 @@ ghost use Rattle.std.specs.Prelude.{◌≡◌, ◌++◌, ◌∷◌, [], Ok, code
 ghost use Rattle.std.specs.Option.{option_copied};
 ghost use Rattle.fetch_store.specs.Faults.{Rose, Counts};
 ghost use Rattle.fetch_clone.specs.Aims as aims;
-ghost use Rattle.fetch_clone.specs.Creation.{TellsStill};
 ghost use Rattle.fetch_clone.specs.Heading as spec;
 ghost use Rattle.fetch_clone.specs.declared.clone.fetch.Error.TheVariants as errors;
 ghost use Rattle.fetch_remote.specs.Repositories.{state_of, setup_of};
@@ -249,7 +248,7 @@ fn save_if<F: Files>(
     ensures ok { OnOk result (spec.FollowsIf (setup_of repo.old) (setup_of repo.new) (F.told files.old) (F.told files.new) local) }
     ensures refused { IfErr result (spec.IsUnsaved (F.may_fail files.old) (F.told files.old) (setup_of repo.old).settings.git_dir local) }
     ensures err { OnErr result (setup_of repo.new ≡ setup_of repo.old) }
-    ensures tree { TellsStill (F.told files.old) (F.told files.new) }
+    ensures tree { OnErr result (F.told files.new ≡ F.told files.old) }
     ensures io { IsErrOf result errors.SaveConfigIo → Rose (F.faults files.old) (F.faults files.new) }
     ensures counts { Counts (F.faults files.old) (F.faults files.new) }
     ensures may_fail { F.may_fail files.new ≡ F.may_fail files.old }
@@ -271,7 +270,7 @@ fn save_local<F: Files>(
     ensures ok { OnOk result (spec.FollowsIf (setup_of repo.old) (setup_of repo.new) (F.told files.old) (F.told files.new) (Some local)) }
     ensures refused { IfErr result (spec.IsUnsaved (F.may_fail files.old) (F.told files.old) (setup_of repo.old).settings.git_dir (Some local)) }
     ensures err { OnErr result (setup_of repo.new ≡ setup_of repo.old) }
-    ensures tree { TellsStill (F.told files.old) (F.told files.new) }
+    ensures tree { OnErr result (F.told files.new ≡ F.told files.old) }
     ensures io { IsErrOf result errors.SaveConfigIo → Rose (F.faults files.old) (F.faults files.new) }
     ensures counts { Counts (F.faults files.old) (F.faults files.new) }
     ensures may_fail { F.may_fail files.new ≡ F.may_fail files.old }
@@ -284,7 +283,7 @@ fn save_local<F: Files>(
     Ok(())
 }
 
-/// Writes the whole local file into the file `config` in the directory.
+/// Writes the whole local file into the file `config` in the directory. After an error it is as before.
 pub(crate) fn write_local<F: Files>(
     alloc: Global,
     files: &mut F,
@@ -293,7 +292,7 @@ pub(crate) fn write_local<F: Files>(
 ) -> Result<(), Error>
     ensures written { OnOk result (spec.IsWritten (F.told files.old) git_dir.now local.now (F.told files.new)) }
     ensures refused { IfErr result (spec.IsUnsaved (F.may_fail files.old) (F.told files.old) git_dir.now (Some local.now)) }
-    ensures tree { TellsStill (F.told files.old) (F.told files.new) }
+    ensures tree { OnErr result (F.told files.new ≡ F.told files.old) }
     ensures io { IsErrOf result errors.SaveConfigIo → Rose (F.faults files.old) (F.faults files.new) }
     ensures counts { Counts (F.faults files.old) (F.faults files.new) }
     ensures may_fail { F.may_fail files.new ≡ F.may_fail files.old }

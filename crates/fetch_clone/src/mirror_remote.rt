@@ -37,8 +37,7 @@ pub fn append_config_to_repo_config(
 }
 
 /// Saves the remote by itself under a valid name, which it then has, and writes its section into the file `config`, in place
-/// of those of that name. It answers the file of that section. After an error the remote is as before, and where the file
-/// was refused it is as that call left it.
+/// of those of that name. It answers the file of that section. After an error the remote and the files are as before.
 pub fn append_remote_to_local_config_file<F: Files>(
     alloc: Global,
     files: &mut F,
