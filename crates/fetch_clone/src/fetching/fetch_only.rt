@@ -33,7 +33,8 @@ where
     /// Fetches into the repository that was created, and gives it. The remote is saved in the file `config` before, and `HEAD`
     /// takes what the remote says afterwards. Each peer is taken back before the next one is made, and before the call returns.
     ///
-    /// After success it is `Consumed`. After any other refusal it may be called again; what was done before the refusal stays.
+    /// After success it is `Consumed`, and nothing is done or changed. After any other refusal it may be called again; what was
+    /// done before the refusal stays.
     pub fn fetch_only<T: Threads + Sync, Q: Progress, I: Interrupt, W: Worktrees>(
         &mut self,
         rt: &T,
@@ -43,7 +44,7 @@ where
     ) -> Result<(Repository, Outcome), Error>
         requires remote { R.IsAlwaysCallable self.old.configure_remote }
         requires connection { G.IsAlwaysCallable self.old.configure_connection }
-        ensures consumed { self.old.draft.repo ≡ None → result ≡ Err errors.Consumed }
+        ensures consumed { self.old.draft.repo ≡ None → (result ≡ Err errors.Consumed) × (self.new ≡ self.old) }
         ensures cloned { IfOk result (λ done. (found : RepositoryValue) × (self.old.draft.repo ≡ Some found) × IsCloned (λ remote answer. R.step self.old.configure_remote remote answer self.new.configure_remote) (ways (CalledAtMut G.FnMut) C.Peer.told C.Peer.answers) (line (C.left self.old.maker) (C.taken self.old.maker) (C.addresses self.old.maker) self.old.configure_connection) (line (C.left self.new.maker) (C.taken self.new.maker) (C.addresses self.new.maker) self.new.configure_connection) (W.told worktrees.old) (F.told self.old.files) (F.told self.new.files) (without_repo self.old.draft) found done.0 done.1) }
         ensures spent { OnOk result (self.new.draft ≡ without_repo self.old.draft) }
         // Before success the repository stays as the refusal leaves it.

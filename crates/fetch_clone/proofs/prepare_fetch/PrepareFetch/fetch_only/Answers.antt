@@ -1,6 +1,11 @@
-use Rattle.std.proofs.Common.{◌≡◌, Some, None, refl, sym, ◌∙◌, arith}
+use Rattle.std.proofs.Common.{◌≡◌, Option, Some, None, refl, sym, ap, ◌∙◌, arith}
+use Rattle.fetch_remote.specs.RepositoryValues.{RepositoryValue}
 use Rattle.fetch_clone.proofs.Counted.{later-none}
 use Rattle.fetch_clone.proofs.prepare_fetch.PrepareFetch.fetch_only.Goals as goal
+
+pub returns-in_default-clause-consumed : goal.returns-in_default-clause-consumed
+returns-in_default-clause-consumed g c none =
+    (refl, ap (λ (r : Option RepositoryValue). record c.args.self.now { draft = record c.args.self.now.draft { repo = r } }) (c.take.ensures.after ∙ sym none))
 
 pub returns-in_default-clause-refused : goal.returns-in_default-clause-refused
 returns-in_default-clause-refused g c =
