@@ -5,7 +5,7 @@ use Rattle.std.proofs.lemmas.Bool.{false≢true}
 use Rattle.fetch_store.specs.FileCalls.{Changes, IsRefused}
 use Rattle.fetch_store.specs.Paths.{parts_of}
 use Rattle.fetch_store.specs.declared.file_error.Failed.{Failed}
-use Rattle.fetch_store.specs.Faults.{Faults, Counts, Rose, Rose-later}
+use Rattle.fetch_store.specs.Faults.{Faults, Counts, Rose}
 use Rattle.fetch_store.specs.Trees.{Tree, without_all}
 use Rattle.fetch_remote.specs.Finding.{is_no_address}
 use Rattle.fetch_clone.specs.Drafts.{IsNoted, IsPrepareRefusal, IsRemoved, init_refusal, is_clone_fault, strict}
@@ -16,22 +16,16 @@ use Rattle.fetch_clone.specs.declared.clone.Error.TheVariants as clones
 use Rattle.fetch_clone.specs.declared.init.Error.{Error}
 use Rattle.fetch_clone.specs.declared.init.Error.TheVariants as initial
 
--- ---- the note
-
-pub noted-later : (was mid is : Faults) (before : Option Tree) (place : List ℕ) (free : Bool) → IsNoted was mid before place free → Counts mid is → IsNoted was is before place free
-noted-later was mid is before place free (inl l) counts = inl l
-noted-later was mid is before place free (inr r) counts = inr (r.0, Rose-later was mid is r.1 counts)
-
 -- ---- the clone
 
 -- No repository was created or opened at the place that was noted.
-pub unprepared : (was is : Faults) (may_fail : Bool) (before now : Option Tree) (url place : List ℕ) (free : Bool) (making : Making) (e : Error) → is_no_address url ≡ false
-    → IsNoted was is before place free → IsInitRefusal may_fail before (steps_of place making.kind (strict making.options)) (new_of place making.kind (strict making.options) making.committer making.open_options) now e
+pub unprepared : (was failed is : Faults) (may_fail : Bool) (before now : Option Tree) (url place : List ℕ) (free : Bool) (making : Making) (e : Error) → is_no_address url ≡ false
+    → IsNoted was failed before place free → Counts failed is → IsInitRefusal may_fail before (steps_of place making.kind (strict making.options)) (new_of place making.kind (strict making.options) making.committer making.open_options) now e
     → IsPrepareRefusal was is may_fail before url place making now (init_refusal e)
-unprepared was is may_fail before now url place free making (initial.Init x) address noted why = (address, record { free = free; noted = noted; why = why })
-unprepared was is may_fail before now url place free making (initial.Open x) address noted why = (address, record { free = free; noted = noted; why = why })
-unprepared was is may_fail before now url place free making (initial.InvalidBranchName x) address noted why = (address, record { free = free; noted = noted; why = why })
-unprepared was is may_fail before now url place free making initial.NoMemory address noted why = why
+unprepared was failed is may_fail before now url place free making (initial.Init x) address noted later why = (address, record { free = free; failed = failed; noted = noted; later = later; why = why })
+unprepared was failed is may_fail before now url place free making (initial.Open x) address noted later why = (address, record { free = free; failed = failed; noted = noted; later = later; why = why })
+unprepared was failed is may_fail before now url place free making (initial.InvalidBranchName x) address noted later why = (address, record { free = free; failed = failed; noted = noted; later = later; why = why })
+unprepared was failed is may_fail before now url place free making initial.NoMemory address noted later why = why
 
 pub preparing-fault : (was is : Faults) (e : Error) → (IsTrue (is_init_fault e) → Rose was is) → IsTrue (is_clone_fault (init_refusal e)) → Rose was is
 preparing-fault was is (initial.Init x) rose t = rose t

@@ -2,7 +2,7 @@
 use Rattle.std.specs.Prelude.{◌≡◌, ℕ, ◌==◌, ◌||◌, Bool, true, false, ◌⊎◌, List, [], ◌∷◌, Option, Some, None, IfSome, is_some, unwrap_or, if◌then◌else◌}
 use Rattle.std.specs.List.{list_any}
 use Rattle.fetch_store.specs.FileCalls.{IsRefused}
-use Rattle.fetch_store.specs.Faults.{Faults, Rose}
+use Rattle.fetch_store.specs.Faults.{Faults, Counts, Rose}
 use Rattle.fetch_store.specs.Paths.{parts_of}
 use Rattle.fetch_store.specs.Trees.{Tree, without_all}
 use Rattle.fetch_refs.specs.declared.log.Signature.{Signature}
@@ -33,9 +33,9 @@ is_free (Some None) = true
 is_free (Some (Some [])) = true
 is_free (Some (Some (name ∷ names))) = false
 
--- Before anything is made it is noted whether the place is free; a listing that failed counts as no.
+-- Before anything is made it is noted whether the place is free; where the listing failed, which its count tells, it isn't.
 abbrev pub IsNoted : Faults → Faults → Option Tree → List ℕ → Bool → Type 0
-IsNoted was is before place free = IfSome before (λ t. free ≡ is_free (listed_in t place)) ⊎ ((free ≡ false) × Rose was is)
+IsNoted was is before place free = ((is.count ≡ was.count) × IfSome before (λ t. free ≡ is_free (listed_in t place))) ⊎ ((free ≡ false) × Rose was is)
 
 -- A clone's place has to be empty, unless the options say otherwise.
 abbrev pub strict : Options → Options
@@ -44,7 +44,10 @@ strict options = record options { destination_must_be_empty = Some (unwrap_or op
 -- The place was noted, and an empty repository was created and opened there.
 pub record IsPrepared (was is : Faults) (before : Option Tree) (url place : List ℕ) (making : Making) (now : Option Tree) (draft : Draft) : Type 0 where
   pub address : is_no_address url ≡ false
-  pub noted : IsNoted was is before place draft.free
+  -- The files had failed so often once the place was noted.
+  pub failed : Faults
+  pub noted : IsNoted was failed before place draft.free
+  pub later : Counts failed is
   pub created : Reaches before (steps_of place making.kind (strict making.options)) now
   pub opened : is_some draft.repo ≡ true
   pub repo : IfSome draft.repo (IsInitial now (new_of place making.kind (strict making.options) making.committer making.open_options))
@@ -58,7 +61,9 @@ pub record IsPrepared (was is : Faults) (before : Option Tree) (url place : List
 -- The place was noted, and no repository was created or opened there.
 pub record IsUnprepared (was is : Faults) (may_fail : Bool) (before : Option Tree) (place : List ℕ) (making : Making) (now : Option Tree) (e : InitError) : Type 0 where
   pub free : Bool
-  pub noted : IsNoted was is before place free
+  pub failed : Faults
+  pub noted : IsNoted was failed before place free
+  pub later : Counts failed is
   pub why : IsInitRefusal may_fail before (steps_of place making.kind (strict making.options)) (new_of place making.kind (strict making.options) making.committer making.open_options) now e
 
 -- Out of memory is never wrapped.

@@ -2,7 +2,7 @@ use Rattle.std.proofs.Common.{◌≡◌, refl, sym, ◌∙◌}
 use Rattle.std.proofs.lemmas.Bool.{false≢true}
 use Rattle.std.proofs.lemmas.Result.{err_from_is_err_and}
 use Rattle.fetch_store.specs.Faults.{Rose-earlier}
-use Rattle.fetch_clone.proofs.Prepared.{has-address, noted-later, preparing-fault, unprepared}
+use Rattle.fetch_clone.proofs.Prepared.{has-address, preparing-fault, unprepared}
 use Rattle.fetch_clone.specs.Drafts.{init_refusal}
 use Rattle.fetch_clone.specs.declared.clone.Error.TheVariants as errors
 use Rattle.fetch_clone.proofs.draft.prepare.Goals as goal
@@ -10,11 +10,10 @@ use Rattle.fetch_clone.proofs.draft.prepare.Goals as goal
 pub returns-in_err-repo-clause-refused : goal.returns-in_err-repo-clause-refused
 returns-in_err-repo-clause-refused g c =
     let p = err_from_is_err_and c.from_residual-in_err-repo.result c.from_residual-in_err-repo.ensures.1 in
-    let noted = noted-later (g.F.Files.faults c.args.files.now) (g.F.Files.faults c.is_free.new.files) (g.F.Files.faults c.init_opts.new.files) (g.F.Files.told c.args.files.now) c.in_ok-place.place c.in_ok-free.free c.in_ok-free.ensures.noted c.in_err-repo.ensures.counts in
     let why = rw (c.as_bytes.ensures, c.in_ok-place.ensures, c.strict-options.ensures, c.in_ok-free.ensures.may_fail, c.in_ok-free.ensures.tree) at c.in_err-repo.ensures.refused in
     rw (p.1, p.2)
-    (unprepared (g.F.Files.faults c.args.files.now) (g.F.Files.faults c.init_opts.new.files) (g.F.Files.may_fail c.args.files.now) (g.F.Files.told c.args.files.now) (g.F.Files.told c.init_opts.new.files) c.args.url.now c.args.place.now c.in_ok-free.free c.args.making c.in_err-repo.field-0.0
-    (sym c.is_no_address.ensures ∙ c.if-is_no_address.false) (rw c.in_ok-place.ensures at noted) why)
+    (unprepared (g.F.Files.faults c.args.files.now) (g.F.Files.faults c.is_free.new.files) (g.F.Files.faults c.init_opts.new.files) (g.F.Files.may_fail c.args.files.now) (g.F.Files.told c.args.files.now) (g.F.Files.told c.init_opts.new.files) c.args.url.now c.args.place.now c.in_ok-free.free c.args.making c.in_err-repo.field-0.0
+    (sym c.is_no_address.ensures ∙ c.if-is_no_address.false) (rw c.in_ok-place.ensures at c.in_ok-free.ensures.noted) c.in_err-repo.ensures.counts why)
 
 pub returns-in_err-repo-clause-untouched : goal.returns-in_err-repo-clause-untouched
 returns-in_err-repo-clause-untouched g c is =
@@ -42,10 +41,11 @@ returns-in_err-opened-clause-cause g c =
 
 pub returns-clause-ok : goal.returns-clause-ok
 returns-clause-ok g c =
-    let noted = noted-later (g.F.Files.faults c.args.files.now) (g.F.Files.faults c.is_free.new.files) (g.F.Files.faults c.init_opts.new.files) (g.F.Files.told c.args.files.now) c.in_ok-place.place c.in_ok-free.free c.in_ok-free.ensures.noted c.in_ok-repo.ensures.counts in
     record {
       address = sym c.is_no_address.ensures ∙ c.if-is_no_address.false;
-      noted = rw c.in_ok-place.ensures at noted;
+      failed = g.F.Files.faults c.is_free.new.files;
+      noted = rw c.in_ok-place.ensures at c.in_ok-free.ensures.noted;
+      later = c.in_ok-repo.ensures.counts;
       created = rw (c.as_bytes.ensures, c.in_ok-place.ensures, c.strict-options.ensures, c.in_ok-free.ensures.tree) at c.in_ok-repo.ensures.created;
       opened = refl;
       overrides = c.in_ok-opened.ensures;
