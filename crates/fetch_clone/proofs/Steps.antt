@@ -2,16 +2,17 @@
 use Rattle.std.proofs.Common.{◌≡◌, ℕ, ◌+◌, ◌<◌, ◌≤◌, Bool, true, false, get_or, subst, sym, List, [], ◌∷◌, ◌++◌, take, length, Option, Some, None, Result, Ok, Err, IfErr, IsErrAnd, IfSome, refl, ap, ◌∙◌, arith}
 use Rattle.std.proofs.lemmas.List.{take_more}
 use Rattle.std.specs.Option.{option_and_then}
-use Rattle.fetch_store.specs.Trees.{Tree}
+use Rattle.fetch_store.specs.Paths.{parts_of}
+use Rattle.fetch_store.specs.Trees.{Tree, with_directories}
 use Rattle.fetch_clone.specs.declared.step.Step.{Step}
 use Rattle.fetch_clone.specs.declared.create.Error.{Error}
-use Rattle.fetch_clone.specs.declared.create.Error.TheVariants.{NoMemory}
+use Rattle.fetch_clone.specs.declared.create.Error.TheVariants.{IoOpen, IoWrite, CreateDirectory, DirectoryNotEmpty, DirectoryExists, NoMemory}
 use Rattle.fetch_clone.specs.declared.create.Kind.{Kind as Layout}
 use Rattle.fetch_clone.specs.declared.create.Kind.TheVariants as kinds
 use Rattle.fetch_clone.specs.declared.step.Step.TheVariants.{Clear, Vacant, Directory, File}
 use Rattle.fetch_clone.specs.declared.create.Options.{Options}
 use Rattle.fetch_clone.specs.Plans.{steps_of, cleared, vacated, contents_of, must_be_empty, path_of, configuration_in}
-use Rattle.fetch_clone.specs.Creation.{Makes, Reaches, IsStopped, IsStopAt, HasEntry, listed_in, tree_after, tree_after_all}
+use Rattle.fetch_clone.specs.Creation.{Makes, Reaches, IsOpenRefusal, IsStopped, IsStopAt, HasEntry, listed_in, opened_in, tree_after, tree_after_all}
 
 -- no step
 pub none : (before : Option Tree) → Reaches before [] before
@@ -41,6 +42,37 @@ pub has-entry : (told : Option Tree) (path : List ℕ) (names : List (List ℕ))
 has-entry None path names e some = tt
 has-entry (Some t) path [] e some = absurd (omega arith)
 has-entry (Some t) path (name ∷ names) e some = (name, names, e)
+
+-- A directory that can't be listed isn't opened.
+pub unlisted : (may_fail : Bool) (stood now : Option Tree) (path : List ℕ) (e : Error) → IsOpenRefusal may_fail stood path (λ t. listed_in t path) now e → IsStopAt may_fail stood (Clear path) now e
+unlisted may_fail stood now path (IoOpen told) r = (r.0, r.1, λ no. by stood (r.2 no))
+  where
+    by : (o : Option Tree) → IfSome o (λ t. listed_in t path ≡ None) → IfSome o (λ t. opened_in t path (listed_in t path) ≡ None)
+    by None h = tt
+    by (Some t) h = ap (opened_in t path) h
+unlisted may_fail stood now path (IoWrite told) r = absurd r
+unlisted may_fail stood now path (CreateDirectory told) r = absurd r
+unlisted may_fail stood now path (DirectoryNotEmpty told) r = absurd r
+unlisted may_fail stood now path (DirectoryExists told) r = absurd r
+unlisted may_fail stood now path NoMemory r = r
+
+-- An absent directory that can't be made isn't opened.
+pub unopened : (may_fail : Bool) (stood now : Option Tree) (path : List ℕ) (e : Error) → IfSome stood (λ t. listed_in t path ≡ Some None) → IsOpenRefusal may_fail stood path (λ t. with_directories t (parts_of path)) now e → IsStopAt may_fail stood (Clear path) now e
+unopened may_fail stood now path (IoOpen told) absent r = (r.0, r.1, λ no. by stood absent (r.2 no))
+  where
+    by : (o : Option Tree) → IfSome o (λ t. listed_in t path ≡ Some None) → IfSome o (λ t. with_directories t (parts_of path) ≡ None) → IfSome o (λ t. opened_in t path (listed_in t path) ≡ None)
+    by None a h = tt
+    by (Some t) a h = ap (opened_in t path) a ∙ h
+unopened may_fail stood now path (IoWrite told) absent r = absurd r
+unopened may_fail stood now path (CreateDirectory told) absent r = absurd r
+unopened may_fail stood now path (DirectoryNotEmpty told) absent r = absurd r
+unopened may_fail stood now path (DirectoryExists told) absent r = absurd r
+unopened may_fail stood now path NoMemory absent r = r
+
+-- the same of a result
+pub unopened-err : {X : Type 0} (may_fail : Bool) (stood now : Option Tree) (path : List ℕ) (r : Result X Error) → IfSome stood (λ t. listed_in t path ≡ Some None) → IfErr r (IsOpenRefusal may_fail stood path (λ t. with_directories t (parts_of path)) now) → IfErr r (IsStopAt may_fail stood (Clear path) now)
+unopened-err may_fail stood now path (Ok x) absent r = tt
+unopened-err may_fail stood now path (Err e) absent r = unopened may_fail stood now path e absent r
 
 -- a loop that takes one step more
 pub next-step : (before stood now : Option Tree) (steps : List Step) (i : ℕ) (step : Step) → i < length steps → get_or steps i step ≡ step

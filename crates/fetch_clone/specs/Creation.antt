@@ -77,11 +77,16 @@ IsOpenRefusal may_fail stood path asked now (IoOpen told) = (told ≡ path) × (
 IsOpenRefusal may_fail stood path asked now NoMemory = now ≡ stood
 IsOpenRefusal may_fail stood path asked now e = ⊥
 
+-- what opens a directory that is to have no entry: it is listed, or made where nothing stands there. None: it is refused.
+abbrev pub opened_in : Tree → List ℕ → Option (Option (List (List ℕ))) → Option Tree
+opened_in t path None = None
+opened_in t path (Some None) = with_directories t (parts_of path)
+opened_in t path (Some (Some names)) = Some t
+
 -- Why a step is refused, at the tree that stood then, which stays.
 abbrev pub IsStopAt : Bool → Option Tree → Step → Option Tree → Error → Type 0
 IsStopAt may_fail stood (Clear path) now (DirectoryNotEmpty told) = (told ≡ path) × (now ≡ stood) × IfSome stood (λ t. HasEntry t path)
-IsStopAt may_fail stood (Clear path) now (IoOpen told) = (told ≡ path) × (now ≡ stood) × IsRefused may_fail stood (λ t. listed_in t path)
-IsStopAt may_fail stood (Clear path) now (CreateDirectory told) = (told ≡ path) × (now ≡ stood) × IsRefused may_fail stood (λ t. with_directories t (parts_of path))
+IsStopAt may_fail stood (Clear path) now (IoOpen told) = (told ≡ path) × (now ≡ stood) × IsRefused may_fail stood (λ t. opened_in t path (listed_in t path))
 IsStopAt may_fail stood (Vacant path) now (DirectoryExists told) = (told ≡ path) × (now ≡ stood) × IfSome stood (λ t. kind_in t (parts_of path) ≡ Some (Some nodes.Directory))
 IsStopAt may_fail stood (Vacant path) now (IoOpen told) = (told ≡ path) × (now ≡ stood) × IsRefused may_fail stood (λ t. kind_in t (parts_of path))
 IsStopAt may_fail stood (Directory path) now (CreateDirectory told) = (told ≡ path) × (now ≡ stood) × IsRefused may_fail stood (λ t. with_directories t (parts_of path))

@@ -56,8 +56,8 @@ pub struct Path {
 /// Why a repository wasn't created. What was written before stays.
 #[derive(Debug, Drop, PartialEq, Eq, ThisError)]
 pub enum Error {
-    /// The files failed where they were asked what is there.
-    #[error("a directory couldn't be read")]
+    /// The directory that has to be empty couldn't be listed, or made; or the files failed where they were asked what is there.
+    #[error("a directory couldn't be opened")]
     IoOpen { path: Text },
     /// The files failed to write a file.
     #[error("a file couldn't be written")]

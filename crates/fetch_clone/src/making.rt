@@ -3,7 +3,7 @@
 ghost use Rattle.std.specs.Prelude.{◌≡◌, Some, IfOk, IfErr, IfSome, OnOk, IsTrue, option_map};
 ghost use Rattle.fetch_store.specs.Faults.{Rose, Counts};
 ghost use Rattle.fetch_store.specs.Paths.{parts_of};
-ghost use Rattle.fetch_store.specs.Trees.{kind_in};
+ghost use Rattle.fetch_store.specs.Trees.{kind_in, with_directories};
 ghost use Rattle.fetch_clone.specs.Creation.{Makes, Reaches, IsStopped, IsStopAt, IsOpenRefusal, listed_in, is_fault};
 ghost use Rattle.fetch_clone.specs.declared.step.Step.TheVariants as steps;
 
@@ -49,13 +49,30 @@ fn clear<F: Files>(files: &mut F, path: &Text) -> Result<(), Error>
     ensures may_fail { F.may_fail files.new ≡ F.may_fail files.old }
 {
     match listed(files, path)? {
-        None => make_directory(files, path),
+        None => open_absent(files, path),
         Some(names) => match names.as_slice() {
             [] => Ok(()),
             [_, ..] => Err(Error::DirectoryNotEmpty {
                 path: path.try_clone()?,
             }),
         },
+    }
+}
+
+/// Makes a directory that is to be opened, and is absent.
+fn open_absent<F: Files>(files: &mut F, path: &Text) -> Result<(), Error>
+    ensures done { OnOk result (Makes (F.told files.old) (steps.Directory path.now) (F.told files.new)) }
+    ensures refused { IfErr result (IsOpenRefusal (F.may_fail files.old) (F.told files.old) path.now (λ t. with_directories t (parts_of path.now)) (F.told files.new)) }
+    ensures cause { IfErr result (λ e. IsTrue (is_fault e) → Rose (F.faults files.old) (F.faults files.new)) }
+    ensures counts { Counts (F.faults files.old) (F.faults files.new) }
+    ensures may_fail { F.may_fail files.new ≡ F.may_fail files.old }
+{
+    match files.make_dir_all(path.as_bytes()) {
+        Ok(()) => Ok(()),
+        Err(FileError::Failed) => Err(Error::IoOpen {
+            path: path.try_clone()?,
+        }),
+        Err(FileError::NoMemory) => Err(Error::NoMemory),
     }
 }
 
