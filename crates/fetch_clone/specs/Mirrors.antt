@@ -37,14 +37,18 @@ pub record IsUnmirrored (may_fail : Bool) (told : Option Tree) (setup : Setup) (
   pub tree : now ≡ told
   pub refused : IsRefused may_fail told (λ t. written t (parts_of_path (path_of setup)) (text_of (replaced section.sections local).sections))
 
--- The remote can't be saved; the file is missing, can't be read or breaks the grammar; or it can't be written.
+-- The remote can be saved under this name.
+abbrev pub IsSaveable : RemoteValue → List ℕ → Type 0
+IsSaveable remote name = save_as_verdict name (parts_of remote) ≡ Ok tt
+
+-- The remote can't be saved; or it can, and the file is missing, can't be read or breaks the grammar; or that can't be written.
 abbrev pub IsMirrorRefusal : Bool → Option Tree → Setup → RemoteValue → List ℕ → Option Tree → Error → Type 0
 IsMirrorRefusal may_fail told setup remote name now errors.NoMemory = now ≡ told
 IsMirrorRefusal may_fail told setup remote name now (errors.SaveConfig e) = (now ≡ told) × (save_as_verdict name (parts_of remote) ≡ Err e)
-IsMirrorRefusal may_fail told setup remote name now (errors.LoadConfig opening.Io) = (now ≡ told) × IsRefused may_fail told (λ t. read_in t (parts_of_path (path_of setup)))
+IsMirrorRefusal may_fail told setup remote name now (errors.LoadConfig opening.Io) = (now ≡ told) × IsSaveable remote name × IsRefused may_fail told (λ t. read_in t (parts_of_path (path_of setup)))
 IsMirrorRefusal may_fail told setup remote name now (errors.LoadConfig opening.NoMemory) = ⊥
-IsMirrorRefusal may_fail told setup remote name now (errors.LoadConfig e) = (now ≡ told) × IsRefusedAt told (path_of setup) e
-IsMirrorRefusal may_fail told setup remote name now errors.SaveConfigIo = IsUnmirrored may_fail told setup (section_of setup remote name) now
+IsMirrorRefusal may_fail told setup remote name now (errors.LoadConfig e) = (now ≡ told) × IsSaveable remote name × IsRefusedAt told (path_of setup) e
+IsMirrorRefusal may_fail told setup remote name now errors.SaveConfigIo = IsSaveable remote name × IsUnmirrored may_fail told setup (section_of setup remote name) now
 IsMirrorRefusal may_fail told setup remote name now e = ⊥
 
 -- why a remote isn't saved by itself

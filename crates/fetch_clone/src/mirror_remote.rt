@@ -37,7 +37,8 @@ pub fn append_config_to_repo_config(
 }
 
 /// Saves the remote by itself under a valid name, which it then has, and writes its section into the file `config`, in place
-/// of those of that name. It answers the file of that section. After an error the remote and the files are as before.
+/// of those of that name. It answers the file of that section. `SaveConfig` comes before the file is read. After an error
+/// the remote and the files are as before.
 pub fn append_remote_to_local_config_file<F: Files>(
     alloc: Global,
     files: &mut F,
@@ -78,6 +79,7 @@ fn saved_alone(
 ) -> Result<File, Error>
     ensures section { IfOk result (λ section. section ≡ mirrors.section_of (setup_of repo.now) remote.old name.now) }
     ensures named { OnOk result (remote.new ≡ renamed (valid_name name.now) remote.old) }
+    ensures saveable { OnOk result (mirrors.IsSaveable remote.old name.now) }
     ensures refused { IfErr result (mirrors.IsUnsavedAs remote.old name.now) }
 {
     let meta = repo.local().meta().try_clone()?;
