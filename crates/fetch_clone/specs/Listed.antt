@@ -3,6 +3,7 @@ use Rattle.std.specs.Prelude.{◌≡◌, ◌⊎◌, ℕ, Bool, true, false, not,
 use Rattle.std.specs.List.{list_any}
 use Rattle.std.specs.Str.{bytes_eq}
 use Rattle.fetch_store.specs.Faults.{Faults, Counts}
+use Rattle.fetch_update.specs.Policy.{is_forced}
 use Rattle.fetch_wire.specs.Talks.{Talk}
 use Rattle.fetch_specs.specs.Parses.{parsed}
 use Rattle.fetch_specs.specs.Specs.{Spec}
@@ -40,9 +41,9 @@ head_at name = tracking_of name (codes "HEAD")
 abbrev pub head_text : List ℕ → List ℕ
 head_text place = codes "HEAD:" ++ place
 
--- whether a refspec is that of the remote's `HEAD`
+-- whether a refspec is that of the remote's `HEAD`: one by force is the caller's own
 abbrev pub is_head : List ℕ → Spec → Bool
-is_head place spec = is_same_side spec.source (Some (codes "HEAD")) && is_same_side spec.destination (Some place)
+is_head place spec = not (is_forced spec.mode) && (is_same_side spec.source (Some (codes "HEAD")) && is_same_side spec.destination (Some place))
 
 -- These are the refspecs that a text says, where there is one.
 abbrev pub Says : Option (List ℕ) → List Spec → Type 0

@@ -8,6 +8,7 @@ ghost use Rattle.fetch_store.specs.Faults.{Counts, Rose};
 ghost use Rattle.fetch_conversation.specs.declared.prepare.Error.TheVariants as prepare_errors;
 ghost use Rattle.fetch_conversation.specs.declared.ref_map.Error.TheVariants as ref_map_errors;
 ghost use Rattle.fetch_remote.specs.Connecting.{TakesBack, out_after};
+ghost use Rattle.fetch_update.specs.Policy.{is_forced as is_by_force};
 ghost use Rattle.fetch_remote.specs.Repositories.{setup_of};
 ghost use Rattle.fetch_remote.specs.Steps.{BreaksOff, HasListed, options_with};
 ghost use Rattle.fetch_clone.specs.Listed as spec;
@@ -298,9 +299,17 @@ fn has_head(place: &[u8], specs: &[RefSpec]) -> bool
     specs.iter().any(|s| is_head(place, s))
 }
 
-/// Whether a refspec is that of the remote's `HEAD`.
+/// Whether a refspec is that of the remote's `HEAD`. One by force is the caller's own.
 fn is_head(place: &[u8], s: &RefSpec) -> bool
     ensures { result ≡ spec.is_head place.now s.now }
 {
-    is_same_side(s.source(), Some(b"HEAD")) && is_same_side(s.destination(), Some(place))
+    !is_forced(s)
+        && is_same_side(s.source(), Some(b"HEAD"))
+        && is_same_side(s.destination(), Some(place))
+}
+
+fn is_forced(s: &RefSpec) -> bool
+    ensures { result ≡ is_by_force s.now.mode }
+{
+    s.allow_non_fast_forward()
 }
