@@ -1,5 +1,5 @@
 -- What each step of a clone's fetch makes of the calls before it.
-use Rattle.std.proofs.Common.{◌≡◌, ℕ, Bool, true, false, List, Option, Some, None, Result, Ok, Err, IsErrAnd, refl, sym, ap, subst, ◌∙◌, inl, inr}
+use Rattle.std.proofs.Common.{◌≡◌, ℕ, Bool, true, false, List, [], ◌∷◌, Option, Some, None, Result, Ok, Err, IsErrAnd, refl, sym, ap, subst, ◌∙◌, inl, inr}
 use Rattle.std.specs.Bool.{OnFalse}
 use Rattle.std.specs.Prelude.{IfErr, IfOk}
 use Rattle.fetch_store.specs.Faults.{Faults, Rose}
@@ -25,7 +25,7 @@ use Rattle.fetch_remote.specs.declared.repository.open_error.OpenError.TheVarian
 use Rattle.fetch_clone.specs.Counted.{Meters, IsCounted}
 use Rattle.fetch_clone.specs.Heading.{IsToldAs}
 use Rattle.fetch_clone.specs.Meant.{is_memory, meant_in}
-use Rattle.fetch_clone.specs.Reached.{Ways, Line, IsTurnedAway, IsUnreached, connecting, turned_away}
+use Rattle.fetch_clone.specs.Reached.{Ways, Line, IsTurnedAway, IsUnreached, connecting, line, turned_away}
 use Rattle.fetch_clone.specs.Received.{IsNotTaken, IsOfReceiving, IsReceived, IsTaken, IsUnmapped, IsUnreceived}
 use Rattle.fetch_clone.specs.Stages.{listing, preparing, receiving}
 use Rattle.fetch_clone.specs.declared.aim.Unaimed.TheVariants as unaimed
@@ -43,18 +43,34 @@ use Rattle.fetch_clone.proofs.StepsCounted.{received-counted}
 
 -- ---- peers
 
-pub unreached : (P : Type 0) (refused : List ℕ → Type 0) (was is : Faults) (url : Option (List ℕ)) (e : ConnectError) → IsMissing {P = P} url Fetch (Err e) → (e ≡ connect.Connect → Rose was is) → IsUnreached refused was is url (connecting e)
-unreached P refused was is None (connect.MissingUrl d) missing rose = (refl, (let h : connect.MissingUrl d ≡ connect.MissingUrl Fetch = missing in cc))
-unreached P refused was is None connect.Connect missing rose = rose refl
-unreached P refused was is None connect.NoMemory missing rose = tt
-unreached P refused was is (Some url) (connect.MissingUrl d) missing rose = absurd missing
-unreached P refused was is (Some url) connect.Connect missing rose = rose refl
-unreached P refused was is (Some url) connect.NoMemory missing rose = tt
+-- No peer was made.
+pub none-made : {P E : Type 0} (before after : Option (List P)) (e : E) → Makes before after (Err e) → after ≡ before
+none-made None after e made = made
+none-made (Some []) after e made = made
+none-made (Some (first ∷ left)) after e made = made
 
-pub turned : {G P : Type 0} (w : Ways G P) (was is : Faults) (before after : Line G P) (url : Option (List ℕ)) (made peer : P) (fault : ConfigureFault) → Makes {E = ConnectError} before.left after.left (Ok made)
-    → MakesAtFirst {E = ConnectError} url before.addresses after.addresses (Ok made) → w.calls before.closure made (Err fault) after.closure peer → TakesBack before.taken after.taken peer → IsUnreached (IsTurnedAway w url before after) was is url (turned_away fault)
-turned w was is before after url made peer (faults.Refused text) next at refused given = record { made = made; next = next; at = at; peer = peer; refused = refused; given = given }
-turned w was is before after url made peer faults.NoMemory next at refused given = tt
+pub none-at : {P E : Type 0} (url : Option (List ℕ)) (before after : Option (List (List ℕ))) (e : E) → MakesAtFirst {P = P} url before after (Err e) → after ≡ before
+none-at None before after e made = made
+none-at (Some url) None after e made = made
+none-at (Some url) (Some addresses) after e made = made
+
+-- the same peers and addresses
+pub same-line : {G P : Type 0} (left left_after taken taken_after : Option (List P)) (addresses addresses_after : Option (List (List ℕ))) (closure : G) → left_after ≡ left → taken_after ≡ taken → addresses_after ≡ addresses
+    → line left_after taken_after addresses_after closure ≡ line left taken addresses closure
+same-line left left_after taken taken_after addresses addresses_after closure p q r = rw (p, q, r) refl
+
+pub unreached : (P : Type 0) (refused : ConfigureFault → Type 0) (unmade : Type 0) (was is : Faults) (url : Option (List ℕ)) (e : ConnectError) → unmade → IsMissing {P = P} url Fetch (Err e) → (e ≡ connect.Connect → Rose was is) → IsUnreached refused unmade was is url (connecting e)
+unreached P refused unmade was is None (connect.MissingUrl d) none missing rose = (refl, (let h : connect.MissingUrl d ≡ connect.MissingUrl Fetch = missing in cc), none)
+unreached P refused unmade was is None connect.Connect none missing rose = (rose refl, none)
+unreached P refused unmade was is None connect.NoMemory none missing rose = inl none
+unreached P refused unmade was is (Some url) (connect.MissingUrl d) none missing rose = absurd missing
+unreached P refused unmade was is (Some url) connect.Connect none missing rose = (rose refl, none)
+unreached P refused unmade was is (Some url) connect.NoMemory none missing rose = inl none
+
+pub turned : {G P : Type 0} (w : Ways G P) (unmade : Type 0) (was is : Faults) (before after : Line G P) (url : Option (List ℕ)) (made peer : P) (fault : ConfigureFault) → Makes {E = ConnectError} before.left after.left (Ok made)
+    → MakesAtFirst {E = ConnectError} url before.addresses after.addresses (Ok made) → w.calls before.closure made (Err fault) after.closure peer → TakesBack before.taken after.taken peer → IsUnreached (IsTurnedAway w url before after) unmade was is url (turned_away fault)
+turned w unmade was is before after url made peer (faults.Refused text) next at refused given = record { made = made; next = next; at = at; peer = peer; refused = refused; given = given }
+turned w unmade was is before after url made peer faults.NoMemory next at refused given = inr (record { made = made; next = next; at = at; peer = peer; refused = refused; given = given })
 
 -- ---- refusals that are told
 

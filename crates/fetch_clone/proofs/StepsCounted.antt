@@ -32,35 +32,36 @@ use Rattle.fetch_clone.specs.declared.choices.Wanted.TheVariants.{Everything, Re
 use Rattle.fetch_clone.specs.declared.clone.fetch.Error.{Error}
 use Rattle.fetch_clone.specs.declared.clone.fetch.Error.TheVariants as errors
 use Rattle.fetch_clone.specs.declared.draft.Draft.{Draft}
+use Rattle.fetch_clone.specs.declared.prepare_fetch.ConfigureFault.{ConfigureFault}
 use Rattle.fetch_clone.proofs.Uncounted.{uncounted, override-uncounted, name-uncounted, choice-uncounted, same-uncounted, told-as-uncounted, target-uncounted}
 
 -- ---- peers
 
 -- no peer was reached
-pub unreached-counted : (refused : List ℕ → Type 0) (was is : Meters) (url : Option (List ℕ)) (e : Error) → IsUnreached refused was.made is.made url e → IsCounted was is e
-unreached-counted refused was is url errors.Consumed h = tt
-unreached-counted refused was is url (errors.ParseConfig x) h = tt
-unreached-counted refused was is url (errors.RemoteName x) h = tt
-unreached-counted refused was is url (errors.Connect (connect.MissingUrl x)) h = tt
-unreached-counted refused was is url (errors.Connect connect.Connect) h = h
-unreached-counted refused was is url (errors.Connect connect.NoMemory) h = tt
-unreached-counted refused was is url (errors.RemoteConnection x) h = tt
-unreached-counted refused was is url (errors.RefMap x) h = absurd h
-unreached-counted refused was is url (errors.RefNameMissing x) h = tt
-unreached-counted refused was is url (errors.RefNameAmbiguous x y) h = tt
-unreached-counted refused was is url (errors.InvalidHeadRef x) h = tt
-unreached-counted refused was is url (errors.ReferenceName x) h = tt
-unreached-counted refused was is url (errors.RemoteConfiguration x) h = tt
-unreached-counted refused was is url (errors.SaveConfig x) h = tt
-unreached-counted refused was is url (errors.LoadConfig x) h = absurd h
-unreached-counted refused was is url errors.SaveConfigIo h = absurd h
-unreached-counted refused was is url (errors.PrepareFetch x) h = absurd h
-unreached-counted refused was is url (errors.RevisionMissing x) h = tt
-unreached-counted refused was is url (errors.ReopenWithObjectHash x) h = absurd h
-unreached-counted refused was is url (errors.Fetch x) h = absurd h
-unreached-counted refused was is url (errors.FindRevision x) h = tt
-unreached-counted refused was is url (errors.PeelRevision x) h = tt
-unreached-counted refused was is url errors.NoMemory h = tt
+pub unreached-counted : (refused : ConfigureFault → Type 0) (unmade : Type 0) (was is : Meters) (url : Option (List ℕ)) (e : Error) → IsUnreached refused unmade was.made is.made url e → IsCounted was is e
+unreached-counted refused unmade was is url errors.Consumed h = tt
+unreached-counted refused unmade was is url (errors.ParseConfig x) h = tt
+unreached-counted refused unmade was is url (errors.RemoteName x) h = tt
+unreached-counted refused unmade was is url (errors.Connect (connect.MissingUrl x)) h = tt
+unreached-counted refused unmade was is url (errors.Connect connect.Connect) h = h.0
+unreached-counted refused unmade was is url (errors.Connect connect.NoMemory) h = tt
+unreached-counted refused unmade was is url (errors.RemoteConnection x) h = tt
+unreached-counted refused unmade was is url (errors.RefMap x) h = absurd h
+unreached-counted refused unmade was is url (errors.RefNameMissing x) h = tt
+unreached-counted refused unmade was is url (errors.RefNameAmbiguous x y) h = tt
+unreached-counted refused unmade was is url (errors.InvalidHeadRef x) h = tt
+unreached-counted refused unmade was is url (errors.ReferenceName x) h = tt
+unreached-counted refused unmade was is url (errors.RemoteConfiguration x) h = tt
+unreached-counted refused unmade was is url (errors.SaveConfig x) h = tt
+unreached-counted refused unmade was is url (errors.LoadConfig x) h = absurd h
+unreached-counted refused unmade was is url errors.SaveConfigIo h = absurd h
+unreached-counted refused unmade was is url (errors.PrepareFetch x) h = absurd h
+unreached-counted refused unmade was is url (errors.RevisionMissing x) h = tt
+unreached-counted refused unmade was is url (errors.ReopenWithObjectHash x) h = absurd h
+unreached-counted refused unmade was is url (errors.Fetch x) h = absurd h
+unreached-counted refused unmade was is url (errors.FindRevision x) h = tt
+unreached-counted refused unmade was is url (errors.PeelRevision x) h = tt
+unreached-counted refused unmade was is url errors.NoMemory h = tt
 
 pub listing-counted : (was is : Meters) (cause : MapError) → (listing cause ≡ errors.RefMap ref_map.Transport → Rose was.lost is.lost) → (listing cause ≡ errors.RefMap ref_map.Interrupted → Rose was.yes is.yes) → IsCounted was is (listing cause)
 listing-counted was is (ref_map.Handshake x) lost said = tt
@@ -89,7 +90,7 @@ named-counted w was is before after draft found repo e h lost said =
       | inr y ↦ elim y [
         | inl b ↦ uncounted was is e (name-uncounted (remote_name draft.choices repo.setup.settings.config) e b.why)
         | inr t ↦ elim t.why.why [
-          | inl u ↦ unreached-counted _ was is (Some draft.url) e u
+          | inl u ↦ unreached-counted _ _ was is (Some draft.url) e u
           | inr x ↦ elim x [
             | inl l ↦ subst (IsCounted was is) (sym l.1) (listing-counted was is l.0 (λ h. lost (l.1 ∙ h)) (λ h. said (l.1 ∙ h)))
             | inr a ↦ uncounted was is e (target-uncounted repo.state a.listed.ref_map (ref_name_of draft.choices.wanted) _ a.why.0 e a.why.1 a.why.2)
@@ -145,30 +146,30 @@ counted-saved X answers was is may_fail files files_left draft setup name target
 
 -- ---- listing
 
-again-counted : (was is : Meters) (refused : List ℕ → Type 0) (mid : Faults) (url : Option (List ℕ)) (e : Error) → Counts was.made mid → IsUnreached refused mid is.made url e → IsCounted was is e
-again-counted was is refused mid url errors.Consumed counts h = tt
-again-counted was is refused mid url (errors.ParseConfig x) counts h = tt
-again-counted was is refused mid url (errors.RemoteName x) counts h = tt
-again-counted was is refused mid url (errors.Connect (connect.MissingUrl x)) counts h = tt
-again-counted was is refused mid url (errors.Connect connect.Connect) counts h = Rose-earlier was.made mid is.made counts h
-again-counted was is refused mid url (errors.Connect connect.NoMemory) counts h = tt
-again-counted was is refused mid url (errors.RemoteConnection x) counts h = tt
-again-counted was is refused mid url (errors.RefMap x) counts h = absurd h
-again-counted was is refused mid url (errors.RefNameMissing x) counts h = tt
-again-counted was is refused mid url (errors.RefNameAmbiguous x y) counts h = tt
-again-counted was is refused mid url (errors.InvalidHeadRef x) counts h = tt
-again-counted was is refused mid url (errors.ReferenceName x) counts h = tt
-again-counted was is refused mid url (errors.RemoteConfiguration x) counts h = tt
-again-counted was is refused mid url (errors.SaveConfig x) counts h = tt
-again-counted was is refused mid url (errors.LoadConfig x) counts h = absurd h
-again-counted was is refused mid url errors.SaveConfigIo counts h = absurd h
-again-counted was is refused mid url (errors.PrepareFetch x) counts h = absurd h
-again-counted was is refused mid url (errors.RevisionMissing x) counts h = tt
-again-counted was is refused mid url (errors.ReopenWithObjectHash x) counts h = absurd h
-again-counted was is refused mid url (errors.Fetch x) counts h = absurd h
-again-counted was is refused mid url (errors.FindRevision x) counts h = tt
-again-counted was is refused mid url (errors.PeelRevision x) counts h = tt
-again-counted was is refused mid url errors.NoMemory counts h = tt
+again-counted : (was is : Meters) (refused : ConfigureFault → Type 0) (unmade : Type 0) (mid : Faults) (url : Option (List ℕ)) (e : Error) → Counts was.made mid → IsUnreached refused unmade mid is.made url e → IsCounted was is e
+again-counted was is refused unmade mid url errors.Consumed counts h = tt
+again-counted was is refused unmade mid url (errors.ParseConfig x) counts h = tt
+again-counted was is refused unmade mid url (errors.RemoteName x) counts h = tt
+again-counted was is refused unmade mid url (errors.Connect (connect.MissingUrl x)) counts h = tt
+again-counted was is refused unmade mid url (errors.Connect connect.Connect) counts h = Rose-earlier was.made mid is.made counts h.0
+again-counted was is refused unmade mid url (errors.Connect connect.NoMemory) counts h = tt
+again-counted was is refused unmade mid url (errors.RemoteConnection x) counts h = tt
+again-counted was is refused unmade mid url (errors.RefMap x) counts h = absurd h
+again-counted was is refused unmade mid url (errors.RefNameMissing x) counts h = tt
+again-counted was is refused unmade mid url (errors.RefNameAmbiguous x y) counts h = tt
+again-counted was is refused unmade mid url (errors.InvalidHeadRef x) counts h = tt
+again-counted was is refused unmade mid url (errors.ReferenceName x) counts h = tt
+again-counted was is refused unmade mid url (errors.RemoteConfiguration x) counts h = tt
+again-counted was is refused unmade mid url (errors.SaveConfig x) counts h = tt
+again-counted was is refused unmade mid url (errors.LoadConfig x) counts h = absurd h
+again-counted was is refused unmade mid url errors.SaveConfigIo counts h = absurd h
+again-counted was is refused unmade mid url (errors.PrepareFetch x) counts h = absurd h
+again-counted was is refused unmade mid url (errors.RevisionMissing x) counts h = tt
+again-counted was is refused unmade mid url (errors.ReopenWithObjectHash x) counts h = absurd h
+again-counted was is refused unmade mid url (errors.Fetch x) counts h = absurd h
+again-counted was is refused unmade mid url (errors.FindRevision x) counts h = tt
+again-counted was is refused unmade mid url (errors.PeelRevision x) counts h = tt
+again-counted was is refused unmade mid url errors.NoMemory counts h = tt
 
 prepared-counted : (was is : Meters) (cause : PrepareError) (e : Error) → e ≡ preparing cause → (e ≡ errors.PrepareFetch (prepare.RefMap ref_map.Transport) → Rose was.lost is.lost) → (e ≡ errors.PrepareFetch (prepare.RefMap ref_map.Interrupted) → Rose was.yes is.yes)
     → IsCounted was is e
@@ -179,11 +180,11 @@ pub listed-counted : {G P : Type 0} (w : Ways G P) (was is : Meters) (before aft
 listed-counted w was is before after q e h lost said =
     elim h.by [
       | inl first ↦ elim first [
-        | inl u ↦ unreached-counted _ was is _ e u
+        | inl u ↦ unreached-counted _ _ was is _ e u
         | inr b ↦ prepared-counted was is b.0 e b.1 lost said
       ]
       | inr again ↦ elim again.why.by [
-        | inl u ↦ again-counted was is _ again.failed _ e again.earlier u
+        | inl u ↦ again-counted was is _ _ again.failed _ e again.earlier u
         | inr b ↦ prepared-counted was is b.0 e b.1 lost said
       ]
     ]

@@ -134,7 +134,8 @@ pub record IsSavedAlone {G P : Type 0} (answers : Answering) (w : Ways G P) (was
   pub is_saved : IsSaved answers w before between files written draft found asked saved
   pub why : IsUncompleted w failed is between after known may_fail written files_left draft saved asked repo e
 
--- The remote wasn't saved; or it was, and something was refused then. Each comes after the steps before it.
-pub record IsUncloned {G P : Type 0} (answers : Answering) (w : Ways G P) (was is : Faults) (before after : Line G P) (known : Option (List Worktree)) (may_fail : Bool) (files files_left : Option Tree) (draft : Draft) (found repo : RepositoryValue) (e : Error) : Type 0 where
-  pub by : IsNotSaved answers w was is before after may_fail files files_left draft found repo e
+-- The remote wasn't saved; or it was, and something was refused then. Each comes after the steps before it. Uncalled is what holds
+-- of the closure for the remote where it wasn't called.
+pub record IsUncloned {G P : Type 0} (answers : Answering) (uncalled : Type 0) (w : Ways G P) (was is : Faults) (before after : Line G P) (known : Option (List Worktree)) (may_fail : Bool) (files files_left : Option Tree) (draft : Draft) (found repo : RepositoryValue) (e : Error) : Type 0 where
+  pub by : IsNotSaved answers uncalled w was is before after may_fail files files_left draft found repo e
       ⊎ IsSavedAlone answers w was is before after known may_fail files files_left draft found repo e

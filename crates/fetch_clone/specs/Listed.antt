@@ -186,12 +186,12 @@ pub record IsListed {G P : Type 0} (w : Ways G P) (before after : Line G P) (q :
 -- Why the first peer listed none: it wasn't reached; or the listing broke off, and not by that conflict alone.
 abbrev pub IsUnpreparedFirst : {G P : Type 0} → Ways G P → Faults → Faults → Line G P → Line G P → Query → Error → Type 0
 IsUnpreparedFirst w was is before after q e =
-    IsUnreached (IsTurnedAway w (url_of q) before after) was is (url_of q) e
+    IsUnreached (IsTurnedAway w (url_of q) before after) (after ≡ before) was is (url_of q) e
     ⊎ ((cause : PrepareError) × (e ≡ preparing cause) × IsBroken w before after q cause × (is_conflict_at (head_at q.name) cause ≡ false))
 
 -- Why the second peer listed none: it wasn't made; or the listing broke off.
 pub record IsUnpreparedAgain {P : Type 0} (told : P → Option Talk) (answers : Bool) (was is : Faults) (left left_after taken taken_after : Option (List P)) (addresses addresses_after : Option (List (List ℕ))) (q : Query) (e : Error) : Type 0 where
-  pub by : IsUnreached (λ text. ⊥) was is (url_of q) e ⊎ ((cause : PrepareError) × (e ≡ preparing cause) × IsBrokenAgain told answers left left_after taken taken_after addresses addresses_after q cause)
+  pub by : IsUnreached (λ fault. ⊥) ((left_after ≡ left) × (taken_after ≡ taken) × (addresses_after ≡ addresses)) was is (url_of q) e ⊎ ((cause : PrepareError) × (e ≡ preparing cause) × IsBrokenAgain told answers left left_after taken taken_after addresses addresses_after q cause)
 
 -- There was that conflict, and then the second peer listed none; the maker had failed so often before.
 pub record IsUnlistedAgain {G P : Type 0} (w : Ways G P) (was is : Faults) (before after : Line G P) (q : Query) (e : Error) : Type 0 where

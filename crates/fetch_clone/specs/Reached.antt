@@ -1,5 +1,5 @@
 -- Peers that a clone makes, lets a closure configure, and takes back.
-use Rattle.std.specs.Prelude.{◌≡◌, ℕ, Bool, List, Option, Some, None, ⊤, Result, Ok, Err}
+use Rattle.std.specs.Prelude.{◌≡◌, ◌⊎◌, ℕ, Bool, List, Option, Some, None, Result, Ok, Err}
 use Rattle.fetch_store.specs.Faults.{Faults, Rose}
 use Rattle.fetch_wire.specs.Talks.{Talk}
 use Rattle.fetch_lookup.specs.declared.direction.Direction.{Direction}
@@ -65,21 +65,22 @@ pub record IsReturned {G P : Type 0} (before after : Line G P) (peer : P) : Type
   pub same_addresses : after.addresses ≡ before.addresses
   pub same_closure : after.closure ≡ before.closure
 
--- The next peer was made at this address, and the closure, called on it, refused. The peer was taken back as the closure left
--- it.
-pub record IsTurnedAway {G P : Type 0} (w : Ways G P) (url : Option (List ℕ)) (before after : Line G P) (text : List ℕ) : Type 0 where
+-- The next peer was made at this address, and the closure, called on it, refused so. The peer was taken back as the closure
+-- left it.
+pub record IsTurnedAway {G P : Type 0} (w : Ways G P) (url : Option (List ℕ)) (before after : Line G P) (fault : ConfigureFault) : Type 0 where
   pub made : P
   pub next : Makes {E = ConnectError} before.left after.left (Ok made)
   pub at : MakesAtFirst {E = ConnectError} url before.addresses after.addresses (Ok made)
   pub peer : P
-  pub refused : w.calls before.closure made (Err (faults.Refused text)) after.closure peer
+  pub refused : w.calls before.closure made (Err fault) after.closure peer
   pub given : TakesBack before.taken after.taken peer
 
--- Why no peer was reached: there is no address; the maker failed, which has its count; or the closure refused.
-abbrev pub IsUnreached : (List ℕ → Type 0) → Faults → Faults → Option (List ℕ) → Error → Type 0
-IsUnreached refused was is url (errors.Connect (connect.MissingUrl direction)) = (url ≡ None) × (direction ≡ Fetch)
-IsUnreached refused was is url (errors.Connect connect.Connect) = Rose was is
-IsUnreached refused was is url (errors.Connect connect.NoMemory) = ⊥
-IsUnreached refused was is url (errors.RemoteConnection text) = refused text
-IsUnreached refused was is url errors.NoMemory = ⊤
-IsUnreached refused was is url e = ⊥
+-- Why no peer was reached, by what the closure may have refused and by what holds where none was made: there is no address; the
+-- maker failed, which has its count; or the closure refused.
+abbrev pub IsUnreached : (ConfigureFault → Type 0) → Type 0 → Faults → Faults → Option (List ℕ) → Error → Type 0
+IsUnreached refused unmade was is url (errors.Connect (connect.MissingUrl direction)) = (url ≡ None) × (direction ≡ Fetch) × unmade
+IsUnreached refused unmade was is url (errors.Connect connect.Connect) = Rose was is × unmade
+IsUnreached refused unmade was is url (errors.Connect connect.NoMemory) = ⊥
+IsUnreached refused unmade was is url (errors.RemoteConnection text) = refused (faults.Refused text)
+IsUnreached refused unmade was is url errors.NoMemory = unmade ⊎ refused faults.NoMemory
+IsUnreached refused unmade was is url e = ⊥

@@ -55,6 +55,6 @@ pub record IsNamedAlone {G P : Type 0} (answers : Answering) (w : Ways G P) (bef
   pub named : IsNamed w before after draft found repo name target
   pub why : IsNotSavedAs answers may_fail files files_left draft repo.setup name target e
 
--- The remote wasn't named; or it was, and wasn't chosen or saved.
-pub record IsNotSaved {G P : Type 0} (answers : Answering) (w : Ways G P) (was is : Faults) (before after : Line G P) (may_fail : Bool) (files files_left : Option Tree) (draft : Draft) (found repo : RepositoryValue) (e : Error) : Type 0 where
-  pub by : (IsNotNamed w was is before after draft found repo e × (files_left ≡ files)) ⊎ IsNamedAlone answers w before after may_fail files files_left draft found repo e
+-- The remote wasn't named, and then the closure for it wasn't called; or it was named, and wasn't chosen or saved.
+pub record IsNotSaved {G P : Type 0} (answers : Answering) (uncalled : Type 0) (w : Ways G P) (was is : Faults) (before after : Line G P) (may_fail : Bool) (files files_left : Option Tree) (draft : Draft) (found repo : RepositoryValue) (e : Error) : Type 0 where
+  pub by : (IsNotNamed w was is before after draft found repo e × (files_left ≡ files) × uncalled) ⊎ IsNamedAlone answers w before after may_fail files files_left draft found repo e

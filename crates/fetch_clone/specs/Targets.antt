@@ -121,7 +121,7 @@ pub record IsUnaimed {G P : Type 0} (w : Ways G P) (before after : Line G P) (dr
 -- refused.
 abbrev pub IsUntargeted : {G P : Type 0} → Ways G P → Faults → Faults → Line G P → Line G P → Draft → RepositoryValue → Error → Type 0
 IsUntargeted w was is before after draft repo e =
-    IsUnreached (IsTurnedAway w (Some draft.url) before after) was is (Some draft.url) e
+    IsUnreached (IsTurnedAway w (Some draft.url) before after) (after ≡ before) was is (Some draft.url) e
     ⊎ (((cause : MapError) × (e ≡ listing cause) × IsUnlisted w before after draft repo.setup cause) ⊎ IsUnaimed w before after draft repo e)
 
 -- the same, and the references are listed before

@@ -1,22 +1,22 @@
 use Rattle.std.proofs.Common.{refl, inl, inr}
 use Rattle.std.proofs.lemmas.Result.{err_from_is_err_and}
-use Rattle.fetch_clone.proofs.Answered.{unreached}
+use Rattle.fetch_clone.proofs.Answered.{none-at, none-made, unreached}
 use Rattle.fetch_clone.proofs.fetching.listing.listed_again.Goals as goal
 
 pub returns-in_err-place-clause-refused : goal.returns-in_err-place-clause-refused
 returns-in_err-place-clause-refused g c =
     let p = err_from_is_err_and c.from_residual.result c.from_residual.ensures.1 in
-    rw (p.1, p.2) (record { by = inl tt })
+    rw (p.1, p.2) (record { by = inl (inl (refl, refl, refl)) })
 
 pub returns-in_err-options-clause-refused : goal.returns-in_err-options-clause-refused
 returns-in_err-options-clause-refused g c =
     let p = err_from_is_err_and c.from_residual-in_err-options.result c.from_residual-in_err-options.ensures.1 in
-    rw (p.1, p.2) (record { by = inl tt })
+    rw (p.1, p.2) (record { by = inl (inl (refl, refl, refl)) })
 
 pub returns-in_err-peer-clause-refused : goal.returns-in_err-peer-clause-refused
 returns-in_err-peer-clause-refused g c =
     let p = err_from_is_err_and c.from_residual-in_err-peer.result c.from_residual-in_err-peer.ensures.1 in
-    rw (p.1, p.2) (record { by = inl (unreached _ _ (g.C.Connect.faults c.args.maker.now) (g.C.Connect.faults c.connect.new.maker) _ c.in_err-peer.field-0.0 c.in_err-peer.ensures.missing (λ is. c.in_err-peer.ensures.cause (rw is refl))) })
+    rw (p.1, p.2) (record { by = inl (unreached _ _ _ (g.C.Connect.faults c.args.maker.now) (g.C.Connect.faults c.connect.new.maker) _ c.in_err-peer.field-0.0 (none-made _ _ c.in_err-peer.field-0.0 c.in_err-peer.ensures.left, c.in_err-peer.ensures.taken, none-at _ _ _ c.in_err-peer.field-0.0 c.in_err-peer.ensures.address) c.in_err-peer.ensures.missing (λ is. c.in_err-peer.ensures.cause (rw is refl))) })
 
 pub returns-in-Ok-clause-listed : goal.returns-in-Ok-clause-listed
 returns-in-Ok-clause-listed g c =

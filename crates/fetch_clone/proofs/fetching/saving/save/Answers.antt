@@ -8,7 +8,7 @@ use Rattle.fetch_clone.proofs.fetching.saving.save.Goals as goal
 pub returns-in_err-name-clause-refused : goal.returns-in_err-name-clause-refused
 returns-in_err-name-clause-refused g c =
     let p = err_from_is_err_and c.from_residual.result c.from_residual.ensures.1 in
-    rw (p.1, p.2) (record { by = inl (c.in_err-name.ensures.refused, refl) })
+    rw (p.1, p.2) (record { by = inl (c.in_err-name.ensures.refused, refl, refl) })
 
 pub returns-in_err-name-clause-counted : goal.returns-in_err-name-clause-counted
 returns-in_err-name-clause-counted g c =

@@ -8,12 +8,12 @@ use Rattle.fetch_clone.proofs.fetching.targeting.target_of.Goals as goal
 pub returns-in_err-remote-clause-refused : goal.returns-in_err-remote-clause-refused
 returns-in_err-remote-clause-refused g c =
     let p = err_from_is_err_and c.from_residual.result c.from_residual.ensures.1 in
-    rw (p.1, p.2) (inl tt)
+    rw (p.1, p.2) (inl (inl refl))
 
 pub returns-in_err-options-clause-refused : goal.returns-in_err-options-clause-refused
 returns-in_err-options-clause-refused g c =
     let p = err_from_is_err_and c.from_residual-in_err-options.result c.from_residual-in_err-options.ensures.1 in
-    rw (p.1, p.2) (inl tt)
+    rw (p.1, p.2) (inl (inl refl))
 
 pub returns-in_err-peer-clause-refused : goal.returns-in_err-peer-clause-refused
 returns-in_err-peer-clause-refused g c =
