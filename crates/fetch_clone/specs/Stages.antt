@@ -6,6 +6,7 @@ use Rattle.fetch_lookup.specs.declared.name.Error.{Error as NameError}
 use Rattle.fetch_lookup.specs.declared.name.Error.TheVariants as name
 use Rattle.fetch_negotiate.specs.declared.algorithm.Shallow.{Shallow}
 use Rattle.fetch_negotiate.specs.declared.algorithm.Shallow.TheVariants as depths
+use Rattle.fetch_conversation.specs.Errors.{is_client, is_transport, is_transport_map}
 use Rattle.fetch_conversation.specs.ListStage.{is_nil}
 use Rattle.fetch_conversation.specs.declared.fetch.Error.{Error as ReceiveError}
 use Rattle.fetch_conversation.specs.declared.fetch.Error.TheVariants as fetch
@@ -13,6 +14,7 @@ use Rattle.fetch_conversation.specs.declared.prepare.Error.{Error as PrepareErro
 use Rattle.fetch_conversation.specs.declared.prepare.Error.TheVariants as prepare
 use Rattle.fetch_conversation.specs.declared.ref_map.Error.{Error as MapError}
 use Rattle.fetch_conversation.specs.declared.ref_map.Error.TheVariants as ref_map
+use Rattle.fetch_remote.specs.Connecting.{is_of_maker}
 use Rattle.fetch_remote.specs.declared.repository.open_error.OpenError.{OpenError}
 use Rattle.fetch_remote.specs.declared.repository.open_error.OpenError.TheVariants as opening
 use Rattle.fetch_clone.specs.Tracking.{default_remote_of}
@@ -48,6 +50,14 @@ reopening e = errors.ReopenWithObjectHash e
 abbrev pub receiving : ReceiveError → Error
 receiving fetch.NoMemory = errors.NoMemory
 receiving e = errors.Fetch e
+
+-- whether the way to the server alone is the cause: the maker failed, or a peer
+abbrev pub is_spurious : Error → Bool
+is_spurious (errors.Connect e) = is_of_maker e
+is_spurious (errors.RefMap e) = is_transport_map e
+is_spurious (errors.PrepareFetch e) = is_transport e
+is_spurious (errors.Fetch e) = is_client e
+is_spurious e = false
 
 -- ---- what was asked for
 

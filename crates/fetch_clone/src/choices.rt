@@ -14,7 +14,7 @@ use fetch_conversation::ref_map;
 use fetch_lookup::name;
 use fetch_negotiate::Shallow;
 use fetch_specs::{NameError, PartialName, RefSpec};
-use fetch_store::{List, Text};
+use fetch_store::{List, NoMemory, Text};
 use std::alloc::Global;
 
 /// Which references a clone is of. A ref name and a revision exclude each other.
@@ -26,6 +26,19 @@ pub enum Wanted {
     RefName(PartialName),
     /// One revision alone.
     Revision(RefSpec),
+}
+
+impl Wanted {
+    /// An equal choice.
+    pub fn try_clone(&self) -> Result<Wanted, NoMemory>
+        ensures { IfOk result (λ copy. copy ≡ self.now) }
+    {
+        match self {
+            Wanted::Everything => Ok(Wanted::Everything),
+            Wanted::RefName(name) => Ok(Wanted::RefName(name.try_clone()?)),
+            Wanted::Revision(spec) => Ok(Wanted::Revision(spec.try_clone()?)),
+        }
+    }
 }
 
 /// What a clone is asked for beside its place.
@@ -55,6 +68,23 @@ impl Choices {
             wanted: Wanted::Everything,
             options: ref_map::Options::new(alloc),
         }
+    }
+
+    /// Equal choices.
+    pub fn try_clone(&self) -> Result<Choices, NoMemory>
+        ensures { IfOk result (λ copy. copy ≡ self.now) }
+    {
+        let remote_name = match &self.remote_name {
+            Some(name) => Some(name.try_clone()?),
+            None => None,
+        };
+        Ok(Choices {
+            remote_name,
+            shallow: self.shallow.try_clone()?,
+            overrides: self.overrides.try_clone_with(Text::try_clone)?,
+            wanted: self.wanted.try_clone()?,
+            options: self.options.try_clone()?,
+        })
     }
 
     /// Names the remote.

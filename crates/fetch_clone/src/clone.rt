@@ -20,6 +20,21 @@ pub enum Error {
     NoMemory,
 }
 
+impl Error {
+    ghost use Rattle.std.specs.Prelude.{◌≡◌, IfOk};
+
+    /// An equal error.
+    pub fn try_clone(&self) -> Result<Error, NoMemory>
+        ensures { IfOk result (λ copy. copy ≡ self.now) }
+    {
+        match self {
+            Error::Url => Ok(Error::Url),
+            Error::Init(e) => Ok(Error::Init(e.try_clone()?)),
+            Error::NoMemory => Ok(Error::NoMemory),
+        }
+    }
+}
+
 impl From<init::Error> for Error {
     ghost use Rattle.std.specs.Prelude.{◌≡◌};
     ghost use Rattle.fetch_clone.specs.Drafts.{init_refusal};

@@ -53,6 +53,22 @@ pub struct Path {
     pub workdir: Option<Text>,
 }
 
+impl Path {
+    /// An equal place.
+    pub fn try_clone(&self) -> Result<Path, NoMemory>
+        ensures { IfOk result (λ copy. copy ≡ self.now) }
+    {
+        let workdir = match &self.workdir {
+            Some(workdir) => Some(workdir.try_clone()?),
+            None => None,
+        };
+        Ok(Path {
+            git_dir: self.git_dir.try_clone()?,
+            workdir,
+        })
+    }
+}
+
 /// Why a repository wasn't created. What was written before stays.
 #[derive(Debug, Drop, PartialEq, Eq, ThisError)]
 pub enum Error {
@@ -74,6 +90,32 @@ pub enum Error {
     /// Memory ran out.
     #[error("out of memory")]
     NoMemory,
+}
+
+impl Error {
+    /// An equal error.
+    pub fn try_clone(&self) -> Result<Error, NoMemory>
+        ensures { IfOk result (λ copy. copy ≡ self.now) }
+    {
+        match self {
+            Error::IoOpen { path } => Ok(Error::IoOpen {
+                path: path.try_clone()?,
+            }),
+            Error::IoWrite { path } => Ok(Error::IoWrite {
+                path: path.try_clone()?,
+            }),
+            Error::CreateDirectory { path } => Ok(Error::CreateDirectory {
+                path: path.try_clone()?,
+            }),
+            Error::DirectoryNotEmpty { path } => Ok(Error::DirectoryNotEmpty {
+                path: path.try_clone()?,
+            }),
+            Error::DirectoryExists { path } => Ok(Error::DirectoryExists {
+                path: path.try_clone()?,
+            }),
+            Error::NoMemory => Ok(Error::NoMemory),
+        }
+    }
 }
 
 impl From<NoMemory> for Error {

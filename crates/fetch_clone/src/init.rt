@@ -34,6 +34,24 @@ pub enum Error {
     NoMemory,
 }
 
+impl Error {
+    ghost use Rattle.std.specs.Prelude.{◌≡◌, IfOk};
+
+    /// An equal error.
+    pub fn try_clone(&self) -> Result<Error, NoMemory>
+        ensures { IfOk result (λ copy. copy ≡ self.now) }
+    {
+        match self {
+            Error::Init(e) => Ok(Error::Init(e.try_clone()?)),
+            Error::Open(e) => Ok(Error::Open(e.try_clone()?)),
+            Error::InvalidBranchName { name } => Ok(Error::InvalidBranchName {
+                name: name.try_clone()?,
+            }),
+            Error::NoMemory => Ok(Error::NoMemory),
+        }
+    }
+}
+
 impl From<create::Error> for Error {
     ghost use Rattle.std.specs.Prelude.{◌≡◌};
     ghost use Rattle.fetch_clone.specs.Initial.{creation_refusal};

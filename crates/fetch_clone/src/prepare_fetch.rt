@@ -34,6 +34,20 @@ pub enum ConfigureFault {
     NoMemory,
 }
 
+impl ConfigureFault {
+    /// An equal fault.
+    pub fn try_clone(&self) -> Result<ConfigureFault, NoMemory>
+        ensures { IfOk result (λ copy. copy ≡ self.now) }
+    {
+        match self {
+            ConfigureFault::Refused { text } => Ok(ConfigureFault::Refused {
+                text: text.try_clone()?,
+            }),
+            ConfigureFault::NoMemory => Ok(ConfigureFault::NoMemory),
+        }
+    }
+}
+
 impl From<NoMemory> for ConfigureFault {
     ghost use Rattle.std.specs.Prelude.{◌≡◌};
     ghost use Rattle.fetch_clone.specs.declared.prepare_fetch.ConfigureFault.TheVariants as errors;

@@ -107,6 +107,71 @@ pub enum Error {
     NoMemory,
 }
 
+impl Error {
+    ghost use Rattle.std.specs.Prelude.{◌≡◌, IfOk};
+    ghost use Rattle.fetch_clone.specs.Stages as stages;
+
+    /// Whether the cause is the way to the server alone: the maker of peers failed, or a peer.
+    pub fn is_spurious(&self) -> bool
+        ensures { result ≡ stages.is_spurious self.now }
+    {
+        match self {
+            Error::Connect(e) => e.is_spurious(),
+            Error::RefMap(e) => e.is_spurious(),
+            Error::PrepareFetch(e) => e.is_spurious(),
+            Error::Fetch(e) => e.is_spurious(),
+            _ => false,
+        }
+    }
+
+    /// An equal error.
+    // Long: an arm a variant.
+    pub fn try_clone(&self) -> Result<Error, NoMemory>
+        ensures { IfOk result (λ copy. copy ≡ self.now) }
+    {
+        match self {
+            Error::Consumed => Ok(Error::Consumed),
+            Error::ParseConfig { text } => Ok(Error::ParseConfig {
+                text: text.try_clone()?,
+            }),
+            Error::RemoteName(e) => Ok(Error::RemoteName(e.try_clone()?)),
+            Error::Connect(e) => Ok(Error::Connect(*e)),
+            Error::RemoteConnection { text } => Ok(Error::RemoteConnection {
+                text: text.try_clone()?,
+            }),
+            Error::RefMap(e) => Ok(Error::RefMap(e.try_clone()?)),
+            Error::RefNameMissing { wanted } => Ok(Error::RefNameMissing {
+                wanted: wanted.try_clone()?,
+            }),
+            Error::RefNameAmbiguous { wanted, candidates } => Ok(Error::RefNameAmbiguous {
+                wanted: wanted.try_clone()?,
+                candidates: candidates.try_clone_with(Text::try_clone)?,
+            }),
+            Error::InvalidHeadRef { head_ref_name } => Ok(Error::InvalidHeadRef {
+                head_ref_name: head_ref_name.try_clone()?,
+            }),
+            Error::ReferenceName { name } => Ok(Error::ReferenceName {
+                name: name.try_clone()?,
+            }),
+            Error::RemoteConfiguration { text } => Ok(Error::RemoteConfiguration {
+                text: text.try_clone()?,
+            }),
+            Error::SaveConfig(e) => Ok(Error::SaveConfig(e.try_clone()?)),
+            Error::LoadConfig(e) => Ok(Error::LoadConfig(e.try_clone()?)),
+            Error::SaveConfigIo => Ok(Error::SaveConfigIo),
+            Error::PrepareFetch(e) => Ok(Error::PrepareFetch(e.try_clone()?)),
+            Error::RevisionMissing { wanted } => Ok(Error::RevisionMissing {
+                wanted: wanted.try_clone()?,
+            }),
+            Error::ReopenWithObjectHash(e) => Ok(Error::ReopenWithObjectHash(e.try_clone()?)),
+            Error::Fetch(e) => Ok(Error::Fetch(e.try_clone()?)),
+            Error::FindRevision { id } => Ok(Error::FindRevision { id: *id }),
+            Error::PeelRevision { id } => Ok(Error::PeelRevision { id: *id }),
+            Error::NoMemory => Ok(Error::NoMemory),
+        }
+    }
+}
+
 impl From<NoMemory> for Error {
     ghost use Rattle.std.specs.Prelude.{◌≡◌};
     ghost use Rattle.fetch_clone.specs.declared.clone.fetch.Error.TheVariants as errors;
