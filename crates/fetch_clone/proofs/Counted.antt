@@ -1,12 +1,18 @@
 -- Refusals that have a count, in a part of a call.
-use Rattle.std.proofs.Common.{◌≤◌, arith}
+use Rattle.std.proofs.Common.{◌≡◌, ◌≤◌, ℕ, List, Result, Ok, Err, refl, arith}
+use Rattle.std.specs.Prelude.{true, OnOk}
+use Rattle.std.proofs.lemmas.Bool.{false≢true}
 use Rattle.fetch_store.specs.Faults.{Counts, Faults, Counts-none, Counts-then, Rose}
 use Rattle.fetch_conversation.specs.declared.fetch.Error.TheVariants as fetch
+use Rattle.fetch_conversation.specs.Errors.{is_interrupted}
+use Rattle.fetch_conversation.specs.Receiving.{last_question}
+use Rattle.fetch_conversation.specs.declared.prepare.Error.{Error as PrepareError}
 use Rattle.fetch_conversation.specs.declared.prepare.Error.TheVariants as prepare
 use Rattle.fetch_conversation.specs.declared.ref_map.Error.TheVariants as ref_map
 use Rattle.fetch_remote.specs.declared.connect.Error.TheVariants as connect
 use Rattle.fetch_remote.specs.declared.repository.open_error.OpenError.TheVariants as opening
 use Rattle.fetch_clone.specs.Counted.{Meters, IsCounted, Later}
+use Rattle.fetch_clone.specs.Listed.{is_conflict_at}
 use Rattle.fetch_clone.specs.declared.clone.fetch.Error.{Error}
 use Rattle.fetch_clone.specs.declared.clone.fetch.Error.TheVariants as errors
 
@@ -88,6 +94,25 @@ counted-within a b c d (errors.Fetch fetch.NoMemory) p q h = tt
 counted-within a b c d (errors.FindRevision x) p q h = tt
 counted-within a b c d (errors.PeelRevision x) p q h = tt
 counted-within a b c d errors.NoMemory p q h = tt
+
+-- what holds whatever is answered
+pub at-ok : {X E P : Type 0} (r : Result X E) → P → OnOk r P
+at-ok (Ok x) p = p
+at-ok (Err e) p = tt
+
+-- a yes is one question more
+pub one-question : (X : Type 0) (e : PrepareError) → is_interrupted e ≡ true → last_question {T = X} is_interrupted (Err e) ≡ 1
+one-question X e is = rw is refl
+
+-- A conflict is no yes of the interrupt.
+pub conflict-quiet : (X : Type 0) (place : List ℕ) (e : PrepareError) → is_conflict_at place e ≡ true → last_question {T = X} is_interrupted (Err e) ≡ 0
+conflict-quiet X place prepare.MissingRefSpecs h = absurd (false≢true h)
+conflict-quiet X place (prepare.RefMap (ref_map.Handshake x)) h = absurd (false≢true h)
+conflict-quiet X place (prepare.RefMap ref_map.Transport) h = absurd (false≢true h)
+conflict-quiet X place (prepare.RefMap ref_map.Interrupted) h = absurd (false≢true h)
+conflict-quiet X place (prepare.RefMap (ref_map.InitRefMap x)) h = refl
+conflict-quiet X place (prepare.RefMap ref_map.NoMemory) h = absurd (false≢true h)
+conflict-quiet X place prepare.NoMemory h = absurd (false≢true h)
 
 -- what is counted after a part of a call
 pub counted-later : (a b c : Meters) (e : Error) → Later a b → IsCounted b c e → IsCounted a c e

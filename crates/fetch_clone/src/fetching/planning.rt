@@ -48,6 +48,7 @@ pub(crate) fn named<C: Connect, G: FnMut(&mut C::Peer) -> Result<(), ConfigureFa
     ensures transport { IsErrOf result (errors.RefMap ref_map_errors.Transport) → Rose (C.lost maker.old) (C.lost maker.new) }
     ensures asked { Counts (I.yes interrupt.old) (I.yes interrupt.new) }
     ensures interrupted { IsErrOf result (errors.RefMap ref_map_errors.Interrupted) → Rose (I.yes interrupt.old) (I.yes interrupt.new) }
+    ensures uninterrupted { OnOk result ((I.yes interrupt.new).count ≡ (I.yes interrupt.old).count) }
     ensures again { G.IsAlwaysCallable configure.new }
 {
     override_with(alloc, draft, repo)?;

@@ -60,6 +60,7 @@ pub(crate) fn received<
     ensures client { IsErrOf result (errors.Fetch receive_errors.Client) → Rose (P.faults peer.old) (P.faults peer.new) }
     ensures asked { Counts (I.yes interrupt.old) (I.yes interrupt.new) }
     ensures stopped { IsErrOf result (errors.Fetch receive_errors.Interrupted) → Rose (I.yes interrupt.old) (I.yes interrupt.new) }
+    ensures uninterrupted { OnOk result ((I.yes interrupt.new).count ≡ (I.yes interrupt.old).count) }
     ensures file_counts { Counts (F.faults files.old) (F.faults files.new) }
     ensures reopened { IsErrOf result (errors.ReopenWithObjectHash opening.Io) → Rose (F.faults files.old) (F.faults files.new) }
     ensures keep_file { (path : List ℕ) → IsErrOf result (errors.Fetch (receive_errors.KeepFile path)) → Rose (F.faults files.old) (F.faults files.new) }

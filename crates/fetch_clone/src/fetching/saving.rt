@@ -1,6 +1,6 @@
 //! The remote of a clone is saved.
 
-ghost use Rattle.std.specs.Prelude.{◌≡◌, IfOk, IfErr, IsErrOf};
+ghost use Rattle.std.specs.Prelude.{◌≡◌, IfOk, IfErr, IsErrOf, OnOk};
 ghost use Rattle.std.specs.Fn.{CalledAtMut};
 ghost use Rattle.std.specs.Option.{option_copied};
 ghost use Rattle.fetch_store.specs.Faults.{Counts, Rose};
@@ -60,6 +60,7 @@ pub(crate) fn save<
     ensures refused { IfErr result (IsNotSaved (λ remote answer. R.step configure_remote.old remote answer configure_remote.new) (configure_remote.new ≡ configure_remote.old) (ways (CalledAtMut G.FnMut) C.Peer.told C.Peer.answers) (C.faults maker.old) (C.faults maker.new) (line (C.left maker.old) (C.taken maker.old) (C.addresses maker.old) configure_connection.old) (line (C.left maker.new) (C.taken maker.new) (C.addresses maker.new) configure_connection.new) (F.may_fail files.old) (F.told files.old) (F.told files.new) draft.now repo.old repo.new) }
     ensures counted { IfErr result (IsCounted (meters (C.faults maker.old) (C.lost maker.old) (I.yes interrupt.old) (F.faults files.old)) (meters (C.faults maker.new) (C.lost maker.new) (I.yes interrupt.new) (F.faults files.new))) }
     ensures later { Later (meters (C.faults maker.old) (C.lost maker.old) (I.yes interrupt.old) (F.faults files.old)) (meters (C.faults maker.new) (C.lost maker.new) (I.yes interrupt.new) (F.faults files.new)) }
+    ensures uninterrupted { OnOk result ((I.yes interrupt.new).count ≡ (I.yes interrupt.old).count) }
     ensures out { C.out maker.new ≡ C.out maker.old }
     ensures may_fail { F.may_fail files.new ≡ F.may_fail files.old }
     ensures remote_again { R.IsAlwaysCallable configure_remote.new }

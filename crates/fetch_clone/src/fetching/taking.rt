@@ -1,6 +1,6 @@
 //! What a peer listed is fetched from it, and the peer is taken back.
 
-ghost use Rattle.std.specs.Prelude.{◌≡◌, ◌+◌, ◌<◌, Option, IfOk, IfErr};
+ghost use Rattle.std.specs.Prelude.{◌≡◌, ◌+◌, ◌<◌, Option, IfOk, IfErr, OnOk};
 ghost use Rattle.fetch_store.specs.Faults.{Counts};
 ghost use Rattle.fetch_wire.specs.Talks.{Talk};
 ghost use Rattle.fetch_remote.specs.Repositories.{setup_of};
@@ -49,6 +49,7 @@ pub(crate) fn taken<
         → IsNotTaken C.Peer.told C.Peer.answers begun (C.taken maker.old) (C.taken maker.new) (W.told worktrees.old) (F.may_fail files.old) (F.told files.old) (F.told files.new) draft.now remote.now prepared repo.old repo.new e) }
     ensures counted { IfErr result (IsCounted (meters (C.faults maker.old) (C.lost maker.old) (I.yes interrupt.old) (F.faults files.old)) (meters (C.faults maker.new) (C.lost maker.new) (I.yes interrupt.new) (F.faults files.new))) }
     ensures later { Later (meters (C.faults maker.old) (C.lost maker.old) (I.yes interrupt.old) (F.faults files.old)) (meters (C.faults maker.new) (C.lost maker.new) (I.yes interrupt.new) (F.faults files.new)) }
+    ensures uninterrupted { OnOk result ((I.yes interrupt.new).count ≡ (I.yes interrupt.old).count) }
     ensures out { C.out maker.new + 1 ≡ C.out maker.old }
     ensures left { C.left maker.new ≡ C.left maker.old }
     ensures addresses { C.addresses maker.new ≡ C.addresses maker.old }

@@ -1,6 +1,6 @@
 //! The reference that a clone of another depth is of, as a first connection lists it.
 
-ghost use Rattle.std.specs.Prelude.{◌≡◌, ◌≤◌, ◌∷◌, [], IfOk, IfErr, IsErrOf, Ok, None};
+ghost use Rattle.std.specs.Prelude.{◌≡◌, ◌≤◌, ◌∷◌, [], IfOk, IfErr, IsErrOf, OnOk, Ok, None};
 ghost use Rattle.std.specs.Fn.{CalledAtMut};
 ghost use Rattle.std.specs.Option.{option_copied};
 ghost use Rattle.fetch_store.specs.Faults.{Counts, Rose};
@@ -54,6 +54,7 @@ pub(crate) fn target<
     ensures transport { IsErrOf result (errors.RefMap ref_map_errors.Transport) → Rose (C.lost maker.old) (C.lost maker.new) }
     ensures asked { Counts (I.yes interrupt.old) (I.yes interrupt.new) }
     ensures interrupted { IsErrOf result (errors.RefMap ref_map_errors.Interrupted) → Rose (I.yes interrupt.old) (I.yes interrupt.new) }
+    ensures uninterrupted { OnOk result ((I.yes interrupt.new).count ≡ (I.yes interrupt.old).count) }
     ensures again { G.IsAlwaysCallable configure.new }
 {
     if lists_first(&draft.choices) {
@@ -82,6 +83,7 @@ fn target_of<C: Connect, G: FnMut(&mut C::Peer) -> Result<(), ConfigureFault>, I
     ensures transport { IsErrOf result (errors.RefMap ref_map_errors.Transport) → Rose (C.lost maker.old) (C.lost maker.new) }
     ensures asked { Counts (I.yes interrupt.old) (I.yes interrupt.new) }
     ensures interrupted { IsErrOf result (errors.RefMap ref_map_errors.Interrupted) → Rose (I.yes interrupt.old) (I.yes interrupt.new) }
+    ensures uninterrupted { OnOk result ((I.yes interrupt.new).count ≡ (I.yes interrupt.old).count) }
     ensures again { G.IsAlwaysCallable configure.new }
 {
     let remote = bare(alloc, draft.url.as_bytes())?;

@@ -1,4 +1,4 @@
-use Rattle.std.proofs.Common.{refl, arith, inl, inr}
+use Rattle.std.proofs.Common.{refl, ◌∙◌, arith, inl, inr}
 use Rattle.std.proofs.lemmas.Result.{err_from_is_err_and}
 use Rattle.fetch_store.specs.Faults.{Counts-none}
 use Rattle.fetch_clone.specs.Counted.{meters}
@@ -112,3 +112,6 @@ returns-in-Ok-clause-out g c = omega (arith, c.in_ok-peer.ensures.out, c.in_ok-o
 
 pub returns-in-Err-clause-out : goal.returns-in-Err-clause-out
 returns-in-Err-clause-out g c = omega (arith, c.in_ok-peer.ensures.out, c.in_ok-outcome.ensures.out)
+
+pub returns-in-Ok-clause-uninterrupted : goal.returns-in-Ok-clause-uninterrupted
+returns-in-Ok-clause-uninterrupted g c = c.in_ok-outcome.ensures.uninterrupted ∙ c.in_ok-peer.ensures.uninterrupted

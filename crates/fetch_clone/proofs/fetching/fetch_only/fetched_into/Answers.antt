@@ -1,5 +1,5 @@
-use Rattle.std.proofs.Common.{refl, inl, inr}
-use Rattle.std.proofs.lemmas.Result.{err_from_is_err_and, IfErr-weaker, IfOk-weaker}
+use Rattle.std.proofs.Common.{refl, ◌∙◌, inl, inr}
+use Rattle.std.proofs.lemmas.Result.{err_from_is_err_and, IfErr-weaker, IfOk-weaker, on_ok_weaker}
 use Rattle.fetch_clone.specs.Counted.{meters}
 use Rattle.fetch_clone.proofs.Counted.{counted-later, later-then}
 use Rattle.fetch_clone.proofs.fetching.fetch_only.fetched_into.Goals as goal
@@ -27,3 +27,6 @@ returns-clause-counted g c = IfErr-weaker c.completed.result _ _ (λ e h. counte
 
 pub returns-clause-later : goal.returns-clause-later
 returns-clause-later g c = later-then (meters (g.C.Connect.faults c.args.maker.now) (g.C.Connect.lost c.args.maker.now) (g.I.Interrupt.yes c.args.interrupt.now) (g.F.Files.faults c.args.files.now)) (meters (g.C.Connect.faults c.save.new.maker) (g.C.Connect.lost c.save.new.maker) (g.I.Interrupt.yes c.save.new.interrupt) (g.F.Files.faults c.save.new.files)) (meters (g.C.Connect.faults c.completed.new.maker) (g.C.Connect.lost c.completed.new.maker) (g.I.Interrupt.yes c.completed.new.interrupt) (g.F.Files.faults c.completed.new.files)) c.save.ensures.later c.completed.ensures.later
+
+pub returns-clause-uninterrupted : goal.returns-clause-uninterrupted
+returns-clause-uninterrupted g c = on_ok_weaker c.completed.result (λ same. same ∙ c.in_ok-saved.ensures.uninterrupted) c.completed.ensures.uninterrupted

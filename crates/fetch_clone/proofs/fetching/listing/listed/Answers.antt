@@ -1,7 +1,8 @@
 use Rattle.std.proofs.Common.{◌≡◌, true, false, refl, sym, ap, arith, ◌∙◌, inl, inr}
-use Rattle.std.proofs.lemmas.Result.{err_from_is_err_and, IfErr-weaker, IfOk-weaker}
+use Rattle.std.proofs.lemmas.Result.{err_from_is_err_and, IfErr-weaker, IfOk-weaker, on_ok_weaker}
 use Rattle.fetch_store.specs.Faults.{Counts-then}
 use Rattle.fetch_remote.specs.Connecting.{out_after}
+use Rattle.fetch_clone.proofs.Counted.{conflict-quiet}
 use Rattle.fetch_clone.proofs.fetching.listing.listed.Goals as goal
 
 pub returns-in_err-place-clause-refused : goal.returns-in_err-place-clause-refused
@@ -112,3 +113,12 @@ returns-then-is_head_conflict-clause-transport g c is = omega (arith, c.listed_a
 
 pub returns-then-is_head_conflict-clause-asked : goal.returns-then-is_head_conflict-clause-asked
 returns-then-is_head_conflict-clause-asked g c = Counts-then _ _ _ c.in-Err.ensures.asked c.listed_again.ensures.asked
+
+pub returns-in-Ok-clause-uninterrupted : goal.returns-in-Ok-clause-uninterrupted
+returns-in-Ok-clause-uninterrupted g c = c.in-Ok.ensures.quiet refl
+
+pub returns-then-is_head_conflict-clause-uninterrupted : goal.returns-then-is_head_conflict-clause-uninterrupted
+returns-then-is_head_conflict-clause-uninterrupted g c =
+    on_ok_weaker c.listed_again.result
+    (λ same. same ∙ c.in-Err.ensures.quiet (conflict-quiet (Unit {0}) _ c.in-Err.e (sym c.is_head_conflict.ensures ∙ c.if-is_head_conflict.true)))
+    c.listed_again.ensures.uninterrupted

@@ -45,3 +45,6 @@ returns-clause-refused g c =
         },
       );
     }
+
+pub returns-in-Ok-clause-uninterrupted : goal.returns-in-Ok-clause-uninterrupted
+returns-in-Ok-clause-uninterrupted g c = c.in-Ok.ensures.quiet refl

@@ -2,6 +2,7 @@ use Rattle.std.proofs.Common.{refl, inl, inr}
 use Rattle.std.proofs.lemmas.Result.{err_from_is_err_and, IfErr-weaker, IfOk-weaker}
 use Rattle.fetch_store.specs.Faults.{Counts-none}
 use Rattle.fetch_clone.specs.Counted.{meters}
+use Rattle.fetch_clone.proofs.Counted.{at-ok}
 use Rattle.fetch_clone.proofs.StepsCounted.{counted-saved, named-counted}
 use Rattle.fetch_clone.proofs.fetching.saving.save.Goals as goal
 
@@ -32,3 +33,6 @@ returns-clause-later g c = record { made = c.in_ok-name.ensures.counts; lost = c
 pub returns-clause-counted : goal.returns-clause-counted
 returns-clause-counted g c =
     counted-saved _ _ (meters (g.C.Connect.faults c.args.maker.now) (g.C.Connect.lost c.args.maker.now) (g.I.Interrupt.yes c.args.interrupt.now) (g.F.Files.faults c.args.files.now)) (meters (g.C.Connect.faults c.named.new.maker) (g.C.Connect.lost c.named.new.maker) (g.I.Interrupt.yes c.named.new.interrupt) (g.F.Files.faults c.save_as.new.files)) _ _ _ _ _ _ _ c.save_as.result c.save_as.ensures.refused c.save_as.ensures.load c.save_as.ensures.io
+
+pub returns-clause-uninterrupted : goal.returns-clause-uninterrupted
+returns-clause-uninterrupted g c = at-ok c.save_as.result c.in_ok-name.ensures.uninterrupted

@@ -1,6 +1,7 @@
 use Rattle.std.proofs.Common.{refl, inl, inr}
 use Rattle.std.proofs.lemmas.Result.{err_from_is_err_and}
 use Rattle.std.proofs.lemmas.Bool.{false≢true}
+use Rattle.fetch_clone.proofs.Counted.{at-ok}
 use Rattle.fetch_clone.proofs.Uncounted.{target-uncounted}
 use Rattle.fetch_clone.proofs.Targeting.{aimed-at, not-aimed-at, unlisted}
 use Rattle.fetch_clone.proofs.fetching.targeting.target_of.Goals as goal
@@ -40,3 +41,6 @@ pub returns-clause-interrupted : goal.returns-clause-interrupted
 returns-clause-interrupted g c is =
     let h = rw is at c.name_aimed_at.ensures.refused in
     absurd (false≢true (target-uncounted _ _ _ _ h.0 _ h.1 h.2))
+
+pub returns-clause-uninterrupted : goal.returns-clause-uninterrupted
+returns-clause-uninterrupted g c = at-ok c.name_aimed_at.result c.in_ok-map.ensures.uninterrupted
