@@ -1,5 +1,6 @@
 -- A repository whose `HEAD` takes what a remote listed.
 use Rattle.std.specs.Prelude.{◌≡◌, ℕ, Bool, List, [], Option, Some, None, IfSome, Result, Ok, Err, ⊤, ◌⊎◌}
+use Rattle.std.specs.Option.{option_map}
 use Rattle.fetch_store.specs.FileCalls.{IsRefused}
 use Rattle.fetch_store.specs.Graph.{graph_of}
 use Rattle.fetch_store.specs.Paths.{parts_of}
@@ -14,7 +15,7 @@ use Rattle.fetch_wire.specs.declared.listings.mapping.RefMap.{RefMap}
 use Rattle.fetch_remote.specs.Finding.{existing_in}
 use Rattle.fetch_remote.specs.Paths.{config_path}
 use Rattle.fetch_remote.specs.Remotes.{RemoteValue}
-use Rattle.fetch_remote.specs.Repositories.{state_of, setup_of, with_refs, reopened}
+use Rattle.fetch_remote.specs.Repositories.{state_of, setup_of, with_refs, reopened, resolved_of}
 use Rattle.fetch_remote.specs.RepositoryValues.{State, Setup, RepositoryValue}
 use Rattle.fetch_remote.specs.declared.find.existing.Error.{Error as FindError}
 use Rattle.fetch_clone.specs.Aims.{aim_in, edits_of}
@@ -26,6 +27,7 @@ use Rattle.fetch_clone.specs.declared.aim.Unaimed.{Unaimed}
 use Rattle.fetch_clone.specs.declared.aim.Unaimed.TheVariants as unaimed
 use Rattle.fetch_clone.specs.declared.clone.fetch.Error.{Error}
 use Rattle.fetch_clone.specs.declared.clone.fetch.Error.TheVariants as errors
+use Rattle.fetch_clone.specs.declared.heading.NewConfig.{NewConfig}
 use Rattle.fetch_clone.specs.declared.meant.Unmeant.TheVariants as unmeant
 
 -- ---- references
@@ -63,6 +65,16 @@ IsWritten before git_dir local now = TellsStill before now × IfSome before (λ 
 abbrev pub FollowsIf : Setup → Setup → Option Tree → Option Tree → Option Contents → Type 0
 FollowsIf before after told now None = (after ≡ before) × (now ≡ told)
 FollowsIf before after told now (Some local) = (reopened before local ≡ Some after) × IsWritten told before.settings.git_dir local now
+
+-- the local file that a new file `config` puts into force
+abbrev pub local_of : Option NewConfig → Option Contents
+local_of new = option_map (λ n. n.resolved.file) new
+
+-- It has that file's text, at the repository's place for it, and that file is resolved with the base and the overrides.
+abbrev pub IsReadyIn : Setup → Option NewConfig → Type 0
+IsReadyIn setup None = ⊤
+IsReadyIn setup (Some new) =
+    (new.path ≡ config_path setup.settings.git_dir) × (new.text ≡ text_of new.resolved.file.sections) × (resolved_of setup.base new.resolved.file setup.overrides ≡ Some new.resolved.config)
 
 -- ---- all of it
 
@@ -158,7 +170,7 @@ pub record IsMovedOnly (told now : Option Tree) (before after : RepositoryValue)
   pub follows : followed (setup_of before) remote aim ≡ Some local
   pub tree : now ≡ told
 
--- Memory ran out before anything was changed, or while the branch's section was saved.
+-- Memory ran out before anything was changed, or when the branch's section was written.
 abbrev pub IsWanting : Option Tree → Option Tree → RepositoryValue → RepositoryValue → RefMap → List ℕ → List ℕ → Option (List ℕ) → Option Spec → Type 0
 IsWanting told now before after map message remote ref_name revision = IsUnmoved told now before after ⊎ IsMovedOnly told now before after map message remote ref_name revision
 

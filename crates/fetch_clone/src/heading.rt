@@ -6,7 +6,8 @@ ghost use Rattle.fetch_store.specs.Faults.{Rose, Counts};
 ghost use Rattle.fetch_clone.specs.Aims as aims;
 ghost use Rattle.fetch_clone.specs.Heading as spec;
 ghost use Rattle.fetch_clone.specs.declared.clone.fetch.Error.TheVariants as errors;
-ghost use Rattle.fetch_remote.specs.Repositories.{state_of, setup_of};
+ghost use Rattle.fetch_config.specs.Print.{text_of};
+ghost use Rattle.fetch_remote.specs.Repositories.{state_of, setup_of, resolved_of};
 
 use crate::aim::{Aim, Unaimed, aim_of};
 use crate::clone::fetch::Error;
@@ -16,15 +17,27 @@ use crate::upstream::following;
 use fetch_config::File;
 use fetch_refs::{Change, LogChange, PackedRefs, PreviousValue, RefEdit, RefLog, Target};
 use fetch_remote::find::existing;
-use fetch_remote::{Direction, Repository};
+use fetch_remote::{Direction, Repository, Resolved};
 use fetch_specs::{FullName, PartialName, RefSpec};
 use fetch_store::{FileError, Files, NoMemory, ObjectId, Text};
 use fetch_wire::RefMap;
 use std::alloc::Global;
 
+/// The file `config` as it is to be written, and what it puts into force.
+#[derive(Drop)]
+pub(crate) struct NewConfig {
+    /// Where it stands.
+    pub path: Text,
+    /// What it says.
+    pub text: Text,
+    /// The local file of that text, resolved.
+    pub resolved: Resolved,
+}
+
 /// `HEAD` takes a revision's commit, or else leads to the reference that a ref name means, or else takes what the remote's
 /// `HEAD` says. A name that it leads to gets its id, and `HEAD` a line in its reflog. Where that name is a branch that the
-/// saved remote's refspecs take, the local configuration gets a section for it, and the file `config` is written anew.
+/// saved remote's refspecs take, the local configuration gets a section for it, and the file `config` is written anew. All
+/// memory but that of this write is taken before `HEAD` moves.
 // Many arguments: the public signature. A clone hands in what it was asked for.
 pub fn update_head<F: Files>(
     alloc: Global,
@@ -44,8 +57,9 @@ pub fn update_head<F: Files>(
 {
     let aim = aimed(alloc, repo, map, ref_name, revision)?;
     let local = followed(alloc, repo, remote_name, &aim)?;
+    let new = made_ready(alloc, repo, local)?;
     turn(alloc, repo, message, aim)?;
-    save_if(alloc, repo, files, local)
+    save_if(repo, files, new)
 }
 
 /// What `HEAD` is to take.
@@ -237,50 +251,103 @@ fn turn(alloc: Global, repo: &mut Repository, message: &[u8], aim: Aim) -> Resul
     }
 }
 
-/// Puts the local file into force, where there is one, and writes it before.
-fn save_if<F: Files>(
+/// The local file made ready to be written, where there is one.
+fn made_ready(
     alloc: Global,
+    repo: &Repository,
+    local: Option<File>,
+) -> Result<Option<NewConfig>, NoMemory>
+    ensures local { IfOk result (λ new. spec.local_of new ≡ local) }
+    ensures ready { IfOk result (spec.IsReadyIn (setup_of repo.now)) }
+{
+    match local {
+        Some(local) => Ok(Some(new_config(alloc, repo, local)?)),
+        None => Ok(None),
+    }
+}
+
+fn new_config(alloc: Global, repo: &Repository, local: File) -> Result<NewConfig, NoMemory>
+    ensures local { IfOk result (λ new. new.resolved.file ≡ local) }
+    ensures ready { IfOk result (λ new. spec.IsReadyIn (setup_of repo.now) (Some new)) }
+{
+    let resolved = resolve(alloc, repo, local)?;
+    let path = config_path(alloc, repo.git_dir())?;
+    let text = whole_text(alloc, &resolved.file)?;
+    Ok(NewConfig {
+        path,
+        text,
+        resolved,
+    })
+}
+
+/// What a file is resolved to in place of the local one.
+fn resolve(alloc: Global, repo: &Repository, local: File) -> Result<Resolved, NoMemory>
+    ensures file { IfOk result (λ r. r.file ≡ local) }
+    ensures config { IfOk result (λ r. resolved_of (setup_of repo.now).base r.file (setup_of repo.now).overrides ≡ Some r.config) }
+{
+    match repo.resolve_local(alloc, local) {
+        Ok(resolved) => Ok(resolved),
+        Err(_) => Err(NoMemory),
+    }
+}
+
+/// The text of all sections of a file.
+fn whole_text(alloc: Global, file: &File) -> Result<Text, NoMemory>
+    ensures { IfOk result (λ text. text ≡ text_of file.now.sections) }
+{
+    match file.write(alloc, None) {
+        Ok(text) => Ok(text),
+        Err(_) => Err(NoMemory),
+    }
+}
+
+/// Writes the file `config` and puts it into force, where there is one.
+fn save_if<F: Files>(
     repo: &mut Repository,
     files: &mut F,
-    local: Option<File>,
+    new: Option<NewConfig>,
 ) -> Result<(), Error>
+    requires { spec.IsReadyIn (setup_of repo.old) new }
     ensures state { state_of repo.new ≡ state_of repo.old }
-    ensures ok { OnOk result (spec.FollowsIf (setup_of repo.old) (setup_of repo.new) (F.told files.old) (F.told files.new) local) }
-    ensures refused { IfErr result (spec.IsUnsaved (F.may_fail files.old) (F.told files.old) (setup_of repo.old).settings.git_dir local) }
+    ensures ok { OnOk result (spec.FollowsIf (setup_of repo.old) (setup_of repo.new) (F.told files.old) (F.told files.new) (spec.local_of new)) }
+    ensures refused { IfErr result (spec.IsUnsaved (F.may_fail files.old) (F.told files.old) (setup_of repo.old).settings.git_dir (spec.local_of new)) }
     ensures err { OnErr result (setup_of repo.new ≡ setup_of repo.old) }
     ensures tree { OnErr result (F.told files.new ≡ F.told files.old) }
     ensures io { IsErrOf result errors.SaveConfigIo → Rose (F.faults files.old) (F.faults files.new) }
     ensures counts { Counts (F.faults files.old) (F.faults files.new) }
     ensures may_fail { F.may_fail files.new ≡ F.may_fail files.old }
 {
-    match local {
-        Some(local) => save_local(alloc, repo, files, local),
+    match new {
+        Some(new) => save_config(repo, files, new),
         None => Ok(()),
     }
 }
 
-/// Writes the whole local file into `config`, and puts it into force. All memory for that is taken before.
-fn save_local<F: Files>(
-    alloc: Global,
-    repo: &mut Repository,
-    files: &mut F,
-    local: File,
-) -> Result<(), Error>
+/// Writes the file `config`, and puts it into force. Memory is taken by the write alone.
+fn save_config<F: Files>(repo: &mut Repository, files: &mut F, new: NewConfig) -> Result<(), Error>
+    requires { spec.IsReadyIn (setup_of repo.old) (Some new) }
     ensures state { state_of repo.new ≡ state_of repo.old }
-    ensures ok { OnOk result (spec.FollowsIf (setup_of repo.old) (setup_of repo.new) (F.told files.old) (F.told files.new) (Some local)) }
-    ensures refused { IfErr result (spec.IsUnsaved (F.may_fail files.old) (F.told files.old) (setup_of repo.old).settings.git_dir (Some local)) }
+    ensures ok { OnOk result (spec.FollowsIf (setup_of repo.old) (setup_of repo.new) (F.told files.old) (F.told files.new) (Some new.resolved.file)) }
+    ensures refused { IfErr result (spec.IsUnsaved (F.may_fail files.old) (F.told files.old) (setup_of repo.old).settings.git_dir (Some new.resolved.file)) }
     ensures err { OnErr result (setup_of repo.new ≡ setup_of repo.old) }
     ensures tree { OnErr result (F.told files.new ≡ F.told files.old) }
     ensures io { IsErrOf result errors.SaveConfigIo → Rose (F.faults files.old) (F.faults files.new) }
     ensures counts { Counts (F.faults files.old) (F.faults files.new) }
     ensures may_fail { F.may_fail files.new ≡ F.may_fail files.old }
 {
-    let Ok(resolved) = repo.resolve_local(alloc, local) else {
-        return Err(Error::NoMemory);
-    };
-    write_local(alloc, files, repo.git_dir(), &resolved.file)?;
-    repo.put_local(resolved);
-    Ok(())
+    let NewConfig {
+        path,
+        text,
+        resolved,
+    } = new;
+    match files.write(path.as_bytes(), text.as_bytes()) {
+        Ok(()) => {
+            repo.put_local(resolved);
+            Ok(())
+        }
+        Err(FileError::Failed) => Err(Error::SaveConfigIo),
+        Err(FileError::NoMemory) => Err(Error::NoMemory),
+    }
 }
 
 /// Writes the whole local file into the file `config` in the directory. After an error it is as before.

@@ -3,6 +3,7 @@ use Rattle.fetch_clone.specs.declared.clone.fetch.Error.TheVariants as errors
 use Rattle.std.specs.Option.{option_copied}
 use Rattle.std.proofs.lemmas.Result.{err_from_is_err_and, on_ok_weaker}
 use Rattle.fetch_remote.specs.Repositories.{state_of}
+use Rattle.fetch_clone.specs.Heading.{local_of}
 use Rattle.fetch_clone.proofs.Headed.{headed, never-written, not-aimed, not-saved}
 use Rattle.fetch_clone.proofs.heading.update_head.Goals as goal
 
@@ -22,6 +23,14 @@ returns-in_err-local-clause-refused g c =
     let p = err_from_is_err_and c.from_residual-in_err-local.result c.from_residual-in_err-local.ensures.1 in
     rw (p.1, p.2) (inl (record { state = refl; setup = refl; tree = refl }))
 
+pub returns-in_err-new-clause-refused : goal.returns-in_err-new-clause-refused
+returns-in_err-new-clause-refused g c =
+    let p = err_from_is_err_and c.from_residual-in_err-new.result c.from_residual-in_err-new.ensures.1 in
+    rw (p.1, p.2) (inl (record { state = refl; setup = refl; tree = refl }))
+
+pub save_if-requires : goal.save_if-requires
+save_if-requires g c = rw c.turn.ensures.setup c.in_ok-new.ensures.ready
+
 pub returns-in_err-turn-clause-refused : goal.returns-in_err-turn-clause-refused
 returns-in_err-turn-clause-refused g c =
     let p = err_from_is_err_and c.from_residual-in_err-turn.result c.from_residual-in_err-turn.ensures.1 in
@@ -30,12 +39,12 @@ returns-in_err-turn-clause-refused g c =
 pub returns-clause-ok : goal.returns-clause-ok
 returns-clause-ok g c =
     on_ok_weaker c.save_if.result
-    (headed (g.F.Files.may_fail c.args.files.now) (g.F.Files.told c.args.files.now) (g.F.Files.told c.save_if.new.files) c.args.repo.now c.turn.new.repo c.save_if.new.repo c.args.map.now c.args.message.now c.args.remote_name.now (option_copied c.args.ref_name) (option_copied c.args.revision) c.in_ok-aim.aim c.in_ok-local.local
-    c.in_ok-aim.ensures.ok (c.save_if.ensures.state ∙ c.in_ok-turn.ensures.state) c.turn.ensures.setup c.in_ok-local.ensures)
+    (headed (g.F.Files.may_fail c.args.files.now) (g.F.Files.told c.args.files.now) (g.F.Files.told c.save_if.new.files) c.args.repo.now c.turn.new.repo c.save_if.new.repo c.args.map.now c.args.message.now c.args.remote_name.now (option_copied c.args.ref_name) (option_copied c.args.revision) c.in_ok-aim.aim (local_of c.in_ok-new.new)
+    c.in_ok-aim.ensures.ok (c.save_if.ensures.state ∙ c.in_ok-turn.ensures.state) c.turn.ensures.setup (c.in_ok-new.ensures.local ∙ c.in_ok-local.ensures))
     c.save_if.ensures.ok
 
 pub returns-clause-refused : goal.returns-clause-refused
 returns-clause-refused g c =
-    not-saved (g.F.Files.may_fail c.args.files.now) (g.F.Files.told c.args.files.now) (g.F.Files.told c.save_if.new.files) c.args.repo.now c.turn.new.repo c.save_if.new.repo c.args.map.now c.args.message.now c.args.remote_name.now (option_copied c.args.ref_name) (option_copied c.args.revision) c.in_ok-aim.aim c.in_ok-local.local
-    c.in_ok-aim.ensures.ok (c.save_if.ensures.state ∙ c.in_ok-turn.ensures.state) c.turn.ensures.setup c.in_ok-local.ensures
+    not-saved (g.F.Files.may_fail c.args.files.now) (g.F.Files.told c.args.files.now) (g.F.Files.told c.save_if.new.files) c.args.repo.now c.turn.new.repo c.save_if.new.repo c.args.map.now c.args.message.now c.args.remote_name.now (option_copied c.args.ref_name) (option_copied c.args.revision) c.in_ok-aim.aim (local_of c.in_ok-new.new)
+    c.in_ok-aim.ensures.ok (c.save_if.ensures.state ∙ c.in_ok-turn.ensures.state) c.turn.ensures.setup (c.in_ok-new.ensures.local ∙ c.in_ok-local.ensures)
     c.save_if.result c.save_if.ensures.tree c.save_if.ensures.err c.save_if.ensures.refused

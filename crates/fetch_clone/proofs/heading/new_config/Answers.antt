@@ -1,0 +1,5 @@
+use Rattle.std.proofs.Common.{◌∙◌}
+use Rattle.fetch_clone.proofs.heading.new_config.Goals as goal
+
+pub returns-clause-ready : goal.returns-clause-ready
+returns-clause-ready c = (rw c.git_dir.ensures at c.in_ok-path.ensures, c.in_ok-text.ensures, c.in_ok-resolved.ensures.config)
