@@ -71,6 +71,9 @@ pub struct PrepareFetch<F: Files + Drop, C: Connect + Drop, R: Drop, G: Drop> {
 impl<F: Files + Drop, C: Connect + Drop, R: Drop, G: Drop> PrepareFetch<F, C, R, G> {
     /// Creates an empty repository at the place, which has to be free unless the options say otherwise, to fetch into it
     /// from the address. A refusal hands the files back.
+    ///
+    /// `configure_remote` is given the remote before it is saved. Which tags it chooses is saved, but all tags are fetched,
+    /// unless the builder of that name is called or a revision is asked for.
     // Many arguments: the public signature. All that a clone is made of is owned by it.
     pub fn new(
         alloc: Global,
@@ -112,7 +115,8 @@ impl<F: Files + Drop, C: Connect + Drop, R: Drop, G: Drop> PrepareFetch<F, C, R,
         }
     }
 
-    /// The same with another closure for the remote, which is called before the remote is saved.
+    /// The same with another closure for the remote, which is called before the remote is saved. The tags that it chooses are
+    /// those that are fetched.
     pub fn configure_remote<R2: Drop>(self, f: R2) -> PrepareFetch<F, C, R2, G>
         ensures files { result.files ≡ self.files }
         ensures maker { result.maker ≡ self.maker }
@@ -193,8 +197,10 @@ impl<F: Files + Drop, C: Connect + Drop, R: Drop, G: Drop> PrepareFetch<F, C, R,
         clone
     }
 
-    /// The same, where `HEAD` is to lead to this reference. It takes the place of a revision; None takes back a reference
-    /// alone. Where the name is none, the clone is handed back as it was.
+    /// The same, where `HEAD` is to lead to this reference: all branches are fetched beside it. Where another depth is asked
+    /// for, and no more refspecs, that reference alone is, with the remote's `HEAD` and the tags; a connection more tells which
+    /// one is meant. It takes the place of a revision; None takes back a reference alone. Where the name is none, the clone is
+    /// handed back as it was.
     pub fn with_ref_name(self, name: Option<&[u8]>) -> Result<Self, (Self, NameError)>
         ensures ok { IfOk result (λ p. p ≡ record self { draft = with_choices self.draft (with_wanted self.draft.choices (ref_name_chosen self.draft.choices.wanted (option_copied name.entry))) }) }
         ensures verdict { RefNameVerdict (option_copied name.entry) result }
@@ -208,8 +214,9 @@ impl<F: Files + Drop, C: Connect + Drop, R: Drop, G: Drop> PrepareFetch<F, C, R,
         }
     }
 
-    /// The same, where this revision alone is fetched. It takes the place of a reference; None takes back a revision alone.
-    /// Where the text names none, the clone is handed back as it was.
+    /// The same, where this revision alone is fetched, at any depth, without branches and tags: `HEAD` takes its commit. It
+    /// takes the place of a reference; None takes back a revision alone. Where the text names none, the clone is handed back
+    /// as it was.
     pub fn with_revision(
         self,
         revision: Option<&[u8]>,
