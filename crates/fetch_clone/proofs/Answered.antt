@@ -49,10 +49,10 @@ none-made None after e made = made
 none-made (Some []) after e made = made
 none-made (Some (first ∷ left)) after e made = made
 
-pub none-at : {P E : Type 0} (url : Option (List ℕ)) (before after : Option (List (List ℕ))) (e : E) → MakesAtFirst {P = P} url before after (Err e) → after ≡ before
-none-at None before after e made = made
-none-at (Some url) None after e made = made
-none-at (Some url) (Some addresses) after e made = made
+pub none-at : (P : Type 0) {E : Type 0} (url : Option (List ℕ)) (before after : Option (List (List ℕ))) (e : E) → MakesAtFirst {P = P} url before after (Err e) → after ≡ before
+none-at P None before after e made = made
+none-at P (Some url) None after e made = made
+none-at P (Some url) (Some addresses) after e made = made
 
 -- the same peers and addresses
 pub same-line : {G P : Type 0} (left left_after taken taken_after : Option (List P)) (addresses addresses_after : Option (List (List ℕ))) (closure : G) → left_after ≡ left → taken_after ≡ taken → addresses_after ≡ addresses

@@ -19,10 +19,10 @@ use Rattle.fetch_remote.specs.declared.repository.open_error.OpenError.TheVarian
 use Rattle.fetch_clone.specs.Cloned.{IsUnfinished}
 use Rattle.fetch_clone.specs.Counted.{Meters, IsCounted}
 use Rattle.fetch_clone.specs.Heading.{IsHeadRefusal}
-use Rattle.fetch_clone.specs.Listed.{Query, IsUnprepared}
+use Rattle.fetch_clone.specs.Listed.{Query, IsUnprepared, url_of}
 use Rattle.fetch_clone.specs.Mirrors.{IsMirrorRefusal}
 use Rattle.fetch_clone.specs.Planned.{Answering, IsNotNamed, overrides_of}
-use Rattle.fetch_clone.specs.Reached.{Ways, Line, IsUnreached}
+use Rattle.fetch_clone.specs.Reached.{Ways, Line, IsTurnedAway, IsUnreached}
 use Rattle.fetch_clone.specs.Received.{IsOfReceiving, IsUnmapped, IsUnmappedFor}
 use Rattle.fetch_clone.specs.Saving.{IsNotSavedAs}
 use Rattle.fetch_clone.specs.Stages.{listing, preparing, receiving, reopening, ref_name_of, remote_name, revision_of}
@@ -90,7 +90,7 @@ named-counted w was is before after draft found repo e h lost said =
       | inr y ↦ elim y [
         | inl b ↦ uncounted was is e (name-uncounted (remote_name draft.choices repo.setup.settings.config) e b.why)
         | inr t ↦ elim t.why.why [
-          | inl u ↦ unreached-counted _ _ was is (Some draft.url) e u
+          | inl u ↦ unreached-counted (IsTurnedAway w (Some draft.url) before after) (after ≡ before) was is (Some draft.url) e u
           | inr x ↦ elim x [
             | inl l ↦ subst (IsCounted was is) (sym l.1) (listing-counted was is l.0 (λ h. lost (l.1 ∙ h)) (λ h. said (l.1 ∙ h)))
             | inr a ↦ uncounted was is e (target-uncounted repo.state a.listed.ref_map (ref_name_of draft.choices.wanted) _ a.why.0 e a.why.1 a.why.2)
@@ -180,11 +180,11 @@ pub listed-counted : {G P : Type 0} (w : Ways G P) (was is : Meters) (before aft
 listed-counted w was is before after q e h lost said =
     elim h.by [
       | inl first ↦ elim first [
-        | inl u ↦ unreached-counted _ _ was is _ e u
+        | inl u ↦ unreached-counted (IsTurnedAway w (url_of q) before after) (after ≡ before) was is (url_of q) e u
         | inr b ↦ prepared-counted was is b.0 e b.1 lost said
       ]
       | inr again ↦ elim again.why.by [
-        | inl u ↦ again-counted was is _ _ again.failed _ e again.earlier u
+        | inl u ↦ again-counted was is (λ fault. ⊥) ((after.left ≡ again.between.left) × (after.taken ≡ again.between.taken) × (after.addresses ≡ again.between.addresses)) again.failed (url_of q) e again.earlier u
         | inr b ↦ prepared-counted was is b.0 e b.1 lost said
       ]
     ]

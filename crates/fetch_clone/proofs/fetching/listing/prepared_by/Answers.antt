@@ -33,4 +33,4 @@ pub returns-clause-listed : goal.returns-clause-listed
 returns-clause-listed g c = record { list = (rw c.settings.ensures.settings at c.in_ok-listed.ensures.held).held }
 
 pub returns-clause-quiet : goal.returns-clause-quiet
-returns-clause-quiet g c no = c.in_ok-listed.ensures.interrupt.quiet refl
+returns-clause-quiet g c none = c.in_ok-listed.ensures.interrupt.quiet refl

@@ -8,7 +8,7 @@ use Rattle.fetch_clone.proofs.fetching.reaching.reached.Goals as goal
 pub returns-in_err-peer-clause-refused : goal.returns-in_err-peer-clause-refused
 returns-in_err-peer-clause-refused g c =
     let p = err_from_is_err_and c.from_residual.result c.from_residual.ensures.1 in
-    rw (p.1, p.2) (unreached _ _ _ (g.C.Connect.faults c.args.maker.now) (g.C.Connect.faults c.connect.new.maker) _ c.in_err-peer.field-0.0 (same-line _ _ _ _ _ _ _ (none-made _ _ c.in_err-peer.field-0.0 c.in_err-peer.ensures.left) c.in_err-peer.ensures.taken (none-at _ _ _ c.in_err-peer.field-0.0 c.in_err-peer.ensures.address)) c.in_err-peer.ensures.missing (λ is. c.in_err-peer.ensures.cause (rw is refl)))
+    rw (p.1, p.2) (unreached _ _ _ (g.C.Connect.faults c.args.maker.now) (g.C.Connect.faults c.connect.new.maker) _ c.in_err-peer.field-0.0 (same-line _ _ _ _ _ _ c.args.configure.now (none-made _ _ c.in_err-peer.field-0.0 c.in_err-peer.ensures.left) c.in_err-peer.ensures.taken (none-at _ _ _ _ c.in_err-peer.field-0.0 c.in_err-peer.ensures.address)) c.in_err-peer.ensures.missing (λ is. c.in_err-peer.ensures.cause (rw is refl)))
 
 pub returns-in-Ok-clause-reached : goal.returns-in-Ok-clause-reached
 returns-in-Ok-clause-reached g c =
