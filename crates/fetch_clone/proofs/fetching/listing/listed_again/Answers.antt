@@ -16,7 +16,7 @@ returns-in_err-options-clause-refused g c =
 pub returns-in_err-peer-clause-refused : goal.returns-in_err-peer-clause-refused
 returns-in_err-peer-clause-refused g c =
     let p = err_from_is_err_and c.from_residual-in_err-peer.result c.from_residual-in_err-peer.ensures.1 in
-    rw (p.1, p.2) (record { by = inl (unreached _ _ ((g.C.Connect.left c.connect.new.maker ≡ g.C.Connect.left c.args.maker.now) × (g.C.Connect.taken c.connect.new.maker ≡ g.C.Connect.taken c.args.maker.now) × (g.C.Connect.addresses c.connect.new.maker ≡ g.C.Connect.addresses c.args.maker.now)) (g.C.Connect.faults c.args.maker.now) (g.C.Connect.faults c.connect.new.maker) _ c.in_err-peer.field-0.0 (none-made _ _ c.in_err-peer.field-0.0 c.in_err-peer.ensures.left, c.in_err-peer.ensures.taken, none-at _ _ _ _ c.in_err-peer.field-0.0 c.in_err-peer.ensures.address) c.in_err-peer.ensures.missing (λ is. c.in_err-peer.ensures.cause (rw is refl))) })
+    rw (p.1, p.2) (record { by = inl (unreached _ (λ fault. ⊥) ((g.C.Connect.left c.connect.new.maker ≡ g.C.Connect.left c.args.maker.now) × (g.C.Connect.taken c.connect.new.maker ≡ g.C.Connect.taken c.args.maker.now) × (g.C.Connect.addresses c.connect.new.maker ≡ g.C.Connect.addresses c.args.maker.now)) (g.C.Connect.faults c.args.maker.now) (g.C.Connect.faults c.connect.new.maker) _ c.in_err-peer.field-0.0 (none-made _ _ c.in_err-peer.field-0.0 c.in_err-peer.ensures.left, c.in_err-peer.ensures.taken, none-at _ _ _ _ c.in_err-peer.field-0.0 c.in_err-peer.ensures.address) c.in_err-peer.ensures.missing (λ is. c.in_err-peer.ensures.cause (rw is refl))) })
 
 pub returns-in-Ok-clause-listed : goal.returns-in-Ok-clause-listed
 returns-in-Ok-clause-listed g c =
