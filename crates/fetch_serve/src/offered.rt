@@ -21,16 +21,15 @@ use fetch_wire::Ref;
 use std::alloc::Global;
 
 /// What a tag at this id leads to; nothing of another object.
-fn peeled_from(alloc: Global, store: &Store, id: ObjectId) -> Result<Option<ObjectId>, NoMemory>
-    ensures { IfOk result (λ found. found ≡ spec.peeled_from (graph_of store.now.objects) id) }
+fn peeled_from(store: &Store, id: ObjectId) -> Option<ObjectId>
+    ensures { result ≡ spec.peeled_from (graph_of store.now.objects) id }
 {
     if store.tag_target(&id).is_none() {
-        return Ok(None);
+        return None;
     }
-    match peel_tags(alloc, store, id) {
-        Ok(last) => Ok(Some(last)),
-        Err(RefError::NoMemory) => Err(NoMemory),
-        Err(_) => Ok(None),
+    match peel_tags(store, id) {
+        Ok(last) => Some(last),
+        Err(_) => None,
     }
 }
 
@@ -105,16 +104,12 @@ fn made(
 }
 
 /// What a tag at the id leads to, where there is an id.
-fn peeled_if(
-    alloc: Global,
-    store: &Store,
-    id: Option<ObjectId>,
-) -> Result<Option<ObjectId>, NoMemory>
-    ensures { IfOk result (λ found. found ≡ spec.peeled_behind (graph_of store.now.objects) id) }
+fn peeled_if(store: &Store, id: Option<ObjectId>) -> Option<ObjectId>
+    ensures { result ≡ spec.peeled_behind (graph_of store.now.objects) id }
 {
     match id {
-        Some(id) => peeled_from(alloc, store, id),
-        None => Ok(None),
+        Some(id) => peeled_from(store, id),
+        None => None,
     }
 }
 
@@ -123,7 +118,7 @@ fn listed(parts: Parts<'_>, name: &[u8], target: TargetRef<'_>) -> Result<Option
     ensures { IfOk result (λ found. found ≡ spec.listed (held_by parts.entry) (name.now, seen target.entry)) }
 {
     let id = resolved(parts, name, target)?;
-    let peeled = peeled_if(parts.alloc, parts.store, id)?;
+    let peeled = peeled_if(parts.store, id);
     made(parts.alloc, name, id, target_of(target), peeled)
 }
 

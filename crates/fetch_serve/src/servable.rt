@@ -39,10 +39,8 @@ fn is_refused(parts: Parts<'_>, name: &[u8], target: TargetRef<'_>) -> Result<bo
         Err(RefError::Unborn { .. }) => return Ok(false),
         Err(_) => return Ok(true),
     };
-    match peel_tags(parts.alloc, parts.store, id) {
-        Ok(_) => Ok(false),
-        Err(RefError::NoMemory) => Err(NoMemory),
-        Err(RefError::Unborn { .. }) => Ok(false),
+    match peel_tags(parts.store, id) {
+        Ok(_) | Err(RefError::Unborn { .. }) => Ok(false),
         Err(_) => Ok(true),
     }
 }
