@@ -63,7 +63,7 @@ pub(crate) fn cause(
     match target {
         TargetRef::Object(id) => Ok(unstored(store, id)),
         TargetRef::Symbolic(_) => match refs.resolve(name, target) {
-            Ok(id) => told(store, peel_tags(alloc, store, id)),
+            Ok(id) => told(store, peel_tags(store, id)),
             Err(e) => told(store, Err(e)),
         },
     }

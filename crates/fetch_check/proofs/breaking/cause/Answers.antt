@@ -1,10 +1,12 @@
-use Rattle.std.proofs.Common.{◌≡◌, Bool, true, false, [], Err, sym, ap, subst, ◌∙◌}
+use Rattle.std.proofs.Common.{◌≡◌, Bool, true, false, [], Result, Ok, Err, sym, ap, subst, ◌∙◌}
 use Rattle.std.specs.Prelude.{IfOk}
 use Rattle.std.specs.Bool.{OnFalse}
 use Rattle.std.specs.FinMap as map
 use Rattle.fetch_store.specs.Answers.{AnswersUnless}
+use Rattle.fetch_store.specs.declared.id.ObjectId.{ObjectId}
 use Rattle.fetch_store.specs.Graph.{graph_of}
 use Rattle.fetch_refs.specs.Answers.{is_memory}
+use Rattle.fetch_refs.specs.declared.error.RefError.{RefError}
 use Rattle.fetch_refs.specs.Peeled.{resolved, and_then, through}
 use Rattle.fetch_refs.specs.Targets.{seen}
 use Rattle.fetch_check.specs.Finding.{cause_in, cause_of, end_of}
@@ -14,6 +16,14 @@ use Rattle.fetch_check.proofs.breaking.cause.Goals as goal
 unless_free : (b : Bool) (P Q : Type 0) → (P → Q) → OnFalse b P → OnFalse b Q
 unless_free true P Q f h = tt
 unless_free false P Q f h = f h
+
+freely : (b : Bool) (P : Type 0) → P → OnFalse b P
+freely true P h = tt
+freely false P h = h
+
+as_told : (expected found : Result ObjectId RefError) → found ≡ expected → AnswersUnless is_memory expected found
+as_told expected (Ok id) is = sym is
+as_told expected (Err e) is = freely (is_memory e) (expected ≡ Err e) (sym is)
 
 pub returns-in-Object : goal.returns-in-Object
 returns-in-Object c = c.unstored.ensures ∙ sym (ap (λ t. cause_of c.args.refs.now.names c.args.store.now.objects (c.args.name.now, seen t)) c.in-Object.is)
@@ -25,7 +35,7 @@ returns-in-Ok c =
     let graph = graph_of objects in
     let name = c.args.name.now in
     let end = end_of names graph (name, seen c.args.target) in
-    let answers : AnswersUnless is_memory end c.peel_tags.result = subst (λ r. AnswersUnless is_memory (and_then r (through graph (map.len graph) [])) c.peel_tags.result) (sym c.in-Ok.ensures) c.peel_tags.ensures in
+    let answers : AnswersUnless is_memory end c.peel_tags.result = as_told end c.peel_tags.result (c.peel_tags.ensures ∙ ap (λ r. and_then r (through graph (map.len graph) [])) (sym c.in-Ok.ensures)) in
     let same : cause_in objects end ≡ cause_of names objects (name, seen c.args.target) =
     ap (λ t. cause_in objects (end_of names graph (name, seen t))) c.in-Symbolic.is ∙ sym (ap (λ t. cause_of names objects (name, seen t)) c.in-Symbolic.is) in
     subst (λ x. IfOk c.told.result (λ cause. cause ≡ x)) same (c.told.ensures end answers)
