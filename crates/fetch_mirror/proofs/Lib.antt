@@ -1,0 +1,5 @@
+pub mod EachPair
+pub mod Halves
+pub mod PlainNames
+pub mod AsItself
+pub mod Dealing

@@ -1,0 +1,7 @@
+//! A mirror of a server's references, fetched by several workers at once.
+#![tactic(auto)]
+
+mod pairs;
+mod sharing;
+
+pub use sharing::share;
