@@ -5,3 +5,8 @@ pub mod AsItself
 pub mod Dealing
 pub mod OwnMatches
 pub mod Divided
+pub mod Along
+pub mod GoingAlong
+pub mod HeardAlong
+pub mod StagesAlong
+pub mod Written

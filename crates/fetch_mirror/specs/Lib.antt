@@ -1,2 +1,4 @@
+pub mod Along
+pub mod GoingAlong
 pub mod Pairs
 pub mod Shares
