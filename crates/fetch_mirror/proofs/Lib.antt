@@ -10,3 +10,5 @@ pub mod GoingAlong
 pub mod HeardAlong
 pub mod StagesAlong
 pub mod Written
+pub mod NoopRead
+pub mod Replies

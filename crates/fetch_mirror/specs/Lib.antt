@@ -1,4 +1,5 @@
 pub mod Along
 pub mod GoingAlong
 pub mod Pairs
+pub mod Settings
 pub mod Shares

@@ -1,7 +1,7 @@
 //! What holds of conversations with servers whose replies depend on all that was heard before, and of shares. Each law is a
 //! function without a body: its clauses are proved.
 
-ghost use Rattle.std.specs.Prelude.{◌≡◌, ◌↔◌, ◌++◌, ℕ, Bool, false, List, [], map, Option, Some, Result, Ok, Err, IsTrue};
+ghost use Rattle.std.specs.Prelude.{◌≡◌, ◌↔◌, ◌++◌, ◌<◌, ℕ, None, sum_by, Bool, false, List, [], map, Option, Some, Result, Ok, Err, IsTrue};
 ghost use Rattle.std.specs.List.{Contains};
 ghost use Rattle.fetch_store.specs.declared.id.Kind.{Kind};
 ghost use Rattle.fetch_specs.specs.Matches.{mappings_of};
@@ -10,10 +10,18 @@ ghost use Rattle.fetch_specs.specs.Parses.{parsed};
 ghost use Rattle.fetch_specs.specs.declared.found.Match.{Match};
 ghost use Rattle.fetch_specs.specs.declared.operation.Operation.TheVariants.{Fetch};
 ghost use Rattle.fetch_wire.specs.Talks.{Talk, IsFront};
-ghost use Rattle.fetch_wire.specs.Written.{lines_text};
+ghost use Rattle.fetch_wire.specs.Written.{first_too_long, lines_text};
 ghost use Rattle.fetch_wire.specs.declared.lines.line.Line.{Line};
 ghost use Rattle.fetch_conversation.specs.Conversation.{Conversation, sent_in, answer_in, and_then, map_refusal, told_as, Concludes, Breaks};
 ghost use Rattle.fetch_conversation.specs.Served.{without_rest, IsFresh, Follows};
+ghost use Rattle.fetch_config.specs.declared.meta.Meta.{Meta};
+ghost use Rattle.fetch_wire.specs.Awaited.{step_of, start_of, told_at};
+ghost use Rattle.fetch_wire.specs.Lines.{line_len};
+ghost use Rattle.fetch_wire.specs.LinesTold.{Tells};
+ghost use Rattle.fetch_wire.specs.declared.replies.awaited.Await.{Await};
+ghost use Rattle.fetch_wire.specs.declared.replies.awaited.Told.{Told};
+ghost use Rattle.fetch_mirror.specs.Settings.{IsRead, config_from};
+ghost use Rattle.fetch_wire.specs.declared.replies.awaited.Fault.TheVariants.{TooLong};
 ghost use Rattle.fetch_mirror.specs.Along.{Grows, IsAlong, answer_along, sent_along};
 ghost use Rattle.fetch_mirror.specs.GoingAlong.{GoesAlong, GoesTo, IsAlongByCases};
 ghost use Rattle.fetch_mirror.specs.Shares.{as_itself, itself_text, AreDivided, AreOnce, AreOwnNames, IsOwnMatch};
@@ -77,4 +85,15 @@ pub fn shares_map_names_to_themselves()
 /// The shares divide the names: each name goes to the worker that its place says, and to no other, and none comes twice.
 pub fn shares_divide_the_names()
     ensures { (workers : ℕ) (names : List (List ℕ)) → AreDivided workers names }
+{}
+
+/// A reply whose lines pass the bound is told as too long, whatever follows.
+pub fn replies_that_pass_the_bound_are_too_long()
+    ensures { (bound : ℕ) (awaited : Await) (lines : List Line) (rest : List ℕ) (told : Told) → Tells step_of (start_of awaited) lines told → first_too_long lines ≡ None
+        → bound < sum_by line_len lines → told_at bound awaited (lines_text lines ++ rest) ≡ Err TooLong }
+{}
+
+/// The settings of a mirror are read: it tells no haves.
+pub fn a_mirror_tells_no_haves()
+    ensures { (meta : Meta) → IsRead (config_from meta) }
 {}

@@ -1,0 +1,27 @@
+-- No reply has a line of a response end.
+use Rattle.std.proofs.Common.{◌≡◌, refl}
+use Rattle.fetch_wire.specs.Awaited.{step_of}
+use Rattle.fetch_wire.specs.Stepping.{breaks}
+use Rattle.fetch_wire.specs.declared.lines.line.Line.TheVariants.{End}
+use Rattle.fetch_wire.specs.declared.replies.reading.Part.TheVariants as parts
+use Rattle.fetch_wire.specs.declared.replies.reading.Reading.{Reading}
+use Rattle.fetch_wire.specs.declared.replies.reading.Reading.TheVariants as reading
+use Rattle.fetch_mirror.proofs.Written.{HasNoEnd}
+
+ends_break : (r : Reading) → step_of r End ≡ breaks
+unfolding step_of
+ends_break reading.Greeting = refl
+ends_break (reading.Capabilities before) = refl
+ends_break reading.Version = refl
+ends_break (reading.Advertisement handshake before next) = refl
+ends_break (reading.Listing kind before) = refl
+ends_break (reading.Reply asked parts.Beginning reply) = refl
+ends_break (reading.Reply asked parts.Acknowledgments reply) = refl
+ends_break (reading.Reply asked parts.Ready reply) = refl
+ends_break (reading.Reply asked parts.Rest reply) = refl
+ends_break (reading.Reply asked parts.ShallowInfo reply) = refl
+ends_break (reading.Reply asked parts.Packfile reply) = refl
+ends_break (reading.Reply asked parts.Bands reply) = refl
+
+pub no_end : HasNoEnd step_of
+no_end = record { broken = ends_break }
