@@ -12,3 +12,5 @@ pub mod StagesAlong
 pub mod Written
 pub mod NoopRead
 pub mod Replies
+pub mod FetchAlong
+pub mod WorkerAlong

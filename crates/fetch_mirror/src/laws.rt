@@ -22,6 +22,18 @@ ghost use Rattle.fetch_wire.specs.declared.replies.awaited.Await.{Await};
 ghost use Rattle.fetch_wire.specs.declared.replies.awaited.Told.{Told};
 ghost use Rattle.fetch_mirror.specs.Settings.{IsRead, config_from};
 ghost use Rattle.fetch_wire.specs.declared.replies.awaited.Fault.TheVariants.{TooLong};
+ghost use Rattle.fetch_conversation.specs.ListStage.{ListedValue, inquiry_stage, no_specs};
+ghost use Rattle.fetch_conversation.specs.declared.conversing.Received.{Received};
+ghost use Rattle.fetch_conversation.specs.declared.fetch.Error.{Error as ReceiveError};
+ghost use Rattle.fetch_conversation.specs.declared.prepare.Error.{Error as PrepareError};
+ghost use Rattle.fetch_remote.specs.Errors.{is_free, preparing, receiving};
+ghost use Rattle.fetch_remote.specs.Fetched.{HasHeard};
+ghost use Rattle.fetch_remote.specs.Form.{Given};
+ghost use Rattle.fetch_remote.specs.Refused.{HasEnded};
+ghost use Rattle.fetch_remote.specs.Repositories.{State};
+ghost use Rattle.fetch_remote.specs.Stages.{Told as ToldInAll, bound_of, conversation, inquiry_in, pack_stage};
+ghost use Rattle.fetch_remote.specs.Talking.{BreaksListing, BreaksReceiving};
+ghost use Rattle.fetch_remote.specs.declared.fetching.fetch_error.FetchError.{FetchError};
 ghost use Rattle.fetch_mirror.specs.Along.{Grows, IsAlong, answer_along, sent_along};
 ghost use Rattle.fetch_mirror.specs.GoingAlong.{GoesAlong, GoesTo, IsAlongByCases};
 ghost use Rattle.fetch_mirror.specs.Shares.{as_itself, itself_text, AreDivided, AreOnce, AreOwnNames, IsOwnMatch};
@@ -69,6 +81,33 @@ pub fn stages_go_along<X, Y, E, F>()
         → GoesAlong bound rule before c sent (Err e) → GoesAlong bound rule before (and_then c f) sent (Err e) }
     ensures told_otherwise { (bound : ℕ) (rule : List ℕ → List ℕ) (before : List ℕ) (g : E → F) (c : Conversation X E) (sent : List Line) (answer : Result X E)
         → GoesAlong bound rule before c sent answer → GoesAlong bound rule before (told_as g c) sent (map_refusal g answer) }
+{}
+
+/// A fetch from a fresh peer that answers by a rule tells what the rule's replies tell, or is refused as they say, unless
+/// freely. One tree serves for all: the whole conversation, over any state where the references weren't listed.
+pub fn a_fetch_goes_along()
+    ensures ended { (rule : List ℕ → List ℕ) (answers : Bool) (old : Option Talk) (new : Talk) (g : Given) (s : State) (said : List ℕ) (told : ToldInAll) → Grows rule → rule [] ≡ []
+        → IsAlong (bound_of g) rule [] (conversation g s) → IsFresh rule old → Follows rule new
+        → HasHeard answers old (Some new) g s said → HasEnded g s said told → answer_along (bound_of g) rule [] (conversation g s) ≡ Ok told }
+    ensures unlisted { (rule : List ℕ → List ℕ) (answers : Bool) (old : Option Talk) (new : Talk) (g : Given) (s : State) (e : FetchError) → Grows rule → rule [] ≡ []
+        → IsAlong (bound_of g) rule [] (conversation g s) → IsFresh rule old → Follows rule new
+        → BreaksListing answers old (Some new) g e → is_free e ≡ false → answer_along (bound_of g) rule [] (conversation g s) ≡ Err e }
+    ensures unreceived { (rule : List ℕ → List ℕ) (answers : Bool) (old : Option Talk) (new : Talk) (g : Given) (s : State) (e : FetchError) → Grows rule → rule [] ≡ []
+        → IsAlong (bound_of g) rule [] (conversation g s) → IsFresh rule old → Follows rule new
+        → BreaksReceiving answers old (Some new) g s e → is_free e ≡ false → answer_along (bound_of g) rule [] (conversation g s) ≡ Err e }
+{}
+
+/// The whole conversation of a fetch goes along a rule's replies where its listing does and then its fetch of a pack: to what
+/// both tell, or to the refusal of either.
+pub fn a_fetch_goes_along_by_stages()
+    ensures fetched { (rule : List ℕ → List ℕ) (g : Given) (s : State) (after last : List ℕ) (sent others : List Line) (l : ListedValue) (r : Option Received) → no_specs (inquiry_in g) ≡ None
+        → GoesTo (bound_of g) rule [] after (inquiry_stage (bound_of g) (inquiry_in g)) sent l → GoesTo (bound_of g) rule after last (pack_stage g s l) others r
+        → GoesAlong (bound_of g) rule [] (conversation g s) (sent ++ (others ++ [])) (Ok (record { listed = l; received = r })) }
+    ensures unlisted { (rule : List ℕ → List ℕ) (g : Given) (s : State) (sent : List Line) (e : PrepareError) → no_specs (inquiry_in g) ≡ None
+        → GoesAlong (bound_of g) rule [] (inquiry_stage (bound_of g) (inquiry_in g)) sent (Err e) → GoesAlong (bound_of g) rule [] (conversation g s) sent (Err (preparing e)) }
+    ensures unreceived { (rule : List ℕ → List ℕ) (g : Given) (s : State) (after : List ℕ) (sent others : List Line) (l : ListedValue) (e : ReceiveError) → no_specs (inquiry_in g) ≡ None
+        → GoesTo (bound_of g) rule [] after (inquiry_stage (bound_of g) (inquiry_in g)) sent l → GoesAlong (bound_of g) rule after (pack_stage g s l) others (Err e)
+        → GoesAlong (bound_of g) rule [] (conversation g s) (sent ++ others) (Err (receiving e)) }
 {}
 
 /// Each full name makes a refspec that fetches it as itself, by force.
