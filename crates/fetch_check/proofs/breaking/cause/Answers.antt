@@ -35,7 +35,7 @@ returns-in-Ok c =
     let graph = graph_of objects in
     let name = c.args.name.now in
     let end = end_of names graph (name, seen c.args.target) in
-    let answers : AnswersUnless is_memory end c.peel_tags.result = as_told end c.peel_tags.result (c.peel_tags.ensures ∙ ap (λ r. and_then r (through graph (map.len graph) [])) (sym c.in-Ok.ensures)) in
+    let answers : AnswersUnless is_memory end c.peel_tags.result = as_told end c.peel_tags.result (c.peel_tags.ensures ∙ ap (λ r. and_then r (through graph (map.len graph) [])) (sym c.in-Ok.ensures.answer)) in
     let same : cause_in objects end ≡ cause_of names objects (name, seen c.args.target) =
     ap (λ t. cause_in objects (end_of names graph (name, seen t))) c.in-Symbolic.is ∙ sym (ap (λ t. cause_of names objects (name, seen t)) c.in-Symbolic.is) in
     subst (λ x. IfOk c.told.result (λ cause. cause ≡ x)) same (c.told.ensures end answers)
@@ -48,7 +48,7 @@ returns-in-Err c =
     let name = c.args.name.now in
     let end = end_of names graph (name, seen c.args.target) in
     let answers : OnFalse (is_memory c.in-Err.e) (end ≡ Err c.in-Err.e) =
-    unless_free (is_memory c.in-Err.e) (resolved names name (seen c.args.target) ≡ Err c.in-Err.e) (end ≡ Err c.in-Err.e) (λ is. ap (λ r. and_then r (through graph (map.len graph) [])) is) c.in-Err.ensures in
+    unless_free (is_memory c.in-Err.e) (resolved names name (seen c.args.target) ≡ Err c.in-Err.e) (end ≡ Err c.in-Err.e) (λ is. ap (λ r. and_then r (through graph (map.len graph) [])) is) c.in-Err.ensures.answer in
     let same : cause_in objects end ≡ cause_of names objects (name, seen c.args.target) =
     ap (λ t. cause_in objects (end_of names graph (name, seen t))) c.in-Symbolic.is ∙ sym (ap (λ t. cause_of names objects (name, seen t)) c.in-Symbolic.is) in
     subst (λ x. IfOk c.told-in-Err.result (λ cause. cause ≡ x)) same (c.told-in-Err.ensures end answers)

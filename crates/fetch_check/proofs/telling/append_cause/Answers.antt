@@ -7,12 +7,12 @@ pub returns-in_ok-append_hex-in-MissingObject : goal.returns-in_ok-append_hex-in
 returns-in_ok-append_hex-in-MissingObject c =
     let id = c.in-MissingObject.id in
     let old = c.args.out.now.items in
-    c.in_ok-append_hex-in-MissingObject.ensures ∙ ap (λ t. t ++ hex_of id) c.in_ok-extend_from_slice-in-MissingObject.ensures.items
+    c.in_ok-append_hex-in-MissingObject.ensures.ok ∙ ap (λ t. t ++ hex_of id) c.in_ok-extend_from_slice-in-MissingObject.ensures.items
     ∙ append_assoc old (codes " MissingObject ") (hex_of id) ∙ sym (ap (λ x. old ++ cause_text x) c.in-MissingObject.is)
 
 pub returns-in_ok-append_hex-in-TagCycle : goal.returns-in_ok-append_hex-in-TagCycle
 returns-in_ok-append_hex-in-TagCycle c =
     let id = c.in-TagCycle.id in
     let old = c.args.out.now.items in
-    c.in_ok-append_hex-in-TagCycle.ensures ∙ ap (λ t. t ++ hex_of id) c.in_ok-extend_from_slice-in-TagCycle.ensures.items
+    c.in_ok-append_hex-in-TagCycle.ensures.ok ∙ ap (λ t. t ++ hex_of id) c.in_ok-extend_from_slice-in-TagCycle.ensures.items
     ∙ append_assoc old (codes " TagCycle ") (hex_of id) ∙ sym (ap (λ x. old ++ cause_text x) c.in-TagCycle.is)
