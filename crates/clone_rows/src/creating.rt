@@ -73,11 +73,11 @@ pub(crate) fn tell<F: Files>(
 /// How a refused step is called, and its path.
 fn say_step(e: &Error, out: &mut Vec<u8>) -> Result<(), NoMemory> {
     match e {
-        Error::IoOpen { path }
-        | Error::IoWrite { path }
-        | Error::CreateDirectory { path }
-        | Error::DirectoryNotEmpty { path }
-        | Error::DirectoryExists { path } => say(out, &[word_of(e), path.as_bytes()]),
+        Error::IoOpen { path } => say(out, &[b"IoOpen", path.as_bytes()]),
+        Error::IoWrite { path } => say(out, &[b"IoWrite", path.as_bytes()]),
+        Error::CreateDirectory { path } => say(out, &[b"CreateDirectory", path.as_bytes()]),
+        Error::DirectoryNotEmpty { path } => say(out, &[b"DirectoryNotEmpty", path.as_bytes()]),
+        Error::DirectoryExists { path } => say(out, &[b"DirectoryExists", path.as_bytes()]),
         Error::NoMemory => say(out, &[b"NoMemory"]),
     }
 }
