@@ -14,3 +14,11 @@ pub mod NoopRead
 pub mod Replies
 pub mod FetchAlong
 pub mod WorkerAlong
+pub mod ServedAlong
+pub mod RequestsRead
+pub mod ListingAlong
+pub mod FetchRead
+pub mod RisingPrefixes
+pub mod PackAlong
+pub mod MirrorAlong
+pub mod AcceptedTerms
