@@ -1,0 +1,279 @@
+//! The references that a server offers.
+
+ghost use Rattle.std.specs.Prelude.{◌≡◌, ◌++◌, nat_eq, not, filter, slice_get, IfOk, OnOk};
+ghost use Rattle.std.specs.List.{flat_map, list_any, starts_with};
+ghost use Rattle.std.specs.List.Sorted.{IsStrictlySortedBy};
+ghost use Rattle.std.specs.Option.{option_copied};
+ghost use Rattle.std.specs.Result.{result_ok};
+ghost use Rattle.std.specs.Str.{bytes_eq};
+ghost use Rattle.fetch_refs.specs.Peeled.{resolved};
+ghost use Rattle.fetch_refs.specs.Targets.{seen};
+ghost use Rattle.fetch_serve.specs.Offered as spec;
+ghost use Rattle.fetch_serve.specs.Parts.{held_by};
+ghost use Rattle.fetch_serve.specs.Requests.{has_id};
+ghost use Rattle.fetch_store.specs.Borders.{set_of};
+ghost use Rattle.fetch_store.specs.Graph.{graph_of};
+ghost use Rattle.fetch_store.specs.Stores.{id_cmp};
+ghost use Rattle.fetch_wire.specs.Listings.{ref_with};
+
+use crate::parts::Parts;
+use fetch_refs::{RefError, TargetRef, peel_tags};
+use fetch_specs::FullName;
+use fetch_store::{NoMemory, ObjectId, Objects, Store, Text, ascending};
+use fetch_wire::Ref;
+use std::alloc::Global;
+
+/// What a tag at this id leads to; nothing of another object.
+fn peeled_from(store: &Store, id: ObjectId) -> Option<ObjectId>
+    ensures { result ≡ spec.peeled_from (graph_of store.now.objects) id }
+{
+    if store.tag_target(&id).is_none() {
+        return None;
+    }
+    match peel_tags(store, id) {
+        Ok(last) => Some(last),
+        Err(_) => None,
+    }
+}
+
+/// The id that a reference leads to by names, where it leads to one.
+fn resolved(
+    parts: Parts<'_>,
+    name: &[u8],
+    target: TargetRef<'_>,
+) -> Result<Option<ObjectId>, NoMemory>
+    ensures { IfOk result (λ found. found ≡ result_ok (resolved (held_by parts.entry).names name.now (seen target.entry))) }
+{
+    match parts.refs.resolve(name, target) {
+        Ok(id) => Ok(Some(id)),
+        Err(RefError::NoMemory) => Err(NoMemory),
+        Err(_) => Ok(None),
+    }
+}
+
+fn target_of(target: TargetRef<'_>) -> Option<&[u8]>
+    ensures { option_copied result ≡ spec.target_of (seen target.entry) }
+{
+    match target {
+        TargetRef::Object(_) => None,
+        TargetRef::Symbolic(name) => Some(name.as_bytes()),
+    }
+}
+
+/// The reference with this name and id, what it names, and what its tag leads to.
+// Long: one arm for each kind of reference, a field a line.
+fn made(
+    alloc: Global,
+    name: &[u8],
+    id: Option<ObjectId>,
+    target: Option<&[u8]>,
+    peeled: Option<ObjectId>,
+) -> Result<Option<Ref>, NoMemory>
+    ensures { IfOk result (λ found. found ≡ ref_with name.now id (option_copied target.entry, peeled)) }
+{
+    let full_ref_name = Text::new(alloc, name)?;
+    let target = match target {
+        Some(target) => Some(Text::new(alloc, target)?),
+        None => None,
+    };
+    Ok(match (id, target, peeled) {
+        (None, Some(target), _) => Some(Ref::Unborn {
+            full_ref_name,
+            target,
+        }),
+        (None, None, _) => None,
+        (Some(id), Some(target), Some(object)) => Some(Ref::Symbolic {
+            full_ref_name,
+            target,
+            tag: Some(id),
+            object,
+        }),
+        (Some(object), Some(target), None) => Some(Ref::Symbolic {
+            full_ref_name,
+            target,
+            tag: None,
+            object,
+        }),
+        (Some(tag), None, Some(object)) => Some(Ref::Peeled {
+            full_ref_name,
+            tag,
+            object,
+        }),
+        (Some(object), None, None) => Some(Ref::Direct {
+            full_ref_name,
+            object,
+        }),
+    })
+}
+
+/// What a tag at the id leads to, where there is an id.
+fn peeled_if(store: &Store, id: Option<ObjectId>) -> Option<ObjectId>
+    ensures { result ≡ spec.peeled_behind (graph_of store.now.objects) id }
+{
+    match id {
+        Some(id) => peeled_from(store, id),
+        None => None,
+    }
+}
+
+/// The reference as it is listed.
+fn listed(parts: Parts<'_>, name: &[u8], target: TargetRef<'_>) -> Result<Option<Ref>, NoMemory>
+    ensures { IfOk result (λ found. found ≡ spec.listed (held_by parts.entry) (name.now, seen target.entry)) }
+{
+    let id = resolved(parts, name, target)?;
+    made(
+        parts.alloc,
+        name,
+        id,
+        target_of(target),
+        peeled_if(parts.store, id),
+    )
+}
+
+#[tactic(auto, unfolding(crate::specs::Offered::head_name))]
+fn is_head(name: &[u8]) -> bool
+    ensures { result ≡ bytes_eq name.now spec.head_name }
+{
+    name == b"HEAD".as_slice()
+}
+
+#[tactic(auto, unfolding(fetch_specs::specs::Categories::refs))]
+fn is_public(name: &[u8]) -> bool
+    ensures { result ≡ spec.is_public name.now }
+{
+    is_head(name) || name.starts_with(b"refs/")
+}
+
+fn is_under(prefixes: &[Text], name: &[u8]) -> bool
+    ensures { result ≡ spec.is_under prefixes.now name.now }
+{
+    prefixes.len() == 0 || begins_with_one(prefixes, name)
+}
+
+fn begins_with_one(prefixes: &[Text], name: &[u8]) -> bool
+    ensures { result ≡ list_any (λ p. starts_with nat_eq name.now p) prefixes.now }
+{
+    prefixes
+        .iter()
+        .any(|prefix| name.starts_with(prefix.as_bytes()))
+}
+
+/// The reference, where it is told: an unborn one is where it is `HEAD` and was asked for.
+fn if_told(unborn: bool, reference: Ref) -> Option<Ref>
+    ensures { result ≡ spec.if_told unborn reference }
+{
+    if is_told(unborn, &reference) {
+        Some(reference)
+    } else {
+        None
+    }
+}
+
+fn is_told(unborn: bool, reference: &Ref) -> bool
+    ensures { result ≡ spec.is_told unborn reference.now }
+{
+    match reference {
+        Ref::Unborn { full_ref_name, .. } => unborn && is_head(full_ref_name.as_bytes()),
+        Ref::Direct { .. } | Ref::Symbolic { .. } | Ref::Peeled { .. } => true,
+    }
+}
+
+/// Which references are asked for.
+#[derive(Clone, Copy)]
+pub(crate) struct Wanted<'a> {
+    /// Whether an unborn `HEAD` is.
+    pub unborn: bool,
+    /// Prefixes of the names; all, where there is none.
+    pub prefixes: &'a [Text],
+}
+
+/// The reference, where it is offered.
+fn offer(
+    parts: Parts<'_>,
+    wanted: Wanted<'_>,
+    name: &[u8],
+    target: TargetRef<'_>,
+) -> Result<Option<Ref>, NoMemory>
+    ensures { IfOk result (λ found. found ≡ spec.offer (held_by parts.entry) wanted.entry.unborn wanted.entry.prefixes.now (name.now, seen target.entry)) }
+{
+    if !is_public(name) || !is_under(wanted.prefixes, name) {
+        return Ok(None);
+    }
+    match listed(parts, name, target)? {
+        Some(reference) => Ok(if_told(wanted.unborn, reference)),
+        None => Ok(None),
+    }
+}
+
+/// The references that are offered, `HEAD` first, and then by ascending name.
+pub(crate) fn offered(parts: Parts<'_>, wanted: Wanted<'_>) -> Result<Vec<Ref>, NoMemory>
+    ensures { IfOk result (λ found. found.items ≡ spec.offered_of (held_by parts.entry) wanted.entry.unborn wanted.entry.prefixes.now) }
+{
+    let mut found = Vec::new(parts.alloc);
+    let mut references = parts.refs.iter();
+    while let Some((name, target)) = references.next() {
+        if FullName::is_valid(name) {
+            if let Some(reference) = offer(parts, wanted, name, target)? {
+                found.push(reference)?;
+            }
+        }
+    }
+    Ok(found)
+}
+
+/// The ids that may be wanted, of the references that are offered: ascending, each once.
+fn offered_ids(alloc: Global, references: &[Ref]) -> Result<Vec<ObjectId>, NoMemory>
+    ensures ascending { IfOk result (λ ids. IsStrictlySortedBy id_cmp ids.items) }
+    ensures each { IfOk result (λ ids. set_of ids.items ≡ set_of (flat_map spec.ids_in references.now)) }
+{
+    let mut ids = Vec::new(alloc);
+    for reference in references {
+        let (_, id, peeled) = reference.unpack();
+        append_some(&mut ids, id)?;
+        append_some(&mut ids, peeled)?;
+    }
+    Ok(ascending(ids))
+}
+
+/// Appends the id, if there is one.
+fn append_some(ids: &mut Vec<ObjectId>, id: Option<&ObjectId>) -> Result<(), NoMemory>
+    ensures { OnOk result (ids.new.items ≡ ids.old.items ++ spec.some_of (option_copied id.entry)) }
+{
+    if let Some(id) = id {
+        ids.push(*id)?;
+    }
+    Ok(())
+}
+
+/// Whether an id is among ascending ids.
+pub(crate) fn stands_among(id: &ObjectId, ids: &[ObjectId]) -> bool
+    requires { IsStrictlySortedBy id_cmp ids.now }
+    ensures { result ≡ has_id id.now ids.now }
+{
+    ids.binary_search(id).is_ok()
+}
+
+/// The first of the wants that isn't among the ascending ids.
+fn first_outside(ids: &[ObjectId], wants: &[ObjectId]) -> Option<ObjectId>
+    requires { IsStrictlySortedBy id_cmp ids.now }
+    ensures { result ≡ slice_get (filter (λ id. not (has_id id ids.now)) wants.now) 0 }
+{
+    for id in wants {
+        if !stands_among(id, ids) {
+            return Some(*id);
+        }
+    }
+    None
+}
+
+/// The first of the wants that none of these references offers.
+pub(crate) fn first_unoffered(
+    alloc: Global,
+    references: &[Ref],
+    wants: &[ObjectId],
+) -> Result<Option<ObjectId>, NoMemory>
+    ensures { IfOk result (λ found. found ≡ slice_get (filter (λ id. not (has_id id (flat_map spec.ids_in references.now))) wants.now) 0) }
+{
+    let ids = offered_ids(alloc, references)?;
+    Ok(first_outside(&ids, wants))
+}
