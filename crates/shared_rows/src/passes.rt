@@ -193,14 +193,14 @@ fn tell_shared<R: Wait>(
 }
 
 /// `<numbers> <numbers> <name>`: how many numbers are split off in each round, and what is deleted.
-fn round_of(alloc: Global, line: &[u8]) -> Result<Option<(Numbers, FullName)>, NoMemory> {
+fn round_of(alloc: Global, line: &[u8]) -> Result<Option<(u64, u64, FullName)>, NoMemory> {
     let (first, rest) = split_word(line);
     let (second, name) = split_word(rest);
     let (Some(first), Some(second)) = (decimal(first), decimal(second)) else {
         return Ok(None);
     };
     match name_of(alloc, name)? {
-        Some(name) => Ok(Some(([first, second], name))),
+        Some(name) => Ok(Some((first, second, name))),
         None => Ok(None),
     }
 }
@@ -214,13 +214,13 @@ pub(crate) fn tell(
     out: &mut Vec<u8>,
 ) -> Result<bool, NoMemory> {
     let (line, _) = split_first(b'\n', line).unwrap_or((line, &[]));
-    let Some((numbers, name)) = round_of(alloc, line)? else {
+    let Some((first, second, name)) = round_of(alloc, line)? else {
         return Ok(false);
     };
     let names = vec![in alloc; name]?;
     match open(rt, alloc, scene)? {
         Some((repo, _)) => {
-            tell_shared(rt, alloc, repo, numbers, names.as_slice(), out)?;
+            tell_shared(rt, alloc, repo, [first, second], names.as_slice(), out)?;
             Ok(true)
         }
         None => Ok(false),
