@@ -41,6 +41,7 @@ impl ScriptedWorktrees {
     /// This list, of which the calls with these numbers fail.
     pub fn new(list: Vec<Worktree>, failing: Vec<(u64, WorktreeFault)>) -> ScriptedWorktrees
         ensures script { result ≡ record { list = list.items; failing = failing.items; next = 0; listing = 0; open_repo = 0; follow_symref = 0 } }
+        ensures asked { ⟦<ScriptedWorktrees as Worktrees>⟧.asked result ≡ 0 }
         ensures told { ⟦<ScriptedWorktrees as Worktrees>⟧.told result ≡ Some list.items }
         ensures listing { ⟦<ScriptedWorktrees as Worktrees>⟧.listing result ≡ record { count = 0; possible = nat_lt 0 (length failing.items) } }
         ensures open_repo { ⟦<ScriptedWorktrees as Worktrees>⟧.open_repo result ≡ record { count = 0; possible = nat_lt 0 (length failing.items) } }
@@ -78,6 +79,8 @@ impl Worktrees for ScriptedWorktrees {
 
     ghost follow_symref = { λ s. faults_of s s.follow_symref };
 
+    ghost asked = { λ s. s.next };
+
     ghost told = { λ s. Some s.list };
 
     /// The list, or the fault that is listed for this call.
@@ -85,6 +88,7 @@ impl Worktrees for ScriptedWorktrees {
         ensures fails { MatchOption (fault_at self.old) (IsOkUnless result errors.NoMemory) (λ fault. result ≡ Err fault) }
         ensures list { IfOk result (λ list. list.items ≡ self.old.list) }
         ensures after { self.new ≡ after_call self.old }
+        ensures asked { self.new.next ≡ one_more self.old.next }
         ensures still { OnOk result (self.new ≡ record self.old { next = one_more self.old.next }) }
         ensures listing_counts { Counts (faults_of self.old self.old.listing) (faults_of self.new self.new.listing) }
         ensures open_repo_counts { Counts (faults_of self.old self.old.open_repo) (faults_of self.new self.new.open_repo) }

@@ -1,6 +1,7 @@
 //! The worktrees of a repository.
 
-ghost use Rattle.std.specs.Prelude.{◌≡◌, IfOk, IfSome, IsErrOf, None, List as Items, Option};
+ghost use Rattle.std.specs.Prelude.{◌≡◌, ℕ, IfOk, IfSome, IsErrOf, None, List as Items, Option};
+ghost use Rattle.fetch_store.specs.Calls.{one_more};
 ghost use Rattle.fetch_store.specs.Faults.{Faults, Rose, Counts};
 
 use fetch_specs::FullName;
@@ -57,6 +58,9 @@ pub trait Worktrees {
 
     ghost follow_symref: { Self → Faults };
 
+    /// How often the list was asked for.
+    ghost asked: { Self → ℕ };
+
     /// The list, where it is known.
     ghost told: { Self → Option (Items Worktree) };
 
@@ -70,5 +74,6 @@ pub trait Worktrees {
         ensures open_repo_cause { IsErrOf result WorktreeFault.OpenRepo → Rose (open_repo self.old) (open_repo self.new) }
         ensures follow_symref_cause { IsErrOf result WorktreeFault.FollowSymref → Rose (follow_symref self.old) (follow_symref self.new) }
         ensures list { IfOk result (λ list. IfSome (told self.old) (λ known. list.items ≡ known)) }
+        ensures asked { asked self.new ≡ one_more (asked self.old) }
         ensures known { told self.new ≡ told self.old };
 }
