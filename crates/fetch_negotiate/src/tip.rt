@@ -3,7 +3,6 @@
 ghost use Rattle.std.specs.Prelude.{◌≡◌, [], Some, Result, IfOk};
 ghost use Rattle.std.specs.FinMap as map;
 ghost use Rattle.std.specs.List.{filter_map};
-ghost use Rattle.fetch_store.specs.Borders.{ids_of, set_of};
 ghost use Rattle.fetch_store.specs.declared.id.ObjectId.{ObjectId};
 ghost use Rattle.fetch_store.specs.Answers.{AnswersUnless};
 ghost use Rattle.fetch_refs.specs.Answers.{is_memory};
@@ -14,7 +13,7 @@ ghost use Rattle.fetch_negotiate.specs.Commits.{commit_of};
 ghost use Rattle.fetch_negotiate.specs.Tips.{found, tip_of, tips_of, if_commit};
 
 use fetch_refs::{RefError, Refs, TargetRef, peel_tags};
-use fetch_store::{Border, NoMemory, ObjectId, Objects};
+use fetch_store::{NoMemory, ObjectId, Objects, ascending};
 use std::alloc::Global;
 
 /// The stored commits that references peel to, each once, in ascending order.
@@ -22,18 +21,7 @@ use std::alloc::Global;
 pub fn tips<O: Objects>(alloc: Global, refs: &Refs, objects: &O) -> Result<Vec<ObjectId>, NoMemory>
     ensures { IfOk result (λ tips. tips.items ≡ tips_of refs.now.names (O.graph objects.now)) }
 {
-    let ids = ends(alloc, refs, objects)?;
-    each_ascending(alloc, ids.as_slice())
-}
-
-/// The ids, each once, in ascending order.
-fn each_ascending(alloc: Global, ids: &[ObjectId]) -> Result<Vec<ObjectId>, NoMemory>
-    ensures { IfOk result (λ each. each.items ≡ ids_of (set_of ids.now)) }
-{
-    match Border::from_ids(alloc, ids) {
-        Ok(border) => Ok(Vec::from_slice(alloc, border.commits())?),
-        Err(_) => Err(NoMemory),
-    }
+    Ok(ascending(ends(alloc, refs, objects)?))
 }
 
 /// The stored commits that references peel to, in the order of their names.

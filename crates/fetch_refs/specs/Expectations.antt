@@ -11,6 +11,7 @@ use Rattle.fetch_refs.specs.declared.edit.PreviousValue.{PreviousValue}
 use Rattle.fetch_refs.specs.declared.edit.PreviousValue.TheVariants.{Any, MustExist, MustNotExist, MustExistAndMatch, ExistingMustMatch}
 use Rattle.fetch_refs.specs.declared.edit.RefEdit.{RefEdit}
 use Rattle.fetch_refs.specs.declared.target.Target.{Target}
+use Rattle.fetch_refs.specs.declared.target.Target.TheVariants.{Object, Symbolic}
 use Rattle.fetch_refs.specs.Names.{Names}
 use Rattle.fetch_refs.specs.Targets.{is_same}
 
@@ -40,3 +41,14 @@ found_by names e = option_and_then (λ (x : RefEdit). map.get names x.name) e
 -- the refusal of the first edit whose expectation fails
 abbrev pub refusal_of : Names → List RefEdit → Option RefError
 refusal_of names edits = option_map (λ i. Expectation i (found_by names (slice_get edits i))) (position (fails names) edits)
+
+-- whether a name is found
+abbrev pub is_name : Option Target → Bool
+is_name None = false
+is_name (Some (Object id)) = false
+is_name (Some (Symbolic name)) = true
+
+-- whether a refusal tells a name
+abbrev pub tells_name : RefError → Bool
+tells_name (Expectation i found) = is_name found
+tells_name _ = false

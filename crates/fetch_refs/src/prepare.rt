@@ -1,11 +1,11 @@
 //! Edits, tested and made ready.
 
-ghost use Rattle.std.specs.Prelude.{◌≡◌, ◌<◌, length, position, IfOk, IfErr, IfSome, IsErrAnd, MatchOption, Ok};
+ghost use Rattle.std.specs.Prelude.{◌≡◌, ◌<◌, true, false, length, position, IfOk, IfErr, IfSome, IsErrAnd, MatchOption, Ok, OnErr};
 ghost use Rattle.std.specs.Borrow.{sem, RestsIfErr};
 ghost use Rattle.std.specs.FinMap as map;
 ghost use Rattle.fetch_refs.specs.Answers.{IsUnlessMemory};
 ghost use Rattle.fetch_refs.specs.Expectations as spec;
-ghost use Rattle.fetch_refs.specs.Expectations.{refusal_of};
+ghost use Rattle.fetch_refs.specs.Expectations.{is_name, refusal_of, tells_name};
 ghost use Rattle.fetch_refs.specs.Logs.{after};
 ghost use Rattle.fetch_refs.specs.Prepared.{ready, lent};
 ghost use Rattle.fetch_refs.specs.contracts.refs.Refs.{the_row};
@@ -27,7 +27,8 @@ impl Refs {
     /// goes into the packed list; the map of references is the same either way.
     ///
     /// The edits are made in order, and none of them shows before the commit. `Expectation` comes
-    /// exactly where an edit's expectation fails of the references found, with the first such edit.
+    /// exactly where an edit's expectation fails of the references found, with the first such edit; memory can run out
+    /// in its place only where a name is found there.
     pub fn prepare(
         &mut self,
         edits: &[RefEdit],
@@ -40,6 +41,7 @@ impl Refs {
         ensures unchanged { IfOk result (λ p. (lent p).now ≡ self.old) }
         ensures ready { IfOk result (λ p. ready p ≡ after committer.now logging packed self.old edits.now) }
         ensures refusal { MatchOption (refusal_of self.old.names edits.now) (IfErr result (λ e. e ≡ errors.NoMemory)) (λ e. IsErrAnd result (IsUnlessMemory e)) }
+        ensures exact { IfSome (refusal_of self.old.names edits.now) (λ e. tells_name e ≡ false → IsErrAnd result (λ found. found ≡ e)) }
     {
         check(self, edits)?;
         match Pending::made(self.take(), edits, committer, logging, packed) {
@@ -54,7 +56,8 @@ impl Refs {
 
 /// Whether each edit finds what it expects.
 fn check(refs: &Refs, edits: &[RefEdit]) -> Result<(), RefError>
-    ensures { MatchOption (refusal_of refs.now.names edits.now) (result ≡ Ok tt) (λ e. IsErrAnd result (IsUnlessMemory e)) }
+    ensures refusal { MatchOption (refusal_of refs.now.names edits.now) (result ≡ Ok tt) (λ e. IsErrAnd result (IsUnlessMemory e)) }
+    ensures exact { IfSome (refusal_of refs.now.names edits.now) (λ e. tells_name e ≡ false → IsErrAnd result (λ found. found ≡ e)) }
 {
     match first_failing(refs, edits) {
         Some(index) => {
@@ -66,7 +69,8 @@ fn check(refs: &Refs, edits: &[RefEdit]) -> Result<(), RefError>
 }
 
 fn found(refs: &Refs, name: &FullName) -> Result<Option<Target>, NoMemory>
-    ensures { IfOk result (λ found. found ≡ map.get refs.now.names name.now) }
+    ensures found { IfOk result (λ found. found ≡ map.get refs.now.names name.now) }
+    ensures memory { OnErr result (is_name (map.get refs.now.names name.now) ≡ true) }
 {
     match refs.find(name) {
         Some(target) => Ok(Some(target.try_to_owned()?)),

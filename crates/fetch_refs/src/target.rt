@@ -1,6 +1,7 @@
 //! What a reference points to.
 
-ghost use Rattle.std.specs.Prelude.{◌≡◌, IfOk};
+ghost use Rattle.std.specs.Prelude.{◌≡◌, true, IfOk, OnErr, Some};
+ghost use Rattle.fetch_refs.specs.Expectations.{is_name};
 ghost use Rattle.fetch_refs.specs.Packed.{direct_id};
 ghost use Rattle.fetch_refs.specs.Targets as spec;
 ghost use Rattle.fetch_refs.specs.Targets.{seen};
@@ -59,9 +60,10 @@ pub enum TargetRef<'a> {
 }
 
 impl TargetRef<'_> {
-    /// A copy of the target.
+    /// A copy of the target. An id takes no memory.
     pub fn try_to_owned(&self) -> Result<Target, NoMemory>
-        ensures { IfOk result (λ copy. copy ≡ seen self.now) }
+        ensures copy { IfOk result (λ copy. copy ≡ seen self.now) }
+        ensures memory { OnErr result (is_name (Some (seen self.now)) ≡ true) }
     {
         match self {
             TargetRef::Object(id) => Ok(Target::Object(*id)),

@@ -1,5 +1,5 @@
 -- A search that halves what is left, with its steps.
-use Rattle.std.proofs.Common.{◌≡◌, ℕ, ◌+◌, ◌*◌, ◌^◌, ◌<◌, ◌≤◌, false, List, length, get_or, None, Some, true, Ordering, Less, Equal, Greater, ⊎_elim, add-one, refl, sym, ap, subst, ◌∙◌, arith}
+use Rattle.std.proofs.Common.{◌≡◌, ℕ, ◌+◌, ◌-◌, ◌*◌, ◌^◌, ◌<◌, ◌≤◌, false, List, length, get_or, None, Some, true, Ordering, Less, Equal, Greater, ⊎_elim, add-one, refl, sym, ap, subst, ◌∙◌, arith}
 use Rattle.std.specs.Ordering.{is_eq, is_lt}
 use Rattle.std.specs.FinMap.{find, is_sorted}
 use Rattle.std.proofs.Math.Nat.{pow-suc, mul-le-mul_left, le-mul_of_pos_right}
@@ -7,7 +7,7 @@ use Rattle.std.proofs.lemmas.Bool.{cases_lt}
 use Rattle.std.proofs.lemmas.List.{get_or_default}
 use Rattle.fetch_store.specs.declared.id.ObjectId.{ObjectId}
 use Rattle.fetch_store.specs.Stores.{id_cmp}
-use Rattle.fetch_store.specs.Entries.{IsInOrder}
+use Rattle.fetch_store.specs.Entries.{IsInOrder, Surrounds}
 use Rattle.fetch_store.proofs.Ids.{id_cmp_total}
 use Rattle.fetch_store.proofs.Borders.{reversed}
 use Rattle.fetch_store.proofs.Arranged.{order_of, rises_at, none_found, searched}
@@ -29,6 +29,9 @@ module _ {X : Type 0} (es : List (ObjectId × X)) (q : ObjectId) where
 
   pub probing_starts : IsProbing 0 (length es)
   probing_starts = record { below = λ k d lt. absurd (omega (arith, lt)); above = λ k d le lt. absurd (omega (arith, le, lt)) }
+
+  pub probing_of : (low high : ℕ) → Surrounds es q low high → IsProbing low high
+  probing_of low high s = record { below = s.below; above = s.above }
 
   module _ (rise : IsInOrder es) (low high i : ℕ) (p : IsProbing low high) (lt : i < length es) (e : ObjectId × X) (is : e ≡ get_or es i e) where
     at : (d : ObjectId × X) → get_or es i d ≡ e
@@ -55,6 +58,14 @@ module _ {X : Type 0} (es : List (ObjectId × X)) (q : ObjectId) where
     pub hit : id_cmp q e.0 ≡ Equal → find id_cmp q es ≡ Some e.1
     hit equal =
         searched es q i (order_of (is_sorted id_cmp es) rise) lt (λ d. ap (λ (x : ObjectId × X). id_cmp x.0 q) (at d) ∙ reversed q e.0 Equal equal) e ∙ ap (λ (x : ObjectId × X). Some x.1) (at e)
+
+  -- greater than the one before a place, an id is greater than all before it
+  pub risen_to : IsInOrder es → (place : ℕ) → 0 < place → place ≤ length es → (e : ObjectId × X) → e ≡ get_or es (place - 1) e → id_cmp q e.0 ≡ Greater → (k : ℕ) (d : ObjectId × X) → k < place → id_cmp (get_or es k d).0 q ≡ Less
+  risen_to rise place some within e is over k d lt = (right_of rise 0 (length es) (place - 1) probing_starts (omega (arith, some, within)) e is over).below k d (omega (arith, some, lt))
+
+  -- less than the one at a place, an id is less than all from it on
+  pub risen_from : IsInOrder es → (place : ℕ) → place < length es → (e : ObjectId × X) → e ≡ get_or es place e → id_cmp q e.0 ≡ Less → (k : ℕ) (d : ObjectId × X) → place ≤ k → k < length es → id_cmp (get_or es k d).0 q ≡ Greater
+  risen_from rise place lt e is under = (left_of rise 0 (length es) place probing_starts lt e is under).above
 
   pub missed : (low high : ℕ) → IsProbing low high → high ≤ low → find id_cmp q es ≡ None
   missed low high p over =

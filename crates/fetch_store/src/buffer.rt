@@ -14,6 +14,7 @@ use crate::error::NoMemory;
 use crate::id::{Kind, ObjectId};
 use crate::object::{Object, ObjectRef};
 use crate::span::Span;
+use crate::starts::Starts;
 
 /// The object of a span.
 pub(crate) fn lend<'a>(hash: Kind, buffer: &'a [u8], span: &Span) -> ObjectRef<'a>
@@ -59,6 +60,7 @@ fn append(buffer: &mut Vec<u8>, object: ObjectRef<'_>) -> Span
 /// Puts the bytes of the objects whose ids are new after the others, and their spans into a list.
 fn append_new(
     index: &[(ObjectId, Span)],
+    starts: &Starts,
     buffer: &mut Vec<u8>,
     fresh: &mut Vec<(ObjectId, Span)>,
     objects: &[(ObjectId, Object)],
@@ -75,7 +77,7 @@ fn append_new(
     ensures fresh_capacity { vec_capacity fresh.new ≡ vec_capacity fresh.old }
 {
     for (id, object) in objects {
-        if find_in_order(index, id).is_some() {
+        if find_in_order(index, starts.near(id), id).is_some() {
             continue;
         }
         let span = append(buffer, object.as_ref());
@@ -86,6 +88,7 @@ fn append_new(
 /// Adds the objects whose ids are new to an index over a buffer. The list of spans is a place to sort them.
 pub(crate) fn add_new(
     index: &mut Vec<(ObjectId, Span)>,
+    starts: &mut Starts,
     buffer: &mut Vec<u8>,
     fresh: &mut Vec<(ObjectId, Span)>,
     objects: &[(ObjectId, Object)],
@@ -103,7 +106,8 @@ pub(crate) fn add_new(
     ensures fresh_capacity { vec_capacity fresh.new ≡ vec_capacity fresh.old }
     ensures emptied { fresh.new.items ≡ [] }
 {
-    append_new(index.as_slice(), buffer, fresh, objects);
+    append_new(index.as_slice(), starts, buffer, fresh, objects);
     arrange(fresh);
+    starts.add(fresh.as_slice());
     merge(index, fresh);
 }

@@ -1,24 +1,79 @@
 //! Lists of ids, each with a value.
 
-ghost use Rattle.std.specs.Prelude.{◌≡◌, ◌≤◌, ◌+◌, ◌*◌, ◌^◌, ◌++◌, [], ℕ, All, Contains, None, is_some, length, vec_len, vec_capacity};
+ghost use Rattle.std.specs.Prelude.{◌≡◌, ◌<◌, ◌≤◌, ◌+◌, ◌*◌, ◌^◌, ◌++◌, [], ℕ, All, Contains, IsTrue, None, get_or, is_some, length, vec_len, vec_capacity};
 ghost use Rattle.std.specs.FinMap as map;
+ghost use Rattle.std.specs.declared.cmp.Ordering.TheVariants.{Less, Greater};
 ghost use Rattle.std.specs.Option.{option_copied};
 ghost use Rattle.fetch_store.specs.declared.id.ObjectId.{ObjectId};
-ghost use Rattle.fetch_store.specs.Entries.{IsInOrder, ends_above};
+ghost use Rattle.fetch_store.specs.Entries.{IsInOrder, Surrounds, ends_above};
 ghost use Rattle.fetch_store.specs.Stores.{id_cmp};
 
 use crate::counter::Steps;
 use crate::id::ObjectId;
 use std::sync::ledger::Ledger;
 
-/// The value at an id.
-pub(crate) fn find_in_order<'a, X>(entries: &'a [(ObjectId, X)], id: &ObjectId) -> Option<&'a X>
+/// The value at an id. Where it doesn't stand between two places that are guessed, all entries are searched.
+pub(crate) fn find_in_order<'a, X>(
+    entries: &'a [(ObjectId, X)],
+    near: (usize, usize),
+    id: &ObjectId,
+) -> Option<&'a X>
     requires { IsInOrder entries.now }
     ensures { option_copied result ≡ map.find id_cmp id.now entries.now }
 {
-    match entries.binary_search_by_key(id, |entry| entry.0) {
-        Ok(place) => Some(&entries[place].1),
-        Err(_) => None,
+    let (low, high) = bounds(entries, near, id);
+    let mut low = low;
+    let mut high = high;
+    while low < high {
+        let middle = low + (high - low) / 2;
+        let (key, value) = &entries[middle];
+        let order = id.cmp(key);
+        if order.is_eq() {
+            return Some(value);
+        }
+        if order.is_lt() {
+            high = middle;
+            continue;
+        }
+        low = middle + 1;
+    }
+    None
+}
+
+/// Two places, before which ids are less and from which on they are greater: those that are guessed, or else the ends.
+fn bounds<X>(entries: &[(ObjectId, X)], near: (usize, usize), id: &ObjectId) -> (usize, usize)
+    requires { IsInOrder entries.now }
+    ensures { Surrounds entries.now id.now result.0 result.1 }
+{
+    let (low, high) = near;
+    if low <= high && high <= entries.len() {
+        if rises_to(entries, low, id) && rises_from(entries, high, id) {
+            return (low, high);
+        }
+    }
+    (0, entries.len())
+}
+
+/// Whether an id is greater than those before a place.
+fn rises_to<X>(entries: &[(ObjectId, X)], place: usize, id: &ObjectId) -> bool
+    requires in_order { IsInOrder entries.now }
+    requires within { place ≤ length entries.now }
+    ensures { IsTrue result → (k : ℕ) (d : ObjectId × X) → k < place → id_cmp (get_or entries.now k d).0 id.now ≡ Less }
+{
+    if place == 0 {
+        return true;
+    }
+    id.cmp(&entries[place - 1].0).is_gt()
+}
+
+/// Whether an id is less than those from a place on.
+fn rises_from<X>(entries: &[(ObjectId, X)], place: usize, id: &ObjectId) -> bool
+    requires { IsInOrder entries.now }
+    ensures { IsTrue result → (k : ℕ) (d : ObjectId × X) → place ≤ k → k < length entries.now → id_cmp (get_or entries.now k d).0 id.now ≡ Greater }
+{
+    match entries.get(place) {
+        Some(entry) => id.cmp(&entry.0).is_lt(),
+        None => true,
     }
 }
 

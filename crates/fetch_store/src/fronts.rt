@@ -84,7 +84,8 @@ fn numbered(alloc: Global, objects: &[(ObjectId, Object)]) -> Result<Vec<(u64, u
     Ok(places)
 }
 
-fn front(id: &ObjectId) -> u64
+/// The number that the first eight bytes of an id write.
+pub(crate) fn front(id: &ObjectId) -> u64
     ensures { result ≡ spec.front id.now }
 {
     let b = id.as_bytes();

@@ -17,6 +17,7 @@ use crate::object::{Object, ObjectRef, read_history};
 use crate::object_kind::ObjectKind;
 use crate::objects::{Objects, target};
 use crate::parents::Parents;
+use crate::starts::Starts;
 use crate::store::Store;
 use std::alloc::Global;
 use std::marker::Model;
@@ -59,6 +60,7 @@ impl TryClone for History {
 #[derive(Debug, Drop)]
 pub struct Graph {
     nodes: Vec<(ObjectId, History)>,
+    starts: Starts,
 }
 
 impl Model for Graph {
@@ -84,7 +86,8 @@ impl Graph {
     {
         let mut nodes = Vec::new(alloc);
         append_stored(&mut nodes, alloc, store)?;
-        Ok(Graph { nodes })
+        let starts = starts_of(alloc, nodes.as_slice());
+        Ok(Graph { nodes, starts })
     }
 
     /// The graph that the store would have with the list added. The store stays as it is. The only
@@ -103,7 +106,8 @@ impl Graph {
         append_stored(&mut nodes, alloc, store)?;
         append(&mut nodes, alloc, objects)?;
         arrange(&mut nodes);
-        Ok(Graph { nodes })
+        let starts = starts_of(alloc, nodes.as_slice());
+        Ok(Graph { nodes, starts })
     }
 
     /// Adds the histories of the list, and reads none of those that the graph has: of the graph of some objects it makes
@@ -119,6 +123,7 @@ impl Graph {
         append(&mut fresh, alloc, objects)?;
         self.nodes.append(&mut fresh)?;
         arrange(&mut self.nodes);
+        self.starts = starts_of(alloc, self.nodes.as_slice());
         Ok(())
     }
 
@@ -127,16 +132,25 @@ impl Graph {
         ensures { IfOk result (λ copy. copy ≡ self.now) }
     {
         let nodes = copy_slice(alloc, self.nodes.as_slice())?;
+        let starts = starts_of(alloc, nodes.as_slice());
         Ok(Graph {
             nodes: nodes.into_vec(),
+            starts,
         })
     }
 
     fn get(&self, id: &ObjectId) -> Option<&History>
         ensures { option_copied result ≡ map.get self.now id.now }
     {
-        find_in_order(self.nodes.as_slice(), id)
+        find_in_order(self.nodes.as_slice(), self.starts.near(id), id)
     }
+}
+
+/// Where the ids of a list begin.
+fn starts_of(alloc: Global, nodes: &[(ObjectId, History)]) -> Starts {
+    let mut starts = Starts::new(alloc);
+    starts.fit(nodes, nodes.len());
+    starts
 }
 
 /// Puts the histories of the stored objects after the others.

@@ -37,6 +37,7 @@ mod parents;
 mod reach;
 mod scan;
 mod span;
+mod starts;
 mod store;
 mod store_iter;
 mod take;

@@ -20,6 +20,7 @@ use crate::error::{NoMemory, StoreError};
 use crate::id::{Kind, ObjectId};
 use crate::object::{Object, ObjectRef};
 use crate::span::Span;
+use crate::starts::Starts;
 use crate::store_iter::StoreIter;
 use std::alloc::Global;
 use std::marker::Model;
@@ -30,6 +31,7 @@ use std::sync::ledger::Ledger;
 pub struct Store {
     hash: Kind,
     index: Vec<(ObjectId, Span)>,
+    starts: Starts,
     buffer: Vec<u8>,
     /// A place to sort what is added. It is empty between calls.
     fresh: Vec<(ObjectId, Span)>,
@@ -62,6 +64,7 @@ impl Store {
         Store {
             hash: kind,
             index: Vec::new(alloc),
+            starts: Starts::new(alloc),
             buffer: Vec::new(alloc),
             fresh: Vec::new(alloc),
             spare: 0,
@@ -82,7 +85,7 @@ impl Store {
         ensures object { option_map seen result ≡ map.get self.now.objects id.now }
         ensures valid { IfSome result (λ o. let s = seen o in IsObject s.hash s.kind s.bytes) }
     {
-        match find_in_order(self.index.as_slice(), id) {
+        match find_in_order(self.index.as_slice(), self.starts.near(id), id) {
             Some(span) => Some(lend(self.hash, self.buffer.as_slice(), span)),
             None => None,
         }
@@ -118,10 +121,15 @@ impl Store {
     pub fn try_clone(&self, alloc: Global) -> Result<Store, NoMemory>
         ensures { IfOk result (λ copy. (copy.hash ≡ self.now.hash) × (copy.objects ≡ self.now.objects)) }
     {
+        let index = Vec::from_slice(alloc, self.index.as_slice())?;
+        let buffer = Vec::from_slice(alloc, self.buffer.as_slice())?;
+        let mut starts = Starts::new(alloc);
+        starts.fit(index.as_slice(), index.len());
         Ok(Store {
             hash: self.hash,
-            index: Vec::from_slice(alloc, self.index.as_slice())?,
-            buffer: Vec::from_slice(alloc, self.buffer.as_slice())?,
+            index,
+            starts,
+            buffer,
             fresh: Vec::new(alloc),
             spare: 0,
             spare_bytes: 0,
@@ -146,7 +154,7 @@ impl Store {
     pub fn contains(&self, id: &ObjectId) -> bool
         ensures { result ≡ map.contains_key self.now.objects id.now }
     {
-        find_in_order(self.index.as_slice(), id).is_some()
+        find_in_order(self.index.as_slice(), self.starts.near(id), id).is_some()
     }
 
     /// The ids with their objects, lent, in ascending order of ids.
@@ -197,6 +205,8 @@ impl Store {
         self.index.reserve(objects.len())?;
         self.fresh.reserve(objects.len())?;
         self.buffer.reserve(bytes)?;
+        let count = self.index.len().saturating_add(objects.len());
+        self.starts.fit(self.index.as_slice(), count);
         self.spare = self.spare.max(objects.len());
         self.spare_bytes = self.spare_bytes.max(bytes);
         Ok(())
@@ -217,6 +227,7 @@ impl Store {
         let bytes = self.buffer.len();
         add_new(
             &mut self.index,
+            &mut self.starts,
             &mut self.buffer,
             &mut self.fresh,
             objects.as_slice(),

@@ -1,6 +1,6 @@
 //! What becomes of one mapping.
 
-ghost use Rattle.std.specs.Prelude.{◌≡◌, IfOk, MatchOption, true, false, Err};
+ghost use Rattle.std.specs.Prelude.{◌≡◌, IfOk, OnErr, MatchOption, true, false, Err};
 ghost use Rattle.std.specs.Option.{option_copied};
 ghost use Rattle.std.specs.FinMap as map;
 ghost use Rattle.fetch_store.specs.Answers.{AnswersUnless};
@@ -19,7 +19,7 @@ use crate::update::Error;
 use crate::verdict::Verdict;
 use crate::writing::{create, write};
 use fetch_refs::{RefError, TargetRef};
-use fetch_specs::{Category, FullName, NameError, RefSpec, Tags};
+use fetch_specs::{Category, FullName, RefSpec, Tags};
 use fetch_store::{NoMemory, ObjectId, Objects, Text};
 use fetch_wire::{Mapping, Ref, Source};
 use std::alloc::Global;
@@ -131,14 +131,17 @@ fn no_name(text: &Text) -> Result<Verdict, Error>
     })
 }
 
-/// The name that a text is, if it is one.
+/// The name that a text is, if it is one. Of a text that is none memory can't run out.
 pub(crate) fn full_name(alloc: Global, text: &[u8]) -> Result<Option<FullName>, NoMemory>
-    ensures { IfOk result (λ found. MatchOption found (is_full_name text.now ≡ false) (λ name. (name ≡ text.now) × (is_full_name text.now ≡ true))) }
+    ensures found { IfOk result (λ found. MatchOption found (is_full_name text.now ≡ false) (λ name. (name ≡ text.now) × (is_full_name text.now ≡ true))) }
+    ensures memory { OnErr result (is_full_name text.now ≡ true) }
 {
+    if !FullName::is_valid(text) {
+        return Ok(None);
+    }
     match FullName::new(alloc, text) {
         Ok(name) => Ok(Some(name)),
-        Err(NameError::Invalid { place: _ }) => Ok(None),
-        Err(NameError::NoMemory) => Err(NoMemory),
+        Err(_) => Err(NoMemory),
     }
 }
 

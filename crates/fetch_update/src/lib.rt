@@ -25,5 +25,6 @@ pub use message::RefLogMessage;
 pub use mode::{Mode, TypeChange};
 pub use pairs::MappingUpdates;
 pub use scripted::ScriptedWorktrees;
+pub use trees::{directories_at, index_of};
 pub use update::Update;
 pub use worktrees::{Worktree, WorktreeFault, Worktrees};

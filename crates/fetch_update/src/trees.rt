@@ -16,8 +16,8 @@ use fetch_store::{List, NoMemory, Text};
 use std::alloc::Global;
 use std::collections::{BTreeMap, BTreeSet};
 
-/// The directories where branches are checked out, by branch.
-pub(crate) fn index_of(
+/// The directories where branches are checked out, by branch. The only error is out of memory.
+pub fn index_of(
     alloc: Global,
     worktrees: &[Worktree],
 ) -> Result<BTreeMap<FullName, BTreeSet<Text>>, NoMemory>
@@ -60,8 +60,9 @@ fn with_directory(
     Ok(directories)
 }
 
-/// The directories where a branch is checked out, sorted, if it is somewhere.
-pub(crate) fn directories_at(
+/// The directories where a branch is checked out, sorted and each once, by an index of the work trees. None where it is
+/// checked out nowhere. The only error is out of memory.
+pub fn directories_at(
     alloc: Global,
     worktrees: &[Worktree],
     index: &BTreeMap<FullName, BTreeSet<Text>>,

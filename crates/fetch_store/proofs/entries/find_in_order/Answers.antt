@@ -1,23 +1,46 @@
-use Rattle.std.proofs.Common.{sym, subst, ◌∙◌, get_or, Err, rules}
-use Rattle.std.specs.FinMap.{is_sorted}
-use Rattle.std.specs.List.Sorted.{IsBinarySearchResult}
-use Rattle.std.proofs.lemmas.List.Sorted.{answers_always}
-use Rattle.fetch_store.specs.declared.id.ObjectId.{ObjectId}
+use Rattle.std.proofs.Common.{rules, ◌≡◌, ◌+◌, ◌-◌, ◌/◌, length, true, false, sym, ap, ◌∙◌, arith}
+use Rattle.std.specs.Ordering.{is_eq, is_lt}
+use Rattle.std.specs.Cmp.{Equal-is}
 use Rattle.fetch_store.specs.Stores.{id_cmp}
-use Rattle.fetch_store.proofs.Orders.{cmp_at, cmp_is}
-use Rattle.fetch_store.proofs.Arranged.{order_of, searched, unsearched}
+use Rattle.fetch_store.proofs.Orders.{cmp_at}
+use Rattle.fetch_store.proofs.Probes.{greater, lesser, left_of, right_of, hit, missed, probing_of}
 use Rattle.fetch_store.proofs.entries.find_in_order.Goals as goal
 
-pub returns-in-Ok : goal.returns-in-Ok
-returns-in-Ok g c =
+pub returns-then-is_eq : goal.returns-then-is_eq
+returns-then-is_eq g c =
     let es = c.args.entries.now in
     let q = c.args.id.now in
-    let at = c.in-Ok.ensures.position (λ (e : ObjectId × g.row.X.Denot). e.0) (answers_always _ _ _ (λ f a r h k. search rules)) in
-    sym (searched es q c.in-Ok.place (order_of (is_sorted id_cmp es) c.requires) c.in-Ok.ensures.bound (λ d. sym (cmp_at (get_or es c.in-Ok.place d).0 q) ∙ at d) c.index-entries-place.result)
+    let e = c.index-entries-middle.result in
+    let order = c.cmp-order.ensures ∙ cmp_at q e.0 in
+    let tied : is_eq (id_cmp q e.0) ≡ true = ap is_eq (sym order) ∙ search rules in
+    sym (hit es q c.requires c.loop-low.low c.loop-low.high (c.loop-low.low + (c.loop-low.high - c.loop-low.low) / 2) (probing_of es q c.loop-low.low c.loop-low.high c.loop-low.invariant) (search rules) e c.index-entries-middle.is ((Equal-is (id_cmp q e.0)).0 tied))
 
-pub returns-in-Err : goal.returns-in-Err
-returns-in-Err g c =
+pub loop-low-preserved-then-is_lt : goal.loop-low-preserved-then-is_lt
+loop-low-preserved-then-is_lt g c =
     let es = c.args.entries.now in
     let q = c.args.id.now in
-    let at = c.in-Err.ensures.position (λ (e : ObjectId × g.row.X.Denot). e.0) (answers_always _ _ _ (λ f a r h k. search rules)) in
-    sym (unsearched es q c.in-Err.field-0 (order_of (is_sorted id_cmp es) c.requires) (subst (λ cmp. IsBinarySearchResult (λ (y : ObjectId × g.row.X.Denot). cmp y.0 q) es (Err c.in-Err.field-0)) cmp_is at))
+    let m = c.loop-low.invariant in
+    let low = c.loop-low.low in
+    let high = c.loop-low.high in
+    let e = c.index-entries-middle.result in
+    let order = c.cmp-order.ensures ∙ cmp_at q e.0 in
+    let under : is_lt (id_cmp q e.0) ≡ true = ap is_lt (sym order) ∙ search rules in
+    let p = left_of es q c.requires low high (low + (high - low) / 2) (probing_of es q low high m) (omega (arith, m.end, c.loop-low-test.true)) e c.index-entries-middle.is (lesser (id_cmp q e.0) under) in
+    record { below = p.below; above = p.above; inside = omega arith; end = omega (arith, m.end, m.inside) }
+
+pub loop-low-preserved : goal.loop-low-preserved
+loop-low-preserved g c =
+    let es = c.args.entries.now in
+    let q = c.args.id.now in
+    let m = c.loop-low.invariant in
+    let low = c.loop-low.low in
+    let high = c.loop-low.high in
+    let e = c.index-entries-middle.result in
+    let order = c.cmp-order.ensures ∙ cmp_at q e.0 in
+    let other : is_eq (id_cmp q e.0) ≡ false = ap is_eq (sym order) ∙ search rules in
+    let over : is_lt (id_cmp q e.0) ≡ false = ap is_lt (sym order) ∙ search rules in
+    let p = right_of es q c.requires low high (low + (high - low) / 2) (probing_of es q low high m) (omega (arith, m.end, c.loop-low-test.true)) e c.index-entries-middle.is (greater (id_cmp q e.0) other over) in
+    record { below = p.below; above = p.above; inside = omega (arith, c.loop-low-test.true); end = m.end }
+
+pub returns : goal.returns
+returns g c = sym (missed c.args.entries.now c.args.id.now c.loop-low.low c.loop-low.high (probing_of c.args.entries.now c.args.id.now c.loop-low.low c.loop-low.high c.loop-low.invariant) (search rules))
