@@ -1,6 +1,6 @@
 -- A search that halves what is left, with its steps.
 use Rattle.std.proofs.Common.{◌≡◌, ℕ, ◌+◌, ◌-◌, ◌*◌, ◌^◌, ◌<◌, ◌≤◌, false, List, length, get_or, None, Some, true, Ordering, Less, Equal, Greater, ⊎_elim, add-one, refl, sym, ap, subst, ◌∙◌, arith}
-use Rattle.std.specs.Ordering.{is_eq, is_lt}
+use Rattle.std.specs.Ordering.{is_eq, is_gt, is_lt}
 use Rattle.std.specs.FinMap.{find, is_sorted}
 use Rattle.std.proofs.Math.Nat.{pow-suc, mul-le-mul_left, le-mul_of_pos_right}
 use Rattle.std.proofs.lemmas.Bool.{cases_lt}
@@ -86,3 +86,8 @@ pub lesser : (o : Ordering) → is_lt o ≡ true → o ≡ Less
 lesser Less l = refl
 lesser Equal l = absurd cc
 lesser Greater l = absurd cc
+
+pub only_greater : (o : Ordering) → is_gt o ≡ true → o ≡ Greater
+only_greater Greater l = refl
+only_greater Equal l = absurd cc
+only_greater Less l = absurd cc

@@ -63,7 +63,8 @@ fn rises_to<X>(entries: &[(ObjectId, X)], place: usize, id: &ObjectId) -> bool
     if place == 0 {
         return true;
     }
-    id.cmp(&entries[place - 1].0).is_gt()
+    let (key, _) = &entries[place - 1];
+    id.cmp(key).is_gt()
 }
 
 /// Whether an id is less than those from a place on.
