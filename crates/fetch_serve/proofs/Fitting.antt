@@ -1,5 +1,5 @@
 -- Each line of a server of a servable repository fits.
-use Rattle.std.proofs.Common.{◌≡◌, ℕ, ◌≤◌, Bool, true, false, ◌||◌, ◌&&◌, List, [], ◌∷◌, ◌++◌, length, map, filter, nat_lt, Option, Some, None, Result, Ok, Err, cond, refl, sym, ap, ◌∙◌, subst, arith, length-append}
+use Rattle.std.proofs.Common.{◌≡◌, ℕ, ◌≤◌, Bool, true, false, not, ◌||◌, ◌&&◌, List, [], ◌∷◌, ◌++◌, length, map, filter, nat_lt, Option, Some, None, Result, Ok, Err, cond, refl, sym, ap, ◌∙◌, subst, arith, length-append}
 use Rattle.std.specs.Prelude.{option_map}
 use Rattle.std.specs.FinMap as finmap
 use Rattle.std.specs.List.{filter_map}
@@ -25,6 +25,7 @@ use Rattle.fetch_store.specs.declared.id.ObjectId.{ObjectId}
 use Rattle.fetch_store.proofs.Digests.{length-digest}
 use Rattle.fetch_store.proofs.Graphs.{get-graph_of}
 use Rattle.fetch_reach.specs.Named.{AreOwnIds}
+use Rattle.fetch_specs.specs.Names.{is_full_name}
 use Rattle.fetch_wire.specs.ServerLines.{greeting_lines, listing_lines_of, ref_text}
 use Rattle.fetch_wire.specs.Requests.{kind_text, text_line}
 use Rattle.fetch_wire.specs.Written.{first_too_long, too_long_in}
@@ -33,7 +34,7 @@ use Rattle.fetch_wire.specs.Listings.{ref_with}
 use Rattle.fetch_wire.specs.declared.listings.reference.Ref.{Ref}
 use Rattle.fetch_wire.specs.declared.listings.reference.Ref.TheVariants.{Direct, Symbolic as Naming, Peeled, Unborn}
 use Rattle.fetch_serve.specs.Offered.{capabilities_of, if_told, is_public, is_told, is_under, listed, offer, offered_of, peeled_behind, target_of}
-use Rattle.fetch_serve.specs.Servable.{IsServable, behind_tags, end_of, is_long, is_long_target, is_refused, is_unservable}
+use Rattle.fetch_serve.specs.Servable.{IsServable, behind_tags, end_of, is_long, is_unlistable, is_refused, is_unservable}
 use Rattle.fetch_serve.specs.Served.{Data, history_of, references_of}
 
 -- ---- ids
@@ -43,7 +44,7 @@ short_hash Sha1 = omega arith
 short_hash Sha256 = omega arith
 
 -- a stored id has 64 digits at most
-short_stored : (objects : ObjectMap) (id : ObjectId) (o : Stored) → AreOwnIds objects → finmap.get objects id ≡ Some o → length (encode_lower (bytes_of id)) ≤ 64
+pub short_stored : (objects : ObjectMap) (id : ObjectId) (o : Stored) → AreOwnIds objects → finmap.get objects id ≡ Some o → length (encode_lower (bytes_of id)) ≤ 64
 short_stored objects id o own is =
     let len : length (bytes_of id) ≡ byte_len o.hash = ap (λ (i : ObjectId). length (bytes_of i)) (own.each id o is) ∙ length-digest o.hash _ in
     let few = short_hash o.hash in
@@ -67,7 +68,7 @@ way_first g first last (x ∷ way) n (same, (y, next, leads)) is =
     let at = node_first g x y (finmap.get g x) refl next in (at.0, ap (finmap.get g) same ∙ at.1)
 
 -- both ends of a way through tags are stored
-ends_stored : (d : Data) (first last : ObjectId) → behind_tags (history_of d) first ≡ Ok last → ((n : Node) × (finmap.get (history_of d) last ≡ Some n)) × ((n : Node) × (finmap.get (history_of d) first ≡ Some n))
+pub ends_stored : (d : Data) (first last : ObjectId) → behind_tags (history_of d) first ≡ Ok last → ((n : Node) × (finmap.get (history_of d) last ≡ Some n)) × ((n : Node) × (finmap.get (history_of d) first ≡ Some n))
 ends_stored d first last is =
     let e = (tags_end (history_of d) first (Ok last)).0 is in
     let node = e.2 in
@@ -92,7 +93,7 @@ short_behind d None own = tt
 short_behind d (Some id) own = short_next d id (next_tag (history_of d) id) own
 
 -- tags end at no name
-never_unborn : (d : Data) (id : ObjectId) (name : List ℕ) → behind_tags (history_of d) id ≡ Err (refusals.Unborn name) → ⊥
+pub never_unborn : (d : Data) (id : ObjectId) (name : List ℕ) → behind_tags (history_of d) id ≡ Err (refusals.Unborn name) → ⊥
 never_unborn d id name is = (tags_end (history_of d) id (Err (refusals.Unborn name))).0 is
 
 short_end : (d : Data) (id : ObjectId) (found : Result ObjectId RefError) → AreOwnIds d.objects → behind_tags (history_of d) id ≡ found → is_refused found ≡ false → length (encode_lower (bytes_of id)) ≤ 64
@@ -142,14 +143,14 @@ short_made name (Some id) None (Some last) r n i t p is =
 short_made name (Some id) None None r n i t p is =
     let same : Direct name id ≡ r = cc in subst IsShortRef same (simp length-append (omega arith))
 
-short_target : (target : Target) → is_long_target target ≡ false → ShortName (target_of target)
+short_target : (target : Target) → is_unlistable target ≡ false → ShortName (target_of target)
 short_target (Object id) e = tt
-short_target (Symbolic name) e = not_long name e
+short_target (Symbolic name) e = not_long name (orb (is_long name) (not (is_full_name name)) e).0
 
 short_listed : (d : Data) (e : List ℕ × Target) (r : Ref) → AreOwnIds d.objects → is_unservable d e ≡ false → listed d e ≡ Some r → IsShortRef r
 short_listed d e r own servable is =
-    let parts = orb (is_long e.0 || is_long_target e.1) (is_refused (end_of d e.0 e.1)) servable in
-    let names = orb (is_long e.0) (is_long_target e.1) parts.0 in
+    let parts = orb (is_long e.0 || is_unlistable e.1) (is_refused (end_of d e.0 e.1)) servable in
+    let names = orb (is_long e.0) (is_unlistable e.1) parts.0 in
     short_made e.0 (result_ok (resolved d.names e.0 e.1)) (target_of e.1) (peeled_behind (history_of d) (result_ok (resolved d.names e.0 e.1))) r (not_long e.0 names.0)
     (short_led d (resolved d.names e.0 e.1) own parts.1) (short_target e.1 names.1) (short_behind d (result_ok (resolved d.names e.0 e.1)) own) is
 
@@ -162,7 +163,7 @@ offer_listed unborn false found r e = absurd (cc)
 offer_listed unborn true None r e = absurd (cc)
 offer_listed unborn true (Some x) r e = told_is unborn (is_told unborn x) x r e
 
-text_fits : (text : List ℕ) → length text ≤ 65515 → too_long_in (text_line text) ≡ None
+pub text_fits : (text : List ℕ) → length text ≤ 65515 → too_long_in (text_line text) ≡ None
 text_fits text le =
     let l = length-append text (10 ∷ []) in
     let short : nat_lt 65516 (length (text ++ 10 ∷ [])) ≡ false = grind (arith, nat_tests) in

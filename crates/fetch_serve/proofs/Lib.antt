@@ -8,3 +8,17 @@ pub mod Serving
 pub mod Fitting
 pub mod Acting
 pub mod Reached
+pub mod Lists
+pub mod References
+pub mod Tags
+pub mod Needed
+pub mod Honest
+pub mod Ids
+pub mod Names
+pub mod Lines
+pub mod Answered
+pub mod WantIds
+pub mod Collecting
+pub mod Appending
+pub mod Hearing
+pub mod Peering

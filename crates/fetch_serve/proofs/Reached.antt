@@ -15,7 +15,7 @@ use Rattle.fetch_store.proofs.Members.{first_in, later_in, cases_in, none_in}
 use Rattle.fetch_store.proofs.Pigeons.{AreDistinct, AreStored, no_more}
 use Rattle.fetch_store.proofs.Reaching.{reached_next, reached_start}
 use Rattle.fetch_serve.specs.declared.asked.FetchAsked.{FetchAsked}
-use Rattle.fetch_serve.specs.Packs.{IsNeeded, border_of, is_needed, is_reached, known_haves, reached_within, seen_after, seen_by, starts_of, stored_in}
+use Rattle.fetch_serve.specs.Packs.{Depth, IsNeeded, border_of, is_needed, is_reached, known_haves, reached_within, seen_after, seen_by, starts_of, stored_in}
 use Rattle.fetch_serve.specs.Served.{Data}
 
 -- ---- members
@@ -185,7 +185,7 @@ reached_test h starts id = (
   λ r. named-Contains id (reached_within h starts (finmap.len h.objects)) (reached_in_time h starts id r),
 )
 
-both : (a b : Bool) → (a && b) ≡ true → (a ≡ true) × (b ≡ true)
+pub both : (a b : Bool) → (a && b) ≡ true → (a ≡ true) × (b ≡ true)
 both true b e = (refl, e)
 both false b e = absurd (cc)
 
@@ -197,13 +197,13 @@ refuted : (b : Bool) → (b ≡ true → ⊥) → not b ≡ true
 refuted true never = absurd (never refl)
 refuted false never = refl
 
-pub needed_test : (d : Data) (r : FetchAsked) (id : ObjectId) → (is_needed d r id ≡ true) ↔ IsNeeded d r id
-needed_test d r id =
-    let all = reached_test (seen_after d r) (starts_of d r) id in
+pub needed_test : (d : Data) (r : FetchAsked) (x : Depth) (id : ObjectId) → (is_needed d r x id ≡ true) ↔ IsNeeded d r x id
+needed_test d r x id =
+    let all = reached_test (seen_after d r x) (starts_of d r x) id in
     let had = reached_test (seen_by d (border_of r)) (known_haves d r) id in (
-      λ e. (let p = both (is_reached (seen_after d r) (starts_of d r) id) (not (is_reached (seen_by d (border_of r)) (known_haves d r) id)) e in
-          record { reached = all.0 p.0; lacking = λ x. negated (is_reached (seen_by d (border_of r)) (known_haves d r) id) p.1 (had.1 x) }),
-      λ n. (let yes : is_reached (seen_after d r) (starts_of d r) id ≡ true = all.1 n.reached in
+      λ e. (let p = both (is_reached (seen_after d r x) (starts_of d r x) id) (not (is_reached (seen_by d (border_of r)) (known_haves d r) id)) e in
+          record { reached = all.0 p.0; lacking = λ held. negated (is_reached (seen_by d (border_of r)) (known_haves d r) id) p.1 (had.1 held) }),
+      λ n. (let yes : is_reached (seen_after d r x) (starts_of d r x) id ≡ true = all.1 n.reached in
           let lacks : not (is_reached (seen_by d (border_of r)) (known_haves d r) id) ≡ true = refuted (is_reached (seen_by d (border_of r)) (known_haves d r) id) (λ e. n.lacking (had.0 e)) in
           rw yes lacks),
     )

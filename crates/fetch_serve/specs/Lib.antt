@@ -9,6 +9,8 @@ pub mod Offered
 pub mod Packs
 pub mod Intakes
 pub mod Replies
+pub mod Answers
 pub mod Servings
 pub mod Peers
 pub mod Acts
+pub mod Hearing

@@ -1,9 +1,12 @@
 -- A server as the peer of a fetch.
-use Rattle.std.specs.Prelude.{ℕ, ◌-◌, Bool, false, true, List, [], length, take, drop, Option, Some, is_some, if◌then◌else◌}
+use Rattle.std.specs.Prelude.{◌≡◌, ℕ, ◌-◌, Bool, false, true, List, [], ◌++◌, length, take, drop, Option, Some, None, is_some, ⊤, if◌then◌else◌}
 use Rattle.fetch_store.specs.Faults.{Faults}
 use Rattle.fetch_wire.specs.Talks.{Talk, Receive}
 use Rattle.fetch_serve.specs.Replies.{replies_of}
 use Rattle.fetch_serve.specs.Served.{Data}
+use Rattle.fetch_serve.specs.Servings.{Serving}
+use Rattle.fetch_serve.specs.declared.intake.Refusal.{Refusal}
+use Rattle.fetch_serve.specs.declared.intake.Refusal.TheVariants as refusals
 use Rattle.fetch_serve.specs.Texts.{asked_in}
 
 -- What it serves, what it heard, how many bytes of its replies are still to be given, its receives, and how often it refused
@@ -40,3 +43,27 @@ told_by p = let heard = heard_by p.served p.heard in Some (talk_with p heard (re
 -- Its faults count where what it heard shows one.
 abbrev pub faults_of : ServedPeer → Faults
 faults_of p = record { count = if is_troubled p.served (heard_by p.served p.heard) then p.failed else 0; possible = true }
+
+-- what a peer of this data had given where it had heard this, and so many bytes were still to be given
+abbrev pub receive_at : Data → List ℕ → ℕ → Receive
+receive_at d heard left = record { heard = heard; given = take (length (replies_of d heard) - left) (replies_of d heard) }
+
+-- a server that goes on, and was fed this text
+pub record IsFed (s : Serving) (heard : List ℕ) : Type 0 where
+  pub begun : s.begun ≡ (asked_in s.served.hash false heard).begun
+  pub pending : s.pending ≡ (asked_in s.served.hash false heard).rest
+  pub fine : (asked_in s.served.hash false heard).trouble ≡ None
+
+-- the same of one that may have refused: where that wasn't for want of memory, the text shows it
+abbrev pub IsGoing : Option Refusal → Serving → List ℕ → Type 0
+IsGoing None s heard = IsFed s heard
+IsGoing (Some (refusals.Malformed place)) s heard = is_troubled s.served heard ≡ true
+IsGoing (Some refusals.TooLong) s heard = is_troubled s.served heard ≡ true
+IsGoing (Some refusals.NoMemory) s heard = ⊤
+
+-- What holds of a peer's server and of what was heard: what was given, with what is to be given, are the replies.
+pub record IsSaid (s : Serving) (heard : List ℕ) : Type 0 where
+  pub given : List ℕ
+  pub is : given ++ s.outgoing ≡ replies_of s.served heard
+  pub shown : is_troubled s.served (take (length heard - 1) heard) ≡ false
+  pub goes : IsGoing s.refusal s heard

@@ -1,13 +1,12 @@
 -- What a server answers.
-use Rattle.std.specs.Prelude.{ℕ, Bool, false, not, ◌||◌, List, [], ◌∷◌, ◌++◌, length, filter, nat_le, ◌^◌, codes, slice_get, Option, Some, None, if◌then◌else◌}
+use Rattle.std.specs.Prelude.{ℕ, Bool, true, false, not, ◌||◌, List, [], ◌∷◌, ◌++◌, length, filter, nat_le, ◌^◌, codes, slice_get, Option, Some, None, if◌then◌else◌}
 use Rattle.std.specs.List.{flat_map, list_any}
 use Rattle.hex.specs.Hex.{encode_lower}
 use Rattle.fetch_store.specs.Id.{bytes_of}
 use Rattle.fetch_store.specs.Objects.{Stored}
 use Rattle.fetch_store.specs.declared.id.ObjectId.{ObjectId}
-use Rattle.fetch_pack.specs.Records.{pack_text, payloads_of}
+use Rattle.fetch_pack.specs.Records.{limit_of, pack_text, payloads_of}
 use Rattle.fetch_pack.specs.declared.version.PackVersion.{PackVersion}
-use Rattle.fetch_pack.specs.declared.version.PackVersion.TheVariants.{V1, V2}
 use Rattle.fetch_reach.specs.Stored.{objects_at}
 use Rattle.fetch_wire.specs.Requests.{text_line}
 use Rattle.fetch_wire.specs.ServerLines.{BorderChange, bands_of, greeting_lines, last_lines, listing_lines_of, round_lines}
@@ -31,16 +30,19 @@ error_lines text = text_line (codes "ERR " ++ text) ∷ []
 abbrev pub not_offered : ObjectId → List ℕ
 not_offered id = codes "want " ++ encode_lower (bytes_of id) ++ codes " not offered"
 
+-- what a server says of a pack that its version can't hold
+unfoldable pub too_large : List ℕ
+too_large = codes "pack too large"
+
 -- the first want that isn't offered
 abbrev pub first_unoffered : Data → FetchAsked → Option ObjectId
 first_unoffered d r = slice_get (filter (λ id. not (has_id id (offered_ids d))) r.wants) 0
 
 -- whether a payload is too long for a version of the pack
 abbrev pub is_too_long : PackVersion → Stored → Bool
-is_too_long V1 o = nat_le (2 ^ 32) (length o.bytes)
-is_too_long V2 o = false
+is_too_long version o = nat_le (limit_of version) (length o.bytes)
 
--- whether a version of the pack can't hold so many objects, or one of them
+-- Whether a version of the pack can't hold so many objects, or one of them. A pack of version 2 holds each that memory can.
 abbrev pub is_too_large : PackVersion → List Stored → Bool
 is_too_large version os = nat_le (2 ^ 32) (length os) || list_any (is_too_long version) os
 
@@ -49,30 +51,33 @@ abbrev pub change_in : Data → FetchAsked → Option DepthAsked → Option Bord
 change_in d r None = None
 change_in d r (Some depth) = Some (record { shallow = shallow_of d r; unshallow = unshallow_of d r })
 
+-- the pack of these objects, as the request asks for it
+abbrev pub pack_with : Data → FetchAsked → List Stored → List ℕ
+pack_with d r os = pack_text r.version d.hash (payloads_of os)
+
 -- the reply with a pack of these objects, where it isn't too large
 abbrev pub pack_lines : Data → FetchAsked → List Stored → List Line
 pack_lines d r os =
-    if is_too_large r.version os then error_lines (codes "pack too large")
-    else last_lines (change_in d r r.depth) (bands_of (pack_text r.version d.hash (payloads_of os)))
+    if is_too_large r.version os then error_lines too_large else last_lines (change_in d r r.depth) (bands_of (pack_with d r os))
+
+-- the objects that are served
+abbrev pub objects_of : Data → FetchAsked → List Stored
+objects_of d r = objects_at d.objects (served_of d r)
 
 -- a reply where each want is offered: the pack, or, before the client is done, the haves that are known
 abbrev pub fetched_lines : Data → FetchAsked → List Line
-fetched_lines d r = if r.done then pack_lines d r (objects_at d.objects (served_of d r)) else round_lines (known_haves d r)
+fetched_lines d r = if r.done then pack_lines d r (objects_of d r) else round_lines (known_haves d r)
 
 -- the reply to a fetch request
 abbrev pub fetch_lines : Data → FetchAsked → Option ObjectId → List Line
 fetch_lines d r (Some id) = error_lines (not_offered id)
 fetch_lines d r None = fetched_lines d r
 
--- what a server says while packs aren't served
-unfoldable pub not_yet : List ℕ
-not_yet = codes "packs aren't served yet"
-
 -- the reply to a request, line by line
 unfoldable pub reply_lines : Data → Asked → List Line
 reply_lines d First = greeting_lines (capabilities_of d.hash)
 reply_lines d (Listing unborn prefixes) = listing_lines_of (offered_of d unborn prefixes)
-reply_lines d (Fetch r) = error_lines not_yet
+reply_lines d (Fetch r) = fetch_lines d r (first_unoffered d r)
 
 -- the same as it is written
 abbrev pub reply_text : Data → Asked → List ℕ

@@ -1,5 +1,5 @@
 -- Which repositories can be served.
-use Rattle.std.specs.Prelude.{◌≡◌, ◌≢◌, ℕ, Bool, true, false, ◌||◌, List, [], length, map, filter, nat_lt, slice_get, Option, Some, None, Result, Ok, Err, ⊤, if◌then◌else◌}
+use Rattle.std.specs.Prelude.{◌≡◌, ◌≢◌, ℕ, Bool, true, false, not, ◌||◌, List, [], length, map, filter, nat_lt, slice_get, Option, Some, None, Result, Ok, Err, ⊤, if◌then◌else◌}
 use Rattle.std.specs.FinMap as finmap
 use Rattle.std.specs.FinSet as set
 use Rattle.fetch_store.specs.Borders.{IdSet}
@@ -37,14 +37,14 @@ is_refused (Err _) = true
 abbrev pub is_long : List ℕ → Bool
 is_long name = nat_lt 30000 (length name)
 
--- the same of what a reference names
-abbrev pub is_long_target : Target → Bool
-is_long_target (Object id) = false
-is_long_target (Symbolic name) = is_long name
+-- Whether what a reference names can't be listed: its name is too long, or no full one. Those of a repository are full.
+abbrev pub is_unlistable : Target → Bool
+is_unlistable (Object id) = false
+is_unlistable (Symbolic name) = is_long name || not (is_full_name name)
 
 -- whether a reference can't be served: it or what it names is too long to be listed, or it leads to nothing
 abbrev pub is_unservable : Data → List ℕ × Target → Bool
-is_unservable d e = is_long e.0 || is_long_target e.1 || is_refused (end_of d e.0 e.1)
+is_unservable d e = is_long e.0 || is_unlistable e.1 || is_refused (end_of d e.0 e.1)
 
 -- a name, where it is a full one
 abbrev pub if_full : List ℕ → Option (List ℕ)

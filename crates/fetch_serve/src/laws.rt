@@ -1,18 +1,29 @@
 //! What the definitions of a server say, in other words. Each law is the contract of a function without a body.
 
-ghost use Rattle.std.specs.Prelude.{◌≡◌, ◌↔◌, ◌++◌, Bool, true, false, List, [], ℕ, Ok, Some, None};
+ghost use Rattle.std.specs.Prelude.{◌≡◌, ◌↔◌, ◌++◌, Bool, true, false, List, [], ℕ, Ok, Some, None, All, Contains, length};
+ghost use Rattle.std.specs.List.Sorted.{IsStrictlySortedBy};
+ghost use Rattle.fetch_pack.specs.Reading.{read};
+ghost use Rattle.fetch_pack.specs.Records.{body, payloads_of};
 ghost use Rattle.fetch_serve.specs.Acts.{Act, DoesAll, fed_by};
-ghost use Rattle.fetch_serve.specs.Servings.{Serving, Takes, unfed};
-ghost use Rattle.fetch_serve.specs.Packs.{IsNeeded, is_needed, is_reached};
-ghost use Rattle.fetch_serve.specs.declared.asked.FetchAsked.{FetchAsked};
-ghost use Rattle.fetch_store.specs.Closed.{Holding, Reached};
-ghost use Rattle.fetch_store.specs.declared.id.ObjectId.{ObjectId as Id};
-ghost use Rattle.fetch_serve.specs.Replies.{replies_of, replies_to, reply_text};
+ghost use Rattle.fetch_serve.specs.Answers.{awaits, fails, pack_bytes, told_of};
+ghost use Rattle.fetch_serve.specs.Packs.{Depth, IsClient, IsDepth, IsNeeded, IsServed, is_needed, is_reached, pack_at, pack_of, served_of};
+ghost use Rattle.fetch_serve.specs.Replies.{error_lines, first_unoffered, is_too_large, objects_of, replies_of, replies_to, reply_lines, reply_text};
+ghost use Rattle.fetch_serve.specs.Servable.{IsServable};
 ghost use Rattle.fetch_serve.specs.Served.{Data};
+ghost use Rattle.fetch_serve.specs.Servings.{Serving, Takes, unfed};
 ghost use Rattle.fetch_serve.specs.Texts.{IsBegun, and_more, asked_in, ends_at, request_at, with_first};
 ghost use Rattle.fetch_serve.specs.declared.asked.Asked.{Asked};
+ghost use Rattle.fetch_serve.specs.declared.asked.FetchAsked.{FetchAsked};
 ghost use Rattle.fetch_serve.specs.declared.error.ServeError.{ServeError};
+ghost use Rattle.fetch_store.specs.Closed.{Holding, Reached};
+ghost use Rattle.fetch_store.specs.Hashing as hashing;
+ghost use Rattle.fetch_store.specs.Honest.{IsHonest};
+ghost use Rattle.fetch_store.specs.Stores.{id_cmp};
 ghost use Rattle.fetch_store.specs.declared.id.Kind.{Kind};
+ghost use Rattle.fetch_store.specs.declared.id.ObjectId.{ObjectId as Id};
+ghost use Rattle.fetch_wire.specs.Awaited.{start_of, step_of};
+ghost use Rattle.fetch_wire.specs.LinesTold.{Tells};
+ghost use Rattle.fetch_wire.specs.Written.{first_too_long};
 
 /// What a text asks stays when more bytes come: they are read on behind it, and behind a line that can't stand nothing is
 /// read. So it doesn't matter how a text is cut into pieces.
@@ -58,5 +69,36 @@ pub fn every_list_of_pieces_gives_the_replies()
 /// it says of the objects that a request needs.
 pub fn what_is_needed_is_tested()
     ensures reached { (h : Holding) (starts : List Id) (id : Id) → (is_reached h starts id ≡ true) ↔ Reached h starts id }
-    ensures needed { (d : Data) (r : FetchAsked) (id : Id) → (is_needed d r id ≡ true) ↔ IsNeeded d r id }
+    ensures needed { (d : Data) (r : FetchAsked) (x : Depth) (id : Id) → (is_needed d r x id ≡ true) ↔ IsNeeded d r x id }
+{}
+
+/// The pack has what is served and nothing else: each object that is needed, and, where tags are asked for, each tag on the way
+/// from one that is offered to such an object. Each once, in ascending order.
+pub fn what_is_served_is_listed()
+    ensures each { (d : Data) (r : FetchAsked) (id : Id) → IsServable d → Contains (served_of d r) id ↔ IsServed d r id }
+    ensures ascending { (d : Data) (r : FetchAsked) → IsStrictlySortedBy id_cmp (served_of d r) }
+{}
+
+/// A request is answered by lines that are read back as what it asks for. Where a want isn't offered, or the pack is too large,
+/// the reply is the one line of a server that fails. Each line of the reply to a request that was read fits.
+pub fn replies_are_replies()
+    ensures told { (d : Data) (asked : Asked) → IsServable d → fails d asked ≡ false → Tells step_of (start_of (awaits d asked)) (reply_lines d asked) (told_of d asked) }
+    ensures error { (d : Data) (asked : Asked) → fails d asked ≡ true → (text : List ℕ) × (reply_lines d asked ≡ error_lines text) }
+    ensures fit { (d : Data) (begun : Bool) (text rest : List ℕ) (asked : Asked) → IsServable d → request_at d.hash begun text ≡ Ok (asked, rest) → first_too_long (reply_lines d asked) ≡ None }
+{}
+
+/// The pack of a request, which its reply tells, is read as the objects that are served, under their ids.
+pub fn served_packs_are_read()
+    ensures { (d : Data) (r : FetchAsked) → IsServable d → is_too_large r.version (objects_of d r) ≡ false
+        → read d.hash (pack_bytes d r)
+        ≡ Ok (record { objects = (pack_of d r).objects; count = length (served_of d r); digest = hashing.digest d.hash (body r.version d.hash (payloads_of (objects_of d r))) }) }
+{}
+
+/// A pack is honest for each closed client that may have asked for it, over any rounds: more haves may have been told before. So
+/// it is whatever depth lines decide.
+pub fn served_packs_are_honest()
+    ensures pack { (d : Data) (r : FetchAsked) (client : Holding) (haves : List Id) → IsServable d → first_unoffered d r ≡ None → IsClient d r client → All (Contains haves) r.haves
+        → IsHonest (record { held = client; wants = r.wants; haves = haves }) (pack_of d r) }
+    ensures any_depth { (d : Data) (r : FetchAsked) (x : Depth) (client : Holding) (haves : List Id) → IsServable d → first_unoffered d r ≡ None → IsDepth d r x → IsClient d r client → All (Contains haves) r.haves
+        → IsHonest (record { held = client; wants = r.wants; haves = haves }) (pack_at d r x) }
 {}

@@ -1,7 +1,8 @@
 //! The references that a server offers.
 
-ghost use Rattle.std.specs.Prelude.{◌≡◌, nat_eq, IfOk};
-ghost use Rattle.std.specs.List.{list_any, starts_with};
+ghost use Rattle.std.specs.Prelude.{◌≡◌, ◌++◌, nat_eq, not, filter, slice_get, IfOk, OnOk};
+ghost use Rattle.std.specs.List.{flat_map, list_any, starts_with};
+ghost use Rattle.std.specs.List.Sorted.{IsStrictlySortedBy};
 ghost use Rattle.std.specs.Option.{option_copied};
 ghost use Rattle.std.specs.Result.{result_ok};
 ghost use Rattle.std.specs.Str.{bytes_eq};
@@ -9,14 +10,16 @@ ghost use Rattle.fetch_refs.specs.Peeled.{resolved};
 ghost use Rattle.fetch_refs.specs.Targets.{seen};
 ghost use Rattle.fetch_serve.specs.Offered as spec;
 ghost use Rattle.fetch_serve.specs.Parts.{held_by};
-ghost use Rattle.fetch_specs.specs.Names as names;
+ghost use Rattle.fetch_serve.specs.Requests.{has_id};
+ghost use Rattle.fetch_store.specs.Borders.{set_of};
 ghost use Rattle.fetch_store.specs.Graph.{graph_of};
+ghost use Rattle.fetch_store.specs.Stores.{id_cmp};
 ghost use Rattle.fetch_wire.specs.Listings.{ref_with};
 
 use crate::parts::Parts;
 use fetch_refs::{RefError, TargetRef, peel_tags};
-use fetch_specs::{FullName, NameError};
-use fetch_store::{NoMemory, ObjectId, Objects, Store, Text};
+use fetch_specs::FullName;
+use fetch_store::{NoMemory, ObjectId, Objects, Store, Text, ascending};
 use fetch_wire::Ref;
 use std::alloc::Global;
 
@@ -118,8 +121,13 @@ fn listed(parts: Parts<'_>, name: &[u8], target: TargetRef<'_>) -> Result<Option
     ensures { IfOk result (λ found. found ≡ spec.listed (held_by parts.entry) (name.now, seen target.entry)) }
 {
     let id = resolved(parts, name, target)?;
-    let peeled = peeled_if(parts.store, id);
-    made(parts.alloc, name, id, target_of(target), peeled)
+    made(
+        parts.alloc,
+        name,
+        id,
+        target_of(target),
+        peeled_if(parts.store, id),
+    )
 }
 
 #[tactic(auto, unfolding(crate::specs::Offered::head_name))]
@@ -197,17 +205,6 @@ fn offer(
     }
 }
 
-/// Whether the name is a full one.
-fn is_full_name(alloc: Global, name: &[u8]) -> Result<bool, NoMemory>
-    ensures { IfOk result (λ full. full ≡ names.is_full_name name.now) }
-{
-    match FullName::new(alloc, name) {
-        Ok(_) => Ok(true),
-        Err(NameError::NoMemory) => Err(NoMemory),
-        Err(_) => Ok(false),
-    }
-}
-
 /// The references that are offered, `HEAD` first, and then by ascending name.
 pub(crate) fn offered(parts: Parts<'_>, wanted: Wanted<'_>) -> Result<Vec<Ref>, NoMemory>
     ensures { IfOk result (λ found. found.items ≡ spec.offered_of (held_by parts.entry) wanted.entry.unborn wanted.entry.prefixes.now) }
@@ -215,11 +212,68 @@ pub(crate) fn offered(parts: Parts<'_>, wanted: Wanted<'_>) -> Result<Vec<Ref>, 
     let mut found = Vec::new(parts.alloc);
     let mut references = parts.refs.iter();
     while let Some((name, target)) = references.next() {
-        if is_full_name(parts.alloc, name)? {
+        if FullName::is_valid(name) {
             if let Some(reference) = offer(parts, wanted, name, target)? {
                 found.push(reference)?;
             }
         }
     }
     Ok(found)
+}
+
+/// The ids that may be wanted, of the references that are offered: ascending, each once.
+fn offered_ids(alloc: Global, references: &[Ref]) -> Result<Vec<ObjectId>, NoMemory>
+    ensures ascending { IfOk result (λ ids. IsStrictlySortedBy id_cmp ids.items) }
+    ensures each { IfOk result (λ ids. set_of ids.items ≡ set_of (flat_map spec.ids_in references.now)) }
+{
+    let mut ids = Vec::new(alloc);
+    for reference in references {
+        let (_, id, peeled) = reference.unpack();
+        append_some(&mut ids, id)?;
+        append_some(&mut ids, peeled)?;
+    }
+    Ok(ascending(ids))
+}
+
+/// Appends the id, if there is one.
+fn append_some(ids: &mut Vec<ObjectId>, id: Option<&ObjectId>) -> Result<(), NoMemory>
+    ensures { OnOk result (ids.new.items ≡ ids.old.items ++ spec.some_of (option_copied id.entry)) }
+{
+    if let Some(id) = id {
+        ids.push(*id)?;
+    }
+    Ok(())
+}
+
+/// Whether an id is among ascending ids.
+pub(crate) fn stands_among(id: &ObjectId, ids: &[ObjectId]) -> bool
+    requires { IsStrictlySortedBy id_cmp ids.now }
+    ensures { result ≡ has_id id.now ids.now }
+{
+    ids.binary_search(id).is_ok()
+}
+
+/// The first of the wants that isn't among the ascending ids.
+fn first_outside(ids: &[ObjectId], wants: &[ObjectId]) -> Option<ObjectId>
+    requires { IsStrictlySortedBy id_cmp ids.now }
+    ensures { result ≡ slice_get (filter (λ id. not (has_id id ids.now)) wants.now) 0 }
+{
+    for id in wants {
+        if !stands_among(id, ids) {
+            return Some(*id);
+        }
+    }
+    None
+}
+
+/// The first of the wants that none of these references offers.
+pub(crate) fn first_unoffered(
+    alloc: Global,
+    references: &[Ref],
+    wants: &[ObjectId],
+) -> Result<Option<ObjectId>, NoMemory>
+    ensures { IfOk result (λ found. found ≡ slice_get (filter (λ id. not (has_id id (flat_map spec.ids_in references.now))) wants.now) 0) }
+{
+    let ids = offered_ids(alloc, references)?;
+    Ok(first_outside(&ids, wants))
 }

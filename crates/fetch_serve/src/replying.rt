@@ -4,7 +4,7 @@ ghost use Rattle.std.specs.Prelude.{◌≡◌, ◌++◌, None, IfOk, OnErr, OnOk
 ghost use Rattle.fetch_serve.specs.Offered as offered;
 ghost use Rattle.fetch_serve.specs.Offered.{capabilities_of, offered_of};
 ghost use Rattle.fetch_serve.specs.Parts.{held_by};
-ghost use Rattle.fetch_serve.specs.Replies.{error_lines, not_yet, reply_lines, reply_text};
+ghost use Rattle.fetch_serve.specs.Replies.{reply_lines, reply_text};
 ghost use Rattle.fetch_serve.specs.Servable.{IsServable};
 ghost use Rattle.fetch_wire.specs.LineViews.{line_of};
 ghost use Rattle.fetch_wire.specs.Requests as requests;
@@ -12,6 +12,7 @@ ghost use Rattle.fetch_wire.specs.ServerLines as lines;
 ghost use Rattle.fetch_wire.specs.Written.{first_too_long, line_text, lines_text, too_long_in};
 
 use crate::asked::Asked;
+use crate::fetching::append_fetch;
 use crate::offered::{Wanted, offered};
 use crate::parts::Parts;
 use fetch_store::{Kind, NoMemory, Text};
@@ -19,7 +20,7 @@ use fetch_wire::{Capability, Line, LineRef, greeting_lines, listing_lines, write
 use std::alloc::Global;
 
 /// Appends a line that fits.
-fn append_line(out: &mut Vec<u8>, line: LineRef<'_>) -> Result<(), NoMemory>
+pub(crate) fn append_line(out: &mut Vec<u8>, line: LineRef<'_>) -> Result<(), NoMemory>
     requires { too_long_in (line_of line) ≡ None }
     ensures { OnOk result (out.new.items ≡ out.old.items ++ line_text (line_of line.entry)) }
 {
@@ -30,7 +31,7 @@ fn append_line(out: &mut Vec<u8>, line: LineRef<'_>) -> Result<(), NoMemory>
 }
 
 /// Appends lines that fit.
-fn append_lines(out: &mut Vec<u8>, lines: &[Line]) -> Result<(), NoMemory>
+pub(crate) fn append_lines(out: &mut Vec<u8>, lines: &[Line]) -> Result<(), NoMemory>
     requires { first_too_long lines.now ≡ None }
     ensures { OnOk result (out.new.items ≡ out.old.items ++ lines_text lines.now) }
 {
@@ -91,15 +92,6 @@ fn append_listing(parts: Parts<'_>, wanted: Wanted<'_>, out: &mut Vec<u8>) -> Re
     append_lines(out, &lines)
 }
 
-/// Appends the one line of a server that fails.
-#[tactic(auto, unfolding(crate::specs::Replies::not_yet))]
-fn append_not_yet(out: &mut Vec<u8>) -> Result<(), NoMemory>
-    ensures { OnOk result (out.new.items ≡ out.old.items ++ lines_text (error_lines not_yet)) }
-{
-    append_line(out, LineRef::Payload(b"ERR packs aren't served yet\n"))?;
-    Ok(())
-}
-
 #[tactic(auto, unfolding(crate::specs::Replies::reply_lines))]
 fn append_any(parts: Parts<'_>, asked: &Asked, out: &mut Vec<u8>) -> Result<(), NoMemory>
     requires { IsServable (held_by parts) }
@@ -114,7 +106,7 @@ fn append_any(parts: Parts<'_>, asked: &Asked, out: &mut Vec<u8>) -> Result<(), 
             };
             append_listing(parts, wanted, out)
         }
-        Asked::Fetch(_) => append_not_yet(out),
+        Asked::Fetch(asked) => append_fetch(parts, asked, out),
     }
 }
 
@@ -130,6 +122,11 @@ pub(crate) fn append_reply(
 {
     let mut reply = Vec::new(parts.alloc);
     append_any(parts, asked, &mut reply)?;
-    out.extend_from_slice(&reply)?;
+    // A pack is moved, and not copied, where nothing is left before it.
+    if out.is_empty() {
+        *out = reply;
+    } else {
+        out.extend_from_slice(&reply)?;
+    }
     Ok(())
 }

@@ -20,8 +20,9 @@ use fetch_store::{Border, Missing, NoMemory, Store, first_missing};
 /// The longest name that is served, in bytes: its line fits with what it names and two ids.
 const MAX_NAME: usize = 30_000;
 
-fn is_long_target(target: TargetRef<'_>) -> bool
-    ensures { result ≡ spec.is_long_target (seen target.entry) }
+/// Whether what a reference names can't be listed. A name that is kept is a full one.
+fn is_unlistable(target: TargetRef<'_>) -> bool
+    ensures { result ≡ spec.is_unlistable (seen target.entry) }
 {
     match target {
         TargetRef::Object(_) => false,
@@ -48,7 +49,7 @@ fn is_refused(parts: Parts<'_>, name: &[u8], target: TargetRef<'_>) -> Result<bo
 fn is_unservable(parts: Parts<'_>, name: &[u8], target: TargetRef<'_>) -> Result<bool, NoMemory>
     ensures { IfOk result (λ found. found ≡ spec.is_unservable (held_by parts.entry) (name.now, seen target.entry)) }
 {
-    if name.len() > MAX_NAME || is_long_target(target) {
+    if name.len() > MAX_NAME || is_unlistable(target) {
         return Ok(true);
     }
     is_refused(parts, name, target)

@@ -147,6 +147,22 @@ impl<'a> Server<'a> {
         }
     }
 
+    /// Why more is refused, where it is.
+    pub(crate) fn refusal(&self) -> Option<Refusal>
+        ensures refusal { result ≡ self.now.refusal }
+        ensures begun { self.now.refusal ≡ None → IsBegun self.now.served.hash self.now.begun self.now.pending }
+    {
+        self.refusal
+    }
+
+    /// How many bytes aren't answered yet.
+    pub(crate) fn pending_len(&self) -> usize
+        ensures len { result ≡ length self.now.pending }
+        ensures begun { self.now.refusal ≡ None → IsBegun self.now.served.hash self.now.begun self.now.pending }
+    {
+        self.intake.len()
+    }
+
     /// An equal server.
     pub fn try_clone(&self) -> Result<Server<'a>, NoMemory>
         ensures { IfOk result (λ copy. copy ≡ self.now) }

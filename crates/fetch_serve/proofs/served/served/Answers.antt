@@ -1,0 +1,28 @@
+use Rattle.std.proofs.Common.{Contains, ap, sym, subst, ◌∙◌}
+use Rattle.std.specs.Prelude.{IfOk, ◌↔◌, ◌⊎◌}
+use Rattle.std.specs.List.{flat_map}
+use Rattle.std.specs.List.Sorted.{IsStrictlySortedBy}
+use Rattle.fetch_store.specs.Stores.{id_cmp}
+use Rattle.fetch_store.specs.declared.id.ObjectId.{ObjectId}
+use Rattle.fetch_serve.specs.Packs.{tags_of}
+use Rattle.fetch_serve.specs.Parts.{held_by}
+use Rattle.fetch_serve.specs.Requests.{has_id}
+use Rattle.fetch_serve.specs.Served.{history_of}
+use Rattle.fetch_serve.proofs.Collecting.{served_ok, served_plain}
+use Rattle.fetch_serve.proofs.served.served.Goals as goal
+
+pub tags_along-tags-requires : goal.tags_along-tags-requires
+tags_along-tags-requires c = subst (IsStrictlySortedBy id_cmp) (sym c.as_slice.ensures) c.in_ok-needed.ensures.ascending
+
+pub returns-then-not-include_tag : goal.returns-then-not-include_tag
+returns-then-not-include_tag c =
+    served_plain (held_by c.args.parts) c.args.asked.now c.in_ok-needed.needed c.requires.servable c.in_ok-needed.ensures.each c.in_ok-needed.ensures.ascending c.if-not-include_tag.true
+
+pub returns : goal.returns
+returns c =
+    let d = held_by c.args.parts in
+    let needed = c.in_ok-needed.needed in
+    served_ok d c.args.asked.now needed c.as_slice-3.result.now c.union.result c.requires.servable c.in_ok-needed.ensures.each c.if-not-include_tag.false
+    (c.as_slice-3.ensures.value ∙ c.in_ok-tags.ensures ∙ ap (λ ids. flat_map (tags_of (history_of d) (λ id. has_id id ids)) c.args.references.now) c.as_slice.ensures
+    ∙ ap (flat_map (tags_of (history_of d) (λ id. has_id id needed))) c.requires.offered) c.union.ensures.ascending
+    (subst (λ ids. IfOk c.union.result (λ all. (id : ObjectId) → Contains all id ↔ (Contains ids id ⊎ Contains c.as_slice-3.result.now id))) c.as_slice-2.ensures c.union.ensures.each)

@@ -1,0 +1,154 @@
+//! A server as the peer of a fetch.
+
+ghost use Rattle.std.specs.Prelude.{◌≡◌, ◌≤◌, ◌++◌, ◌∷◌, [], List, ℕ, Some, length, true, IfOk, IsErrOf, OnErr};
+ghost use Rattle.fetch_serve.specs.Hearing.{Hears, fault_of, is_failed};
+ghost use Rattle.fetch_serve.specs.Peers.{faults_of, told_by};
+ghost use Rattle.fetch_serve.specs.Replies.{replies_of};
+ghost use Rattle.fetch_serve.specs.Servings.{unfed};
+ghost use Rattle.fetch_store.specs.Faults.{Counts, Rose};
+ghost use Rattle.fetch_wire.specs.Talks.{Makes, Receives, Sends, at_once};
+
+use crate::error::ServeError;
+use crate::intake::Refusal;
+use crate::server::Server;
+use fetch_store::{Failed, copy_from};
+use fetch_wire::{Peer, SendFault};
+use opening_value::Openings;
+use std::marker::Model;
+
+/// What was said before a receive: the bytes that were heard, and how many were still to be given.
+#[derive(Drop)]
+struct Said {
+    heard: Openings<u8>,
+    left: usize,
+}
+
+/// A server that answers in memory. It fails where the server refuses what it is sent, and where that is not for want of
+/// memory it counts a fault. Then it has heard all up to the bytes that show why, and hears nothing more.
+#[derive(Drop)]
+pub struct ServerPeer<'a> {
+    server: Server<'a>,
+    heard: Openings<u8>,
+    /// What was said before each receive.
+    receives: Openings<Said>,
+    failed: u64,
+}
+
+impl<'a> Model for ServerPeer<'a> {
+    ghost use Rattle.std.specs.Prelude.{length, map};
+    ghost use Rattle.fetch_serve.specs.Peers.{IsSaid, ServedPeer, receive_at};
+
+    ghost Value = { ServedPeer };
+
+    ghost view = { λ p. record {
+      served = p.server.served;
+      heard = p.heard.values;
+      left = length p.server.outgoing;
+      receives = map (λ s. receive_at p.server.served s.heard.values s.left) p.receives.values;
+      failed = p.failed;
+    } };
+
+    ghost invariant = { λ p. IsSaid p.server p.heard.values };
+}
+
+impl<'a> ServerPeer<'a> {
+    /// A peer of this server, to which nothing was fed.
+    pub fn new(server: Server<'a>) -> ServerPeer<'a>
+        requires { server ≡ unfed server.served }
+        ensures { result ≡ record { served = server.served; heard = []; left = 0; receives = []; failed = 0 } }
+    {
+        ServerPeer {
+            server,
+            heard: Openings::new(),
+            receives: Openings::new(),
+            failed: 0,
+        }
+    }
+}
+
+/// These bytes behind those that were heard.
+fn with_each(heard: &Openings<u8>, bytes: &[u8]) -> Openings<u8>
+    ensures { result.values ≡ heard.now.values ++ bytes.now }
+{
+    let mut all = heard.again();
+    for byte in bytes {
+        all = all.and(byte);
+    }
+    all
+}
+
+/// A refusal, as a peer tells it.
+fn fault_of(refusal: Refusal) -> SendFault
+    ensures { result ≡ fault_of refusal }
+{
+    match refusal {
+        Refusal::Malformed(_) | Refusal::TooLong => SendFault::Failed,
+        Refusal::NoMemory => SendFault::NoMemory,
+    }
+}
+
+/// Feeds bytes one by one, so that no more than those that show a trouble are heard, and answers how many were.
+fn hear(server: &mut Server<'_>, bytes: &[u8]) -> (usize, Result<(), SendFault>)
+    ensures hears { Hears server.old.refusal server.old bytes.now result.0 server.new result.1 }
+    ensures within { result.0 ≤ length bytes.now }
+{
+    if let Some(refusal) = server.refusal() {
+        return (0, Err(fault_of(refusal)));
+    }
+    let mut count = 0;
+    'bytes: while count < bytes.len() {
+        let pending = server.pending_len();
+        match server.feed(&bytes[count..count + 1]) {
+            Ok(()) => count += 1,
+            Err(ServeError::NoMemory) => {
+                // The byte was taken where other bytes are pending now.
+                if server.pending_len() != pending {
+                    count += 1;
+                }
+                return (count, Err(SendFault::NoMemory));
+            }
+            Err(_) => return (count + 1, Err(SendFault::Failed)),
+        }
+    }
+    (count, Ok(()))
+}
+
+fn is_fault(result: &Result<(), SendFault>) -> bool
+    ensures { result ≡ is_failed result.now }
+{
+    match result {
+        Err(SendFault::Failed) => true,
+        Ok(()) | Err(SendFault::NoMemory) => false,
+    }
+}
+
+impl<'a> Peer for ServerPeer<'a> {
+    ghost told = { told_by };
+
+    ghost faults = { faults_of };
+
+    ghost answers = { true };
+
+    /// Hears the bytes, as far as they are requests.
+    fn send(&mut self, bytes: &[u8]) -> Result<(), SendFault> {
+        let (count, result) = hear(&mut self.server, bytes);
+        self.heard = with_each(&self.heard, &bytes[..count]);
+        if is_fault(&result) {
+            self.failed = self.failed.saturating_add(1);
+        }
+        result
+    }
+
+    /// Gives what is outgoing, as far as it fits.
+    fn receive(&mut self, into: &mut [u8]) -> Result<usize, Failed> {
+        let left = self.server.outgoing().len();
+        let said = Said {
+            heard: self.heard.again(),
+            left,
+        };
+        self.receives = self.receives.and(&said);
+        let count = copy_from(self.server.outgoing(), 0, into);
+        self.server.sent(count);
+        Ok(count)
+    }
+}
