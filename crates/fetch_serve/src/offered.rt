@@ -121,13 +121,8 @@ fn listed(parts: Parts<'_>, name: &[u8], target: TargetRef<'_>) -> Result<Option
     ensures { IfOk result (λ found. found ≡ spec.listed (held_by parts.entry) (name.now, seen target.entry)) }
 {
     let id = resolved(parts, name, target)?;
-    made(
-        parts.alloc,
-        name,
-        id,
-        target_of(target),
-        peeled_if(parts.store, id),
-    )
+    let peeled = peeled_if(parts.store, id);
+    made(parts.alloc, name, id, target_of(target), peeled)
 }
 
 #[tactic(auto, unfolding(crate::specs::Offered::head_name))]

@@ -8,7 +8,7 @@ use Rattle.fetch_serve.proofs.fetching.append_change.Goals as goal
 pub returns-in-None : goal.returns-in-None
 returns-in-None c = change_at (held_by c.args.parts) c.args.asked.now None c.args.out.now.items c.args.out.now.items c.in-None.is refl
 
-pub returns-in-Some : goal.returns-in-Some
-returns-in-Some c =
-    on_ok c.append_line-2.result _ _
-    (λ h. change_at (held_by c.args.parts) c.args.asked.now (Some c.in-Some.field-0) c.args.out.now.items c.append_line-2.new.out.items c.in-Some.is (h ∙ ap (λ (l : List ℕ). l ++ line_text Delim) c.in_ok-append_line.ensures)) c.append_line-2.ensures
+pub returns-in_ok-append_line-in-Some : goal.returns-in_ok-append_line-in-Some
+returns-in_ok-append_line-in-Some c =
+    on_ok c.append_line-in-Some.result _ _
+    (λ h. change_at (held_by c.args.parts) c.args.asked.now (Some c.in-Some.field-0) c.args.out.now.items c.append_line-in-Some.new.out.items c.in-Some.is (h ∙ ap (λ (l : List ℕ). l ++ line_text Delim) c.in_ok-append_line-in-Some.ensures)) c.append_line-in-Some.ensures

@@ -16,8 +16,8 @@ returns-in-Some c =
     ∙ ap (λ wants. slice_get (filter (λ id. not (has_id id (offered_ids d))) wants) 0) c.as_slice.ensures in
     on_ok c.append_not_offered.result _ _ (fetch_by d c.args.asked.now (Some c.in-Some.id) c.args.out.now.items c.append_not_offered.new.out.items (sym c.in-Some.is ∙ found)) c.append_not_offered.ensures
 
-pub returns-in-None : goal.returns-in-None
-returns-in-None c =
+pub returns : goal.returns
+returns c =
     let d = held_by c.args.parts in
     let found : c.in_ok-unoffered.unoffered ≡ first_unoffered d c.args.asked.now =
     c.in_ok-unoffered.ensures ∙ ap (λ refs. slice_get (filter (λ id. not (has_id id (flat_map ids_in refs))) c.as_slice.result.now) 0) (c.deref.ensures.value ∙ c.in_ok-references.ensures)

@@ -11,11 +11,11 @@ append_pack-requires c =
     let d = held_by c.args.parts in
     subst (All (IsOwnId d.objects)) (sym (c.as_slice.ensures ∙ c.in_ok-ids.ensures)) (served_own d c.args.asked.now (depth_of d c.args.asked.now) c.requires.servable.own)
 
-pub returns-then-done : goal.returns-then-done
-returns-then-done c =
+pub returns-then-asked : goal.returns-then-asked
+returns-then-asked c =
     on_ok c.append_pack.result _ _
-    (pack_fetched (held_by c.args.parts) c.args.asked.now c.as_slice.result.now c.args.out.now.items c.append_pack.new.out.items (c.as_slice.ensures ∙ c.in_ok-ids.ensures) c.if-done.true) c.append_pack.ensures
+    (pack_fetched (held_by c.args.parts) c.args.asked.now c.as_slice.result.now c.args.out.now.items c.append_pack.new.out.items (c.as_slice.ensures ∙ c.in_ok-ids.ensures) c.if-asked.true) c.append_pack.ensures
 
 pub returns : goal.returns
 returns c =
-    on_ok c.append_round.result _ _ (round_fetched (held_by c.args.parts) c.args.asked.now c.as_slice.result.now c.args.out.now.items c.append_round.new.out.items c.as_slice.ensures c.if-done.false) c.append_round.ensures
+    on_ok c.append_round.result _ _ (round_fetched (held_by c.args.parts) c.args.asked.now c.as_slice-2.result.now c.args.out.now.items c.append_round.new.out.items c.as_slice-2.ensures c.if-asked.false) c.append_round.ensures

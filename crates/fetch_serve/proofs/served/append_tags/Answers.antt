@@ -18,7 +18,7 @@ tags-preserved c =
     let ids = c.tags.ids.items in
     let id = c.tags.id in
     let next = c.in-Some.next in
-    ap (λ (l : List ObjectId). l ++ tags_from g (c.tags.left - 1) next) c.in_ok-push.ensures.items ∙ append_assoc ids (id ∷ []) (tags_from g (c.tags.left - 1) next)
+    ap (λ (l : List ObjectId). l ++ tags_from g (c.tags.left - 1) next) c.in_ok-push-in-Some.ensures.items ∙ append_assoc ids (id ∷ []) (tags_from g (c.tags.left - 1) next)
     ∙ ap (λ (l : List ObjectId). ids ++ l) (sym (tags_go g c.tags.left id next (omega arith) (sym c.tag_target.ensures ∙ c.in-Some.is))) ∙ c.tags.invariant
 
 pub returns-in-None : goal.returns-in-None
