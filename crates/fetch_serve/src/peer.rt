@@ -113,10 +113,11 @@ fn hear(server: &mut Server<'_>, bytes: &[u8]) -> (usize, Result<(), SendFault>)
     (count, Ok(()))
 }
 
-fn is_fault(result: &Result<(), SendFault>) -> bool
-    ensures { result ≡ is_failed result.now }
+/// Whether the other side failed.
+fn is_fault(answer: &Result<(), SendFault>) -> bool
+    ensures { result ≡ is_failed answer.now }
 {
-    match result {
+    match answer {
         Err(SendFault::Failed) => true,
         Ok(()) | Err(SendFault::NoMemory) => false,
     }

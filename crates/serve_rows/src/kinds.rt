@@ -1,0 +1,27 @@
+//! Words for hashes and for kinds of objects.
+
+use fetch_store::{Kind, ObjectKind};
+
+pub(crate) fn hash_of(word: &[u8]) -> Option<Kind> {
+    if word == b"sha1".as_slice() {
+        Some(Kind::Sha1)
+    } else if word == b"sha256".as_slice() {
+        Some(Kind::Sha256)
+    } else {
+        None
+    }
+}
+
+pub(crate) fn object_kind_of(word: &[u8]) -> Option<ObjectKind> {
+    for kind in [
+        ObjectKind::Commit,
+        ObjectKind::Tree,
+        ObjectKind::Blob,
+        ObjectKind::Tag,
+    ] {
+        if word == kind.name() {
+            return Some(kind);
+        }
+    }
+    None
+}
