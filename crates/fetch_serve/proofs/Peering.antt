@@ -3,8 +3,9 @@ use Rattle.std.proofs.Common.{◌≡◌, ℕ, zero, suc, ◌+◌, ◌-◌, ◌^�
 use Rattle.std.specs.Prelude.{is_some}
 use Rattle.std.proofs.Math.Seq.{take-append_seam, drop-append_seam}
 use Rattle.std.proofs.lemmas.List.{append-nil, take_all}
-use Rattle.fetch_store.specs.Faults.{Counts, Faults, Rose}
-use Rattle.fetch_wire.specs.Talks.{IsFront, Makes, Passes, Receive, Receives, Sends, Talk, Talks, at_once, behind}
+use Rattle.fetch_store.specs.Faults.{Counts, Counts-none, Faults, Rose}
+use Rattle.fetch_store.specs.declared.file_error.Failed.{Failed}
+use Rattle.fetch_wire.specs.Talks.{IsDrained, IsFront, Makes, Passes, Receive, Receives, Sends, Talk, Talks, at_once, behind}
 use Rattle.fetch_wire.specs.declared.session.peer.SendFault.{SendFault}
 use Rattle.fetch_wire.specs.declared.session.peer.SendFault.TheVariants as sending
 use Rattle.fetch_serve.specs.declared.error.ServeError.{ServeError}
@@ -318,18 +319,64 @@ module _ (s now : Serving) (heard : List ℕ) (i : IsSaid s heard) (bytes : List
 
 -- ---- a receive
 
-module _ (s now : Serving) (heard : List ℕ) (i : IsSaid s heard) (count : ℕ) (few : count ≤ length s.outgoing) (is : now ≡ record s { outgoing = drop count s.outgoing }) where
+none_of : (bytes : List ℕ) → length bytes ≤ 0 → bytes ≡ []
+none_of [] le = refl
+none_of (b ∷ bytes) le = absurd (omega arith)
+
+module _ (s now : Serving) (heard : List ℕ) (i : IsSaid s heard) (front : List ℕ) (count : ℕ) (copied : s.outgoing ≡ front ++ drop count s.outgoing) (is : now ≡ record s { outgoing = drop count s.outgoing }) where
+  still : (o : Option Refusal) → IsGoing o s heard → IsGoing o (record s { outgoing = drop count s.outgoing }) heard
+  still None f = record { begun = f.begun; pending = f.pending; fine = f.fine }
+  still (Some (refusals.Malformed place)) g = g
+  still (Some refusals.TooLong) g = g
+  still (Some refusals.NoMemory) g = tt
+
   pub given_on : IsSaid now heard
   given_on = record {
-    given = i.given ++ take count s.outgoing;
-    is = append_assoc i.given (take count s.outgoing) now.outgoing ∙ ap (λ (v : Serving). i.given ++ (take count s.outgoing ++ v.outgoing)) is ∙ ap (λ (l : List ℕ). i.given ++ l) (take-append-drop count s.outgoing) ∙ i.is
-        ∙ ap (λ (v : Serving). replies_of v.served heard) (sym is);
+    given = i.given ++ front;
+    is = append_assoc i.given front now.outgoing ∙ ap (λ (v : Serving). i.given ++ (front ++ v.outgoing)) is ∙ ap (λ (l : List ℕ). i.given ++ l) (sym copied) ∙ i.is ∙ ap (λ (v : Serving). replies_of v.served heard) (sym is);
     shown = ap (λ (v : Serving). is_troubled v.served (take (length heard - 1) heard)) is ∙ i.shown;
     goes = subst (λ (v : Serving). IsGoing v.refusal v heard) (sym is) (still s.refusal i.goes);
   }
-    where
-      still : (o : Option Refusal) → IsGoing o s heard → IsGoing o (record s { outgoing = drop count s.outgoing }) heard
-      still None f = record { begun = f.begun; pending = f.pending; fine = f.fine }
-      still (Some (refusals.Malformed place)) g = g
-      still (Some refusals.TooLong) g = g
-      still (Some refusals.NoMemory) g = tt
+
+  module _ (receives : List Receive) (failed : ℕ) where
+    abbrev later : List Receive
+    later = receives ++ receive_at s.served heard (length s.outgoing) ∷ []
+
+    before_told : told_by (peer_of s heard receives failed) ≡ Some (talk_of s heard i.given receives)
+    before_told = tells s heard receives failed i
+
+    now_told : told_by (peer_of now heard later failed) ≡ Some (talk_of now heard (i.given ++ front) later)
+    now_told = tells now heard later failed given_on
+
+    gives : Passes false (talk_of s heard i.given receives) (talk_of now heard (i.given ++ front) later) [] front
+    gives = record {
+      heard_more = sym (append-nil heard);
+      gave_more = refl;
+      added = [];
+      in_order = append-nil s.outgoing ∙ copied ∙ ap (λ (v : Serving). front ++ v.outgoing) (sym is);
+      fixed = λ _. refl;
+      same_rule = ap (λ (v : Serving). Some (replies_of v.served)) is;
+    }
+
+    talks_on : Talks false (told_by (peer_of s heard receives failed)) (told_by (peer_of now heard later failed)) [] front
+    talks_on = talks_of false _ _ (talk_of s heard i.given receives) (talk_of now heard (i.given ++ front) later) [] front before_told now_told gives
+
+    -- nothing is given only where nothing is to come
+    drained : (room : ℕ) → count ≡ min room (length s.outgoing) → count ≡ 0 → 0 < room → IsDrained (told_by (peer_of now heard later failed))
+    drained room few none some =
+        let nothing : s.outgoing ≡ [] = none_of s.outgoing (omega arith) in
+        subst IsDrained (sym now_told) (ap (λ (v : Serving). v.outgoing) is ∙ ap (λ (k : ℕ). drop k s.outgoing) none ∙ nothing)
+
+    pub received : (into : List ℕ) → front ≡ take count into → count ≡ min (length into) (length s.outgoing)
+        → Receives {E = Failed} (told_by (peer_of s heard receives failed)) (told_by (peer_of now heard later failed)) (Ok count) into
+    received into fronts few = (
+      subst (λ (l : List ℕ). Talks false (told_by (peer_of s heard receives failed)) (told_by (peer_of now heard later failed)) [] l) fronts talks_on,
+      drained (length into) few,
+    )
+
+    pub received_once : Makes (told_by (peer_of s heard receives failed)) (told_by (peer_of now heard later failed)) (at_once ∷ [])
+    received_once = makes_of _ _ (talk_of s heard i.given receives) (talk_of now heard (i.given ++ front) later) (at_once ∷ []) before_told now_told
+        (ap (λ (r : Receive). receives ++ r ∷ []) (ap₂ (λ (h g : List ℕ). record { heard = h; given = g }) (sym (append-nil heard)) (given_is i.given s.outgoing (replies_of s.served heard) i.is ∙ sym (append-nil i.given))))
+
+    pub counts_on : Counts (faults_of (peer_of s heard receives failed)) (faults_of (peer_of now heard later failed))
+    counts_on = subst (Counts (faults_of (peer_of s heard receives failed))) (ap (λ (v : Serving). faults_of (peer_of v heard later failed)) (sym is)) (Counts-none (faults_of (peer_of s heard receives failed)))

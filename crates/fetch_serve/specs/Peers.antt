@@ -1,10 +1,11 @@
 -- A server as the peer of a fetch.
-use Rattle.std.specs.Prelude.{◌≡◌, ℕ, ◌-◌, Bool, false, true, List, [], ◌++◌, length, take, drop, Option, Some, None, is_some, ⊤, if◌then◌else◌}
+use Rattle.std.specs.Prelude.{◌≡◌, ℕ, ◌-◌, Bool, false, true, List, [], ◌++◌, length, take, drop, Option, Some, None, is_some, ⊤, if◌then◌else◌, refl}
+use Rattle.std.specs.Coded.{Coded, code_by, coded_ℕ, coded_list, coded×}
 use Rattle.fetch_store.specs.Faults.{Faults}
 use Rattle.fetch_wire.specs.Talks.{Talk, Receive}
 use Rattle.fetch_serve.specs.Replies.{replies_of}
 use Rattle.fetch_serve.specs.Served.{Data}
-use Rattle.fetch_serve.specs.Servings.{Serving}
+use Rattle.fetch_serve.specs.Servings.{Serving, coded_data}
 use Rattle.fetch_serve.specs.declared.intake.Refusal.{Refusal}
 use Rattle.fetch_serve.specs.declared.intake.Refusal.TheVariants as refusals
 use Rattle.fetch_serve.specs.Texts.{asked_in}
@@ -17,6 +18,17 @@ pub record ServedPeer : Type 0 where
   pub left : ℕ
   pub receives : List Receive
   pub failed : ℕ
+
+-- a receive, coded
+abbrev pub coded_receive : Coded Receive
+coded_receive = code_by (List ℕ × List ℕ) (coded× (coded_list coded_ℕ) (coded_list coded_ℕ)) (λ r. (r.heard, r.given)) (λ p. record { heard = p.0; given = p.1 }) (λ _. refl)
+
+-- a peer, coded
+abbrev pub coded_peer : Coded ServedPeer
+coded_peer =
+    code_by (Data × (List ℕ × (ℕ × (List Receive × ℕ)))) (coded× coded_data (coded× (coded_list coded_ℕ) (coded× coded_ℕ (coded× (coded_list coded_receive) coded_ℕ))))
+    (λ p. (p.served, (p.heard, (p.left, (p.receives, p.failed)))))
+    (λ q. record { served = q.0; heard = q.1.0; left = q.1.1.0; receives = q.1.1.1.0; failed = q.1.1.1.1 }) (λ _. refl)
 
 -- whether a text shows that it can't go on as requests
 abbrev pub is_troubled : Data → List ℕ → Bool

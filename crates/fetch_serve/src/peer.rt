@@ -36,9 +36,11 @@ pub struct ServerPeer<'a> {
 
 impl<'a> Model for ServerPeer<'a> {
     ghost use Rattle.std.specs.Prelude.{length, map};
-    ghost use Rattle.fetch_serve.specs.Peers.{IsSaid, ServedPeer, receive_at};
+    ghost use Rattle.fetch_serve.specs.Peers.{IsSaid, ServedPeer, coded_peer, receive_at};
 
     ghost Value = { ServedPeer };
+
+    ghost coded = { coded_peer };
 
     ghost view = { λ p. record {
       served = p.server.served;

@@ -1,8 +1,7 @@
 //! The questions of a row.
 
 use crate::giving::{say_given, take_all, word_of};
-use crate::peers;
-use crate::refusals;
+use crate::{peers, refusals};
 use fetch_serve::{Server, ServerPeer};
 use fetch_store::{NoMemory, append_number, decimal};
 use rows::{decoded, say, split_word};

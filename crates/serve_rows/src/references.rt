@@ -53,11 +53,7 @@ fn commit(refs: &mut Refs, edits: &[RefEdit], committer: &Signature) -> Result<(
 }
 
 /// `<name> <id or name>`: adds a reference. Whether the words are these.
-pub(crate) fn add_reference(
-    alloc: Global,
-    refs: &mut Refs,
-    rest: &[u8],
-) -> Result<bool, NoMemory> {
+pub(crate) fn add_reference(alloc: Global, refs: &mut Refs, rest: &[u8]) -> Result<bool, NoMemory> {
     let (name, target) = split_word(rest);
     let Some(name) = name_of(alloc, name)? else {
         return Ok(false);

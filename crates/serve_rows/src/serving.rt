@@ -1,9 +1,8 @@
 //! Rows of a server.
 
-use crate::asking;
 use crate::peers::peer_of;
-use crate::refusals;
 use crate::world::{World, put};
+use crate::{asking, refusals};
 use fetch_serve::Server;
 use fetch_store::{Kind, NoMemory, after};
 use rows::{lines, say};

@@ -30,12 +30,7 @@ impl World {
 }
 
 /// An object under an id. None where the id isn't of the hash, or the text no object.
-fn entry_of(
-    hash: Kind,
-    id: ObjectId,
-    kind: ObjectKind,
-    text: Vec<u8>,
-) -> Option<(ObjectId, Object)>
+fn entry_of(hash: Kind, id: ObjectId, kind: ObjectKind, text: Vec<u8>) -> Option<(ObjectId, Object)>
     ensures { IfSome result (λ entry. (kind_of entry.0 ≡ hash) × (entry.1.hash ≡ hash)) }
 {
     if id.kind() != hash {
