@@ -11,7 +11,7 @@ use Rattle.fetch_wire.specs.declared.session.peer.SendFault.TheVariants as sendi
 use Rattle.fetch_serve.specs.declared.error.ServeError.{ServeError}
 use Rattle.fetch_serve.specs.declared.intake.Refusal.{Refusal}
 use Rattle.fetch_serve.specs.declared.intake.Refusal.TheVariants as refusals
-use Rattle.fetch_serve.specs.Hearing.{Hears, IsShown, fault_of, is_failed}
+use Rattle.fetch_serve.specs.Hearing.{Hears, IsShown, fault_of}
 use Rattle.fetch_serve.specs.Peers.{IsFed, IsGoing, IsSaid, ServedPeer, faults_of, heard_by, is_troubled, receive_at, talk_with, told_by}
 use Rattle.fetch_serve.specs.Replies.{replies_of, replies_to}
 use Rattle.fetch_serve.specs.Served.{Data}

@@ -14,12 +14,6 @@ fault_of (refusals.Malformed place) = sending.Failed
 fault_of refusals.TooLong = sending.Failed
 fault_of refusals.NoMemory = sending.NoMemory
 
--- whether a send failed by a fault of the other side
-abbrev pub is_failed : {X : Type 0} → Result X SendFault → Bool
-is_failed (Ok x) = false
-is_failed (Err sending.Failed) = true
-is_failed (Err sending.NoMemory) = false
-
 -- The server refused these bytes, for the last of them: those before it may be the beginning of a request.
 pub record IsShown (before : Serving) (front : List ℕ) (now : Serving) : Type 0 where
   pub some : 0 < length front

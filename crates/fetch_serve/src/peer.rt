@@ -1,7 +1,7 @@
 //! A server as the peer of a fetch.
 
-ghost use Rattle.std.specs.Prelude.{◌≡◌, ◌≤◌, ◌++◌, ◌∷◌, [], List, ℕ, Some, length, true, IfOk, IsErrOf, OnErr};
-ghost use Rattle.fetch_serve.specs.Hearing.{Hears, fault_of, is_failed};
+ghost use Rattle.std.specs.Prelude.{◌≡◌, ◌≤◌, ◌+◌, ◌-◌, ◌^◌, ◌++◌, ◌∷◌, [], List, ℕ, Some, length, min, true, IfOk, IsErrOf, OnErr};
+ghost use Rattle.fetch_serve.specs.Hearing.{Hears, fault_of};
 ghost use Rattle.fetch_serve.specs.Peers.{faults_of, told_by};
 ghost use Rattle.fetch_serve.specs.Replies.{replies_of};
 ghost use Rattle.fetch_serve.specs.Servings.{unfed};
@@ -115,13 +115,14 @@ fn hear(server: &mut Server<'_>, bytes: &[u8]) -> (usize, Result<(), SendFault>)
     (count, Ok(()))
 }
 
-/// Whether the other side failed.
-fn is_fault(answer: &Result<(), SendFault>) -> bool
-    ensures { result ≡ is_failed answer.now }
+/// How often the other side failed after this answer.
+fn counted(failed: u64, answer: &Result<(), SendFault>) -> u64
+    ensures later { failed ≤ result }
+    ensures rose { IsErrOf answer.now SendFault.Failed → min (failed + 1) (2 ^ 64 - 1) ≤ result }
 {
     match answer {
-        Err(SendFault::Failed) => true,
-        Ok(()) | Err(SendFault::NoMemory) => false,
+        Err(SendFault::Failed) => failed.saturating_add(1),
+        Ok(()) | Err(SendFault::NoMemory) => failed,
     }
 }
 
@@ -134,12 +135,10 @@ impl<'a> Peer for ServerPeer<'a> {
 
     /// Hears the bytes, as far as they are requests.
     fn send(&mut self, bytes: &[u8]) -> Result<(), SendFault> {
-        let (count, result) = hear(&mut self.server, bytes);
+        let (count, answer) = hear(&mut self.server, bytes);
         self.heard = with_each(&self.heard, &bytes[..count]);
-        if is_fault(&result) {
-            self.failed = self.failed.saturating_add(1);
-        }
-        result
+        self.failed = counted(self.failed, &answer);
+        answer
     }
 
     /// Gives what is outgoing, as far as it fits.
