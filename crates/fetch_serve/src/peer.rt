@@ -57,7 +57,7 @@ impl<'a> ServerPeer<'a> {
     /// A peer of this server, to which nothing was fed.
     pub fn new(server: Server<'a>) -> ServerPeer<'a>
         requires { server ≡ unfed server.served }
-        ensures { result ≡ record { served = server.served; heard = []; left = 0; receives = []; failed = 0 } }
+        ensures { result ≡ record { served = server.entry.served; heard = []; left = 0; receives = []; failed = 0 } }
     {
         ServerPeer {
             server,
