@@ -1,6 +1,6 @@
 -- What is answered is read back.
 use Rattle.std.proofs.Common.{◌≡◌, ℕ, ◌^◌, ◌<◌, Bool, true, false, not, ◌||◌, ◌&&◌, cond, List, [], ◌∷◌, ◌++◌, length, get_or, Option, Some, None, Ok, refl, sym, ap, ◌∙◌, subst, arith, inl, inr, All, Contains}
-use Rattle.std.specs.Prelude.{IfSome, is_some, nat_le, filter, slice_get}
+use Rattle.std.specs.Prelude.{◌≢◌, IfSome, codes, is_some, nat_le, filter, slice_get}
 use Rattle.std.specs.FinMap as finmap
 use Rattle.std.specs.List.{AllByRecursion, list_any}
 use Rattle.std.proofs.lemmas.Bool.Decides.{nat_tests}
@@ -45,7 +45,7 @@ use Rattle.fetch_serve.specs.declared.asked.Asked.{Asked}
 use Rattle.fetch_serve.specs.declared.asked.Asked.TheVariants.{First, Listing, Fetch}
 use Rattle.fetch_serve.specs.declared.asked.DepthAsked.{DepthAsked}
 use Rattle.fetch_serve.specs.declared.asked.FetchAsked.{FetchAsked}
-use Rattle.fetch_serve.specs.Offered.{capabilities_of, offer, offered_ids, offered_of, peeled_behind, target_of}
+use Rattle.fetch_serve.specs.Offered.{capabilities_of, capability, offer, offered_ids, offered_of, peeled_behind, target_of}
 use Rattle.fetch_serve.specs.Packs.{depth_of, known_haves, pack_of, served_of}
 use Rattle.fetch_serve.specs.Replies.{change_in, error_lines, fetch_lines, first_unoffered, is_too_large, is_too_long, not_offered, objects_of, pack_lines, reply_lines, too_large}
 use Rattle.fetch_serve.specs.Servable.{IsServable, end_of, is_long, is_refused as is_lost, is_unlistable, is_unservable}
@@ -62,14 +62,30 @@ use Rattle.fetch_serve.proofs.References.{IsListed, full_by, id_of, offered_made
 
 -- ---- the greeting
 
+some_code : (b : ℕ) (bytes : List ℕ) → (b ∷ bytes) ≢ []
+some_code b bytes = λ e. absurd (cc)
+
+listing_tellable : IsTellable (capability (codes "ls-refs") (codes "unborn"))
+unfolding is_format format_in is_error
+listing_tellable = record { named = some_code _ _; plain = refl; known = refl; no_error = refl }
+
+fetch_tellable : IsTellable (capability (codes "fetch") (codes "shallow plain-pack plain-pack-2"))
+unfolding is_format format_in is_error
+fetch_tellable = record { named = some_code _ _; plain = refl; known = refl; no_error = refl }
+
+format_tellable : (hash : Kind) → IsTellable (capability (codes "object-format") (kind_text hash))
+unfolding kind_text is_format format_in is_error
+format_tellable Sha1 = record { named = some_code _ _; plain = refl; known = refl; no_error = refl }
+format_tellable Sha256 = record { named = some_code _ _; plain = refl; known = refl; no_error = refl }
+
 pub greeting : (hash : Kind) → All IsTellable (capabilities_of hash)
-unfolding capabilities_of kind_text is_format format_in is_error
-greeting Sha1 =
-    All-cons IsTellable _ _ (record { named = λ e. cc; plain = refl; known = refl; no_error = refl })
-    (All-cons IsTellable _ _ (record { named = λ e. cc; plain = refl; known = refl; no_error = refl }) (All-cons IsTellable _ _ (record { named = λ e. cc; plain = refl; known = refl; no_error = refl }) (All-nil IsTellable)))
-greeting Sha256 =
-    All-cons IsTellable _ _ (record { named = λ e. cc; plain = refl; known = refl; no_error = refl })
-    (All-cons IsTellable _ _ (record { named = λ e. cc; plain = refl; known = refl; no_error = refl }) (All-cons IsTellable _ _ (record { named = λ e. cc; plain = refl; known = refl; no_error = refl }) (All-nil IsTellable)))
+unfolding capabilities_of
+greeting hash =
+    let refs = capability (codes "ls-refs") (codes "unborn") in
+    let fetch = capability (codes "fetch") (codes "shallow plain-pack plain-pack-2") in
+    let format = capability (codes "object-format") (kind_text hash) in
+    All-cons IsTellable refs (fetch ∷ format ∷ []) listing_tellable
+    (All-cons IsTellable fetch (format ∷ []) fetch_tellable (All-cons IsTellable format [] (format_tellable hash) (All-nil IsTellable)))
 
 -- ---- a listing
 

@@ -15,7 +15,8 @@ use Rattle.fetch_store.specs.declared.id.Kind.{Kind}
 use Rattle.fetch_store.specs.declared.id.Kind.TheVariants.{Sha1, Sha256}
 use Rattle.fetch_store.specs.declared.id.ObjectId.{ObjectId}
 use Rattle.fetch_wire.specs.LinesTold.{Tells}
-use Rattle.fetch_wire.specs.RequestWords.{have_word, plain_pack, plain_pack_2, shallow_word, want_word}
+use Rattle.fetch_wire.specs.RequestWords.{command_word, have_word, plain_pack, plain_pack_2, shallow_word, want_word}
+use Rattle.fetch_wire.specs.Requests.{listing_word}
 use Rattle.fetch_wire.specs.ServerLines.{IsIdOf}
 use Rattle.fetch_wire.specs.Stepping.{Step, breaks, ends, goes, or_breaks, says}
 use Rattle.fetch_wire.specs.Texts.{without_lf}
@@ -29,11 +30,12 @@ use Rattle.fetch_serve.specs.declared.fetch_reading.Detail.{Detail}
 use Rattle.fetch_serve.specs.declared.fetch_reading.Detail.TheVariants as details
 use Rattle.fetch_serve.specs.declared.reading.FetchHead.TheVariants as head
 use Rattle.fetch_serve.specs.declared.reading.FetchPart.{FetchPart}
+use Rattle.fetch_serve.specs.declared.reading.FetchPart.TheVariants as parts
 use Rattle.fetch_serve.specs.declared.reading.ListingPart.TheVariants as listing
 use Rattle.fetch_serve.specs.declared.reading.Reading.{Reading}
 use Rattle.fetch_serve.specs.declared.reading.Reading.TheVariants as reading
-use Rattle.fetch_serve.specs.RequestTexts.{is_first_line, prefix_word, unborn_word}
-use Rattle.fetch_serve.specs.Requests.{asked_step, at_command, at_detail, at_prefix, at_unborn, at_version, by_request_line, detail_in, either, expects, expects_delimiter, fixed_in, if_greater, if_new, if_rising, may_end, part_after, start_of, with_detail, worded}
+use Rattle.fetch_serve.specs.RequestTexts.{is_first_line, peel_word, prefix_word, symrefs_word, unborn_word}
+use Rattle.fetch_serve.specs.Requests.{asked_step, at_command, at_detail, at_prefix, at_unborn, at_version, by_request_line, detail_in, either, expects, fixed_in, format_text, if_greater, if_new, if_rising, may_end, nothing_asked, part_after, start_of, with_detail, worded}
 use Rattle.fetch_serve.specs.Texts.{request_at, request_bound}
 
 -- The ids that a request wants are of this hash.
@@ -159,6 +161,26 @@ detail_fine hash part r text all =
     fine_or hash (part_after part detail) (λ next. or_breaks (with_detail r detail) (λ more. goes (reading.Details next more))) (λ next stands.
     fine_or hash (with_detail r detail) (λ more. goes (reading.Details next more)) (λ more is. more_wants hash r more detail all (detail_wanted hash text detail said) is)))
 
+prefix_fine : (hash : Kind) (unborn : Bool) (before : List (List ℕ)) (text : List ℕ) → IsFine hash (at_prefix unborn before text)
+prefix_fine hash unborn before text = fine_or hash (option_and_then (if_rising before) (after prefix_word text)) (λ prefixes. goes (reading.Prefixes unborn prefixes)) (λ prefixes e. tt)
+
+unborn_fine : (hash : Kind) (text : List ℕ) → IsFine hash (at_unborn text)
+unborn_fine hash text = fine_if hash (bytes_eq text unborn_word) (goes (reading.Prefixes true [])) (at_prefix false [] text) tt (prefix_fine hash false [] text)
+
+command_fine : (hash : Kind) (text : List ℕ) → IsFine hash (at_command text)
+command_fine hash text =
+    fine_if hash (bytes_eq text listing_word) (goes (reading.Listing listing.Format)) (cond (bytes_eq text command_word) (goes (reading.Fetch head.Format)) breaks) tt
+    (fine_if hash (bytes_eq text command_word) (goes (reading.Fetch head.Format)) breaks tt tt)
+
+version_fine : (hash : Kind) (text : List ℕ) → IsFine hash (at_version text)
+version_fine hash text =
+    fine_if hash (bytes_eq text plain_pack) (goes (reading.Details parts.Beginning (nothing_asked V1))) (cond (bytes_eq text plain_pack_2) (goes (reading.Details parts.Beginning (nothing_asked V2))) breaks) (All-nil (IsIdOf hash))
+    (fine_if hash (bytes_eq text plain_pack_2) (goes (reading.Details parts.Beginning (nothing_asked V2))) breaks (All-nil (IsIdOf hash)) tt)
+
+expects_fine : (hash : Kind) (word : List ℕ) (next : Reading) (line : Line) → IsSound hash next → IsFine hash (expects word next line)
+expects_fine hash word next line sound =
+    fine_line hash breaks breaks (λ text. cond (bytes_eq text word) (goes next) breaks) line tt tt (λ text. fine_if hash (bytes_eq text word) (goes next) breaks sound tt)
+
 opening_fine : (hash : Kind) (line : Line) → IsFine hash (asked_step hash reading.Opening line)
 unfolding asked_step
 opening_fine hash (Payload payload) = fine_if hash (is_first_line payload) (ends asking.First) breaks tt tt
@@ -169,24 +191,16 @@ opening_fine hash End = tt
 step_fine : (hash : Kind) (s : Reading) (line : Line) → IsSound hash s → IsFine hash (asked_step hash s line)
 unfolding asked_step
 step_fine hash reading.Opening line sound = opening_fine hash line
-step_fine hash reading.Command line sound =
-    fine_line hash breaks breaks at_command line tt tt (λ text. fine_if hash _ (goes (reading.Listing listing.Format)) _ tt (fine_if hash _ (goes (reading.Fetch head.Format)) breaks tt tt))
-step_fine hash (reading.Listing listing.Format) line sound = fine_line hash breaks breaks _ line tt tt (λ text. fine_if hash _ (goes (reading.Listing listing.Delimiter)) breaks tt tt)
+step_fine hash reading.Command line sound = fine_line hash breaks breaks at_command line tt tt (command_fine hash)
+step_fine hash (reading.Listing listing.Format) line sound = expects_fine hash (format_text hash) (reading.Listing listing.Delimiter) line tt
 step_fine hash (reading.Listing listing.Delimiter) line sound = fine_line hash breaks (goes (reading.Listing listing.Symrefs)) (λ _. breaks) line tt tt (λ text. tt)
-step_fine hash (reading.Listing listing.Symrefs) line sound = fine_line hash breaks breaks _ line tt tt (λ text. fine_if hash _ (goes (reading.Listing listing.Peel)) breaks tt tt)
-step_fine hash (reading.Listing listing.Peel) line sound = fine_line hash breaks breaks _ line tt tt (λ text. fine_if hash _ (goes (reading.Listing listing.Unborn)) breaks tt tt)
-step_fine hash (reading.Listing listing.Unborn) line sound =
-    fine_line hash (ends (asking.Listing false [])) breaks at_unborn line tt tt (λ text. fine_if hash (bytes_eq text unborn_word) (goes (reading.Prefixes true [])) (at_prefix false [] text) tt (prefix_fine hash false [] text))
-  where
-    prefix_fine : (hash : Kind) (unborn : Bool) (before : List (List ℕ)) (text : List ℕ) → IsFine hash (at_prefix unborn before text)
-    prefix_fine hash unborn before text = fine_or hash (option_and_then (if_rising before) (after prefix_word text)) (λ prefixes. goes (reading.Prefixes unborn prefixes)) (λ prefixes e. tt)
-step_fine hash (reading.Prefixes unborn prefixes) line sound =
-    fine_line hash (ends (asking.Listing unborn prefixes)) breaks (at_prefix unborn prefixes) line tt tt
-    (λ text. fine_or hash (option_and_then (if_rising prefixes) (after prefix_word text)) (λ more. goes (reading.Prefixes unborn more)) (λ more e. tt))
-step_fine hash (reading.Fetch head.Format) line sound = fine_line hash breaks breaks _ line tt tt (λ text. fine_if hash _ (goes (reading.Fetch head.Delimiter)) breaks tt tt)
+step_fine hash (reading.Listing listing.Symrefs) line sound = expects_fine hash symrefs_word (reading.Listing listing.Peel) line tt
+step_fine hash (reading.Listing listing.Peel) line sound = expects_fine hash peel_word (reading.Listing listing.Unborn) line tt
+step_fine hash (reading.Listing listing.Unborn) line sound = fine_line hash (ends (asking.Listing false [])) breaks at_unborn line tt tt (unborn_fine hash)
+step_fine hash (reading.Prefixes unborn prefixes) line sound = fine_line hash (ends (asking.Listing unborn prefixes)) breaks (at_prefix unborn prefixes) line tt tt (prefix_fine hash unborn prefixes)
+step_fine hash (reading.Fetch head.Format) line sound = expects_fine hash (format_text hash) (reading.Fetch head.Delimiter) line tt
 step_fine hash (reading.Fetch head.Delimiter) line sound = fine_line hash breaks (goes (reading.Fetch head.Version)) (λ _. breaks) line tt tt (λ text. tt)
-step_fine hash (reading.Fetch head.Version) line sound =
-    fine_line hash breaks breaks at_version line tt tt (λ text. fine_if hash _ (goes (reading.Details _ _)) _ (All-nil (IsIdOf hash)) (fine_if hash _ (goes (reading.Details _ _)) breaks (All-nil (IsIdOf hash)) tt))
+step_fine hash (reading.Fetch head.Version) line sound = fine_line hash breaks breaks at_version line tt tt (version_fine hash)
 step_fine hash (reading.Details part r) line sound =
     fine_line hash (cond (may_end part) (ends (asking.Fetch r)) breaks) breaks (at_detail hash part r) line (fine_if hash (may_end part) (ends (asking.Fetch r)) breaks sound tt) tt
     (λ text. detail_fine hash part r text sound)
