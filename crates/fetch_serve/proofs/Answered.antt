@@ -1,5 +1,5 @@
 -- What is answered is read back.
-use Rattle.std.proofs.Common.{◌≡◌, ℕ, ◌^◌, ◌<◌, Bool, true, false, not, ◌||◌, ◌&&◌, cond, List, [], ◌∷◌, ◌++◌, length, get_or, Option, Some, None, Ok, refl, sym, ap, ◌∙◌, subst, arith, inl, inr, All, Contains}
+use Rattle.std.proofs.Common.{◌≡◌, ℕ, ◌^◌, ◌<◌, Bool, true, false, not, ◌||◌, ◌&&◌, cond, List, [], ◌∷◌, length, get_or, Option, Some, None, Ok, refl, sym, ap, subst, arith, All}
 use Rattle.std.specs.Prelude.{◌≢◌, IfSome, codes, is_some, nat_le, filter, slice_get}
 use Rattle.std.specs.FinMap as finmap
 use Rattle.std.specs.List.{AllByRecursion, list_any}
@@ -7,14 +7,11 @@ use Rattle.std.proofs.lemmas.Bool.Decides.{nat_tests}
 use Rattle.std.proofs.lemmas.List.Elements.{All-cons, All-filter, All-head, All-nil, Contains-get_or}
 use Rattle.fetch_refs.specs.declared.target.Target.{Target}
 use Rattle.fetch_refs.specs.declared.target.Target.TheVariants.{Object, Symbolic}
-use Rattle.fetch_pack.specs.Packs.{contents_of}
-use Rattle.fetch_pack.specs.Reading.{Contents, read}
+use Rattle.fetch_pack.specs.Reading.{read}
 use Rattle.fetch_pack.specs.Records.{Fits, body, limit_of, payloads_of}
 use Rattle.fetch_pack.specs.declared.version.PackVersion.{PackVersion}
-use Rattle.fetch_reach.specs.Stored.{entries_at, objects_at}
 use Rattle.fetch_reach.proofs.Written.{is_read, they_fit}
 use Rattle.fetch_specs.specs.Names.{is_full_name}
-use Rattle.fetch_store.specs.Closed.{IsStored}
 use Rattle.fetch_store.specs.Hashing.{digest}
 use Rattle.fetch_store.specs.Objects.{Stored}
 use Rattle.fetch_store.specs.declared.id.Kind.{Kind}
@@ -22,17 +19,15 @@ use Rattle.fetch_store.specs.declared.id.Kind.TheVariants.{Sha1, Sha256}
 use Rattle.fetch_store.specs.declared.id.ObjectId.{ObjectId}
 use Rattle.fetch_store.proofs.Borders.{named-Contains}
 use Rattle.fetch_wire.specs.Awaited.{start_of, step_of}
-use Rattle.fetch_wire.specs.Bands.{packed}
 use Rattle.fetch_wire.specs.FetchReplies.{no_reply}
-use Rattle.fetch_wire.specs.Greetings.{format_in, handshake_of, is_format}
+use Rattle.fetch_wire.specs.Greetings.{format_in, is_format}
 use Rattle.fetch_wire.specs.KnownIds.{has_id}
 use Rattle.fetch_wire.specs.LinesTold.{Tells}
 use Rattle.fetch_wire.specs.NamesTold.{AreNamedOnce}
 use Rattle.fetch_wire.specs.Requests.{kind_text}
-use Rattle.fetch_wire.specs.ServerLines.{BorderChange, IsChangeOf, IsIdOf, IsListable, IsTellable, IsWord, bands_of, in_round, last_lines, round_lines, with_change}
+use Rattle.fetch_wire.specs.ServerLines.{IsChangeOf, IsIdOf, IsListable, IsTellable, IsWord, bands_of, in_round, last_lines, round_lines, with_change}
 use Rattle.fetch_wire.specs.Texts.{is_error}
 use Rattle.fetch_wire.specs.Written.{first_too_long}
-use Rattle.fetch_wire.specs.declared.greetings.handshake.Capability.{Capability}
 use Rattle.fetch_wire.specs.declared.listings.reference.Ref.{Ref}
 use Rattle.fetch_wire.specs.declared.replies.awaited.AskedReply.{AskedReply}
 use Rattle.fetch_wire.specs.declared.replies.awaited.Await.TheVariants as await
@@ -40,7 +35,7 @@ use Rattle.fetch_wire.specs.declared.replies.awaited.Told.TheVariants as told
 use Rattle.fetch_wire.proofs.GreetingLines.{greeting_tells}
 use Rattle.fetch_wire.proofs.ListingLines.{listing_tells}
 use Rattle.fetch_wire.proofs.ReplyLines.{bands_hold, last_tells, round_tells}
-use Rattle.fetch_serve.specs.Answers.{awaits, fails, fetched, is_refused, pack_bytes, told_of}
+use Rattle.fetch_serve.specs.Answers.{awaits, fails, fetched, pack_bytes, told_of}
 use Rattle.fetch_serve.specs.declared.asked.Asked.{Asked}
 use Rattle.fetch_serve.specs.declared.asked.Asked.TheVariants.{First, Listing, Fetch}
 use Rattle.fetch_serve.specs.declared.asked.DepthAsked.{DepthAsked}
@@ -48,7 +43,7 @@ use Rattle.fetch_serve.specs.declared.asked.FetchAsked.{FetchAsked}
 use Rattle.fetch_serve.specs.Offered.{capabilities_of, capability, offer, offered_ids, offered_of, peeled_behind, target_of}
 use Rattle.fetch_serve.specs.Packs.{depth_of, known_haves, pack_of, served_of}
 use Rattle.fetch_serve.specs.Replies.{change_in, error_lines, fetch_lines, first_unoffered, is_too_large, is_too_long, not_offered, objects_of, pack_lines, reply_lines, too_large}
-use Rattle.fetch_serve.specs.Servable.{IsServable, end_of, is_long, is_refused as is_lost, is_unlistable, is_unservable}
+use Rattle.fetch_serve.specs.Servable.{IsServable, end_of, is_long, is_refused as is_lost, is_unlistable}
 use Rattle.fetch_serve.specs.Served.{Data, history_of, references_of}
 use Rattle.fetch_serve.specs.Texts.{request_at}
 use Rattle.fetch_serve.proofs.Ids.{short_id, stored_is}

@@ -1,5 +1,5 @@
 -- What a server writes for a fetch request.
-use Rattle.std.proofs.Common.{◌≡◌, ℕ, ◌≤◌, ◌<◌, ◌^◌, Bool, true, false, ◌||◌, cond, List, [], ◌∷◌, ◌++◌, length, take, drop, min, get_or, Option, Some, None, Result, Ok, Err, refl, sym, ap, ◌∙◌, subst, arith, append_assoc, length-append, Contains}
+use Rattle.std.proofs.Common.{◌≡◌, ℕ, ◌≤◌, ◌<◌, ◌^◌, Bool, true, false, ◌||◌, cond, List, [], ◌∷◌, ◌++◌, length, take, drop, min, get_or, Option, Some, None, Result, Ok, Err, sym, ap, ◌∙◌, subst, arith, append_assoc, length-append, Contains}
 use Rattle.std.specs.Prelude.{OnOk, codes, is_some, nat_le}
 use Rattle.std.specs.List.{list_any}
 use Rattle.std.specs.FinMap as finmap
@@ -7,8 +7,7 @@ use Rattle.std.proofs.lemmas.List.{append-nil}
 use Rattle.std.proofs.lemmas.List.Elements.{All-from_recursion, Contains-get_or}
 use Rattle.hex.specs.Hex.{encode_lower}
 use Rattle.fetch_pack.specs.declared.version.PackVersion.{PackVersion}
-use Rattle.fetch_pack.specs.declared.version.PackVersion.TheVariants.{V1, V2}
-use Rattle.fetch_pack.specs.Records.{limit_of, payloads_of}
+use Rattle.fetch_pack.specs.declared.version.PackVersion.TheVariants.{V1}
 use Rattle.fetch_reach.specs.Stored.{CanHold, objects_at}
 use Rattle.fetch_store.specs.Digits.{hex_of}
 use Rattle.fetch_store.specs.Id.{byte_len, bytes_of, kind_of}

@@ -1,18 +1,18 @@
 -- A pack that is served is honest.
-use Rattle.std.proofs.Common.{◌≡◌, Bool, true, false, not, ◌||◌, List, [], ◌∷◌, ◌++◌, filter, get_or, Option, Some, None, cond, refl, sym, ap, ◌∙◌, subst, arith, inl, inr, All, Contains}
-use Rattle.std.specs.Prelude.{◌⊎◌, IsTrue, IsSome, is_some, if◌then◌else◌, option_map, slice_get}
+use Rattle.std.proofs.Common.{◌≡◌, Bool, true, false, not, List, [], ◌∷◌, ◌++◌, filter, get_or, Option, Some, None, cond, refl, sym, ap, ◌∙◌, subst, arith, inl, inr, All, Contains}
+use Rattle.std.specs.Prelude.{◌⊎◌, IsTrue, is_some, if◌then◌else◌, option_map}
 use Rattle.std.specs.FinMap as finmap
 use Rattle.std.specs.FinSet as set
-use Rattle.std.specs.List.{cons_option, filter_map, flat_map, list_any}
+use Rattle.std.specs.List.{cons_option, flat_map}
 use Rattle.std.specs.Option.{option_map_or}
 use Rattle.std.specs.Ordering.{eq_by_cmp}
 use Rattle.std.proofs.lemmas.List.Elements.{All-contains, All-contains_itself, Contains-get_or}
 use Rattle.fetch_store.specs.Borders.{IdSet, merged}
-use Rattle.fetch_store.specs.Closed.{Holding, IsClosed, IsCommit, IsStored, IsWalk, Reached, holding, is_commit, links, links_within, others, parents}
+use Rattle.fetch_store.specs.Closed.{Holding, IsCommit, IsStored, IsWalk, Reached, is_commit, links, links_within, others, parents}
 use Rattle.fetch_store.specs.Honest.{IsCommitThere, IsDeepened, IsHonest, IsThere, Pack, Request}
 use Rattle.fetch_store.specs.Missing.{parents_at}
 use Rattle.fetch_store.specs.Objects.{Stored}
-use Rattle.fetch_store.specs.Stores.{Entries, ObjectMap, id_cmp}
+use Rattle.fetch_store.specs.Stores.{ObjectMap, id_cmp}
 use Rattle.fetch_store.specs.declared.id.ObjectId.{ObjectId}
 use Rattle.fetch_store.proofs.Borders.{Contains-named, named-Contains}
 use Rattle.fetch_refs.proofs.TagWays.{exact}
@@ -27,7 +27,7 @@ use Rattle.fetch_reach.specs.Whole.{with_haves}
 use Rattle.fetch_reach.proofs.Leaving.{still_honest}
 use Rattle.fetch_serve.specs.declared.asked.FetchAsked.{FetchAsked}
 use Rattle.fetch_serve.specs.Offered.{offered_ids}
-use Rattle.fetch_serve.specs.Packs.{Agrees, Depth, IsClient, IsDepth, IsNeeded, IsTagOnTheWay, border_of, depth_of, is_reached, known_haves, pack_at, seen_after, seen_by, served_at, starts_of}
+use Rattle.fetch_serve.specs.Packs.{Depth, IsClient, IsDepth, IsNeeded, IsTagOnTheWay, border_of, depth_of, is_reached, known_haves, pack_at, seen_after, seen_by, served_at, starts_of}
 use Rattle.fetch_serve.specs.Replies.{first_unoffered}
 use Rattle.fetch_serve.specs.Requests.{has_id}
 use Rattle.fetch_serve.specs.Servable.{IsServable}

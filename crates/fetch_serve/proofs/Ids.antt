@@ -1,5 +1,5 @@
 -- Stored ids are of their hash, and have its bytes.
-use Rattle.std.proofs.Common.{◌≡◌, ℕ, zero, suc, ◌≤◌, ◌<◌, true, List, [], ◌∷◌, ◌++◌, length, get_or, Option, Some, None, refl, sym, ap, ◌∙◌, subst, arith}
+use Rattle.std.proofs.Common.{◌≡◌, ℕ, zero, suc, ◌≤◌, true, List, [], ◌∷◌, ◌++◌, length, Option, Some, None, refl, sym, ap, ◌∙◌, subst, arith}
 use Rattle.std.specs.Prelude.{is_some, slice_index}
 use Rattle.std.specs.FinMap as finmap
 use Rattle.std.specs.Int.{w32, to_be_bytes}
@@ -7,16 +7,15 @@ use Rattle.hex.specs.Hex.{IsBytes, encode_lower, lower_digits}
 use Rattle.hex.proofs.HexLemmas.{length-encode_with}
 use Rattle.sha1.specs.Sha1 as one
 use Rattle.sha2.specs.Sha256 as two
-use Rattle.fetch_store.specs.Closed.{AreAllOf, IsStored}
+use Rattle.fetch_store.specs.Closed.{IsStored}
 use Rattle.fetch_store.specs.Hashing.{digest}
 use Rattle.fetch_store.specs.Id.{byte_len, bytes_of, kind_of}
 use Rattle.fetch_store.specs.Objects.{Stored}
-use Rattle.fetch_store.specs.Stores.{ObjectMap}
 use Rattle.fetch_store.specs.declared.id.Kind.{Kind}
 use Rattle.fetch_store.specs.declared.id.Kind.TheVariants.{Sha1, Sha256}
 use Rattle.fetch_store.specs.declared.id.ObjectId.{ObjectId}
 use Rattle.fetch_store.proofs.Digests.{length-digest}
-use Rattle.fetch_reach.specs.Named.{AreOwnIds, own_id}
+use Rattle.fetch_reach.specs.Named.{own_id}
 use Rattle.fetch_wire.specs.ServerLines.{IsIdOf}
 use Rattle.fetch_serve.specs.Servable.{IsServable}
 use Rattle.fetch_serve.specs.Served.{Data}

@@ -1,23 +1,22 @@
 -- Lines of replies, one after another: how they are written, and that each fits.
-use Rattle.std.proofs.Common.{◌≡◌, ℕ, zero, suc, ◌≤◌, ◌<◌, false, cond, List, [], ◌∷◌, ◌++◌, length, map, take, drop, min, Option, Some, None, All, refl, sym, ap, ap₂, ◌∙◌, subst, arith, append_assoc, length-append}
+use Rattle.std.proofs.Common.{◌≡◌, ℕ, zero, suc, ◌≤◌, ◌<◌, false, cond, List, [], ◌∷◌, ◌++◌, length, map, take, drop, min, Option, Some, None, All, refl, sym, ap, ◌∙◌, arith, length-append}
 use Rattle.std.specs.Prelude.{codes, nat_lt}
-use Rattle.std.specs.List.{flat_map}
 use Rattle.std.specs.Option.{option_or}
 use Rattle.std.proofs.lemmas.Bool.Decides.{nat_tests}
 use Rattle.std.proofs.lemmas.Grind.{flat_map-append}
-use Rattle.std.proofs.lemmas.List.{append-nil, length-take, take_all}
+use Rattle.std.proofs.lemmas.List.{append-nil, length-take}
 use Rattle.std.proofs.lemmas.List.Elements.{All-head, All-tail}
 use Rattle.hex.specs.Hex.{encode_lower}
 use Rattle.fetch_store.specs.Id.{bytes_of}
 use Rattle.fetch_store.specs.declared.id.ObjectId.{ObjectId}
-use Rattle.fetch_wire.specs.Bands.{Band, Piece, band_line, pack_lines}
-use Rattle.fetch_wire.specs.Cutting.{in_pieces, pieces_within}
+use Rattle.fetch_wire.specs.Bands.{Piece, band_line, pack_lines}
+use Rattle.fetch_wire.specs.Cutting.{pieces_within}
 use Rattle.fetch_wire.specs.RequestLines.{id_lines}
 use Rattle.fetch_wire.specs.Requests.{sent, text_line}
-use Rattle.fetch_wire.specs.ServerLines.{BorderChange, acknowledged_texts, bands_of, change_lines, last_lines, round_lines}
+use Rattle.fetch_wire.specs.ServerLines.{acknowledged_texts, bands_of, round_lines}
 use Rattle.fetch_wire.specs.Written.{first_too_long, line_text, lines_text, too_long_in}
 use Rattle.fetch_wire.specs.declared.lines.line.Line.{Line}
-use Rattle.fetch_wire.specs.declared.lines.line.Line.TheVariants.{Payload, Flush, Delim}
+use Rattle.fetch_wire.specs.declared.lines.line.Line.TheVariants.{Payload, Flush}
 use Rattle.fetch_wire.proofs.Cut.{cut_more, cut_none}
 use Rattle.fetch_serve.specs.Replies.{error_lines, not_offered, too_large}
 use Rattle.fetch_serve.proofs.Fitting.{text_fits}

@@ -1,32 +1,30 @@
 -- What is served, as a list.
-use Rattle.std.proofs.Common.{◌≡◌, ℕ, ◌<◌, ◌≤◌, ◌^◌, Bool, true, false, not, ◌||◌, ◌&&◌, List, [], ◌∷◌, ◌++◌, length, filter, get_or, Option, Some, None, refl, sym, ap, ap₂, ◌∙◌, subst, arith, inl, inr, All, Contains}
+use Rattle.std.proofs.Common.{◌≡◌, Bool, true, false, ◌||◌, ◌&&◌, List, [], get_or, Option, Some, None, refl, sym, ap, ◌∙◌, subst, inl, inr, All, Contains}
 use Rattle.std.specs.Prelude.{◌⊎◌, ◌↔◌, IsTrue, is_some}
 use Rattle.std.specs.FinMap as finmap
 use Rattle.std.specs.FinSet as set
-use Rattle.std.specs.List.{flat_map}
 use Rattle.std.specs.List.Sorted.{IsStrictlySortedBy}
 use Rattle.std.proofs.lemmas.List.{append-nil}
 use Rattle.std.proofs.lemmas.List.Elements.{Contains-get_or}
 use Rattle.std.proofs.lemmas.List.Kept.{IsStrictlySortedBy-filter}
-use Rattle.fetch_store.specs.Borders.{IdSet, merged, set_of}
-use Rattle.fetch_store.specs.Closed.{Holding, IsStored, Reached}
+use Rattle.fetch_store.specs.Borders.{IdSet, merged}
+use Rattle.fetch_store.specs.Closed.{IsStored, Reached}
 use Rattle.fetch_store.specs.Objects.{Stored}
 use Rattle.fetch_store.specs.Stores.{ObjectMap, id_cmp}
 use Rattle.fetch_store.specs.declared.id.ObjectId.{ObjectId}
-use Rattle.fetch_store.proofs.Borders.{alike, named-Contains, Contains-named}
+use Rattle.fetch_store.proofs.Borders.{named-Contains, Contains-named}
 use Rattle.fetch_store.proofs.Honesty.{reached_stored}
 use Rattle.fetch_store.proofs.Ids.{id_cmp_exact, id_cmp_total}
 use Rattle.fetch_store.proofs.Keys.{keys-rise}
 use Rattle.fetch_store.proofs.Merges.{contains-merged}
 use Rattle.fetch_reach.specs.Named.{AreOwnIds, IsOwnId}
 use Rattle.fetch_serve.specs.declared.asked.FetchAsked.{FetchAsked}
-use Rattle.fetch_serve.specs.Packs.{Depth, IsNeeded, IsServedAt, IsTagOnTheWay, border_of, depth_of, is_needed, known_haves, seen_after, seen_by, served_at, served_of, starts_of, tags_along}
+use Rattle.fetch_serve.specs.Packs.{Depth, IsNeeded, IsServedAt, IsTagOnTheWay, border_of, depth_of, is_needed, known_haves, seen_after, seen_by, served_at, starts_of, tags_along}
 use Rattle.fetch_serve.specs.Requests.{has_id}
 use Rattle.fetch_serve.specs.Servable.{IsServable}
 use Rattle.fetch_serve.specs.Served.{Data, history_of}
 use Rattle.fetch_serve.proofs.Lists.{same_ids}
 use Rattle.fetch_serve.proofs.Reached.{filtered, keeps, needed_test}
-use Rattle.fetch_serve.proofs.References.{stored_at}
 use Rattle.fetch_serve.proofs.Tags.{along_way, on_way, tag_leads, way_along}
 
 -- ---- stored ids

@@ -1,8 +1,7 @@
 -- What the references are that a server offers.
-use Rattle.std.proofs.Common.{◌≡◌, ℕ, Bool, true, false, not, ◌||◌, ◌&&◌, List, [], ◌∷◌, filter, Option, Some, None, Result, Ok, Err, cond, refl, sym, ap, ◌∙◌, subst, inl, inr, Contains, All}
+use Rattle.std.proofs.Common.{◌≡◌, ℕ, Bool, true, false, not, ◌||◌, ◌&&◌, List, [], filter, Option, Some, None, Result, Ok, Err, cond, refl, sym, ap, ◌∙◌, subst, inl, inr, Contains}
 use Rattle.std.specs.Prelude.{is_some, option_map}
 use Rattle.std.specs.FinMap as finmap
-use Rattle.std.specs.List.{filter_map, flat_map}
 use Rattle.std.specs.Option.{option_and_then}
 use Rattle.std.specs.Result.{result_ok}
 use Rattle.fetch_refs.specs.Leading.{next_tag}
@@ -10,13 +9,10 @@ use Rattle.fetch_refs.specs.Peeled.{and_then, resolved}
 use Rattle.fetch_refs.specs.declared.error.RefError.{RefError}
 use Rattle.fetch_refs.specs.declared.error.RefError.TheVariants as refusals
 use Rattle.fetch_refs.specs.declared.target.Target.{Target}
-use Rattle.fetch_specs.specs.Names.{is_full_name}
 use Rattle.fetch_store.specs.Closed.{IsStored}
 use Rattle.fetch_store.specs.Graph.{Graph, Node, node_of}
 use Rattle.fetch_store.specs.Objects.{Stored}
-use Rattle.fetch_store.specs.Stores.{ObjectMap}
 use Rattle.fetch_store.specs.declared.id.ObjectId.{ObjectId}
-use Rattle.fetch_store.proofs.Borders.{Contains-named}
 use Rattle.fetch_store.proofs.Graphs.{get-graph_of}
 use Rattle.fetch_store.proofs.Lists.{map_nil}
 use Rattle.fetch_store.proofs.Members.{cases_in, none_in}
@@ -24,12 +20,12 @@ use Rattle.fetch_wire.specs.Listings.{ref_with}
 use Rattle.fetch_wire.specs.References.{id_in, name_in, peeled_in, target_in}
 use Rattle.fetch_wire.specs.declared.listings.reference.Ref.{Ref}
 use Rattle.fetch_wire.specs.declared.listings.reference.Ref.TheVariants.{Direct, Symbolic as Naming, Peeled, Unborn}
-use Rattle.fetch_serve.specs.Offered.{ids_in, if_told, is_public, is_told, is_under, listed, offer, offered_ids, offered_of, peeled_behind, peeled_from, some_of, target_of}
-use Rattle.fetch_serve.specs.Servable.{IsServable, behind_tags, end_of, is_long, is_refused, is_unlistable, is_unservable, unservable_names}
+use Rattle.fetch_serve.specs.Offered.{ids_in, if_told, is_public, is_told, is_under, listed, offer, offered_ids, offered_of, peeled_behind, some_of, target_of}
+use Rattle.fetch_serve.specs.Servable.{IsServable, behind_tags, end_of, is_long, is_refused, is_unlistable, is_unservable}
 use Rattle.fetch_serve.specs.Served.{Data, history_of, references_of}
 use Rattle.fetch_serve.proofs.Fitting.{ends_stored, never_unborn}
 use Rattle.fetch_serve.proofs.Lists.{fails, from_one}
-use Rattle.fetch_serve.proofs.Reached.{filtered, in_either, of_one}
+use Rattle.fetch_serve.proofs.Reached.{in_either, of_one}
 
 -- ---- what a reference tells
 

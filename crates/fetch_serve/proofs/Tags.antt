@@ -1,16 +1,15 @@
 -- The tags that come along are those on the way to what is needed.
 use Rattle.std.proofs.Common.{◌≡◌, ℕ, zero, suc, ◌≤◌, Bool, true, false, ◌&&◌, List, [], ◌∷◌, length, map, Option, Some, None, Ok, cond, refl, sym, ap, ◌∙◌, subst, arith, inl, inr, Contains}
-use Rattle.std.specs.Prelude.{◌⊎◌, ◌↔◌, IsTrue, is_some, nat_eq, option_map, slice_get}
+use Rattle.std.specs.Prelude.{◌⊎◌, IsTrue, is_some, nat_eq, option_map, slice_get}
 use Rattle.std.specs.FinMap as finmap
-use Rattle.std.specs.List.{IsDistinct, flat_map, starts_with}
+use Rattle.std.specs.List.{flat_map, starts_with}
 use Rattle.std.specs.Option.{option_and_then, option_map_or}
-use Rattle.std.specs.Ordering.{eq_by_cmp}
 use Rattle.fetch_refs.specs.Leading.{IsTagWay, Leads, next_tag}
 use Rattle.fetch_refs.proofs.TagWays.{tags_end}
 use Rattle.fetch_store.specs.Closed.{links}
-use Rattle.fetch_store.specs.Graph.{Graph, Node, node_of, target_of}
+use Rattle.fetch_store.specs.Graph.{Graph, Node, node_of}
 use Rattle.fetch_store.specs.Objects.{IsObject, Stored, is_kind, links_of}
-use Rattle.fetch_store.specs.Stores.{ObjectMap, id_cmp}
+use Rattle.fetch_store.specs.Stores.{ObjectMap}
 use Rattle.fetch_store.specs.declared.id.ObjectId.{ObjectId}
 use Rattle.fetch_store.specs.declared.object_kind.ObjectKind.{ObjectKind}
 use Rattle.fetch_store.specs.declared.object_kind.ObjectKind.TheVariants.{Commit, Tree, Blob, Tag}
@@ -20,11 +19,10 @@ use Rattle.fetch_store.proofs.Pigeons.{AreStored, are_distinct, no_more}
 use Rattle.fetch_store.proofs.TagTexts.{tags_are_texts}
 use Rattle.fetch_reach.specs.Named.{AreObjects}
 use Rattle.fetch_wire.specs.References.{id_in, name_in, peeled_in}
-use Rattle.fetch_wire.specs.declared.listings.reference.Ref.{Ref}
 use Rattle.fetch_serve.specs.declared.asked.FetchAsked.{FetchAsked}
 use Rattle.fetch_serve.specs.Offered.{offered_of}
-use Rattle.fetch_serve.specs.Packs.{Depth, IsNeeded, IsTagOnTheWay, is_needed, is_some_of, is_tag_to, tags_along, tags_at, tags_from, tags_of, tags_prefix}
-use Rattle.fetch_serve.specs.Servable.{IsServable, behind_tags}
+use Rattle.fetch_serve.specs.Packs.{Depth, IsTagOnTheWay, is_needed, is_some_of, is_tag_to, tags_along, tags_at, tags_from, tags_of, tags_prefix}
+use Rattle.fetch_serve.specs.Servable.{behind_tags}
 use Rattle.fetch_serve.specs.Served.{Data, history_of}
 use Rattle.fetch_serve.proofs.Reached.{both, needed_test, of_one, one_of}
 use Rattle.fetch_serve.proofs.References.{id_of, offered_one, peels}

@@ -1,4 +1,4 @@
-use Rattle.std.proofs.Common.{ap, ◌∙◌, subst}
+use Rattle.std.proofs.Common.{ap, ◌∙◌}
 use Rattle.fetch_wire.specs.ServerLines.{round_lines}
 use Rattle.fetch_wire.specs.Written.{first_too_long}
 use Rattle.fetch_serve.specs.Parts.{held_by}

@@ -1,4 +1,4 @@
-use Rattle.std.proofs.Common.{◌∷◌, ◌++◌, [], codes}
+use Rattle.std.proofs.Common.{◌++◌, codes}
 use Rattle.fetch_wire.specs.Requests.{text_line}
 use Rattle.fetch_serve.specs.Replies.{too_large}
 use Rattle.fetch_serve.proofs.Appending.{line_is, on_ok}

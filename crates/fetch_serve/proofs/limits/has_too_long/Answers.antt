@@ -1,4 +1,4 @@
-use Rattle.std.proofs.Common.{◌≡◌, ◌+◌, ◌<◌, ◌||◌, Bool, length, drop, [], sym, ap, ◌∙◌, arith}
+use Rattle.std.proofs.Common.{◌+◌, ◌<◌, ◌||◌, Bool, length, drop, [], sym, ap, ◌∙◌, arith}
 use Rattle.std.specs.List.{list_any}
 use Rattle.fetch_reach.specs.Stored.{objects_at}
 use Rattle.fetch_store.specs.declared.id.ObjectId.TheVariants.{Sha1}
