@@ -46,7 +46,8 @@ fn append_too_large(out: &mut Vec<u8>) -> Result<(), NoMemory>
 
 /// Appends the change of the border, which is none yet, where the request has depth lines.
 fn append_change(parts: Parts<'_>, asked: &FetchAsked, out: &mut Vec<u8>) -> Result<(), NoMemory>
-    ensures { OnOk result (out.new.items ≡ out.old.items ++ lines_text (change_lines (spec.change_in (held_by parts.entry) asked.now asked.now.depth))) }
+    ensures { OnOk result (out.new.items ≡ out.old.items ++ lines_text
+        (change_lines (spec.change_in (held_by parts.entry) asked.now asked.now.depth))) }
 {
     match asked.depth {
         None => Ok(()),
@@ -74,7 +75,8 @@ fn append_pack(
     out: &mut Vec<u8>,
 ) -> Result<(), NoMemory>
     requires { All (IsOwnId (held_by parts).objects) ids.now }
-    ensures { OnOk result (out.new.items ≡ out.old.items ++ lines_text (spec.pack_lines (held_by parts.entry) asked.now (objects_at (held_by parts.entry).objects ids.now))) }
+    ensures { OnOk result (out.new.items ≡ out.old.items ++ lines_text
+        (spec.pack_lines (held_by parts.entry) asked.now (objects_at (held_by parts.entry).objects ids.now))) }
 {
     if is_too_large(asked.version, parts.store, ids) {
         return append_too_large(out);
@@ -120,7 +122,8 @@ pub(crate) fn append_fetch(
     out: &mut Vec<u8>,
 ) -> Result<(), NoMemory>
     requires { IsServable (held_by parts) }
-    ensures { OnOk result (out.new.items ≡ out.old.items ++ lines_text (spec.fetch_lines (held_by parts.entry) asked.now (spec.first_unoffered (held_by parts.entry) asked.now))) }
+    ensures { OnOk result (out.new.items ≡ out.old.items ++ lines_text
+        (spec.fetch_lines (held_by parts.entry) asked.now (spec.first_unoffered (held_by parts.entry) asked.now))) }
 {
     let all = Wanted {
         unborn: false,

@@ -189,7 +189,8 @@ fn offer(
     name: &[u8],
     target: TargetRef<'_>,
 ) -> Result<Option<Ref>, NoMemory>
-    ensures { IfOk result (λ found. found ≡ spec.offer (held_by parts.entry) wanted.entry.unborn wanted.entry.prefixes.now (name.now, seen target.entry)) }
+    ensures { IfOk result (λ found.
+        found ≡ spec.offer (held_by parts.entry) wanted.entry.unborn wanted.entry.prefixes.now (name.now, seen target.entry)) }
 {
     if !is_public(name) || !is_under(wanted.prefixes, name) {
         return Ok(None);

@@ -87,7 +87,8 @@ fn border_of(alloc: Global, asked: &FetchAsked) -> Result<Border, NoMemory>
 
 /// What is needed, ascending.
 fn needed(parts: Parts<'_>, asked: &FetchAsked) -> Result<List<ObjectId>, NoMemory>
-    ensures each { IfOk result (λ ids. (id : Id) → Contains ids id ↔ IsNeeded (held_by parts.entry) asked.now (depth_of (held_by parts.entry) asked.now) id) }
+    ensures each { IfOk result (λ ids. (id : Id) → Contains ids id ↔
+        IsNeeded (held_by parts.entry) asked.now (depth_of (held_by parts.entry) asked.now) id) }
     ensures ascending { IfOk result (λ ids. IsStrictlySortedBy id_cmp ids) }
 {
     let (alloc, store) = (parts.alloc, parts.store);
@@ -100,7 +101,8 @@ fn needed(parts: Parts<'_>, asked: &FetchAsked) -> Result<List<ObjectId>, NoMemo
 
 /// Appends the tags from an id on.
 fn append_tags(store: &Store, first: ObjectId, ids: &mut Vec<ObjectId>) -> Result<(), NoMemory>
-    ensures { OnOk result (ids.new.items ≡ ids.old.items ++ spec.tags_from (graph_of store.now.objects) (finmap.len (graph_of store.now.objects)) first) }
+    ensures { OnOk result (ids.new.items ≡ ids.old.items ++
+        spec.tags_from (graph_of store.now.objects) (finmap.len (graph_of store.now.objects)) first) }
 {
     let mut id = first;
     let mut left = store.len();
@@ -157,7 +159,8 @@ fn append_tags_of(
     ids: &mut Vec<ObjectId>,
 ) -> Result<(), NoMemory>
     requires { IsStrictlySortedBy id_cmp needed.now }
-    ensures { OnOk result (ids.new.items ≡ ids.old.items ++ spec.tags_of (graph_of store.now.objects) (λ id. has_id id needed.now) reference.now) }
+    ensures { OnOk result (ids.new.items ≡ ids.old.items ++
+        spec.tags_of (graph_of store.now.objects) (λ id. has_id id needed.now) reference.now) }
 {
     let (name, first, last) = reference.unpack();
     if is_tag_name(name) && is_needed(needed, last) {
@@ -173,7 +176,8 @@ fn tags_along(
     references: &[Ref],
 ) -> Result<Vec<ObjectId>, NoMemory>
     requires { IsStrictlySortedBy id_cmp needed.now }
-    ensures { IfOk result (λ ids. ids.items ≡ flat_map (spec.tags_of (graph_of (held_by parts.entry).objects) (λ id. has_id id needed.now)) references.now) }
+    ensures { IfOk result (λ ids. ids.items ≡
+        flat_map (spec.tags_of (graph_of (held_by parts.entry).objects) (λ id. has_id id needed.now)) references.now) }
 {
     let mut ids = Vec::new(parts.alloc);
     for reference in references {
