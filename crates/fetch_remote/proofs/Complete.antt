@@ -1,6 +1,6 @@
 -- Valid input is fetched, unless a refusal comes that has a count or nothing in place of a cause.
 use Rattle.std.proofs.Common.{◌≡◌, ℕ, Bool, true, false, List, [], ◌∷◌, ◌++◌, Option, Some, None, Result, Ok, Err, refl, sym, ap, subst, ◌∙◌, inl, inr, Contains}
-use Rattle.std.specs.Prelude.{IfSome}
+use Rattle.std.specs.Prelude.{◌⊎◌, IfSome}
 use Rattle.std.proofs.lemmas.List.{append-nil, append_cancel_left}
 use Rattle.fetch_store.specs.declared.id.ObjectId.{ObjectId}
 use Rattle.fetch_update.specs.Outcomes.{outcome_of}
@@ -10,10 +10,11 @@ use Rattle.fetch_update.specs.declared.update.Outcome.{Outcome as Updates}
 use Rattle.fetch_update.specs.declared.worktrees.Worktree.{Worktree}
 use Rattle.fetch_update.proofs.Refused.{refused_with}
 use Rattle.fetch_wire.specs.Talks.{Talk, Talks}
+use Rattle.fetch_wire.specs.Written.{lines_text}
 use Rattle.fetch_wire.specs.declared.listings.mapping.Mapping.{Mapping}
 use Rattle.fetch_wire.specs.declared.listings.mapping.RefMap.{RefMap}
 use Rattle.fetch_conversation.specs.declared.conversing.Received.{Received}
-use Rattle.fetch_conversation.specs.Conversation.{map_refusal}
+use Rattle.fetch_conversation.specs.Conversation.{map_refusal, sent_in, IsUnheard}
 use Rattle.fetch_remote.specs.Errors.{is_free, receiving}
 use Rattle.fetch_remote.specs.Fetching.{manner_in, taken_in, fetched_in}
 use Rattle.fetch_remote.specs.Form.{Given}
@@ -21,12 +22,12 @@ use Rattle.fetch_remote.specs.Judging.{judged_of}
 use Rattle.fetch_remote.specs.Refused.{IsRefusedBy, IsRefused}
 use Rattle.fetch_remote.specs.Repositories.{State}
 use Rattle.fetch_remote.specs.Settling.{brought, taken, pack_of, after_take, policy_in, done}
-use Rattle.fetch_remote.specs.Stages.{Told, wants_in}
+use Rattle.fetch_remote.specs.Stages.{Told, bound_of, wants_in, conversation}
 use Rattle.fetch_remote.specs.Valid.{IsTakeable, AreJudgeable, policy_with, IsValidInput, HasValidInput}
 use Rattle.fetch_remote.specs.declared.fetching.fetch_error.FetchError.{FetchError}
 use Rattle.fetch_remote.specs.declared.fetching.outcome.Outcome.{Outcome}
 use Rattle.fetch_store.specs.Trees.{Tree}
-use Rattle.fetch_remote.proofs.Fetched.{fetched_is, settled_from}
+use Rattle.fetch_remote.proofs.Fetched.{fetched_is, in_form, settled_from}
 use Rattle.fetch_remote.proofs.Judged.{judged_yes}
 use Rattle.fetch_remote.proofs.Wanted.{first_in, later_in}
 
@@ -78,18 +79,37 @@ refused_no now g trees before after files left said heard e (inr last) x is =
     let k = last.1.refused in
     absurd (cc)
 
-gave_same : (answers : Bool) (a b : Talk) (heard said other : List ℕ) → Talks answers (Some a) (Some b) heard said → b.given ≡ a.given ++ other → said ≡ other
-gave_same answers a b heard said other p is = append_cancel_left a.given said other (sym p.gave_more ∙ is)
+-- what is refused was heard whole
+refused_heard : (now : Talk) (g : Given) (trees : List Worktree) (before after : State) (files left : Option Tree) (said heard : List ℕ) (e : FetchError) → IsRefusedBy (Some now) g trees before after files left said heard e
+    → lines_text (sent_in (bound_of g) (conversation g before) (said ++ now.to_come)) ≡ heard
+refused_heard now g trees before after files left said heard e (inl all) = ap lines_text (sym (in_form g before (said ++ now.to_come))) ∙ (all now.to_come).requests
+refused_heard now g trees before after files left said heard e (inr last) =
+    ap (λ (l : List ℕ). lines_text (sent_in (bound_of g) (conversation g before) l)) (ap (λ (l : List ℕ). said ++ l) last.0 ∙ append-nil said) ∙ ap lines_text (sym (in_form g before said)) ∙ last.1.requests
 
 pub complete : (answers : Bool) (old new : Option Talk) (known : Option (List Worktree)) (files left : Option Tree) (g : Given) (before after : State) (e : FetchError) → IsRefused answers old new known files left g before after e → HasValidInput old new known g before
     → is_free e ≡ true
 complete answers old new known files left g before after e h v = by (is_free e) refl
   where
+    passed : Talks answers (Some v.before) (Some v.after) h.heard h.said
+    passed = subst (λ (t : Option Talk). Talks answers t (Some v.after) h.heard h.said) v.told_before (subst (λ (t : Option Talk). Talks answers old t h.heard h.said) v.told_after h.passed)
+
+    same_said : h.said ≡ v.said
+    same_said = append_cancel_left v.before.given h.said v.said (sym passed.gave_more ∙ v.gave)
+
+    same_heard : h.heard ≡ v.heard
+    same_heard = append_cancel_left v.before.heard h.heard v.heard (sym passed.heard_more ∙ v.hears)
+
+    why : is_free e ≡ false → IsRefusedBy (Some v.after) g h.trees before after files left v.said v.heard e
+    why sure =
+        let k : IsRefusedBy (Some v.after) g h.trees before after files left h.said h.heard e = subst (λ (t : Option Talk). IsRefusedBy t g h.trees before after files left h.said h.heard e) v.told_after (h.why sure) in
+        subst (λ (l : List ℕ). IsRefusedBy (Some v.after) g h.trees before after files left v.said l e) same_heard (subst (λ (l : List ℕ). IsRefusedBy (Some v.after) g h.trees before after files left l h.heard e) same_said k)
+
+    no : is_free e ≡ false → IsValidInput g h.trees before (v.said ++ v.after.to_come) ⊎ IsUnheard (bound_of g) (conversation g before) v.heard (v.said ++ v.after.to_come) → ⊥
+    no sure (inl valid) =
+        let f = fetches_it g h.trees before (v.said ++ v.after.to_come) valid in
+        refused_no v.after g h.trees before after files left v.said v.heard e (why sure) f.0 f.1
+    no sure (inr u) = u.unheard (sym (refused_heard v.after g h.trees before after files left v.said v.heard e (why sure)))
+
     by : (b : Bool) → is_free e ≡ b → b ≡ true
     by true is = refl
-    by false is =
-        let passed : Talks answers (Some v.before) (Some v.after) h.heard h.said = rw (v.told_before, v.told_after) at h.passed in
-        let why : IsRefusedBy (Some v.after) g h.trees before after files left h.said h.heard e = rw v.told_after at (h.why is) in
-        let same = gave_same answers v.before v.after h.heard h.said v.said passed v.gave in
-        let f = fetches_it g h.trees before (v.said ++ v.after.to_come) (v.valid h.trees h.listed_trees) in
-        absurd (refused_no v.after g h.trees before after files left h.said h.heard e why f.0 (ap (λ (l : List ℕ). fetched_in g h.trees before (l ++ v.after.to_come)) same ∙ f.1))
+    by false is = absurd (no is (v.valid h.trees h.listed_trees))

@@ -29,6 +29,7 @@ use Rattle.fetch_remote.specs.Stages.{Told, bound_of, wants_in, inquiry_in, term
 use Rattle.fetch_remote.specs.Talking.{HasTold}
 use Rattle.fetch_remote.proofs.Negotiated.{are_held}
 use Rattle.fetch_remote.proofs.Keeping.{keep_is}
+use Rattle.fetch_remote.proofs.Mapped.{each_found}
 use Rattle.fetch_remote.proofs.Received.{is_mapped, is_received}
 use Rattle.fetch_remote.proofs.Spoken.{said_in, heard_in, told_spoken}
 use Rattle.fetch_remote.proofs.Settled.{settled_as, takes, judged_is, stays_closed, holds_mapped}
@@ -79,6 +80,7 @@ has_read answers old new g before l r rest u told =
       rest = rest;
       replied = λ more. rw append_assoc (told.pack.answered more);
       mappings = ap (λ (x : RefMap). x.mappings) m;
+      specs = ap (λ (x : RefMap). x.refspecs) m;
       extra = ap (λ (x : RefMap). x.extra_refspecs) m;
     }
 
@@ -152,6 +154,8 @@ fetched_with answers old new known files left g trees before l r rest s u listed
     let is = settled_from g trees before l r s u took judged in
     let none = (is_received (bound_of g) (graph_of before.objects) (terms_in g before l) _ r _ (told.pack.answered [])).none in
     let read : HasRead g before said (at_outcome g l r u) = has_read answers old new g before l r rest u told in
+    let found = each_found (inquiry_in g) l (is_mapped (bound_of g) (inquiry_in g) _ l _ (told.list.answered [])) in
+    let same_refs = (takes before _ _ s took).refs in
     record {
       said = said;
       heard = has_heard answers old new g before l r rest told;
@@ -159,8 +163,9 @@ fetched_with answers old new known files left g trees before l r rest s u listed
       rounds = are_held g before l read.behind read.rest r read.replied;
       trees = trees;
       listed_trees = listed;
-      judged = is_judged g trees before l r s u (takes before _ _ s took).refs judged;
-      written = is_written g trees before l r s u (takes before _ _ s took).refs judged;
+      judged = is_judged g trees before l r s u same_refs judged;
+      one_each = (is_judged g trees before l r s u same_refs judged).one_each ∙ found;
+      written = is_written g trees before l r s u same_refs judged;
       left = has_left g.options.dry_run (manner_in g).packed g before _ r s u took;
       kept = is_kept g files left l r u kept;
       safe = is_safe g before l.ref_map r s u took none;

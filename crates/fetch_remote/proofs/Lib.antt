@@ -3,6 +3,8 @@ pub mod Wanted
 pub mod Spoken
 pub mod Broken
 pub mod Received
+pub mod Mapped
+pub mod Bordered
 pub mod Negotiated
 pub mod Keeping
 pub mod Settled
@@ -17,12 +19,15 @@ pub mod Lost
 pub mod Judged
 pub mod Unjudged
 pub mod Steps
+pub mod Shown
 pub mod Lasting
 pub mod Complete
 pub mod Unread
 pub mod DryRuns
 pub mod Serving
 pub mod Deletions
+pub mod CheckedOut
+pub mod Undone
 pub mod Replaced
 pub mod SectionsBack
 pub mod DeletedTwice

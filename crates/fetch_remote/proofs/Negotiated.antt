@@ -1,5 +1,5 @@
 -- The rounds of a fetch.
-use Rattle.std.proofs.Common.{◌≡◌, ℕ, List, [], ◌++◌, Option, Some, None, Result, Ok, Err, refl, sym, subst, arith}
+use Rattle.std.proofs.Common.{◌≡◌, ◌∙◌, ℕ, List, [], ◌++◌, filter, Option, Some, None, Result, Ok, Err, refl, sym, ap, subst, arith}
 use Rattle.std.specs.Option.{option_or}
 use Rattle.fetch_store.specs.Graph.{Graph, graph_of}
 use Rattle.fetch_store.specs.declared.id.ObjectId.{ObjectId}
@@ -11,15 +11,16 @@ use Rattle.fetch_negotiate.proofs.Rounding.{all_told, are_full}
 use Rattle.fetch_wire.specs.declared.lines.line.Line.{Line}
 use Rattle.fetch_conversation.specs.Conversation.{Conversation, ends, sent_in, answer_in}
 use Rattle.fetch_conversation.specs.ConverseStage.{algorithm_in, no_mapping, other_hash, unfit, lacking, wanting, converse_stage}
-use Rattle.fetch_conversation.specs.Exchange.{TermsValue}
+use Rattle.fetch_conversation.specs.Exchange.{TermsValue, asked_by}
 use Rattle.fetch_conversation.specs.ListStage.{ListedValue, unless}
 use Rattle.fetch_conversation.specs.Requested.{TellsRounds}
 use Rattle.fetch_conversation.specs.declared.conversing.Received.{Received}
 use Rattle.fetch_conversation.proofs.Told.{stage_sends}
 use Rattle.fetch_remote.specs.Form.{Given}
-use Rattle.fetch_remote.specs.Negotiated.{HasNegotiated, HasNegotiatedBy, AreHeld}
+use Rattle.fetch_remote.specs.Negotiated.{HasNegotiated, HasNegotiatedBy, AreHeld, is_shallow}
 use Rattle.fetch_remote.specs.Repositories.{State}
 use Rattle.fetch_remote.specs.Stages.{bound_of, terms_in, pack_stage}
+use Rattle.fetch_remote.proofs.Bordered.{requests_shown}
 use Rattle.fetch_remote.proofs.Received.{is_received}
 
 -- ---- nothing is wanted
@@ -52,7 +53,7 @@ negotiated g before l lines rounds tells =
       full = are_full graph algorithm rounds first_size (begun algorithm t.view.tips t.view.border) (omega arith) tells.are;
       once = told.0;
       stored = told.1;
-      border = refl;
+      border = ap (filter is_shallow) tells.lines ∙ requests_shown (asked_by t) [] rounds;
     }
 
 negotiated_by : (g : Given) (before : State) (l : ListedValue) (stream rest : List ℕ) (r : Option Received) → answer_in (bound_of g) (pack_stage g before l) stream ≡ Ok (r, rest)

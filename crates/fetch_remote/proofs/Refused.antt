@@ -20,7 +20,7 @@ use Rattle.fetch_remote.specs.Errors.{preparing, receiving, is_free, is_yes}
 use Rattle.fetch_remote.specs.Fetching.{manner_in, taken_in, keep_made, settled_in, requests_in, left_by, left_in, keep_left_by, keep_left_in}
 use Rattle.fetch_remote.specs.Form.{Given}
 use Rattle.fetch_remote.specs.Keeping.{AreFiles, with_keep}
-use Rattle.fetch_remote.specs.Refused.{RefusesWith, IsRefusedBy, HasEnded, IsFound, IsMaking, IsTaken, IsStanding, unjudged, unmade, unremoved, is_late, IsCutListing, IsCutReceiving, IsCounted, IsRefused}
+use Rattle.fetch_remote.specs.Refused.{RefusesWith, IsRefusedBy, HasEnded, IsFound, IsMaking, IsMade, IsTaken, IsStanding, unjudged, unmade, unremoved, is_late, IsCutListing, IsCutReceiving, IsCounted, IsRefused}
 use Rattle.fetch_remote.specs.Repositories.{State}
 use Rattle.fetch_store.specs.Trees.{Tree}
 use Rattle.fetch_remote.specs.Settling.{kept_or, standing, is_free_settling, IsLeft, IsUnsettled}
@@ -213,14 +213,17 @@ taken_at : (g : Given) (before after : State) (files left : Option Tree) (said :
 taken_at g before after files left said t ended h = record { told = t; ended = ended; state = h.took; kept = h.kept; refs = (takes before _ _ after h.took).refs }
 
 making_at : (g : Given) (before after : State) (files left : Option Tree) (said path : List ℕ) (t : Told) → HasEnded g before said t → after ≡ before → settling.IsMaking (taken_in g before t) (keep_made g t) path files left → IsMaking g before after files left said path
-making_at g before after files left said path t ended is h = record { told = t; ended = ended; state = h.state; took = h.took; keep = h.made; found = is; tree = h.told }
+making_at g before after files left said path t ended is h = record { told = t; ended = ended; state = h.state; took = h.took; keep = h.made; found = record { same_state = is; same_files = h.same_files } }
+
+made_at : (g : Given) (before after : State) (files left : Option Tree) (said path : List ℕ) (t : Told) → HasEnded g before said t → after ≡ before → settling.IsMade (taken_in g before t) (keep_made g t) path files left → IsMade g before after files left said path
+made_at g before after files left said path t ended is h = record { told = t; ended = ended; state = h.state; took = h.took; keep = h.made; found = is; stands = h.stands }
 
 stands_at : (g : Given) (before after : State) (files left : Option Tree) (said : List ℕ) (t : Told) → HasEnded g before said t → IsLeft before (taken_in g before t) (keep_made g t) files left after → IsStanding g before after files left said
 stands_at g before after files left said t ended (inl h) = unmoved h.0 h.1
   where
-    unmoved : after ≡ before → (left ≡ files) ⊎ ((path : List ℕ) × settling.IsMaking (taken_in g before t) (keep_made g t) path files left) → IsStanding g before after files left said
+    unmoved : after ≡ before → (left ≡ files) ⊎ ((path : List ℕ) × settling.IsMade (taken_in g before t) (keep_made g t) path files left) → IsStanding g before after files left said
     unmoved is (inl same) = inl (record { same_state = is; same_files = same })
-    unmoved is (inr m) = inr (inl (m.0, making_at g before after files left said m.0 t ended is m.1))
+    unmoved is (inr m) = inr (inl (m.0, made_at g before after files left said m.0 t ended is m.1))
 stands_at g before after files left said t ended (inr h) = inr (inr (taken_at g before after files left said t ended h))
 
 -- the refusals of the settling, seen from the fetch
@@ -278,6 +281,6 @@ not_settled answers old new known files left g before after l r rest e told u =
         worktrees = λ fault yes is. taken_at g before after files left said t ended (b.unlisted fault yes (refusal_is e (receive.UpdateRefs fault) is));
         removing = λ path is.
             let k = b.moved path (refusal_is e (receive.RemovePackKeepFile path) is) in
-            record { outcome = k.outcome; fetched = λ more. fetched_is g u.trees before (said ++ more) _ _ (h.answered more) (rw k.by refl); removed = k.removed; tree = k.told };
+            record { outcome = k.outcome; fetched = λ more. fetched_is g u.trees before (said ++ more) _ _ (h.answered more) (rw k.by refl); removed = k.removed; stands = k.stands };
       };
     }

@@ -37,8 +37,8 @@ use Rattle.fetch_remote.specs.Form.{Given}
 use Rattle.fetch_remote.specs.Judging.{judged_as, judged_of, is_free_judging, IsTold, Judges}
 use Rattle.fetch_remote.specs.Repositories.{State, Setup, held}
 use Rattle.fetch_remote.specs.Keeping.{AreFiles, IsUnmade, made, with_keep}
-use Rattle.fetch_remote.specs.Settling.{◌>>=◌, unless_hit, unless_missing, brought, keep_of, pack_of, after_take, taken, policy_in, moved, outcome_in, status_of, status_by, told_of, released_of, done, settled, IsOfJudging, is_early, is_free_taking, is_free_settling, IsMaking, IsTaken, IsMoved, IsUntaken, IsUnreleased, IsUnsettledBy}
-use Rattle.fetch_remote.proofs.Keeping.{files_same, same_files, status_is, removed_is}
+use Rattle.fetch_remote.specs.Settling.{◌>>=◌, unless_hit, unless_missing, brought, keep_of, pack_of, after_take, taken, policy_in, moved, outcome_in, status_of, status_by, told_of, released_of, done, settled, IsOfJudging, is_early, is_free_taking, is_free_settling, IsMaking, IsMade, IsTaken, IsMoved, IsUntaken, IsUnreleased, IsUnsettledBy}
+use Rattle.fetch_remote.proofs.Keeping.{files_same, same_files, status_is, removed_is, gone_made}
 use Rattle.fetch_remote.specs.Stages.{wants_in}
 use Rattle.fetch_remote.proofs.Wanted.{stored_or_wanted}
 
@@ -142,8 +142,8 @@ untaken_early before wants r keep files e h = record {
 pub untaken_making : (before : State) (wants : List ObjectId) (r : Received) (s : State) (git_dir : List ℕ) (files left : Option Tree) (e : Error) → taken before wants (Some r) ≡ Ok s → IsUnmade (made git_dir r.pack) files left e
     → IsUntaken (taken before wants (Some r)) (made git_dir r.pack) files left e
 untaken_making before wants r s git_dir files left e took h =
-    let m : IsMaking (taken before wants (Some r)) (made git_dir r.pack) h.path files left = record { state = s; took = took; made = h.made; told = h.told } in
-    record { why = λ sure. absurd (no_cause e h.path sure h.why); making = λ path is. making_at path is h.why m; stands = inr (h.path, m) }
+    let m : IsMaking (taken before wants (Some r)) (made git_dir r.pack) h.path files left = record { state = s; took = took; made = h.made; same_files = h.same_files } in
+    record { why = λ sure. absurd (no_cause e h.path sure h.why); making = λ path is. making_at path is h.why m; stands = inl h.same_files }
   where
     no_cause : (e : Error) (path : List ℕ) → is_free_taking e ≡ false → (e ≡ errors.KeepFile path) ⊎ (e ≡ errors.NoMemory) → ⊥
     no_cause e path sure (inl is) = let k : true ≡ false = sym (ap is_free_taking is) ∙ sure in cc
@@ -159,9 +159,9 @@ pub untaken_behind : (before : State) (wants : List ObjectId) (r : Received) (s 
     → IsUntaken (taken before wants (Some r)) (made git_dir r.pack) files left errors.NoMemory
 untaken_behind before wants r s git_dir files left took h = record { why = λ sure. absurd (cc); making = λ path is. absurd (cc); stands = stands (made git_dir r.pack) h }
   where
-    stands : (keep : Option (List ℕ)) → AreFiles files left (with_keep keep) → (left ≡ files) ⊎ ((path : List ℕ) × IsMaking (taken before wants (Some r)) keep path files left)
+    stands : (keep : Option (List ℕ)) → AreFiles files left (with_keep keep) → (left ≡ files) ⊎ ((path : List ℕ) × IsMade (taken before wants (Some r)) keep path files left)
     stands None k = inl (files_same files left k)
-    stands (Some path) k = inr (path, record { state = s; took = took; made = refl; told = k.0 })
+    stands (Some path) k = inr (path, record { state = s; took = took; made = refl; stands = k })
 
 pub untaken : (setup : Setup) (how : Manner) (trees : List Worktree) (before : State) (wants : List ObjectId) (l : ListedValue) (r : Option Received) (files left : Option Tree) (e : Error)
     → IsUntaken (taken before wants (brought how.dry_run r)) (keep_of setup how r) files left e
@@ -301,11 +301,11 @@ unmoved setup how trees before wants l r files left mid took kept = record {
 }
 
 -- the references have moved, and the keep file couldn't be removed
-pub unreleased : (setup : Setup) (how : Manner) (trees : List Worktree) (before : State) (wants : List ObjectId) (l : ListedValue) (r : Option Received) (files left : Option Tree) (mid : State) (u : Updates) (now : State) (e : Error)
+pub unreleased : (setup : Setup) (how : Manner) (trees : List Worktree) (before : State) (wants : List ObjectId) (l : ListedValue) (r : Option Received) (files kept left : Option Tree) (mid : State) (u : Updates) (now : State) (e : Error)
     → taken before wants (brought how.dry_run r) ≡ Ok mid → judged_of (policy_in mid how trees) l.ref_map ≡ Ok u → now ≡ moved how.dry_run how.packed setup mid u.edits
-    → IsUnreleased (released_of u (told_of setup.settings.git_dir how.dry_run r)) e → is_some left ≡ is_some files
+    → IsUnreleased (released_of u (told_of setup.settings.git_dir how.dry_run r)) e → AreFiles files kept (with_keep (keep_of setup how r)) → left ≡ kept
     → IsUnsettledBy (settled setup how trees before wants l r) (taken before wants (brought how.dry_run r)) (keep_of setup how r) setup.settings.git_dir files left before now e
-unreleased setup how trees before wants l r files left mid u now e took judged is h told = rw h.1 (record {
+unreleased setup how trees before wants l r files kept left mid u now e took judged is h made same_left = rw h.1 (record {
   why = λ sure. absurd (cc);
   stands = λ sure. absurd (cc);
   unlisted = λ fault faulty same. absurd (cc);
@@ -317,14 +317,18 @@ unreleased setup how trees before wants l r files left mid u now e took judged i
     dir : List ℕ
     dir = setup.settings.git_dir
 
+    stays : AreFiles files left (with_keep (keep_of setup how r))
+    stays = subst (λ (x : Option Tree). AreFiles files x (with_keep (keep_of setup how r))) (sym same_left) made
+
     gone : (path : List ℕ) → errors.RemovePackKeepFile h.0 ≡ errors.RemovePackKeepFile path → IsMoved (settled setup how trees before wants l r) dir path files left now
     gone path same =
         let one : h.0 ≡ path = cc in
+        let goes : released_of u (told_of dir how.dry_run r) ≡ Some path = h.2 ∙ ap (λ (x : List ℕ). Some x) one in
         record {
           outcome = outcome_in dir how l r u;
           by = settles setup how trees before wants l r mid u (status_of dir how.dry_run r u) now took judged (sym (status_is dir how.dry_run r u)) is;
-          removed = removed_is dir how.dry_run r u ∙ h.2 ∙ ap (λ (x : List ℕ). Some x) one;
-          told = told;
+          removed = removed_is dir how.dry_run r u ∙ goes;
+          stands = subst (λ (x : Option (List ℕ)). AreFiles files left (with_keep x)) (gone_made dir how.dry_run r u path goes) stays;
         }
 
 -- ---- what the taking leaves

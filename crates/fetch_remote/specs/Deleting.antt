@@ -19,6 +19,7 @@ use Rattle.fetch_refs.specs.Names.{RefsValue, name_cmp}
 use Rattle.fetch_update.specs.Trees.{is_checked_out, directories_of}
 use Rattle.fetch_update.specs.declared.worktrees.Worktree.{Worktree}
 use Rattle.fetch_remote.specs.Judging.{IsTold}
+use Rattle.fetch_remote.specs.Keeping.{AreFiles}
 use Rattle.fetch_remote.specs.Paths.{in_directory, config_path}
 use Rattle.fetch_remote.specs.Reloads.{Reads, HasBrokenLine}
 use Rattle.fetch_remote.specs.Repositories.{State, Setup, RepositoryValue, reopened, with_refs}
@@ -165,17 +166,34 @@ IsRefused trees told git_dir names (errors.ConfigRead cause) = AreFree trees nam
 IsRefused trees told git_dir names (errors.Cleanup references source) = (references ≡ names) × (AreFree trees names × HasSections told git_dir names)
 IsRefused trees told git_dir names errors.NoMemory = ⊤
 
--- What a refusal leaves of references and reflogs. After the clean-up they are gone, and after out of memory they may be,
--- where there are sections to clean up.
-abbrev pub Leaves : Option Tree → List ℕ → List (List ℕ) → State → State → Error → Type 0
-Leaves told git_dir names before after (errors.NotLocal name) = after ≡ before
-Leaves told git_dir names before after errors.WorktreeListing = after ≡ before
-Leaves told git_dir names before after errors.OpenWorktreeRepo = after ≡ before
-Leaves told git_dir names before after errors.FollowSymref = after ≡ before
-Leaves told git_dir names before after (errors.CheckedOut name directories) = after ≡ before
-Leaves told git_dir names before after (errors.ConfigRead cause) = after ≡ before
-Leaves told git_dir names before after (errors.Cleanup references source) = after ≡ state_without names before
-Leaves told git_dir names before after errors.NoMemory = (after ≡ before) ⊎ ((after ≡ state_without names before) × HasSections told git_dir names)
+-- The new text stands beside the file, which is the one found.
+pub record IsBeside (told now : Option Tree) (git_dir : List ℕ) (names : List (List ℕ)) : Type 0 where
+  pub text : Option (List ℕ)
+  pub read : Reads told (config_path git_dir) text
+  pub tree : AreFiles told now (λ t. written t (parts_of (lock_path git_dir)) (text_of (file_without names text).sections))
+
+-- What a failed clean-up leaves of the files: those found, or with the new text beside the file.
+abbrev pub LeavesFiles : Option Tree → Option Tree → List ℕ → List (List ℕ) → CleanupError → Type 0
+LeavesFiles told now git_dir names cleaning.Write = now ≡ told
+LeavesFiles told now git_dir names cleaning.Commit = IsBeside told now git_dir names
+
+-- Out of memory leaves all as found, or else, where there are sections to clean up, the references are gone.
+pub record IsForgotten (told now : Option Tree) (git_dir : List ℕ) (names : List (List ℕ)) (before after : State) : Type 0 where
+  pub gone : after ≡ state_without names before
+  pub sections : HasSections told git_dir names
+  pub files : (now ≡ told) ⊎ IsBeside told now git_dir names
+
+-- What a refusal leaves of references, reflogs and files. After the clean-up references are gone, and after out of memory
+-- they may be; else all is as found.
+abbrev pub Leaves : Option Tree → Option Tree → List ℕ → List (List ℕ) → State → State → Error → Type 0
+Leaves told now git_dir names before after (errors.NotLocal name) = (after ≡ before) × (now ≡ told)
+Leaves told now git_dir names before after errors.WorktreeListing = (after ≡ before) × (now ≡ told)
+Leaves told now git_dir names before after errors.OpenWorktreeRepo = (after ≡ before) × (now ≡ told)
+Leaves told now git_dir names before after errors.FollowSymref = (after ≡ before) × (now ≡ told)
+Leaves told now git_dir names before after (errors.CheckedOut name directories) = (after ≡ before) × (now ≡ told)
+Leaves told now git_dir names before after (errors.ConfigRead cause) = (after ≡ before) × (now ≡ told)
+Leaves told now git_dir names before after (errors.Cleanup references source) = (after ≡ state_without names before) × LeavesFiles told now git_dir names source
+Leaves told now git_dir names before after errors.NoMemory = ((after ≡ before) × (now ≡ told)) ⊎ IsForgotten told now git_dir names before after
 
 -- A failed file call.
 abbrev pub is_file_fault : Error → Bool
@@ -183,20 +201,17 @@ is_file_fault (errors.ConfigRead causes.Io) = true
 is_file_fault (errors.Cleanup references source) = true
 is_file_fault e = false
 
--- The new text is put into the file by way of the other path.
-abbrev pub replaced_by : List ℕ → List ℕ → List ℕ → Tree → Option Tree
-replaced_by lock path text t = option_and_then (λ u. renamed u (parts_of lock) (parts_of path)) (written t (parts_of lock) text)
-
--- Where files that fail at nothing by themselves refused to write or to put a text in its place, something was in the way.
-abbrev pub IsUnwritten : Bool → Option Tree → List ℕ → List ℕ → List ℕ → CleanupError → Type 0
-IsUnwritten may_fail told lock path text cleaning.Write = IsCallRefused may_fail told (λ t. written t (parts_of lock) text)
-IsUnwritten may_fail told lock path text cleaning.Commit = IsCallRefused may_fail told (replaced_by lock path text)
+-- Where files that fail at nothing by themselves refused to write the text, or to put it in its place, something was in the
+-- way: of the tree found, or of the one that is left, which has the text beside the file.
+abbrev pub IsUnwritten : Bool → Option Tree → Option Tree → List ℕ → List ℕ → List ℕ → CleanupError → Type 0
+IsUnwritten may_fail told now lock path text cleaning.Write = IsCallRefused may_fail told (λ t. written t (parts_of lock) text)
+IsUnwritten may_fail told now lock path text cleaning.Commit = IsCallRefused may_fail now (λ t. renamed t (parts_of lock) (parts_of path))
 
 -- The same of a deletion: of its reading, and of its new text.
-abbrev pub IsInTheWay : Bool → Option Tree → List ℕ → Error → Type 0
-IsInTheWay may_fail told git_dir (errors.ConfigRead causes.Io) = IsCallRefused may_fail told (λ t. read_in t (parts_of (config_path git_dir)))
-IsInTheWay may_fail told git_dir (errors.Cleanup references source) = (text : List ℕ) × IsUnwritten may_fail told (lock_path git_dir) (config_path git_dir) text source
-IsInTheWay may_fail told git_dir e = ⊤
+abbrev pub IsInTheWay : Bool → Option Tree → Option Tree → List ℕ → Error → Type 0
+IsInTheWay may_fail told now git_dir (errors.ConfigRead causes.Io) = IsCallRefused may_fail told (λ t. read_in t (parts_of (config_path git_dir)))
+IsInTheWay may_fail told now git_dir (errors.Cleanup references source) = (text : List ℕ) × IsUnwritten may_fail told now (lock_path git_dir) (config_path git_dir) text source
+IsInTheWay may_fail told now git_dir e = ⊤
 
 -- What is told before the work trees are asked, and before the files are.
 abbrev pub is_unlocal : Error → Bool

@@ -1,12 +1,15 @@
 -- What the steps of a deletion say.
-use Rattle.std.specs.Prelude.{◌≡◌, ℕ, Bool, true, false, List, [], ◌∷◌, find, Option, Some, None, ⊤, if◌then◌else◌}
+use Rattle.std.specs.Prelude.{◌≡◌, ◌⊎◌, ℕ, Bool, true, false, List, [], ◌∷◌, find, Option, Some, None, ⊤, if◌then◌else◌}
+use Rattle.std.specs.BTreeSet.{BTreeSet, contains}
 use Rattle.std.specs.Str.{bytes_eq}
-use Rattle.fetch_store.specs.Trees.{Tree}
+use Rattle.fetch_store.specs.Paths.{parts_of}
+use Rattle.fetch_store.specs.Trees.{Tree, written}
 use Rattle.fetch_store.specs.declared.file_error.FileError.{FileError}
 use Rattle.fetch_store.specs.declared.file_error.FileError.TheVariants as calls
 use Rattle.fetch_config.specs.Contents.{Contents}
 use Rattle.fetch_config.specs.Print.{text_of}
 use Rattle.fetch_lookup.specs.Removed.{has_branches, without_branches}
+use Rattle.fetch_refs.specs.Names.{name_cmp}
 use Rattle.fetch_refs.specs.declared.edit.Change.TheVariants.{Delete}
 use Rattle.fetch_refs.specs.declared.edit.PreviousValue.TheVariants.{Any}
 use Rattle.fetch_refs.specs.declared.edit.RefEdit.{RefEdit}
@@ -18,10 +21,12 @@ use Rattle.fetch_update.specs.declared.worktrees.WorktreeFault.TheVariants as fa
 use Rattle.fetch_remote.specs.Deleting as spec
 use Rattle.fetch_remote.specs.Deleting.{Cleans, HasSections, broken_in, file_meta, has_sections, lock_path, sections_in, setup_without, short_names, state_without}
 use Rattle.fetch_remote.specs.Judging.{IsTold}
+use Rattle.fetch_remote.specs.Keeping.{AreFiles}
 use Rattle.fetch_remote.specs.Paths.{config_path}
 use Rattle.fetch_remote.specs.Reloads.{Reads, HasBrokenLine}
 use Rattle.fetch_remote.specs.Repositories.{RepositoryValue, Setup, in_force}
 use Rattle.fetch_remote.specs.declared.delete.CleanupError.{CleanupError}
+use Rattle.fetch_remote.specs.declared.delete.CleanupError.TheVariants as cleaning
 use Rattle.fetch_remote.specs.declared.delete.Error.{Error}
 use Rattle.fetch_remote.specs.declared.delete.Error.TheVariants as errors
 use Rattle.fetch_remote.specs.declared.deleting.ConfigChange.{ConfigChange}
@@ -41,6 +46,10 @@ abbrev pub IsUnlocal : Option (List ℕ) → Error → Type 0
 IsUnlocal found (errors.NotLocal name) = found ≡ Some name
 IsUnlocal found errors.NoMemory = ⊤
 IsUnlocal found e = ⊥
+
+-- A set has the branches that these work trees have checked out, and no other name.
+abbrev pub AreBranches : List Worktree → BTreeSet (List ℕ) → Type 0
+AreBranches trees branches = (name : List ℕ) → contains name_cmp branches name ≡ is_checked_out trees name
 
 -- None of the names is checked out.
 pub record AreUnheld (told : Option (List Worktree)) (names : List (List ℕ)) : Type 0 where
@@ -129,7 +138,14 @@ IsCleanup names (errors.Cleanup references source) = references ≡ names
 IsCleanup names errors.NoMemory = ⊤
 IsCleanup names e = ⊥
 
+-- What is left of the files where the new text wasn't put into its place: those found, or with the text in the other file.
+abbrev pub LeavesTree : Option Tree → Option Tree → List ℕ → List ℕ → Error → Type 0
+LeavesTree told now lock text (errors.Cleanup references cleaning.Write) = now ≡ told
+LeavesTree told now lock text (errors.Cleanup references cleaning.Commit) = AreFiles told now (λ t. written t (parts_of lock) text)
+LeavesTree told now lock text errors.NoMemory = (now ≡ told) ⊎ AreFiles told now (λ t. written t (parts_of lock) text)
+LeavesTree told now lock text e = ⊥
+
 -- what was in the way of a file call that failed, once the branches are gone
-abbrev pub IsBarred : Bool → Option Tree → List ℕ → List ℕ → List ℕ → Error → Type 0
-IsBarred may_fail told lock path text (errors.Cleanup references source) = spec.IsUnwritten may_fail told lock path text source
-IsBarred may_fail told lock path text e = ⊤
+abbrev pub IsBarred : Bool → Option Tree → Option Tree → List ℕ → List ℕ → List ℕ → Error → Type 0
+IsBarred may_fail told now lock path text (errors.Cleanup references source) = spec.IsUnwritten may_fail told now lock path text source
+IsBarred may_fail told now lock path text e = ⊤

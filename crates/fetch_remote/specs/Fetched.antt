@@ -1,6 +1,7 @@
 -- A fetch that was done.
 use Rattle.std.specs.Option.{option_and_then}
-use Rattle.std.specs.Prelude.{◌≡◌, ℕ, Bool, true, false, ◌&&◌, List, [], ◌++◌, Option, Some, None, Ok, Contains, length}
+use Rattle.std.specs.List.{range_with_len}
+use Rattle.std.specs.Prelude.{◌≡◌, ℕ, Bool, true, false, ◌&&◌, List, [], ◌++◌, map, Option, Some, None, Ok, Contains, length}
 use Rattle.fetch_store.specs.declared.id.ObjectId.{ObjectId}
 use Rattle.fetch_store.specs.Borders.{IdSet, merged}
 use Rattle.fetch_store.specs.Closed.{IsClosed, IsStored}
@@ -65,6 +66,7 @@ pub record HasRead (g : Given) (before : State) (said : List ℕ) (outcome : Out
   pub replied : (more : List ℕ) → answer_in (bound_of g) (pack_stage g before (listed_in outcome)) (behind ++ more) ≡ Ok (received, rest ++ more)
   -- The mappings are those of the remote's refspecs and the extra ones, with that of the tags, over what was listed.
   pub mappings : outcome.ref_map.mappings ≡ ref_mappings (length g.remote.fetch_specs) (all_specs (inquiry_in g)) outcome.handshake.object_hash outcome.ref_map.remote_refs
+  pub specs : outcome.ref_map.refspecs ≡ g.remote.fetch_specs
   pub extra : outcome.ref_map.extra_refspecs ≡ extra_specs (inquiry_in g)
 
 -- ---- what became of the mappings
@@ -78,7 +80,7 @@ pub record IsJudged (g : Given) (trees : List Worktree) (before after : State) (
   -- Each mapping is judged by the policy.
   pub updates : Updates
   pub verdicts : outcome_of (policy_at g trees before after) outcome.ref_map.refspecs outcome.ref_map.extra_refspecs outcome.ref_map.mappings ≡ Ok updates
-  -- There is one update for each mapping, in order.
+  -- There is one update for each mapping whose refspec is found, in order.
   pub one_each : HasOneEach outcome.ref_map.refspecs outcome.ref_map.extra_refspecs outcome.ref_map.mappings updates
   -- It tells an accepting mode exactly where that mode's row holds; in a dry run its row for a dry run.
   pub accepts : g.options.dry_run ≡ false → AcceptsExactly (policy_at g trees before after) outcome.ref_map.refspecs outcome.ref_map.extra_refspecs outcome.ref_map.mappings updates
@@ -167,6 +169,8 @@ pub record IsFetched (answers : Bool) (old new : Option Talk) (known : Option (L
   pub trees : List Worktree
   pub listed_trees : IsTold known trees
   pub judged : IsJudged g trees before after read.received outcome
+  -- Each mapping has one update, in order.
+  pub one_each : map (λ u. u.mapping_index) judged.updates.updates ≡ range_with_len 0 (length outcome.ref_map.mappings)
   pub written : IsWritten g trees before after outcome judged.updates
   pub left : IsLeft g.options.dry_run (manner_in g).packed g.setup before after read.received judged.updates
   pub kept : IsKept g files files_left read.received judged.updates outcome

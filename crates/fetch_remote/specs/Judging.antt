@@ -1,6 +1,7 @@
 -- What becomes of the mapped references.
-use Rattle.std.specs.Prelude.{◌≡◌, Bool, true, false, List, Option, Result, Ok, Err, IfSome}
+use Rattle.std.specs.Prelude.{◌≡◌, ◌⊎◌, ℕ, Bool, true, false, List, Option, Result, Ok, Err, IfSome}
 use Rattle.fetch_store.specs.Answers.{AnswersUnless}
+use Rattle.fetch_store.specs.Calls.{one_more}
 use Rattle.fetch_update.specs.Outcomes.{outcome_of}
 use Rattle.fetch_update.specs.Policy.{Policy}
 use Rattle.fetch_update.specs.declared.update.Error.{Error as UpdateError}
@@ -29,6 +30,10 @@ is_free_judging e = false
 -- The list is the one that is told, where one is.
 abbrev pub IsTold : Option (List Worktree) → List Worktree → Type 0
 IsTold told trees = IfSome told (λ known. trees ≡ known)
+
+-- They were asked for it once at most.
+abbrev pub IsOnce : ℕ → ℕ → Type 0
+IsOnce before now = (now ≡ before) ⊎ (now ≡ one_more before)
 
 -- The mappings are judged by the policy over a list of worktrees, which is the one that is told.
 pub record Judges (told : Option (List Worktree)) (policy : List Worktree → Policy) (m : RefMap) (result : Result Outcome Error) : Type 0 where

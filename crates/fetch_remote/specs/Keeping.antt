@@ -60,10 +60,10 @@ left_tree git_dir status t = option_and_then (without_keep (removed_in git_dir s
 abbrev pub AreFiles : Option Tree → Option Tree → (Tree → Option Tree) → Type 0
 AreFiles before now changed = (is_some now ≡ is_some before) × IfSome before (λ t. changed t ≡ now)
 
--- A keep file that couldn't be made: a call of the files was refused, which tell a tree still where they did, or memory
--- ran out before that.
+-- A keep file that couldn't be made, by a call of the files that was refused, or for want of memory: the files are those
+-- found.
 pub record IsUnmade (keep : Option (List ℕ)) (files left : Option Tree) (e : Error) : Type 0 where
   pub path : List ℕ
   pub made : keep ≡ Some path
   pub why : (e ≡ errors.KeepFile path) ⊎ (e ≡ errors.NoMemory)
-  pub told : is_some left ≡ is_some files
+  pub same_files : left ≡ files

@@ -17,8 +17,10 @@ pub mod Keeping
 pub mod Settling
 pub mod Form
 pub mod Stages
+pub mod Showing
 pub mod Talking
 pub mod Fetching
+pub mod Mapped
 pub mod Fetched
 pub mod Refused
 pub mod Valid

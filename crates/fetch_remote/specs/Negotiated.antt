@@ -1,21 +1,36 @@
 -- What a fetch says of what is there.
-use Rattle.std.specs.Prelude.{◌≡◌, ℕ, ◌≤◌, false, List, [], ◌++◌, length, Option, Some, None}
-use Rattle.std.specs.List.{All, IsDistinct}
+use Rattle.std.specs.Prelude.{◌≡◌, ℕ, ◌≤◌, Bool, false, List, [], ◌++◌, length, filter, nat_eq, Option, Some, None}
+use Rattle.std.specs.List.{All, IsDistinct, flat_map, starts_with}
 use Rattle.std.specs.Ordering.{eq_by_cmp}
+use Rattle.fetch_store.specs.Borders.{IdSet, ids_of}
 use Rattle.fetch_store.specs.Graph.{graph_of}
 use Rattle.fetch_store.specs.Stores.{id_cmp}
 use Rattle.fetch_negotiate.specs.Commits.{IsStoredCommit}
 use Rattle.fetch_negotiate.specs.Rounds.{haves_in}
 use Rattle.fetch_negotiate.specs.declared.algorithm.Round.{Round}
+use Rattle.fetch_wire.specs.RequestLines.{id_lines}
+use Rattle.fetch_wire.specs.RequestWords.{shallow_word}
+use Rattle.fetch_wire.specs.Requests.{sent}
 use Rattle.fetch_wire.specs.declared.lines.line.Line.{Line}
+use Rattle.fetch_wire.specs.declared.lines.line.Line.TheVariants.{Payload, Flush, Delim, End}
 use Rattle.fetch_conversation.specs.Conversation.{sent_in}
-use Rattle.fetch_conversation.specs.Exchange.{asked_by}
 use Rattle.fetch_conversation.specs.ListStage.{ListedValue}
 use Rattle.fetch_conversation.specs.Requested.{TellsRounds}
 use Rattle.fetch_conversation.specs.declared.conversing.Received.{Received}
 use Rattle.fetch_remote.specs.Form.{Given}
 use Rattle.fetch_remote.specs.Repositories.{State}
 use Rattle.fetch_remote.specs.Stages.{bound_of, terms_in, pack_stage}
+
+-- whether a line of a request tells a commit of the border
+abbrev pub is_shallow : Line → Bool
+is_shallow (Payload text) = starts_with nat_eq text shallow_word
+is_shallow Flush = false
+is_shallow Delim = false
+is_shallow End = false
+
+-- the commits of a border, ascending, a line for each
+abbrev pub border_lines : IdSet → List Line
+border_lines border = sent (id_lines shallow_word (ids_of border))
 
 -- What the rounds of a fetch told.
 pub record HasNegotiated (g : Given) (before : State) (l : ListedValue) (lines : List Line) (rounds : List Round) : Type 0 where
@@ -27,8 +42,8 @@ pub record HasNegotiated (g : Given) (before : State) (l : ListedValue) (lines :
   -- No commit stands in two windows, or twice in one, and each is a stored commit of the repository found.
   pub once : IsDistinct (eq_by_cmp id_cmp) (haves_in rounds)
   pub stored : All (IsStoredCommit (graph_of before.objects)) (haves_in rounds)
-  -- The border that is sent is the one found.
-  pub border : (asked_by (terms_in g before l)).border ≡ before.border
+  -- Each request tells the border found, and no other commit as its border.
+  pub border : filter is_shallow lines ≡ flat_map (λ _. border_lines before.border) rounds
 
 -- where nothing is received, nothing was asked for
 abbrev pub HasNegotiatedBy : Given → State → ListedValue → List Line → Option Received → Type 0

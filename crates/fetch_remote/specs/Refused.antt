@@ -1,5 +1,5 @@
 -- A fetch that was refused.
-use Rattle.std.specs.Prelude.{◌≡◌, ◌⊎◌, ℕ, Bool, true, false, List, [], ◌++◌, Option, Some, Ok, Err, is_some}
+use Rattle.std.specs.Prelude.{◌≡◌, ◌⊎◌, ℕ, Bool, true, false, List, [], ◌++◌, Option, Some, Ok, Err}
 use Rattle.fetch_store.specs.Trees.{Tree}
 use Rattle.fetch_update.specs.declared.update.Error.{Error as UpdateError}
 use Rattle.fetch_update.specs.declared.worktrees.Worktree.{Worktree}
@@ -45,16 +45,29 @@ pub record HasEnded (g : Given) (before : State) (said : List ℕ) (told : Told)
   pub rest : List ℕ
   pub answered : (more : List ℕ) → answer_in (bound_of g) (conversation g before) (said ++ more) ≡ Ok (told, rest ++ more)
 
--- After the conversation, with a pack that could be taken: its keep file was being made, or stood already. The state is as
--- found, and the files still tell a tree, where they did.
+-- All is as found.
+pub record IsFound (before after : State) (files files_left : Option Tree) : Type 0 where
+  pub same_state : after ≡ before
+  pub same_files : files_left ≡ files
+
+-- After the conversation, with a pack that could be taken: its keep file couldn't be made. All is as found.
 pub record IsMaking (g : Given) (before after : State) (files files_left : Option Tree) (said path : List ℕ) : Type 0 where
   pub told : Told
   pub ended : HasEnded g before said told
   pub state : State
   pub took : taken_in g before told ≡ Ok state
   pub keep : keep_made g told ≡ Some path
+  pub found : IsFound before after files files_left
+
+-- After the conversation, with a pack that could be taken: its keep file stands. The state is as found.
+pub record IsMade (g : Given) (before after : State) (files files_left : Option Tree) (said path : List ℕ) : Type 0 where
+  pub told : Told
+  pub ended : HasEnded g before said told
+  pub state : State
+  pub took : taken_in g before told ≡ Ok state
+  pub keep : keep_made g told ≡ Some path
   pub found : after ≡ before
-  pub tree : is_some files_left ≡ is_some files
+  pub stands : AreFiles files files_left (with_keep (Some path))
 
 -- After the conversation: all that was received was taken, and its keep file stands. The references are as found.
 pub record IsTaken (g : Given) (before after : State) (files files_left : Option Tree) (said : List ℕ) : Type 0 where
@@ -64,22 +77,17 @@ pub record IsTaken (g : Given) (before after : State) (files files_left : Option
   pub kept : AreFiles files files_left (with_keep (keep_made g told))
   pub refs : after.refs ≡ before.refs
 
--- The references have moved, and references, objects and border are as at Ok. The files still tell a tree, where they did.
+-- The references have moved, and references, objects and border are as at Ok. The keep file stands.
 pub record IsMoved (g : Given) (trees : List Worktree) (before after : State) (files files_left : Option Tree) (said path : List ℕ) : Type 0 where
   pub outcome : Outcome
   pub fetched : (more : List ℕ) → fetched_in g trees before (said ++ more) ≡ Ok (outcome, after)
   pub removed : removed_in g.setup.settings.git_dir outcome.status ≡ Some path
-  pub tree : is_some files_left ≡ is_some files
+  pub stands : AreFiles files files_left (with_keep (Some path))
 
--- All is as found.
-pub record IsFound (before after : State) (files files_left : Option Tree) : Type 0 where
-  pub same_state : after ≡ before
-  pub same_files : files_left ≡ files
-
--- All is as found, or a keep file was being made, or all that was received is taken.
+-- All is as found, but for the keep file where that was made, or all that was received is taken.
 abbrev pub IsStanding : Given → State → State → Option Tree → Option Tree → List ℕ → Type 0
 IsStanding g before after files files_left said =
-    IsFound before after files files_left ⊎ (((path : List ℕ) × IsMaking g before after files files_left said path) ⊎ IsTaken g before after files files_left said)
+    IsFound before after files files_left ⊎ (((path : List ℕ) × IsMade g before after files files_left said path) ⊎ IsTaken g before after files files_left said)
 
 -- ---- counted refusals
 

@@ -1,13 +1,16 @@
 -- Repositories: how they are opened, and what changes them.
-use Rattle.std.specs.Prelude.{◌≡◌, false, not, ℕ, List, Option, Some, ⊤, find}
+use Rattle.std.specs.Prelude.{◌≡◌, Bool, true, false, not, ℕ, List, [], Option, Some, None, ⊤, find}
 use Rattle.std.specs.Option.{option_map}
 use Rattle.fetch_store.specs.Borders.{IdSet}
 use Rattle.fetch_store.specs.Closed.{Holding}
 use Rattle.fetch_store.specs.Stores.{Entries, add_all}
 use Rattle.fetch_config.specs.Contents.{Contents}
+use Rattle.fetch_config.specs.declared.meta.Origin.TheVariants.{System}
 use Rattle.fetch_refs.specs.Names.{RefsValue}
+use Rattle.fetch_refs.specs.declared.log.Signature.{Signature}
 use Rattle.fetch_remote.specs.declared.repository.open_error.OpenError.{OpenError}
 use Rattle.fetch_remote.specs.declared.repository.open_error.OpenError.TheVariants as errors
+use Rattle.fetch_remote.specs.declared.repository.OpenOptions.{OpenOptions}
 use Rattle.fetch_remote.specs.declared.repository.Parts.{Parts}
 use Rattle.fetch_conversation.specs.declared.settings.Settings.{Settings}
 pub use Rattle.fetch_remote.specs.RepositoryValues.{State, Setup, RepositoryValue, logging_of, is_override, with_override, with_overrides, resolved_of}
@@ -46,6 +49,14 @@ IsOpenRefusal overrides (errors.Override told) = find (λ text. not (is_override
 IsOpenRefusal overrides errors.NoMemory = ⊤
 IsOpenRefusal overrides e = ⊥
 
+-- nothing before a repository's own configuration
+abbrev pub no_base : Contents
+no_base = record { meta = record { source = System; level = 0; path = None; trusted = true }; sections = [] }
+
+-- no overrides, and nothing before the repository's own configuration
+abbrev pub open_options : Bool → OpenOptions
+open_options lenient = record { lenient_config = lenient; api_config_overrides = []; base = no_base }
+
 -- the state of the parts
 abbrev pub state_in : Parts → State
 state_in p = record { hash = p.store.hash; objects = p.store.objects; border = p.border; refs = p.refs }
@@ -78,3 +89,7 @@ in_force s local config = record s { local = local; settings = record s.settings
 -- the setup of the same parts with another local file
 abbrev pub reopened : Setup → Contents → Option Setup
 reopened s local = option_map (in_force s local) (resolved_of s.base local s.overrides)
+
+-- the setup with this committer
+abbrev pub with_committer : Signature → Setup → Setup
+with_committer committer s = record s { settings = record s.settings { committer = committer } }

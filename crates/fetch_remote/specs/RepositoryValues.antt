@@ -69,9 +69,10 @@ with_overrides config (text ∷ texts) = option_and_then (λ c. with_overrides c
 abbrev pub resolved_of : Contents → Contents → List (List ℕ) → Option Contents
 resolved_of base local overrides = with_overrides (with_sections base (base.sections ++ local.sections)) overrides
 
--- Objects and settings are of one hash, each override is one, and the settings' configuration is that of base, local file
--- and overrides.
-pub record IsWhole (hash : Kind) (settings : Settings) (base local : Contents) (overrides : List (List ℕ)) : Type 0 where
+-- Objects, references and settings are of one hash, each override is one, and the settings' configuration is that of base,
+-- local file and overrides.
+pub record IsWhole (hash of_refs : Kind) (settings : Settings) (base local : Contents) (overrides : List (List ℕ)) : Type 0 where
   pub same_hash : hash ≡ settings.kind
+  pub same_refs : of_refs ≡ hash
   pub overrides_read : are_overrides overrides ≡ true
   pub resolved : resolved_of base local overrides ≡ Some settings.config

@@ -1,5 +1,5 @@
 -- What a fetch does with what it received.
-use Rattle.std.specs.Prelude.{◌≡◌, ◌≢◌, ◌⊎◌, ◌||◌, ℕ, Bool, true, false, if◌then◌else◌, List, Option, Some, None, Result, Ok, Err, codes, slice_get, is_some}
+use Rattle.std.specs.Prelude.{◌≡◌, ◌≢◌, ◌⊎◌, ◌||◌, ℕ, Bool, true, false, if◌then◌else◌, List, Option, Some, None, Result, Ok, Err, codes, slice_get}
 use Rattle.std.specs.Option.{option_map, option_and_then}
 use Rattle.fetch_store.specs.declared.id.ObjectId.{ObjectId}
 use Rattle.fetch_store.specs.declared.missing.Missing.{Missing}
@@ -208,13 +208,19 @@ standing (Err e) path = None
 abbrev pub IsOfJudging : Error → Type 0
 IsOfJudging e = (e ≡ errors.NoMemory) ⊎ ((cause : UpdateError) × (e ≡ errors.UpdateRefs cause))
 
--- What was received could be taken, and its keep file was being made or stood already: the files tell a tree still, where
--- they did.
+-- What was received could be taken, and its keep file couldn't be made: the files are those found.
 pub record IsMaking (taking : Result State Error) (keep : Option (List ℕ)) (path : List ℕ) (files left : Option Tree) : Type 0 where
   pub state : State
   pub took : taking ≡ Ok state
   pub made : keep ≡ Some path
-  pub told : is_some left ≡ is_some files
+  pub same_files : left ≡ files
+
+-- What was received could be taken, and its keep file stands.
+pub record IsMade (taking : Result State Error) (keep : Option (List ℕ)) (path : List ℕ) (files left : Option Tree) : Type 0 where
+  pub state : State
+  pub took : taking ≡ Ok state
+  pub made : keep ≡ Some path
+  pub stands : AreFiles files left (with_keep (Some path))
 
 -- What was received is taken, and its keep file stands.
 pub record IsTaken (taking : Result State Error) (keep : Option (List ℕ)) (files left : Option Tree) (now : State) : Type 0 where
@@ -229,11 +235,12 @@ is_free_taking (errors.KeepFile path) = true
 is_free_taking errors.NoMemory = true
 is_free_taking e = false
 
--- Nothing was taken: for its reason, with the files as found; or the keep file couldn't be made; or memory ran out.
+-- Nothing was taken: for its reason, with the files as found; or the keep file couldn't be made; or memory ran out, and the
+-- keep file stands where it was made.
 pub record IsUntaken (took : Result State Error) (keep : Option (List ℕ)) (files left : Option Tree) (e : Error) : Type 0 where
   pub why : is_free_taking e ≡ false → (took ≡ Err e) × (left ≡ files)
   pub making : (path : List ℕ) → e ≡ errors.KeepFile path → IsMaking took keep path files left
-  pub stands : (left ≡ files) ⊎ ((path : List ℕ) × IsMaking took keep path files left)
+  pub stands : (left ≡ files) ⊎ ((path : List ℕ) × IsMade took keep path files left)
 
 -- ---- a fetch that was refused after its conversation
 
@@ -254,17 +261,17 @@ is_late e = false
 abbrev pub is_free_settling : Error → Bool
 is_free_settling e = is_free_taking e || (is_client e || (is_stopped e || (is_late e || is_unlisted e)))
 
--- All is as found, or the keep file was being made, or all that was received is taken.
+-- All is as found, but for the keep file where that was made, or all that was received is taken.
 abbrev pub IsLeft : State → Result State Error → Option (List ℕ) → Option Tree → Option Tree → State → Type 0
 IsLeft before took keep files left now =
-    ((now ≡ before) × ((left ≡ files) ⊎ ((path : List ℕ) × IsMaking took keep path files left))) ⊎ IsTaken took keep files left now
+    ((now ≡ before) × ((left ≡ files) ⊎ ((path : List ℕ) × IsMade took keep path files left))) ⊎ IsTaken took keep files left now
 
--- The references have moved, and the keep file that was to go couldn't be removed.
+-- The references have moved, and the keep file that was to go couldn't be removed: it stands.
 pub record IsMoved (all : Result (Outcome × State) Error) (git_dir path : List ℕ) (files left : Option Tree) (now : State) : Type 0 where
   pub outcome : Outcome
   pub by : all ≡ Ok (outcome, now)
   pub removed : removed_in git_dir outcome.status ≡ Some path
-  pub told : is_some left ≡ is_some files
+  pub stands : AreFiles files left (with_keep (Some path))
 
 -- Why it was refused, and what that leaves: of all of it, of the taking, and of the keep file that is made.
 pub record IsUnsettledBy (all : Result (Outcome × State) Error) (took : Result State Error) (keep : Option (List ℕ)) (git_dir : List ℕ) (files left : Option Tree) (before now : State) (e : Error) : Type 0 where

@@ -1,5 +1,5 @@
 -- A fetch in steps: a remote with its peer, what is prepared over them, and what goes on from there.
-use Rattle.std.specs.Prelude.{◌≡◌, ℕ, Bool, true, false, List, [], ◌++◌, Option, None, Result, Ok, Err}
+use Rattle.std.specs.Prelude.{◌≡◌, ◌⊎◌, ℕ, Bool, true, false, List, [], ◌++◌, Option, None, Result, Ok, Err}
 use Rattle.std.specs.Borrow.{Fml, RattleType, MutBor, Lends}
 use mir.Syntax.{named}
 use Rattle.fetch_store.specs.Faults.{Faults, Rose, Counts}
@@ -26,6 +26,7 @@ use Rattle.fetch_remote.specs.Judging.{IsTold}
 use Rattle.fetch_remote.specs.Negotiated.{AreHeld}
 use Rattle.fetch_remote.specs.Remotes.{RemoteValue}
 use Rattle.fetch_remote.specs.Repositories.{State, Setup}
+use Rattle.fetch_remote.specs.Settling.{IsUnsettled}
 use Rattle.fetch_remote.specs.Stages.{inquiry_of, bound_of, wants_in, pack_stage}
 use Rattle.fetch_remote.specs.contracts.fetching.connection.Connection.{the_row}
 use Rattle.fetch_remote.specs.declared.fetching.connection.Connection.{Connection}
@@ -154,3 +155,21 @@ pub record IsReceived (answers : Bool) (mid new : Option Talk) (known : Option (
   pub left : IsLeft g.options.dry_run (manner_in g).packed g.setup before after received judged.updates
   pub kept : IsKept g files files_left received judged.updates outcome
   pub safe : IsSafe g before after outcome.ref_map
+
+-- A call that goes on with what was listed broke off in its conversation: all is as found.
+pub record IsCutOff (answers : Bool) (mid new : Option Talk) (files files_left : Option Tree) (g : Given) (before after : State) (listed : Listed) (e : ReceiveError) : Type 0 where
+  pub broke : Breaks is_free_receiving is_stopped answers (bound_of g) mid new (pending_of listed) (pack_stage g before (shown listed)) e
+  pub same_state : after ≡ before
+  pub same_files : files_left ≡ files
+
+-- It held its conversation to the end, and what was received was refused after it.
+pub record IsTurnedDown (answers : Bool) (mid new : Option Talk) (known : Option (List Worktree)) (files files_left : Option Tree) (g : Given) (before after : State) (listed : Listed) (e : ReceiveError) : Type 0 where
+  pub received : Option Received
+  pub rest : List ℕ
+  pub pack : Concludes answers (bound_of g) mid new (pending_of listed) (pack_stage g before (shown listed)) received rest
+  pub unsettled : IsUnsettled known files files_left g.setup (manner_in g) before (wants_in g before listed.ref_map) (shown listed) received after e
+
+-- Why a call that goes on with what was listed was refused, and what it leaves.
+abbrev pub IsUnreceived : Bool → Option Talk → Option Talk → Option (List Worktree) → Option Tree → Option Tree → Given → State → State → Listed → ReceiveError → Type 0
+IsUnreceived answers mid new known files files_left g before after listed e =
+    IsCutOff answers mid new files files_left g before after listed e ⊎ IsTurnedDown answers mid new known files files_left g before after listed e

@@ -1,5 +1,5 @@
 -- Input that is promised a fetch.
-use Rattle.std.specs.Prelude.{◌≡◌, ℕ, List, [], ◌++◌, Option, Some, None, Ok, IfSome, Contains}
+use Rattle.std.specs.Prelude.{◌≡◌, ◌⊎◌, ℕ, List, [], ◌++◌, Option, Some, None, Ok, IfSome, Contains}
 use Rattle.fetch_store.specs.Missing.{missing}
 use Rattle.fetch_store.specs.Stores.{collision}
 use Rattle.fetch_store.specs.declared.id.ObjectId.{ObjectId}
@@ -10,7 +10,7 @@ use Rattle.fetch_update.specs.declared.worktrees.Worktree.{Worktree}
 use Rattle.fetch_wire.specs.Talks.{Talk}
 use Rattle.fetch_wire.specs.declared.listings.mapping.Mapping.{Mapping}
 use Rattle.fetch_wire.specs.declared.listings.mapping.RefMap.{RefMap}
-use Rattle.fetch_conversation.specs.Conversation.{answer_in}
+use Rattle.fetch_conversation.specs.Conversation.{answer_in, IsUnheard}
 use Rattle.fetch_conversation.specs.declared.conversing.Received.{Received}
 use Rattle.fetch_remote.specs.Fetched.{objects_with}
 use Rattle.fetch_remote.specs.Fetching.{manner_in}
@@ -53,6 +53,9 @@ pub record HasValidInput (old new : Option Talk) (known : Option (List Worktree)
   pub after : Talk
   pub told_before : old ≡ Some before
   pub told_after : new ≡ Some after
+  pub heard : List ℕ
+  pub hears : after.heard ≡ before.heard ++ heard
   pub said : List ℕ
   pub gave : after.given ≡ before.given ++ said
-  pub valid : (trees : List Worktree) → IsTold known trees → IsValidInput g trees s (said ++ after.to_come)
+  -- They are replies to all requests of the fetch, or at least to each that was heard whole.
+  pub valid : (trees : List Worktree) → IsTold known trees → IsValidInput g trees s (said ++ after.to_come) ⊎ IsUnheard (bound_of g) (conversation g s) heard (said ++ after.to_come)

@@ -10,15 +10,16 @@ use thiserror::Error as ThisError;
 /// What failed of the configuration file, once the branches were gone.
 #[derive(Clone, Copy, Debug, PartialEq, Eq, ThisError)]
 pub enum CleanupError {
-    /// The new text couldn't be written to `config.lock`.
+    /// The new text couldn't be written to `config.lock`: the tree that the files tell is as before.
     #[error("the configuration couldn't be written")]
     Write,
-    /// `config.lock` couldn't be put in the place of `config`.
+    /// `config.lock` couldn't be put in the place of `config`: it stands beside that, with the new text.
     #[error("the configuration couldn't be replaced")]
     Commit,
 }
 
-/// Why branches weren't deleted. After `Cleanup` they are gone, and after `NoMemory` they may be; else all is as before.
+/// Why branches weren't deleted. After `Cleanup` they are gone, and after `NoMemory` they may be; else all is as before, and so
+/// are the files.
 #[derive(Debug, Drop, ThisError)]
 pub enum Error {
     /// The first name that isn't below `refs/heads/`.

@@ -15,6 +15,7 @@ ghost use Rattle.fetch_specs.specs.Categories.{shortened};
 ghost use Rattle.fetch_config.specs.Print.{text_of};
 ghost use Rattle.fetch_lookup.specs.Removed.{without_branches};
 ghost use Rattle.fetch_refs.specs.Names.{name_cmp};
+ghost use Rattle.fetch_remote.specs.Judging.{IsOnce};
 ghost use Rattle.fetch_remote.specs.Deleting as spec;
 ghost use Rattle.fetch_remote.specs.DeletionSteps as steps;
 ghost use Rattle.fetch_remote.specs.Repositories.{state_of, setup_of, in_force};
@@ -66,7 +67,7 @@ impl Repository {
         ensures nothing { names.now ≡ [] → (result ≡ Ok tt) × ((self.new ≡ self.old) × ((worktrees.new ≡ worktrees.old) × (files.new ≡ files.old))) }
         ensures deleted { names.now ≢ [] → OnOk result (spec.IsDeleted (W.told worktrees.old) (F.told files.old) (F.told files.new) (spec.in_order names.now) self.old self.new) }
         ensures refused { IfErr result (spec.IsRefused (W.told worktrees.old) (F.told files.old) (setup_of self.old).settings.git_dir (spec.in_order names.now)) }
-        ensures left { IfErr result (spec.Leaves (F.told files.old) (setup_of self.old).settings.git_dir (spec.in_order names.now) (state_of self.old) (state_of self.new)) }
+        ensures left { IfErr result (spec.Leaves (F.told files.old) (F.told files.new) (setup_of self.old).settings.git_dir (spec.in_order names.now) (state_of self.old) (state_of self.new)) }
         ensures setup { OnErr result (setup_of self.new ≡ setup_of self.old) }
         ensures unasked { IfErr result (λ e. OnTrue (spec.is_unlocal e) (worktrees.new ≡ worktrees.old)) }
         ensures listing { IsErrOf result errors.WorktreeListing → Rose (W.listing worktrees.old) (W.listing worktrees.new) }
@@ -76,9 +77,10 @@ impl Repository {
         ensures open_repo_counts { Counts (W.open_repo worktrees.old) (W.open_repo worktrees.new) }
         ensures follow_symref_counts { Counts (W.follow_symref worktrees.old) (W.follow_symref worktrees.new) }
         ensures told { W.told worktrees.new ≡ W.told worktrees.old }
+        ensures asked { IsOnce (W.asked worktrees.old) (W.asked worktrees.new) }
         ensures untouched { IfErr result (λ e. OnTrue (spec.is_before_files e) (files.new ≡ files.old)) }
         ensures file_fault { IfErr result (λ e. OnTrue (spec.is_file_fault e) (Rose (F.faults files.old) (F.faults files.new))) }
-        ensures in_the_way { IfErr result (spec.IsInTheWay (F.may_fail files.old) (F.told files.old) (setup_of self.old).settings.git_dir) }
+        ensures in_the_way { IfErr result (spec.IsInTheWay (F.may_fail files.old) (F.told files.old) (F.told files.new) (setup_of self.old).settings.git_dir) }
         ensures counts { Counts (F.faults files.old) (F.faults files.new) }
         ensures tree { is_some (F.told files.new) ≡ is_some (F.told files.old) }
         ensures may_fail { F.may_fail files.new ≡ F.may_fail files.old }
@@ -101,10 +103,10 @@ impl Repository {
     ) -> Result<(), Error>
         ensures deleted { OnOk result (steps.IsGone (F.told files.old) (F.told files.new) names self.old self.new) }
         ensures refused { IfErr result (steps.IsNotGone (F.told files.old) (setup_of self.old).settings.git_dir names) }
-        ensures left { IfErr result (spec.Leaves (F.told files.old) (setup_of self.old).settings.git_dir names (state_of self.old) (state_of self.new)) }
+        ensures left { IfErr result (spec.Leaves (F.told files.old) (F.told files.new) (setup_of self.old).settings.git_dir names (state_of self.old) (state_of self.new)) }
         ensures setup { OnErr result (setup_of self.new ≡ setup_of self.old) }
         ensures file_fault { IfErr result (λ e. OnTrue (spec.is_file_fault e) (Rose (F.faults files.old) (F.faults files.new))) }
-        ensures in_the_way { IfErr result (spec.IsInTheWay (F.may_fail files.old) (F.told files.old) (setup_of self.old).settings.git_dir) }
+        ensures in_the_way { IfErr result (spec.IsInTheWay (F.may_fail files.old) (F.told files.old) (F.told files.new) (setup_of self.old).settings.git_dir) }
         ensures counts { Counts (F.faults files.old) (F.faults files.new) }
         ensures tree { is_some (F.told files.new) ≡ is_some (F.told files.old) }
         ensures may_fail { F.may_fail files.new ≡ F.may_fail files.old }
@@ -278,8 +280,9 @@ fn replace_file<F: Files>(
 ) -> Result<(), Error>
     ensures ok { OnOk result (IfSome (F.told files.old) (λ t. option_and_then (λ u. renamed u (parts_of change.now.lock) (parts_of path.now)) (written t (parts_of change.now.lock) change.now.text) ≡ F.told files.new)) }
     ensures refused { IfErr result (steps.IsCleanup names) }
+    ensures left { IfErr result (steps.LeavesTree (F.told files.old) (F.told files.new) change.now.lock change.now.text) }
     ensures fault { IfErr result (λ e. OnTrue (spec.is_file_fault e) (Rose (F.faults files.old) (F.faults files.new))) }
-    ensures in_the_way { IfErr result (steps.IsBarred (F.may_fail files.old) (F.told files.old) change.now.lock path.now change.now.text) }
+    ensures in_the_way { IfErr result (steps.IsBarred (F.may_fail files.old) (F.told files.old) (F.told files.new) change.now.lock path.now change.now.text) }
     ensures counts { Counts (F.faults files.old) (F.faults files.new) }
     ensures tree { is_some (F.told files.new) ≡ is_some (F.told files.old) }
     ensures may_fail { F.may_fail files.new ≡ F.may_fail files.old }

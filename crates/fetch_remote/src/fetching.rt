@@ -19,6 +19,7 @@ ghost use Rattle.fetch_conversation.specs.declared.fetch.Error.TheVariants as re
 ghost use Rattle.fetch_conversation.specs.declared.prepare.Error.TheVariants as prepare_errors;
 ghost use Rattle.fetch_conversation.specs.declared.ref_map.Error.TheVariants as ref_map_errors;
 ghost use Rattle.fetch_update.specs.declared.update.Error.TheVariants as update_errors;
+ghost use Rattle.fetch_remote.specs.Judging.{IsOnce};
 ghost use Rattle.fetch_remote.specs.Errors.{is_free, is_yes};
 ghost use Rattle.fetch_remote.specs.Fetched.{IsFetched};
 ghost use Rattle.fetch_remote.specs.Fetching.{manner_of, message_of, places_of};
@@ -53,7 +54,8 @@ impl Remote {
     ///
     /// After an error the references and their logs are as they were found, but for `RemovePackKeepFile`: then they have
     /// moved. Objects and border are as found, unless the error came after the taking: then they are with all that was
-    /// received, and the keep file stands. Where a call on the files was refused, these are as that call left them.
+    /// received, and the keep file stands. It stands too where memory runs out once it was made; where it couldn't be made,
+    /// the tree that the files tell is as found, and where it couldn't be removed, it is with the keep file.
     // Many arguments: the public signature. Each is lent by itself, so that a clause speaks of each before and after.
     // Long: one line an option and an argument.
     pub fn fetch<R: Threads + Sync, P: Peer, I: Interrupt, F: Files, W: Worktrees>(
@@ -93,6 +95,7 @@ impl Remote {
         ensures removable { (path : List ℕ) → IsErrOf result (errors.Receive (receive_errors.RemovePackKeepFile path)) → F.may_fail files.old ≡ false → F.told files.old ≡ None }
         ensures may_fail { F.may_fail files.new ≡ F.may_fail files.old }
         ensures told { W.told worktrees.new ≡ W.told worktrees.old }
+        ensures asked { IsOnce (W.asked worktrees.old) (W.asked worktrees.new) }
         ensures listing_counts { Counts (W.listing worktrees.old) (W.listing worktrees.new) }
         ensures open_repo_counts { Counts (W.open_repo worktrees.old) (W.open_repo worktrees.new) }
         ensures follow_symref_counts { Counts (W.follow_symref worktrees.old) (W.follow_symref worktrees.new) }

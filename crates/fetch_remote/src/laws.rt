@@ -1,7 +1,7 @@
 //! Laws: what holds of the definitions that the contract of a fetch speaks of. Each is the contract of a function
-//! without a body.
+//! without a body, but that the last one calls what it speaks of.
 
-ghost use Rattle.std.specs.Prelude.{◌≡◌, ◌≢◌, ℕ, Bool, List, ◌++◌, Option, Some, None, Ok, true, false, Contains, IfSome};
+ghost use Rattle.std.specs.Prelude.{◌≡◌, ◌≢◌, ℕ, Bool, List, ◌++◌, map as each, Option, Some, None, Ok, true, false, Contains, IfSome, IfOk, IfErr};
 ghost use Rattle.std.specs.FinMap as map;
 ghost use Rattle.fetch_pack.specs.Reading.{Contents};
 ghost use Rattle.fetch_store.specs.Closed.{IsClosed, IsStored, Grows};
@@ -9,6 +9,9 @@ ghost use Rattle.fetch_store.specs.Honest.{IsHonest};
 ghost use Rattle.fetch_store.specs.Stores.{collision};
 ghost use Rattle.fetch_store.specs.Trees.{Tree};
 ghost use Rattle.fetch_store.specs.declared.id.ObjectId.{ObjectId};
+ghost use Rattle.fetch_store.specs.declared.id.Kind.{Kind};
+ghost use Rattle.fetch_specs.specs.Matches.{mappings_of};
+ghost use Rattle.fetch_specs.specs.Specs.{Spec};
 ghost use Rattle.fetch_refs.specs.declared.edit.RefEdit.{RefEdit};
 ghost use Rattle.fetch_refs.specs.declared.target.Target.TheVariants.{Object};
 ghost use Rattle.fetch_update.specs.Writes.{gives};
@@ -19,6 +22,8 @@ ghost use Rattle.fetch_wire.specs.Talks.{Talk};
 ghost use Rattle.fetch_wire.specs.declared.greetings.handshake.Capability.{Capability};
 ghost use Rattle.fetch_wire.specs.declared.listings.mapping.RefMap.{RefMap};
 ghost use Rattle.fetch_wire.specs.declared.listings.reference.Ref.{Ref};
+ghost use Rattle.fetch_wire.specs.References.{name_in};
+ghost use Rattle.fetch_conversation.specs.Mapped.{ref_mappings};
 ghost use Rattle.fetch_conversation.specs.Writing.{Answer, listing_text, answers_text};
 ghost use Rattle.fetch_conversation.specs.declared.conversing.Received.{Received};
 ghost use Rattle.fetch_remote.specs.Deleting.{IsDeleted};
@@ -27,6 +32,7 @@ ghost use Rattle.fetch_remote.specs.Fetching.{fetched_in, requests_in};
 ghost use Rattle.fetch_negotiate.specs.Rounds.{haves_in};
 ghost use Rattle.fetch_remote.specs.Form.{Given};
 ghost use Rattle.fetch_remote.specs.Lasting.{updates_in, AcceptsNone, AreAlike, with_packed};
+ghost use Rattle.fetch_remote.specs.Mapped.{MapsEach};
 ghost use Rattle.fetch_remote.specs.Repositories.{RepositoryValue, State, held};
 ghost use Rattle.fetch_remote.specs.Requested.{AsksInOrder};
 ghost use Rattle.fetch_remote.specs.Serving.{listed_by, IsAllStored, IsServed, told_listed, told_served, as_dry_run, told_dry};
@@ -34,11 +40,21 @@ ghost use Rattle.fetch_remote.specs.Settling.{connected, pack_of};
 ghost use Rattle.fetch_remote.specs.Stages.{wants_in};
 ghost use Rattle.fetch_remote.specs.Valid.{IsTakeable, AreJudgeable, policy_with, IsValidInput};
 ghost use Rattle.fetch_remote.specs.declared.fetching.outcome.Outcome.{Outcome};
+ghost use Rattle.fetch_remote.specs.declared.repository.open_error.OpenError.TheVariants as open_errors;
+
+use crate::repository::Repository;
+use crate::repository::open_error::OpenError;
+use std::alloc::Global;
 
 /// What a peer is sent is the first line, the listing request, and then the fetch requests for what is wanted of what it
 /// listed, one a round, each exactly where nothing refuses it; and nothing else.
 pub fn a_fetch_asks_in_order()
     ensures { (g : Given) (s : State) (stream : List ℕ) → AsksInOrder g s stream (requests_in g s stream) }
+{}
+
+/// Each match of a refspec is a mapping of what was listed, in order, with the match's source, destination and refspec.
+pub fn every_match_is_mapped()
+    ensures { (remote : ℕ) (specs : List Spec) (kind : Kind) (refs : List Ref) → MapsEach remote (mappings_of specs (each name_in refs) kind) (ref_mappings remote specs kind refs) }
 {}
 
 /// A pack that is honest for what a fetch wants and for the haves of all its rounds is never told as disconnected in a
@@ -99,3 +115,12 @@ pub fn a_second_deletion_changes_nothing()
     ensures { (trees more : Option (List Worktree)) (t u v : Tree) (names : List (List ℕ)) (before between after : RepositoryValue) → IsDeleted trees (Some t) (Some u) names before between → IsDeleted more (Some u) (Some v) names between after
         → (after ≡ between) × (v ≡ u) }
 {}
+
+/// `from_parts` of a repository's parts is that repository again. Memory alone may refuse it.
+#[tactic(auto, using(crate::proofs::Overrides::memory_alone))]
+pub fn parts_make_their_repository(alloc: Global, repo: Repository) -> Result<Repository, OpenError>
+    ensures same { IfOk result (λ again. again ≡ repo) }
+    ensures refused { IfErr result (λ e. e ≡ open_errors.NoMemory) }
+{
+    Repository::from_parts(alloc, repo.into_parts())
+}

@@ -8,6 +8,7 @@ mod deleting;
 mod fetching;
 pub mod find;
 pub mod laws;
+pub mod open;
 pub mod phases;
 pub mod remote;
 mod remotes;
@@ -16,7 +17,7 @@ pub mod upstream;
 
 pub use deleting::deletion::deletable;
 pub use fetch_conversation::{
-    Negotiate, agent, algorithm, fetch, prepare, ref_map, rejects_shallow,
+    Negotiate, NoProgress, Progress, agent, algorithm, fetch, prepare, ref_map, rejects_shallow,
 };
 pub use fetch_lookup::{Name, Names, name, push, save};
 pub use fetching::connection::Connection;

@@ -110,14 +110,7 @@ impl Remote {
     pub fn try_clone(&self) -> Result<Remote, NoMemory>
         ensures { IfOk result (λ copy. copy ≡ self.now) }
     {
-        Ok(Remote::of(RemoteParts {
-            name: copy_name(&self.parts.name)?,
-            urls: self.parts.urls.try_clone_with(Text::try_clone)?,
-            push_urls: self.parts.push_urls.try_clone_with(Text::try_clone)?,
-            fetch_specs: self.parts.fetch_specs.try_clone_with(RefSpec::try_clone)?,
-            push_specs: self.parts.push_specs.try_clone_with(RefSpec::try_clone)?,
-            fetch_tags: self.parts.fetch_tags,
-        }))
+        Ok(Remote::of(self.parts.try_clone()?))
     }
 
     /// The first address, or an empty one where there is none.
@@ -128,15 +121,5 @@ impl Remote {
             [url, ..] => url.as_bytes(),
             [] => &[],
         }
-    }
-}
-
-/// A copy of a name that may be absent.
-fn copy_name(name: &Option<Name>) -> Result<Option<Name>, NoMemory>
-    ensures { IfOk result (λ copy. copy ≡ name.now) }
-{
-    match name {
-        Some(name) => Ok(Some(name.try_clone()?)),
-        None => Ok(None),
     }
 }

@@ -9,7 +9,7 @@ pub mod settings;
 pub mod thread_safe;
 pub mod threads;
 
-ghost use Rattle.std.specs.Prelude.{◌≡◌, ◌↔◌, IfOk, IfErr, IfSome, OnOk, OnErr, MatchOption, IsOkUnless, IsTrue, IsNone, Some, None, true, not, option_map};
+ghost use Rattle.std.specs.Prelude.{◌≡◌, ◌↔◌, IfOk, IfErr, IfSome, OnOk, OnErr, MatchOption, IsOkUnless, IsTrue, IsNone, Some, None, true, false, not, option_map};
 ghost use Rattle.std.specs.FinSet as set;
 ghost use Rattle.fetch_store.specs.Stores.{AreOf, collision};
 ghost use Rattle.fetch_remote.specs.declared.repository.open_error.OpenError.TheVariants as errors;
@@ -21,7 +21,7 @@ ghost use Rattle.fetch_remote.specs.RepositoryValues.{are_overrides};
 use crate::remotes::resolving::resolved;
 use crate::repository::open_error::OpenError;
 use crate::repository::settings::Settings;
-use fetch_config::{File, Meta};
+use fetch_config::{File, Meta, Origin};
 use fetch_refs::{Refs, Signature};
 use fetch_store::{
     Border, Kind, List, NoMemory, Object, ObjectId, Store, StoreError, Text, TryClone,
@@ -41,6 +41,28 @@ pub struct OpenOptions {
 }
 
 impl OpenOptions {
+    /// No overrides, nothing before the repository's own configuration, and a setting that can't be read is refused.
+    pub fn new(alloc: Global) -> OpenOptions
+        ensures { result ≡ spec.open_options false }
+    {
+        OpenOptions {
+            lenient_config: false,
+            api_config_overrides: List::new(alloc),
+            base: empty_base(alloc),
+        }
+    }
+
+    /// The same, but that a setting that can't be read is taken as absent.
+    pub fn lenient(alloc: Global) -> OpenOptions
+        ensures { result ≡ spec.open_options true }
+    {
+        OpenOptions {
+            lenient_config: true,
+            api_config_overrides: List::new(alloc),
+            base: empty_base(alloc),
+        }
+    }
+
     /// Equal options.
     pub fn try_clone(&self, alloc: Global) -> Result<OpenOptions, NoMemory>
         ensures { IfOk result (λ copy. copy ≡ self.now) }
@@ -51,6 +73,19 @@ impl OpenOptions {
             base: self.base.try_clone(alloc)?,
         })
     }
+}
+
+/// A configuration of the machine without sections.
+fn empty_base(alloc: Global) -> File
+    ensures { result ≡ spec.no_base }
+{
+    let meta = Meta {
+        source: Origin::System,
+        level: 0,
+        path: None,
+        trusted: true,
+    };
+    File::new(alloc, meta).unwrap()
 }
 
 /// What a repository is made of.
@@ -120,7 +155,7 @@ impl Model for Repository {
       setup = record { base = r.base; local = r.local; overrides = r.overrides; workdir = r.workdir; settings = r.settings; logging = logging_of r.settings.config r.workdir };
     } };
 
-    ghost invariant = { λ r. IsWhole r.store.hash r.settings r.base r.local r.overrides };
+    ghost invariant = { λ r. IsWhole r.store.hash r.refs.hash r.settings r.base r.local r.overrides };
 }
 
 /// A local file, and the configuration that it is in force with.
@@ -175,6 +210,45 @@ impl Repository {
                 committer,
             },
         })
+    }
+
+    /// The parts that it is made of: `from_parts` of them is this repository again. The room in the store is kept.
+    pub fn into_parts(self) -> Parts
+        ensures same_hash { result.store.hash ≡ result.refs.hash }
+        ensures accepted { are_overrides result.options.api_config_overrides ≡ true }
+        ensures state { spec.state_in result ≡ state_of self }
+        ensures setup { spec.setup_in result ≡ Some (setup_of self) }
+    {
+        let Repository {
+            store,
+            refs,
+            border,
+            base,
+            local,
+            overrides,
+            workdir,
+            settings,
+        } = self;
+        let Settings {
+            lenient,
+            git_dir,
+            committer,
+            ..
+        } = settings;
+        Parts {
+            store,
+            refs,
+            border,
+            local,
+            committer,
+            git_dir,
+            workdir,
+            options: OpenOptions {
+                lenient_config: lenient,
+                api_config_overrides: overrides,
+                base,
+            },
+        }
     }
 
     /// An equal repository.

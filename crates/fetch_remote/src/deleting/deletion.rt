@@ -3,6 +3,7 @@
 ghost use Rattle.std.specs.Prelude.{◌≡◌, IfOk, IfErr, IsErrOf, OnOk};
 ghost use Rattle.std.specs.Bool.{OnTrue};
 ghost use Rattle.fetch_store.specs.Faults.{Rose, Counts};
+ghost use Rattle.fetch_remote.specs.Judging.{IsOnce};
 ghost use Rattle.fetch_remote.specs.Deleting.{AreFree, in_order, is_unlocal};
 ghost use Rattle.fetch_remote.specs.Undeletable.{IsUndeletable};
 ghost use Rattle.fetch_remote.specs.declared.delete.Error.TheVariants as errors;
@@ -28,6 +29,7 @@ pub fn deletable<W: Worktrees>(
     ensures refused { IfErr result (IsUndeletable (W.told worktrees.old) (in_order names.now)) }
     ensures unasked { IfErr result (λ e. OnTrue (is_unlocal e) (worktrees.new ≡ worktrees.old)) }
     ensures told { W.told worktrees.new ≡ W.told worktrees.old }
+    ensures asked { IsOnce (W.asked worktrees.old) (W.asked worktrees.new) }
     ensures listing_counts { Counts (W.listing worktrees.old) (W.listing worktrees.new) }
     ensures open_repo_counts { Counts (W.open_repo worktrees.old) (W.open_repo worktrees.new) }
     ensures follow_symref_counts { Counts (W.follow_symref worktrees.old) (W.follow_symref worktrees.new) }

@@ -66,6 +66,7 @@ fn edit(
     ensures ok { OnOk result (refs.new ≡ after committer.now logging packed refs.old edits.now) }
     ensures refusal { MatchOption (refusal_of refs.old.names edits.now) (IfErr result (λ e. e ≡ errors.NoMemory)) (λ e. IsErrAnd result (IsUnlessMemory e)) }
     ensures err { OnErr result (refs.new ≡ refs.old) }
+    ensures hash { refs.new.hash ≡ refs.old.hash }
 {
     let prepared = refs.prepare(edits, committer, logging, packed)?;
     prepared.commit();

@@ -1,13 +1,16 @@
 //! Branches that can't be deleted: those that are no local ones, and those that are checked out.
 
-ghost use Rattle.std.specs.Prelude.{◌≡◌, None, find, IfOk, IfErr, IsErrOf, OnOk};
+ghost use Rattle.std.specs.Prelude.{◌≡◌, ℕ, List as Items, None, true, cond, find, IfOk, IfErr, IsErrOf, OnOk};
+ghost use Rattle.std.specs.BTreeMap.{is_at};
+ghost use Rattle.std.specs.BTreeSet.{contains};
 ghost use Rattle.fetch_store.specs.Faults.{Rose, Counts};
 ghost use Rattle.fetch_lookup.specs.Ordered.{placed};
 ghost use Rattle.fetch_refs.specs.Names.{name_cmp};
 ghost use Rattle.fetch_update.specs.Trees.{directories_of};
 ghost use Rattle.fetch_update.specs.Trees as tree_spec;
+ghost use Rattle.fetch_remote.specs.Judging.{IsOnce};
 ghost use Rattle.fetch_remote.specs.Deleting as spec;
-ghost use Rattle.fetch_remote.specs.DeletionSteps.{AreUnheld, IsHeld, IsHeldIn, IsUnlocal, directory_of, listing_refusal};
+ghost use Rattle.fetch_remote.specs.DeletionSteps.{AreBranches, AreUnheld, IsHeld, IsHeldIn, IsUnlocal, directory_of, listing_refusal};
 ghost use Rattle.fetch_remote.specs.declared.delete.Error.TheVariants as errors;
 
 use crate::delete::Error;
@@ -22,15 +25,14 @@ pub(crate) fn check_local(names: &[FullName]) -> Result<(), Error>
     ensures ok { OnOk result (find spec.is_foreign names.now ≡ None) }
     ensures refused { IfErr result (IsUnlocal (find spec.is_foreign names.now)) }
 {
-    let [first, others @ ..] = names else {
-        return Ok(());
-    };
-    if is_foreign(first) {
-        return Err(Error::NotLocal {
-            name: first.try_clone()?,
-        });
+    for name in names {
+        if is_foreign(name) {
+            return Err(Error::NotLocal {
+                name: name.try_clone()?,
+            });
+        }
     }
-    check_local(others)
+    Ok(())
 }
 
 #[tactic(auto, unfolding(fetch_specs::specs::Categories::heads))]
@@ -49,6 +51,7 @@ pub(crate) fn check_unheld<W: Worktrees>(
     ensures ok { OnOk result (AreUnheld (W.told worktrees.old) names.now) }
     ensures refused { IfErr result (IsHeld (W.told worktrees.old) names.now) }
     ensures told { W.told worktrees.new ≡ W.told worktrees.old }
+    ensures asked { IsOnce (W.asked worktrees.old) (W.asked worktrees.new) }
     ensures listing_counts { Counts (W.listing worktrees.old) (W.listing worktrees.new) }
     ensures open_repo_counts { Counts (W.open_repo worktrees.old) (W.open_repo worktrees.new) }
     ensures follow_symref_counts { Counts (W.follow_symref worktrees.old) (W.follow_symref worktrees.new) }
@@ -78,22 +81,42 @@ fn check_in(alloc: Global, trees: &[Worktree], names: &[FullName]) -> Result<(),
     ensures ok { OnOk result (find (tree_spec.is_checked_out trees.now) names.now ≡ None) }
     ensures refused { IfErr result (IsHeldIn trees.now names.now) }
 {
-    let [first, others @ ..] = names else {
-        return Ok(());
-    };
-    if is_checked_out(trees, first) {
-        return Err(Error::CheckedOut {
-            name: first.try_clone()?,
-            worktree_dirs: directories(alloc, trees, first)?,
-        });
+    let branches = branches_of(alloc, trees)?;
+    for name in names {
+        if is_among(&branches, trees, name) {
+            return Err(Error::CheckedOut {
+                name: name.try_clone()?,
+                worktree_dirs: directories(alloc, trees, name)?,
+            });
+        }
     }
-    check_in(alloc, trees, others)
+    Ok(())
 }
 
-fn is_checked_out(trees: &[Worktree], name: &FullName) -> bool
+/// The branches that are checked out in the work trees.
+fn branches_of(alloc: Global, trees: &[Worktree]) -> Result<BTreeSet<FullName>, NoMemory>
+    ensures { IfOk result (λ branches. AreBranches trees.now branches) }
+{
+    let mut branches = BTreeSet::new(alloc);
+    for tree in trees {
+        add_branch(&mut branches, tree.branch.try_clone()?)?;
+    }
+    Ok(branches)
+}
+
+fn add_branch(branches: &mut BTreeSet<FullName>, branch: FullName) -> Result<(), NoMemory>
+    ensures { (name : Items ℕ) → OnOk result (contains name_cmp branches.new name ≡ cond (is_at (name_cmp branch) name) true (contains name_cmp branches.old name)) }
+{
+    branches.insert(branch)?;
+    Ok(())
+}
+
+/// Whether a branch is one of them.
+fn is_among(branches: &BTreeSet<FullName>, trees: &[Worktree], name: &FullName) -> bool
+    requires { AreBranches trees.now branches.now }
     ensures { result ≡ tree_spec.is_checked_out trees.now name.now }
 {
-    trees.iter().any(|tree| tree.branch == *name)
+    branches.contains(name)
 }
 
 /// Where a branch is checked out, in ascending order.

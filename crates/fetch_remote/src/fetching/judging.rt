@@ -5,7 +5,7 @@ ghost use Rattle.fetch_store.specs.Faults.{Rose, Counts};
 ghost use Rattle.fetch_update.specs.Policy.{policy_over};
 ghost use Rattle.fetch_update.specs.declared.update.Error.TheVariants as update_errors;
 ghost use Rattle.fetch_conversation.specs.declared.fetch.Error.TheVariants as errors;
-ghost use Rattle.fetch_remote.specs.Judging.{Judges, IsTold, is_free_judging};
+ghost use Rattle.fetch_remote.specs.Judging.{IsOnce, Judges, IsTold, is_free_judging};
 
 use crate::fetch;
 use fetch_refs::Refs;
@@ -30,6 +30,7 @@ pub fn judge<O: Objects, W: Worktrees>(
 ) -> Result<update::Outcome, fetch::Error>
     ensures judged { Judges (W.told worktrees.old) (λ trees. policy_over refs.now.names (O.graph objects.now) message.now tags dry_run trees) ref_map.now result }
     ensures told { W.told worktrees.new ≡ W.told worktrees.old }
+    ensures asked { IsOnce (W.asked worktrees.old) (W.asked worktrees.new) }
     ensures listing_counts { Counts (W.listing worktrees.old) (W.listing worktrees.new) }
     ensures open_repo_counts { Counts (W.open_repo worktrees.old) (W.open_repo worktrees.new) }
     ensures follow_symref_counts { Counts (W.follow_symref worktrees.old) (W.follow_symref worktrees.new) }
@@ -58,6 +59,7 @@ fn listed<W: Worktrees>(worktrees: &mut W) -> Result<Vec<Worktree>, fetch::Error
     ensures list { IfOk result (λ trees. IsTold (W.told worktrees.old) trees.items) }
     ensures refused { IfErr result (λ e. is_free_judging e ≡ true) }
     ensures told { W.told worktrees.new ≡ W.told worktrees.old }
+    ensures asked { IsOnce (W.asked worktrees.old) (W.asked worktrees.new) }
     ensures listing_counts { Counts (W.listing worktrees.old) (W.listing worktrees.new) }
     ensures open_repo_counts { Counts (W.open_repo worktrees.old) (W.open_repo worktrees.new) }
     ensures follow_symref_counts { Counts (W.follow_symref worktrees.old) (W.follow_symref worktrees.new) }

@@ -1,6 +1,6 @@
 //! The keep file of a pack.
 
-ghost use Rattle.std.specs.Prelude.{◌≡◌, ◌⊎◌, ℕ, List, [], None, Some, false, if◌then◌else◌, is_some, IfOk, IfErr, IsErrOf, OnErr, OnOk};
+ghost use Rattle.std.specs.Prelude.{◌≡◌, ◌⊎◌, ℕ, List, [], None, Some, false, if◌then◌else◌, IfOk, IfErr, IsErrOf, OnErr, OnOk};
 ghost use Rattle.std.specs.Option.{option_map};
 ghost use Rattle.fetch_store.specs.Faults.{Rose, Counts};
 ghost use Rattle.fetch_store.specs.FileCalls.{Changes, IsRefused};
@@ -32,7 +32,7 @@ pub struct Kept {
 }
 
 /// Makes the file that keeps the pack of a digest, `<git dir>/objects/pack/pack-<digest>.keep`, and answers its path. The
-/// file is empty. After an error the files are as the refused call left them.
+/// file is empty. After an error the tree that the files tell is as before.
 pub fn make_keep<F: Files>(
     alloc: Global,
     files: &mut F,
@@ -55,8 +55,8 @@ pub fn make_keep<F: Files>(
     }
 }
 
-/// Removes the file that keeps a pack. Takes no memory. After an error, which tells the path, the files are as the refused
-/// call left them.
+/// Removes the file that keeps a pack. Takes no memory. After an error, which tells the path, the tree that the files tell is
+/// as before.
 pub fn remove_keep<F: Files>(files: &mut F, path: Text) -> Result<(), fetch::Error>
     ensures refused { IfErr result (λ e. e ≡ errors.RemovePackKeepFile path) }
     ensures counts { Counts (F.faults files.old) (F.faults files.new) }
@@ -107,7 +107,7 @@ pub(crate) fn release<F: Files>(
     ensures told { IfOk result (λ pack. pack ≡ kept_told updates.now kept) }
     ensures removed { OnOk result (AreFiles (F.told files.old) (F.told files.new) (without_keep (released updates.now (Some kept)))) }
     ensures refused { IfErr result (λ e. (e ≡ errors.RemovePackKeepFile kept.path) × (released updates.now (Some kept) ≡ Some kept.path)) }
-    ensures tree { is_some (F.told files.new) ≡ is_some (F.told files.old) }
+    ensures stands { OnErr result (F.told files.new ≡ F.told files.old) }
     ensures counts { Counts (F.faults files.old) (F.faults files.new) }
     ensures cause { OnErr result (Rose (F.faults files.old) (F.faults files.new)) }
     ensures in_the_way { OnErr result (IsRefused (F.may_fail files.old) (F.told files.old) (λ t. without_file t (parts_of kept.path))) }
@@ -142,7 +142,7 @@ fn path_that_stays<F: Files>(
     ensures told { IfOk result (λ told. told ≡ (if stays then Some path else None)) }
     ensures removed { OnOk result (AreFiles (F.told files.old) (F.told files.new) (without_keep (if stays then None else Some path))) }
     ensures refused { IfErr result (λ e. (e ≡ errors.RemovePackKeepFile path) × (stays ≡ false)) }
-    ensures tree { is_some (F.told files.new) ≡ is_some (F.told files.old) }
+    ensures stands { OnErr result (F.told files.new ≡ F.told files.old) }
     ensures counts { Counts (F.faults files.old) (F.faults files.new) }
     ensures cause { OnErr result (Rose (F.faults files.old) (F.faults files.new)) }
     ensures in_the_way { OnErr result (IsRefused (F.may_fail files.old) (F.told files.old) (λ t. without_file t (parts_of path))) }

@@ -8,13 +8,14 @@ ghost use Rattle.fetch_conversation.specs.Errors.{is_stopped};
 ghost use Rattle.fetch_conversation.specs.Receiving.{IsHeeded};
 ghost use Rattle.fetch_conversation.specs.declared.fetch.Error.TheVariants as receive_errors;
 ghost use Rattle.fetch_update.specs.declared.update.Error.TheVariants as update_errors;
+ghost use Rattle.fetch_remote.specs.Judging.{IsOnce};
 ghost use Rattle.fetch_remote.specs.Errors.{receiving, is_free};
 ghost use Rattle.fetch_remote.specs.Fetched.{IsFetched};
 ghost use Rattle.fetch_remote.specs.Keeping.{made_in, with_keep};
 ghost use Rattle.fetch_remote.specs.Refused.{IsRefused};
 ghost use Rattle.fetch_remote.specs.Repositories.{state_of, setup_of};
 ghost use Rattle.fetch_remote.specs.Settling.{is_early};
-ghost use Rattle.fetch_remote.specs.Steps.{lent, prepared_of, given_by, asked_by, HasListed, IsReceived};
+ghost use Rattle.fetch_remote.specs.Steps.{lent, prepared_of, given_by, asked_by, HasListed, IsReceived, IsUnreceived};
 ghost use Rattle.fetch_remote.specs.Valid.{HasValidInput};
 
 use crate::fetch;
@@ -127,6 +128,8 @@ impl<'a, P: Peer> Prepare<'a, P> {
         // `self.exit.1.0` is the reference to the peer.
         ensures received { IfOk result (λ outcome. IsReceived P.answers (P.told (lent self.entry).now) (P.told self.exit.1.0.now) (W.told worktrees.old) (F.told files.old) (F.told files.new)
             (given_by (prepared_of self.entry) (setup_of repo.old)) (state_of repo.old) (state_of repo.new) (prepared_of self.entry).listed outcome) }
+        ensures unreceived { IfErr result (λ e. IsUnreceived P.answers (P.told (lent self.entry).now) (P.told self.exit.1.0.now) (W.told worktrees.old) (F.told files.old) (F.told files.new)
+            (given_by (prepared_of self.entry) (setup_of repo.old)) (state_of repo.old) (state_of repo.new) (prepared_of self.entry).listed e) }
         // Whatever conversation listed the references, that one and this call together are the fetch.
         ensures fetched { IfOk result (λ outcome. (begun : Option Talk) → HasListed P.answers begun (P.told (lent self.entry).now) (asked_by (prepared_of self.entry) (setup_of repo.old)) (prepared_of self.entry).listed
             → IsFetched P.answers begun (P.told self.exit.1.0.now) (W.told worktrees.old) (F.told files.old) (F.told files.new)
@@ -153,6 +156,7 @@ impl<'a, P: Peer> Prepare<'a, P> {
         ensures removable { (path : List ℕ) → IsErrOf result (receive_errors.RemovePackKeepFile path) → F.may_fail files.old ≡ false → F.told files.old ≡ None }
         ensures may_fail { F.may_fail files.new ≡ F.may_fail files.old }
         ensures told { W.told worktrees.new ≡ W.told worktrees.old }
+        ensures asked { IsOnce (W.asked worktrees.old) (W.asked worktrees.new) }
         ensures listing_counts { Counts (W.listing worktrees.old) (W.listing worktrees.new) }
         ensures open_repo_counts { Counts (W.open_repo worktrees.old) (W.open_repo worktrees.new) }
         ensures follow_symref_counts { Counts (W.follow_symref worktrees.old) (W.follow_symref worktrees.new) }
@@ -189,6 +193,8 @@ pub fn fetch_on<R: Threads + Sync, P: Peer, Q: Progress, I: Interrupt, F: Files,
 ) -> Result<Outcome, fetch::Error>
     ensures received { IfOk result (λ outcome. IsReceived P.answers (P.told peer.old) (P.told peer.new) (W.told worktrees.old) (F.told files.old) (F.told files.new)
         (given_by (record { remote = remote.now; listed = prepared.listed; options = prepared.options }) (setup_of repo.old)) (state_of repo.old) (state_of repo.new) prepared.listed outcome) }
+    ensures unreceived { IfErr result (λ e. IsUnreceived P.answers (P.told peer.old) (P.told peer.new) (W.told worktrees.old) (F.told files.old) (F.told files.new)
+        (given_by (record { remote = remote.now; listed = prepared.listed; options = prepared.options }) (setup_of repo.old)) (state_of repo.old) (state_of repo.new) prepared.listed e) }
     ensures fetched { IfOk result (λ outcome. (begun : Option Talk) → HasListed P.answers begun (P.told peer.old) (asked_by (record { remote = remote.now; listed = prepared.listed; options = prepared.options }) (setup_of repo.old)) prepared.listed
         → IsFetched P.answers begun (P.told peer.new) (W.told worktrees.old) (F.told files.old) (F.told files.new)
         (given_by (record { remote = remote.now; listed = prepared.listed; options = prepared.options }) (setup_of repo.old)) (state_of repo.old) (state_of repo.new) outcome) }
@@ -214,6 +220,7 @@ pub fn fetch_on<R: Threads + Sync, P: Peer, Q: Progress, I: Interrupt, F: Files,
     ensures removable { (path : List ℕ) → IsErrOf result (receive_errors.RemovePackKeepFile path) → F.may_fail files.old ≡ false → F.told files.old ≡ None }
     ensures may_fail { F.may_fail files.new ≡ F.may_fail files.old }
     ensures told { W.told worktrees.new ≡ W.told worktrees.old }
+    ensures asked { IsOnce (W.asked worktrees.old) (W.asked worktrees.new) }
     ensures listing_counts { Counts (W.listing worktrees.old) (W.listing worktrees.new) }
     ensures open_repo_counts { Counts (W.open_repo worktrees.old) (W.open_repo worktrees.new) }
     ensures follow_symref_counts { Counts (W.follow_symref worktrees.old) (W.follow_symref worktrees.new) }

@@ -1,6 +1,6 @@
 //! What a fetch does with what it received.
 
-ghost use Rattle.std.specs.Prelude.{◌≡◌, ℕ, true, false, is_some, IfOk, IfErr, IfSome, IsErrOf, List, OnOk, OnErr, Some, None, Ok};
+ghost use Rattle.std.specs.Prelude.{◌≡◌, ℕ, true, false, IfOk, IfErr, IfSome, IsErrOf, List, OnOk, OnErr, Some, None, Ok};
 ghost use Rattle.std.specs.Option.{option_map};
 ghost use Rattle.fetch_store.specs.Answers.{AnswersBy, AnswersUnless};
 ghost use Rattle.fetch_store.specs.Faults.{Rose, Counts};
@@ -12,7 +12,7 @@ ghost use Rattle.fetch_update.specs.declared.update.Error.TheVariants as update_
 ghost use Rattle.fetch_conversation.specs.ListStage.{shown};
 ghost use Rattle.fetch_conversation.specs.declared.fetch.Error.TheVariants as errors;
 ghost use Rattle.fetch_remote.specs.Errors.{is_memory};
-ghost use Rattle.fetch_remote.specs.Judging.{Judges};
+ghost use Rattle.fetch_remote.specs.Judging.{IsOnce, Judges};
 ghost use Rattle.fetch_remote.specs.Keeping.{AreFiles, made, made_in, with_keep, without_keep, left_tree};
 ghost use Rattle.fetch_remote.specs.Repositories.{state_of, setup_of};
 ghost use Rattle.fetch_remote.specs.Settling as spec;
@@ -80,6 +80,7 @@ pub(crate) fn settle<F: Files, W: Worktrees>(
     ensures removable { (path : List ℕ) → IsErrOf result (errors.RemovePackKeepFile path) → F.may_fail files.old ≡ false → F.told files.old ≡ None }
     ensures may_fail { F.may_fail files.new ≡ F.may_fail files.old }
     ensures told { W.told worktrees.new ≡ W.told worktrees.old }
+    ensures asked { IsOnce (W.asked worktrees.old) (W.asked worktrees.new) }
     ensures listing_counts { Counts (W.listing worktrees.old) (W.listing worktrees.new) }
     ensures open_repo_counts { Counts (W.open_repo worktrees.old) (W.open_repo worktrees.new) }
     ensures follow_symref_counts { Counts (W.follow_symref worktrees.old) (W.follow_symref worktrees.new) }
@@ -267,6 +268,7 @@ fn judged<W: Worktrees>(
     ensures judged { Judges (W.told worktrees.old) (λ trees. policy_in (state_of repo.now) how.now trees) ref_map.now result }
     ensures only { IfErr result IsOfJudging }
     ensures told { W.told worktrees.new ≡ W.told worktrees.old }
+    ensures asked { IsOnce (W.asked worktrees.old) (W.asked worktrees.new) }
     ensures listing_counts { Counts (W.listing worktrees.old) (W.listing worktrees.new) }
     ensures open_repo_counts { Counts (W.open_repo worktrees.old) (W.open_repo worktrees.new) }
     ensures follow_symref_counts { Counts (W.follow_symref worktrees.old) (W.follow_symref worktrees.new) }
@@ -309,7 +311,7 @@ pub fn status<F: Files>(
     ensures told { IfOk result (λ status. status ≡ spec.status_by dry_run taken updates) }
     ensures removed { OnOk result (AreFiles (F.told files.old) (F.told files.new) (without_keep (spec.released_of updates taken))) }
     ensures refused { IfErr result (λ e. spec.IsUnreleased (spec.released_of updates taken) e) }
-    ensures tree { is_some (F.told files.new) ≡ is_some (F.told files.old) }
+    ensures stands { OnErr result (F.told files.new ≡ F.told files.old) }
     ensures unread { spec.kept_of taken ≡ None → files.new ≡ files.old }
     ensures counts { Counts (F.faults files.old) (F.faults files.new) }
     ensures cause { OnErr result (Rose (F.faults files.old) (F.faults files.new)) }
@@ -335,7 +337,7 @@ fn status_with<F: Files>(
     ensures told { IfOk result (λ status. status ≡ spec.told_by dry_run taken.negotiate taken.pack updates) }
     ensures removed { OnOk result (AreFiles (F.told files.old) (F.told files.new) (without_keep (spec.released updates taken.pack))) }
     ensures refused { IfErr result (λ e. spec.IsUnreleased (spec.released updates taken.pack) e) }
-    ensures tree { is_some (F.told files.new) ≡ is_some (F.told files.old) }
+    ensures stands { OnErr result (F.told files.new ≡ F.told files.old) }
     ensures unread { taken.pack ≡ None → files.new ≡ files.old }
     ensures counts { Counts (F.faults files.old) (F.faults files.new) }
     ensures cause { OnErr result (Rose (F.faults files.old) (F.faults files.new)) }

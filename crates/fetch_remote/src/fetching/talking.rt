@@ -1,14 +1,18 @@
 //! The conversation of a fetch.
 
-ghost use Rattle.std.specs.Prelude.{◌≡◌, IfOk, IfSome};
+ghost use Rattle.std.specs.Prelude.{◌≡◌, true, IfOk, IfSome};
 ghost use Rattle.fetch_conversation.specs.Blame.{BlamesPeer, BlamesInterrupt, is_told};
 ghost use Rattle.fetch_conversation.specs.Receiving.{last_question};
 ghost use Rattle.fetch_store.specs.Collisions.{HasDistinctIds};
+ghost use Rattle.fetch_store.specs.Graph.{graph_of};
 ghost use Rattle.fetch_store.specs.Stores.{AreOf};
+ghost use Rattle.fetch_conversation.specs.ConverseStage.{algorithm_in};
 ghost use Rattle.fetch_conversation.specs.ListStage.{IsReady};
 ghost use Rattle.fetch_conversation.specs.Errors.{is_client, is_stopped};
+ghost use Rattle.fetch_negotiate.specs.Tips.{tips_of};
 ghost use Rattle.fetch_remote.specs.Repositories.{state_of, setup_of};
-ghost use Rattle.fetch_remote.specs.Stages as spec;
+ghost use Rattle.fetch_remote.specs.Showing as showing;
+ghost use Rattle.fetch_remote.specs.Showing.{Shows};
 ghost use Rattle.fetch_remote.specs.Steps.{TalksOn};
 
 use crate::fetch;
@@ -16,8 +20,8 @@ use crate::fetching::options::FetchOptions;
 use crate::phases::converse;
 use crate::remote::Remote;
 use crate::repository::Repository;
-use fetch_conversation::{Listed, Progress, Received, View};
-use fetch_negotiate::{Shallow, tips, wants};
+use fetch_conversation::{Listed, Progress, Received, Settings, View, algorithm};
+use fetch_negotiate::{Algorithm, Shallow, tips, wants};
 use fetch_specs::Tags;
 use fetch_store::{List, NoMemory, ObjectId};
 use fetch_wire::{Interrupt, Peer, RefMap};
@@ -84,13 +88,32 @@ fn view(
     tags: Tags,
     shallow: &Shallow,
 ) -> Result<View, NoMemory>
-    ensures { IfOk result (λ view. view ≡ spec.view_with (state_of repo.now) ref_map.now tags shallow.now) }
+    ensures { IfOk result (Shows (state_of repo.now) (setup_of repo.now).settings ref_map.now tags shallow.now) }
 {
     let wants = wants(alloc, ref_map, tags, shallow, repo.store())?;
-    let tips = tips(alloc, repo.refs(), repo.store())?;
+    let tips = tips_for(alloc, repo, &wants)?;
     Ok(View {
         wants: List::from(wants),
         border: repo.border().try_clone()?,
         tips: List::from(tips),
     })
+}
+
+/// The tips, computed only where they are asked for.
+fn tips_for(alloc: Global, repo: &Repository, wants: &[ObjectId]) -> Result<Vec<ObjectId>, NoMemory>
+    ensures { showing.needs_tips (algorithm_in (setup_of repo.now).settings) wants.now ≡ true → IfOk result (λ tips. tips.items ≡ tips_of (state_of repo.now).refs.names (graph_of (state_of repo.now).objects)) }
+{
+    if needs_tips(repo.settings(), wants) {
+        tips(alloc, repo.refs(), repo.store())
+    } else {
+        Ok(Vec::new(alloc))
+    }
+}
+
+/// Whether the tips are asked for: something is wanted, and the algorithm walks from them.
+#[tactic(auto, using(fetch_conversation::proofs::Nil::nil_length))]
+fn needs_tips(settings: &Settings, wants: &[ObjectId]) -> bool
+    ensures { result ≡ showing.needs_tips (algorithm_in settings.now) wants.now }
+{
+    !wants.is_empty() && !matches!(algorithm(settings), Ok(Algorithm::Noop))
 }

@@ -33,11 +33,10 @@ fn add_overrides(alloc: Global, config: &mut File, overrides: &[Text]) -> Result
     ensures read { OnOk result (are_overrides overrides.now ≡ true) }
     ensures refused { IfErr result (λ e. spec.IsOpenRefusal overrides.now e) }
 {
-    let [first, others @ ..] = overrides else {
-        return Ok(());
-    };
-    add_override(alloc, config, first)?;
-    add_overrides(alloc, config, others)
+    for text in overrides {
+        add_override(alloc, config, text)?;
+    }
+    Ok(())
 }
 
 fn add_override(alloc: Global, config: &mut File, text: &Text) -> Result<(), OpenError>

@@ -1,13 +1,14 @@
-//! A repository that is opened with other overrides.
+//! A repository with other overrides, or with another committer.
 
 ghost use Rattle.std.specs.Prelude.{◌≡◌, IfErr, OnOk, OnErr, Some, true};
 ghost use Rattle.fetch_remote.specs.Overriding.{overridden};
-ghost use Rattle.fetch_remote.specs.Repositories.{state_of, setup_of, IsOpenRefusal};
+ghost use Rattle.fetch_remote.specs.Repositories.{state_of, setup_of, with_committer, IsOpenRefusal};
 ghost use Rattle.fetch_remote.specs.RepositoryValues.{are_overrides};
 
 use super::Repository;
 use crate::remotes::resolving::resolved;
 use crate::repository::open_error::OpenError;
+use fetch_refs::Signature;
 use fetch_store::{List, Text};
 use std::alloc::Global;
 
@@ -36,5 +37,13 @@ impl Repository {
         self.overrides = overrides;
         self.settings.config = config;
         Ok(())
+    }
+
+    /// Puts another in place of the one who writes the lines of reflogs. This takes no memory.
+    pub fn replace_committer(&mut self, committer: Signature)
+        ensures state { state_of self.new ≡ state_of self.old }
+        ensures setup { setup_of self.new ≡ with_committer committer (setup_of self.old) }
+    {
+        self.settings.committer = committer;
     }
 }

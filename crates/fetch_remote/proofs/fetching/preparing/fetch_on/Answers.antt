@@ -1,4 +1,4 @@
-use Rattle.std.proofs.Common.{◌≡◌, ◌≢◌, false, refl, ap, ◌∙◌, IfErr, Result, Ok, Err}
+use Rattle.std.proofs.Common.{◌≡◌, ◌≢◌, false, refl, ap, ◌∙◌, IfOk, IfErr, Result, Ok, Err, inl, inr}
 use Rattle.std.proofs.lemmas.Result.{err_from_is_err_and}
 use Rattle.fetch_update.specs.declared.update.Error.TheVariants as update
 use Rattle.fetch_conversation.specs.Errors.{is_client, is_stopped}
@@ -6,6 +6,7 @@ use Rattle.fetch_conversation.specs.ListStage.{shown}
 use Rattle.fetch_conversation.specs.declared.fetch.Error.{Error}
 use Rattle.fetch_conversation.specs.declared.fetch.Error.TheVariants as receive
 use Rattle.fetch_conversation.proofs.Heeded.{heeded_still, none_asked}
+use Rattle.fetch_remote.specs.Errors.{receiving}
 use Rattle.fetch_remote.specs.Form.{Given}
 use Rattle.fetch_remote.specs.Repositories.{state_of, setup_of}
 use Rattle.fetch_remote.proofs.Asked.{receiving_yes, settling_yes}
@@ -13,7 +14,7 @@ use Rattle.fetch_remote.proofs.Blamed.{heeded_by, one_more, at_ok}
 use Rattle.fetch_remote.proofs.Complete.{complete}
 use Rattle.fetch_remote.proofs.Fetched.{is_fetched}
 use Rattle.fetch_remote.proofs.Refused.{broken_off, not_settled}
-use Rattle.fetch_remote.proofs.Steps.{has_received, talked_on, breaks_on, forgot_on, is_spoken, same_error, of_ok, of_err}
+use Rattle.fetch_remote.proofs.Steps.{has_received, talked_on, breaks_on, forgot_on, gives_up_here, is_spoken, same_error, of_ok, of_err}
 use Rattle.fetch_remote.proofs.fetching.preparing.fetch_on.Goals as goal
 
 -- the settling tells no yes of the interrupt
@@ -27,6 +28,12 @@ pub returns-in_err-how-clause-refused : goal.returns-in_err-how-clause-refused
 returns-in_err-how-clause-refused g c =
     let p = err_from_is_err_and c.from_residual.result c.from_residual.ensures.1 in
     rw (p.1, p.2) (λ begun h. forgot_on _ _ _ _ _ _ _ _ h)
+
+pub returns-in_err-how-clause-unreceived : goal.returns-in_err-how-clause-unreceived
+returns-in_err-how-clause-unreceived g c =
+    let p = err_from_is_err_and c.from_residual.result c.from_residual.ensures.1 in
+    let given : Given = record { remote = c.args.remote.now; options = c.args.prepared.options; setup = setup_of c.args.repo.now } in
+    rw (p.1, p.2) (inl (record { broke = gives_up_here _ _ given (state_of c.args.repo.now) c.args.prepared.listed; same_state = refl; same_files = refl }))
 
 pub returns-in_err-how-clause-complete : goal.returns-in_err-how-clause-complete
 returns-in_err-how-clause-complete g c =
@@ -44,6 +51,11 @@ pub returns-in_err-talked-clause-refused : goal.returns-in_err-talked-clause-ref
 returns-in_err-talked-clause-refused g c =
     let p = err_from_is_err_and c.from_residual-in_err-talked.result c.from_residual-in_err-talked.ensures.1 in
     rw (p.1, p.2) (λ begun h. broken_off _ _ _ _ _ _ (state_of c.args.repo.now) _ (breaks_on _ _ _ _ _ _ _ c.in_err-talked.field-0.0 h c.in_err-talked.ensures.held.held))
+
+pub returns-in_err-talked-clause-unreceived : goal.returns-in_err-talked-clause-unreceived
+returns-in_err-talked-clause-unreceived g c =
+    let p = err_from_is_err_and c.from_residual-in_err-talked.result c.from_residual-in_err-talked.ensures.1 in
+    rw (p.1, p.2) (inl (record { broke = c.in_err-talked.ensures.held.held; same_state = refl; same_files = refl }))
 
 pub returns-in_err-talked-clause-complete : goal.returns-in_err-talked-clause-complete
 returns-in_err-talked-clause-complete g c =
@@ -118,6 +130,13 @@ returns-clause-received g c =
     of_ok c.settle.result (λ outcome s.
     has_received _ _ _ _ _ _ _ (state_of c.args.repo.now) (state_of c.settle.new.repo) c.args.prepared.listed outcome c.in_ok-talked.talked.received _ t.pack (rw (c.in_ok-how.ensures, c.fetch_tags.ensures, t.wants, t.kept) at s.0) s.1)
     c.settle.ensures.settled c.settle.ensures.kept
+
+pub returns-clause-unreceived : goal.returns-clause-unreceived
+returns-clause-unreceived g c =
+    let t = c.in_ok-talked.ensures.held.held in
+    of_err c.settle.result (λ e s.
+    inr (record { received = c.in_ok-talked.talked.received; rest = _; pack = t.pack; unsettled = rw (c.in_ok-how.ensures, c.fetch_tags.ensures, t.wants, t.kept) at s }))
+    c.settle.ensures.refused
 
 pub returns-clause-fetched : goal.returns-clause-fetched
 returns-clause-fetched g c =

@@ -43,7 +43,7 @@ returns-in_err-status-clause-refused g c =
     rw (p.1, p.2) (record {
       trees = j.trees;
       listed_trees = j.listed_trees;
-      by = unreleased _ c.args.how.now j.trees _ _ (shown c.args.talked.listed) c.args.talked.received _ _ _ c.in_ok-updates.updates _ c.in_err-status.field-0.0 took judged moved gone (c.in_err-status.ensures.tree ∙ c.in_ok-taken.ensures.made.0);
+      by = unreleased _ c.args.how.now j.trees _ _ (shown c.args.talked.listed) c.args.talked.received _ _ _ _ c.in_ok-updates.updates _ c.in_err-status.field-0.0 took judged moved gone c.in_ok-taken.ensures.made c.in_err-status.ensures.stands;
     })
 
 pub returns-clause-settled : goal.returns-clause-settled

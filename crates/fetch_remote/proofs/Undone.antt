@@ -1,0 +1,41 @@
+-- What a deletion leaves that couldn't clean up after itself.
+use Rattle.std.proofs.Common.{◌≡◌, ℕ, true, List, Option, None, sym, ap, subst, ◌∙◌, inl, inr}
+use Rattle.std.specs.Prelude.{◌⊎◌}
+use Rattle.fetch_config.specs.Print.{text_of}
+use Rattle.fetch_store.specs.Paths.{parts_of}
+use Rattle.fetch_store.specs.Trees.{Tree, written}
+use Rattle.fetch_remote.specs.Deleting.{IsBeside, HasSections, Leaves, broken_in, file_without, has_sections, lock_path, state_without}
+use Rattle.fetch_remote.specs.DeletionSteps.{LeavesTree}
+use Rattle.fetch_remote.specs.Keeping.{AreFiles}
+use Rattle.fetch_remote.specs.Paths.{config_path}
+use Rattle.fetch_remote.specs.Reloads.{Reads}
+use Rattle.fetch_remote.specs.Repositories.{State}
+use Rattle.fetch_remote.specs.declared.delete.CleanupError.TheVariants as cleaning
+use Rattle.fetch_remote.specs.declared.delete.Error.{Error}
+use Rattle.fetch_remote.specs.declared.delete.Error.TheVariants as errors
+
+module _ (told now : Option Tree) (git_dir : List ℕ) (names : List (List ℕ)) (before after : State) (sections : HasSections told git_dir names) (gone : after ≡ state_without names before) where
+  beside : (mid : Option Tree) (lock text : List ℕ) → mid ≡ told → lock ≡ lock_path git_dir → text ≡ text_of (file_without names sections.text).sections → AreFiles mid now (λ t. written t (parts_of lock) text) → IsBeside told now git_dir names
+  beside mid lock text same at says h = record {
+    text = sections.text;
+    read = sections.read;
+    tree = subst (λ (x : Option Tree). AreFiles x now (λ t. written t (parts_of (lock_path git_dir)) (text_of (file_without names sections.text).sections))) same
+        (subst (λ (l : List ℕ). AreFiles mid now (λ t. written t (parts_of l) (text_of (file_without names sections.text).sections))) at
+        (subst (λ (x : List ℕ). AreFiles mid now (λ t. written t (parts_of lock) x)) says h));
+  }
+
+  -- what is left where the new text wasn't put into its place
+  pub left_behind : (mid : Option Tree) (lock text : List ℕ) (e : Error) → mid ≡ told → lock ≡ lock_path git_dir → text ≡ text_of (file_without names sections.text).sections → LeavesTree mid now lock text e → Leaves told now git_dir names before after e
+  left_behind mid lock text (errors.Cleanup references cleaning.Write) same at says h = (gone, h ∙ same)
+  left_behind mid lock text (errors.Cleanup references cleaning.Commit) same at says h = (gone, beside mid lock text same at says h)
+  left_behind mid lock text errors.NoMemory same at says h = inr (record { gone = gone; sections = sections; files = by h })
+    where
+      by : (now ≡ mid) ⊎ AreFiles mid now (λ t. written t (parts_of lock) text) → (now ≡ told) ⊎ IsBeside told now git_dir names
+      by (inl kept) = inl (kept ∙ same)
+      by (inr made) = inr (beside mid lock text same at says made)
+  left_behind mid lock text (errors.NotLocal name) same at says h = absurd h
+  left_behind mid lock text errors.WorktreeListing same at says h = absurd h
+  left_behind mid lock text errors.OpenWorktreeRepo same at says h = absurd h
+  left_behind mid lock text errors.FollowSymref same at says h = absurd h
+  left_behind mid lock text (errors.CheckedOut name directories) same at says h = absurd h
+  left_behind mid lock text (errors.ConfigRead cause) same at says h = absurd h
