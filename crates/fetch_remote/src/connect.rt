@@ -11,7 +11,11 @@ use crate::remotes::direction::Direction;
 use fetch_wire::{Peer, SendFault};
 use thiserror::Error as ThisError;
 
-/// Makes peers, and takes them back.
+/// Makes peers, and takes them back: one at a time, each before the next one is made.
+///
+/// `out` and `lost` count exactly, so a maker of one's own keeps an invariant: what was lost and what is out are together no
+/// more than it made, a number that it counts with a test (`checked_add`) in `make`. `left`, `taken` and `addresses` may be
+/// None.
 pub trait Connect {
     type Peer: Peer + Drop;
 

@@ -77,7 +77,7 @@ impl Repository {
         ensures open_repo_counts { Counts (W.open_repo worktrees.old) (W.open_repo worktrees.new) }
         ensures follow_symref_counts { Counts (W.follow_symref worktrees.old) (W.follow_symref worktrees.new) }
         ensures told { W.told worktrees.new ≡ W.told worktrees.old }
-        ensures asked { IsOnce (W.asked worktrees.old) (W.asked worktrees.new) }
+        ensures asked_once { IsOnce (W.asked worktrees.old) (W.asked worktrees.new) }
         ensures untouched { IfErr result (λ e. OnTrue (spec.is_before_files e) (files.new ≡ files.old)) }
         ensures file_fault { IfErr result (λ e. OnTrue (spec.is_file_fault e) (Rose (F.faults files.old) (F.faults files.new))) }
         ensures in_the_way { IfErr result (spec.IsInTheWay (F.may_fail files.old) (F.told files.old) (F.told files.new) (setup_of self.old).settings.git_dir) }

@@ -56,6 +56,10 @@ impl Remote {
     /// moved. Objects and border are as found, unless the error came after the taking: then they are with all that was
     /// received, and the keep file stands. It stands too where memory runs out once it was made; where it couldn't be made,
     /// the tree that the files tell is as found, and where it couldn't be removed, it is with the keep file.
+    ///
+    /// What nobody needs can be handed in as a script of nothing: `ScriptedInterrupt::new(Vec::new(alloc))`,
+    /// `MemoryFiles::new(alloc, Vec::new(alloc))`, `ScriptedWorktrees::new(Vec::new(alloc), Vec::new(alloc))`. Progress is
+    /// told by a fetch in steps alone: `to_connection_with_transport`, `prepare_fetch`, `receive`.
     // Many arguments: the public signature. Each is lent by itself, so that a clause speaks of each before and after.
     // Long: one line an option and an argument.
     pub fn fetch<R: Threads + Sync, P: Peer, I: Interrupt, F: Files, W: Worktrees>(
@@ -95,7 +99,7 @@ impl Remote {
         ensures removable { (path : List ℕ) → IsErrOf result (errors.Receive (receive_errors.RemovePackKeepFile path)) → F.may_fail files.old ≡ false → F.told files.old ≡ None }
         ensures may_fail { F.may_fail files.new ≡ F.may_fail files.old }
         ensures told { W.told worktrees.new ≡ W.told worktrees.old }
-        ensures asked { IsOnce (W.asked worktrees.old) (W.asked worktrees.new) }
+        ensures asked_once { IsOnce (W.asked worktrees.old) (W.asked worktrees.new) }
         ensures listing_counts { Counts (W.listing worktrees.old) (W.listing worktrees.new) }
         ensures open_repo_counts { Counts (W.open_repo worktrees.old) (W.open_repo worktrees.new) }
         ensures follow_symref_counts { Counts (W.follow_symref worktrees.old) (W.follow_symref worktrees.new) }

@@ -99,7 +99,7 @@ pub struct Parts {
     pub border: Border,
     /// The repository's own configuration.
     pub local: File,
-    /// Who writes the lines of reflogs.
+    /// Who writes the lines of reflogs, with the time that all of them get.
     pub committer: Signature,
     /// The path of the git directory.
     pub git_dir: Text,

@@ -29,7 +29,7 @@ pub fn deletable<W: Worktrees>(
     ensures refused { IfErr result (IsUndeletable (W.told worktrees.old) (in_order names.now)) }
     ensures unasked { IfErr result (λ e. OnTrue (is_unlocal e) (worktrees.new ≡ worktrees.old)) }
     ensures told { W.told worktrees.new ≡ W.told worktrees.old }
-    ensures asked { IsOnce (W.asked worktrees.old) (W.asked worktrees.new) }
+    ensures asked_once { IsOnce (W.asked worktrees.old) (W.asked worktrees.new) }
     ensures listing_counts { Counts (W.listing worktrees.old) (W.listing worktrees.new) }
     ensures open_repo_counts { Counts (W.open_repo worktrees.old) (W.open_repo worktrees.new) }
     ensures follow_symref_counts { Counts (W.follow_symref worktrees.old) (W.follow_symref worktrees.new) }

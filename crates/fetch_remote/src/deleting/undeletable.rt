@@ -51,7 +51,7 @@ pub(crate) fn check_unheld<W: Worktrees>(
     ensures ok { OnOk result (AreUnheld (W.told worktrees.old) names.now) }
     ensures refused { IfErr result (IsHeld (W.told worktrees.old) names.now) }
     ensures told { W.told worktrees.new ≡ W.told worktrees.old }
-    ensures asked { IsOnce (W.asked worktrees.old) (W.asked worktrees.new) }
+    ensures asked_once { IsOnce (W.asked worktrees.old) (W.asked worktrees.new) }
     ensures listing_counts { Counts (W.listing worktrees.old) (W.listing worktrees.new) }
     ensures open_repo_counts { Counts (W.open_repo worktrees.old) (W.open_repo worktrees.new) }
     ensures follow_symref_counts { Counts (W.follow_symref worktrees.old) (W.follow_symref worktrees.new) }

@@ -30,7 +30,7 @@ pub fn judge<O: Objects, W: Worktrees>(
 ) -> Result<update::Outcome, fetch::Error>
     ensures judged { Judges (W.told worktrees.old) (λ trees. policy_over refs.now.names (O.graph objects.now) message.now tags dry_run trees) ref_map.now result }
     ensures told { W.told worktrees.new ≡ W.told worktrees.old }
-    ensures asked { IsOnce (W.asked worktrees.old) (W.asked worktrees.new) }
+    ensures asked_once { IsOnce (W.asked worktrees.old) (W.asked worktrees.new) }
     ensures listing_counts { Counts (W.listing worktrees.old) (W.listing worktrees.new) }
     ensures open_repo_counts { Counts (W.open_repo worktrees.old) (W.open_repo worktrees.new) }
     ensures follow_symref_counts { Counts (W.follow_symref worktrees.old) (W.follow_symref worktrees.new) }
@@ -59,7 +59,7 @@ fn listed<W: Worktrees>(worktrees: &mut W) -> Result<Vec<Worktree>, fetch::Error
     ensures list { IfOk result (λ trees. IsTold (W.told worktrees.old) trees.items) }
     ensures refused { IfErr result (λ e. is_free_judging e ≡ true) }
     ensures told { W.told worktrees.new ≡ W.told worktrees.old }
-    ensures asked { IsOnce (W.asked worktrees.old) (W.asked worktrees.new) }
+    ensures asked_once { IsOnce (W.asked worktrees.old) (W.asked worktrees.new) }
     ensures listing_counts { Counts (W.listing worktrees.old) (W.listing worktrees.new) }
     ensures open_repo_counts { Counts (W.open_repo worktrees.old) (W.open_repo worktrees.new) }
     ensures follow_symref_counts { Counts (W.follow_symref worktrees.old) (W.follow_symref worktrees.new) }

@@ -14,7 +14,8 @@ pub struct PackOutcome {
     pub num_objects: u32,
     /// The digest at the pack's end, of the repository's hash.
     pub digest: ObjectId,
-    /// The keep file that stays.
+    /// The keep file that stays: where a pack with objects was read and no edit stands. It is empty, and no pack stands
+    /// beside it, since objects are kept in memory; who writes them to a disk removes it then.
     pub keep_path: Option<Text>,
 }
 

@@ -156,7 +156,7 @@ impl<'a, P: Peer> Prepare<'a, P> {
         ensures removable { (path : List ℕ) → IsErrOf result (receive_errors.RemovePackKeepFile path) → F.may_fail files.old ≡ false → F.told files.old ≡ None }
         ensures may_fail { F.may_fail files.new ≡ F.may_fail files.old }
         ensures told { W.told worktrees.new ≡ W.told worktrees.old }
-        ensures asked { IsOnce (W.asked worktrees.old) (W.asked worktrees.new) }
+        ensures asked_once { IsOnce (W.asked worktrees.old) (W.asked worktrees.new) }
         ensures listing_counts { Counts (W.listing worktrees.old) (W.listing worktrees.new) }
         ensures open_repo_counts { Counts (W.open_repo worktrees.old) (W.open_repo worktrees.new) }
         ensures follow_symref_counts { Counts (W.follow_symref worktrees.old) (W.follow_symref worktrees.new) }
@@ -220,7 +220,7 @@ pub fn fetch_on<R: Threads + Sync, P: Peer, Q: Progress, I: Interrupt, F: Files,
     ensures removable { (path : List ℕ) → IsErrOf result (receive_errors.RemovePackKeepFile path) → F.may_fail files.old ≡ false → F.told files.old ≡ None }
     ensures may_fail { F.may_fail files.new ≡ F.may_fail files.old }
     ensures told { W.told worktrees.new ≡ W.told worktrees.old }
-    ensures asked { IsOnce (W.asked worktrees.old) (W.asked worktrees.new) }
+    ensures asked_once { IsOnce (W.asked worktrees.old) (W.asked worktrees.new) }
     ensures listing_counts { Counts (W.listing worktrees.old) (W.listing worktrees.new) }
     ensures open_repo_counts { Counts (W.open_repo worktrees.old) (W.open_repo worktrees.new) }
     ensures follow_symref_counts { Counts (W.follow_symref worktrees.old) (W.follow_symref worktrees.new) }

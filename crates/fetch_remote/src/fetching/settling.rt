@@ -80,7 +80,7 @@ pub(crate) fn settle<F: Files, W: Worktrees>(
     ensures removable { (path : List ℕ) → IsErrOf result (errors.RemovePackKeepFile path) → F.may_fail files.old ≡ false → F.told files.old ≡ None }
     ensures may_fail { F.may_fail files.new ≡ F.may_fail files.old }
     ensures told { W.told worktrees.new ≡ W.told worktrees.old }
-    ensures asked { IsOnce (W.asked worktrees.old) (W.asked worktrees.new) }
+    ensures asked_once { IsOnce (W.asked worktrees.old) (W.asked worktrees.new) }
     ensures listing_counts { Counts (W.listing worktrees.old) (W.listing worktrees.new) }
     ensures open_repo_counts { Counts (W.open_repo worktrees.old) (W.open_repo worktrees.new) }
     ensures follow_symref_counts { Counts (W.follow_symref worktrees.old) (W.follow_symref worktrees.new) }
@@ -268,7 +268,7 @@ fn judged<W: Worktrees>(
     ensures judged { Judges (W.told worktrees.old) (λ trees. policy_in (state_of repo.now) how.now trees) ref_map.now result }
     ensures only { IfErr result IsOfJudging }
     ensures told { W.told worktrees.new ≡ W.told worktrees.old }
-    ensures asked { IsOnce (W.asked worktrees.old) (W.asked worktrees.new) }
+    ensures asked_once { IsOnce (W.asked worktrees.old) (W.asked worktrees.new) }
     ensures listing_counts { Counts (W.listing worktrees.old) (W.listing worktrees.new) }
     ensures open_repo_counts { Counts (W.open_repo worktrees.old) (W.open_repo worktrees.new) }
     ensures follow_symref_counts { Counts (W.follow_symref worktrees.old) (W.follow_symref worktrees.new) }

@@ -5,7 +5,8 @@ ghost use Rattle.std.specs.Prelude.{◌≡◌};
 use crate::repository::Repository;
 use std::marker::Model;
 
-/// A repository as it is handed from thread to thread. Contracts see it as the repository.
+/// A repository as it is handed from thread to thread: it has one owner. A repository that several threads use at once is a
+/// `SharedRepository` of `fetch_shared`. Contracts see it as the repository.
 #[derive(Drop)]
 pub struct ThreadSafeRepository {
     repo: Repository,
