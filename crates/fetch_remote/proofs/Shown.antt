@@ -57,22 +57,22 @@ fetching_by bound g algorithm t = and_then (negotiating (suc (map.len g)) bound 
 
 unwalked : (bound : ℕ) (g : Graph) (t : TermsValue) (tips : List ObjectId) (algorithm : Algorithm) → walks algorithm ≡ false → fetching_by bound g algorithm (with_tips tips t) ≡ fetching_by bound g algorithm t
 unfolding received
-unwalked bound g t tips algorithms.Noop no = ap (λ (x : Conversation Negotiated Error). and_then x (λ n. ends (received t n))) (same_rounds (suc (map.len g)) bound t tips g algorithms.Noop (first_course algorithms.Noop t.view))
-unwalked bound g t tips algorithms.Consecutive no = absurd (cc)
-unwalked bound g t tips algorithms.Skipping no = absurd (cc)
+unwalked bound g t tips algorithms.Noop idle = ap (λ (x : Conversation Negotiated Error). and_then x (λ n. ends (received t n))) (same_rounds (suc (map.len g)) bound t tips g algorithms.Noop (first_course algorithms.Noop t.view))
+unwalked bound g t tips algorithms.Consecutive idle = absurd (cc)
+unwalked bound g t tips algorithms.Skipping idle = absurd (cc)
 
 same_fetching : (bound : ℕ) (g : Graph) (t : TermsValue) (tips : List ObjectId) → walks (algorithm_in t.settings) ≡ false → fetching bound g (with_tips tips t) ≡ fetching bound g t
 unfolding fetching
-same_fetching bound g t tips no = unwalked bound g t tips (algorithm_in t.settings) no
+same_fetching bound g t tips idle = unwalked bound g t tips (algorithm_in t.settings) idle
 
 same_wanting : (bound : ℕ) (g : Graph) (t : TermsValue) (tips wants : List ObjectId) → needs_tips (algorithm_in t.settings) wants ≡ false → wanting bound g (with_tips tips t) wants ≡ wanting bound g t wants
-same_wanting bound g t tips [] no = refl
-same_wanting bound g t tips (id ∷ ids) no = same_fetching bound g t tips no
+same_wanting bound g t tips [] idle = refl
+same_wanting bound g t tips (id ∷ ids) idle = same_fetching bound g t tips idle
 
 same_stage : (bound : ℕ) (g : Graph) (t : TermsValue) (tips : List ObjectId) → needs_tips (algorithm_in t.settings) t.view.wants ≡ false → converse_stage bound g (with_tips tips t) ≡ converse_stage bound g t
 unfolding converse_stage
-same_stage bound g t tips no =
-    ap (λ (x : Conversation (Option Received) Error). unless (option_or (no_mapping t) (option_or (other_hash t) (option_or (unfit t.settings) (lacking t)))) x) (same_wanting bound g t tips t.view.wants no)
+same_stage bound g t tips idle =
+    ap (λ (x : Conversation (Option Received) Error). unless (option_or (no_mapping t) (option_or (other_hash t) (option_or (unfit t.settings) (lacking t)))) x) (same_wanting bound g t tips t.view.wants idle)
 
 -- ---- what a repository shows
 
@@ -91,9 +91,9 @@ shown_stage : (g : Given) (s : State) (l : ListedValue) (v : View) → Shows s g
 shown_stage g s l v is = by (needs_tips (algorithm_in g.setup.settings) v.wants) refl
   where
     by : (b : Bool) → needs_tips (algorithm_in g.setup.settings) v.wants ≡ b → stage_of g s l v ≡ pack_stage g s l
-    by true yes = ap (stage_of g s l) (same_view v (whole_in g s l) is.wants is.border (is.tips yes))
-    by false no =
-        let none : needs_tips (algorithm_in g.setup.settings) (whole_in g s l).wants ≡ false = sym (ap (needs_tips (algorithm_in g.setup.settings)) is.wants) ∙ no in
+    by true asked = ap (stage_of g s l) (same_view v (whole_in g s l) is.wants is.border (is.tips asked))
+    by false idle =
+        let none : needs_tips (algorithm_in g.setup.settings) (whole_in g s l).wants ≡ false = sym (ap (needs_tips (algorithm_in g.setup.settings)) is.wants) ∙ idle in
         ap (stage_of g s l) (same_view v (record (whole_in g s l) { tips = v.tips }) is.wants is.border refl) ∙ same_stage (bound_of g) (graph_of s.objects) (terms_in g s l) v.tips none
 
 -- a conversation that was held for what was shown is that of the repository
