@@ -7,14 +7,12 @@ use Rattle.std.proofs.lemmas.List.Elements.{filter-append}
 use Rattle.hex.specs.Hex.{encode_lower}
 use Rattle.fetch_store.specs.Borders.{ids_of}
 use Rattle.fetch_store.specs.Id.{bytes_of}
-use Rattle.fetch_store.specs.declared.id.Kind.{Kind}
 use Rattle.fetch_store.specs.declared.id.ObjectId.{ObjectId}
-use Rattle.fetch_specs.specs.declared.tags.Tags.{Tags}
 use Rattle.fetch_wire.specs.Greetings.{has_word, offers, value_of}
 use Rattle.fetch_wire.specs.KnownIds.{each_once}
 use Rattle.fetch_wire.specs.RequestLines.{id_lines}
-use Rattle.fetch_wire.specs.RequestWords.{command_word, agent_word, agent_is, format_word, format_is, plain_pack, plain_pack_2, include_tag, shallow_word, deepen_word, relative_word, since_word, not_word, want_word, have_word, done_word}
-use Rattle.fetch_wire.specs.Requests.{text_line, agent_text, sent, when, kind_text, head_texts}
+use Rattle.fetch_wire.specs.RequestWords.{command_word, agent_word, agent_is, format_is, plain_pack, plain_pack_2, include_tag, shallow_word, deepen_word, relative_word, since_word, not_word, want_word, have_word, done_word}
+use Rattle.fetch_wire.specs.Requests.{text_line, agent_text, sent, when, kind_text}
 use Rattle.fetch_wire.specs.declared.greetings.handshake.Handshake.{Handshake}
 use Rattle.fetch_wire.specs.declared.lines.line.Line.{Line}
 use Rattle.fetch_wire.specs.declared.lines.line.Line.TheVariants.{Flush, Delim}

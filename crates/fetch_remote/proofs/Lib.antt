@@ -1,4 +1,3 @@
-pub mod Opening
 pub mod Wanted
 pub mod Spoken
 pub mod Broken

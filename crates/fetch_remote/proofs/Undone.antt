@@ -1,12 +1,12 @@
 -- What a deletion leaves that couldn't clean up after itself.
-use Rattle.std.proofs.Common.{◌≡◌, ℕ, true, List, Option, None, sym, ap, subst, ◌∙◌, inl, inr}
+use Rattle.std.proofs.Common.{◌≡◌, ℕ, true, List, Option, sym, ap, subst, ◌∙◌, inl, inr}
 use Rattle.std.specs.Prelude.{◌⊎◌}
 use Rattle.fetch_config.specs.Contents.{Contents}
 use Rattle.fetch_config.specs.Print.{text_of}
 use Rattle.fetch_lookup.specs.Removed.{has_branches, without_branches}
 use Rattle.fetch_store.specs.Paths.{parts_of}
 use Rattle.fetch_store.specs.Trees.{Tree, written}
-use Rattle.fetch_remote.specs.Deleting.{IsBeside, HasSections, Leaves, broken_in, file_without, has_sections, lock_path, short_names, state_without}
+use Rattle.fetch_remote.specs.Deleting.{IsBeside, HasSections, Leaves, file_without, lock_path, short_names, state_without}
 use Rattle.fetch_remote.specs.DeletionSteps.{IsRead, LeavesTree}
 use Rattle.fetch_remote.specs.Keeping.{AreFiles}
 use Rattle.fetch_remote.specs.Paths.{config_path}

@@ -1,7 +1,7 @@
 use Rattle.std.proofs.Common.{ap, ◌∙◌}
 use Rattle.std.proofs.lemmas.Result.{err_from_is_err_and}
 use Rattle.fetch_remote.specs.Paths.{config_path}
-use Rattle.fetch_remote.specs.Repositories.{state_of, setup_of}
+use Rattle.fetch_remote.specs.Repositories.{state_of}
 use Rattle.fetch_remote.proofs.Undone.{left_unclean}
 use Rattle.fetch_remote.proofs.repository.Repository.delete.Goals as goal
 
