@@ -1,10 +1,11 @@
 //! A server as the peer of a fetch.
 
-ghost use Rattle.std.specs.Prelude.{◌≡◌, ◌≤◌, ◌+◌, ◌-◌, ◌^◌, ◌++◌, ◌∷◌, [], List, ℕ, Some, length, min, true, IfOk, IsErrOf, OnErr};
+ghost use Rattle.std.specs.Prelude.{◌≡◌, ◌≤◌, ◌+◌, ◌-◌, ◌^◌, ◌++◌, ◌∷◌, ◌↔◌, [], List, ℕ, Some, length, min, true, IfOk, IsErrOf, IsTrue, OnErr};
 ghost use Rattle.fetch_serve.specs.Hearing.{Hears, fault_of};
 ghost use Rattle.fetch_serve.specs.Peers.{faults_of, told_by};
 ghost use Rattle.fetch_serve.specs.Replies.{replies_of};
 ghost use Rattle.fetch_serve.specs.Servings.{unfed};
+ghost use Rattle.fetch_serve.specs.declared.error.ServeError.TheVariants as errors;
 ghost use Rattle.fetch_store.specs.Faults.{Counts, Rose};
 ghost use Rattle.fetch_wire.specs.Talks.{Makes, Receives, Sends, at_once};
 
@@ -89,6 +90,13 @@ fn fault_of(refusal: Refusal) -> SendFault
     }
 }
 
+/// Whether memory ran out.
+fn is_memory(e: &ServeError) -> bool
+    ensures { IsTrue result ↔ (e.now ≡ errors.NoMemory) }
+{
+    matches!(e, ServeError::NoMemory)
+}
+
 /// Feeds bytes one by one, so that no more than those that show a trouble are heard, and answers how many were.
 fn hear(server: &mut Server<'_>, bytes: &[u8]) -> (usize, Result<(), SendFault>)
     ensures hears { Hears server.old.refusal server.old bytes.now result.0 server.new result.1 }
@@ -102,14 +110,16 @@ fn hear(server: &mut Server<'_>, bytes: &[u8]) -> (usize, Result<(), SendFault>)
         let pending = server.pending_len();
         match server.feed(&bytes[count..count + 1]) {
             Ok(()) => count += 1,
-            Err(ServeError::NoMemory) => {
-                // The byte was taken where other bytes are pending now.
-                if server.pending_len() != pending {
-                    count += 1;
+            Err(e) => {
+                if !is_memory(&e) {
+                    return (count + 1, Err(SendFault::Failed));
                 }
-                return (count, Err(SendFault::NoMemory));
+                // The byte was taken where other bytes are pending now.
+                if server.pending_len() == pending {
+                    return (count, Err(SendFault::NoMemory));
+                }
+                return (count + 1, Err(SendFault::NoMemory));
             }
-            Err(_) => return (count + 1, Err(SendFault::Failed)),
         }
     }
     (count, Ok(()))
