@@ -30,7 +30,7 @@ at_first d =
     }
 
 -- what a piece asks behind a text
-asks_on : (d : Data) (text given piece : List ℕ) (s : Serving) → IsAt d text given s
+pub asks_on : (d : Data) (text given piece : List ℕ) (s : Serving) → IsAt d text given s
     → asked_in d.hash false (text ++ piece) ≡ joined (asked_in d.hash false text).whole (asked_in s.served.hash s.begun (s.pending ++ piece))
 asks_on d text given piece s at =
     let f = asked_in d.hash false text in
@@ -39,7 +39,7 @@ asks_on d text given piece s at =
     (sym (ap (λ (e : Data). asked_in e.hash s.begun (s.pending ++ piece)) at.served ∙ ap (λ (b : Bool). asked_in d.hash b (s.pending ++ piece)) at.begun
     ∙ ap (λ (l : List ℕ). asked_in d.hash f.begun (l ++ piece)) at.pending))
 
-gives_on : (d : Data) (text given piece : List ℕ) (s now : Serving) (why : Option ServeError) → IsAt d text given s → Takes s piece now why → given ++ now.outgoing ≡ replies_of d (text ++ piece)
+pub gives_on : (d : Data) (text given piece : List ℕ) (s now : Serving) (why : Option ServeError) → IsAt d text given s → Takes s piece now why → given ++ now.outgoing ≡ replies_of d (text ++ piece)
 gives_on d text given piece s now why at takes =
     let f = asked_in d.hash false text in
     let g = asked_in s.served.hash s.begun (s.pending ++ piece) in
@@ -47,7 +47,7 @@ gives_on d text given piece s now why at takes =
     ∙ sym (append_assoc given s.outgoing (replies_to d g.whole)) ∙ ap (λ (l : List ℕ). l ++ replies_to d g.whole) at.given_is
     ∙ sym (replies_to-append d f.whole g.whole) ∙ sym (ap (λ (h : AskedIn). replies_to d h.whole) (asks_on d text given piece s at))
 
-feeds : (d : Data) (text given piece : List ℕ) (s now : Serving) → IsAt d text given s → Takes s piece now None → IsAt d (text ++ piece) given now
+pub feeds : (d : Data) (text given piece : List ℕ) (s now : Serving) → IsAt d text given s → Takes s piece now None → IsAt d (text ++ piece) given now
 feeds d text given piece s now at takes =
     let on = asks_on d text given piece s at in
     record {

@@ -15,10 +15,10 @@ use Rattle.fetch_serve.specs.Hearing.{Hears, IsShown, fault_of}
 use Rattle.fetch_serve.specs.Peers.{IsFed, IsGoing, IsSaid, ServedPeer, faults_of, heard_by, is_troubled, receive_at, talk_with, told_by}
 use Rattle.fetch_serve.specs.Replies.{replies_of, replies_to}
 use Rattle.fetch_serve.specs.Served.{Data}
-use Rattle.fetch_serve.specs.Servings.{Serving, Takes}
+use Rattle.fetch_serve.specs.Servings.{Serving, Takes, unfed}
 use Rattle.fetch_serve.specs.Texts.{AskedIn, and_more, asked_in}
 use Rattle.fetch_serve.proofs.Acting.{IsAt, asks_on, feeds, gives_on}
-use Rattle.fetch_serve.proofs.Asking.{asked_in-more}
+use Rattle.fetch_serve.proofs.Asking.{asked_in-more, asked_in-nothing}
 
 -- ---- what is told
 
@@ -55,6 +55,23 @@ tells s heard receives failed i =
 pub counts : (s : Serving) (heard : List ℕ) (receives : List Receive) (failed : ℕ) → is_troubled s.served (take (length heard - 1) heard) ≡ false
     → faults_of (peer_of s heard receives failed) ≡ record { count = cond (is_troubled s.served heard) failed 0; possible = true }
 counts s heard receives failed shown = ap (λ h. record { count = cond (is_troubled s.served h) failed 0; possible = true }) (heard_is s.served heard shown)
+
+-- a server to which nothing was fed has said nothing
+pub said_first : (s : Serving) → s ≡ unfed s.served → IsSaid s []
+said_first s is =
+    let none = asked_in-nothing s.served.hash false in
+    let fed : IsFed s [] = record {
+      begun = ap (λ (v : Serving). v.begun) is ∙ sym (ap (λ (f : AskedIn). f.begun) none);
+      pending = ap (λ (v : Serving). v.pending) is ∙ sym (ap (λ (f : AskedIn). f.rest) none);
+      fine = ap (λ (f : AskedIn). f.trouble) none;
+    }
+    in
+    record {
+      given = [];
+      is = ap (λ (v : Serving). v.outgoing) is ∙ sym (ap (λ (f : AskedIn). replies_to s.served f.whole) none);
+      shown = ap (λ (f : AskedIn). is_some f.trouble) none;
+      goes = subst (λ o. IsGoing o s []) (sym (ap (λ (v : Serving). v.refusal) is)) fed;
+    }
 
 -- ---- troubles
 
@@ -199,6 +216,7 @@ fresh_trouble s heard text f t = absurd (let no = not_troubled s heard f in cc)
 -- a piece that was taken
 sent_piece : (s now : Serving) (heard : List ℕ) (i : IsSaid s heard) (bytes : List ℕ) (count : ℕ) (result : Answer) (f : IsFed s heard) (takes : Takes s (take count bytes) now None) → IsGoing now.refusal now (heard ++ take count bytes)
     → ((u : Unit {0}) → result ≡ Ok u → take count bytes ≡ bytes) → (result ≡ Err sending.Failed → ⊥) → IsSent s now heard i bytes count result
+unfolding heard_on
 sent_piece s now heard i bytes count result f takes goes all never =
     let added = added_by s now (take count bytes) None takes in
     record {
@@ -215,6 +233,7 @@ sent_piece s now heard i bytes count result f takes goes all never =
 -- a piece that was refused
 sent_shown : (s now : Serving) (heard : List ℕ) (i : IsSaid s heard) (bytes : List ℕ) (count : ℕ) (result : Answer) (f : IsFed s heard) (h : IsShown s (take count bytes) now) → ((u : Unit {0}) → result ≡ Ok u → ⊥)
     → IsSent s now heard i bytes count result
+unfolding heard_trouble
 sent_shown s now heard i bytes count result f h never =
     let added = added_by s now (take count bytes) (Some h.trouble) h.takes in
     record {
@@ -246,11 +265,11 @@ sent s now heard i bytes count result h = sent_on s now heard i bytes count s.re
 
 -- ---- as a peer's clauses say it
 
-talks_of : (answers : Bool) (a b : Option Talk) (before after : Talk) (heard given : List ℕ) → a ≡ Some before → b ≡ Some after → Passes answers before after heard given → Talks answers a b heard given
-talks_of answers a b before after heard given is is' p = subst (λ x. Talks answers x b heard given) (sym is) (subst (λ x. Talks answers (Some before) x heard given) (sym is') p)
+talks_of : (answers : Bool) (a b : Option Talk) (before next : Talk) (heard given : List ℕ) → a ≡ Some before → b ≡ Some next → Passes answers before next heard given → Talks answers a b heard given
+talks_of answers a b before next heard given is is' p = subst (λ x. Talks answers x b heard given) (sym is) (subst (λ x. Talks answers (Some before) x heard given) (sym is') p)
 
-makes_of : (a b : Option Talk) (before after : Talk) (receives : List Receive) → a ≡ Some before → b ≡ Some after → after.receives ≡ before.receives ++ map (behind before.heard before.given) receives → Makes a b receives
-makes_of a b before after receives is is' p = subst (λ x. Makes x b receives) (sym is) (subst (λ x. Makes (Some before) x receives) (sym is') p)
+makes_of : (a b : Option Talk) (before next : Talk) (receives : List Receive) → a ≡ Some before → b ≡ Some next → next.receives ≡ before.receives ++ map (behind before.heard before.given) receives → Makes a b receives
+makes_of a b before next receives is is' p = subst (λ x. Makes x b receives) (sym is) (subst (λ x. Makes (Some before) x receives) (sym is') p)
 
 module _ (s now : Serving) (heard : List ℕ) (i : IsSaid s heard) (bytes : List ℕ) (count : ℕ) (result : Answer) (h : Hears s.refusal s bytes count now result) (receives : List Receive) (failed later : ℕ) where
   is_sent : IsSent s now heard i bytes count result
@@ -346,6 +365,7 @@ module _ (s now : Serving) (heard : List ℕ) (i : IsSaid s heard) (front : List
     before_told = tells s heard receives failed i
 
     now_told : told_by (peer_of now heard later failed) ≡ Some (talk_of now heard (i.given ++ front) later)
+    unfolding given_on
     now_told = tells now heard later failed given_on
 
     gives : Passes false (talk_of s heard i.given receives) (talk_of now heard (i.given ++ front) later) [] front
