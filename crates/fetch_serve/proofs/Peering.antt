@@ -336,6 +336,29 @@ module _ (s now : Serving) (heard : List ℕ) (i : IsSaid s heard) (bytes : List
       subst (λ a. Rose a (faults_of (peer_of now (heard ++ take count bytes) receives later))) (sym old_count)
       (subst (λ b. Rose (record { count = cond (is_troubled s.served heard) failed 0; possible = true }) b) (sym new_count) (rose_by (is_troubled s.served heard) (is_troubled now.served (heard ++ take count bytes)) (is_sent.fault is) le))
 
+-- the same, where each receive is told by what is served
+module _ (s now : Serving) (heard : List ℕ) (i : IsSaid s heard) (bytes : List ℕ) (count : ℕ) (result : Answer) (h : Hears s.refusal s bytes count now result) (receives : Data → List Receive) (failed later : ℕ) where
+  abbrev earlier : ServedPeer
+  earlier = peer_of s heard (receives s.served) failed
+
+  abbrev peer_then : List Receive → ServedPeer
+  peer_then made = peer_of now (heard ++ take count bytes) made later
+
+  same_receives : receives s.served ≡ receives now.served
+  same_receives = ap receives (sym (sent s now heard i bytes count result h).served)
+
+  pub sends_told : Sends true (told_by earlier) (told_by (peer_then (receives now.served))) result bytes
+  sends_told = subst (λ (l : List Receive). Sends true (told_by earlier) (told_by (peer_then l)) result bytes) same_receives (sends s now heard i bytes count result h (receives s.served) failed later)
+
+  pub makes_told : Makes (told_by earlier) (told_by (peer_then (receives now.served))) []
+  makes_told = subst (λ (l : List Receive). Makes (told_by earlier) (told_by (peer_then l)) []) same_receives (makes s now heard i bytes count result h (receives s.served) failed later)
+
+  pub counts_told : failed ≤ later → Counts (faults_of earlier) (faults_of (peer_then (receives now.served)))
+  counts_told le = faults_count s now heard i bytes count result h (receives s.served) failed later le
+
+  pub rose_told : result ≡ Err sending.Failed → min (failed + 1) (2 ^ 64 - 1) ≤ later → Rose (faults_of earlier) (faults_of (peer_then (receives now.served)))
+  rose_told is le = faults_rose s now heard i bytes count result h (receives s.served) failed later is le
+
 -- ---- a receive
 
 none_of : (bytes : List ℕ) → length bytes ≤ 0 → bytes ≡ []
