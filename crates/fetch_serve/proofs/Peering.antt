@@ -365,6 +365,9 @@ none_of : (bytes : List ℕ) → length bytes ≤ 0 → bytes ≡ []
 none_of [] le = refl
 none_of (b ∷ bytes) le = absurd (omega arith)
 
+pub copied_front : (bytes into : List ℕ) (count : ℕ) → bytes ≡ take count into ++ drop (0 + count) bytes → bytes ≡ take count into ++ drop count bytes
+copied_front bytes into count is = let n : 0 + count ≡ count = omega arith in is ∙ ap (λ (k : ℕ). take count into ++ drop k bytes) n
+
 module _ (s now : Serving) (heard : List ℕ) (i : IsSaid s heard) (front : List ℕ) (count : ℕ) (copied : s.outgoing ≡ front ++ drop count s.outgoing) (is : now ≡ record s { outgoing = drop count s.outgoing }) where
   still : (o : Option Refusal) → IsGoing o s heard → IsGoing o (record s { outgoing = drop count s.outgoing }) heard
   still None f = record { begun = f.begun; pending = f.pending; fine = f.fine }
@@ -405,17 +408,22 @@ module _ (s now : Serving) (heard : List ℕ) (i : IsSaid s heard) (front : List
     talks_on = talks_of false _ _ (talk_of s heard i.given receives) (talk_of now heard (i.given ++ front) later) [] front before_told now_told gives
 
     -- nothing is given only where nothing is to come
-    drained : (room : ℕ) → count ≡ min room (length s.outgoing) → count ≡ 0 → 0 < room → IsDrained (told_by (peer_of now heard later failed))
+    drained : (room : ℕ) → count ≡ min room (length s.outgoing - 0) → count ≡ 0 → 0 < room → IsDrained (told_by (peer_of now heard later failed))
     drained room few none some =
         let nothing : s.outgoing ≡ [] = none_of s.outgoing (omega arith) in
         subst IsDrained (sym now_told) (ap (λ (v : Serving). v.outgoing) is ∙ ap (λ (k : ℕ). drop k s.outgoing) none ∙ nothing)
 
-    pub received : (into : List ℕ) → front ≡ take count into → count ≡ min (length into) (length s.outgoing)
+    pub received : (into : List ℕ) → front ≡ take count into → count ≡ min (length into) (length s.outgoing - 0)
         → Receives {E = Failed} (told_by (peer_of s heard receives failed)) (told_by (peer_of now heard later failed)) (Ok count) into
     received into fronts few = (
       subst (λ (l : List ℕ). Talks false (told_by (peer_of s heard receives failed)) (told_by (peer_of now heard later failed)) [] l) fronts talks_on,
       drained (length into) few,
     )
+
+    -- the same for a list that is this one
+    pub received_as : (made : List Receive) → made ≡ later → (into : List ℕ) → front ≡ take count into → count ≡ min (length into) (length s.outgoing - 0)
+        → Receives {E = Failed} (told_by (peer_of s heard receives failed)) (told_by (peer_of now heard made failed)) (Ok count) into
+    received_as made same into fronts few = subst (λ (l : List Receive). Receives {E = Failed} (told_by (peer_of s heard receives failed)) (told_by (peer_of now heard l failed)) (Ok count) into) (sym same) (received into fronts few)
 
     pub received_once : Makes (told_by (peer_of s heard receives failed)) (told_by (peer_of now heard later failed)) (at_once ∷ [])
     received_once = makes_of _ _ (talk_of s heard i.given receives) (talk_of now heard (i.given ++ front) later) (at_once ∷ []) before_told now_told
