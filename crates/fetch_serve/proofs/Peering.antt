@@ -2,7 +2,7 @@
 use Rattle.std.proofs.Common.{◌≡◌, ℕ, zero, suc, ◌+◌, ◌-◌, ◌^◌, ◌<◌, ◌≤◌, min, Bool, true, false, cond, List, [], ◌∷◌, ◌++◌, length, map, take, drop, Option, Some, None, Result, Ok, Err, refl, sym, ap, ap₂, ◌∙◌, subst, arith, append_assoc, length-append, take-append-drop}
 use Rattle.std.specs.Prelude.{is_some}
 use Rattle.std.proofs.Math.Seq.{take-append_seam, drop-append_seam}
-use Rattle.std.proofs.lemmas.List.{append-nil, take_all}
+use Rattle.std.proofs.lemmas.List.{append-nil, map-append, take_all}
 use Rattle.fetch_store.specs.Faults.{Counts, Counts-none, Faults, Rose}
 use Rattle.fetch_store.specs.declared.file_error.Failed.{Failed}
 use Rattle.fetch_wire.specs.Talks.{IsDrained, IsFront, Makes, Passes, Receive, Receives, Sends, Talk, Talks, at_once, behind}
@@ -11,6 +11,7 @@ use Rattle.fetch_wire.specs.declared.session.peer.SendFault.TheVariants as sendi
 use Rattle.fetch_serve.specs.declared.error.ServeError.{ServeError}
 use Rattle.fetch_serve.specs.declared.intake.Refusal.{Refusal}
 use Rattle.fetch_serve.specs.declared.intake.Refusal.TheVariants as refusals
+use Rattle.fetch_serve.specs.declared.peer.Said.{Said}
 use Rattle.fetch_serve.specs.Hearing.{Hears, IsShown, fault_of}
 use Rattle.fetch_serve.specs.Peers.{IsFed, IsGoing, IsSaid, ServedPeer, faults_of, heard_by, is_troubled, receive_at, talk_with, told_by}
 use Rattle.fetch_serve.specs.Replies.{replies_of, replies_to}
@@ -365,6 +366,17 @@ none_of : (bytes : List ℕ) → length bytes ≤ 0 → bytes ≡ []
 none_of [] le = refl
 none_of (b ∷ bytes) le = absurd (omega arith)
 
+-- what was said before a receive, as it is told
+abbrev pub told_at : Data → Said → Receive
+told_at d said = receive_at d said.heard.values said.left
+
+-- one receive more
+pub one_more : (s now : Serving) (heard : List ℕ) (count : ℕ) → now ≡ record s { outgoing = drop count s.outgoing } → (before : List Said) (said : Said) → said.heard.values ≡ heard → said.left ≡ length s.outgoing
+    → map (told_at now.served) (before ++ said ∷ []) ≡ map (told_at s.served) before ++ receive_at s.served heard (length s.outgoing) ∷ []
+one_more s now heard count is before said same left =
+    ap (λ (v : Serving). map (told_at v.served) (before ++ said ∷ [])) is ∙ map-append (told_at s.served) before (said ∷ [])
+    ∙ ap₂ (λ (h : List ℕ) (n : ℕ). map (told_at s.served) before ++ receive_at s.served h n ∷ []) same left
+
 pub copied_front : (bytes into : List ℕ) (count : ℕ) → bytes ≡ take count into ++ drop (0 + count) bytes → bytes ≡ take count into ++ drop count bytes
 copied_front bytes into count is = let n : 0 + count ≡ count = omega arith in is ∙ ap (λ (k : ℕ). take count into ++ drop k bytes) n
 
@@ -428,6 +440,9 @@ module _ (s now : Serving) (heard : List ℕ) (i : IsSaid s heard) (front : List
     pub received_once : Makes (told_by (peer_of s heard receives failed)) (told_by (peer_of now heard later failed)) (at_once ∷ [])
     received_once = makes_of _ _ (talk_of s heard i.given receives) (talk_of now heard (i.given ++ front) later) (at_once ∷ []) before_told now_told
         (ap (λ (r : Receive). receives ++ r ∷ []) (ap₂ (λ (h g : List ℕ). record { heard = h; given = g }) (sym (append-nil heard)) (given_is i.given s.outgoing (replies_of s.served heard) i.is ∙ sym (append-nil i.given))))
+
+    pub received_once_as : (made : List Receive) → made ≡ later → Makes (told_by (peer_of s heard receives failed)) (told_by (peer_of now heard made failed)) (at_once ∷ [])
+    received_once_as made same = subst (λ (l : List Receive). Makes (told_by (peer_of s heard receives failed)) (told_by (peer_of now heard l failed)) (at_once ∷ [])) (sym same) received_once
 
     pub counts_on : Counts (faults_of (peer_of s heard receives failed)) (faults_of (peer_of now heard later failed))
     counts_on = subst (Counts (faults_of (peer_of s heard receives failed))) (ap (λ (v : Serving). faults_of (peer_of v heard later failed)) (sym is)) (Counts-none (faults_of (peer_of s heard receives failed)))

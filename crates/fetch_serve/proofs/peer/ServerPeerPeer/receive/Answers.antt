@@ -1,11 +1,6 @@
-use Rattle.std.proofs.Common.{◌≡◌, ◌∷◌, ◌++◌, [], List, ℕ, length, map, take, drop, refl, sym, ap, ap₂, ◌∙◌}
-use Rattle.std.proofs.lemmas.List.{map-append}
-use Rattle.fetch_wire.specs.Talks.{Receive}
-use Rattle.fetch_serve.specs.Peers.{IsSaid, receive_at}
-use Rattle.fetch_serve.specs.Served.{Data}
-use Rattle.fetch_serve.specs.Servings.{Serving}
+use Rattle.std.proofs.Common.{◌∷◌, ◌++◌, [], length, map, take, refl, ap}
 use Rattle.fetch_serve.specs.declared.peer.Said.{Said}
-use Rattle.fetch_serve.proofs.Peering.{copied_front, given_on, received_as}
+use Rattle.fetch_serve.proofs.Peering.{copied_front, counts_on, given_on, one_more, received_as, received_once_as, told_at}
 use Rattle.fetch_serve.proofs.peer.ServerPeerPeer.receive.Goals as goal
 
 pub invariant_of-self : goal.invariant_of-self
@@ -20,11 +15,25 @@ returns-clause-talk c =
     let copied = copied_front i.server.outgoing c.copy_from-count.new.into c.copy_from-count.result (rw c.outgoing.ensures at c.copy_from-count.ensures.copied) in
     let count = rw c.outgoing.ensures at c.copy_from-count.ensures.count in
     let said : Said = record { heard = c.again.result; left = length c.outgoing-left.result.now } in
-    let each : Data → Said → Receive = λ d x. receive_at d x.heard.values x.left in
-    let made = map (each c.sent.new.self.served) (i.receives.values ++ said ∷ []) in
-    let same = ap (λ (v : Serving). map (each v.served) (i.receives.values ++ said ∷ [])) c.sent.ensures ∙ map-append (each i.server.served) i.receives.values (said ∷ [])
-        ∙ ap₂ (λ (h o : List ℕ). map (each i.server.served) i.receives.values ++ receive_at i.server.served h (length o) ∷ []) c.again.ensures c.outgoing-left.ensures
-    in
     rw (← c.self.view_is, c.and.ensures)
     (received_as i.server c.sent.new.self i.heard.values c.self.invariant (take c.copy_from-count.result c.copy_from-count.new.into) c.copy_from-count.result copied c.sent.ensures
-    (map (each i.server.served) i.receives.values) i.failed made same c.copy_from-count.new.into refl count)
+    (map (told_at i.server.served) i.receives.values) i.failed (map (told_at c.sent.new.self.served) (i.receives.values ++ said ∷ []))
+    (one_more i.server c.sent.new.self i.heard.values c.copy_from-count.result c.sent.ensures i.receives.values said c.again.ensures (ap length c.outgoing-left.ensures)) c.copy_from-count.new.into refl count)
+
+pub returns-clause-receives : goal.returns-clause-receives
+returns-clause-receives c =
+    let i = c.self.inside in
+    let copied = copied_front i.server.outgoing c.copy_from-count.new.into c.copy_from-count.result (rw c.outgoing.ensures at c.copy_from-count.ensures.copied) in
+    let said : Said = record { heard = c.again.result; left = length c.outgoing-left.result.now } in
+    rw (← c.self.view_is, c.and.ensures)
+    (received_once_as i.server c.sent.new.self i.heard.values c.self.invariant (take c.copy_from-count.result c.copy_from-count.new.into) c.copy_from-count.result copied c.sent.ensures
+    (map (told_at i.server.served) i.receives.values) i.failed (map (told_at c.sent.new.self.served) (i.receives.values ++ said ∷ []))
+    (one_more i.server c.sent.new.self i.heard.values c.copy_from-count.result c.sent.ensures i.receives.values said c.again.ensures (ap length c.outgoing-left.ensures)))
+
+pub returns-clause-counts : goal.returns-clause-counts
+returns-clause-counts c =
+    let i = c.self.inside in
+    let copied = copied_front i.server.outgoing c.copy_from-count.new.into c.copy_from-count.result (rw c.outgoing.ensures at c.copy_from-count.ensures.copied) in
+    rw (← c.self.view_is)
+    (counts_on i.server c.sent.new.self i.heard.values c.self.invariant (take c.copy_from-count.result c.copy_from-count.new.into) c.copy_from-count.result copied c.sent.ensures
+    (map (told_at i.server.served) i.receives.values) i.failed)

@@ -1,8 +1,6 @@
-use Rattle.std.proofs.Common.{◌≡◌, ◌++◌, List, ℕ, map, take}
-use Rattle.fetch_wire.specs.Talks.{Receive}
-use Rattle.fetch_serve.specs.Peers.{IsSaid, receive_at}
+use Rattle.std.proofs.Common.{map}
 use Rattle.fetch_serve.specs.Served.{Data}
-use Rattle.fetch_serve.proofs.Peering.{counts_told, makes_told, rose_told, sends_told, sent}
+use Rattle.fetch_serve.proofs.Peering.{counts_told, makes_told, rose_told, sends_told, sent, told_at}
 use Rattle.fetch_serve.proofs.peer.ServerPeerPeer.send.Goals as goal
 
 pub invariant_of-self : goal.invariant_of-self
@@ -15,10 +13,24 @@ returns-clause-talk c =
     let i = c.self.inside in
     rw (← c.self.view_is, c.with_each.ensures)
     (sends_told i.server c.hear-count.new.server i.heard.values c.self.invariant c.args.bytes.now c.hear-count.result.0 c.hear-count.result.1 c.hear-count.ensures.hears
-    (λ (d : Data). map (λ x. receive_at d x.heard.values x.left) i.receives.values) i.failed c.counted-self-inside.result)
+    (λ (d : Data). map (told_at d) i.receives.values) i.failed c.counted-self-inside.result)
 
 pub returns-clause-cause : goal.returns-clause-cause
 returns-clause-cause c = λ failed. (let i = c.self.inside in
     rw (← c.self.view_is, c.with_each.ensures)
     (rose_told i.server c.hear-count.new.server i.heard.values c.self.invariant c.args.bytes.now c.hear-count.result.0 c.hear-count.result.1 c.hear-count.ensures.hears
-    (λ (d : Data). map (λ x. receive_at d x.heard.values x.left) i.receives.values) i.failed c.counted-self-inside.result failed (c.counted-self-inside.ensures.rose failed)))
+    (λ (d : Data). map (told_at d) i.receives.values) i.failed c.counted-self-inside.result failed (c.counted-self-inside.ensures.rose failed)))
+
+pub returns-clause-counts : goal.returns-clause-counts
+returns-clause-counts c =
+    let i = c.self.inside in
+    rw (← c.self.view_is, c.with_each.ensures)
+    (counts_told i.server c.hear-count.new.server i.heard.values c.self.invariant c.args.bytes.now c.hear-count.result.0 c.hear-count.result.1 c.hear-count.ensures.hears
+    (λ (d : Data). map (told_at d) i.receives.values) i.failed c.counted-self-inside.result c.counted-self-inside.ensures.later)
+
+pub returns-clause-receives : goal.returns-clause-receives
+returns-clause-receives c =
+    let i = c.self.inside in
+    rw (← c.self.view_is)
+    (makes_told i.server c.hear-count.new.server i.heard.values c.self.invariant c.args.bytes.now c.hear-count.result.0 c.hear-count.result.1 c.hear-count.ensures.hears
+    (λ (d : Data). map (told_at d) i.receives.values) i.failed c.counted-self-inside.result)
