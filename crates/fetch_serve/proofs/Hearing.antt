@@ -1,7 +1,6 @@
 -- Bytes that are fed one by one.
-use Rattle.std.proofs.Common.{◌≡◌, ℕ, zero, suc, ◌+◌, ◌-◌, ◌<◌, ◌≤◌, Bool, true, false, List, [], ◌∷◌, ◌++◌, length, take, drop, get_or, Option, Some, None, Result, Ok, Err, refl, sym, ap, ap₂, ◌∙◌, subst, arith, append_assoc, length-append, inl, inr}
+use Rattle.std.proofs.Common.{◌≡◌, ℕ, suc, ◌+◌, ◌-◌, ◌<◌, ◌≤◌, Bool, true, List, [], ◌∷◌, ◌++◌, length, take, drop, get_or, Option, Some, None, Result, Ok, Err, refl, sym, ap, ◌∙◌, subst, arith, append_assoc, length-append, inl, inr}
 use Rattle.std.specs.Prelude.{◌⊎◌}
-use Rattle.std.proofs.lemmas.Bool.{cases_lt}
 use Rattle.std.proofs.lemmas.List.{append-nil, length-take, take_all, take_at, take_more}
 use Rattle.std.proofs.Math.Seq.{drop-cons, take-append_seam}
 use Rattle.fetch_store.specs.declared.id.Kind.{Kind}
@@ -25,7 +24,7 @@ use Rattle.fetch_serve.specs.Replies.{replies_to}
 use Rattle.fetch_serve.specs.Requests.{asked_step, start_of}
 use Rattle.fetch_serve.specs.Served.{Data}
 use Rattle.fetch_serve.specs.Servings.{FeedsBy, RefusesBy, Serving, Takes}
-use Rattle.fetch_serve.specs.Texts.{AskedIn, IsBegun, and_more, and_others, asked_in, ends_at, joined, request_at, request_bound}
+use Rattle.fetch_serve.specs.Texts.{AskedIn, IsBegun, and_more, and_others, asked_in, joined, request_at, request_bound}
 use Rattle.fetch_serve.proofs.Asking.{asked_in-begun, asked_in-more, asked_in-nothing, asked_in-step, one}
 use Rattle.fetch_serve.proofs.Growing.{replies_to-append}
 

@@ -1,11 +1,11 @@
 -- What a server tells as a peer, call by call.
-use Rattle.std.proofs.Common.{◌≡◌, ℕ, zero, suc, ◌+◌, ◌-◌, ◌^◌, ◌<◌, ◌≤◌, min, Bool, true, false, cond, List, [], ◌∷◌, ◌++◌, length, map, take, drop, Option, Some, None, Result, Ok, Err, refl, sym, ap, ap₂, ◌∙◌, subst, arith, append_assoc, length-append, take-append-drop}
+use Rattle.std.proofs.Common.{◌≡◌, ℕ, suc, ◌+◌, ◌-◌, ◌^◌, ◌<◌, ◌≤◌, min, Bool, true, false, cond, List, [], ◌∷◌, ◌++◌, length, map, take, drop, Option, Some, None, Result, Ok, Err, refl, sym, ap, ap₂, ◌∙◌, subst, arith, append_assoc, length-append, take-append-drop}
 use Rattle.std.specs.Prelude.{is_some}
 use Rattle.std.proofs.Math.Seq.{take-append_seam, drop-append_seam}
 use Rattle.std.proofs.lemmas.List.{append-nil, map-append, take_all}
-use Rattle.fetch_store.specs.Faults.{Counts, Counts-none, Faults, Rose}
+use Rattle.fetch_store.specs.Faults.{Counts, Counts-none, Rose}
 use Rattle.fetch_store.specs.declared.file_error.Failed.{Failed}
-use Rattle.fetch_wire.specs.Talks.{IsDrained, IsFront, Makes, Passes, Receive, Receives, Sends, Talk, Talks, at_once, behind}
+use Rattle.fetch_wire.specs.Talks.{IsDrained, Makes, Passes, Receive, Receives, Sends, Talk, Talks, at_once, behind}
 use Rattle.fetch_wire.specs.declared.session.peer.SendFault.{SendFault}
 use Rattle.fetch_wire.specs.declared.session.peer.SendFault.TheVariants as sending
 use Rattle.fetch_serve.specs.declared.error.ServeError.{ServeError}

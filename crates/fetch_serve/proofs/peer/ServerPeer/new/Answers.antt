@@ -1,4 +1,3 @@
-use Rattle.fetch_serve.specs.Peers.{IsSaid}
 use Rattle.fetch_serve.proofs.Peering.{said_first}
 use Rattle.fetch_serve.proofs.peer.ServerPeer.new.Goals as goal
 
