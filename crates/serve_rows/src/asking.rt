@@ -81,7 +81,7 @@ fn feed_cut(
     out: &mut Vec<u8>,
 ) -> Result<(), NoMemory> {
     let (mut last, whole) = given_at(alloc, server, bytes, 0)?;
-    let mut count = 0;
+    let mut count = 0usize;
     for place in 0..bytes.len() + 1 {
         let (turn, given) = given_at(alloc, server, bytes, place)?;
         if given.as_slice() != whole.as_slice() {
@@ -92,7 +92,7 @@ fn feed_cut(
             last = turn;
             count = 0;
         }
-        count += 1;
+        count = count.saturating_add(1);
     }
     say_turns(out, count, last)?;
     say_given(out, whole.as_slice())

@@ -1,6 +1,6 @@
 //! The repository that a row's lines put down.
 
-ghost use Rattle.std.specs.Prelude.{◌≡◌, ◌×◌, IfSome};
+ghost use Rattle.std.specs.Prelude.{◌≡◌, IfSome};
 ghost use Rattle.fetch_store.specs.Id.{kind_of};
 
 use crate::kinds::{hash_of, object_kind_of};
