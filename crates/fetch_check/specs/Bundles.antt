@@ -17,7 +17,7 @@ use Rattle.fetch_refs.specs.Names.{Names}
 use Rattle.fetch_wire.specs.declared.lines.line.Line.{Line}
 use Rattle.fetch_wire.specs.declared.lines.line.Line.TheVariants.{Payload, Flush, Delim}
 use Rattle.fetch_wire.specs.Cutting.{in_pieces}
-use Rattle.fetch_wire.specs.Requests.{sent}
+use Rattle.fetch_wire.specs.Requests.{sent, text_line}
 use Rattle.fetch_wire.specs.Written.{lines_text}
 use Rattle.fetch_reach.specs.Sets.{is_among}
 use Rattle.fetch_reach.specs.Stored.{entries_at}
@@ -69,9 +69,36 @@ piece_lines pack = map (λ piece. Payload piece) (in_pieces 65000 pack)
 abbrev pub pack_of : Bundled → List ℕ
 pack_of b = pack_text V2 b.hash (payloads_of (map (λ e. e.1) b.objects))
 
+-- the line of a reference
+abbrev pub ref_line : List ℕ × Target → Line
+ref_line e = text_line (ref_text e)
+
+-- the line of a commit of the border
+abbrev pub border_line : ObjectId → Line
+border_line id = text_line (border_text id)
+
+-- what the lines of a bundle say: references, the commits whose parents are left out, and the bytes of a pack
+pub record Said : Type 0 where
+  pub hash : Kind
+  pub names : Names
+  pub border : IdSet
+  pub pack : List ℕ
+
+-- the lines before the pack
+abbrev pub lines_before_pack : Said → List Line
+lines_before_pack s = sent (head_texts s.hash) ++ ref_lines s.names ++ border_lines (ids_of s.border) ++ Delim ∷ []
+
+-- the lines that say this
+abbrev pub said_lines : Said → List Line
+said_lines s = lines_before_pack s ++ piece_lines s.pack ++ Flush ∷ []
+
+-- what a bundle says
+abbrev pub said_in : Bundled → Said
+said_in b = record { hash = b.hash; names = b.names; border = b.border; pack = pack_of b }
+
 -- the lines of a bundle
 abbrev pub bundle_lines : Bundled → List Line
-bundle_lines b = sent (head_texts b.hash) ++ ref_lines b.names ++ border_lines (ids_of b.border) ++ Delim ∷ [] ++ piece_lines (pack_of b) ++ Flush ∷ []
+bundle_lines b = said_lines (said_in b)
 
 -- the one text of a bundle
 abbrev pub bundle_text : Bundled → List ℕ

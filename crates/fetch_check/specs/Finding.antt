@@ -6,7 +6,7 @@ use Rattle.std.specs.FinMap as map
 use Rattle.fetch_specs.specs.Names.{is_full_name}
 use Rattle.fetch_store.specs.declared.id.ObjectId.{ObjectId}
 use Rattle.fetch_store.specs.declared.missing.Missing.{Missing}
-use Rattle.fetch_store.specs.Closed.{Holding, IsStored, Reached}
+use Rattle.fetch_store.specs.Closed.{Holding, IsClosed, IsStored, Reached}
 use Rattle.fetch_store.specs.Graph.{Graph, graph_of}
 use Rattle.fetch_store.specs.Missing.{unclosed}
 use Rattle.fetch_store.specs.Stores.{ObjectMap, id_cmp}
@@ -73,3 +73,13 @@ pub record AreFindings (names : Names) (h : Holding) (f : Findings) : Type 0 whe
   pub missing : f.missing ≡ missing_pairs h
   pub broken : f.broken ≡ broken_of names h.objects
   pub unreached : AreUnreached names h f.unreached
+
+-- The direct references reach each stored object.
+abbrev pub AreAllReached : Names → Holding → Type 0
+AreAllReached names h = (id : ObjectId) → IsStored h.objects id → Reached h (direct_ids names) id
+
+-- A whole repository: it is closed, no reference is broken, and the direct ones reach each stored object.
+pub record IsWholeIn (names : Names) (h : Holding) : Type 0 where
+  pub closed : IsClosed h
+  pub unbroken : broken_of names h.objects ≡ []
+  pub reached : AreAllReached names h

@@ -3,3 +3,9 @@ pub mod Finding
 pub mod Telling
 pub mod Bundles
 pub mod Refusals
+pub mod Scanning
+pub mod Payloads
+pub mod Reading
+pub mod ReadSteps
+pub mod Made
+pub mod Sound

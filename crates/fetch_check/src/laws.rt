@@ -1,6 +1,6 @@
 //! What findings and bundles say, in other words. Each law is the contract of a function without a body.
 
-ghost use Rattle.std.specs.Prelude.{◌≡◌, ◌↔◌, List, [], ℕ, Ok, Some, Contains, length};
+ghost use Rattle.std.specs.Prelude.{◌≡◌, ◌↔◌, List, [], ℕ, Ok, None, Some, false, Contains, length};
 ghost use Rattle.std.specs.FinMap as map;
 ghost use Rattle.fetch_store.specs.declared.id.Kind.{Kind};
 ghost use Rattle.fetch_store.specs.declared.id.ObjectId.{ObjectId};
@@ -17,9 +17,12 @@ ghost use Rattle.fetch_refs.specs.Names.{Names};
 ghost use Rattle.fetch_refs.specs.Peeled.{peeled};
 ghost use Rattle.fetch_reach.specs.Named.{AreObjects, AreOwnIds};
 ghost use Rattle.fetch_reach.specs.Stored.{objects_at};
-ghost use Rattle.fetch_check.specs.Bundles.{bundled, pack_of};
+ghost use Rattle.fetch_check.specs.Bundles.{Bundled, bundle_text, bundled, pack_of};
 ghost use Rattle.fetch_check.specs.Finding.{end_of, missing_pairs};
-ghost use Rattle.fetch_check.specs.Refusals.{AreReached};
+ghost use Rattle.fetch_check.specs.Reading.{IsBundle, IsRefused};
+ghost use Rattle.fetch_check.specs.Refusals.{AreReached, is_memory, write_trouble};
+ghost use Rattle.fetch_check.specs.Sound.{IsSound};
+ghost use Rattle.fetch_check.specs.declared.error.BundleError.{BundleError};
 
 /// No link is told as missing exactly where the repository is closed.
 pub fn findings_are_none()
@@ -44,4 +47,18 @@ pub fn bundled_packs_are_read()
         → Fits V2 (payloads_of (objects_at h.objects ids)) →
         read hash (pack_of (bundled hash names h ids)) ≡
         Ok (record { objects = (bundled hash names h ids).objects; count = length ids; digest = hashing.digest hash (body V2 hash (payloads_of (objects_at h.objects ids))) }) }
+{}
+
+/// What is bundled of a repository is a bundle, where `write_bundle` has no trouble with it. So its text is read back as the
+/// same references, the border's commits among the reached objects, and the reached objects.
+pub fn a_bundle_reads_back()
+    ensures { (hash : Kind) (names : Names) (h : Holding) (ids : List ObjectId) → IsSound hash names h → AreReached names h ids
+        → Fits V2 (payloads_of (objects_at h.objects ids)) → write_trouble names h ≡ None → IsBundle (bundled hash names h ids) }
+{}
+
+/// Each text is refused for one cause at most, and no bundle's text for any.
+pub fn a_text_has_one_answer()
+    ensures one { (bytes : List ℕ) (e : BundleError) (f : BundleError) → is_memory e ≡ false → is_memory f ≡ false → IsRefused bytes e → IsRefused bytes f → e ≡ f }
+    ensures none { (b : Bundled) (e : BundleError) → is_memory e ≡ false → IsBundle b → IsRefused (bundle_text b) e → ⊥ }
+    ensures bundle { (b : Bundled) (c : Bundled) → IsBundle b → IsBundle c → bundle_text b ≡ bundle_text c → b ≡ c }
 {}

@@ -1,0 +1,59 @@
+-- All stored objects are reached where as many are reached as are stored.
+use Rattle.std.proofs.Common.{◌≡◌, ℕ, suc, ◌+◌, ◌<◌, ◌≤◌, Bool, true, false, List, [], ◌∷◌, length, map, get_or, Option, Some, None, All, Contains, true≢false, refl, sym, ap, subst, ◌∙◌, arith}
+use Rattle.std.specs.Prelude.{◌↔◌, IsTrue, slice_get}
+use Rattle.std.specs.List.{AllByRecursion}
+use Rattle.std.specs.List.Sorted.{IsStrictlySortedBy}
+use Rattle.std.specs.Ordering.{eq_by_cmp}
+use Rattle.std.specs.FinMap as finmap
+use Rattle.std.proofs.lemmas.List.{length-map}
+use Rattle.std.proofs.lemmas.List.Elements.{Contains-get_or, recursion_from_All}
+use Rattle.std.proofs.lemmas.Map.Keys.{IsDistinct-from_sorted}
+use Rattle.fetch_store.specs.declared.id.ObjectId.{ObjectId}
+use Rattle.fetch_store.specs.Borders.{ids_of}
+use Rattle.fetch_store.specs.Closed.{Holding, IsStored, Reached}
+use Rattle.fetch_store.specs.Stores.{id_cmp}
+use Rattle.fetch_store.proofs.Borders.{Contains-named, ids_of-set, named-Contains, same_sets}
+use Rattle.fetch_store.proofs.Finds.{not_tied}
+use Rattle.fetch_store.proofs.Honesty.{reached_stored}
+use Rattle.fetch_store.proofs.Keys.{keys-rise}
+use Rattle.fetch_store.proofs.Pigeons.{no_more, are_distinct}
+use Rattle.fetch_refs.specs.Names.{Names}
+use Rattle.fetch_reach.specs.Sets.{is_among}
+use Rattle.fetch_check.specs.Finding.{AreAllReached, direct_ids}
+use Rattle.fetch_check.proofs.Unreached.{key_stored, stored_key}
+
+-- ascending lists of the same ids are one
+pub ascending_alike : (xs ys : List ObjectId) → IsStrictlySortedBy id_cmp xs → IsStrictlySortedBy id_cmp ys → ((id : ObjectId) → Contains xs id → Contains ys id) → ((id : ObjectId) → Contains ys id → Contains xs id) → xs ≡ ys
+ascending_alike xs ys sx sy to from =
+    sym (ids_of-set xs sx) ∙ ap ids_of (same_sets xs ys to from) ∙ ids_of-set ys sy
+
+module _ (names : Names) (h : Holding) (ids : List ObjectId) (each : (id : ObjectId) → Contains ids id ↔ Reached h (direct_ids names) id) (rise : IsStrictlySortedBy id_cmp ids) where
+  stored : AllByRecursion (λ id. finmap.contains_key h.objects id ≡ true) ids
+  stored = recursion_from_All (λ id. finmap.contains_key h.objects id ≡ true) ids (λ k d lt. reached_stored h (direct_ids names) (get_or ids k d) ((each (get_or ids k d)).0 (Contains-get_or ids k d lt)))
+
+  unlike : (id : ObjectId) → is_among id ids ≡ false → AllByRecursion (λ q. eq_by_cmp id_cmp q id ≡ false) ids
+  unlike id none =
+      recursion_from_All (λ q. eq_by_cmp id_cmp q id ≡ false) ids (λ k d lt.
+      not_tied (get_or ids k d) id (λ same. true≢false (sym (named-Contains id ids (subst (Contains ids) same (Contains-get_or ids k d lt))) ∙ none)))
+
+  too_many : (id : ObjectId) → IsStored h.objects id → is_among id ids ≡ false → length ids ≡ finmap.len h.objects → ⊥
+  too_many id is none same =
+      let more : length (id ∷ ids) ≤ finmap.len h.objects = no_more (id ∷ ids) h.objects (unlike id none, are_distinct ids (IsDistinct-from_sorted id_cmp ids rise)) (is, stored) in absurd (omega arith)
+
+  pub all_reached : length ids ≡ finmap.len h.objects → AreAllReached names h
+  all_reached same id is = by_test (is_among id ids) refl
+    where
+      by_test : (b : Bool) → is_among id ids ≡ b → Reached h (direct_ids names) id
+      by_test true among = (each id).0 (Contains-named id ids among)
+      by_test false none = absurd (too_many id is none same)
+
+  pub as_many : AreAllReached names h → length ids ≡ finmap.len h.objects
+  as_many all =
+      let same : ids ≡ finmap.keys h.objects =
+      ascending_alike ids (finmap.keys h.objects) rise (keys-rise h.objects) (λ id here. stored_key h.objects id (reached_stored h (direct_ids names) id ((each id).0 here))) (λ id here. (each id).1 (all id (key_stored h.objects id here))) in
+      ap length same ∙ length-map (finmap.entries h.objects) (λ e. e.0) ∙ sym (finmap.len-entries h.objects)
+
+-- the first of none
+pub none_broken : {X : Type 0} (xs : List X) (first : Option X) → first ≡ slice_get xs 0 → (first ≡ None) ↔ (xs ≡ [])
+none_broken [] first is = (λ _. refl, λ _. is)
+none_broken {X = X} (x ∷ xs) first is = (λ none. let both : ◌≡◌ {A = Option X} None (Some x) = sym none ∙ is in absurd cc, λ none. absurd cc)
