@@ -21,3 +21,8 @@ pub mod Above
 pub mod Found
 pub mod Counts
 pub mod Packed
+pub mod Payloads
+pub mod Answered
+pub mod Replaced
+pub mod Locks
+pub mod Saved

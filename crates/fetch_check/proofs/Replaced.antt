@@ -1,5 +1,5 @@
 -- A file that was written beside another, and put in its place, is read there.
-use Rattle.std.proofs.Common.{◌≡◌, ℕ, suc, ◌<◌, Bool, true, false, cond, not, ◌||◌, List, [], ◌∷◌, length, map, Option, Some, None, refl, sym, ap, ◌∙◌, arith}
+use Rattle.std.proofs.Common.{◌≡◌, ℕ, suc, ◌<◌, Bool, true, false, cond, not, ◌||◌, List, [], ◌∷◌, length, map, Option, Some, None, refl, sym, ap, subst, ◌∙◌, arith}
 use Rattle.std.specs.Prelude.{is_some, if◌then◌else◌}
 use Rattle.std.specs.List.{AllByRecursion, list_any}
 use Rattle.std.specs.Option.{option_and_then}
@@ -20,7 +20,7 @@ pub record Done (a b : Bool) (v w : Tree) : Type 0 where
   pub second : b ≡ false
   pub is : v ≡ w
 
-done : (a b : Bool) (v w : Tree) → (if a || b then None else Some v) ≡ Some w → Done a b v w
+pub done : (a b : Bool) (v w : Tree) → (if a || b then None else Some v) ≡ Some w → Done a b v w
 done true b v w e = absurd cc
 done false true v w e = absurd cc
 done false false v w e = record { first = refl; second = refl; is = cc }
@@ -30,7 +30,7 @@ pub record Both (o : Option Tree) (f : Tree → Option Tree) (u : Tree) : Type 0
   pub first : o ≡ Some mid
   pub second : f mid ≡ Some u
 
-both : (o : Option Tree) (f : Tree → Option Tree) (u : Tree) → option_and_then f o ≡ Some u → Both o f u
+pub both : (o : Option Tree) (f : Tree → Option Tree) (u : Tree) → option_and_then f o ≡ Some u → Both o f u
 both None f u e = absurd cc
 both (Some w) f u e = record { mid = w; first = refl; second = e }
 
@@ -122,14 +122,54 @@ moved_on m w u from to bytes plain is e =
     done (is_directory (node_at w to)) (not (is_directory (node_at w (parent_of to)))) (finmap.insert (finmap.remove w from) to (File bytes)) u
     (sym (ap (λ (o : Option (List ℕ)). moved w o from to) here) ∙ e)
 
-pub read_replaced : (t u : Tree) (from to : Path) (bytes : List ℕ) (old : Option (List ℕ)) → read_in t to ≡ Some old → option_and_then (λ w. renamed w from to) (written t from bytes) ≡ Some u → read_in u to ≡ Some (Some bytes)
-read_replaced t u from to bytes old read e =
+pub read_replaced : (t u : Tree) (from to : Path) (bytes : List ℕ) → is_blocked t to ≡ false → option_and_then (λ w. renamed w from to) (written t from bytes) ≡ Some u → read_in u to ≡ Some (Some bytes)
+read_replaced t u from to bytes free e =
     let two = both (written t from bytes) (λ w. renamed w from to) u e in
     let one = done (is_blocked t from) (is_directory (node_at t from)) (finmap.insert (with_each t (parents_of from)) from (File bytes)) two.mid two.first in
     let m : Tree = with_each t (parents_of from) in
     let next = moved_on m two.mid u from to bytes (no_root t from one.second) one.is two.second in
     let all : finmap.insert (finmap.remove (finmap.insert m from (File bytes)) from) to (File bytes) ≡ u = ap (λ (x : Tree). finmap.insert (finmap.remove x from) to (File bytes)) one.is ∙ next.is in
-    let free : is_blocked t to ≡ false = unrefused (is_blocked t to) (bytes_in (node_at t to)) old read in
     let keeps : (q : Path) → length q < length to → is_file (node_at t q) ≡ false → is_file (node_at u q) ≡ false = λ q lt h. sym (ap (λ (x : Tree). is_file (node_at x q)) all) ∙ no_file m from to (File bytes) (File bytes) q lt (each_directory t (parents_of from) q h) in
     read_by u to bytes (unblocked t u to keeps (parents_of to) (shorter to) free)
     (sym (ap (λ (x : Tree). node_at x to) all) ∙ node_here (finmap.remove (finmap.insert m from (File bytes)) from) to (File bytes) (no_root two.mid to next.first))
+
+-- ---- a file beside another
+
+-- directories above leave what isn't above
+other_node : (q p : Path) (v : TreeNode) (t : Tree) → eq_by_cmp path_cmp q p ≡ false → get (finmap.insert t p v) q ≡ get t q
+other_node q p v t is = get-insert path_cmp_total t p v q ∙ ap (λ (b : Bool). cond b (Some v) (get t q)) is
+
+with_by : (b : Bool) (t : Tree) (p q : Path) → length p < length q → get (cond b t (finmap.insert t p Directory)) q ≡ get t q
+with_by true t p q lt = refl
+with_by false t p q lt = other_node q p Directory t (unlike q p lt (eq_by_cmp path_cmp q p) refl)
+  where
+    unlike : (q p : Path) → length p < length q → (b : Bool) → eq_by_cmp path_cmp q p ≡ b → b ≡ false
+    unlike q p lt true is = let one = ap length (path_cmp_exact q p ((Equal-is (path_cmp q p)).0 is)) in absurd (omega (arith, one))
+    unlike q p lt false is = refl
+
+each_other : (t : Tree) (ps : List Path) (q : Path) → AllByRecursion (λ (p : Path). length p < length q) ps → get (with_each t ps) q ≡ get t q
+each_other t [] q all = refl
+each_other t (p ∷ ps) q all = each_other (with_directory t p) ps q all.1 ∙ with_by (is_some (node_at t p)) t p q all.0
+
+-- what is written beside a file leaves it
+pub read_beside : (t u : Tree) (from to : Path) (bytes : List ℕ) → parents_of from ≡ parents_of to → is_root to ≡ false → eq_by_cmp path_cmp to from ≡ false → length from ≡ length to → written t from bytes ≡ Some u → read_in u to ≡ read_in t to
+read_beside t u from to bytes above plain other len e =
+    let one = done (is_blocked t from) (is_directory (node_at t from)) (finmap.insert (with_each t (parents_of from)) from (File bytes)) u e in
+    let m : Tree = with_each t (parents_of from) in
+    let free : is_blocked t to ≡ false = ap (λ (ps : List Path). list_any (λ (q : Path). is_file (node_at t q)) ps) (sym above) ∙ one.first in
+    let keeps : (q : Path) → length q < length to → is_file (node_at t q) ≡ false → is_file (node_at u q) ≡ false = λ q lt h.
+    ap (λ (x : Tree). is_file (node_at x q)) (sym one.is) ∙ new_file m from q (omega arith) (each_directory t (parents_of from) q h) in
+    let now : is_blocked u to ≡ false = unblocked t u to keeps (parents_of to) (shorter to) free in
+    let short : AllByRecursion (λ (p : Path). length p < length to) (parents_of from) = subst (AllByRecursion (λ (p : Path). length p < length to)) (sym above) (shorter to) in
+    let node : get u to ≡ get t to = ap (λ (x : Tree). get x to) (sym one.is) ∙ other_node to from (File bytes) m other ∙ each_other t (parents_of from) to short in
+    ap (λ (b : Bool). if b then None else bytes_in (node_at u to)) now ∙ ap (λ (b : Bool). bytes_in (cond b (Some Directory) (get u to))) plain ∙ ap bytes_in node
+    ∙ ap (λ (b : Bool). bytes_in (cond b (Some Directory) (get t to))) (sym plain) ∙ ap (λ (b : Bool). if b then None else bytes_in (node_at t to)) (sym free)
+  where
+    file_at : (r b : Bool) (o : Option TreeNode) → b ≡ false → is_file (cond r (Some Directory) o) ≡ false → is_file (cond r (Some Directory) (cond b (Some (File bytes)) o)) ≡ false
+    file_at true b o none h = refl
+    file_at false b o none h = ap (λ (x : Bool). is_file (cond x (Some (File bytes)) o)) none ∙ h
+
+    new_file : (m : Tree) (p q : Path) → length q < length p → is_file (node_at m q) ≡ false → is_file (node_at (finmap.insert m p (File bytes)) q) ≡ false
+    new_file m p q lt h =
+        ap (λ (o : Option TreeNode). is_file (cond (is_root q) (Some Directory) o)) (get-insert path_cmp_total m p (File bytes) q)
+        ∙ file_at (is_root q) (eq_by_cmp path_cmp q p) (get m q) (apart q p lt (eq_by_cmp path_cmp q p) refl) h

@@ -38,7 +38,7 @@ payload_in _ = []
 same_payload : (a b : List ℕ) → text_line a ≡ text_line b → a ++ 10 ∷ [] ≡ b ++ 10 ∷ []
 same_payload a b e = ap payload_in e
 
-front_is : (a b : List ℕ) (c : ℕ) → a ++ c ∷ [] ≡ b ++ c ∷ [] → a ≡ b
+pub front_is : (a b : List ℕ) (c : ℕ) → a ++ c ∷ [] ≡ b ++ c ∷ [] → a ≡ b
 front_is [] [] c e = refl
 front_is [] (y ∷ []) c e = absurd cc
 front_is [] (y ∷ z ∷ b) c e = absurd cc
@@ -54,7 +54,7 @@ same_some : (x y : List ℕ × List ℕ) → Some x ≡ Some y → x ≡ y
 same_some x y e = cc
 
 -- the parts round the first space are one
-one_split : (text a b a' b' : List ℕ) → text ≡ a ++ 32 ∷ b → IsWithout 32 a → text ≡ a' ++ 32 ∷ b' → IsWithout 32 a' → (a ≡ a') × (b ≡ b')
+pub one_split : (text a b a' b' : List ℕ) → text ≡ a ++ 32 ∷ b → IsWithout 32 a → text ≡ a' ++ 32 ∷ b' → IsWithout 32 a' → (a ≡ a') × (b ≡ b')
 one_split text a b a' b' is none is' none' =
     let p = same_some (a, b) (a', b') (sym ((splits 32 text).only a b is none) ∙ (splits 32 text).only a' b' is' none') in
     (ap (λ (x : List ℕ × List ℕ). x.0) p, ap (λ (x : List ℕ × List ℕ). x.1) p)
@@ -94,13 +94,13 @@ same_target hash (Symbolic n) (Object b) it iu e = absurd (no_at b n (sym e))
 same_target hash (Symbolic n) (Symbolic m) it iu e = let f : n ≡ m = cc in ap (λ (x : List ℕ). Symbolic x) f
 
 -- the text of a reference round its first space after the word
-abbrev behind_word : Reference → List ℕ
+abbrev pub behind_word : Reference → List ℕ
 behind_word e = target_text e.1 ++ 32 ∷ e.0
 
-word_off : (e : Reference) → ref_text e ≡ codes "ref " ++ behind_word e
+pub word_off : (e : Reference) → ref_text e ≡ codes "ref " ++ behind_word e
 word_off e = append_assoc (codes "ref ") (target_text e.1) (32 ∷ e.0)
 
-drop_word : (a b : List ℕ) → codes "ref " ++ a ≡ codes "ref " ++ b → a ≡ b
+pub drop_word : (a b : List ℕ) → codes "ref " ++ a ≡ codes "ref " ++ b → a ≡ b
 drop_word a b e = cc
 
 pub same_reference : (hash : Kind) (e f : Reference) → IsReference hash e → IsReference hash f → ref_line e ≡ ref_line f → e ≡ f
@@ -109,7 +109,7 @@ same_reference hash e f ie if same =
     let p = one_split (behind_word e) (target_text e.1) e.0 (target_text f.1) f.0 refl (spaceless_target hash e.1 ie.target) text (spaceless_target hash f.1 if.target) in
     ap₂ (λ (n : List ℕ) (t : Target). (n, t)) p.1 (same_target hash e.1 f.1 ie.target if.target p.0)
 
-drop_border : (a b : List ℕ) → codes "border " ++ a ≡ codes "border " ++ b → a ≡ b
+pub drop_border : (a b : List ℕ) → codes "border " ++ a ≡ codes "border " ++ b → a ≡ b
 drop_border a b e = cc
 
 pub same_border : (hash : Kind) (a b : ObjectId) → IsOfHash hash a → IsOfHash hash b → border_line a ≡ border_line b → a ≡ b
