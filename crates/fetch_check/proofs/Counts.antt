@@ -1,6 +1,6 @@
 -- All stored objects are reached where as many are reached as are stored.
 use Rattle.std.proofs.Common.{◌≡◌, ℕ, suc, ◌+◌, ◌<◌, ◌≤◌, Bool, true, false, List, [], ◌∷◌, length, map, get_or, Option, Some, None, All, Contains, true≢false, refl, sym, ap, subst, ◌∙◌, arith}
-use Rattle.std.specs.Prelude.{◌↔◌, IsTrue, slice_get}
+use Rattle.std.specs.Prelude.{◌↔◌, IsTrue, is_none, slice_get}
 use Rattle.std.specs.List.{AllByRecursion}
 use Rattle.std.specs.List.Sorted.{IsStrictlySortedBy}
 use Rattle.std.specs.Ordering.{eq_by_cmp}
@@ -57,3 +57,7 @@ module _ (names : Names) (h : Holding) (ids : List ObjectId) (each : (id : Objec
 pub none_broken : {X : Type 0} (xs : List X) (first : Option X) → first ≡ slice_get xs 0 → (first ≡ None) ↔ (xs ≡ [])
 none_broken [] first is = (λ _. refl, λ _. is)
 none_broken {X = X} (x ∷ xs) first is = (λ none. let both : ◌≡◌ {A = Option X} None (Some x) = sym none ∙ is in absurd cc, λ none. absurd cc)
+
+pub told_unbroken : {X : Type 0} (xs : List X) (first : Option X) (b : Bool) → first ≡ slice_get xs 0 → b ≡ is_none first → IsTrue b ↔ (xs ≡ [])
+told_unbroken [] first b is test = (λ _. refl, λ _. test ∙ ap is_none is)
+told_unbroken {X = X} (x ∷ xs) first b is test = (λ yes. let none : is_none (slice_get (x ∷ xs) 0) ≡ true = ap is_none (sym is) ∙ sym test ∙ yes in absurd cc, λ none. absurd cc)

@@ -1,6 +1,6 @@
 -- What the line at a place tells, and that none stands there.
 use Rattle.std.proofs.Common.{◌≡◌, ◌≢◌, ℕ, ◌+◌, ◌≤◌, Bool, true, false, true≢false, List, [], ◌∷◌, ◌++◌, length, drop, append-nil, append_assoc, length-append, length-drop, Option, Some, None, refl, sym, ap, subst, ◌∙◌, arith}
-use Rattle.std.specs.Prelude.{IfSome, option_map, nat_eq}
+use Rattle.std.specs.Prelude.{◌↔◌, IfSome, IsTrue, option_map, nat_eq}
 use Rattle.std.specs.List.{starts_with}
 use Rattle.std.proofs.lemmas.Bool.Decides.{Decides-eqb}
 use Rattle.std.proofs.lemmas.List.{drop-drop}
@@ -21,31 +21,32 @@ use Rattle.fetch_check.proofs.Above.{reference_last, id_last}
 use Rattle.fetch_check.proofs.LineTexts.{one_line, stand_one}
 use Rattle.fetch_check.proofs.Shapes.{same_reference, same_border}
 
-
 -- ---- where a text or a line stands
 
-pub begins_stand : (bytes : List ℕ) (place count : ℕ) (line : Line) → place ≤ length bytes → count ≤ length (drop place bytes) → Begins (drop place bytes) line count → Stand bytes place (line ∷ []) (place + count)
-begins_stand bytes place count line within few begins =
+pub begins_stand : (bytes rest : List ℕ) (place count : ℕ) (line : Line) → rest ≡ drop place bytes → place ≤ length bytes → count ≤ length rest → Begins rest line count → Stand bytes place (line ∷ []) (place + count)
+begins_stand bytes rest place count line is within few begins =
     let n = length-drop place bytes in
+    let m = ap (length {A = ℕ}) is in
     let len = begins.len in
     stand_one bytes place (place + count) line begins.written (record {
-      text_is = begins.text ∙ ap (λ (t : List ℕ). line_text line ++ t) (drop-drop count place bytes);
+      text_is = sym is ∙ begins.text ∙ ap (λ (t : List ℕ). line_text line ++ drop count t) is ∙ ap (λ (t : List ℕ). line_text line ++ t) (drop-drop count place bytes);
       len = omega arith;
       within = omega arith;
     })
 
-pub text_stands : (bytes : List ℕ) (place : ℕ) (text : List ℕ) (found : Bool) → place ≤ length bytes → length text ≤ length (drop place bytes) → found ≡ starts_with nat_eq (drop place bytes) text → found ≡ true
+pub text_stands : (bytes rest : List ℕ) (place : ℕ) (text : List ℕ) (found : Bool) → rest ≡ drop place bytes → place ≤ length bytes → length text ≤ length rest → found ≡ starts_with nat_eq rest text → found ≡ true
     → Stands bytes place text (place + length text)
-text_stands bytes place text found within few is yes =
+text_stands bytes rest place text found is within few test here =
     let n = length-drop place bytes in
+    let m = ap (length {A = ℕ}) is in
     record {
-      text_is = (starts_is Decides-eqb (drop place bytes) text found is).0 yes ∙ ap (λ (t : List ℕ). text ++ t) (drop-drop (length text) place bytes);
+      text_is = sym is ∙ (starts_is Decides-eqb rest text found test).0 here ∙ ap (λ (t : List ℕ). text ++ drop (length text) t) is ∙ ap (λ (t : List ℕ). text ++ t) (drop-drop (length text) place bytes);
       len = refl;
       within = omega arith;
     }
 
-pub no_text : (bytes : List ℕ) (place : ℕ) (text : List ℕ) (found : Bool) → found ≡ starts_with nat_eq (drop place bytes) text → found ≡ false → (more : List ℕ) → drop place bytes ≡ text ++ more → ⊥
-no_text bytes place text found is none more e = let yes = (starts_is Decides-eqb (drop place bytes) text found is).1 more e in absurd cc
+pub no_text : (bytes rest : List ℕ) (place : ℕ) (text : List ℕ) (found : Bool) → rest ≡ drop place bytes → found ≡ starts_with nat_eq rest text → found ≡ false → (more : List ℕ) → drop place bytes ≡ text ++ more → ⊥
+no_text bytes rest place text found is test none more e = let here = (starts_is Decides-eqb rest text found test).1 more (is ∙ e) in absurd cc
 
 -- ---- the payload of a line
 
@@ -136,3 +137,6 @@ no_piece bytes place none p rest is w at = none p rest tt w at
 
 pub other_piece : (bytes : List ℕ) (place next : ℕ) (piece : List ℕ) → Stand bytes place (Payload piece ∷ []) next → (IsPiece piece → ⊥) → NoneStands (λ (p : List ℕ). Payload p) IsPiece bytes place
 other_piece bytes place next piece stand none p rest is w at = none (subst IsPiece (sym (same_bytes piece p (the_line bytes place next (Payload piece) (Payload p) rest stand w at))) is)
+
+pub not_piece : (is : Bool) (piece : List ℕ) → IsTrue is ↔ IsPiece piece → is ≡ false → IsPiece piece → ⊥
+not_piece is piece means not here = true≢false (sym (means.1 here) ∙ not)

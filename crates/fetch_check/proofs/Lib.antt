@@ -21,8 +21,6 @@ pub mod Above
 pub mod Found
 pub mod Counts
 pub mod Packed
-pub mod Payloads
+pub mod LinesTold
 pub mod Answered
-pub mod Replaced
-pub mod Locks
-pub mod Saved
+pub mod Stocked

@@ -41,8 +41,7 @@ said_border s can = (can.border, ids_rise s.border)
 references_front : (hash : Kind) (es : List Reference) (e : Reference) (gs : List Reference) → AreReferences hash (es ++ e ∷ gs) → AreReferences hash (es ++ e ∷ [])
 references_front hash es e gs are =
     let whole : es ++ e ∷ gs ≡ (es ++ e ∷ []) ++ gs = sym (append_assoc es (e ∷ []) gs) in
-    let are' = subst (AreReferences hash) whole are in
-    (
+    let are' = subst (AreReferences hash) whole are in (
       in_front (IsReference hash) (es ++ e ∷ []) gs are'.0,
       sorted_front name_cmp (keys_of (es ++ e ∷ [])) (keys_of gs) (subst (IsStrictlySortedBy name_cmp) (map-append (λ (x : Reference). x.0) (es ++ e ∷ []) gs) are'.1),
     )
@@ -94,7 +93,7 @@ module _ (hash : Kind) (es : List Reference) (ids : List ObjectId) (l : Line) (i
       from_refs ids refl (finmap.entries s.names) (ids_of s.border) (ends (in_pieces 65000 s.pack)) more (subst (λ k. AreReferences k (finmap.entries s.names)) h.0 (said_references s begin.can))
       (subst (λ k. AreBorderIds k (ids_of s.border)) h.0 (said_border s begin.can)) h.1
 
--- ---- the next line of the pack
+  -- ---- the next line of the pack
 
   pub next_piece : (ps : List (List ℕ)) → BeginBundle ((sent (head_texts hash) ++ (map ref_line es ++ (map border_line ids ++ Delim ∷ map (λ (p : List ℕ). Payload p) ps))) ++ l ∷ [])
       → ((p : List ℕ) × (l ≡ Payload p) × ArePieces (ps ++ p ∷ [])) ⊎ (l ≡ Flush)
@@ -195,11 +194,10 @@ all_but_last s =
     let H = sent (head_texts hash) in
     let R = map ref_line es in
     let B = map border_line ids in
-    let P = map (λ (p : List ℕ). Payload p) ps in
-    (
+    let P = map (λ (p : List ℕ). Payload p) ps in (
       H ++ (R ++ (B ++ Delim ∷ P)),
       said_shape s
-      ∙ sym (append_assoc H (R ++ (B ++ Delim ∷ P)) (Flush ∷ []) ∙ ap (λ (x : List Line). H ++ x) (append_assoc R (B ++ Delim ∷ P) (Flush ∷ []) ∙ ap (λ (x : List Line). R ++ x) (append_assoc B (Delim ∷ P) (Flush ∷ [])))),
+          ∙ sym (append_assoc H (R ++ (B ++ Delim ∷ P)) (Flush ∷ []) ∙ ap (λ (x : List Line). H ++ x) (append_assoc R (B ++ Delim ∷ P) (Flush ∷ []) ∙ ap (λ (x : List Line). R ++ x) (append_assoc B (Delim ∷ P) (Flush ∷ [])))),
       pieces_before hash es ids ps,
     )
 

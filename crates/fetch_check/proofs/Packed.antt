@@ -90,8 +90,7 @@ is_bundle bytes s c v ps says is found holds whole =
     let b = bundled_of s c in
     let p = has_pack s.hash s.pack c v ps is found holds whole.once in
     let same : s ≡ said_in b = ap (λ (x : List ℕ). record { hash = s.hash; names = s.names; border = s.border; pack = x }) p.text in
-    let contents : c ≡ contents_in b = ap₂ (λ (n : ℕ) (d : ObjectId). record { objects = c.objects; count = n; digest = d }) whole.once p.digest_is in
-    (
+    let contents : c ≡ contents_in b = ap₂ (λ (n : ℕ) (d : ObjectId). record { objects = c.objects; count = n; digest = d }) whole.once p.digest_is in (
       record {
         can = subst CanStand same says.can;
         pack = sym (ap (pack_read s.hash) p.text) ∙ is ∙ ap (λ (x : Contents). Ok x) contents;

@@ -165,13 +165,12 @@ module _ (names : Names) (h : Holding) (ids : List ObjectId) (reached : AreReach
 
   walk_part : (from : ObjectId) (rest : List ObjectId) (to : ObjectId) → Contains ids from → IsWalk h from rest to → IsWalk now from rest to
   walk_part from [] to here w = (stored_part from here, w.1)
-  walk_part from (next ∷ rest) to here w =
-      (
-        w.0,
-        there from here ∙ w.1,
-        subst (λ (xs : List ObjectId). Contains xs next) (sym (same_links from w.0 here)) w.2,
-        walk_part next rest to (on from next w.0 here w.1 w.2) w.3,
-      )
+  walk_part from (next ∷ rest) to here w = (
+    w.0,
+    there from here ∙ w.1,
+    subst (λ (xs : List ObjectId). Contains xs next) (sym (same_links from w.0 here)) w.2,
+    walk_part next rest to (on from next w.0 here w.1 w.2) w.3,
+  )
 
   walk_from : (from : ObjectId) (rest : List ObjectId) (to : ObjectId) → IsWalk h from rest to → IsStored h.objects from
   walk_from from [] to w = w.0

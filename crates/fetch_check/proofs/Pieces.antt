@@ -43,13 +43,13 @@ within (suc n) [] = tt
 within (suc n) (b ∷ bytes) =
     elim (cases_lt 65000 (length (b ∷ bytes))) [
       | inl more ↦
-        let len : length (take 65000 (b ∷ bytes)) ≡ 65000 = length-take-le 65000 (b ∷ bytes) (omega arith) in
-        put_front (take 65000 (b ∷ bytes)) (pieces_within n 65000 (drop 65000 (b ∷ bytes))) (omega arith, omega arith) (inr len) (within n (drop 65000 (b ∷ bytes)))
+          let len : length (take 65000 (b ∷ bytes)) ≡ 65000 = length-take-le 65000 (b ∷ bytes) (omega arith) in
+          put_front (take 65000 (b ∷ bytes)) (pieces_within n 65000 (drop 65000 (b ∷ bytes))) (omega arith, omega arith) (inr len) (within n (drop 65000 (b ∷ bytes)))
       | inr few ↦
-        let front : take 65000 (b ∷ bytes) ≡ b ∷ bytes = take_all 65000 (b ∷ bytes) few in
-        let is : IsPiece (take 65000 (b ∷ bytes)) = subst IsPiece (sym front) (omega arith, few) in
-        put_front (take 65000 (b ∷ bytes)) (pieces_within n 65000 (drop 65000 (b ∷ bytes))) is
-        (inl (ap (pieces_within n 65000) (drop_all 65000 (b ∷ bytes) few) ∙ none_within n 65000)) (within n (drop 65000 (b ∷ bytes)))
+          let front : take 65000 (b ∷ bytes) ≡ b ∷ bytes = take_all 65000 (b ∷ bytes) few in
+          let is : IsPiece (take 65000 (b ∷ bytes)) = subst IsPiece (sym front) (omega arith, few) in
+          put_front (take 65000 (b ∷ bytes)) (pieces_within n 65000 (drop 65000 (b ∷ bytes))) is
+          (inl (ap (pieces_within n 65000) (drop_all 65000 (b ∷ bytes) few) ∙ none_within n 65000)) (within n (drop 65000 (b ∷ bytes)))
     ]
 
 pub is_cut : (pack : List ℕ) → ArePieces (in_pieces 65000 pack)

@@ -1,13 +1,20 @@
 -- One line more of those that are read.
 use Rattle.std.proofs.Common.{◌≡◌, ℕ, suc, ◌+◌, ◌-◌, ◌<◌, ◌≤◌, Bool, true, false, eqb, List, [], ◌∷◌, ◌++◌, length, drop, map, append-nil, append_assoc, refl, sym, ap, subst, ◌∙◌, arith}
 use Rattle.std.specs.List.{AllByRecursion, concat}
+use Rattle.std.specs.List.Sorted.{IsStrictlySortedBy}
+use Rattle.std.specs.Map.{keys_of}
 use Rattle.std.proofs.lemmas.List.{map-append, length-append}
 use Rattle.std.proofs.lemmas.Bool.{eqb-true}
+use Rattle.fetch_store.specs.declared.id.Kind.{Kind}
+use Rattle.fetch_store.specs.declared.id.ObjectId.{ObjectId}
+use Rattle.fetch_store.specs.Stores.{id_cmp}
+use Rattle.fetch_refs.specs.Names.{name_cmp}
+use Rattle.fetch_refs.specs.declared.target.Target.{Target}
 use Rattle.fetch_wire.specs.declared.lines.line.Line.{Line}
 use Rattle.fetch_wire.specs.declared.lines.line.Line.TheVariants.{Payload}
 use Rattle.fetch_wire.specs.Written.{line_text, lines_text}
 use Rattle.fetch_check.specs.ReadSteps.{AreReadTo}
-use Rattle.fetch_check.specs.Reading.{IsPiece, ArePieces}
+use Rattle.fetch_check.specs.Reading.{AreBorderIds, AreReferences, IsPiece, ArePieces}
 use Rattle.fetch_check.specs.Scanning.{IsWritten, Stands, Stand, NoneStands, AreRead}
 use Rattle.fetch_check.proofs.Digits.{line_some}
 use Rattle.fetch_check.proofs.LineTexts.{stand_then, stand_none}
@@ -59,3 +66,22 @@ pub pieces_end : (bytes : List ℕ) (place next : ℕ) (pack : List ℕ) (full :
 pieces_end bytes place next pack true are none =
     (are.pieces, are.joined, record { stand = are.stand; may = are.may; ended = λ p rest may w is. none refl p rest (piece_last are.pieces p may) w is })
 pieces_end bytes place next pack false are none = (are.pieces, are.joined, record { stand = are.stand; may = are.may; ended = λ p rest may w is. are.short refl p may })
+
+-- ---- nothing is read yet
+
+no_names_rise : IsStrictlySortedBy name_cmp (keys_of {X = Target} [])
+unfolding IsStrictlySortedBy
+no_names_rise = tt
+
+no_ids_rise : IsStrictlySortedBy id_cmp []
+unfolding IsStrictlySortedBy
+no_ids_rise = tt
+
+pub none_stand : {X : Type 0} (line : X → Line) (bytes : List ℕ) (place : ℕ) (found : List X) → place ≤ length bytes → found ≡ [] → Stand bytes place (map line found) place
+none_stand {X = X} line bytes place found le none = subst (λ (xs : List X). Stand bytes place (map line xs) place) (sym none) (stand_none bytes place le)
+
+pub no_references : (hash : Kind) (found : List (List ℕ × Target)) → found ≡ [] → AreReferences hash found
+no_references hash found none = subst (AreReferences hash) (sym none) (tt, no_names_rise)
+
+pub no_border_ids : (hash : Kind) (found : List ObjectId) → found ≡ [] → AreBorderIds hash found
+no_border_ids hash found none = subst (AreBorderIds hash) (sym none) (tt, no_ids_rise)

@@ -29,13 +29,15 @@ pub(crate) fn read_head(bytes: &[u8]) -> Result<(Kind, usize), BundleError>
     ensures head { IfOk result (λ x. Stand bytes.now 0 (sent (head_texts x.0)) x.1) }
     ensures refused { IfErr result (λ e. IsRefused bytes.now e) }
 {
-    let place = end_of(bytes, 0, b"000dbundle 1\n")?;
-    match end_of(bytes, place, b"000ehash sha1\n") {
-        Ok(next) => Ok((Kind::Sha1, next)),
-        Err(_) => match end_of(bytes, place, b"0010hash sha256\n") {
-            Ok(next) => Ok((Kind::Sha256, next)),
-            Err(e) => Err(e),
-        },
+    let Some(place) = end_of(bytes, 0, b"000dbundle 1\n") else {
+        return Err(BundleError::Malformed { place: 0 });
+    };
+    if let Some(next) = end_of(bytes, place, b"000ehash sha1\n") {
+        return Ok((Kind::Sha1, next));
+    }
+    match end_of(bytes, place, b"0010hash sha256\n") {
+        Some(next) => Ok((Kind::Sha256, next)),
+        None => Err(BundleError::Malformed { place }),
     }
 }
 
@@ -51,9 +53,13 @@ pub(crate) fn read_references(
 {
     let mut found = Vec::new(alloc);
     let mut next = place;
-    'references: while let Some((reference, behind)) =
-        next_reference(alloc, hash, bytes, next, found.as_slice())?
-    {
+    'references: while let Some((reference, behind)) = next_reference(
+        alloc,
+        hash,
+        bytes,
+        next,
+        found.as_slice(),
+    )? {
         found.push(reference)?;
         next = behind;
     }
@@ -105,10 +111,7 @@ fn reference_at(
 }
 
 /// What was found, with this end.
-fn ending_at(
-    found: Option<(FullName, Target)>,
-    next: usize,
-) -> Option<((FullName, Target), usize)>
+fn ending_at(found: Option<(FullName, Target)>, next: usize) -> Option<((FullName, Target), usize)>
     ensures { result ≡ option_map (λ e. (e, next)) found }
 {
     match found {
@@ -147,12 +150,7 @@ pub(crate) fn read_border(
 }
 
 /// The commit of the border that the line at a place tells, where it is above those before, and where the line ends.
-fn next_id(
-    hash: Kind,
-    bytes: &[u8],
-    place: usize,
-    before: &[ObjectId],
-) -> Option<(ObjectId, usize)>
+fn next_id(hash: Kind, bytes: &[u8], place: usize, before: &[ObjectId]) -> Option<(ObjectId, usize)>
     requires within { place ≤ length bytes.now }
     requires before { AreBorderIds hash before.now }
     ensures line { IfSome result (λ x. Stand bytes.now place (border_line x.0 ∷ []) x.1) }

@@ -39,10 +39,7 @@ pub(crate) fn refs_of(
 }
 
 /// An edit for each reference, which isn't logged.
-fn edits_of(
-    alloc: Global,
-    references: Vec<(FullName, Target)>,
-) -> Result<Vec<RefEdit>, NoMemory>
+fn edits_of(alloc: Global, references: Vec<(FullName, Target)>) -> Result<Vec<RefEdit>, NoMemory>
     ensures { IfOk result (λ edits. edits.items ≡ map spec.edit_of references.items) }
 {
     let mut edits = Vec::with_capacity(alloc, references.len())?;

@@ -54,11 +54,7 @@ pub fn read_bundle<R: Threads + Sync>(
 }
 
 /// `read_bundle`.
-fn read_whole<R: Threads + Sync>(
-    rt: &R,
-    alloc: Global,
-    bytes: &[u8],
-) -> Result<Bundle, BundleError>
+fn read_whole<R: Threads + Sync>(rt: &R, alloc: Global, bytes: &[u8]) -> Result<Bundle, BundleError>
     ensures found { IfOk result (λ x. spec.IsBundle (bundle_of x) × (bytes.now ≡ bundle_text (bundle_of x))) }
     ensures alone { IfOk result (λ x. x.refs ≡ refs_alone x.hash x.refs.names) }
     ensures refused { IfErr result (λ e. IsRefused bytes.now e) }
@@ -94,9 +90,13 @@ fn read_parts(alloc: Global, bytes: &[u8]) -> Result<Parts, BundleError>
     let (hash, place) = read_head(bytes)?;
     let (references, place) = read_references(alloc, hash, bytes, place)?;
     let (ids, place) = read_border(alloc, hash, bytes, place)?;
-    let place = end_of(bytes, place, b"0001")?;
+    let Some(place) = end_of(bytes, place, b"0001") else {
+        return Err(BundleError::Malformed { place });
+    };
     let (pack, end) = read_pieces(alloc, bytes, place)?;
-    let end = end_of(bytes, end, b"0000")?;
+    let Some(end) = end_of(bytes, end, b"0000") else {
+        return Err(BundleError::Malformed { place: end });
+    };
     if end < bytes.len() {
         return Err(BundleError::Malformed { place: end });
     }

@@ -1,13 +1,11 @@
 //! The lines of a bundle, where they stand in its bytes.
 
-ghost use Rattle.std.specs.Prelude.{◌≡◌, ◌++◌, ◌∷◌, ◌≤◌, [], None, List as Items, ℕ, length, drop, IfErr, IfOk, IfSome};
+ghost use Rattle.std.specs.Prelude.{◌≡◌, ◌++◌, ◌∷◌, ◌≤◌, [], None, List as Items, ℕ, length, drop, IfSome};
 ghost use Rattle.std.specs.Char.{is_ascii_uppercase};
 ghost use Rattle.std.specs.List.{list_any};
 ghost use Rattle.fetch_wire.specs.LineViews.{line_of};
 ghost use Rattle.fetch_check.specs.Scanning.{Begins, BeginsNone, Stand, Stands};
-ghost use Rattle.fetch_check.specs.declared.error.BundleError.TheVariants.{Malformed};
 
-use crate::error::BundleError;
 use fetch_wire::{LineRef, line_in};
 
 /// The longest line: its digits, and a payload of 65,516 bytes.
@@ -42,16 +40,16 @@ pub(crate) fn line_at(bytes: &[u8], place: usize) -> Option<(LineRef<'_>, usize)
     }
 }
 
-/// Where the text at a place ends. `Malformed` tells the place where another one stands there.
-pub(crate) fn end_of(bytes: &[u8], place: usize, text: &[u8]) -> Result<usize, BundleError>
+/// Where the text that stands at a place ends, if it stands there.
+pub(crate) fn end_of(bytes: &[u8], place: usize, text: &[u8]) -> Option<usize>
     requires { place ≤ length bytes.now }
-    ensures there { IfOk result (λ next. Stands bytes.now place text.now next) }
-    ensures other { IfErr result (λ e. (e ≡ Malformed place) × ((more : Items ℕ) → drop place bytes.now ≡ text.now ++ more → ⊥)) }
+    ensures there { IfSome result (λ next. Stands bytes.now place text.now next) }
+    ensures other { result ≡ None → (more : Items ℕ) → drop place bytes.now ≡ text.now ++ more → ⊥ }
 {
     if bytes[place..].starts_with(text) {
-        Ok(place + text.len())
+        Some(place + text.len())
     } else {
-        Err(BundleError::Malformed { place })
+        None
     }
 }
 

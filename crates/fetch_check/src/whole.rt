@@ -11,7 +11,9 @@ ghost use Rattle.fetch_check.specs.Finding.{AreAllReached, IsWholeIn, broken_of}
 use crate::breaking::first_broken;
 use crate::leaving::reached_from_refs;
 use fetch_refs::Refs;
-use fetch_store::{Border, Kind, List, NoMemory, Object, ObjectId, ObjectRef, Store, first_missing};
+use fetch_store::{
+    Border, Kind, List, NoMemory, Object, ObjectId, ObjectRef, Store, first_missing,
+};
 use std::alloc::Global;
 
 /// Whether the repository is closed, no reference is broken, and the direct ones reach all objects.
@@ -50,12 +52,7 @@ fn is_unbroken(alloc: Global, store: &Store, refs: &Refs) -> Result<bool, NoMemo
 }
 
 /// Whether the direct references reach all objects.
-fn are_reached(
-    alloc: Global,
-    store: &Store,
-    refs: &Refs,
-    border: &Border,
-) -> Result<bool, NoMemory>
+fn are_reached(alloc: Global, store: &Store, refs: &Refs, border: &Border) -> Result<bool, NoMemory>
     ensures { IfOk result (λ all. IsTrue all ↔ AreAllReached refs.now.names (holding store.now.objects border.now)) }
 {
     let reached = reached_from_refs(alloc, store, refs, border)?;
@@ -75,10 +72,7 @@ pub(crate) fn ascends(objects: &[(ObjectId, Object)]) -> bool
 }
 
 /// The objects of a store under their ids, in ascending order.
-pub(crate) fn objects_of(
-    alloc: Global,
-    store: &Store,
-) -> Result<List<(ObjectId, Object)>, NoMemory>
+pub(crate) fn objects_of(alloc: Global, store: &Store) -> Result<List<(ObjectId, Object)>, NoMemory>
     ensures { IfOk result (λ objects. objects ≡ map.entries store.now.objects) }
 {
     let mut objects = Vec::with_capacity(alloc, store.len())?;

@@ -29,6 +29,15 @@ no_word word text none rest is = let both : ◌≡◌ {A = Option (List ℕ)} No
 pub same_behind : (word text rest more : List ℕ) → after word text ≡ Some rest → text ≡ word ++ more → rest ≡ more
 same_behind word text rest more found is = same_some rest more (sym found ∙ ap (after word) is ∙ after_of word more)
 
+-- ---- what is lent, as values
+
+pub if_view : {R : Type 0} (r : Option R) (view : R → List ℕ × List ℕ) (P : List ℕ → List ℕ → Type 0) (o : Option (List ℕ × List ℕ)) → option_map view r ≡ o → ((a b : List ℕ) → o ≡ Some (a, b) → P a b) → IfSome r (λ x. P (view x).0 (view x).1)
+if_view None view P o is each = tt
+if_view (Some x) view P o is each = each (view x).0 (view x).1 (sym is)
+
+pub none_view : {R : Type 0} (r : Option R) (view : R → List ℕ × List ℕ) (o : Option (List ℕ × List ℕ)) → option_map view r ≡ o → r ≡ None → o ≡ None
+none_view r view o is none = sym is ∙ ap (option_map view) none
+
 -- ---- references
 
 -- what stands behind the word, and the line feed
