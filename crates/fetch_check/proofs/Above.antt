@@ -1,5 +1,5 @@
 -- What comes behind ascending references and ids.
-use Rattle.std.proofs.Common.{◌≡◌, ℕ, suc, ◌+◌, ◌-◌, ◌<◌, Bool, true, false, ◌⊎◌, inl, inr, List, [], ◌∷◌, ◌++◌, length, map, get_or, Option, Some, None, refl, sym, ap, subst, ◌∙◌, arith}
+use Rattle.std.proofs.Common.{◌≡◌, ℕ, suc, ◌+◌, ◌-◌, ◌<◌, ◌≤◌, Bool, true, false, ◌⊎◌, inl, inr, List, [], ◌∷◌, ◌++◌, length, map, get_or, Option, Some, None, refl, sym, ap, subst, ◌∙◌, arith}
 use Rattle.std.specs.Prelude.{slice_get}
 use Rattle.std.specs.List.{AllByRecursion}
 use Rattle.std.specs.List.Sorted.{IsStrictlySortedBy}
@@ -10,7 +10,7 @@ use Rattle.std.specs.Ordering.{is_lt}
 use Rattle.std.specs.declared.cmp.Ordering.{Ordering}
 use Rattle.std.specs.declared.cmp.Ordering.TheVariants.{Less}
 use Rattle.std.proofs.Math.Seq.{get_or-append_seam}
-use Rattle.std.proofs.lemmas.List.{length-append, length-map, map-append, get_or-map}
+use Rattle.std.proofs.lemmas.List.{length-append, length-map, map-append, get_or-map, get_or_default}
 use Rattle.std.proofs.lemmas.Map.Keys.{sorted_from_all_adjacent, Less-from_sorted}
 use Rattle.std.proofs.lemmas.Option.{slice_get_read}
 use Rattle.fetch_store.specs.declared.id.Kind.{Kind}
@@ -107,3 +107,18 @@ rise_adjacent es s k d lt =
     let two = get_or-map (λ (x : ObjectId × Stored). x.0) es (k + 1) d d.0 (omega arith) in
     sym (ap (λ (a : ObjectId). id_cmp a (get_or (map (λ (x : ObjectId × Stored). x.0) es) (k + 1) d.0)) one ∙ ap (id_cmp (get_or es k d).0) two)
     ∙ Less-from_sorted id_cmp (map (λ (x : ObjectId × Stored). x.0) es) k (k + 1) d.0 s (omega arith) (omega arith)
+
+pub rise_all : (es : Entries) (n : ℕ) → length es ≤ n → ((k : ℕ) (d : ObjectId × Stored) → k + 1 < n → id_cmp (get_or es k d).0 (get_or es (k + 1) d).0 ≡ Less) → IsStrictlySortedBy id_cmp (map (λ (e : ObjectId × Stored). e.0) es)
+rise_all es n le less = adjacent_rise es (λ k d lt. less k d (omega arith))
+
+not_less : (o : Ordering) (b : Bool) → b ≡ is_lt o → b ≡ false → o ≡ Less → ⊥
+not_less o b is none less = let both : false ≡ true = sym none ∙ is ∙ ap is_lt less in absurd cc
+
+pub not_rising : (es : Entries) (place : ℕ) (a b : ObjectId × Stored) (test : Bool) → 1 ≤ place → place < length es → a ≡ get_or es (place - 1) a → b ≡ get_or es place b → test ≡ is_lt (id_cmp a.0 b.0) → test ≡ false
+    → IsStrictlySortedBy id_cmp (map (λ (e : ObjectId × Stored). e.0) es) → ⊥
+not_rising es place a b test some within first second is none s =
+    let again : place - 1 + 1 ≡ place = omega arith in
+    let two : get_or es (place - 1 + 1) a ≡ b = ap (λ (k : ℕ). get_or es k a) again ∙ get_or_default es place a b within ∙ sym second in
+    let less : id_cmp a.0 b.0 ≡ Less =
+    ap (λ (x : ObjectId × Stored). id_cmp x.0 b.0) first ∙ ap (λ (x : ObjectId × Stored). id_cmp (get_or es (place - 1) a).0 x.0) (sym two) ∙ rise_adjacent es s (place - 1) a (omega arith) in
+    not_less (id_cmp a.0 b.0) test is none less

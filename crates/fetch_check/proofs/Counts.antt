@@ -1,10 +1,11 @@
 -- All stored objects are reached where as many are reached as are stored.
-use Rattle.std.proofs.Common.{◌≡◌, ℕ, suc, ◌+◌, ◌<◌, ◌≤◌, Bool, true, false, List, [], ◌∷◌, length, map, get_or, Option, Some, None, All, Contains, true≢false, refl, sym, ap, subst, ◌∙◌, arith}
-use Rattle.std.specs.Prelude.{◌↔◌, IsTrue, is_none, slice_get}
+use Rattle.std.proofs.Common.{◌≡◌, ℕ, suc, ◌+◌, ◌<◌, ◌≤◌, Bool, true, false, List, [], ◌∷◌, length, map, get_or, Option, Some, None, All, Contains, not, eq-eqb, true≢false, refl, sym, ap, subst, ◌∙◌, arith}
+use Rattle.std.specs.Prelude.{◌↔◌, IsTrue, is_some, nat_eq, slice_get}
 use Rattle.std.specs.List.{AllByRecursion}
 use Rattle.std.specs.List.Sorted.{IsStrictlySortedBy}
 use Rattle.std.specs.Ordering.{eq_by_cmp}
 use Rattle.std.specs.FinMap as finmap
+use Rattle.std.proofs.lemmas.Bool.{eqb-true}
 use Rattle.std.proofs.lemmas.List.{length-map}
 use Rattle.std.proofs.lemmas.List.Elements.{Contains-get_or, recursion_from_All}
 use Rattle.std.proofs.lemmas.Map.Keys.{IsDistinct-from_sorted}
@@ -58,6 +59,21 @@ pub none_broken : {X : Type 0} (xs : List X) (first : Option X) → first ≡ sl
 none_broken [] first is = (λ _. refl, λ _. is)
 none_broken {X = X} (x ∷ xs) first is = (λ none. let both : ◌≡◌ {A = Option X} None (Some x) = sym none ∙ is in absurd cc, λ none. absurd cc)
 
-pub told_unbroken : {X : Type 0} (xs : List X) (first : Option X) (b : Bool) → first ≡ slice_get xs 0 → b ≡ is_none first → IsTrue b ↔ (xs ≡ [])
-told_unbroken [] first b is test = (λ _. refl, λ _. test ∙ ap is_none is)
-told_unbroken {X = X} (x ∷ xs) first b is test = (λ yes. let none : is_none (slice_get (x ∷ xs) 0) ≡ true = ap is_none (sym is) ∙ sym test ∙ yes in absurd cc, λ none. absurd cc)
+not_none : {X : Type 0} (first : Option X) (b : Bool) → first ≡ None → is_some first ≡ not b → b ≡ true
+not_none first true none is = refl
+not_none first false none is = let both : false ≡ true = ap is_some (sym none) ∙ is in absurd cc
+
+some_not : {X : Type 0} (first : Option X) (x : X) (b : Bool) → first ≡ Some x → is_some first ≡ not b → b ≡ true → ⊥
+some_not first x true found is here = let both : true ≡ false = ap is_some (sym found) ∙ is in absurd cc
+some_not first x false found is here = cc
+
+pub told_unbroken : {X : Type 0} (xs : List X) (first : Option X) (b : Bool) → first ≡ slice_get xs 0 → is_some first ≡ not b → IsTrue b ↔ (xs ≡ [])
+told_unbroken [] first b is test = (λ _. refl, λ _. not_none first b is test)
+told_unbroken (x ∷ xs) first b is test = (λ here. absurd (some_not first x b is test here), λ none. absurd cc)
+
+pub told_reached : (names : Names) (h : Holding) (ids : List ObjectId) → ((id : ObjectId) → Contains ids id ↔ Reached h (direct_ids names) id) → IsStrictlySortedBy id_cmp ids → (m n : ℕ) → m ≡ length ids → n ≡ finmap.len h.objects
+    → IsTrue (nat_eq m n) ↔ AreAllReached names h
+told_reached names h ids each rise m n is_m is_n = (
+  λ yes. all_reached names h ids each rise (sym is_m ∙ eqb-true m n yes ∙ is_n),
+  λ all. eq-eqb m n (is_m ∙ as_many names h ids each rise all ∙ sym is_n),
+)

@@ -60,8 +60,10 @@ fn read_whole<R: Threads + Sync>(rt: &R, alloc: Global, bytes: &[u8]) -> Result<
     ensures refused { IfErr result (λ e. IsRefused bytes.now e) }
 {
     let Parts { header, pack } = read_parts(alloc, bytes)?;
-    let pack = open_pack(rt, alloc, header.hash, pack)?;
-    whole_bundle(alloc, header, pack)
+    match open_pack(rt, alloc, header.hash, pack) {
+        Ok(pack) => whole_bundle(alloc, header, pack),
+        Err(e) => Err(e),
+    }
 }
 
 /// What stands before the pack.

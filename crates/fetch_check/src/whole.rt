@@ -3,6 +3,7 @@
 ghost use Rattle.std.specs.Prelude.{◌≡◌, ◌↔◌, [], IfOk, IsTrue, map as listed};
 ghost use Rattle.std.specs.FinMap as map;
 ghost use Rattle.std.specs.List.Sorted.{IsStrictlySortedBy};
+ghost use Rattle.std.specs.Ordering.{is_lt};
 ghost use Rattle.fetch_store.specs.Closed.{IsClosed, holding};
 ghost use Rattle.fetch_store.specs.References.{seen};
 ghost use Rattle.fetch_store.specs.Stores.{id_cmp};
@@ -64,11 +65,17 @@ pub(crate) fn ascends(objects: &[(ObjectId, Object)]) -> bool
     ensures { IsTrue result ↔ IsStrictlySortedBy id_cmp (listed (λ e. e.0) objects.now) }
 {
     'ids: for place in 1..objects.len() {
-        if !objects[place - 1].0.cmp(&objects[place].0).is_lt() {
+        if !is_below(&objects[place - 1], &objects[place]) {
             return false;
         }
     }
     true
+}
+
+fn is_below(a: &(ObjectId, Object), b: &(ObjectId, Object)) -> bool
+    ensures { result ≡ is_lt (id_cmp a.now.0 b.now.0) }
+{
+    a.0.cmp(&b.0).is_lt()
 }
 
 /// The objects of a store under their ids, in ascending order.
