@@ -24,3 +24,7 @@ pub mod Packed
 pub mod LinesTold
 pub mod Answered
 pub mod Stocked
+pub mod Replaced
+pub mod Locks
+pub mod Saved
+pub mod Putting

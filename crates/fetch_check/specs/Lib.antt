@@ -9,3 +9,5 @@ pub mod Reading
 pub mod ReadSteps
 pub mod Made
 pub mod Sound
+pub mod KeepErrors
+pub mod Keeping

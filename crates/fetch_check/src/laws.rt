@@ -1,6 +1,6 @@
 //! What findings and bundles say, in other words. Each law is the contract of a function without a body.
 
-ghost use Rattle.std.specs.Prelude.{◌≡◌, ◌↔◌, List, [], ℕ, Ok, None, Some, false, Contains, length};
+ghost use Rattle.std.specs.Prelude.{◌≡◌, ◌↔◌, List, Option, [], ℕ, Ok, None, Some, false, Contains, IfSome, length, option_map};
 ghost use Rattle.std.specs.FinMap as map;
 ghost use Rattle.fetch_store.specs.declared.id.Kind.{Kind};
 ghost use Rattle.fetch_store.specs.declared.id.ObjectId.{ObjectId};
@@ -9,6 +9,8 @@ ghost use Rattle.fetch_store.specs.Closed.{AreAllOf, Holding, IsClosed};
 ghost use Rattle.fetch_store.specs.Graph.{Graph};
 ghost use Rattle.fetch_store.specs.Hashing as hashing;
 ghost use Rattle.fetch_store.specs.Missing.{unclosed};
+ghost use Rattle.fetch_store.specs.Paths.{parts_of};
+ghost use Rattle.fetch_store.specs.Trees.{Tree, read_in};
 ghost use Rattle.fetch_pack.specs.Reading.{read};
 ghost use Rattle.fetch_pack.specs.Records.{Fits, body, payloads_of};
 ghost use Rattle.fetch_pack.specs.declared.version.PackVersion.TheVariants.{V2};
@@ -19,10 +21,12 @@ ghost use Rattle.fetch_reach.specs.Named.{AreObjects, AreOwnIds};
 ghost use Rattle.fetch_reach.specs.Stored.{objects_at};
 ghost use Rattle.fetch_check.specs.Bundles.{Bundled, bundle_text, bundled, pack_of};
 ghost use Rattle.fetch_check.specs.Finding.{end_of, missing_pairs};
-ghost use Rattle.fetch_check.specs.Reading.{IsBundle, IsRefused};
+ghost use Rattle.fetch_check.specs.Keeping.{IsLoaded, IsNoBundle, IsRead, saved};
+ghost use Rattle.fetch_check.specs.Reading.{IsBundle, IsRefused, bundle_of};
 ghost use Rattle.fetch_check.specs.Refusals.{AreReached, is_memory, write_trouble};
 ghost use Rattle.fetch_check.specs.Sound.{IsSound};
 ghost use Rattle.fetch_check.specs.declared.error.BundleError.{BundleError};
+ghost use Rattle.fetch_check.specs.declared.reading.Bundle.{Bundle};
 
 /// No link is told as missing exactly where the repository is closed.
 pub fn findings_are_none()
@@ -61,4 +65,12 @@ pub fn a_text_has_one_answer()
     ensures one { (bytes : List ℕ) (e : BundleError) (f : BundleError) → is_memory e ≡ false → is_memory f ≡ false → IsRefused bytes e → IsRefused bytes f → e ≡ f }
     ensures none { (b : Bundled) (e : BundleError) → is_memory e ≡ false → IsBundle b → IsRefused (bundle_text b) e → ⊥ }
     ensures bundle { (b : Bundled) (c : Bundled) → IsBundle b → IsBundle c → bundle_text b ≡ bundle_text c → b ≡ c }
+{}
+
+/// What is saved at a path is what is loaded from it: that bundle, and never an error that tells of the bundle.
+pub fn what_is_saved_is_loaded()
+    ensures loaded { (t : Tree) (u : Tree) (path : List ℕ) (b : Bundled) (found : Option Bundle) → IsBundle b → saved t path (bundle_text b) ≡ Some u
+        → IfSome found IsRead → IsLoaded (read_in u (parts_of path)) found → option_map bundle_of found ≡ Some b }
+    ensures none { (t : Tree) (u : Tree) (path : List ℕ) (b : Bundled) (e : BundleError) → IsBundle b → saved t path (bundle_text b) ≡ Some u
+        → IsNoBundle (read_in u (parts_of path)) e → ⊥ }
 {}
