@@ -44,17 +44,30 @@ named hash f os = with_ids f.version hash f.written (ids_of hash os) >>= λ _. d
 abbrev checked : Kind → Frame → Result Contents PackError
 checked hash f = all_parsed f.version hash 12 f.written >>= λ os. named hash f os
 
+of_kept : (hash : Kind) (f : Frame) (kept : Entries) (c : Contents) → AreOf hash kept → ◌≡◌ {A = Result Contents PackError} (Ok (made f kept)) (Ok c) → AreOf hash c.objects
+of_kept hash f kept c of_hash is = subst (λ (x : Contents). AreOf hash x.objects) (same_contents (made f kept) c is) of_hash
+
+of_distinct : (hash : Kind) (f : Frame) (es : Entries) (c : Contents) → AreOf hash (once_from [] es) → (distinct es >>= λ kept. Ok (made f kept)) ≡ Ok c → AreOf hash c.objects
+of_distinct hash f es c of_hash e =
+    let d = bind_ok (distinct es) (λ kept. Ok (made f kept)) c e in
+    let kept = unless_kept (once_from [] es) (collision finmap.empty es) d.0 d.1 in
+    of_kept hash f d.0 c (subst (AreOf hash) kept of_hash) d.2
+
+of_named : (hash : Kind) (f : Frame) (os : List Stored) (c : Contents) → AreOf hash (once_from [] (paired (ids_of hash os) os)) → named hash f os ≡ Ok c → AreOf hash c.objects
+of_named hash f os c of_hash e =
+    let i = bind_ok (with_ids f.version hash f.written (ids_of hash os)) (λ _. distinct (paired (ids_of hash os) os) >>= λ kept. Ok (made f kept)) c e in
+    of_distinct hash f (paired (ids_of hash os) os) c of_hash i.2
+
+of_checked : (hash : Kind) (f : Frame) (c : Contents) → checked hash f ≡ Ok c → AreOf hash c.objects
+of_checked hash f c e =
+    let p = bind_ok (all_parsed f.version hash 12 f.written) (named hash f) c e in
+    let all = parsed_found f.version hash 12 f.written p.0 p.1 in
+    let ps : List Payload = map (λ (w : Written). w.payload) f.written in
+    of_named hash f p.0 c
+    (subst (λ (os : List Stored). AreOf hash (once_from [] (paired (ids_of hash os) os))) all.1 (subst (λ (es : Entries). AreOf hash (once_from [] es)) (sym (paired_entries hash ps)) (once_of_kind hash ps))) p.2
+
 pub of_read : (hash : Kind) (bytes : List ℕ) (c : Contents) → read hash bytes ≡ Ok c → AreOf hash c.objects
 of_read hash bytes c e =
     let a = bind_ok (structure hash bytes) (λ fr. with_digest hash fr >>= λ f. checked hash f) c e in
     let b = bind_ok (with_digest hash a.0) (checked hash) c a.2 in
-    let f = b.0 in
-    let p = bind_ok (all_parsed f.version hash 12 f.written) (named hash f) c b.2 in
-    let all = parsed_found f.version hash 12 f.written p.0 p.1 in
-    let i = bind_ok (with_ids f.version hash f.written (ids_of hash p.0)) (λ _. distinct (paired (ids_of hash p.0) p.0) >>= λ kept. Ok (made f kept)) c p.2 in
-    let d = bind_ok (distinct (paired (ids_of hash p.0) p.0)) (λ kept. Ok (made f kept)) c i.2 in
-    let kept = unless_kept (once_from [] (paired (ids_of hash p.0) p.0)) (collision finmap.empty (paired (ids_of hash p.0) p.0)) d.0 d.1 in
-    let ps : List Payload = map (λ (w : Written). w.payload) f.written in
-    let once : AreOf hash (once_from [] (paired (ids_of hash p.0) p.0)) =
-    subst (λ (os : List Stored). AreOf hash (once_from [] (paired (ids_of hash os) os))) all.1 (subst (λ (es : Entries). AreOf hash (once_from [] es)) (sym (paired_entries hash ps)) (once_of_kind hash ps)) in
-    subst (AreOf hash) (kept ∙ ap (λ (x : Contents). x.objects) (same_contents (made f d.0) c d.2)) once
+    of_checked hash b.0 c b.2

@@ -1,6 +1,6 @@
 //! Bundles in files.
 
-ghost use Rattle.std.specs.Prelude.{◌≡◌, ◌<◌, ◌^◌, ◌≤◌, ◌==◌, is_some, length, option_map, List as Items, IfOk, IfSome, IsErrOf, OnErr, OnOk};
+ghost use Rattle.std.specs.Prelude.{◌≡◌, ◌<◌, ◌^◌, ◌≤◌, ◌==◌, is_some, length, option_map, List as Items, None, IfOk, IfSome, IsErrOf, OnErr, OnOk};
 ghost use Rattle.std.specs.FinMap as map;
 ghost use Rattle.std.specs.List.{suffix_len};
 ghost use Rattle.fetch_store.specs.Answers.{RefusesUnless};
@@ -48,9 +48,11 @@ pub fn save_bundle<F: Files>(
     ensures saved { OnOk result ((ids : Items Id) × AreReached refs.now.names (holding store.now.objects border.now) ids
         × IfSome (F.told files.old) (λ t. spec.saved t path.now (bundle_text (bundled store.now.hash refs.now.names (holding store.now.objects border.now) ids)) ≡ F.told files.new)) }
     ensures refused { RefusesUnless is_free (option_map (λ e. errors.Bundle e) (write_trouble refs.now.names (holding store.now.objects border.now))) result }
+    ensures untouched { (e : Trouble) → IsErrOf result (errors.Bundle e) → F.told files.new ≡ F.told files.old }
     ensures left { OnErr result (IsLeft (F.told files.old) (F.told files.new) path.now) }
     ensures failed { (F.faults files.new).count ≡ failed_after (F.faults files.old).count result }
     ensures cause { IsErrOf result errors.Failed → Rose (F.faults files.old) (F.faults files.new) }
+    ensures first { IsErrOf result errors.Failed → write_trouble refs.now.names (holding store.now.objects border.now) ≡ None }
     ensures in_the_way { IsErrOf result errors.Failed → (ids : Items Id) × AreReached refs.now.names (holding store.now.objects border.now) ids
         × IsRefused (F.may_fail files.old) (F.told files.old) (λ t. spec.saved t path.now (bundle_text (bundled store.now.hash refs.now.names (holding store.now.objects border.now) ids))) }
     ensures counts { Counts (F.faults files.old) (F.faults files.new) }
