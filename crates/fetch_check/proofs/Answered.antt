@@ -1,8 +1,6 @@
 -- What reading a bundle answers, from what its steps answer.
-use Rattle.std.proofs.Common.{◌≡◌, ℕ, Bool, true, false, inl, inr, List, map, Result, Ok, Err, refl, sym, ap, ap₂, subst, ◌∙◌}
-use Rattle.std.specs.Prelude.{IfOk, IfErr, nat_eq}
-use Rattle.std.specs.Bool.{OnFalse}
-use Rattle.std.specs.List.{starts_with}
+use Rattle.std.proofs.Common.{◌≡◌, ℕ, inr, List, Result, Ok, Err, sym, ap, ap₂, subst, ◌∙◌}
+use Rattle.std.specs.Prelude.{IfOk, IfErr}
 use Rattle.fetch_store.specs.declared.id.Kind.{Kind}
 use Rattle.fetch_store.specs.Borders.{IdSet}
 use Rattle.fetch_store.specs.Stores.{Entries}

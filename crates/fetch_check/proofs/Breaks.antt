@@ -1,6 +1,6 @@
 -- Where the lines of a bundle break, from what was read before.
-use Rattle.std.proofs.Common.{◌≡◌, ◌≢◌, ℕ, ◌+◌, ◌<◌, ◌≤◌, ◌⊎◌, inl, inr, List, [], ◌∷◌, ◌++◌, length, drop, map, append_assoc, append-nil, codes, refl, sym, ap, ap₂, subst, ◌∙◌, arith}
-use Rattle.std.specs.List.{AllByRecursion, concat}
+use Rattle.std.proofs.Common.{◌≡◌, ℕ, ◌+◌, ◌<◌, ◌≤◌, ◌⊎◌, inl, inr, List, [], ◌∷◌, ◌++◌, length, drop, map, append_assoc, append-nil, codes, refl, sym, ap, ap₂, subst, ◌∙◌, arith}
+use Rattle.std.specs.List.{AllByRecursion}
 use Rattle.std.specs.List.Sorted.{IsStrictlySortedBy}
 use Rattle.std.specs.Map.{keys_of}
 use Rattle.std.specs.FinMap as finmap
@@ -18,14 +18,12 @@ use Rattle.fetch_wire.specs.declared.lines.line.Line.TheVariants.{Payload, Flush
 use Rattle.fetch_wire.specs.Requests.{sent, text_line}
 use Rattle.fetch_wire.specs.Written.{four_digits, line_text, lines_text}
 use Rattle.fetch_check.specs.Bundles.{Said, said_lines, lines_before_pack, head_texts, hash_word, ref_text, ref_line, border_text, border_line}
-use Rattle.fetch_check.specs.Payloads.{IsOfHash, IsReference}
 use Rattle.fetch_check.specs.Reading.{AreReferences, AreBorderIds, ArePieces, BeginBundle, BreaksAt, CanStand, Says, pack_place}
 use Rattle.fetch_check.specs.Scanning.{IsWritten, Stands, Stand, AreRead}
 use Rattle.fetch_check.proofs.LineTexts.{all_of, stand_then, stand_one}
-use Rattle.fetch_check.proofs.Lines.{lines_more}
-use Rattle.fetch_check.proofs.Next.{IsNext, a_reference, a_commit, the_delimiter, AreBefore, next_line, next_piece, said_of, shape_of, can_stand, begin_with, header_before, pieces_before, none_behind, not_ended, the_entries, the_ids}
-use Rattle.fetch_check.proofs.Ordered.{all_more, last_of}
-use Rattle.fetch_check.proofs.Shapes.{Reference, shape, said_shape, heads, sent_lines}
+use Rattle.fetch_check.proofs.Next.{IsNext, a_reference, a_commit, the_delimiter, next_line, next_piece, said_of, shape_of, can_stand, begin_with, header_before, pieces_before, none_behind, not_ended, the_entries, the_ids}
+use Rattle.fetch_check.proofs.Ordered.{last_of}
+use Rattle.fetch_check.proofs.Shapes.{Reference, shape, sent_lines}
 use Rattle.fetch_check.proofs.Unique.{begin_written}
 
 -- a length from the start

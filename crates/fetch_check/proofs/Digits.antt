@@ -18,7 +18,7 @@ use Rattle.fetch_wire.specs.Lines.{number_in, line_at, line_len}
 use Rattle.fetch_wire.specs.LineLaws.{line_at-is}
 use Rattle.fetch_wire.specs.Written.{four_digits, count_of, payload_of, line_text, too_long_in}
 use Rattle.fetch_wire.specs.WrittenLaws.{written-line_at}
-use Rattle.fetch_check.specs.Scanning.{IsWritten, Begins, BeginsNone}
+use Rattle.fetch_check.specs.Scanning.{Begins, BeginsNone}
 
 -- two bytes that write a number
 two_bytes : (bytes : List ℕ) (n : ℕ) → length bytes ≡ 2 → IsBytes bytes → slice_index bytes 0 * 256 + slice_index bytes 1 ≡ n → bytes ≡ n / 256 ∷ n % 256 ∷ []

@@ -1,5 +1,5 @@
 -- What the line at a place tells, and that none stands there.
-use Rattle.std.proofs.Common.{◌≡◌, ◌≢◌, ℕ, ◌+◌, ◌≤◌, Bool, true, false, true≢false, List, [], ◌∷◌, ◌++◌, length, drop, append-nil, append_assoc, length-append, length-drop, Option, Some, None, refl, sym, ap, subst, ◌∙◌, arith}
+use Rattle.std.proofs.Common.{◌≡◌, ℕ, ◌+◌, ◌≤◌, Bool, true, false, true≢false, List, [], ◌∷◌, ◌++◌, length, drop, append-nil, length-drop, Option, Some, None, refl, sym, ap, subst, ◌∙◌, arith}
 use Rattle.std.specs.Prelude.{◌↔◌, IfSome, IsTrue, option_map, nat_eq}
 use Rattle.std.specs.List.{starts_with}
 use Rattle.std.proofs.lemmas.Bool.Decides.{Decides-eqb}
@@ -12,7 +12,7 @@ use Rattle.fetch_refs.specs.Names.{name_cmp}
 use Rattle.fetch_refs.specs.declared.target.Target.{Target}
 use Rattle.fetch_wire.specs.declared.lines.line.Line.{Line}
 use Rattle.fetch_wire.specs.declared.lines.line.Line.TheVariants.{Payload}
-use Rattle.fetch_wire.specs.Written.{line_text, lines_text}
+use Rattle.fetch_wire.specs.Written.{line_text}
 use Rattle.fetch_check.specs.Bundles.{ref_text, ref_line, border_text, border_line}
 use Rattle.fetch_check.specs.Payloads.{IsOfHash, IsReference, TellsBorder, TellsReference}
 use Rattle.fetch_check.specs.Reading.{AreReferences, AreBorderIds, IsPiece}

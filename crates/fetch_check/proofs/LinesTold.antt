@@ -1,5 +1,5 @@
 -- What the payloads of a bundle's lines tell.
-use Rattle.std.proofs.Common.{◌≡◌, ℕ, Bool, true, false, List, [], ◌∷◌, ◌++◌, Option, Some, None, codes, append_assoc, refl, sym, ap, subst, ◌∙◌}
+use Rattle.std.proofs.Common.{◌≡◌, ℕ, List, [], ◌∷◌, ◌++◌, Option, Some, None, codes, append_assoc, refl, sym, ap, subst, ◌∙◌}
 use Rattle.std.specs.Prelude.{IfSome, IsTrue, option_map}
 use Rattle.fetch_specs.specs.Names.{is_full_name}
 use Rattle.fetch_store.specs.declared.id.Kind.{Kind}
@@ -12,7 +12,7 @@ use Rattle.fetch_store.proofs.LineLaws.{splits}
 use Rattle.fetch_store.proofs.TagTexts.{after_is, after_of}
 use Rattle.fetch_refs.specs.declared.target.Target.{Target}
 use Rattle.fetch_refs.specs.declared.target.Target.TheVariants.{Object, Symbolic}
-use Rattle.fetch_check.specs.Bundles.{border_text, ref_text, target_text}
+use Rattle.fetch_check.specs.Bundles.{ref_text, target_text}
 use Rattle.fetch_check.specs.Payloads.{IsTarget, TellsBorder, TellsReference}
 use Rattle.fetch_check.proofs.Shapes.{Reference, front_is, one_split, drop_word, word_off, spaceless_target, no_at}
 

@@ -1,5 +1,5 @@
 -- Which line may come next in a bundle.
-use Rattle.std.proofs.Common.{◌≡◌, ◌≢◌, ℕ, ◌⊎◌, inl, inr, List, [], ◌∷◌, ◌++◌, length, map, append_assoc, append-nil, refl, sym, ap, ap₂, subst, ◌∙◌}
+use Rattle.std.proofs.Common.{◌≡◌, ◌≢◌, ℕ, ◌⊎◌, inl, inr, List, [], ◌∷◌, ◌++◌, map, append_assoc, refl, sym, ap, ap₂, subst, ◌∙◌}
 use Rattle.std.specs.List.{AllByRecursion, concat}
 use Rattle.std.specs.List.Sorted.{IsStrictlySortedBy}
 use Rattle.std.specs.Map.{keys_of}
@@ -7,7 +7,7 @@ use Rattle.std.specs.FinMap as finmap
 use Rattle.std.proofs.lemmas.List.{map-append}
 use Rattle.fetch_store.specs.declared.id.Kind.{Kind}
 use Rattle.fetch_store.specs.declared.id.ObjectId.{ObjectId}
-use Rattle.fetch_store.specs.Borders.{IdSet, ids_of, set_of}
+use Rattle.fetch_store.specs.Borders.{ids_of, set_of}
 use Rattle.fetch_store.specs.Stores.{id_cmp}
 use Rattle.fetch_store.proofs.Borders.{ids_of-set}
 use Rattle.fetch_refs.specs.Names.{Names, name_cmp}
@@ -17,7 +17,6 @@ use Rattle.fetch_wire.specs.declared.lines.line.Line.{Line}
 use Rattle.fetch_wire.specs.declared.lines.line.Line.TheVariants.{Payload, Flush, Delim}
 use Rattle.fetch_wire.specs.Cutting.{in_pieces}
 use Rattle.fetch_wire.specs.Requests.{sent}
-use Rattle.fetch_wire.proofs.Cut.{are_the_bytes}
 use Rattle.fetch_check.specs.Bundles.{Said, said_lines, head_texts, ref_line, border_line}
 use Rattle.fetch_check.specs.Payloads.{IsOfHash, IsReference}
 use Rattle.fetch_check.specs.Reading.{AreReferences, AreBorderIds, ArePieces, CanStand, BeginBundle}
@@ -25,7 +24,7 @@ use Rattle.fetch_check.specs.Scanning.{IsWritten}
 use Rattle.fetch_check.proofs.Bundling.{ids_rise}
 use Rattle.fetch_check.proofs.Ordered.{in_front, sorted_front}
 use Rattle.fetch_check.proofs.Pieces.{is_cut, cut_is, pieces_front}
-use Rattle.fetch_check.proofs.Shapes.{Reference, shape, ends, behind_refs, behind_head, said_shape, same_head, same_reference, same_border, ref_border, next_of, same_list, heads, IsOther, other_ref, other_border, other_piece}
+use Rattle.fetch_check.proofs.Shapes.{Reference, shape, ends, behind_refs, behind_head, said_shape, same_head, same_reference, same_border, ref_border, next_of, same_list, heads, other_ref, other_border, other_piece}
 
 -- ---- what is said
 

@@ -1,16 +1,10 @@
 -- Ascending lists, from their last element.
-use Rattle.std.proofs.Common.{◌≡◌, ℕ, ◌-◌, ◌+◌, Bool, true, false, List, [], ◌∷◌, ◌++◌, length, map, ◌⊎◌, inl, inr, Some, None, refl, sym, ap, subst, ◌∙◌, arith, length-append}
-use Rattle.std.specs.Prelude.{slice_get}
+use Rattle.std.proofs.Common.{◌≡◌, List, [], ◌∷◌, ◌++◌}
 use Rattle.std.specs.List.{AllByRecursion}
 use Rattle.std.specs.List.Sorted.{IsStrictlySortedBy}
-use Rattle.std.specs.Ordering.{is_lt}
-use Rattle.std.specs.Option.{option_map_or}
 use Rattle.std.specs.Cmp.{IsTotalOrder}
 use Rattle.std.specs.declared.cmp.Ordering.{Ordering}
 use Rattle.std.specs.declared.cmp.Ordering.TheVariants.{Less}
-use Rattle.fetch_store.proofs.Probes.{lesser}
-use Rattle.fetch_refs.proofs.PackedLines.{from_end}
-use Rattle.fetch_check.specs.Scanning.{is_above}
 
 module _ {K : Type 0} {R : K → K → Ordering} (o : IsTotalOrder R) where
   below_more : (k : K) (ks : List K) (q : K) → AllByRecursion (λ y. R k y ≡ Less) ks → R k q ≡ Less → AllByRecursion (λ y. R k y ≡ Less) (ks ++ q ∷ [])

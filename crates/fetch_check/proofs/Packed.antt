@@ -1,5 +1,5 @@
 -- A pack that holds a whole repository is the pack of its objects.
-use Rattle.std.proofs.Common.{◌≡◌, ℕ, suc, ◌+◌, ◌<◌, ◌≤◌, Bool, true, false, cond, List, [], ◌∷◌, ◌++◌, length, map, append_assoc, append-nil, Option, Some, None, Result, Ok, Err, refl, sym, ap, ap₂, subst, ◌∙◌, arith}
+use Rattle.std.proofs.Common.{◌≡◌, ℕ, suc, ◌+◌, ◌≤◌, Bool, true, false, cond, List, [], ◌∷◌, ◌++◌, length, map, append_assoc, append-nil, Result, Ok, Err, refl, sym, ap, ap₂, subst, ◌∙◌, arith}
 use Rattle.std.specs.Prelude.{nat_eq, if◌then◌else◌}
 use Rattle.std.specs.Bool.{OnFalse}
 use Rattle.std.specs.List.{list_any, starts_with}
@@ -14,10 +14,10 @@ use Rattle.fetch_pack.specs.declared.error.PackError.TheVariants as packs
 use Rattle.fetch_pack.specs.declared.version.PackVersion.{PackVersion}
 use Rattle.fetch_pack.specs.declared.version.PackVersion.TheVariants.{V1, V2}
 use Rattle.fetch_pack.specs.Packs.{IsPack, contents_of, entry, entries}
-use Rattle.fetch_pack.specs.Reading.{Contents, is_id, is_memory, keep, once_from, read}
+use Rattle.fetch_pack.specs.Reading.{Contents, is_id, is_memory, once_from, read}
 use Rattle.fetch_pack.specs.Records.{Payload, body, mark, pack_text, payloads_of, version_text}
 use Rattle.fetch_wire.specs.Written.{lines_text}
-use Rattle.fetch_check.specs.Bundles.{Bundled, Said, bundle_text, pack_of, said_in, said_lines}
+use Rattle.fetch_check.specs.Bundles.{Bundled, Said, bundle_text, said_in, said_lines}
 use Rattle.fetch_check.specs.Reading.{CanStand, HoldsWhole, IsBundle, Says, contents_in, pack_read}
 
 -- ---- version 1

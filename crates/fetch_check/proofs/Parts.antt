@@ -1,7 +1,7 @@
 -- What is bundled of a repository is a whole repository.
-use Rattle.std.proofs.Common.{◌≡◌, ℕ, Bool, true, false, not, ◌&&◌, ◌||◌, cond, List, [], ◌∷◌, length, map, filter, get_or, Option, Some, None, All, Contains, Result, Ok, Err, ⊎_elim, inl, inr, refl, sym, ap, ap₂, subst, ◌∙◌}
-use Rattle.std.specs.Prelude.{option_map, is_some, IsTrue, slice_get, if◌then◌else◌}
-use Rattle.std.specs.List.{filter_map, cons_option, list_any, AllByRecursion}
+use Rattle.std.proofs.Common.{◌≡◌, ℕ, Bool, true, false, ◌&&◌, ◌||◌, cond, List, [], ◌∷◌, map, filter, get_or, Option, Some, None, All, Contains, Result, Ok, Err, refl, sym, ap, subst, ◌∙◌}
+use Rattle.std.specs.Prelude.{option_map, is_some, slice_get, if◌then◌else◌}
+use Rattle.std.specs.List.{filter_map, cons_option, AllByRecursion}
 use Rattle.std.specs.List.Sorted.{IsStrictlySortedBy}
 use Rattle.std.specs.Map.{keys_of}
 use Rattle.std.specs.Option.{option_and_then}
@@ -17,22 +17,22 @@ use Rattle.fetch_store.specs.declared.id.ObjectId.{ObjectId}
 use Rattle.fetch_store.specs.declared.object_kind.ObjectKind.{ObjectKind}
 use Rattle.fetch_store.specs.declared.object_kind.ObjectKind.TheVariants as kinds
 use Rattle.fetch_store.specs.Borders.{IdSet, ids_of, set_of}
-use Rattle.fetch_store.specs.Closed.{Holding, IsClosed, IsStored, IsCommit, is_commit, IsWalk, Reached, holding, links_within, links, others}
-use Rattle.fetch_store.specs.Graph.{Graph, Node, graph_of, node_of, target_of}
+use Rattle.fetch_store.specs.Closed.{Holding, IsClosed, IsStored, is_commit, IsWalk, Reached, holding, links_within, links, others}
+use Rattle.fetch_store.specs.Graph.{Node, graph_of, node_of, target_of}
 use Rattle.fetch_store.specs.Objects.{Stored, is_kind}
-use Rattle.fetch_store.specs.Stores.{ObjectMap, Entries, id_cmp, map_of}
+use Rattle.fetch_store.specs.Stores.{ObjectMap, id_cmp, map_of}
 use Rattle.fetch_store.proofs.Borders.{named-Contains, Contains-named, any-filter, named-ids_of}
 use Rattle.fetch_store.proofs.Finds.{get-map_of}
 use Rattle.fetch_store.proofs.Graphs.{get-graph_of}
 use Rattle.fetch_store.proofs.Ids.{id_cmp_total, id_cmp_exact}
-use Rattle.fetch_store.proofs.Members.{first_in, later_in, cases_in}
-use Rattle.fetch_store.proofs.Reaching.{All-Contains, reached_start, reached_closed}
+use Rattle.fetch_store.proofs.Members.{first_in, later_in}
+use Rattle.fetch_store.proofs.Reaching.{reached_start, reached_closed}
 use Rattle.fetch_store.proofs.Honesty.{reached_stored}
 use Rattle.fetch_refs.specs.declared.error.RefError.{RefError}
 use Rattle.fetch_refs.specs.declared.error.RefError.TheVariants as errors
 use Rattle.fetch_refs.specs.declared.target.Target.{Target}
 use Rattle.fetch_refs.specs.declared.target.Target.TheVariants.{Object, Symbolic}
-use Rattle.fetch_refs.specs.Leading.{Leads, next_tag, IsTagWay, EndsTags, EndsNames}
+use Rattle.fetch_refs.specs.Leading.{Leads, next_tag, EndsTags}
 use Rattle.fetch_refs.specs.Names.{Names, name_cmp}
 use Rattle.fetch_refs.specs.Packed.{direct_id}
 use Rattle.fetch_refs.specs.Peeled.{resolved, and_then, through}
@@ -40,11 +40,11 @@ use Rattle.fetch_refs.proofs.Names.{name_cmp_total}
 use Rattle.fetch_refs.proofs.NameWays.{resolved_to}
 use Rattle.fetch_refs.proofs.TagWays.{tags_end}
 use Rattle.fetch_reach.specs.Sets.{is_among}
-use Rattle.fetch_reach.specs.Stored.{entry_at, entries_at}
+use Rattle.fetch_reach.specs.Stored.{entries_at}
 use Rattle.fetch_check.specs.declared.findings.Broken.{Broken}
 use Rattle.fetch_check.specs.declared.findings.BrokenCause.{BrokenCause}
 use Rattle.fetch_check.specs.declared.findings.BrokenCause.TheVariants as causes
-use Rattle.fetch_check.specs.Finding.{unless_stored, cause_in, cause_of, end_of, broken_at, broken_of, direct_ids, IsWholeIn}
+use Rattle.fetch_check.specs.Finding.{unless_stored, cause_in, cause_of, broken_at, broken_of, direct_ids, IsWholeIn}
 use Rattle.fetch_check.specs.Refusals.{AreReached}
 use Rattle.fetch_check.proofs.Next.{entries_rise}
 

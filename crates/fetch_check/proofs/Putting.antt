@@ -7,7 +7,7 @@ use Rattle.fetch_check.specs.declared.error.BundleError.{BundleError}
 use Rattle.fetch_check.specs.declared.reading.Bundle.{Bundle}
 use Rattle.fetch_check.specs.Bundles.{Bundled, bundle_text}
 use Rattle.fetch_check.specs.Keeping.{IsBegun, IsLeft, IsLoaded, IsNoBundle, IsRead, saved}
-use Rattle.fetch_check.specs.Reading.{IsBundle, IsRefused, bundle_of}
+use Rattle.fetch_check.specs.Reading.{IsBundle, bundle_of}
 use Rattle.fetch_check.proofs.Saved.{left, read_saved}
 use Rattle.fetch_check.proofs.Unique.{one_bundle, refused_bundle}
 

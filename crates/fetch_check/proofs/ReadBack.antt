@@ -1,6 +1,6 @@
 -- What is bundled of a repository is a bundle.
-use Rattle.std.proofs.Common.{◌≡◌, ℕ, ◌+◌, ◌*◌, ◌<◌, ◌≤◌, ◌^◌, Bool, true, false, cond, List, [], ◌∷◌, ◌++◌, length, map, filter, codes, Option, Some, None, Result, Ok, Err, All, refl, sym, ap, ap₂, subst, ◌∙◌, arith, length-append}
-use Rattle.std.specs.Prelude.{option_map, slice_get, nat_lt}
+use Rattle.std.proofs.Common.{◌≡◌, ℕ, ◌+◌, ◌≤◌, Bool, true, false, cond, List, [], ◌∷◌, ◌++◌, length, map, filter, codes, Option, Some, None, Result, Ok, Err, refl, sym, ap, ap₂, subst, ◌∙◌, arith, length-append}
+use Rattle.std.specs.Prelude.{option_map, slice_get}
 use Rattle.std.specs.List.{filter_map, cons_option, AllByRecursion}
 use Rattle.std.specs.Option.{option_or}
 use Rattle.std.specs.Result.{result_ok}
@@ -16,7 +16,7 @@ use Rattle.fetch_store.specs.declared.id.Kind.TheVariants.{Sha1, Sha256}
 use Rattle.fetch_store.specs.declared.id.ObjectId.{ObjectId}
 use Rattle.fetch_store.specs.declared.missing.Missing.{Missing}
 use Rattle.fetch_store.specs.Borders.{ids_of, set_of}
-use Rattle.fetch_store.specs.Closed.{AreAllOf, Holding, IsClosed}
+use Rattle.fetch_store.specs.Closed.{Holding, IsClosed}
 use Rattle.fetch_store.specs.Digits.{hex_of}
 use Rattle.fetch_store.specs.Hashing.{digest}
 use Rattle.fetch_store.specs.Id.{byte_len, id_of_bytes}
@@ -28,24 +28,19 @@ use Rattle.fetch_store.proofs.Unclosed.{none_closed}
 use Rattle.fetch_pack.specs.declared.version.PackVersion.TheVariants.{V2}
 use Rattle.fetch_pack.specs.Reading.{Contents, read}
 use Rattle.fetch_pack.specs.Records.{Fits, body, pack_text, payloads_of}
-use Rattle.fetch_refs.specs.declared.target.Target.{Target}
 use Rattle.fetch_refs.specs.Names.{Names}
-use Rattle.fetch_wire.specs.declared.lines.line.Line.{Line}
 use Rattle.fetch_wire.specs.declared.lines.line.Line.TheVariants.{Payload, Flush, Delim}
 use Rattle.fetch_wire.specs.Cutting.{in_pieces}
 use Rattle.fetch_wire.specs.Requests.{sent}
-use Rattle.fetch_wire.specs.Written.{too_long_in}
-use Rattle.fetch_reach.specs.Named.{AreObjects, AreOwnIds}
 use Rattle.fetch_reach.specs.Sets.{is_among}
 use Rattle.fetch_reach.specs.Stored.{entries_at, objects_at}
 use Rattle.fetch_reach.proofs.Written.{is_read}
-use Rattle.fetch_check.specs.declared.error.BundleError.{BundleError}
 use Rattle.fetch_check.specs.declared.error.BundleError.TheVariants as errors
 use Rattle.fetch_check.specs.declared.findings.Broken.{Broken}
-use Rattle.fetch_check.specs.Bundles.{bundled, said_in, said_lines, pack_of, head_texts, ref_text, ref_line, border_text, border_line, has_long_line, long_name, first_long}
+use Rattle.fetch_check.specs.Bundles.{bundled, said_in, pack_of, head_texts, ref_text, ref_line, border_text, border_line, has_long_line, long_name, first_long}
 use Rattle.fetch_check.specs.Finding.{missing_pairs, broken_of}
-use Rattle.fetch_check.specs.Payloads.{IsOfHash, IsReference}
-use Rattle.fetch_check.specs.Reading.{ArePieces, CanStand, IsWhole, IsBundle, contents_in}
+use Rattle.fetch_check.specs.Payloads.{IsOfHash}
+use Rattle.fetch_check.specs.Reading.{ArePieces, IsBundle}
 use Rattle.fetch_check.specs.Refusals.{AreReached, write_trouble}
 use Rattle.fetch_check.specs.Scanning.{IsWritten}
 use Rattle.fetch_check.specs.Sound.{IsSound}

@@ -1,5 +1,5 @@
 -- The lines of a bundle, part by part, and which line may come next.
-use Rattle.std.proofs.Common.{◌≡◌, ℕ, zero, suc, ◌/◌, ◌⊎◌, inl, inr, Bool, true, false, not, eqb, true≢false, List, [], ◌∷◌, ◌++◌, length, map, append_assoc, Some, refl, sym, ap, ap₂, subst, ◌∙◌}
+use Rattle.std.proofs.Common.{◌≡◌, ℕ, zero, suc, ◌/◌, ◌⊎◌, inl, inr, Bool, true, false, not, eqb, true≢false, List, [], ◌∷◌, ◌++◌, map, append_assoc, Some, refl, sym, ap, ap₂, subst, ◌∙◌}
 use Rattle.std.specs.Prelude.{codes, slice_index}
 use Rattle.std.specs.List.{AllByRecursion, list_all}
 use Rattle.std.specs.FinMap as finmap
@@ -12,7 +12,6 @@ use Rattle.fetch_store.specs.Borders.{ids_of}
 use Rattle.fetch_store.specs.Digits.{hex_of}
 use Rattle.fetch_store.specs.Id.{bytes_of, id_in_hex}
 use Rattle.fetch_store.specs.Lines.{IsWithout}
-use Rattle.fetch_store.specs.Scan.{split_first}
 use Rattle.fetch_store.proofs.LineLaws.{splits}
 use Rattle.fetch_refs.specs.declared.target.Target.{Target}
 use Rattle.fetch_refs.specs.declared.target.Target.TheVariants.{Object, Symbolic}
@@ -21,7 +20,7 @@ use Rattle.fetch_wire.specs.declared.lines.line.Line.{Line}
 use Rattle.fetch_wire.specs.declared.lines.line.Line.TheVariants.{Payload, Flush, Delim}
 use Rattle.fetch_wire.specs.Cutting.{in_pieces}
 use Rattle.fetch_wire.specs.Requests.{sent, text_line}
-use Rattle.fetch_check.specs.Bundles.{Said, said_lines, head_texts, hash_word, target_text, ref_text, ref_line, border_text, border_line}
+use Rattle.fetch_check.specs.Bundles.{Said, said_lines, head_texts, target_text, ref_text, ref_line, border_text, border_line}
 use Rattle.fetch_check.specs.Payloads.{IsOfHash, IsTarget, IsReference}
 use Rattle.fetch_check.proofs.Spaces.{spaceless_name}
 

@@ -1,6 +1,6 @@
 -- One line more of those that are read.
-use Rattle.std.proofs.Common.{◌≡◌, ℕ, suc, ◌+◌, ◌-◌, ◌<◌, ◌≤◌, Bool, true, false, eqb, List, [], ◌∷◌, ◌++◌, length, drop, map, append-nil, append_assoc, refl, sym, ap, subst, ◌∙◌, arith}
-use Rattle.std.specs.List.{AllByRecursion, concat}
+use Rattle.std.proofs.Common.{◌≡◌, ℕ, ◌+◌, ◌-◌, ◌<◌, ◌≤◌, Bool, true, false, eqb, List, [], ◌∷◌, ◌++◌, length, map, append-nil, append_assoc, refl, sym, ap, subst, ◌∙◌, arith}
+use Rattle.std.specs.List.{concat}
 use Rattle.std.specs.List.Sorted.{IsStrictlySortedBy}
 use Rattle.std.specs.Map.{keys_of}
 use Rattle.std.proofs.lemmas.List.{map-append, length-append}
@@ -12,10 +12,10 @@ use Rattle.fetch_refs.specs.Names.{name_cmp}
 use Rattle.fetch_refs.specs.declared.target.Target.{Target}
 use Rattle.fetch_wire.specs.declared.lines.line.Line.{Line}
 use Rattle.fetch_wire.specs.declared.lines.line.Line.TheVariants.{Payload}
-use Rattle.fetch_wire.specs.Written.{line_text, lines_text}
+use Rattle.fetch_wire.specs.Written.{line_text}
 use Rattle.fetch_check.specs.ReadSteps.{AreReadTo}
 use Rattle.fetch_check.specs.Reading.{AreBorderIds, AreReferences, IsPiece, ArePieces}
-use Rattle.fetch_check.specs.Scanning.{IsWritten, Stands, Stand, NoneStands, AreRead}
+use Rattle.fetch_check.specs.Scanning.{Stand, NoneStands, AreRead}
 use Rattle.fetch_check.proofs.Digits.{line_some}
 use Rattle.fetch_check.proofs.LineTexts.{stand_then, stand_none}
 use Rattle.fetch_check.proofs.Ordered.{all_more}

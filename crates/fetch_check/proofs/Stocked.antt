@@ -1,12 +1,11 @@
 -- A store of the objects that are read.
-use Rattle.std.proofs.Common.{◌≡◌, ℕ, List, Option, Some, None, Result, Ok, Err, [], map, refl, sym, ap, subst, ◌∙◌}
-use Rattle.std.specs.Prelude.{IsTrue}
+use Rattle.std.proofs.Common.{◌≡◌, ℕ, List, Option, Some, None, Result, Ok, [], map, sym, ap, subst, ◌∙◌}
 use Rattle.std.specs.FinMap as finmap
 use Rattle.std.specs.List.Sorted.{IsStrictlySortedBy}
 use Rattle.fetch_store.specs.declared.id.Kind.{Kind}
 use Rattle.fetch_store.specs.declared.id.ObjectId.{ObjectId}
 use Rattle.fetch_store.specs.Objects.{Stored}
-use Rattle.fetch_store.specs.Stores.{AreOf, Entries, ObjectMap, add_all, collision, first_some, id_cmp, map_of}
+use Rattle.fetch_store.specs.Stores.{AreOf, Entries, add_all, collision, first_some, id_cmp, map_of}
 use Rattle.fetch_store.proofs.Additions.{get-add_all}
 use Rattle.fetch_store.proofs.Finds.{get-map_of}
 use Rattle.fetch_store.proofs.Ids.{id_cmp_total, id_cmp_exact}

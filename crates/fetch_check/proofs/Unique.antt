@@ -1,13 +1,10 @@
 -- Bytes have one answer.
-use Rattle.std.proofs.Common.{◌≡◌, ℕ, ◌<◌, arith, ◌⊎◌, inl, inr, Bool, true, false, List, [], ◌∷◌, ◌++◌, length, append_assoc, append-nil, Result, Ok, Err, ⊎_elim, refl, sym, ap, ap₂, subst, ◌∙◌}
+use Rattle.std.proofs.Common.{◌≡◌, ℕ, ◌<◌, arith, inl, inr, Bool, true, false, List, [], ◌∷◌, ◌++◌, length, append_assoc, append-nil, Result, Ok, Err, ⊎_elim, refl, sym, ap, subst, ◌∙◌}
 use Rattle.std.specs.Prelude.{IfOk, IfErr}
 use Rattle.std.specs.Bool.{OnFalse}
 use Rattle.std.specs.List.{AllByRecursion, concat}
 use Rattle.std.specs.FinMap as finmap
-use Rattle.std.specs.FinSet as set
-use Rattle.fetch_store.specs.Answers.{AnswersBy}
 use Rattle.fetch_store.specs.declared.id.Kind.{Kind}
-use Rattle.fetch_store.specs.declared.id.ObjectId.{ObjectId}
 use Rattle.fetch_store.specs.Borders.{IdSet, ids_of}
 use Rattle.fetch_store.specs.Stores.{Entries}
 use Rattle.fetch_pack.specs.Reading.{Contents, read}
@@ -16,14 +13,14 @@ use Rattle.fetch_refs.specs.Names.{Names}
 use Rattle.fetch_wire.specs.declared.lines.line.Line.{Line}
 use Rattle.fetch_wire.specs.declared.lines.line.Line.TheVariants.{Payload, Flush, Delim}
 use Rattle.fetch_wire.specs.Cutting.{in_pieces}
-use Rattle.fetch_wire.specs.Written.{line_text, lines_text}
+use Rattle.fetch_wire.specs.Written.{lines_text}
 use Rattle.fetch_wire.proofs.Cut.{are_the_bytes}
 use Rattle.fetch_check.specs.declared.error.BundleError.{BundleError}
 use Rattle.fetch_check.specs.declared.error.BundleError.TheVariants.{Missing, Broken, NameTooLong, Malformed, Pack, NoMemory}
 use Rattle.fetch_check.specs.declared.reading.Bundle.{Bundle}
 use Rattle.fetch_check.specs.Bundles.{Bundled, Said, said_lines, said_in, pack_of, bundle_text, ref_line, border_line}
 use Rattle.fetch_check.specs.Payloads.{IsOfHash, IsReference}
-use Rattle.fetch_check.specs.Reading.{CanStand, Says, BeginBundle, BreaksAt, pack_read, pack_place, HoldsWhole, contents_in, IsBundle, IsPart, HasNoPack, IsRefused, bundle_of, refs_alone, IsReading}
+use Rattle.fetch_check.specs.Reading.{CanStand, Says, BeginBundle, BreaksAt, pack_read, pack_place, HoldsWhole, contents_in, IsBundle, IsRefused, bundle_of, refs_alone, IsReading}
 use Rattle.fetch_check.specs.Refusals.{is_memory}
 use Rattle.fetch_check.specs.Scanning.{IsWritten}
 use Rattle.fetch_check.proofs.Borders.{same_border_set}

@@ -1,4 +1,4 @@
-use Rattle.std.proofs.Common.{Ok, ap, refl, sym, ◌∙◌}
+use Rattle.std.proofs.Common.{Ok, ap, sym, ◌∙◌}
 use Rattle.fetch_check.proofs.Above.{reference_more}
 use Rattle.fetch_check.proofs.Found.{none_more, not_above}
 use Rattle.fetch_check.proofs.header.next_reference.Goals as goal

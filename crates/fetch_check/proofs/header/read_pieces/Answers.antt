@@ -1,4 +1,4 @@
-use Rattle.std.proofs.Common.{◌≡◌, [], ap, length, refl, subst, sym}
+use Rattle.std.proofs.Common.{length, refl, subst, sym}
 use Rattle.fetch_check.specs.ReadSteps.{AreReadTo}
 use Rattle.fetch_check.proofs.Steps.{fewer, further, no_pieces, piece_more, pieces_end}
 use Rattle.fetch_wire.specs.declared.lines.line.Line.TheVariants.{Payload}

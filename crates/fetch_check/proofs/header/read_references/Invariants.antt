@@ -1,4 +1,4 @@
-use Rattle.std.proofs.Common.{ℕ, ◌-◌, length, map}
+use Rattle.std.proofs.Common.{◌-◌, length, map}
 use Rattle.fetch_check.specs.Bundles.{ref_line}
 use Rattle.fetch_check.specs.Reading.{AreReferences}
 use Rattle.fetch_check.specs.Scanning.{Stand}

@@ -1,4 +1,4 @@
-use Rattle.std.proofs.Common.{Ok, Result, Option, ℕ, List, refl, ap, ◌≡◌}
+use Rattle.std.proofs.Common.{Ok, refl, ap, ◌≡◌}
 use Rattle.fetch_check.proofs.Found.{no_reference, untold_reference, reference_line, reference_told, none_mapped}
 use Rattle.fetch_check.proofs.header.reference_at.Goals as goal
 

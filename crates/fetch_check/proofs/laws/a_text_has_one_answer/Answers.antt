@@ -1,4 +1,4 @@
-use Rattle.std.proofs.Common.{refl, sym}
+use Rattle.std.proofs.Common.{refl}
 use Rattle.fetch_check.specs.Bundles.{bundle_text}
 use Rattle.fetch_check.proofs.Unique.{refused_one, refused_bundle, one_bundle}
 use Rattle.fetch_check.proofs.laws.a_text_has_one_answer.Goals as goal

@@ -1,5 +1,4 @@
 use Rattle.std.proofs.Common.{◌≡◌, ◌++◌, ◌∷◌, [], codes, sym}
-use Rattle.std.specs.Prelude.{IfSome}
 use Rattle.fetch_store.specs.Lines.{IsWithout}
 use Rattle.fetch_store.specs.Scan.{split_first}
 use Rattle.fetch_check.proofs.LinesTold.{if_view, none_view, ref_split, ref_unsplit}

@@ -1,8 +1,7 @@
-use Rattle.std.proofs.Common.{List, ap, inl, refl, subst, sym, ◌∙◌}
+use Rattle.std.proofs.Common.{ap, inl, refl, subst, sym, ◌∙◌}
 use Rattle.std.specs.FinMap as finmap
 use Rattle.std.specs.List.{concat}
 use Rattle.fetch_store.specs.Borders.{set_of}
-use Rattle.fetch_check.specs.Bundles.{Said}
 use Rattle.fetch_check.specs.Reading.{Says, pack_place}
 use Rattle.fetch_check.proofs.Answered.{same_said}
 use Rattle.fetch_check.proofs.Breaks.{behind_end, no_delimiter, no_end, place_is, says}

@@ -1,4 +1,4 @@
-use Rattle.std.proofs.Common.{refl, arith, ◌≤◌, ◌<◌, length}
+use Rattle.std.proofs.Common.{refl, arith}
 use Rattle.fetch_check.proofs.Above.{not_rising, rise_all}
 use Rattle.fetch_check.proofs.whole.ascends.Goals as goal
 
