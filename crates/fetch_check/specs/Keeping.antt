@@ -2,15 +2,25 @@
 use Rattle.std.specs.Prelude.{◌≡◌, ◌⊎◌, ℕ, ◌-◌, ◌==◌, false, List, ◌++◌, length, take, codes, Option, Some, None, IfSome}
 use Rattle.std.specs.List.{suffix_len}
 use Rattle.std.specs.Option.{option_and_then}
+use Rattle.fetch_store.specs.declared.id.Kind.{Kind}
+use Rattle.fetch_store.specs.declared.id.ObjectId.{ObjectId}
+use Rattle.fetch_store.specs.Closed.{Holding}
 use Rattle.fetch_store.specs.Paths.{parts_of}
 use Rattle.fetch_store.specs.Trees.{Tree, read_in, renamed, written}
+use Rattle.fetch_refs.specs.Names.{Names}
 use Rattle.fetch_check.specs.declared.error.BundleError.{BundleError}
 use Rattle.fetch_check.specs.declared.reading.Bundle.{Bundle}
-use Rattle.fetch_check.specs.Bundles.{bundle_text}
+use Rattle.fetch_check.specs.Bundles.{bundle_text, bundled}
 use Rattle.fetch_check.specs.Reading.{IsBundle, IsRefused, bundle_of, refs_alone}
-use Rattle.fetch_check.specs.Refusals.{is_memory}
+use Rattle.fetch_check.specs.Refusals.{AreReached, is_memory}
 
 -- ---- saving
+
+-- The text of a repository's bundle.
+pub record IsTextOf (hash : Kind) (names : Names) (h : Holding) (text : List ℕ) : Type 0 where
+  pub ids : List ObjectId
+  pub reached : AreReached names h ids
+  pub text_is : text ≡ bundle_text (bundled hash names h ids)
 
 -- a path without the slashes at its end
 abbrev pub without_slashes : List ℕ → List ℕ

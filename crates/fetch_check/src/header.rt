@@ -1,6 +1,7 @@
 //! The lines of a bundle: its head, its references, its border, and the pieces of its pack.
 
-ghost use Rattle.std.specs.Prelude.{◌≡◌, ◌↔◌, ◌≤◌, ◌++◌, ◌∷◌, ℕ, [], List as Items, None, Ok, true, IfErr, IfOk, IfSome, IsTrue, length, option_map};
+ghost use Rattle.std.specs.Prelude.{◌≡◌, ◌↔◌, ◌≤◌, ◌++◌, ◌∷◌, ℕ, [], List as Items, None, Ok, true};
+ghost use Rattle.std.specs.Prelude.{IfErr, IfOk, IfSome, IsTrue, length, option_map};
 ghost use Rattle.std.specs.List.{concat};
 ghost use Rattle.std.specs.Option.{option_copied};
 ghost use Rattle.fetch_store.specs.Stores.{id_cmp};

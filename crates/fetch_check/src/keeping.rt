@@ -1,6 +1,7 @@
 //! Bundles in files.
 
-ghost use Rattle.std.specs.Prelude.{◌≡◌, ◌<◌, ◌^◌, ◌≤◌, ◌==◌, is_some, length, option_map, List as Items, None, IfOk, IfSome, IsErrOf, OnErr, OnOk};
+ghost use Rattle.std.specs.Prelude.{ℕ, ◌≡◌, ◌<◌, ◌^◌, ◌≤◌, ◌==◌, is_some, length};
+ghost use Rattle.std.specs.Prelude.{option_map, List as Items, None, IfOk, IfSome, IsErrOf, OnErr, OnOk};
 ghost use Rattle.std.specs.FinMap as map;
 ghost use Rattle.std.specs.List.{suffix_len};
 ghost use Rattle.fetch_store.specs.Answers.{RefusesUnless};
@@ -11,13 +12,11 @@ ghost use Rattle.fetch_store.specs.FileCalls.{IsRefused};
 ghost use Rattle.fetch_store.specs.Paths.{parts_of};
 ghost use Rattle.fetch_store.specs.Trees.{read_in};
 ghost use Rattle.fetch_store.specs.declared.file_error.FileError.TheVariants as calls;
-ghost use Rattle.fetch_store.specs.declared.id.ObjectId.{ObjectId as Id};
 ghost use Rattle.fetch_reach.specs.Named.{AreOwnIds};
-ghost use Rattle.fetch_check.specs.Bundles.{bundle_text, bundled};
 ghost use Rattle.fetch_check.specs.KeepErrors.{failed_after, is_free};
 ghost use Rattle.fetch_check.specs.Keeping as spec;
-ghost use Rattle.fetch_check.specs.Keeping.{IsBegun, IsLeft, IsLoaded, IsNoBundle, IsRead};
-ghost use Rattle.fetch_check.specs.Refusals.{AreReached, is_memory, write_trouble};
+ghost use Rattle.fetch_check.specs.Keeping.{IsBegun, IsLeft, IsLoaded, IsNoBundle, IsRead, IsTextOf};
+ghost use Rattle.fetch_check.specs.Refusals.{is_memory, write_trouble};
 ghost use Rattle.fetch_check.specs.declared.error.BundleError.{BundleError as Trouble};
 ghost use Rattle.fetch_check.specs.declared.keep_error.KeepError.TheVariants as errors;
 
@@ -45,16 +44,18 @@ pub fn save_bundle<F: Files>(
 ) -> Result<(), KeepError>
     requires few { map.len store.now.objects < 2 ^ 32 }
     requires own { AreOwnIds store.now.objects }
-    ensures saved { OnOk result ((ids : Items Id) × AreReached refs.now.names (holding store.now.objects border.now) ids
-        × IfSome (F.told files.old) (λ t. spec.saved t path.now (bundle_text (bundled store.now.hash refs.now.names (holding store.now.objects border.now) ids)) ≡ F.told files.new)) }
-    ensures refused { RefusesUnless is_free (option_map (λ e. errors.Bundle e) (write_trouble refs.now.names (holding store.now.objects border.now))) result }
+    ensures saved { OnOk result ((text : Items ℕ) × IsTextOf store.now.hash refs.now.names (holding store.now.objects border.now) text
+        × IfSome (F.told files.old) (λ t. spec.saved t path.now text ≡ F.told files.new)) }
+    ensures refused { RefusesUnless is_free
+        (option_map (λ e. errors.Bundle e) (write_trouble refs.now.names (holding store.now.objects border.now))) result }
     ensures untouched { (e : Trouble) → IsErrOf result (errors.Bundle e) → F.told files.new ≡ F.told files.old }
     ensures left { OnErr result (IsLeft (F.told files.old) (F.told files.new) path.now) }
     ensures failed { (F.faults files.new).count ≡ failed_after (F.faults files.old).count result }
     ensures cause { IsErrOf result errors.Failed → Rose (F.faults files.old) (F.faults files.new) }
     ensures first { IsErrOf result errors.Failed → write_trouble refs.now.names (holding store.now.objects border.now) ≡ None }
-    ensures in_the_way { IsErrOf result errors.Failed → (ids : Items Id) × AreReached refs.now.names (holding store.now.objects border.now) ids
-        × IsRefused (F.may_fail files.old) (F.told files.old) (λ t. spec.saved t path.now (bundle_text (bundled store.now.hash refs.now.names (holding store.now.objects border.now) ids))) }
+    ensures in_the_way { IsErrOf result errors.Failed → (text : Items ℕ)
+        × IsTextOf store.now.hash refs.now.names (holding store.now.objects border.now) text
+        × IsRefused (F.may_fail files.old) (F.told files.old) (λ t. spec.saved t path.now text) }
     ensures counts { Counts (F.faults files.old) (F.faults files.new) }
     ensures tells { is_some (F.told files.new) ≡ is_some (F.told files.old) }
     ensures may_fail { F.may_fail files.new ≡ F.may_fail files.old }
@@ -82,8 +83,7 @@ fn text_of(
 ) -> Result<Vec<u8>, BundleError>
     requires few { map.len store.now.objects < 2 ^ 32 }
     requires own { AreOwnIds store.now.objects }
-    ensures text { IfOk result (λ text. (ids : Items Id) × AreReached refs.now.names (holding store.now.objects border.now) ids
-        × (text.items ≡ bundle_text (bundled store.now.hash refs.now.names (holding store.now.objects border.now) ids))) }
+    ensures text { IfOk result (λ text. IsTextOf store.now.hash refs.now.names (holding store.now.objects border.now) text.items) }
     ensures refused { RefusesUnless is_memory (write_trouble refs.now.names (holding store.now.objects border.now)) result }
 {
     let mut text = Vec::new(alloc);
@@ -117,7 +117,8 @@ fn put<F: Files>(files: &mut F, lock: &[u8], path: &[u8], text: &[u8]) -> Result
     ensures begun { OnErr result (IsBegun (F.told files.old) (F.told files.new) path.now text.now) }
     ensures failed { (F.faults files.new).count ≡ file_calls.failed_after (F.faults files.old).count result }
     ensures cause { IsErrOf result calls.Failed → Rose (F.faults files.old) (F.faults files.new) }
-    ensures in_the_way { IsErrOf result calls.Failed → IsRefused (F.may_fail files.old) (F.told files.old) (λ t. spec.saved t path.now text.now) }
+    ensures in_the_way { IsErrOf result calls.Failed
+        → IsRefused (F.may_fail files.old) (F.told files.old) (λ t. spec.saved t path.now text.now) }
     ensures counts { Counts (F.faults files.old) (F.faults files.new) }
     ensures tells { is_some (F.told files.new) ≡ is_some (F.told files.old) }
     ensures may_fail { F.may_fail files.new ≡ F.may_fail files.old }
@@ -138,11 +139,13 @@ pub fn load_bundle<R: Threads + Sync, F: Files>(
 ) -> Result<Option<Bundle>, KeepError>
     ensures read { IfOk result (λ found. IfSome found IsRead) }
     ensures loaded { IfOk result (λ found. IfSome (F.told files.old) (λ t. IsLoaded (read_in t (parts_of path.now)) found)) }
-    ensures refused { (e : Trouble) → IsErrOf result (errors.Bundle e) → IfSome (F.told files.old) (λ t. IsNoBundle (read_in t (parts_of path.now)) e) }
+    ensures refused { (e : Trouble) → IsErrOf result (errors.Bundle e)
+        → IfSome (F.told files.old) (λ t. IsNoBundle (read_in t (parts_of path.now)) e) }
     ensures tree { F.told files.new ≡ F.told files.old }
     ensures failed { (F.faults files.new).count ≡ failed_after (F.faults files.old).count result }
     ensures cause { IsErrOf result errors.Failed → Rose (F.faults files.old) (F.faults files.new) }
-    ensures in_the_way { IsErrOf result errors.Failed → IsRefused (F.may_fail files.old) (F.told files.old) (λ t. read_in t (parts_of path.now)) }
+    ensures in_the_way { IsErrOf result errors.Failed
+        → IsRefused (F.may_fail files.old) (F.told files.old) (λ t. read_in t (parts_of path.now)) }
     ensures counts { Counts (F.faults files.old) (F.faults files.new) }
     ensures may_fail { F.may_fail files.new ≡ F.may_fail files.old }
 {

@@ -42,7 +42,8 @@ pub(crate) fn reference(
 fn reference_parts(payload: &[u8]) -> Option<(&[u8], &[u8])>
     ensures text { IfSome result (λ x. payload.now ≡ codes "ref " ++ x.0.now ++ 32 ∷ x.1.now ++ 10 ∷ []) }
     ensures word { IfSome result (λ x. IsWithout 32 x.0.now) }
-    ensures none { result ≡ None → (first : Items ℕ) (name : Items ℕ) → payload.now ≡ codes "ref " ++ first ++ 32 ∷ name ++ 10 ∷ [] → IsWithout 32 first → ⊥ }
+    ensures none { result ≡ None → (first : Items ℕ) (name : Items ℕ)
+        → payload.now ≡ codes "ref " ++ first ++ 32 ∷ name ++ 10 ∷ [] → IsWithout 32 first → ⊥ }
 {
     let text = after(b"ref ", payload)?;
     let text = without_line_feed(text)?;

@@ -130,7 +130,8 @@ fn open_pack<R: Threads + Sync>(
     bytes: Vec<u8>,
 ) -> Result<Pack, BundleError>
     ensures read { IfOk result (λ pack. pack_read hash bytes.items ≡ Ok (contents pack)) }
-    ensures found { IfOk result (λ pack. (v : Version) × (ps : Items Payload) × IsPack v hash bytes.items ps × (contents pack ≡ contents_of v hash ps)) }
+    ensures found { IfOk result (λ pack. (v : Version) × (ps : Items Payload)
+        × IsPack v hash bytes.items ps × (contents pack ≡ contents_of v hash ps)) }
     ensures of_hash { IfOk result (λ pack. AreOf hash pack.objects) }
     ensures refused { IfErr result (λ e. steps.IsPackRefused hash bytes.items e) }
 {
