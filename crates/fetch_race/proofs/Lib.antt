@@ -1,6 +1,6 @@
 pub mod Arrived
 pub mod Calm
-pub mod Closed
+pub mod Unraced
 pub mod Fetched
 pub mod Keeps
 pub mod Races

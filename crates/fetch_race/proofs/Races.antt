@@ -1,6 +1,6 @@
 -- Races: jobs that sat, ran and arrived.
 use Rattle.std.proofs.Common.{◌≡◌, ℕ, ◌<◌, ◌≤◌, All, List, length, get_or, map, Option, Some, Result, Ok, Err, refl, sym, ap, ◌∙◌, subst, ⊎_elim}
-use Rattle.std.specs.Prelude.{slice_get, slice_index_or, is_some, IfOk, IfSome, IsSome}
+use Rattle.std.specs.Prelude.{slice_get, slice_index_or, is_some, IfSome, IsSome}
 use Rattle.std.specs.Option.{option_map}
 use Rattle.std.proofs.lemmas.Bool.{cases_lt}
 use Rattle.std.proofs.lemmas.List.{length-map}
@@ -125,14 +125,12 @@ told_so {P} race journal jobs racers answers peers h answers_are peers_are numbe
         let answer_is : a.answer ≡ answer = same (answer_in r.0) a.answer answer (ap (option_map (λ (b : Receipt × Result Outcome SharedError). b.1)) a.answer_is) told in
         subst (λ (y : Result Outcome SharedError × P). HasRaced race journal i job y.0 y.1) (λ k. (answer_is k, r.2 k)) a.raced
 
--- so a race is told, where it is
-pub raced_so : {P E : Type 0} (race : Race P) (jobs : List (Job P)) (racers : List (Racer P)) (front : List Entry) (repo : RepositoryValue) (journal : List Entry) (result : Result (Raced P) E)
+-- so a race is told
+pub raced_so : {P : Type 0} (race : Race P) (jobs : List (Job P)) (racers : List (Racer P)) (front : List Entry) (repo : RepositoryValue) (journal : List Entry) (r : Raced P)
     → IsKept (record { opening = race.opening; repository = repo; journal = journal }) → journal ≡ front → All (λ e. pass_of e < 18446744073709551615) journal → HaveRaced race front jobs racers
-    → IfOk result (λ r. r.repo ≡ repo) → IfOk result (λ r. r.journal ≡ journal) → IfOk result (λ r. map Some r.answers ≡ map answer_in racers) → IfOk result (λ r. r.peers ≡ map (λ r. r.job.peer) racers)
-    → IfOk result (λ r. IsRaced race jobs r)
-raced_so {P} {E} race jobs racers front repo journal (Ok r) kept whole numbered have repo_is journal_is answers peers = record {
+    → r.repo ≡ repo → r.journal ≡ journal → map Some r.answers ≡ map answer_in racers → r.peers ≡ map (λ r. r.job.peer) racers → IsRaced race jobs r
+raced_so {P} race jobs racers front repo journal r kept whole numbered have repo_is journal_is answers peers = record {
   kept = subst (λ (x : RepositoryValue × List Entry). IsKept (record { opening = race.opening; repository = x.0; journal = x.1 })) (λ i. (sym repo_is i, sym journal_is i)) kept;
   jobs_done = told_so race r.journal jobs racers r.answers r.peers (subst (λ (j : List Entry). HaveRaced race j jobs racers) (sym (journal_is ∙ whole)) have) answers peers
       (subst (λ (j : List Entry). All (λ e. pass_of e < 18446744073709551615) j) (sym journal_is) numbered);
 }
-raced_so {P} {E} race jobs racers front repo journal (Err e) kept whole numbered have repo_is journal_is answers peers = tt

@@ -6,6 +6,9 @@ use Rattle.std.proofs.lemmas.Option.{slice_get_within}
 pub same : {X : Type 0} (o : Option X) (x y : X) → o ≡ Some x → o ≡ Some y → x ≡ y
 same o x y p q = cc (p, q)
 
+pub not_both : {X : Type 0} (o : Option X) (x : X) → o ≡ Some x → o ≡ None → ⊥
+not_both o x p q = absurd (cc (p, q))
+
 -- what stands in a list of which one place was written
 pub set_cases : {X : Type 0} (xs : List X) (i : ℕ) (y : X) (k : ℕ) (x : X) → slice_get (set xs i y) k ≡ Some x → ((k ≡ i) × (x ≡ y)) ⊎ ((k ≢ i) × (slice_get xs k ≡ Some x))
 set_cases [] i y k x is = absurd cc

@@ -1,2 +1,3 @@
 pub mod Racing
 pub mod Seats
+pub mod Rooms

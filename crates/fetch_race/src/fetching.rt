@@ -1,10 +1,9 @@
-//! The fetch of a job.
+//! A fetch by a pass, from a peer that is lent.
 
 ghost use Rattle.std.specs.Prelude.{◌≡◌, IfOk};
 ghost use Rattle.fetch_race.specs.Racing.{IsDone};
 
-use crate::job::Job;
-use fetch_remote::{FetchOptions, Outcome};
+use fetch_remote::{FetchOptions, Outcome, Remote};
 use fetch_shared::{Pass, Receipt, SharedError, SharedRepository, fetch_shared};
 use fetch_store::{MemoryFiles, NoMemory};
 use fetch_update::{ScriptedWorktrees, Worktree};
@@ -13,23 +12,54 @@ use std::alloc::Global;
 use std::sync::Wait;
 use std::thread::Threads;
 
-/// What becomes of a job with these options and work trees: a fetch over files in memory, with nothing that interrupts.
-// Many arguments: the fetch of a job, with the copies that were made for it.
-pub(crate) fn fetch<R: Threads + Wait + Sync, P: Peer>(
+/// Fetches by a pass, from a peer that is lent: over files in memory that begin with nothing, with these work trees, and
+/// with nothing that interrupts. What became of it stands behind the pass as it came back, and behind its receipt. Where
+/// memory runs out before the fetch, nothing was asked.
+// Many arguments: those of `fetch_shared` without what a race makes for each job.
+pub fn fetch_by_pass<R: Threads + Wait + Sync, P: Peer>(
     rt: &R,
     alloc: Global,
     shared: &SharedRepository,
     pass: Pass,
-    job: &mut Job<P>,
+    remote: &Remote,
+    peer: &mut P,
+    options: &FetchOptions,
+    worktrees: &[Worktree],
+) -> (Pass, Receipt, Result<Outcome, SharedError>)
+    requires { pass.shared ≡ shared.now }
+    ensures { IsDone (record { answers = P.answers; told = P.told; faults = P.faults; trees = worktrees.now; opening = shared.now.opening })
+        (record { remote = remote.now; peer = peer.old; options = options.now }) peer.new pass result.0 result.1 result.2 }
+{
+    let number = pass.number();
+    match copies(alloc, options, worktrees) {
+        Ok((options, trees)) => fetch(rt, alloc, shared, pass, remote, peer, options, trees),
+        Err(NoMemory) => {
+            let receipt = Receipt {
+                pass: number,
+                planned: None,
+                judged: None,
+                place: None,
+            };
+            (pass, receipt, Err(SharedError::NoMemory))
+        }
+    }
+}
+
+/// The same with the options and the work trees.
+// Many arguments: those of `fetch_by_pass`.
+fn fetch<R: Threads + Wait + Sync, P: Peer>(
+    rt: &R,
+    alloc: Global,
+    shared: &SharedRepository,
+    pass: Pass,
+    remote: &Remote,
+    peer: &mut P,
     options: FetchOptions,
     worktrees: Vec<Worktree>,
 ) -> (Pass, Receipt, Result<Outcome, SharedError>)
-    requires shared { pass.shared ≡ shared.now }
-    requires options { options ≡ job.old.options }
-    ensures remote { job.new.remote ≡ job.old.remote }
-    ensures options { job.new.options ≡ job.old.options }
-    ensures done { IsDone (record { answers = P.answers; told = P.told; faults = P.faults; trees = worktrees.items; opening = shared.now.opening })
-        job.old job.new.peer pass result.0 result.1 result.2 }
+    requires { pass.shared ≡ shared.now }
+    ensures { IsDone (record { answers = P.answers; told = P.told; faults = P.faults; trees = worktrees.items; opening = shared.now.opening })
+        (record { remote = remote.now; peer = peer.old; options = options }) peer.new pass result.0 result.1 result.2 }
 {
     let mut interrupt = ScriptedInterrupt::new(Vec::new(alloc));
     let mut files = MemoryFiles::new(alloc, Vec::new(alloc));
@@ -39,8 +69,8 @@ pub(crate) fn fetch<R: Threads + Wait + Sync, P: Peer>(
         alloc,
         shared,
         pass,
-        &job.remote,
-        &mut job.peer,
+        remote,
+        peer,
         &mut interrupt,
         &mut files,
         &mut trees,
@@ -53,7 +83,7 @@ pub(crate) fn fetch<R: Threads + Wait + Sync, P: Peer>(
 }
 
 /// Copies of the options and of the work trees.
-pub(crate) fn copies(
+fn copies(
     alloc: Global,
     options: &FetchOptions,
     worktrees: &[Worktree],

@@ -6,6 +6,7 @@ mod job;
 mod racing;
 mod seats;
 
+pub use fetching::fetch_by_pass;
 pub use job::{Job, Raced, Racer};
 pub use racing::race_over;
-pub use seats::race_with;
+pub use seats::{closed, gather, opened, race_with, seat_all};

@@ -1,13 +1,12 @@
 //! Jobs that are done side by side, each by its pass.
 
-ghost use Rattle.std.specs.Prelude.{◌≡◌, ℕ, ◌<◌, All, IfSome, Some, length, slice_index_or};
-ghost use Rattle.fetch_race.specs.Racing.{IsDone, IsRun};
+ghost use Rattle.std.specs.Prelude.{◌≡◌, ℕ, ◌<◌, All, IfSome, None, Some, length, slice_index_or};
+ghost use Rattle.fetch_race.specs.Racing.{IsRun};
 
-use crate::fetching::{copies, fetch};
-use crate::job::{Job, Racer};
+use crate::fetching::fetch_by_pass;
+use crate::job::Racer;
 use fetch_remote::Outcome;
 use fetch_shared::{Pass, Receipt, SharedError, SharedRepository};
-use fetch_store::NoMemory;
 use fetch_update::Worktree;
 use fetch_wire::Peer;
 use std::alloc::Global;
@@ -17,7 +16,7 @@ use std::thread::Threads;
 
 /// Does each job by its pass, side by side. The files of a job are in memory and begin with nothing, its work trees are
 /// these, nothing interrupts it, and none of them fails. What became of a job stands beside it, with the pass as it came
-/// back. A job without a pass isn't done. It takes no memory of its own.
+/// back. A racer without a pass is as before. It takes no memory of its own.
 pub fn race_over<R: Threads + Wait + Sync, P: Peer + Send>(
     rt: &R,
     alloc: Global,
@@ -28,6 +27,7 @@ pub fn race_over<R: Threads + Wait + Sync, P: Peer + Send>(
     requires shared { All (λ r. IfSome r.pass (λ p. p.shared ≡ shared.now)) racers.old }
     ensures ran { (i : ℕ) (d : _) → i < length racers.old → IfSome (slice_index_or racers.old i d).pass (λ pass. IsRun
         (record { answers = P.answers; told = P.told; faults = P.faults; trees = worktrees.now; opening = shared.now.opening }) pass (slice_index_or racers.old i d) (slice_index_or racers.new i d)) }
+    ensures left { (i : ℕ) (d : _) → i < length racers.old → (slice_index_or racers.old i d).pass ≡ None → slice_index_or racers.new i d ≡ slice_index_or racers.old i d }
 {
     let threads = racers.len().max(1);
     thread::for_each_mut(
@@ -51,11 +51,21 @@ fn run<R: Threads + Wait + Sync, P: Peer>(
     requires shared { IfSome racer.old.pass (λ p. p.shared ≡ shared.now) }
     ensures ran { IfSome racer.old.pass (λ pass. IsRun
         (record { answers = P.answers; told = P.told; faults = P.faults; trees = worktrees.now; opening = shared.now.opening }) pass racer.old racer.new) }
+    ensures left { racer.old.pass ≡ None → racer.new ≡ racer.old }
 {
     let Some(pass) = racer.pass.take() else {
         return;
     };
-    let (pass, receipt, answer) = done(rt, alloc, shared, pass, &mut racer.job, worktrees);
+    let (pass, receipt, answer) = fetch_by_pass(
+        rt,
+        alloc,
+        shared,
+        pass,
+        &racer.job.remote,
+        &mut racer.job.peer,
+        &racer.job.options,
+        worktrees,
+    );
     arrive(racer, pass, receipt, answer)
 }
 
@@ -72,34 +82,4 @@ fn arrive<P>(
 {
     drop(racer.pass.replace(pass));
     drop(racer.answer.replace((receipt, answer)));
-}
-
-/// What becomes of a job, and its pass as it comes back.
-fn done<R: Threads + Wait + Sync, P: Peer>(
-    rt: &R,
-    alloc: Global,
-    shared: &SharedRepository,
-    pass: Pass,
-    job: &mut Job<P>,
-    worktrees: &[Worktree],
-) -> (Pass, Receipt, Result<Outcome, SharedError>)
-    requires shared { pass.shared ≡ shared.now }
-    ensures remote { job.new.remote ≡ job.old.remote }
-    ensures options { job.new.options ≡ job.old.options }
-    ensures done { IsDone (record { answers = P.answers; told = P.told; faults = P.faults; trees = worktrees.now; opening = shared.now.opening })
-        job.old job.new.peer pass result.0 result.1 result.2 }
-{
-    let number = pass.number();
-    match copies(alloc, &job.options, worktrees) {
-        Ok((options, trees)) => fetch(rt, alloc, shared, pass, job, options, trees),
-        Err(NoMemory) => {
-            let receipt = Receipt {
-                pass: number,
-                planned: None,
-                judged: None,
-                place: None,
-            };
-            (pass, receipt, Err(SharedError::NoMemory))
-        }
-    }
 }

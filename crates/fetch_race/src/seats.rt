@@ -3,6 +3,7 @@
 ghost use Rattle.std.specs.Prelude.{◌≡◌, ℕ, ◌<◌, ◌≤◌, ◌+◌, All, Err, IfOk, IsOkUnless, IfSome, IsSome, MatchOption, Some, length, map, slice_get, vec_len};
 ghost use Rattle.fetch_store.specs.Missing.{unclosed};
 ghost use Rattle.fetch_race.specs.Racing.{IsRaced};
+ghost use Rattle.fetch_race.specs.Rooms.{HasRoom};
 ghost use Rattle.fetch_race.specs.Seats.{AreGathered, AreOver, AreSeated, HaveRaced, HoldsAll, IsJoined, IsOwn, IsRest, IsSeated, answer_in};
 ghost use Rattle.fetch_shared.specs.Journals.{pass_of};
 ghost use Rattle.fetch_shared.specs.Machine.{held};
@@ -23,8 +24,8 @@ use std::thread::Threads;
 
 /// Does the jobs side by side over a repository, with these work trees: job `i`, counted from 0, by the pass with the number
 /// `i`. It answers what the journal leaves, the journal, what became of each job, and the jobs' peers, in the jobs' order.
-/// `NotClosed` comes exactly where the repository isn't closed, with its first missing link, and else only out of memory;
-/// what a job was refused for is its answer.
+/// `NotClosed` comes exactly where the repository isn't closed, with its first missing link, and else only out of memory,
+/// before any job begins; what a job was refused for is its answer.
 pub fn race_with<R: Threads + Wait + Sync, P: Peer + Drop + Send>(
     rt: &R,
     alloc: Global,
@@ -42,8 +43,9 @@ pub fn race_with<R: Threads + Wait + Sync, P: Peer + Drop + Send>(
     }
 }
 
-/// Shares a repository, and gives the pass that holds every number.
-fn opened(alloc: Global, repo: Repository) -> Result<(SharedRepository, Pass), SharedError>
+/// Shares a repository, and gives the pass that holds every number. `NotClosed` comes exactly where the repository isn't
+/// closed, with its first missing link, and else only out of memory.
+pub fn opened(alloc: Global, repo: Repository) -> Result<(SharedRepository, Pass), SharedError>
     ensures closed { MatchOption (slice_get (unclosed (held repo)) 0) (IsOkUnless result errors.NoMemory) (λ link. result ≡ Err (errors.NotClosed link)) }
     ensures opening { IfOk result (λ r. r.0.opening ≡ repo) }
     ensures all { IfOk result (λ r. IsRest r.0 0 r.1) }
@@ -64,15 +66,33 @@ fn race_in<R: Threads + Wait + Sync, P: Peer + Drop + Send>(
     requires all { IsRest shared 0 pass }
     ensures raced { IfOk result (λ r. IsRaced (record { answers = P.answers; told = P.told; faults = P.faults; trees = worktrees.now; opening = shared.opening }) jobs.items r) }
 {
+    let room = room_for(alloc, jobs.len())?;
     match racers_of(alloc, jobs) {
-        Ok(racers) => raced(rt, alloc, shared, pass, racers, worktrees),
+        Ok(racers) => Ok(raced(rt, alloc, shared, pass, racers, worktrees, room)),
         Err(e) => Err(e),
     }
 }
 
+/// Room for what becomes of the jobs.
+#[derive(Drop)]
+struct Room<P> {
+    answers: Vec<Result<Outcome, SharedError>>,
+    peers: Vec<P>,
+}
+
+fn room_for<P: Drop>(alloc: Global, count: usize) -> Result<Room<P>, NoMemory>
+    ensures { IfOk result (HasRoom count) }
+{
+    Ok(Room {
+        answers: Vec::with_capacity(alloc, count)?,
+        peers: Vec::with_capacity(alloc, count)?,
+    })
+}
+
 /// The jobs, of which none has a pass yet.
 fn racers_of<P: Drop>(alloc: Global, jobs: Vec<Job<P>>) -> Result<Vec<Racer<P>>, NoMemory>
-    ensures { IfOk result (λ racers. map (λ r. r.job) racers.items ≡ jobs.items) }
+    ensures jobs { IfOk result (λ racers. map (λ r. r.job) racers.items ≡ jobs.items) }
+    ensures count { IfOk result (λ racers. vec_len racers ≡ vec_len jobs) }
 {
     let mut racers = Vec::with_capacity(alloc, jobs.len())?;
     for job in jobs {
@@ -93,62 +113,66 @@ fn raced<R: Threads + Wait + Sync, P: Peer + Drop + Send>(
     pass: Pass,
     mut racers: Vec<Racer<P>>,
     worktrees: &[Worktree],
-) -> Result<Raced<P>, NoMemory>
+    room: Room<P>,
+) -> Raced<P>
     requires few { vec_len racers ≤ 8 }
     requires all { IsRest shared 0 pass }
-    ensures raced { IfOk result (λ r. IsRaced (record { answers = P.answers; told = P.told; faults = P.faults; trees = worktrees.now; opening = shared.opening }) (map (λ r. r.job) racers.items) r) }
+    requires room { HasRoom (vec_len racers) room }
+    ensures raced { IsRaced (record { answers = P.answers; told = P.told; faults = P.faults; trees = worktrees.now; opening = shared.opening }) (map (λ r. r.job) racers.items) result }
 {
     let pass = race_among(rt, alloc, &shared, pass, racers.as_mut_slice(), worktrees);
     let (repo, journal) = closed(rt, shared, pass);
-    told(alloc, repo, journal, racers)
+    told(repo, journal, racers, room)
 }
 
 /// What became of a race, by what became of each racer.
 fn told<P: Drop>(
-    alloc: Global,
     repo: Repository,
     journal: Vec<Entry>,
     racers: Vec<Racer<P>>,
-) -> Result<Raced<P>, NoMemory>
+    room: Room<P>,
+) -> Raced<P>
     requires answered { (i : ℕ) (racer : _) → slice_get racers.items i ≡ Some racer → IsSome racer.answer }
-    ensures repo { IfOk result (λ r. r.repo ≡ repo) }
-    ensures journal { IfOk result (λ r. r.journal ≡ journal.items) }
-    ensures answers { IfOk result (λ r. map Some r.answers ≡ map answer_in racers.items) }
-    ensures peers { IfOk result (λ r. r.peers ≡ map (λ r. r.job.peer) racers.items) }
+    requires room { HasRoom (vec_len racers) room }
+    ensures repo { result.repo ≡ repo }
+    ensures journal { result.journal ≡ journal.items }
+    ensures answers { map Some result.answers ≡ map answer_in racers.items }
+    ensures peers { result.peers ≡ map (λ r. r.job.peer) racers.items }
 {
-    match parts_of(alloc, racers) {
-        Ok((answers, peers)) => Ok(Raced {
-            repo,
-            journal: List::from(journal),
-            answers: List::from(answers),
-            peers: List::from(peers),
-        }),
-        Err(e) => Err(e),
+    let (answers, peers) = parts_of(racers, room);
+    Raced {
+        repo,
+        journal: List::from(journal),
+        answers: List::from(answers),
+        peers: List::from(peers),
     }
 }
 
-/// The answers and the peers, in the racers' order.
+/// The answers and the peers, in the racers' order. It takes no memory.
 fn parts_of<P: Drop>(
-    alloc: Global,
     racers: Vec<Racer<P>>,
-) -> Result<(Vec<Result<Outcome, SharedError>>, Vec<P>), NoMemory>
+    room: Room<P>,
+) -> (Vec<Result<Outcome, SharedError>>, Vec<P>)
     requires answered { (i : ℕ) (racer : _) → slice_get racers.items i ≡ Some racer → IsSome racer.answer }
-    ensures answers { IfOk result (λ r. map Some r.0.items ≡ map answer_in racers.items) }
-    ensures peers { IfOk result (λ r. r.1.items ≡ map (λ r. r.job.peer) racers.items) }
+    requires room { HasRoom (vec_len racers) room }
+    ensures answers { map Some result.0.items ≡ map answer_in racers.items }
+    ensures peers { result.1.items ≡ map (λ r. r.job.peer) racers.items }
 {
-    let mut answers = Vec::with_capacity(alloc, racers.len())?;
-    let mut peers = Vec::with_capacity(alloc, racers.len())?;
+    let Room {
+        mut answers,
+        mut peers,
+    } = room;
     for racer in racers {
         let Racer { job, answer, .. } = racer;
         let (_, answer) = answer.unwrap();
-        answers.push(answer)?;
-        peers.push(job.peer)?;
+        answers.push_reserved(answer);
+        peers.push_reserved(job.peer);
     }
-    Ok((answers, peers))
+    (answers, peers)
 }
 
-/// Closes a shared repository by the pass that holds every number.
-fn closed<R: Wait>(rt: &R, shared: SharedRepository, pass: Pass) -> (Repository, Vec<Entry>)
+/// Closes a shared repository by the pass that holds every number, and gives it with its journal.
+pub fn closed<R: Wait>(rt: &R, shared: SharedRepository, pass: Pass) -> (Repository, Vec<Entry>)
     requires shared { pass.shared ≡ shared }
     requires all { HoldsAll pass }
     ensures kept { IsKept (record { opening = shared.opening; repository = result.0; journal = result.1.items }) }
@@ -182,7 +206,8 @@ fn race_among<R: Threads + Wait + Sync, P: Peer + Drop + Send>(
 }
 
 /// Gives each racer a pass of its own, racer `i` that with the number `i`, and answers a pass for the numbers that are left.
-fn seat_all<P: Drop>(shared: &SharedRepository, pass: Pass, racers: &mut [Racer<P>]) -> Pass
+/// The jobs may be anything: who lends peers has racers without them.
+pub fn seat_all<P: Drop>(shared: &SharedRepository, pass: Pass, racers: &mut [Racer<P>]) -> Pass
     requires few { length racers.old ≤ 8 }
     requires all { IsRest shared.now 0 pass }
     ensures seated { AreSeated shared.now (map (λ r. r.job) racers.old) racers.new }
@@ -223,7 +248,7 @@ fn seat(shared: &SharedRepository, pass: Pass) -> (Pass, Pass)
 }
 
 /// Takes the racers' passes, and answers one for all.
-fn gather<P: Drop>(shared: &SharedRepository, rest: Pass, racers: &mut [Racer<P>]) -> Pass
+pub fn gather<P: Drop>(shared: &SharedRepository, rest: Pass, racers: &mut [Racer<P>]) -> Pass
     requires rest { IsRest shared.now (length racers.old) rest }
     requires over { AreOver shared.now racers.old }
     ensures shared { result.shared ≡ shared.now }

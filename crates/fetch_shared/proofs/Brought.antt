@@ -1,5 +1,5 @@
 -- What a pass brought in a turn.
-use Rattle.std.proofs.Common.{◌≡◌, ◌⊎◌, ℕ, Bool, true, false, List, [], ◌∷◌, ◌++◌, length, map, Option, None, Some, Ok, Err, refl, sym, ap, ◌∙◌, inl, inr}
+use Rattle.std.proofs.Common.{◌≡◌, ◌⊎◌, ℕ, Bool, true, false, List, [], ◌∷◌, ◌++◌, length, map, Option, None, Some, Result, Ok, Err, IfOk, refl, sym, ap, ◌∙◌, inl, inr}
 use Rattle.std.specs.Option.{option_map}
 use Rattle.std.proofs.lemmas.List.{append-nil}
 use Rattle.fetch_store.specs.declared.id.ObjectId.{ObjectId}
@@ -36,7 +36,7 @@ has_looked before after negotiate taken back t same = record {
 pub has_taken : (before after : Holder) (wants : List ObjectId) (r : Received) (taken : Taken) → IsBack before after
     → IsTurn before after (Take before.number wants (pack_of r)) (λ v. snapshot_of (done v (Take before.number wants (pack_of r)))) (Ok taken)
     → entries_of before.number after.front ≡ entries_of before.number before.front ++ take_entries before.number (Some r)
-    → HasBrought before after false (Some r) (record { taken = taken; negotiate = Some r.negotiate; pack = r.pack })
+    → HasBrought before after false wants (Some r) (record { taken = taken; negotiate = Some r.negotiate; pack = r.pack })
 has_taken before after wants r taken back t added = record {
   saw = record {
     seen = done t.found (Take before.number wants (pack_of r));
@@ -44,6 +44,12 @@ has_taken before after wants r taken back t added = record {
     front = t.entered;
     taken = t.tells;
     added = added;
+  };
+  allowed = record {
+    found = t.found;
+    at = record { opened = t.opening; kept = t.kept; goes_on = t.begins; begins = record { rest = take_entries before.number (Some r); is = sym t.entered }; count_is = refl };
+    allowed = t.answers;
+    left_is = refl;
   };
   negotiate_is = refl;
   pack = refl;
@@ -62,13 +68,11 @@ untaken before after wants r e back t none = record {
     by (inl is) = inl is
     by (inr refused) = inr (r, refl, refused)
 
--- in a dry run, and where nothing was received, nothing is taken
-pub looked_dry : (before after : Holder) (r : Received) (b : Brought) → HasLooked before after (Some r.negotiate) b → HasBrought before after true (Some r) b
-looked_dry before after r b h = record { saw = h.saw; negotiate_is = h.negotiate_is; pack = h.pack }
+-- where nothing was received, nothing is taken
+looked_none : (before after : Holder) (dry_run : Bool) (wants : List ObjectId) (b : Brought) → HasLooked before after None b → HasBrought before after dry_run wants None b
+looked_none before after true wants b h = record { saw = h.saw; allowed = tt; negotiate_is = h.negotiate_is; pack = h.pack }
+looked_none before after false wants b h = record { saw = h.saw; allowed = tt; negotiate_is = h.negotiate_is; pack = h.pack }
 
-pub looked_none : (before after : Holder) (dry_run : Bool) (b : Brought) → HasLooked before after None b → HasBrought before after dry_run None b
-looked_none before after true b h = record { saw = h.saw; negotiate_is = h.negotiate_is; pack = h.pack }
-looked_none before after false b h = record { saw = h.saw; negotiate_is = h.negotiate_is; pack = h.pack }
-
-pub unlooked : (before after : Holder) (dry_run : Bool) (wants : List ObjectId) (r : Option Received) (e : SharedError) → e ≡ errors.NoMemory → entries_of before.number after.front ≡ entries_of before.number before.front → IsUnbrought before after dry_run wants r e
-unlooked before after dry_run wants r e is none = record { none = none; why = inl is }
+pub looked_so : {E : Type 0} (before : Holder) (dry_run : Bool) (wants : List ObjectId) (result : Result (Holder × Brought) E) → IfOk result (λ r. HasLooked before r.0 None r.1) → IfOk result (λ r. HasBrought before r.0 dry_run wants None r.1)
+looked_so before dry_run wants (Ok r) h = looked_none before r.0 dry_run wants r.1 h
+looked_so before dry_run wants (Err e) h = tt

@@ -8,22 +8,18 @@ use Rattle.fetch_wire.specs.Written.{lines_text}
 use Rattle.fetch_wire.specs.declared.replies.awaited.Fault.{Fault}
 use Rattle.fetch_wire.specs.declared.replies.awaited.Told.{Told as Reply}
 use Rattle.fetch_wire.specs.Awaited.{told_at}
-use Rattle.fetch_conversation.specs.Conversation.{Conversation, ends, asks, after_reply, ends_in, answer_in, awaits_more, IsUnheard, Breaks}
-use Rattle.fetch_conversation.specs.Errors.{is_free_listing, is_interrupted, is_worktree_fault}
+use Rattle.fetch_conversation.specs.Conversation.{Conversation, ends, asks, after_reply, ends_in, answer_in, awaits_more, IsUnheard, HasValidReplies}
+use Rattle.fetch_conversation.specs.Errors.{is_worktree_fault}
 use Rattle.fetch_conversation.specs.declared.fetch.Error.TheVariants as receive
 use Rattle.fetch_conversation.specs.declared.prepare.Error.TheVariants as prepare
-use Rattle.fetch_conversation.proofs.Valid.{never_refused}
 use Rattle.fetch_remote.specs.Errors as remote
-use Rattle.fetch_remote.specs.Errors.{preparing, receiving}
 use Rattle.fetch_remote.specs.Fetching.{manner_in, requests_in}
-use Rattle.fetch_remote.specs.Judging.{judged_of}
+use Rattle.fetch_remote.specs.Valid.{AreJudgeable}
 use Rattle.fetch_remote.specs.Repositories.{State}
 use Rattle.fetch_remote.specs.Settling.{policy_in}
 use Rattle.fetch_remote.specs.Stages.{Told, bound_of, listing_stage, conversation}
 use Rattle.fetch_remote.specs.declared.fetching.fetch_error.FetchError.{FetchError}
 use Rattle.fetch_remote.specs.declared.fetching.fetch_error.FetchError.TheVariants as fetch
-use Rattle.fetch_remote.proofs.Broken.{free_listing, whole_receiving}
-use Rattle.fetch_remote.proofs.Complete.{judges_it}
 use Rattle.fetch_shared.specs.declared.error.SharedError.{SharedError}
 use Rattle.fetch_shared.specs.declared.error.SharedError.TheVariants as errors
 use Rattle.fetch_shared.specs.declared.receipt.Receipt.{Receipt}
@@ -34,6 +30,7 @@ use Rattle.fetch_shared.specs.Shared.{SharedValue}
 use Rattle.fetch_shared.specs.Talking.{Line}
 use Rattle.fetch_shared.specs.Valid.{HasListing, HasReplies, AreJudgeableAt, IsValidFrom, HasValidInput, is_free}
 use Rattle.fetch_shared.proofs.Journals.{begins_trans}
+use Rattle.fetch_shared.proofs.Replied.{listing_free, receiving_free, unjudged_free}
 
 -- ---- one conversation
 
@@ -54,9 +51,6 @@ ok_is a b is = cc (is)
 one_answer : {X E : Type 0} (r : Result (X × List ℕ) E) (x y : X) (rest behind : List ℕ) → r ≡ Ok (x, rest) → r ≡ Ok (y, behind) → x ≡ y
 one_answer {X} {E} r x y rest behind p q = ap (λ (k : X × List ℕ). k.0) (ok_is {E = E} (x, rest) (y, behind) (sym p ∙ q))
 
-not_both : {X E : Type 0} (r : Result X E) (e : E) (x : X) → r ≡ Err e → r ≡ Ok x → ⊥
-not_both r e x p q = absurd (cc (p, q))
-
 -- it came to its end, or its next request wasn't heard
 abbrev IsReplied : {X E : Type 0} → ℕ → Conversation X E → List ℕ → List ℕ → Type 0
 IsReplied {X} bound c heard stream = ((x : X × List ℕ) × (answer_in bound c stream ≡ Ok x)) ⊎ IsUnheard bound c heard stream
@@ -70,20 +64,19 @@ module _ (line : Line) (c : Call) (receipt : Receipt) (v : HasValidInput line c 
       let q : Talks line.answers (Some v.before) (Some v.after) heard said = rw (v.told_before, v.told_after) at p in
       append_cancel_left v.before.given said v.said (sym q.gave_more ∙ v.gave)
 
-  -- what broke off was refused for a free cause
-  broke_free : {X E : Type 0} (free stopped : E → Bool) (bound : ℕ) (k : Conversation X E) (e : E) → Breaks free stopped line.answers bound line.old line.new [] k e → IsReplied bound k v.heard stream → free e ≡ true
-  broke_free free stopped bound k e h replied =
-      never_refused free stopped line.answers bound line.old line.new k e h (record {
-        before = v.before;
-        after = v.after;
-        told_before = v.told_before;
-        told_after = v.told_after;
-        heard = v.heard;
-        said = v.said;
-        heard_so = v.hears;
-        gave_so = v.gave;
-        valid = replied;
-      })
+  -- the replies are valid ones of a conversation
+  valid_replies : {X E : Type 0} (bound : ℕ) (k : Conversation X E) → IsReplied bound k v.heard stream → HasValidReplies bound line.old line.new k
+  valid_replies bound k replied = record {
+    before = v.before;
+    after = v.after;
+    told_before = v.told_before;
+    told_after = v.told_after;
+    heard = v.heard;
+    said = v.said;
+    heard_so = v.hears;
+    gave_so = v.gave;
+    valid = replied;
+  }
 
   -- ---- each refusal
 
@@ -91,7 +84,7 @@ module _ (line : Line) (c : Call) (receipt : Receipt) (v : HasValidInput line c 
   ValidBy r = IsValidFrom c r.judged v.heard stream r.planned
 
   unlisted : (e : FetchError) → IsUnlisted line c receipt e → remote.is_free e ≡ true
-  unlisted e h = ap remote.is_free h.broke.told ∙ (free_listing h.broke.cause ∙ broke_free is_free_listing is_interrupted (bound_of c.given) (listing_stage c.given) h.broke.cause h.broke.broke (listed (subst ValidBy h.receipt_is v.valid)))
+  unlisted e h = listing_free line c receipt e h (valid_replies (bound_of c.given) (listing_stage c.given) (listed (subst ValidBy h.receipt_is v.valid)))
     where
       listed : HasListing c.given stream ⊎ IsUnheard (bound_of c.given) (listing_stage c.given) v.heard stream → IsReplied (bound_of c.given) (listing_stage c.given) v.heard stream
       listed (inl l) = inl ((l.listed, l.behind), l.replies)
@@ -104,9 +97,7 @@ module _ (line : Line) (c : Call) (receipt : Receipt) (v : HasValidInput line c 
   unanswered : (e : FetchError) → IsUnanswered line c receipt e → remote.is_free e ≡ true
   unanswered e h =
       let s = h.seen.repository.state in
-      ap remote.is_free h.broke.told
-      ∙ broke_free remote.is_free remote.is_yes (bound_of c.given) (conversation c.given s) (receiving h.broke.cause)
-      (whole_receiving line.answers line.old h.broke.between line.new c.given s h.broke.listed h.broke.behind h.broke.cause h.broke.list h.broke.broke) (replied None s ((subst ValidBy h.receipt_is v.valid) h.seen h.at))
+      receiving_free line c receipt e h (valid_replies (bound_of c.given) (conversation c.given s) (replied None s ((subst ValidBy h.receipt_is v.valid) h.seen h.at)))
 
   module _ (cause : UpdateError) (h : IsStopped line c receipt (errors.Fetch (fetch.Receive (receive.UpdateRefs cause)))) (u : IsUnjudged (matter_in c.given h.conversed.seen.repository.state h.told) (course_in c h.conversed.seen.journal) h.judged h.place cause) where
     abbrev planned : State
@@ -128,25 +119,19 @@ module _ (line : Line) (c : Call) (receipt : Receipt) (v : HasValidInput line c 
     answered : answer_in (bound_of c.given) (conversation c.given planned) stream ≡ Ok (h.told, h.conversed.ended.rest ++ v.after.to_come)
     answered = ap (λ (l : List ℕ). answer_in (bound_of c.given) (conversation c.given planned) (l ++ v.after.to_come)) (sym (said_same (lines_text (requests_in c.given planned h.conversed.said)) h.conversed.said h.conversed.heard.passed)) ∙ h.conversed.ended.answered v.after.to_come
 
-    judgeable : (r : HasReplies c h.judged planned stream) → is_worktree_fault cause ≡ false → ⊥
-    judgeable r sure =
+    judgeable : (r : HasReplies c h.judged planned stream) → AreJudgeable (policy_in over (manner_in c.given) u.trees) h.told.listed.ref_map
+    judgeable r =
         let p = policy_in over (manner_in c.given) u.trees in
         let mappings : AreJudgeableAt c (Some u.count) r.told.listed.ref_map = subst (λ (o : Option ℕ). AreJudgeableAt c o r.told.listed.ref_map) u.judged_is r.mappings in
-        let j = judges_it p r.told.listed.ref_map (mappings u.taken.seen u.trees judged_at u.listed_trees) in
         let same : h.told ≡ r.told = one_answer (answer_in (bound_of c.given) (conversation c.given planned) stream) h.told r.told (h.conversed.ended.rest ++ v.after.to_come) r.behind answered r.replies in
-        let both : judged_of p h.told.listed.ref_map ≡ Ok j.0 = ap (λ (t : Told). judged_of p t.listed.ref_map) same ∙ j.1 in
-        not_both (judged_of p h.told.listed.ref_map) (receive.UpdateRefs cause) j.0 (u.why sure) both
+        subst (λ (t : Told). AreJudgeable p t.listed.ref_map) (sym same) (mappings u.taken.seen u.trees judged_at u.listed_trees)
 
-    judging_free : HasReplies c h.judged planned stream ⊎ IsUnheard (bound_of c.given) (conversation c.given planned) v.heard stream → is_worktree_fault cause ≡ true
-    judging_free (inr n) = absurd (awaited_no (bound_of c.given) (conversation c.given planned) stream (h.told, h.conversed.ended.rest ++ v.after.to_come) n.awaited answered)
-    judging_free (inl r) = by (is_worktree_fault cause) refl
-      where
-        by : (b : Bool) → is_worktree_fault cause ≡ b → b ≡ true
-        by true sure = refl
-        by false sure = absurd (judgeable r sure)
+    judging : HasReplies c h.judged planned stream ⊎ IsUnheard (bound_of c.given) (conversation c.given planned) v.heard stream → is_worktree_fault cause ≡ true
+    judging (inr n) = absurd (awaited_no (bound_of c.given) (conversation c.given planned) stream (h.told, h.conversed.ended.rest ++ v.after.to_come) n.awaited answered)
+    judging (inl r) = unjudged_free (matter_in c.given planned h.told) (course_in c h.conversed.seen.journal) h.judged h.place cause u (judgeable r)
 
   unjudged : (cause : UpdateError) → IsStopped line c receipt (errors.Fetch (fetch.Receive (receive.UpdateRefs cause))) → is_worktree_fault cause ≡ true
-  unjudged cause h = judging_free cause h h.unsettled ((subst ValidBy h.receipt_is v.valid) h.conversed.seen h.conversed.at)
+  unjudged cause h = judging cause h h.unsettled ((subst ValidBy h.receipt_is v.valid) h.conversed.seen h.conversed.at)
 
   complete_at : (e : SharedError) → IsSharedRefused line c receipt e → is_free e ≡ true
   complete_at (errors.NotClosed link) h = absurd h

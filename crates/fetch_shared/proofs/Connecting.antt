@@ -48,7 +48,11 @@ module _ (s : State) (before between : List Event) (wants haves : List ObjectId)
       let no : None ≡ Some link = sym (subst (λ (l : List Missing). slice_get l 0 ≡ None) (sym (connected both.0)) refl) ∙ both.1 in
       absurd cc
 
--- what an allowed take was for is stored from then on
+-- what an allowed take was for is stored then
+pub wants_left : (s : State) (pass : ℕ) (wants : List ObjectId) (pack : Pack) → refusal s (Take pass wants pack) ≡ None → All (IsStored (effect s (Take pass wants pack)).repository.state.objects) wants
+wants_left s pass wants pack ok = none_held (held s.repository) wants pack (allowed_take (held s.repository) wants pack ok).1
+
+-- and from then on
 pub wants_then : (s : State) (pass : ℕ) (wants : List ObjectId) (pack : Pack) (later : List Event) → refusal s (Take pass wants pack) ≡ None
     → All (IsStored (run s (Take pass wants pack ∷ later)).repository.state.objects) wants
 wants_then s pass wants pack later ok =
@@ -56,4 +60,4 @@ wants_then s pass wants pack later ok =
     let taken_in : after s (Take pass wants pack) ≡ then' = after_allowed s (Take pass wants pack) ok in
     subst (λ (t : State). All (IsStored (run t later).repository.state.objects) wants) (sym taken_in)
     (All-weaker (IsStored then'.repository.state.objects) (IsStored (run then' later).repository.state.objects) (stored_grows then'.repository.state.objects (run then' later).repository.state.objects (run_grows then' later)) wants
-    (none_held (held s.repository) wants pack (allowed_take (held s.repository) wants pack ok).1))
+    (wants_left s pass wants pack ok))

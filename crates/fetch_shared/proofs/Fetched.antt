@@ -3,6 +3,7 @@ use Rattle.std.proofs.Common.{◌≡◌, ◌⊎◌, ℕ, ◌+◌, ◌≤◌, ◌
 use Rattle.std.specs.Prelude.{IfSome}
 use Rattle.std.proofs.lemmas.List.{append-nil}
 use Rattle.fetch_store.specs.declared.id.ObjectId.{ObjectId}
+use Rattle.fetch_store.specs.Graph.{graph_of}
 use Rattle.fetch_store.specs.Trees.{Tree}
 use Rattle.fetch_update.specs.Outcomes.{outcome_of}
 use Rattle.fetch_update.specs.declared.update.Outcome.{Outcome as Updates}
@@ -26,8 +27,8 @@ use Rattle.fetch_remote.specs.Form.{Given}
 use Rattle.fetch_remote.specs.Judging.{judged_of}
 use Rattle.fetch_remote.specs.Keeping.{AreFiles, left_tree}
 use Rattle.fetch_remote.specs.Repositories.{State}
-use Rattle.fetch_remote.specs.Settling.{policy_in, outcome_in}
-use Rattle.fetch_remote.specs.Stages.{Told, bound_of, wants_in, listing_stage, pack_stage, conversation}
+use Rattle.fetch_remote.specs.Settling.{brought, policy_in, outcome_in}
+use Rattle.fetch_remote.specs.Stages.{Told, bound_of, terms_in, wants_in, listing_stage, pack_stage, conversation}
 use Rattle.fetch_remote.specs.Talking.{HasTold, BreaksListing, BreaksReceiving}
 use Rattle.fetch_remote.specs.declared.fetching.fetch_error.FetchError.{FetchError}
 use Rattle.fetch_remote.specs.declared.fetching.fetch_error.FetchError.TheVariants as fetch
@@ -36,6 +37,7 @@ use Rattle.fetch_remote.proofs.Broken.{front_listing, front_receiving, Later}
 use Rattle.fetch_remote.proofs.Fetched.{has_heard, has_read, in_form}
 use Rattle.fetch_remote.proofs.Keeping.{keep_is}
 use Rattle.fetch_remote.proofs.Negotiated.{are_held}
+use Rattle.fetch_remote.proofs.Received.{is_received}
 use Rattle.fetch_remote.proofs.Settled.{judged_is}
 use Rattle.fetch_remote.proofs.Spoken.{said_in, told_spoken, needed_listing, needed_receiving}
 use Rattle.fetch_remote.proofs.Unjudged.{IsOther, receives_no_other}
@@ -53,6 +55,7 @@ use Rattle.fetch_shared.specs.Seen.{IsStateAt}
 use Rattle.fetch_shared.specs.Settling.{Matter, Course, course_of, IsSettled, IsUnsettled}
 use Rattle.fetch_shared.specs.Shared.{SharedValue}
 use Rattle.fetch_shared.specs.Talking.{Line, HasTalked, BrokeListing, BrokePlanning, BrokeReceiving, HasBroken}
+use Rattle.fetch_shared.proofs.Holds.{received_none, stored_on, holds_mapped}
 use Rattle.fetch_shared.proofs.Saw.{state_later}
 use Rattle.fetch_shared.proofs.Told.{listing_isnt, receiving_was, memory_never}
 
@@ -267,6 +270,10 @@ module _ (line : Line) (c : Call) (mid : Holder) (count : ℕ) (t : Talked) (h :
         };
         written = record { carried = edits_carry_out _ _ _ _ _ ok; says = edits_say _ _ _ _ _ ok; turns = tells_type_changes _ _ _ _ _ ok };
         kept = record { keep = keep_is g.setup.settings.git_dir g.options.dry_run t.received u; tree = kept };
+        held = λ wet.
+            holds_mapped c.before.shared.opening h.seen.journal c.after.front c.before.number g h.seen s.by.taken.seen l.ref_map (brought g.options.dry_run t.received)
+            (λ id. stored_on c.before.shared.opening h.seen s.by.taken.seen id h.at.opened s.by.taken.at.opened h.at.kept s.by.taken.at.kept s.by.taken.at.goes_on)
+            s.by.taken.allowed (λ e. (is_received (bound_of g) (graph_of state.objects) (terms_in g state l) _ t.received _ (read.replied [])).none (received_none g.options.dry_run t.received wet e));
       })
 
   module _ (m : Matter) (setup : m.setup ≡ c.given.setup) (how : m.how ≡ manner_in c.given) (wants : m.wants ≡ t.wants) (is : m.told ≡ told) where

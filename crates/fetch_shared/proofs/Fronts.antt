@@ -6,7 +6,7 @@ use Rattle.std.specs.List.{AllByRecursion}
 use Rattle.std.proofs.lemmas.List.Elements.{All-from_recursion}
 use Rattle.fetch_store.specs.declared.id.ObjectId.{ObjectId}
 use Rattle.fetch_store.specs.Borders.{set_of}
-use Rattle.fetch_store.specs.Closed.{Grows}
+use Rattle.fetch_store.specs.Closed.{IsStored, Grows}
 use Rattle.fetch_store.specs.Hashing.{id_of}
 use Rattle.fetch_store.specs.Objects.{Stored}
 use Rattle.fetch_store.specs.Stores.{ObjectMap}
@@ -41,15 +41,21 @@ value None is = absurd cc
 value (Some x) is = (x, refl)
 
 -- a longer front has the ids of a shorter one
+pub stored_later : (opening : RepositoryValue) (front more : List Entry) (before now : RepositoryValue) (id : ObjectId) → IsStateOf opening front before → IsStateOf opening (front ++ more) now
+    → IsStored before.state.objects id → IsStored now.state.objects id
+stored_later opening front more before now id at later is =
+    let old : set.contains (outline before).ids id ≡ true = contains-ids before.state.objects id ∙ is in
+    let then' : set.contains (replay (outline opening) front).ids id ≡ true = subst (λ (v : Outline). set.contains v.ids id ≡ true) at.told old in
+    let on : set.contains (replay (replay (outline opening) front) more).ids id ≡ true = ids_replay (replay (outline opening) front) more id then' in
+    let here : set.contains (outline now).ids id ≡ true = subst (λ (v : Outline). set.contains v.ids id ≡ true) (sym (later.told ∙ replay-append (outline opening) front more)) on in
+    sym (contains-ids now.state.objects id) ∙ here
+
+-- and its objects, up to two with one id
 pub fronts_grow : (opening : RepositoryValue) (front more : List Entry) (before now : RepositoryValue) → IsStateOf opening front before → IsStateOf opening (front ++ more) now → IsAlike before.state.objects now.state.objects
     → Grows before.state.objects now.state.objects
 fronts_grow opening front more before now at later alike = record {
   keeps = λ id o is.
-      let old : set.contains (outline before).ids id ≡ true = contains-ids before.state.objects id ∙ ap is_some is in
-      let then' : set.contains (replay (outline opening) front).ids id ≡ true = subst (λ (v : Outline). set.contains v.ids id ≡ true) at.told old in
-      let on : set.contains (replay (replay (outline opening) front) more).ids id ≡ true = ids_replay (replay (outline opening) front) more id then' in
-      let here : set.contains (outline now).ids id ≡ true = subst (λ (v : Outline). set.contains v.ids id ≡ true) (sym (later.told ∙ replay-append (outline opening) front more)) on in
-      let other : (x : Stored) × (get now.state.objects id ≡ Some x) = value (get now.state.objects id) (sym (contains-ids now.state.objects id) ∙ here) in
+      let other : (x : Stored) × (get now.state.objects id ≡ Some x) = value (get now.state.objects id) (stored_later opening front more before now id at later (ap is_some is)) in
       other.1 ∙ ap (λ (x : Stored). Some x) (sym (alike.same id o other.0 is other.1));
 }
 

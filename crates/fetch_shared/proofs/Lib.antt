@@ -24,7 +24,11 @@ pub mod Judged
 pub mod Moved
 pub mod Settled
 pub mod Owned
+pub mod Holds
+pub mod Sources
 pub mod Fetched
 pub mod Places
+pub mod Replied
+pub mod Written
 pub mod Complete
 pub mod Disconnected

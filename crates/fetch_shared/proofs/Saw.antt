@@ -1,7 +1,9 @@
 -- What turns that a pass took tell of the states that they found and left.
 use Rattle.std.proofs.Common.{◌≡◌, ◌⊎◌, ℕ, ◌≤◌, List, [], ◌++◌, length, Option, None, Some, Result, Ok, Err, refl, sym, ap, ◌∙◌, subst, inl, inr}
 use Rattle.fetch_store.specs.Answers.{RefusesUnless}
+use Rattle.fetch_store.specs.declared.id.ObjectId.{ObjectId}
 use Rattle.fetch_negotiate.specs.declared.algorithm.Shallow.{Shallow}
+use Rattle.fetch_conversation.specs.declared.conversing.Received.{Received}
 use Rattle.fetch_specs.specs.declared.tags.Tags.{Tags}
 use Rattle.fetch_wire.specs.declared.listings.mapping.RefMap.{RefMap}
 use Rattle.fetch_remote.specs.RepositoryValues.{RepositoryValue}
@@ -13,7 +15,7 @@ use Rattle.fetch_shared.specs.Journals.{Begins}
 use Rattle.fetch_shared.specs.Machine.{Event, refusal}
 use Rattle.fetch_shared.specs.Machine.Event.{Plan as Planning}
 use Rattle.fetch_shared.specs.Passes.{Holder, IsBack, IsTurn}
-use Rattle.fetch_shared.specs.Seen.{IsStateAt, IsRefusedAt}
+use Rattle.fetch_shared.specs.Seen.{IsStateAt, IsRefusedAt, AllowsTake}
 use Rattle.fetch_shared.specs.Shared.{SharedValue, done, plan_of, state_of, is_memory}
 use Rattle.fetch_shared.specs.Talking.{HasPlanned}
 use Rattle.fetch_shared.proofs.Journals.{begins_self, begins_trans}
@@ -63,6 +65,12 @@ state_later opening earlier front later count v more s = record { opened = s.ope
 
 pub refused_earlier : (opening : RepositoryValue) (earlier front later : List Entry) (e : Event) (why : SharedError) → Begins earlier front → IsRefusedAt opening front later e why → IsRefusedAt opening earlier later e why
 refused_earlier opening earlier front later e why more r = record { found = r.found; opened = r.opened; kept = r.kept; goes_on = begins_trans earlier front later more r.goes_on; journal = r.journal; cause = r.cause }
+
+pub allowed_later : (opening : RepositoryValue) (earlier front later : List Entry) (number : ℕ) (wants : List ObjectId) (r : Option Received) (left : SharedValue) → Begins front later
+    → AllowsTake opening earlier front number wants r left → AllowsTake opening earlier later number wants r left
+allowed_later opening earlier front later number wants None left more h = tt
+allowed_later opening earlier front later number wants (Some reply) left more h =
+    record { found = h.found; at = state_later opening earlier front later (length h.found.journal) h.found more h.at; allowed = h.allowed; left_is = h.left_is }
 
 -- the same pass
 pub back_self : (p : Holder) → IsBack p p

@@ -13,7 +13,7 @@ use Rattle.fetch_shared.specs.declared.error.SharedError.TheVariants as errors
 use Rattle.fetch_shared.specs.Journals.{entries_of}
 use Rattle.fetch_shared.specs.Machine.Event.{Take}
 use Rattle.fetch_shared.specs.Passes.{Holder}
-use Rattle.fetch_shared.specs.Seen.{IsStateAt, IsRefusedAt}
+use Rattle.fetch_shared.specs.Seen.{IsStateAt, IsRefusedAt, AllowsTake}
 use Rattle.fetch_shared.specs.Shared.{SharedValue, snapshot_of}
 
 -- the entry of a take, where something is to be taken
@@ -35,9 +35,10 @@ pub record HasLooked (before after : Holder) (negotiate : Option Negotiate) (b :
   pub negotiate_is : b.negotiate ≡ negotiate
   pub pack : b.pack ≡ None
 
--- What was received is taken, but in a dry run.
-pub record HasBrought (before after : Holder) (dry_run : Bool) (r : Option Received) (b : Brought) : Type 0 where
+-- What was received is taken, but in a dry run, as the state that the turn found allows it.
+pub record HasBrought (before after : Holder) (dry_run : Bool) (wants : List ObjectId) (r : Option Received) (b : Brought) : Type 0 where
   pub saw : HasSeen before after (take_entries before.number (brought dry_run r)) b
+  pub allowed : AllowsTake before.shared.opening before.front after.front before.number wants (brought dry_run r) saw.seen
   pub negotiate_is : b.negotiate ≡ option_map (λ x. x.negotiate) r
   pub pack : b.pack ≡ pack_read dry_run r
 

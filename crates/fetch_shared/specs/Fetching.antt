@@ -1,6 +1,6 @@
 -- A fetch over a shared repository. "The state at `planned`" and "at `judged`" are those that this many entries leave of what
 -- the pass has seen in the end.
-use Rattle.std.specs.Prelude.{◌≡◌, ◌⊎◌, ℕ, List, [], Option, Some, None, ⊤}
+use Rattle.std.specs.Prelude.{◌≡◌, ◌⊎◌, ℕ, false, List, [], Option, Some, None, ⊤}
 use Rattle.fetch_store.specs.Trees.{Tree}
 use Rattle.fetch_update.specs.declared.worktrees.Worktree.{Worktree}
 use Rattle.fetch_wire.specs.Talks.{Talks, IsFront}
@@ -8,12 +8,13 @@ use Rattle.fetch_wire.specs.Written.{lines_text}
 use Rattle.fetch_conversation.specs.Conversation.{IsAwaited}
 use Rattle.fetch_conversation.specs.declared.fetch.Error.TheVariants as receive
 use Rattle.fetch_conversation.specs.declared.prepare.Error.TheVariants as prepare
-use Rattle.fetch_remote.specs.Fetched.{HasHeard, HasRead, IsJudged, IsWritten, IsKept, listed_in}
+use Rattle.fetch_remote.specs.Fetched.{HasHeard, HasRead, IsJudged, IsWritten, IsKept, HoldsMapped, listed_in}
 use Rattle.fetch_remote.specs.Fetching.{manner_in, requests_in}
 use Rattle.fetch_remote.specs.Form.{Given}
 use Rattle.fetch_remote.specs.Negotiated.{AreHeld}
 use Rattle.fetch_remote.specs.Refused.{HasEnded}
 use Rattle.fetch_remote.specs.Repositories.{State}
+use Rattle.fetch_remote.specs.RepositoryValues.{RepositoryValue}
 use Rattle.fetch_remote.specs.Stages.{Told, bound_of, wants_in, conversation}
 use Rattle.fetch_remote.specs.Talking.{BreaksListing, BreaksReceiving}
 use Rattle.fetch_remote.specs.declared.fetching.fetch_error.FetchError.{FetchError}
@@ -77,13 +78,14 @@ pub record HasConversed (line : Line) (c : Call) (planned : ℕ) (told : Told) :
   pub ended : HasEnded c.given seen.repository.state said told
 
 -- What the outcome tells is what was read, the rounds are those that were held, each mapping is judged by the policy over
--- the state at `judged`, and the keep file stays where no edit stands.
+-- the state at `judged`, which, but for a dry run, holds each id that is mapped, and the keep file stays where no edit stands.
 pub record IsTold (line : Line) (c : Call) (planned judged : State) (trees : List Worktree) (said : List ℕ) (outcome : Outcome) : Type 0 where
   pub read : HasRead c.given planned said outcome
   pub rounds : AreHeld c.given planned (listed_in outcome) read.behind read.received
   pub verdicts : IsJudged c.given trees judged judged read.received outcome
   pub written : IsWritten c.given trees judged judged outcome verdicts.updates
   pub kept : IsKept c.given c.files c.left read.received verdicts.updates outcome
+  pub held : c.given.options.dry_run ≡ false → HoldsMapped c.given outcome.ref_map judged.objects
 
 -- A fetch over a shared repository that was done.
 pub record IsSharedFetch (line : Line) (c : Call) (receipt : Receipt) (outcome : Outcome) : Type 0 where
@@ -98,6 +100,10 @@ pub record IsSharedFetch (line : Line) (c : Call) (receipt : Receipt) (outcome :
   -- and the outcome tells it.
   pub tells : IsTold line c conversed.seen.repository.state settled.by.taken.seen.repository.state settled.by.trees conversed.said outcome
   pub receipt_is : receipt ≡ receipt_of c.before (Some count) (Some judged) place
+
+-- the repository that the verdicts saw
+abbrev pub judged_in : {line : Line} {c : Call} {receipt : Receipt} {outcome : Outcome} → IsSharedFetch line c receipt outcome → RepositoryValue
+judged_in h = h.settled.by.taken.seen.repository
 
 -- ---- refused
 

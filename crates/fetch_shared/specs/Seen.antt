@@ -1,11 +1,15 @@
 -- The states that a pass has seen, by how many entries of its front lead to them.
-use Rattle.std.specs.Prelude.{◌≡◌, ℕ, List, length, Some}
+use Rattle.std.specs.Prelude.{◌≡◌, ℕ, List, length, Option, None, Some, ⊤}
+use Rattle.fetch_store.specs.declared.id.ObjectId.{ObjectId}
+use Rattle.fetch_conversation.specs.declared.conversing.Received.{Received}
+use Rattle.fetch_remote.specs.Settling.{pack_of}
 use Rattle.fetch_remote.specs.RepositoryValues.{RepositoryValue}
 use Rattle.fetch_shared.specs.declared.entry.Entry.{Entry}
 use Rattle.fetch_shared.specs.declared.error.SharedError.{SharedError}
 use Rattle.fetch_shared.specs.Journals.{Begins}
-use Rattle.fetch_shared.specs.Machine.{Event, refusal}
-use Rattle.fetch_shared.specs.Shared.{SharedValue, IsKept, state_of}
+use Rattle.fetch_shared.specs.Machine.{Event, IsAllowed, refusal}
+use Rattle.fetch_shared.specs.Machine.Event.{Take}
+use Rattle.fetch_shared.specs.Shared.{SharedValue, IsKept, done, state_of}
 
 -- The state that the first `count` entries of a front leave: it is kept, and these are its journal, which goes on from an
 -- earlier one.
@@ -24,3 +28,15 @@ pub record IsRefusedAt (opening : RepositoryValue) (earlier front : List Entry) 
   pub goes_on : Begins earlier front
   pub journal : found.journal ≡ front
   pub cause : refusal (state_of found) event ≡ Some e
+
+-- A state that a beginning of a front leaves allowed this event, which left this.
+pub record IsAllowedAt (opening : RepositoryValue) (earlier front : List Entry) (event : Event) (left : SharedValue) : Type 0 where
+  pub found : SharedValue
+  pub at : IsStateAt opening earlier front (length found.journal) found
+  pub allowed : IsAllowed (state_of found) event
+  pub left_is : left ≡ done found event
+
+-- Where there is something to take, its take was allowed.
+abbrev pub AllowsTake : RepositoryValue → List Entry → List Entry → ℕ → List ObjectId → Option Received → SharedValue → Type 0
+AllowsTake opening earlier front number wants None left = ⊤
+AllowsTake opening earlier front number wants (Some reply) left = IsAllowedAt opening earlier front (Take number wants (pack_of reply)) left

@@ -42,7 +42,7 @@ pub(crate) fn bring<R: Wait>(
     requires of_kind { IfSome received (λ r. AreOf shared.now.opening.state.hash r.objects) }
     requires named { IfSome received (λ r. AreNamed r.objects) }
     ensures back { MatchResult result (λ r. IsBack pass r.0) (λ r. IsBack pass r.0) }
-    ensures brought { IfOk result (λ r. HasBrought pass r.0 dry_run received r.1) }
+    ensures brought { IfOk result (λ r. HasBrought pass r.0 dry_run wants.now received r.1) }
     ensures refused { IfErr result (λ r. IsUnbrought pass r.0 dry_run wants.now received r.1) }
 {
     let Some(received) = received else {
@@ -95,7 +95,7 @@ fn take<R: Wait>(
     requires of_kind { AreOf shared.now.opening.state.hash received.objects }
     requires named { AreNamed received.objects }
     ensures back { MatchResult result (λ r. IsBack pass r.0) (λ r. IsBack pass r.0) }
-    ensures brought { IfOk result (λ r. HasBrought pass r.0 false (Some received) r.1) }
+    ensures brought { IfOk result (λ r. HasBrought pass r.0 false wants.now (Some received) r.1) }
     ensures refused { IfErr result (λ r. IsUnbrought pass r.0 false wants.now (Some received) r.1) }
 {
     let Received {

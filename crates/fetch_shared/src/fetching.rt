@@ -35,7 +35,8 @@ use std::thread::Threads;
 /// is asked outside the turns. References are written loose.
 ///
 /// After an error the journal has none of the pass's own entries more but the take's, and the commit's where the keep file
-/// couldn't be removed.
+/// couldn't be removed. The keep file stands where it was made; where it couldn't be made, the tree that the files tell is as
+/// found.
 // Many arguments: the public signature, that of `Remote::fetch` with a pass.
 // Long: each stage hands the pass back at its refusal.
 pub fn fetch_shared<R: Threads + Wait + Sync, P: Peer, I: Interrupt, F: Files, W: Worktrees>(

@@ -2,27 +2,30 @@ use Rattle.std.proofs.Common.{◌≡◌, ℕ, Bool, false, length, List, Option,
 use Rattle.std.specs.FinMap as map
 use Rattle.fetch_store.specs.FileCalls.{IsRefused as IsBlocked}
 use Rattle.fetch_remote.specs.Keeping.{with_keep}
+use Rattle.fetch_race.specs.declared.job.Job.{Job}
 use Rattle.fetch_race.specs.Racing.{Race}
 use Rattle.fetch_race.proofs.Calm.{no_count, no_yes, never_kept}
 use Rattle.fetch_race.proofs.Fetched.{line, call, done, refused}
 use Rattle.fetch_race.proofs.fetching.fetch.Goals as goal
 
-pub returns-in-Ok-clause-done : goal.returns-in-Ok-clause-done
-returns-in-Ok-clause-done g c =
+pub returns-in-Ok : goal.returns-in-Ok
+returns-in-Ok g c =
     let race : Race g.row.P.Denot = record { answers = g.P.Peer.answers; told = g.P.Peer.told; faults = g.P.Peer.faults; trees = c.args.worktrees.items; opening = c.args.shared.now.opening } in
-    done race c.args.job.now c.fetch_shared-answer.new.peer c.args.pass c.in-Ok.pass c.in-Ok.receipt (Some c.fetch_shared-answer.new.files.tree) c.args.options _ _ c.in-Ok.outcome
-    c.requires.options c.new-trees.ensures.told c.new-files.ensures.told c.in-Ok.ensures.back c.in-Ok.ensures.receipt c.in-Ok.ensures.peer c.in-Ok.ensures.fetched
+    let job : Job g.row.P.Denot = record { remote = c.args.remote.now; peer = c.args.peer.now; options = c.args.options } in
+    done race job c.fetch_shared-answer.new.peer c.args.pass c.in-Ok.pass c.in-Ok.receipt (Some c.fetch_shared-answer.new.files.tree) c.args.options _ _ c.in-Ok.outcome
+    refl c.new-trees.ensures.told c.new-files.ensures.told c.in-Ok.ensures.back c.in-Ok.ensures.receipt c.in-Ok.ensures.peer c.in-Ok.ensures.fetched
 
-pub returns-clause-done : goal.returns-clause-done
-returns-clause-done g c =
+pub returns : goal.returns
+returns g c =
     let race : Race g.row.P.Denot = record { answers = g.P.Peer.answers; told = g.P.Peer.told; faults = g.P.Peer.faults; trees = c.args.worktrees.items; opening = c.args.shared.now.opening } in
+    let job : Job g.row.P.Denot = record { remote = c.args.remote.now; peer = c.args.peer.now; options = c.args.options } in
     let f = c.fetch_shared-answer.ensures in
     let e = c.in-Err.ensures in
     let none = rw c.new.ensures.items at c.new-interrupt.ensures.count in
     let never = rw c.new-2.ensures.items at c.new-files.ensures.may_fail in
     let nothing = c.new-files.ensures.told in
-    refused race c.args.job.now c.fetch_shared-answer.new.peer c.args.pass c.in-Err.pass c.in-Err.receipt (Some c.fetch_shared-answer.new.files.tree) c.args.options _ _ c.in-Err.e
-    c.requires.options c.new-trees.ensures.told nothing e.back e.receipt e.peer e.refused (no_yes _ _ _ _ _ _ c.in-Err.e none e.interrupt)
+    refused race job c.fetch_shared-answer.new.peer c.args.pass c.in-Err.pass c.in-Err.receipt (Some c.fetch_shared-answer.new.files.tree) c.args.options _ _ c.in-Err.e
+    refl c.new-trees.ensures.told nothing e.back e.receipt e.peer e.refused (no_yes _ _ _ _ _ _ c.in-Err.e none e.interrupt)
     (record {
       listing = λ is. no_count _ _ false (rw c.new-3.ensures.items at c.new-trees.ensures.listing) refl f.listing_counts (e.listing is);
       open_repo = λ is. no_count _ _ false (rw c.new-3.ensures.items at c.new-trees.ensures.open_repo) refl f.open_repo_counts (e.open_repo is);

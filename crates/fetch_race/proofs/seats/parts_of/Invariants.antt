@@ -1,4 +1,4 @@
-use Rattle.std.proofs.Common.{◌≡◌, ◌++◌, map, Some}
+use Rattle.std.proofs.Common.{◌≡◌, ◌++◌, ◌+◌, ◌≤◌, length, map, Some, vec_len, vec_capacity}
 use Rattle.std.specs.Vec.Iter.{into_iter_items}
 use Rattle.fetch_race.specs.Seats.{answer_in}
 use Rattle.fetch_race.proofs.seats.parts_of.Given as goal
@@ -10,4 +10,6 @@ invariant-loop-racer g l = record {
   split : l.yielded ++ into_iter_items l.racer-iterator ≡ l.fn.racers.items;
   answers : map Some l.answers.items ≡ map answer_in l.yielded;
   peers : l.peers.items ≡ map (λ r. r.job.peer) l.yielded;
+  answers_room : vec_len l.answers + length (into_iter_items l.racer-iterator) ≤ vec_capacity l.answers;
+  peers_room : vec_len l.peers + length (into_iter_items l.racer-iterator) ≤ vec_capacity l.peers;
 }

@@ -16,6 +16,7 @@ told-requires g c =
     record {
       answered = subst (λ (l : List (Racer g.row.P.Denot)). (i : ℕ) (racer : Racer g.row.P.Denot) → slice_get l i ≡ Some racer → IsSome racer.answer) (sym same)
           (all_answered race c.race_among-pass.result.front _ new c.race_among-pass.ensures.raced);
+      room = c.requires.room;
     }
 
 pub returns : goal.returns

@@ -21,7 +21,7 @@ returns-in-Err-clause-refused g c =
 pub returns-in-Err-judge_over-clause-refused : goal.returns-in-Err-judge_over-clause-refused
 returns-in-Err-judge_over-clause-refused g c =
     let m : Matter = record { setup = c.args.shared.now.opening.setup; how = c.args.how.now; wants = c.args.talked.wants; told = record { listed = shown c.args.talked.listed; received = c.args.talked.received } } in
-    let b = c.in-Ok.ensures.brought in
+    let b = rw c.as_slice-wants.ensures at c.in-Ok.ensures.brought in
     let h = rw (c.settings-settings.ensures.settings, c.found-ref_map.ensures) at c.in-Err-judge_over.ensures.stopped in
     rw c.unreceived.ensures (stopped m c.args.pass c.in-Ok.brought.0 c.in-Ok.brought.0 (g.W.Worktrees.told c.args.worktrees.now) (g.F.Files.told c.args.files.now) (g.F.Files.told c.judge_over.new.files) c.in-Ok.brought.1 b (begins_self c.in-Ok.brought.0.front) refl c.in-Err-judge_over.stop h)
 
@@ -30,7 +30,7 @@ returns-in-Err-commit-clause-refused g c =
     let m : Matter = record { setup = c.args.shared.now.opening.setup; how = c.args.how.now; wants = c.args.talked.wants; told = record { listed = shown c.args.talked.listed; received = c.args.talked.received } } in
     let v = rw (c.settings-settings.ensures.settings, c.found-ref_map.ensures) at c.in-Ok-judge_over.ensures.verdicts in
     let h = rw c.as_slice-edits.ensures at c.in-Err-commit.ensures.refused in
-    unmoved m c.args.pass c.in-Ok.brought.0 _ (g.W.Worktrees.told c.args.worktrees.now) (g.F.Files.told c.args.files.now) (g.F.Files.told c.judge_over.new.files) c.in-Ok.brought.1 c.in-Ok.ensures.brought c.in-Ok-judge_over.verdicts
+    unmoved m c.args.pass c.in-Ok.brought.0 _ (g.W.Worktrees.told c.args.worktrees.now) (g.F.Files.told c.args.files.now) (g.F.Files.told c.judge_over.new.files) c.in-Ok.brought.1 (rw c.as_slice-wants.ensures at c.in-Ok.ensures.brought) c.in-Ok-judge_over.verdicts
     (g.F.Files.told c.judge_over.new.files) v c.in-Ok.ensures.back c.in-Err-commit.ensures.back _ refl h
 
 pub returns-in-Ok-outcome-clause-settled : goal.returns-in-Ok-outcome-clause-settled
@@ -38,7 +38,7 @@ returns-in-Ok-outcome-clause-settled g c =
     let m : Matter = record { setup = c.args.shared.now.opening.setup; how = c.args.how.now; wants = c.args.talked.wants; told = record { listed = shown c.args.talked.listed; received = c.args.talked.received } } in
     let v = rw (c.settings-settings.ensures.settings, c.found-ref_map.ensures) at c.in-Ok-judge_over.ensures.verdicts in
     let moved = rw c.as_slice-edits.ensures at c.in-Ok-commit.ensures.moved in
-    settles m c.args.pass c.in-Ok.brought.0 _ (g.W.Worktrees.told c.args.worktrees.now) (g.F.Files.told c.args.files.now) (g.F.Files.told c.outcome.new.files) c.in-Ok.brought.1 c.in-Ok.ensures.brought c.in-Ok-judge_over.verdicts
+    settles m c.args.pass c.in-Ok.brought.0 _ (g.W.Worktrees.told c.args.worktrees.now) (g.F.Files.told c.args.files.now) (g.F.Files.told c.outcome.new.files) c.in-Ok.brought.1 (rw c.as_slice-wants.ensures at c.in-Ok.ensures.brought) c.in-Ok-judge_over.verdicts
     (g.F.Files.told c.judge_over.new.files) v c.in-Ok.ensures.back c.in-Ok-commit.ensures.back _ _ _ c.in-Ok-outcome.outcome moved c.found-ref_map.ensures c.in-Ok-outcome.ensures.told c.in-Ok-outcome.ensures.removed
 
 pub returns-clause-refused : goal.returns-clause-refused
@@ -46,8 +46,8 @@ returns-clause-refused g c =
     let m : Matter = record { setup = c.args.shared.now.opening.setup; how = c.args.how.now; wants = c.args.talked.wants; told = record { listed = shown c.args.talked.listed; received = c.args.talked.received } } in
     let v = rw (c.settings-settings.ensures.settings, c.found-ref_map.ensures) at c.in-Ok-judge_over.ensures.verdicts in
     let moved = rw c.as_slice-edits.ensures at c.in-Ok-commit.ensures.moved in
-    unreleased m c.args.pass c.in-Ok.brought.0 _ (g.W.Worktrees.told c.args.worktrees.now) (g.F.Files.told c.args.files.now) (g.F.Files.told c.outcome.new.files) c.in-Ok.brought.1 c.in-Ok.ensures.brought c.in-Ok-judge_over.verdicts
-    (g.F.Files.told c.judge_over.new.files) v c.in-Ok.ensures.back c.in-Ok-commit.ensures.back _ _ moved c.in-Err-outcome.ensures.refused c.in-Err-outcome.ensures.tree
+    unreleased m c.args.pass c.in-Ok.brought.0 _ (g.W.Worktrees.told c.args.worktrees.now) (g.F.Files.told c.args.files.now) (g.F.Files.told c.outcome.new.files) c.in-Ok.brought.1 (rw c.as_slice-wants.ensures at c.in-Ok.ensures.brought) c.in-Ok-judge_over.verdicts
+    (g.F.Files.told c.judge_over.new.files) v c.in-Ok.ensures.back c.in-Ok-commit.ensures.back _ _ moved c.in-Err-outcome.ensures.refused c.in-Err-outcome.ensures.stands
 
 pub returns-in-Err-commit-clause-back : goal.returns-in-Err-commit-clause-back
 returns-in-Err-commit-clause-back g c = back_trans _ _ _ c.in-Ok.ensures.back c.in-Err-commit.ensures.back
@@ -105,5 +105,5 @@ pub returns-clause-removable : goal.returns-clause-removable
 returns-clause-removable g c path is never =
     let m : Matter = record { setup = c.args.shared.now.opening.setup; how = c.args.how.now; wants = c.args.talked.wants; told = record { listed = shown c.args.talked.listed; received = c.args.talked.received } } in
     let v = rw (c.settings-settings.ensures.settings, c.found-ref_map.ensures) at c.in-Ok-judge_over.ensures.verdicts in
-    removable_by m c.args.pass c.in-Ok.brought.0 c.in-Ok-commit.committed.0 (g.W.Worktrees.told c.args.worktrees.now) (g.F.Files.told c.args.files.now) (g.F.Files.told c.outcome.new.files) c.in-Ok.brought.1 c.in-Ok.ensures.brought
+    removable_by m c.args.pass c.in-Ok.brought.0 c.in-Ok-commit.committed.0 (g.W.Worktrees.told c.args.worktrees.now) (g.F.Files.told c.args.files.now) (g.F.Files.told c.outcome.new.files) c.in-Ok.brought.1 (rw c.as_slice-wants.ensures at c.in-Ok.ensures.brought)
     c.in-Ok-judge_over.verdicts (g.F.Files.told c.judge_over.new.files) v c.in-Ok.ensures.back c.in-Ok-commit.ensures.back _ c.in-Err-outcome.ensures.refused.0 c.in-Err-outcome.ensures.in_the_way c.in-Err-outcome.ensures.refused.2 (c.in-Ok-judge_over.ensures.may_fail ∙ never)
