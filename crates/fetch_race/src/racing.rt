@@ -17,6 +17,9 @@ use std::thread::Threads;
 /// Does each job by its pass, side by side. The files of a job are in memory and begin with nothing, its work trees are
 /// these, nothing interrupts it, and none of them fails. What became of a job stands beside it, with the pass as it came
 /// back. A racer without a pass is as before. It takes no memory of its own.
+///
+/// A race can't be stopped: a peer that hangs, hangs it. It is for a first copy and for tests; a service calls
+/// `fetch_shared` in threads of its own.
 pub fn race_over<R: Threads + Wait + Sync, P: Peer + Send>(
     rt: &R,
     alloc: Global,

@@ -26,6 +26,9 @@ use std::thread::Threads;
 /// `i`. It answers what the journal leaves, the journal, what became of each job, and the jobs' peers, in the jobs' order.
 /// `NotClosed` comes exactly where the repository isn't closed, with its first missing link, and else only out of memory,
 /// before any job begins; what a job was refused for is its answer.
+///
+/// A race can't be stopped, and its files begin with nothing and are dropped: a peer that hangs, hangs it. It is for a first
+/// copy and for tests; a service calls `fetch_shared` in threads of its own.
 pub fn race_with<R: Threads + Wait + Sync, P: Peer + Drop + Send>(
     rt: &R,
     alloc: Global,

@@ -24,6 +24,8 @@ use std::sync::Wait;
 /// no fault, and the configuration is left alone. No name at all is Ok at once, without a receipt. After an error the
 /// journal has no entry more of the pass. `Delete` tells the first name that is no local branch, a fault of the work
 /// trees, whose count rose then, or the first branch that is checked out.
+///
+/// After `close`, `Repository::delete_local_branches` with the same names takes their sections out of `config`.
 pub fn delete_shared<R: Wait, W: Worktrees>(
     rt: &R,
     alloc: Global,

@@ -37,6 +37,9 @@ use std::thread::Threads;
 /// After an error the journal has none of the pass's own entries more but the take's, and the commit's where the keep file
 /// couldn't be removed. The keep file stands where it was made; where it couldn't be made, the tree that the files tell is as
 /// found.
+///
+/// The pass comes back in both arms: a call with `?` on the whole result would lose it, with its numbers. `Disconnected` and
+/// `EditReferences` may be due to what others entered, and are worth one more try; `Collision` isn't.
 // Many arguments: the public signature, that of `Remote::fetch` with a pass.
 // Long: each stage hands the pass back at its refusal.
 pub fn fetch_shared<R: Threads + Wait + Sync, P: Peer, I: Interrupt, F: Files, W: Worktrees>(

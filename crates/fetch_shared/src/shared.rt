@@ -26,6 +26,9 @@ use std::sync::Wait;
 
 /// A repository under a lock that passes take in turn. Contracts see which one it is, and what it opened as. Its settings
 /// stand beside the lock, since they never change.
+///
+/// Objects can't be read while it is shared: close it, or keep a copy. A plan, a take and a snapshot make a graph of all
+/// stored objects while they have the turn.
 #[derive(Drop)]
 pub struct SharedRepository {
     pub(crate) table: Desk,
