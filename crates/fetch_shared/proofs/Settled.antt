@@ -1,7 +1,7 @@
 -- What is settled over a shared repository, and what is refused.
 use Rattle.std.proofs.Common.{◌≡◌, ◌⊎◌, ℕ, Bool, true, false, List, [], ◌∷◌, ◌++◌, length, map, Option, None, Some, Result, Ok, Err, refl, sym, ap, ◌∙◌, subst, inl, inr}
 use Rattle.std.proofs.lemmas.Bool.{OnFalse_at}
-use Rattle.std.specs.Prelude.{IfSome, is_some, slice_get, find}
+use Rattle.std.specs.Prelude.{IfSome, slice_get, find}
 use Rattle.std.specs.FinMap as finmap
 use Rattle.std.specs.Option.{option_map, option_or}
 use Rattle.fetch_store.specs.Answers.{AnswersUnless}
@@ -152,8 +152,8 @@ module _ (m : Matter) (p q w : Holder) (known : Option (List Worktree)) (files l
         so x is u = subst (λ (y : Option ℕ × ReceiveError). IsUnsettled m course y.0 None (fetching (receiving y.1))) (λ i. (sym h.unjudged i, sym is i)) u
 
         by : (s.cause ≡ receive.KeepFile h.unmade.path) ⊎ (s.cause ≡ receive.NoMemory) → IsUnsettled m course s.judged None (fetching (receiving s.cause))
-        by (inl is) = so (receive.KeepFile h.unmade.path) is (record { unjudged = refl; unplaced = refl; added = own_added later same; keep = sym keep_same ∙ h.unmade.made; tree = h.unmade.told })
-        by (inr is) = so receive.NoMemory is (record { unplaced = refl; stands = inr (inl (record { unjudged = refl; added = own_added later same; path = h.unmade.path; keep = sym keep_same ∙ h.unmade.made; tree = h.unmade.told })) })
+        by (inl is) = so (receive.KeepFile h.unmade.path) is (record { unjudged = refl; unplaced = refl; added = own_added later same; keep = sym keep_same ∙ h.unmade.made; files_same = h.unmade.same_files })
+        by (inr is) = so receive.NoMemory is (record { unplaced = refl; stands = inr (inl (record { unjudged = refl; added = own_added later same; path = h.unmade.path; keep = sym keep_same ∙ h.unmade.made; files_same = h.unmade.same_files })) })
     stopped s (inr h) = by (judging_told (policy_by b m.how h.trees) m.told.listed.ref_map s.cause h.by)
       where
         stands : AreFiles files left (with_keep (keep_in m))
@@ -236,9 +236,9 @@ module _ (m : Matter) (p q w : Holder) (known : Option (List Worktree)) (files l
 
     -- the keep file couldn't be removed
     pub unreleased : (place : Option ℕ) (e : SharedError) → Moves m.how.dry_run q w v.updates.edits committer place → (path : List ℕ) × (e ≡ unremoved path) × (released_of v.updates v.taken ≡ Some path)
-        → is_some left ≡ is_some mid → IsUnsettled m course (Some v.judged) place e
+        → left ≡ mid → IsUnsettled m course (Some v.judged) place e
     unfolding judged_at taken_at
-    unreleased place e moved (path, is, gone) tree =
+    unreleased place e moved (path, is, gone) still =
         subst (λ (x : SharedError). IsUnsettled m course (Some v.judged) place x) (sym is) (record {
           count = v.judged;
           judged_is = refl;
@@ -246,7 +246,7 @@ module _ (m : Matter) (p q w : Holder) (known : Option (List Worktree)) (files l
           by = judged_at v mid hv later.begins;
           commits = commits place moved;
           removed = removed_is m.setup.settings.git_dir m.how.dry_run m.told.received v.updates ∙ ap (released_of v.updates) (sym told_is) ∙ gone;
-          tree = tree ∙ hv.kept.0;
+          kept = subst (λ (x : Option (List ℕ) × Option Tree). AreFiles files x.1 (with_keep x.0)) (λ i. (keep_same i, sym still i)) hv.kept;
         })
 
     -- all was done

@@ -1,5 +1,5 @@
 -- What a fetch does with what it received, over a shared repository.
-use Rattle.std.specs.Prelude.{◌≡◌, ◌≤◌, ◌<◌, ◌⊎◌, ℕ, Bool, true, false, List, [], ◌∷◌, ◌++◌, length, Option, Some, None, Ok, Err, slice_get, is_some, ⊤}
+use Rattle.std.specs.Prelude.{◌≡◌, ◌≤◌, ◌<◌, ◌⊎◌, ℕ, Bool, true, false, List, [], ◌∷◌, ◌++◌, length, Option, Some, None, Ok, Err, slice_get, ⊤}
 use Rattle.std.specs.Option.{option_map}
 use Rattle.fetch_store.specs.Answers.{AnswersUnless}
 use Rattle.fetch_store.specs.Stores.{AreOf}
@@ -141,13 +141,13 @@ pub record IsUntaken (m : Matter) (c : Course) (judged place : Option ℕ) (e : 
   pub named : AreNamed reply.objects
   pub refused : IsRefusedAt c.opening c.planned c.front (Take c.number m.wants (pack_of reply)) e
 
--- What was received is taken, and its keep file couldn't be made.
+-- What was received is taken, and its keep file couldn't be made: the files are those found.
 pub record IsUnkept (m : Matter) (c : Course) (judged place : Option ℕ) (path : List ℕ) : Type 0 where
   pub unjudged : judged ≡ None
   pub unplaced : place ≡ None
   pub added : entries_of c.number c.front ≡ c.own ++ take_entries c.number (reply_in m)
   pub keep : keep_in m ≡ Some path
-  pub tree : is_some c.left ≡ is_some c.files
+  pub files_same : c.left ≡ c.files
 
 -- What was received is taken, its keep file stands, and the mappings are refused: by the policy, or the work trees failed.
 pub record IsUnjudged (m : Matter) (c : Course) (judged place : Option ℕ) (cause : UpdateError) : Type 0 where
@@ -173,7 +173,7 @@ pub record IsUncommitted (m : Matter) (c : Course) (judged place : Option ℕ) (
   pub refused : IsRefusedAt c.opening c.planned c.front (Commit c.number updates.edits m.setup.settings.committer) e
   pub kept : AreFiles c.files c.left (with_keep (keep_in m))
 
--- All is done, but the keep file that was to go couldn't be removed.
+-- All is done, but the keep file that was to go couldn't be removed: it stands.
 pub record IsUnremoved (m : Matter) (c : Course) (judged place : Option ℕ) (path : List ℕ) : Type 0 where
   pub count : ℕ
   pub judged_is : judged ≡ Some count
@@ -181,7 +181,7 @@ pub record IsUnremoved (m : Matter) (c : Course) (judged place : Option ℕ) (pa
   pub by : HasJudged m c count updates
   pub commits : Commits m.how.dry_run c.number count (entries_of c.number by.taken.seen.journal) c.front (commit_entry m c.number updates) place
   pub removed : removed_in m.setup.settings.git_dir (status_of m.setup.settings.git_dir m.how.dry_run m.told.received updates) ≡ Some path
-  pub tree : is_some c.left ≡ is_some c.files
+  pub kept : AreFiles c.files c.left (with_keep (keep_in m))
 
 -- Memory ran out before anything was taken.
 pub record ForgotEarly (c : Course) (judged : Option ℕ) : Type 0 where
@@ -189,13 +189,13 @@ pub record ForgotEarly (c : Course) (judged : Option ℕ) : Type 0 where
   pub none : entries_of c.number c.front ≡ c.own
   pub files_same : c.left ≡ c.files
 
--- What was received is taken, and memory ran out as its keep file was made.
+-- What was received is taken, and memory ran out before its keep file was made: the files are those found.
 pub record ForgotMaking (m : Matter) (c : Course) (judged : Option ℕ) : Type 0 where
   pub unjudged : judged ≡ None
   pub added : entries_of c.number c.front ≡ c.own ++ take_entries c.number (reply_in m)
   pub path : List ℕ
   pub keep : keep_in m ≡ Some path
-  pub tree : is_some c.left ≡ is_some c.files
+  pub files_same : c.left ≡ c.files
 
 -- What was received is taken, its keep file stands, and memory ran out after that: the state after the taking was to be
 -- judged.

@@ -35,7 +35,8 @@ use std::thread::Threads;
 /// is asked outside the turns. References are written loose.
 ///
 /// After an error the journal has none of the pass's own entries more but the take's, and the commit's where the keep file
-/// couldn't be removed.
+/// couldn't be removed. The keep file stands where it was made; where it couldn't be made, the tree that the files tell is as
+/// found.
 ///
 /// The pass comes back in both arms: a call with `?` on the whole result would lose it, with its numbers. `Disconnected` and
 /// `EditReferences` may be due to what others entered, and are worth one more try; `Collision` isn't.

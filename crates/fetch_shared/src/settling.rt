@@ -1,6 +1,6 @@
 //! What a fetch does with what it received, over a shared repository.
 
-ghost use Rattle.std.specs.Prelude.{◌≡◌, ℕ, false, true, is_some, List as Items, None, Some, IfOk, IfErr, IfSome, MatchResult, OnOk, OnErr};
+ghost use Rattle.std.specs.Prelude.{◌≡◌, ℕ, false, true, List as Items, None, Some, IfOk, IfErr, IfSome, MatchResult, OnOk, OnErr};
 ghost use Rattle.std.specs.Option.{option_map};
 ghost use Rattle.fetch_store.specs.Faults.{Rose, Counts};
 ghost use Rattle.fetch_store.specs.FileCalls.{IsRefused as IsBlocked};
@@ -259,7 +259,7 @@ fn outcome<F: Files>(
     ensures told { IfOk result (λ outcome. outcome ≡ record { ref_map = ref_map; handshake = handshake; status = status_by dry_run taken updates }) }
     ensures removed { OnOk result (AreFiles (F.told files.old) (F.told files.new) (without_keep (released_of updates taken))) }
     ensures refused { IfErr result (λ e. (path : Items ℕ) × (e ≡ spec.unremoved path) × (released_of updates taken ≡ Some path)) }
-    ensures tree { is_some (F.told files.new) ≡ is_some (F.told files.old) }
+    ensures stands { OnErr result (F.told files.new ≡ F.told files.old) }
     ensures unread { kept_in taken ≡ None → files.new ≡ files.old }
     ensures counts { Counts (F.faults files.old) (F.faults files.new) }
     ensures cause { OnErr result (Rose (F.faults files.old) (F.faults files.new)) }

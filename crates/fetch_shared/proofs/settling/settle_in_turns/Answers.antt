@@ -47,7 +47,7 @@ returns-clause-refused g c =
     let v = rw (c.settings-settings.ensures.settings, c.found-ref_map.ensures) at c.in-Ok-judge_over.ensures.verdicts in
     let moved = rw c.as_slice-edits.ensures at c.in-Ok-commit.ensures.moved in
     unreleased m c.args.pass c.in-Ok.brought.0 _ (g.W.Worktrees.told c.args.worktrees.now) (g.F.Files.told c.args.files.now) (g.F.Files.told c.outcome.new.files) c.in-Ok.brought.1 (rw c.as_slice-wants.ensures at c.in-Ok.ensures.brought) c.in-Ok-judge_over.verdicts
-    (g.F.Files.told c.judge_over.new.files) v c.in-Ok.ensures.back c.in-Ok-commit.ensures.back _ _ moved c.in-Err-outcome.ensures.refused c.in-Err-outcome.ensures.tree
+    (g.F.Files.told c.judge_over.new.files) v c.in-Ok.ensures.back c.in-Ok-commit.ensures.back _ _ moved c.in-Err-outcome.ensures.refused c.in-Err-outcome.ensures.stands
 
 pub returns-in-Err-commit-clause-back : goal.returns-in-Err-commit-clause-back
 returns-in-Err-commit-clause-back g c = back_trans _ _ _ c.in-Ok.ensures.back c.in-Err-commit.ensures.back
