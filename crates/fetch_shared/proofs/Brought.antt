@@ -1,22 +1,20 @@
 -- What a pass brought in a turn.
-use Rattle.std.proofs.Common.{◌≡◌, ◌⊎◌, ℕ, Bool, true, false, List, [], ◌∷◌, ◌++◌, length, map, Option, None, Some, Result, Ok, Err, IfOk, refl, sym, ap, ◌∙◌, inl, inr}
-use Rattle.std.specs.Option.{option_map}
+use Rattle.std.proofs.Common.{◌≡◌, ◌⊎◌, Bool, true, false, List, ◌++◌, Option, None, Some, Result, Ok, Err, IfOk, refl, sym, ap, ◌∙◌, inl, inr}
 use Rattle.std.proofs.lemmas.List.{append-nil}
 use Rattle.fetch_store.specs.declared.id.ObjectId.{ObjectId}
 use Rattle.fetch_conversation.specs.declared.conversing.Received.{Received}
 use Rattle.fetch_conversation.specs.declared.negotiate.Negotiate.{Negotiate}
 use Rattle.fetch_remote.specs.Settling.{brought, pack_of}
 use Rattle.fetch_shared.specs.declared.bringing.Brought.{Brought}
-use Rattle.fetch_shared.specs.declared.entry.Entry.{Entry}
 use Rattle.fetch_shared.specs.declared.error.SharedError.{SharedError}
 use Rattle.fetch_shared.specs.declared.error.SharedError.TheVariants as errors
 use Rattle.fetch_shared.specs.declared.plan.Taken.{Taken}
-use Rattle.fetch_shared.specs.Bringing.{take_entries, HasSeen, HasLooked, HasBrought, IsUnbrought}
+use Rattle.fetch_shared.specs.Bringing.{take_entries, HasLooked, HasBrought, IsUnbrought}
 use Rattle.fetch_shared.specs.Journals.{entries_of}
 use Rattle.fetch_shared.specs.Machine.Event.{Take, Snapshot}
 use Rattle.fetch_shared.specs.Passes.{Holder, IsBack, IsTurn}
 use Rattle.fetch_shared.specs.Seen.{IsRefusedAt}
-use Rattle.fetch_shared.specs.Shared.{SharedValue, done, snapshot_of}
+use Rattle.fetch_shared.specs.Shared.{done, snapshot_of}
 use Rattle.fetch_shared.proofs.Saw.{saw, refuses}
 
 pub has_looked : (before after : Holder) (negotiate : Option Negotiate) (taken : Taken) → IsBack before after → IsTurn before after Snapshot snapshot_of (Ok taken) → entries_of before.number after.front ≡ entries_of before.number before.front

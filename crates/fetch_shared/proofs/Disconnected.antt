@@ -1,5 +1,5 @@
 -- A pack that is refused as disconnected isn't honest for its plan.
-use Rattle.std.proofs.Common.{◌≡◌, List, [], ◌++◌, Option, None, Some, refl, sym, ap, ◌∙◌, subst}
+use Rattle.std.proofs.Common.{◌≡◌, List, [], None, Some, refl, sym, ap, ◌∙◌, subst}
 use Rattle.std.specs.Prelude.{slice_get}
 use Rattle.fetch_store.specs.declared.id.Kind.{Kind}
 use Rattle.fetch_store.specs.declared.id.ObjectId.{ObjectId}

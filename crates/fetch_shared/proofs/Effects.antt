@@ -4,7 +4,7 @@ use Rattle.fetch_store.specs.declared.id.ObjectId.{ObjectId}
 use Rattle.fetch_store.specs.Borders.{IdSet, merged}
 use Rattle.fetch_store.specs.Closed.{IsClosed, AreAllOf, holding}
 use Rattle.fetch_store.specs.Honest.{Pack}
-use Rattle.fetch_store.specs.Stores.{ObjectMap, Entries, add_all}
+use Rattle.fetch_store.specs.Stores.{ObjectMap, Entries}
 use Rattle.fetch_store.proofs.Growth.{grows_self, grows_trans}
 use Rattle.fetch_remote.specs.RepositoryValues.{RepositoryValue}
 use Rattle.fetch_remote.specs.Repositories as repositories

@@ -1,13 +1,8 @@
 -- A fetch over a shared repository, from its stages.
-use Rattle.std.proofs.Common.{◌≡◌, ◌⊎◌, ℕ, ◌+◌, ◌≤◌, ◌<◌, Bool, true, false, List, [], ◌∷◌, ◌++◌, length, Option, None, Some, Result, Ok, Err, refl, sym, ap, ◌∙◌, subst, inl, inr, arith, append_assoc}
-use Rattle.std.specs.Prelude.{IfSome}
+use Rattle.std.proofs.Common.{◌≡◌, ℕ, Bool, false, List, [], ◌++◌, Option, None, Some, Ok, refl, sym, ap, ◌∙◌, subst, inl, inr}
 use Rattle.std.proofs.lemmas.List.{append-nil}
-use Rattle.fetch_store.specs.declared.id.ObjectId.{ObjectId}
 use Rattle.fetch_store.specs.Graph.{graph_of}
-use Rattle.fetch_store.specs.Trees.{Tree}
 use Rattle.fetch_update.specs.Outcomes.{outcome_of}
-use Rattle.fetch_update.specs.declared.update.Outcome.{Outcome as Updates}
-use Rattle.fetch_update.specs.declared.worktrees.Worktree.{Worktree}
 use Rattle.fetch_update.proofs.Wholes.{one_each, accepts_exactly, guesses_exactly, rejects_exactly, edits_carry_out, edits_say, tells_type_changes}
 use Rattle.fetch_wire.specs.Talks.{Talk, Talks-then, Talks-none}
 use Rattle.fetch_wire.specs.Written.{lines_text}
@@ -15,21 +10,19 @@ use Rattle.fetch_conversation.specs.Conversation.{sent_in, Concludes}
 use Rattle.fetch_conversation.specs.Errors.{is_free_receiving}
 use Rattle.fetch_conversation.specs.ListStage.{ListedValue, shown, pending_of}
 use Rattle.fetch_conversation.proofs.Tied.{awaited_first}
-use Rattle.fetch_conversation.specs.declared.conversing.Received.{Received}
 use Rattle.fetch_conversation.specs.declared.fetch.Error.{Error as ReceiveError}
 use Rattle.fetch_conversation.specs.declared.fetch.Error.TheVariants as receive
 use Rattle.fetch_conversation.specs.declared.prepare.Error.{Error as PrepareError}
 use Rattle.fetch_conversation.specs.declared.prepare.Error.TheVariants as prepare
 use Rattle.fetch_remote.specs.Errors.{preparing, receiving}
-use Rattle.fetch_remote.specs.Fetched.{HasRead, IsJudged, IsWritten, IsKept, listed_in}
+use Rattle.fetch_remote.specs.Fetched.{HasRead}
 use Rattle.fetch_remote.specs.Fetching.{manner_in, requests_in}
 use Rattle.fetch_remote.specs.Form.{Given}
-use Rattle.fetch_remote.specs.Judging.{judged_of}
 use Rattle.fetch_remote.specs.Keeping.{AreFiles, left_tree}
 use Rattle.fetch_remote.specs.Repositories.{State}
 use Rattle.fetch_remote.specs.Settling.{brought, policy_in, outcome_in}
-use Rattle.fetch_remote.specs.Stages.{Told, bound_of, terms_in, wants_in, listing_stage, pack_stage, conversation}
-use Rattle.fetch_remote.specs.Talking.{HasTold, BreaksListing, BreaksReceiving}
+use Rattle.fetch_remote.specs.Stages.{Told, bound_of, terms_in, listing_stage, conversation}
+use Rattle.fetch_remote.specs.Talking.{BreaksListing, BreaksReceiving}
 use Rattle.fetch_remote.specs.declared.fetching.fetch_error.FetchError.{FetchError}
 use Rattle.fetch_remote.specs.declared.fetching.fetch_error.FetchError.TheVariants as fetch
 use Rattle.fetch_remote.specs.declared.fetching.outcome.Outcome.{Outcome}
@@ -41,20 +34,18 @@ use Rattle.fetch_remote.proofs.Received.{is_received}
 use Rattle.fetch_remote.proofs.Settled.{judged_is}
 use Rattle.fetch_remote.proofs.Spoken.{said_in, told_spoken, needed_listing, needed_receiving}
 use Rattle.fetch_remote.proofs.Unjudged.{IsOther, receives_no_other}
-use Rattle.fetch_shared.specs.declared.entry.Entry.{Entry}
 use Rattle.fetch_shared.specs.declared.error.SharedError.{SharedError}
 use Rattle.fetch_shared.specs.declared.error.SharedError.TheVariants as errors
 use Rattle.fetch_shared.specs.declared.receipt.Receipt.{Receipt}
 use Rattle.fetch_shared.specs.declared.talking.Talked.{Talked}
 use Rattle.fetch_shared.specs.Errors.{fetching}
-use Rattle.fetch_shared.specs.Fetching.{Call, own, course_in, matter_in, receipt_of, HasConversed, IsTold, IsSharedFetch, IsUnlisted, IsUnanswered, IsStopped, HasSpoken, RanOut, IsSharedRefused}
-use Rattle.fetch_shared.specs.Journals.{Begins, entries_of}
-use Rattle.fetch_shared.specs.Passes.{Holder, IsBack, Which}
-use Rattle.fetch_shared.specs.Receipts.{IsReceipt}
+use Rattle.fetch_shared.specs.Fetching.{Call, own, course_in, matter_in, receipt_of, HasConversed, IsTold, IsSharedFetch, IsStopped, HasSpoken, IsSharedRefused}
+use Rattle.fetch_shared.specs.Journals.{entries_of}
+use Rattle.fetch_shared.specs.Passes.{Holder, IsBack}
 use Rattle.fetch_shared.specs.Seen.{IsStateAt}
 use Rattle.fetch_shared.specs.Settling.{Matter, Course, course_of, IsSettled, IsUnsettled}
 use Rattle.fetch_shared.specs.Shared.{SharedValue}
-use Rattle.fetch_shared.specs.Talking.{Line, HasTalked, BrokeListing, BrokePlanning, BrokeReceiving, HasBroken}
+use Rattle.fetch_shared.specs.Talking.{Line, HasTalked, HasBroken}
 use Rattle.fetch_shared.proofs.Holds.{received_none, stored_on, holds_mapped}
 use Rattle.fetch_shared.proofs.Saw.{state_later}
 use Rattle.fetch_shared.proofs.Told.{listing_isnt, receiving_was, memory_never}

@@ -1,5 +1,5 @@
 -- What a fetch that was done holds: each id that is mapped, implicit tags aside.
-use Rattle.std.proofs.Common.{◌≡◌, ◌⊎◌, ℕ, Bool, true, false, List, [], ◌∷◌, ◌++◌, Option, None, Some, refl, sym, subst, inl, inr, arith}
+use Rattle.std.proofs.Common.{◌≡◌, ◌⊎◌, ℕ, Bool, true, false, List, [], ◌∷◌, Option, None, Some, refl, sym, subst, inl, inr, arith}
 use Rattle.std.specs.Prelude.{Contains}
 use Rattle.std.proofs.lemmas.List.Elements.{All-contains}
 use Rattle.fetch_store.specs.Closed.{IsStored}
@@ -18,7 +18,7 @@ use Rattle.fetch_shared.specs.Journals.{Begins}
 use Rattle.fetch_shared.specs.Machine.Event.{Take}
 use Rattle.fetch_shared.specs.Machine.{effect}
 use Rattle.fetch_shared.specs.Seen.{AllowsTake}
-use Rattle.fetch_shared.specs.Shared.{SharedValue, IsKept, done, state_of}
+use Rattle.fetch_shared.specs.Shared.{SharedValue, IsKept, state_of}
 use Rattle.fetch_shared.proofs.Connecting.{wants_left}
 use Rattle.fetch_shared.proofs.Fronts.{stored_later}
 

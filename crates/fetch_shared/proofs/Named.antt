@@ -1,6 +1,6 @@
 -- What is received is named by its hashes.
-use Rattle.std.proofs.Common.{◌≡◌, ℕ, Bool, true, false, List, [], ◌∷◌, Option, Some, None, Result, Ok, Err, IfOk, refl, sym, subst}
-use Rattle.std.specs.Prelude.{if◌then◌else◌, unwrap_or, ⊤}
+use Rattle.std.proofs.Common.{◌≡◌, ℕ, List, [], ◌∷◌, Option, Some, None, Result, Ok, Err, IfOk, refl, sym, subst}
+use Rattle.std.specs.Prelude.{unwrap_or, ⊤}
 use Rattle.std.specs.FinMap as finmap
 use Rattle.std.specs.Option.{option_or}
 use Rattle.fetch_store.specs.Graph.{Graph}
@@ -14,8 +14,8 @@ use Rattle.fetch_pack.specs.Packs.{entries}
 use Rattle.fetch_pack.specs.Reading.{◌>>=◌, Contents, Frame, all_parsed, distinct, ids_of, once_from, paired, read, structure, unless, with_digest, with_ids}
 use Rattle.fetch_pack.proofs.Laws.{objects_of, paired_entries, parsed_found, payloads_in}
 use Rattle.fetch_pack.proofs.Members.{once_named}
-use Rattle.fetch_conversation.specs.Conversation.{Conversation, ends, answer_in}
-use Rattle.fetch_conversation.specs.ConverseStage.{converse_stage, fetching, lacking, no_mapping, other_hash, read_of, received, rejected, unfit, unpacked, wanting, with_pack, without_pack}
+use Rattle.fetch_conversation.specs.Conversation.{ends, answer_in}
+use Rattle.fetch_conversation.specs.ConverseStage.{converse_stage, fetching, lacking, no_mapping, other_hash, received, rejected, unfit, unpacked, wanting, with_pack, without_pack}
 use Rattle.fetch_conversation.specs.Errors.{fetch_of_pack}
 use Rattle.fetch_conversation.specs.Exchange.{TermsValue}
 use Rattle.fetch_conversation.specs.Rounds.{Negotiated}

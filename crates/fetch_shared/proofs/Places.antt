@@ -1,5 +1,5 @@
 -- The places that receipts tell are in order.
-use Rattle.std.proofs.Common.{◌≡◌, ℕ, ◌+◌, ◌≤◌, ◌<◌, Bool, true, false, List, [], ◌++◌, length, Option, None, Some, refl, sym, ap, ◌∙◌, subst, inl, inr, arith}
+use Rattle.std.proofs.Common.{◌≡◌, ℕ, ◌≤◌, ◌<◌, Bool, true, false, List, length, Option, None, Some, refl, sym, ap, ◌∙◌, subst, inl, inr, arith}
 use Rattle.std.specs.Prelude.{◌⊎◌, IfSome}
 use Rattle.fetch_conversation.specs.declared.fetch.Error.TheVariants as receive
 use Rattle.fetch_remote.specs.Form.{Given}
@@ -11,7 +11,6 @@ use Rattle.fetch_shared.specs.declared.error.SharedError.TheVariants as errors
 use Rattle.fetch_shared.specs.declared.talking.Talked.{Talked}
 use Rattle.fetch_remote.specs.RepositoryValues.{RepositoryValue}
 use Rattle.fetch_shared.specs.Fetching.{receipt_of}
-use Rattle.fetch_shared.specs.Journals.{Begins}
 use Rattle.fetch_shared.specs.Passes.{Holder, IsBack}
 use Rattle.fetch_shared.specs.Receipts.{IsReceipt}
 use Rattle.fetch_shared.specs.Seen.{IsStateAt}

@@ -1,10 +1,8 @@
 -- What is refused with valid replies, over the states that the refusal itself tells.
 use Rattle.std.proofs.Common.{◌≡◌, ℕ, Bool, true, false, Option, Result, Ok, Err, refl, ap, ◌∙◌}
 use Rattle.fetch_update.specs.declared.update.Error.{Error as UpdateError}
-use Rattle.fetch_update.specs.declared.update.Outcome.{Outcome as Updates}
 use Rattle.fetch_conversation.specs.Conversation.{HasValidReplies}
 use Rattle.fetch_conversation.specs.Errors.{is_free_listing, is_interrupted, is_worktree_fault}
-use Rattle.fetch_conversation.specs.declared.fetch.Error.{Error as ReceiveError}
 use Rattle.fetch_conversation.specs.declared.fetch.Error.TheVariants as receive
 use Rattle.fetch_conversation.proofs.Valid.{never_refused}
 use Rattle.fetch_remote.specs.Errors.{receiving, is_free, is_yes}

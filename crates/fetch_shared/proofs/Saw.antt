@@ -1,5 +1,5 @@
 -- What turns that a pass took tell of the states that they found and left.
-use Rattle.std.proofs.Common.{◌≡◌, ◌⊎◌, ℕ, ◌≤◌, List, [], ◌++◌, length, Option, None, Some, Result, Ok, Err, refl, sym, ap, ◌∙◌, subst, inl, inr}
+use Rattle.std.proofs.Common.{◌≡◌, ◌⊎◌, ℕ, List, length, Option, None, Some, Ok, Err, refl, sym, ap, subst, inl, inr}
 use Rattle.fetch_store.specs.Answers.{RefusesUnless}
 use Rattle.fetch_store.specs.declared.id.ObjectId.{ObjectId}
 use Rattle.fetch_negotiate.specs.declared.algorithm.Shallow.{Shallow}

@@ -1,5 +1,5 @@
 -- What is settled over a shared repository, and what is refused.
-use Rattle.std.proofs.Common.{◌≡◌, ◌⊎◌, ℕ, Bool, true, false, List, [], ◌∷◌, ◌++◌, length, map, Option, None, Some, Result, Ok, Err, refl, sym, ap, ◌∙◌, subst, inl, inr}
+use Rattle.std.proofs.Common.{◌≡◌, ◌⊎◌, ℕ, Bool, true, false, List, ◌++◌, length, Option, None, Some, Ok, Err, refl, sym, ap, ◌∙◌, subst, inl, inr}
 use Rattle.std.proofs.lemmas.Bool.{OnFalse_at}
 use Rattle.std.specs.Prelude.{IfSome, slice_get, find}
 use Rattle.std.specs.FinMap as finmap
@@ -31,7 +31,7 @@ use Rattle.fetch_conversation.specs.declared.fetch.Error.{Error as ReceiveError}
 use Rattle.fetch_conversation.specs.declared.fetch.Error.TheVariants as receive
 use Rattle.fetch_remote.specs.Errors.{receiving}
 use Rattle.fetch_remote.specs.Judging.{is_free_judging, judged_of}
-use Rattle.fetch_remote.specs.Keeping.{AreFiles, made, with_keep, without_keep, left_tree, removed_in}
+use Rattle.fetch_remote.specs.Keeping.{AreFiles, made, with_keep, without_keep}
 use Rattle.fetch_remote.specs.Settling.{brought, pack_of, pack_read, pack_kept, policy_in, told_of, status_by, status_of, released_of, outcome_in, IsOfJudging}
 use Rattle.fetch_remote.specs.declared.fetching.outcome.Outcome.{Outcome}
 use Rattle.fetch_remote.specs.declared.fetching.settling.Taken.{Taken as Told}
@@ -52,7 +52,7 @@ use Rattle.fetch_shared.specs.Machine.{held, take_refusal, commit_refusal}
 use Rattle.fetch_shared.specs.Machine.Event.{Take, Commit}
 use Rattle.fetch_shared.specs.Passes.{Holder, IsBack}
 use Rattle.fetch_shared.specs.Seen.{IsStateAt, IsRefusedAt}
-use Rattle.fetch_shared.specs.Settling.{Matter, Course, course_of, reply_in, keep_in, HasTaken, HasJudged, Commits, commit_entry, IsSettled, IsUntaken, IsUncommitted, IsUnsettled, unremoved, kept_of, policy_by, HasVerdicts, StopsMaking, StopsJudging, IsStop, Moves, IsUnmoved}
+use Rattle.fetch_shared.specs.Settling.{Matter, Course, course_of, reply_in, keep_in, HasTaken, HasJudged, Commits, commit_entry, IsSettled, IsUntaken, IsUncommitted, IsUnsettled, unremoved, kept_of, policy_by, HasVerdicts, IsStop, Moves, IsUnmoved}
 use Rattle.fetch_shared.proofs.Saw.{state_later, refused_earlier, allowed_later}
 
 -- ---- which answers an event has

@@ -1,5 +1,5 @@
 -- What the updates of a fetch tell of sources and of new ids, where each id that is mapped is held.
-use Rattle.std.proofs.Common.{◌≡◌, ◌≢◌, ℕ, zero, suc, ◌<◌, Bool, true, false, cond, List, [], ◌∷◌, length, map, filter, Option, Some, None, refl, sym, ap, subst, ◌∙◌, inl, inr, arith, Contains}
+use Rattle.std.proofs.Common.{◌≡◌, ◌≢◌, ℕ, zero, suc, Bool, true, false, cond, List, [], ◌∷◌, map, filter, Option, Some, None, refl, sym, ap, subst, ◌∙◌, inl, inr, arith, Contains}
 use Rattle.std.specs.Prelude.{◌⊎◌, ◌&&◌, is_some}
 use Rattle.std.specs.FinMap as finmap
 use Rattle.std.specs.List.{slice_get}

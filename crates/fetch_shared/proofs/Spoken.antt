@@ -1,6 +1,5 @@
 -- The conversation of a fetch over a plan, as its stages hold it.
-use Rattle.std.proofs.Common.{◌≡◌, ◌⊎◌, ℕ, Bool, List, [], Option, Some, None, Result, Ok, Err, refl, sym, ap, ◌∙◌, subst, inl, inr}
-use Rattle.fetch_store.specs.declared.id.Kind.{Kind}
+use Rattle.std.proofs.Common.{◌≡◌, ℕ, Bool, List, [], Option, Some, None, Ok, Err, refl, sym, ap, ◌∙◌, subst, inl, inr}
 use Rattle.std.specs.Prelude.{IfSome}
 use Rattle.fetch_pack.specs.Once.{AreNamed}
 use Rattle.fetch_store.specs.Graph.{graph_of}
@@ -10,10 +9,8 @@ use Rattle.fetch_conversation.specs.Errors.{is_free_listing, is_free_receiving, 
 use Rattle.fetch_conversation.specs.ListStage.{ListedValue, shown, pending_of}
 use Rattle.fetch_conversation.specs.declared.conversing.Received.{Received}
 use Rattle.fetch_conversation.specs.declared.fetch.Error.{Error as ReceiveError}
-use Rattle.fetch_conversation.specs.declared.fetch.Error.TheVariants as receive
 use Rattle.fetch_conversation.specs.declared.listing.Listed.{Listed}
 use Rattle.fetch_conversation.specs.declared.prepare.Error.{Error as PrepareError}
-use Rattle.fetch_conversation.specs.declared.prepare.Error.TheVariants as prepare
 use Rattle.fetch_store.specs.declared.id.ObjectId.{ObjectId}
 use Rattle.fetch_remote.specs.Errors.{preparing, receiving}
 use Rattle.fetch_remote.specs.Form.{Given}
@@ -21,12 +18,8 @@ use Rattle.fetch_remote.specs.Stages.{bound_of, wants_in, terms_in, listing_stag
 use Rattle.fetch_remote.specs.Repositories.{State}
 use Rattle.fetch_remote.specs.Talking.{HasTold}
 use Rattle.fetch_remote.proofs.Received.{is_received}
-use Rattle.fetch_remote.specs.declared.fetching.fetch_error.FetchError.{FetchError}
-use Rattle.fetch_remote.specs.declared.fetching.fetch_error.FetchError.TheVariants as fetch
-use Rattle.fetch_shared.specs.declared.entry.Entry.{Entry}
 use Rattle.fetch_shared.specs.declared.error.SharedError.{SharedError}
 use Rattle.fetch_shared.specs.declared.error.SharedError.TheVariants as errors
-use Rattle.fetch_shared.specs.declared.talking.Talked.{Talked}
 use Rattle.fetch_shared.specs.Errors.{fetching}
 use Rattle.fetch_shared.specs.Passes.{Holder}
 use Rattle.fetch_shared.specs.Seen.{IsStateAt}

@@ -1,11 +1,11 @@
 -- The table as it is made keeps the rule, and its first view holds every number.
-use Rattle.std.proofs.Common.{◌≡◌, ℕ, zero, suc, ◌+◌, ◌<◌, ◌≤◌, List, [], ◌∷◌, map, Option, Some, refl, sym, ap, subst, arith}
+use Rattle.std.proofs.Common.{◌≡◌, ℕ, zero, suc, ◌<◌, List, [], ◌∷◌, map, Option, Some, refl, sym, ap, subst, arith}
 use mathlib.Core.Option.{some, some-injective, some-ne-none}
 use lib.ListN.{get_elem?}
 use Rattle.atomic_table.specs.Table as table
 use Rattle.fetch_remote.specs.RepositoryValues.{RepositoryValue}
 use Rattle.fetch_shared.specs.declared.view.View.{View}
-use Rattle.fetch_shared.specs.Numbers.{span, times_in, Holds}
+use Rattle.fetch_shared.specs.Numbers.{span, Holds}
 use Rattle.fetch_shared.specs.Shared.{SharedValue}
 use Rattle.fetch_shared.specs.Turns.{own, Knows, IsOrdered, newcomer}
 use Rattle.fetch_shared.proofs.Held.{times_in-first, times_in-yes}

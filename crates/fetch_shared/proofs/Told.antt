@@ -1,5 +1,5 @@
 -- How inner refusals are told: each as one of its own, a fault of the peer as one, and a yes as a yes.
-use Rattle.std.proofs.Common.{◌≡◌, Bool, false, refl, sym, ap, ◌∙◌, subst}
+use Rattle.std.proofs.Common.{◌≡◌, Bool, refl, sym, ap, ◌∙◌, subst}
 use Rattle.fetch_store.specs.Faults.{Faults}
 use Rattle.fetch_conversation.specs.Blame.{BlamesPeer}
 use Rattle.fetch_conversation.specs.Errors.{is_transport, is_client, is_interrupted, is_stopped}

@@ -1,5 +1,5 @@
 -- What one turn tells the pass that took it.
-use Rattle.std.proofs.Common.{◌≡◌, ◌≢◌, ℕ, List, [], ◌∷◌, ◌++◌, length, None, Some, refl, sym, ap, ◌∙◌, subst}
+use Rattle.std.proofs.Common.{◌≡◌, ℕ, [], ◌∷◌, ◌++◌, length, None, Some, refl, sym, ap, ◌∙◌, subst}
 use Rattle.std.specs.Prelude.{Result, Ok, Err, IfErr, IfOk, slice_get}
 use Rattle.atomic_table.specs.Seated.{TableId}
 use Rattle.fetch_store.specs.Answers.{RefusesUnless}
@@ -8,7 +8,7 @@ use Rattle.fetch_shared.specs.declared.error.SharedError.{SharedError}
 use Rattle.fetch_shared.specs.declared.error.SharedError.TheVariants as errors
 use Rattle.fetch_shared.specs.declared.view.View.{View}
 use Rattle.fetch_shared.specs.declared.view.Stage.TheVariants.{Resting}
-use Rattle.fetch_shared.specs.Journals.{Begins, entries_of, pass_of}
+use Rattle.fetch_shared.specs.Journals.{entries_of, pass_of}
 use Rattle.fetch_shared.specs.Machine.{Event, refusal}
 use Rattle.fetch_shared.specs.Numbers.{Holds}
 use Rattle.fetch_shared.specs.Shared.{SharedValue, is_memory, IsKept, done, state_of}

@@ -1,5 +1,5 @@
 -- Deletions of branches of a shared repository: what one entered, and why one is refused.
-use Rattle.std.specs.Prelude.{◌≡◌, ◌≤◌, ◌<◌, ℕ, Bool, true, false, List, [], ◌∷◌, ◌++◌, length, Option, Some, Ok, slice_get, ⊤}
+use Rattle.std.specs.Prelude.{◌≡◌, ℕ, Bool, false, List, [], ◌∷◌, ◌++◌, length, Option, Some, Ok, slice_get, ⊤}
 use Rattle.fetch_remote.specs.Deleting as remote
 use Rattle.fetch_remote.specs.Deleting.{AreFree}
 use Rattle.fetch_remote.specs.Undeletable.{IsUndeletable}
@@ -13,7 +13,6 @@ use Rattle.fetch_shared.specs.Journals.{entries_of}
 use Rattle.fetch_shared.specs.Machine.Event.{Delete}
 use Rattle.fetch_shared.specs.Passes.{Holder, IsTurn}
 use Rattle.fetch_shared.specs.Receipts.{IsReceipt}
-use Rattle.fetch_shared.specs.Shared.{SharedValue}
 
 -- One turn deleted these names, at the place of the receipt, where the pass's one new entry stands.
 pub record HasEntered (names : List (List ℕ)) (before after : Holder) (receipt : Option Receipt) : Type 0 where

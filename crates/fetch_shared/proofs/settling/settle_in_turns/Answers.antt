@@ -1,4 +1,4 @@
-use Rattle.std.proofs.Common.{Some, None, refl, sym, ap, ◌∙◌}
+use Rattle.std.proofs.Common.{refl, ◌∙◌}
 use Rattle.fetch_conversation.specs.ListStage.{shown}
 use Rattle.fetch_conversation.specs.declared.fetch.Error.TheVariants as receive
 use Rattle.fetch_update.specs.declared.update.Error.TheVariants as update
@@ -7,7 +7,7 @@ use Rattle.fetch_remote.proofs.Keeping.{dry_none}
 use Rattle.fetch_shared.specs.Settling.{Matter}
 use Rattle.fetch_shared.proofs.Back.{back_trans}
 use Rattle.fetch_shared.proofs.Journals.{begins_self}
-use Rattle.fetch_shared.proofs.Owned.{unbrought_own, unmoved_own, unmoved_late, judging_late}
+use Rattle.fetch_shared.proofs.Owned.{unbrought_own, unmoved_late, judging_late}
 use Rattle.fetch_shared.proofs.Settled.{unbrought, stopped, unmoved, unreleased, settles, removable_by}
 use Rattle.fetch_shared.proofs.Told.{receiving_is}
 use Rattle.fetch_shared.proofs.settling.settle_in_turns.Goals as goal

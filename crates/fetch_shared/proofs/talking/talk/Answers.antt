@@ -1,4 +1,4 @@
-use Rattle.std.proofs.Common.{refl, ◌∙◌, sym}
+use Rattle.std.proofs.Common.{refl, ◌∙◌}
 use Rattle.fetch_conversation.specs.Errors.{is_interrupted, is_stopped}
 use Rattle.fetch_conversation.proofs.Blame.{peer_then, interrupt_then, interrupt_as}
 use Rattle.fetch_conversation.proofs.Heeded.{same_question}

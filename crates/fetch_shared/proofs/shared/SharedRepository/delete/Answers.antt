@@ -1,4 +1,4 @@
-use Rattle.std.proofs.Common.{◌≡◌, ℕ, List, [], ◌∷◌, ◌++◌, length, refl, sym, ap, ◌∙◌, map}
+use Rattle.std.proofs.Common.{[], ◌∷◌, ◌++◌, length, refl, sym, ap, ◌∙◌}
 use Rattle.fetch_shared.specs.declared.entry.Entry.TheVariants as entries
 use Rattle.fetch_shared.specs.Machine.Event.{Delete}
 use Rattle.fetch_shared.specs.Shared.{SharedValue}

@@ -1,4 +1,4 @@
-use Rattle.std.proofs.Common.{rules, ◌≡◌, ℕ, sym, ap, subst, ◌∙◌}
+use Rattle.std.proofs.Common.{rules, sym, ap, subst, ◌∙◌}
 use Rattle.fetch_shared.specs.declared.view.View.{View}
 use Rattle.fetch_shared.specs.Numbers.{Holds}
 use Rattle.fetch_shared.specs.Shared.{SharedValue}

@@ -1,4 +1,4 @@
-use Rattle.std.proofs.Common.{◌≡◌, ℕ, List, [], ◌∷◌, ◌++◌, length, refl, sym, ap, ◌∙◌, subst, map}
+use Rattle.std.proofs.Common.{[], ◌∷◌, ◌++◌, refl, sym, ap, ◌∙◌, subst, map}
 use Rattle.fetch_shared.specs.declared.entry.Entry.TheVariants as entries
 use Rattle.fetch_shared.specs.Machine.Event.{Take}
 use Rattle.fetch_store.specs.Stores.{AreOf}
