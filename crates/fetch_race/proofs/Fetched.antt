@@ -1,5 +1,5 @@
 -- The fetch of a job, from what a fetch over a shared repository says.
-use Rattle.std.proofs.Common.{◌≡◌, ℕ, Bool, true, false, List, Option, Some, None, Result, Ok, Err, refl, sym, ap, subst}
+use Rattle.std.proofs.Common.{◌≡◌, true, false, List, Option, Some, None, Ok, Err, refl, sym, subst}
 use Rattle.std.specs.FinMap as map
 use Rattle.fetch_store.specs.Faults.{Counts-none}
 use Rattle.fetch_store.specs.Trees.{Tree}

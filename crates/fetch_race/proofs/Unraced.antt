@@ -1,5 +1,5 @@
 -- Why a race as a whole is refused: as the repository is shared, or out of memory.
-use Rattle.std.proofs.Common.{◌≡◌, Option, Some, None, Result, Ok, Err, refl, sym, ap, ◌∙◌}
+use Rattle.std.proofs.Common.{◌≡◌, Option, Some, None, Result, Ok, Err, ap, ◌∙◌}
 use Rattle.std.specs.Prelude.{MatchOption, IsOkUnless}
 use Rattle.fetch_store.specs.declared.missing.Missing.{Missing}
 use Rattle.fetch_shared.specs.declared.error.SharedError.{SharedError}

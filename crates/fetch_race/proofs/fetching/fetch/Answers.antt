@@ -1,11 +1,10 @@
-use Rattle.std.proofs.Common.{◌≡◌, ℕ, Bool, false, length, List, Option, Some, nat_lt, refl, sym, ap, ◌∙◌, subst}
-use Rattle.std.specs.FinMap as map
+use Rattle.std.proofs.Common.{Bool, false, Some, refl, subst}
 use Rattle.fetch_store.specs.FileCalls.{IsRefused as IsBlocked}
 use Rattle.fetch_remote.specs.Keeping.{with_keep}
 use Rattle.fetch_race.specs.declared.job.Job.{Job}
 use Rattle.fetch_race.specs.Racing.{Race}
 use Rattle.fetch_race.proofs.Calm.{no_count, no_yes, never_kept}
-use Rattle.fetch_race.proofs.Fetched.{line, call, done, refused}
+use Rattle.fetch_race.proofs.Fetched.{done, refused}
 use Rattle.fetch_race.proofs.fetching.fetch.Goals as goal
 
 pub returns-in-Ok : goal.returns-in-Ok
