@@ -4,6 +4,7 @@ pub mod Fetching
 pub mod HeardLines
 pub mod Reported
 pub mod Summed
+pub mod Checked
 pub mod Answering
 pub mod Sent
 pub mod Requested

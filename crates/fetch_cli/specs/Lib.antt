@@ -10,4 +10,6 @@ pub mod Report
 pub mod Opened
 pub mod Fetched
 pub mod Bench
+pub mod ServerScenes
+pub mod Checks
 pub mod Run

@@ -2,13 +2,14 @@
 use Rattle.std.specs.Prelude.{ℕ, ◌<◌, ◌≤◌, ◌&&◌, nat_lt, nat_le, List, [], ◌∷◌, ◌++◌, codes, Option, Some, None, Result, Ok, Err, ⊤, option_and_then, option_map, if◌then◌else◌}
 use Rattle.std.specs.Str.{bytes_eq}
 use Rattle.fetch_cli.specs.declared.program.words.Command.{Command}
-use Rattle.fetch_cli.specs.declared.program.words.Command.TheVariants.{Fetch, Bench, Help, Version}
+use Rattle.fetch_cli.specs.declared.program.words.Command.TheVariants.{Fetch, Check, Bench, Help, Version}
 use Rattle.fetch_scene.specs.Numbers.{number_in}
 
 -- the command of one word
 unfoldable pub command_named : List ℕ → Option Command
 command_named word =
     if bytes_eq word (codes "fetch") then Some Fetch
+    else if bytes_eq word (codes "check") then Some Check
     else if bytes_eq word (codes "--help") then Some Help
     else if bytes_eq word (codes "--version") then Some Version
     else None
@@ -47,17 +48,21 @@ command_of (word ∷ others) = if bytes_eq word (codes "bench") then bench_of ot
 abbrev pub IsWithin : Command → Type 0
 IsWithin (Bench count) = (0 < count) × (count ≤ 100000)
 IsWithin Fetch = ⊤
+IsWithin Check = ⊤
 IsWithin Help = ⊤
 IsWithin Version = ⊤
 
 -- what `--help` writes
 unfoldable pub help_text : List ℕ
 help_text =
-    codes "usage: bagjulen fetch < SCENE\n       bagjulen bench N\n\n"
+    codes "usage: bagjulen fetch < SCENE\n       bagjulen check < SERVER-SCENE\n       bagjulen bench N\n\n"
     ++ codes "fetch reads a scene from standard input: a repository, a remote and what its peer says.\n"
     ++ codes "It fetches, and writes a report: the lines sent, what became of each reference,\nand the repository as it then stands.\n\n"
+    ++ codes "check reads a repository in the form of a scene without a remote from standard input,\n"
+    ++ codes "and writes each missing link, each broken reference and each object that no reference reaches.\n\n"
     ++ codes "bench fetches the second half of a line of N commits, from 1 to 100000,\nfrom a server in memory, and writes a summary.\n\n"
-    ++ codes "status 0  the fetch was done\n       1  it was refused, and the report says why\n"
+    ++ codes "status 0  the fetch was done, or the check found nothing\n"
+    ++ codes "       1  the fetch was refused, and the report says why; or the check found something\n"
     ++ codes "       2  the input could not be read\n       3  the output could not be written\n"
     ++ codes "       4  the words or the scene are malformed\n       5  memory ran out\n"
 

@@ -4,5 +4,6 @@ pub mod ends;
 pub mod input;
 pub mod memory;
 pub mod running;
+pub mod server_scene;
 pub mod standard;
 pub mod words;

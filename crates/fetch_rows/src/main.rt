@@ -1,5 +1,5 @@
-//! Fetches what scenes of its input say, runs the program over them, and asks repositories of their remotes and branches, and
-//! writes what came of it.
+//! Fetches or checks what scenes of its input say, runs the program over them, and asks repositories of their remotes and
+//! branches, and writes what came of it.
 #![tactic(auto)]
 
 mod faults;
@@ -20,8 +20,8 @@ fn tell_row(
     out: &mut Vec<u8>,
 ) -> Result<bool, NoMemory> {
     say(out, &[b"=", row.whose, row.about])?;
-    if row.whose == b"fetch".as_slice() {
-        scenes::tell_fetch(rt, alloc, row, out)
+    if row.whose == b"fetch".as_slice() || row.whose == b"check".as_slice() {
+        scenes::tell_scene(rt, alloc, row, out)
     } else if row.whose == b"words".as_slice() {
         scenes::tell_words(rt, alloc, row.about, out)
     } else if row.whose == b"fault".as_slice() {

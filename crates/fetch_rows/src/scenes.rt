@@ -73,8 +73,8 @@ fn tell(
     Ok(true)
 }
 
-/// Runs `fetch` over the scene of a row, whose ends may fail. Whether it says how.
-pub(crate) fn tell_fetch(
+/// Runs the word that a row begins with over its scene, whose ends may fail. Whether it says how.
+pub(crate) fn tell_scene(
     rt: &(impl Threads + Sync),
     alloc: Global,
     row: &Row<'_>,
@@ -84,7 +84,7 @@ pub(crate) fn tell_fetch(
         return Ok(false);
     };
     let given = Given {
-        words: b"fetch",
+        words: row.whose,
         input: row.scene,
         faults,
     };

@@ -37,12 +37,18 @@ bytes_in p = unwrap_or (payload_of p.line) []
 unfoldable pub objects_in : Kind → List Placed → Option Entries
 objects_in hash payloads = option_map (λ pack. pack.objects) (result_ok (read hash (flat_map bytes_in payloads)))
 
--- A pack that breaks is malformed at its first payload, or at the line after it where it has none; whatever follows.
+-- the objects at the front. A pack that breaks is malformed at its first payload, or at the line after it where it has none; whatever follows.
+unfoldable pub pack_objects_of : Kind → Lines → Result (Entries × Lines) ℕ
+pack_objects_of hash ls = do
+  objects ← ok_or (objects_in hash (group_of payload_of ls)) (place_of ls)
+  Ok (objects, behind_group payload_of ls)
+
+-- the objects, and a delimiter
 unfoldable pub objects_of : Kind → Lines → Result (Entries × Lines) ℕ
 objects_of hash ls = do
-  objects ← ok_or (objects_in hash (group_of payload_of ls)) (place_of ls)
-  divided ← next delimits (behind_group payload_of ls)
-  Ok (objects, divided.1)
+  objects ← pack_objects_of hash ls
+  divided ← next delimits objects.1
+  Ok (objects.0, divided.1)
 
 -- the remote: its address, refspecs, tags and further refspecs, the options, and a delimiter
 unfoldable pub remote_of : Lines → Result (RemotePart × Lines) ℕ

@@ -30,7 +30,7 @@ pub use lines::{Lines, Placed};
 pub use local::{Local, read_local};
 pub use names::full_name;
 pub use numbers::number;
-pub use objects::read_objects;
+pub use objects::{read_objects, read_pack_objects};
 pub use options::SceneOptions;
 pub use pieces::{read_delimiter_if, read_end, read_payloads};
 pub use references::Reference;

@@ -4,7 +4,7 @@ ghost use Rattle.std.specs.Prelude.{◌≡◌, IfOk, IfSome};
 ghost use Rattle.std.specs.List.{flat_map};
 ghost use Rattle.fetch_store.specs.Stores.{AreOf};
 ghost use Rattle.fetch_scene.specs.Gives.{Gives};
-ghost use Rattle.fetch_scene.specs.Scene.{bytes_in, objects_in, objects_of};
+ghost use Rattle.fetch_scene.specs.Scene.{bytes_in, objects_in, objects_of, pack_objects_of};
 
 use crate::fault::SceneFault;
 use crate::line_kinds::Delimiter;
@@ -57,6 +57,26 @@ fn read_objects_in<R: Threads + Sync>(
     }
 }
 
+/// Reads the objects at the front, whatever follows. A pack that breaks is `Malformed` at its first payload, or at the line
+/// after it where it has none.
+#[tactic(auto, unfolding(crate::specs::Scene::pack_objects_of))]
+pub fn read_pack_objects<'a, R: Threads + Sync>(
+    rt: &R,
+    alloc: Global,
+    hash: Kind,
+    lines: Lines<'a>,
+) -> Result<(List<(ObjectId, Object)>, Lines<'a>), SceneFault>
+    ensures found { Gives result (pack_objects_of hash lines.entry) }
+    ensures of_hash { IfOk result (λ x. AreOf hash x.0) }
+{
+    let place = lines.place();
+    let (payloads, lines) = lines.payloads();
+    match read_objects_in(rt, alloc, hash, payloads)? {
+        Some(objects) => Ok((objects, lines)),
+        None => Err(SceneFault::Malformed { place }),
+    }
+}
+
 /// Reads the objects of a scene, and the delimiter after them. A pack that breaks is `Malformed` at its first payload, or at
 /// the line after it where it has none.
 #[tactic(auto, unfolding(crate::specs::Scene::objects_of))]
@@ -69,11 +89,7 @@ pub fn read_objects<'a, R: Threads + Sync>(
     ensures found { Gives result (objects_of hash lines.entry) }
     ensures of_hash { IfOk result (λ x. AreOf hash x.0) }
 {
-    let place = lines.place();
-    let (payloads, lines) = lines.payloads();
-    let Some(objects) = read_objects_in(rt, alloc, hash, payloads)? else {
-        return Err(SceneFault::Malformed { place });
-    };
+    let (objects, lines) = read_pack_objects(rt, alloc, hash, lines)?;
     let (_, lines) = read_next(alloc, &Delimiter, lines)?;
     Ok((objects, lines))
 }

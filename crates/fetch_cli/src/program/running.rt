@@ -1,22 +1,30 @@
-//! The program: it reads a scene, fetches, and writes a report.
+//! The program: it reads a scene, fetches or checks, and writes a report.
 
 ghost use Rattle.std.specs.Prelude.{◌≡◌, ◌≢◌, ◌≤◌, ◌⊎◌, ℕ, List, Some, map, true, false, IfOk, OnOk, IsErrOf};
 ghost use Rattle.std.specs.Io.KnownBytes.{Appends, IsAtEnd};
 ghost use Rattle.fetch_store.specs.Faults.{Rose, Counts};
 ghost use Rattle.fetch_store.specs.Stores.{AreOf};
+ghost use Rattle.fetch_check.specs.Telling.{findings_status, findings_text};
+ghost use Rattle.fetch_check.specs.declared.findings.Findings.{Findings};
 ghost use Rattle.fetch_cli.specs.Bench.{IsSummary, generated_scene};
+ghost use Rattle.fetch_cli.specs.Checks.{IsChecked};
 ghost use Rattle.fetch_cli.specs.Report.{IsReport};
 ghost use Rattle.fetch_cli.specs.ReportLines.{malformed_line, malformed_word_line};
-ghost use Rattle.fetch_cli.specs.Run.{Are, IsInputAnswer, IsAnswer, IsUnlessFailed, HasValidScene, AsksBench, Writes, WritesFront, WritesSummary, asks_fetch, bench_status};
+ghost use Rattle.fetch_cli.specs.Run.{Are, IsSceneAnswer, IsServerAnswer, IsBytesAnswer, IsInputAnswer, IsAnswer, IsUnlessFailed, HasFindings, HasValidScene, AsksBench, Writes, WritesFront, WritesSummary, asks_input, bench_status};
+ghost use Rattle.fetch_cli.specs.ServerScenes.{server_scene_of};
 ghost use Rattle.fetch_cli.specs.Words.{IsWithin, help_text, version_text};
+ghost use Rattle.fetch_scene.specs.Scene.{scene_of};
 
 use crate::bench::generate;
 use crate::program::ends::{Sink, Source};
 use crate::program::input::{ReadError, read_all};
+use crate::program::server_scene::{ServerScene, read_server_scene};
 use crate::program::words::{Command, HELP, VERSION, read_command};
 use crate::reporting::lines::{append_malformed, append_malformed_word};
 use crate::reporting::report;
+use crate::reporting::setting::set_up_local;
 use crate::reporting::summary::summary;
+use fetch_check::{append_findings, check};
 use fetch_scene::{MAX_SCENE, Scene, SceneFault, read_scene};
 use fetch_store::NoMemory;
 use fetch_wire::SendFault;
@@ -40,6 +48,15 @@ impl From<NoMemory> for Silence {
     fn from(_e: NoMemory) -> Silence {
         Silence::NoMemory
     }
+}
+
+/// What is done with the input.
+#[derive(Clone, Copy, Debug, PartialEq, Eq)]
+enum Task {
+    /// It is a scene, which is fetched.
+    Fetch,
+    /// It is a server scene, which is checked.
+    Check,
 }
 
 /// A status, and the text that is to be written.
@@ -84,6 +101,18 @@ fn reported<R: Threads + Sync>(rt: &R, alloc: Global, scene: Scene) -> Result<An
     Ok((status, text))
 }
 
+/// What is found in the repository of a server scene.
+fn checked(alloc: Global, scene: ServerScene) -> Result<Answer, NoMemory>
+    requires { AreOf scene.local.head.hash scene.objects }
+    ensures { IfOk result (λ x. IsChecked scene x.0 x.1.items) }
+{
+    let (repo, _) = set_up_local(alloc, scene.local, scene.objects)?;
+    let findings = check(alloc, repo.store(), repo.refs(), repo.border())?;
+    let mut text = Vec::new(alloc);
+    let status = append_findings(&mut text, &findings)?;
+    Ok((status, text))
+}
+
 /// What is told of the fetch of a bench.
 fn benched<R: Threads + Sync>(rt: &R, alloc: Global, count: usize) -> Result<Answer, NoMemory>
     requires { IsWithin (Command.Bench count) }
@@ -93,32 +122,73 @@ fn benched<R: Threads + Sync>(rt: &R, alloc: Global, count: usize) -> Result<Ans
     summary(rt, alloc, count, scene)
 }
 
-/// What is answered to the source's bytes.
+/// What is answered to a scene.
+fn answer_to_scene<R: Threads + Sync>(
+    rt: &R,
+    alloc: Global,
+    bytes: &[u8],
+) -> Result<Answer, NoMemory>
+    ensures { IfOk result (λ x. IsSceneAnswer (scene_of bytes.now) x.0 x.1.items) }
+{
+    match read_scene(rt, alloc, bytes) {
+        Ok(scene) => reported(rt, alloc, scene),
+        Err(SceneFault::Malformed { place }) => malformed(alloc, place),
+        Err(SceneFault::NoMemory) => Err(NoMemory),
+    }
+}
+
+/// What is answered to a server scene.
+fn answer_to_server_scene<R: Threads + Sync>(
+    rt: &R,
+    alloc: Global,
+    bytes: &[u8],
+) -> Result<Answer, NoMemory>
+    ensures { IfOk result (λ x. IsServerAnswer (server_scene_of bytes.now) x.0 x.1.items) }
+{
+    match read_server_scene(rt, alloc, bytes) {
+        Ok(scene) => checked(alloc, scene),
+        Err(SceneFault::Malformed { place }) => malformed(alloc, place),
+        Err(SceneFault::NoMemory) => Err(NoMemory),
+    }
+}
+
+/// What is answered to bytes, by what is done with them.
+fn answer_to_bytes<R: Threads + Sync>(
+    rt: &R,
+    alloc: Global,
+    task: Task,
+    bytes: &[u8],
+) -> Result<Answer, NoMemory>
+    ensures { IfOk result (λ x. IsBytesAnswer task bytes.now x.0 x.1.items) }
+{
+    match task {
+        Task::Fetch => answer_to_scene(rt, alloc, bytes),
+        Task::Check => answer_to_server_scene(rt, alloc, bytes),
+    }
+}
+
+/// What is answered to the source's bytes, by what is done with them.
 fn answer_to_input<R: Threads + Sync, S: Source>(
     rt: &R,
     alloc: Global,
+    task: Task,
     source: &mut S,
 ) -> Result<Answer, Silence>
-    ensures answer { IfOk result (λ x. IsInputAnswer (S.left source.old) x.0 x.1.items) }
+    ensures answer { IfOk result (λ x. IsInputAnswer task (S.left source.old) x.0 x.1.items) }
     ensures end { IfOk result (λ x. x.0 ≢ 4 → IsAtEnd (S.left source.new)) }
     ensures unread { IsErrOf result Silence.Unread → Rose (S.faults source.old) (S.faults source.new) }
     ensures counts { Counts (S.faults source.old) (S.faults source.new) }
     ensures quiet { ¬ IsErrOf result Silence.Unread → (S.faults source.new).count ≡ (S.faults source.old).count }
 {
-    let bytes = match read_all(alloc, source) {
-        Ok(bytes) => bytes,
-        Err(ReadError::Failed) => return Err(Silence::Unread),
-        Err(ReadError::TooLong) => return Ok(malformed(alloc, MAX_SCENE)?),
-        Err(ReadError::NoMemory) => return Err(Silence::NoMemory),
-    };
-    match read_scene(rt, alloc, &bytes) {
-        Ok(scene) => Ok(reported(rt, alloc, scene)?),
-        Err(SceneFault::Malformed { place }) => Ok(malformed(alloc, place)?),
-        Err(SceneFault::NoMemory) => Err(Silence::NoMemory),
+    match read_all(alloc, source) {
+        Ok(bytes) => Ok(answer_to_bytes(rt, alloc, task, &bytes)?),
+        Err(ReadError::Failed) => Err(Silence::Unread),
+        Err(ReadError::TooLong) => Ok(malformed(alloc, MAX_SCENE)?),
+        Err(ReadError::NoMemory) => Err(Silence::NoMemory),
     }
 }
 
-/// What is answered to the words. The source is read where they ask for a fetch.
+/// What is answered to the words. The source is read where they ask for a fetch or a check.
 fn answer<R: Threads + Sync, S: Source>(
     rt: &R,
     alloc: Global,
@@ -126,14 +196,15 @@ fn answer<R: Threads + Sync, S: Source>(
     source: &mut S,
 ) -> Result<Answer, Silence>
     ensures answer { IfOk result (λ x. IsAnswer (map (λ word. word.items) words.now) (S.left source.old) x.0 x.1.items) }
-    ensures end { IfOk result (λ x. asks_fetch (map (λ word. word.items) words.now) ≡ true → x.0 ≢ 4 → IsAtEnd (S.left source.new)) }
+    ensures end { IfOk result (λ x. asks_input (map (λ word. word.items) words.now) ≡ true → x.0 ≢ 4 → IsAtEnd (S.left source.new)) }
     ensures unread { IsErrOf result Silence.Unread → Rose (S.faults source.old) (S.faults source.new) }
     ensures counts { Counts (S.faults source.old) (S.faults source.new) }
     ensures quiet { ¬ IsErrOf result Silence.Unread → (S.faults source.new).count ≡ (S.faults source.old).count }
-    ensures untouched { asks_fetch (map (λ word. word.items) words.now) ≡ false → source.new ≡ source.old }
+    ensures untouched { asks_input (map (λ word. word.items) words.now) ≡ false → source.new ≡ source.old }
 {
     match read_command(words) {
-        Ok(Command::Fetch) => answer_to_input(rt, alloc, source),
+        Ok(Command::Fetch) => answer_to_input(rt, alloc, Task::Fetch, source),
+        Ok(Command::Check) => answer_to_input(rt, alloc, Task::Check, source),
         Ok(Command::Bench(count)) => Ok(benched(rt, alloc, count)?),
         Ok(Command::Help) => Ok(help(alloc)?),
         Ok(Command::Version) => Ok(version(alloc)?),
@@ -142,7 +213,8 @@ fn answer<R: Threads + Sync, S: Source>(
 }
 
 /// Runs the program with the words after its name, and answers its status: 0 where the fetch, or that of a bench, was
-/// done, or help or the version was asked for; 1 where it was refused; 2 where the source failed, and 3 where the sink
+/// done, where a check found nothing, or where help or the version was asked for; 1 where the fetch was refused, or the
+/// check found something; 2 where the source failed, and 3 where the sink
 /// did; 4 where the words or the scene are malformed; 5 where memory ran out.
 pub fn run<R: Threads + Sync, S: Source, K: Sink>(
     rt: &R,
@@ -164,16 +236,19 @@ pub fn run<R: Threads + Sync, S: Source, K: Sink>(
     ensures front { result ≡ 3 → WritesFront (map (λ word. word.items) words.now) (S.left source.old) (K.taken sink.old) (K.taken sink.new) }
     ensures malformed { result ≡ 4 → Writes (map (λ word. word.items) words.now) (S.left source.old) (K.taken sink.old) (K.taken sink.new) 4 }
     ensures memory { result ≡ 5 → (sink.new ≡ sink.old) ⊎ WritesFront (map (λ word. word.items) words.now) (S.left source.old) (K.taken sink.old) (K.taken sink.new) }
-    // Where a fetch was done or refused, the source was read to its end.
-    ensures end { asks_fetch (map (λ word. word.items) words.now) ≡ true → result ≤ 1 → IsAtEnd (S.left source.new) }
+    // Where a fetch was done or refused, or a repository was checked, the source was read to its end.
+    ensures end { asks_input (map (λ word. word.items) words.now) ≡ true → result ≤ 1 → IsAtEnd (S.left source.new) }
     // Words are tested before the source is read.
-    ensures words { asks_fetch (map (λ word. word.items) words.now) ≡ false → source.new ≡ source.old }
+    ensures words { asks_input (map (λ word. word.items) words.now) ≡ false → source.new ≡ source.old }
     ensures known { result ≤ 5 }
     // Where the source tells what is in it, the status is that of the one answer.
     ensures exact { (bytes : List ℕ) (status : ℕ) (text : List ℕ) → S.left source.old ≡ Some bytes → IsAnswer (map (λ word. word.items) words.now) (Some bytes) status text → IsUnlessFailed result status }
     // A bench writes the summary of its scene, with its status.
     ensures bench { (count : ℕ) → AsksBench (map (λ word. word.items) words.now) count → result ≤ 1 → WritesSummary count (K.taken sink.old) (K.taken sink.new) result }
     ensures bench_exact { (count : ℕ) → AsksBench (map (λ word. word.items) words.now) count → IsUnlessFailed result (bench_status count) }
+    // A check writes all that is found in the repository of its scene, with its status.
+    ensures check { (findings : Findings) → HasFindings (map (λ word. word.items) words.now) (S.left source.old) findings → result ≤ 1 → Appends (K.taken sink.old) (K.taken sink.new) (findings_text findings) }
+    ensures check_exact { (findings : Findings) → HasFindings (map (λ word. word.items) words.now) (S.left source.old) findings → IsUnlessFailed result (findings_status findings) }
     ensures complete { HasValidScene (map (λ word. word.items) words.now) (S.left source.old) → IsUnlessFailed result 0 }
 {
     match answer(rt, alloc, words, source) {

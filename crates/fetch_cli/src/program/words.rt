@@ -13,6 +13,8 @@ pub const MAX_BENCH: usize = 100_000;
 pub enum Command {
     /// Fetch what the scene at standard input says, and report.
     Fetch,
+    /// Check the repository that the server scene at standard input says, and tell what is found.
+    Check,
     /// Fetch the second half of a line of that many commits, from 1 to 100,000, and sum up.
     Bench(usize),
     /// Tell how the program is used.
@@ -24,14 +26,17 @@ pub enum Command {
 /// What `--help` writes.
 pub const HELP: &[u8] = b"\
 usage: bagjulen fetch < SCENE\n\
+\x20      bagjulen check < SERVER-SCENE\n\
 \x20      bagjulen bench N\n\n\
 fetch reads a scene from standard input: a repository, a remote and what its peer says.\n\
 It fetches, and writes a report: the lines sent, what became of each reference,\n\
 and the repository as it then stands.\n\n\
+check reads a repository in the form of a scene without a remote from standard input,\n\
+and writes each missing link, each broken reference and each object that no reference reaches.\n\n\
 bench fetches the second half of a line of N commits, from 1 to 100000,\n\
 from a server in memory, and writes a summary.\n\n\
-status 0  the fetch was done\n\
-\x20      1  it was refused, and the report says why\n\
+status 0  the fetch was done, or the check found nothing\n\
+\x20      1  the fetch was refused, and the report says why; or the check found something\n\
 \x20      2  the input could not be read\n\
 \x20      3  the output could not be written\n\
 \x20      4  the words or the scene are malformed\n\
@@ -47,6 +52,8 @@ fn named(word: &[u8]) -> Option<Command>
 {
     if word == b"fetch".as_slice() {
         Some(Command::Fetch)
+    } else if word == b"check".as_slice() {
+        Some(Command::Check)
     } else if word == b"--help".as_slice() {
         Some(Command::Help)
     } else if word == b"--version".as_slice() {

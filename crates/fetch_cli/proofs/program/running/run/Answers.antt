@@ -1,5 +1,5 @@
 use Rattle.std.proofs.Common.{inl}
-use Rattle.fetch_cli.proofs.Answering.{known, one, valid_answered, benched, bench_answered}
+use Rattle.fetch_cli.proofs.Answering.{known, one, valid_answered, benched, bench_answered, findings_told, findings_answered}
 use Rattle.fetch_cli.proofs.program.running.run.Goals as goal
 
 pub returns-in-Ok-write_all-clause-read : goal.returns-in-Ok-write_all-clause-read
@@ -25,3 +25,9 @@ returns-in-Ok-write_all-clause-bench g c = λ count asks low. record { text = _;
 
 pub returns-in-Ok-write_all-clause-bench_exact : goal.returns-in-Ok-write_all-clause-bench_exact
 returns-in-Ok-write_all-clause-bench_exact g c = λ count asks. inl (bench_answered _ _ count _ _ asks c.in-Ok.ensures.answer)
+
+pub returns-in-Ok-write_all-clause-check : goal.returns-in-Ok-write_all-clause-check
+returns-in-Ok-write_all-clause-check g c = λ findings h low. rw findings_told _ _ findings _ _ h c.in-Ok.ensures.answer at (rw c.deref.ensures.value at c.in-Ok-write_all.ensures.bytes)
+
+pub returns-in-Ok-write_all-clause-check_exact : goal.returns-in-Ok-write_all-clause-check_exact
+returns-in-Ok-write_all-clause-check_exact g c = λ findings h. inl (findings_answered _ _ findings _ _ h c.in-Ok.ensures.answer)
