@@ -59,7 +59,7 @@ class Statuses(unittest.TestCase):
         scene = read_file(SCENE)
         for given, place in ((b"", 0), (scene[:-1], len(scene) - 4), (scene + b"x", len(scene)), (b"0" + scene, 0)):
             self.assertEqual(self.ended(["fetch"], given), (4, b"malformed %d\n" % place))
-        for words, number in (([], 1), (["clone"], 1), (["fetch", "x"], 2), (["bench"], 2), (["bench", "0"], 2),
+        for words, number in (([], 1), (["clone"], 1), (["fetch", "x"], 2), (["check", "x"], 2), (["bench"], 2), (["bench", "0"], 2),
                               (["bench", "1", "x"], 3), (["race", "x"], 2), (["--help", "x"], 2)):
             self.assertEqual(self.ended(words), (4, b"malformed word %d\n" % number), words)
 
@@ -72,7 +72,8 @@ class Statuses(unittest.TestCase):
     def test_help_offers_each_word(self):
         status, text = self.ended(["--help"])
         self.assertEqual(status, 0)
-        self.assertEqual(re.findall(rb"^(?:usage:|      ) bagjulen (\w+)", text, flags=re.MULTILINE), [b"fetch", b"bench", b"race"])
+        offered = re.findall(rb"^(?:usage:|      ) bagjulen (\w+)", text, flags=re.MULTILINE)
+        self.assertEqual(offered, [b"fetch", b"check", b"bench", b"race"])
 
     @IN_OWN_MEMORY
     def test_a_scene_that_is_a_byte_too_long(self):

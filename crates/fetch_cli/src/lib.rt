@@ -10,8 +10,8 @@ pub use bench::generate;
 pub use fetch_scene::{
     Head, Lines, Local, MAX_SCENE, Placed, Reference, RemotePart, Scene, SceneFault, SceneOptions,
     a_configuration_has_the_lines_of_its_scene, a_configuration_is_broken_at_a_line_of_its_scene,
-    read_delimiter_if, read_end, read_lines, read_local, read_objects, read_pack_objects, read_payloads,
-    read_remote, read_scene,
+    read_delimiter_if, read_end, read_lines, read_local, read_objects, read_pack_objects,
+    read_payloads, read_remote, read_scene,
 };
 pub use laws::{
     a_report_tells_the_requests, a_summary_has_the_status_of_its_report, a_valid_scene_is_fetched,
