@@ -18,25 +18,33 @@ GIVEN = ("remote ", "fetch ", "extra ", "option ")
 
 
 class Engine:
-    """The program that fetches what a scene says."""
+    """The program that fetches and checks what scenes say."""
 
     def __init__(self, program):
         self.program = program
 
     def fetch(self, scene):
         """The report of a scene."""
+        status, written = self._ended("fetch", scene)
+        if status == MALFORMED:
+            raise malformed(scene, decoded_text(written).strip())
         try:
-            ended = subprocess.run([self.program, "fetch"], input=scene, capture_output=True)
-        except OSError as error:
-            raise Trouble(ENGINE_FAILED, f"can't run {self.program}: {error.strerror}") from None
-        if ended.returncode == MALFORMED:
-            raise malformed(scene, decoded_text(ended.stdout).strip())
-        if ended.returncode not in (0, 1):
-            raise Trouble(ENGINE_FAILED, f"{self.program} ended with status {ended.returncode}")
-        try:
-            return read_report(ended.stdout)
+            return read_report(written)
         except Trouble as trouble:
             raise Trouble(ENGINE_FAILED, f"the engine wrote {trouble}") from None
+
+    def check(self, scene):
+        """The status of a check of the scene of a server, 0, 1 or that of a scene that isn't read, and what is written."""
+        return self._ended("check", scene)
+
+    def _ended(self, word, scene):
+        try:
+            ended = subprocess.run([self.program, word], input=scene, capture_output=True)
+        except OSError as error:
+            raise Trouble(ENGINE_FAILED, f"can't run {self.program}: {error.strerror}") from None
+        if ended.returncode not in (0, 1, MALFORMED):
+            raise Trouble(ENGINE_FAILED, f"{self.program} ended with status {ended.returncode}")
+        return ended.returncode, ended.stdout
 
 
 def malformed(scene, told):

@@ -32,12 +32,14 @@ class Scene:
 
     def to_bytes(self):
         """The scene as the program reads it."""
-        pack = write_pack(self.objects, PACK_VERSION, self.hash_name)
-        parts = [map(text_line, self._local()), pieces(pack), map(text_line, self._remote()), self._server()]
-        data = encoded(Mark.DELIMITER).join(b"".join(map(encoded, part)) for part in parts) + encoded(Mark.FLUSH)
-        if len(data) > LIMIT:
-            raise Trouble(BAD_INPUT, f"the scene has {len(data)} bytes, and at most {LIMIT} are read")
-        return data
+        return _joined([*self._repository(), map(text_line, self._remote()), self._server()])
+
+    def to_server_bytes(self):
+        """The scene of a server with this repository, which has no remote."""
+        return _joined(self._repository())
+
+    def _repository(self):
+        return [map(text_line, self._local()), pieces(write_pack(self.objects, PACK_VERSION, self.hash_name))]
 
     def _local(self):
         yield "scene 1"
@@ -69,6 +71,14 @@ class Scene:
             return [each for pack in packs_in(b"".join(self.server)) for each in read_pack(pack, self.hash_name)]
         except (MalformedLine, MalformedPack) as error:
             raise Trouble(BAD_INPUT, f"what the scene's server says is malformed at {error}") from None
+
+
+def _joined(parts):
+    """The lines of these parts, with delimiters between and a flush at the end."""
+    data = encoded(Mark.DELIMITER).join(b"".join(map(encoded, part)) for part in parts) + encoded(Mark.FLUSH)
+    if len(data) > LIMIT:
+        raise Trouble(BAD_INPUT, f"the scene has {len(data)} bytes, and at most {LIMIT} are read")
+    return data
 
 
 def read_scene(data):

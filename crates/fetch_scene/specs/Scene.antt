@@ -37,7 +37,7 @@ bytes_in p = unwrap_or (payload_of p.line) []
 unfoldable pub objects_in : Kind → List Placed → Option Entries
 objects_in hash payloads = option_map (λ pack. pack.objects) (result_ok (read hash (flat_map bytes_in payloads)))
 
--- the objects at the front. A pack that breaks is malformed at its first payload, or at the line after it where it has none; whatever follows.
+-- The objects at the front, whatever follows. A pack that breaks is malformed at its first payload, or where it has none at the line after it.
 unfoldable pub pack_objects_of : Kind → Lines → Result (Entries × Lines) ℕ
 pack_objects_of hash ls = do
   objects ← ok_or (objects_in hash (group_of payload_of ls)) (place_of ls)

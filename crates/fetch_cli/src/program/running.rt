@@ -10,7 +10,9 @@ ghost use Rattle.fetch_cli.specs.Bench.{IsSummary, generated_scene};
 ghost use Rattle.fetch_cli.specs.Checks.{IsChecked};
 ghost use Rattle.fetch_cli.specs.Report.{IsReport};
 ghost use Rattle.fetch_cli.specs.ReportLines.{malformed_line, malformed_word_line};
-ghost use Rattle.fetch_cli.specs.Run.{Are, IsSceneAnswer, IsServerAnswer, IsBytesAnswer, IsInputAnswer, IsAnswer, IsUnlessFailed, HasFindings, HasValidScene, AsksBench, Writes, WritesFront, WritesSummary, asks_input, bench_status};
+ghost use Rattle.fetch_cli.specs.Run.{Are, IsSceneAnswer, IsServerAnswer, IsBytesAnswer, IsInputAnswer, IsAnswer};
+ghost use Rattle.fetch_cli.specs.Run.{HasFindings, HasValidScene, AsksBench, asks_input, bench_status};
+ghost use Rattle.fetch_cli.specs.Run.{IsUnlessFailed, Writes, WritesFront, WritesSummary};
 ghost use Rattle.fetch_cli.specs.ServerScenes.{server_scene_of};
 ghost use Rattle.fetch_cli.specs.Words.{IsWithin, help_text, version_text};
 ghost use Rattle.fetch_scene.specs.Scene.{scene_of};
@@ -247,8 +249,10 @@ pub fn run<R: Threads + Sync, S: Source, K: Sink>(
     ensures bench { (count : ℕ) → AsksBench (map (λ word. word.items) words.now) count → result ≤ 1 → WritesSummary count (K.taken sink.old) (K.taken sink.new) result }
     ensures bench_exact { (count : ℕ) → AsksBench (map (λ word. word.items) words.now) count → IsUnlessFailed result (bench_status count) }
     // A check writes all that is found in the repository of its scene, with its status.
-    ensures check { (findings : Findings) → HasFindings (map (λ word. word.items) words.now) (S.left source.old) findings → result ≤ 1 → Appends (K.taken sink.old) (K.taken sink.new) (findings_text findings) }
-    ensures check_exact { (findings : Findings) → HasFindings (map (λ word. word.items) words.now) (S.left source.old) findings → IsUnlessFailed result (findings_status findings) }
+    ensures check { (findings : Findings) → HasFindings (map (λ word. word.items) words.now) (S.left source.old) findings
+        → result ≤ 1 → Appends (K.taken sink.old) (K.taken sink.new) (findings_text findings) }
+    ensures check_exact { (findings : Findings) → HasFindings (map (λ word. word.items) words.now) (S.left source.old) findings
+        → IsUnlessFailed result (findings_status findings) }
     ensures complete { HasValidScene (map (λ word. word.items) words.now) (S.left source.old) → IsUnlessFailed result 0 }
 {
     match answer(rt, alloc, words, source) {
