@@ -1,7 +1,8 @@
 #!/usr/bin/env python3
 """Stands in for the engine in the checks of the tools.
 
-It fetches by one refspec without a star into a name that is absent or up to date. BEHAVIOUR in the environment makes it
+It fetches by one refspec without a star into a name that is absent or up to date, and finds nothing in a repository that it
+checks. BEHAVIOUR in the environment makes it
 answer `malformed`, report a refusal, leave the reference out of its report, tell what it has first, or
 want what nobody has.
 """
@@ -81,6 +82,9 @@ def main():
     if text is not None:
         say(text)
         return status
+    if sys.argv[1:] == ["check"]:
+        say("ok")
+        return 0
     return fetch(read_scene(sys.stdin.buffer.read()))
 
 
