@@ -27,7 +27,7 @@ pub returns-in-Ok-write_all-clause-bench_exact : goal.returns-in-Ok-write_all-cl
 returns-in-Ok-write_all-clause-bench_exact g c = λ count asks. inl (bench_answered _ _ count _ _ asks c.in-Ok.ensures.answer)
 
 pub returns-in-Ok-write_all-clause-check : goal.returns-in-Ok-write_all-clause-check
-returns-in-Ok-write_all-clause-check g c = λ findings h low. rw findings_told _ _ findings _ _ h c.in-Ok.ensures.answer at (rw c.deref.ensures.value at c.in-Ok-write_all.ensures.bytes)
+returns-in-Ok-write_all-clause-check g c = λ findings h low. rw (findings_told _ _ findings _ _ h c.in-Ok.ensures.answer) at (rw c.deref.ensures.value at c.in-Ok-write_all.ensures.bytes)
 
 pub returns-in-Ok-write_all-clause-check_exact : goal.returns-in-Ok-write_all-clause-check_exact
 returns-in-Ok-write_all-clause-check_exact g c = λ findings h. inl (findings_answered _ _ findings _ _ h c.in-Ok.ensures.answer)
