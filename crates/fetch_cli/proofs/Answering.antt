@@ -1,5 +1,6 @@
 -- What the program answers.
 use Rattle.std.proofs.Common.{◌≡◌, ◌≢◌, ◌⊎◌, inl, inr, ℕ, zero, suc, ◌<◌, ◌≤◌, Bool, true, false, List, length, replicate, Option, Some, None, Result, Ok, Err, nat_lt, refl, sym, ap, arith}
+use Rattle.std.specs.Prelude.{◌==◌, if◌then◌else◌}
 use Rattle.std.proofs.lemmas.List.{length-replicate}
 use Rattle.std.proofs.lemmas.Bool.Decides.{nat_tests}
 use Rattle.fetch_remote.specs.Fetching.{requests_in}
@@ -102,9 +103,12 @@ summed_scene n scene = summed_with n (fetched_by scene)
 known_summary : (n : ℕ) (scene : Scene) (status : ℕ) (text : List ℕ) → IsSummary n scene status text → IsAnswered status
 known_summary n scene status text r = answered_by (summary_of n scene).0 status (sym (ap (λ (x : ℕ × List ℕ). x.0) r.whole)) (summed_scene n scene)
 
+known_if : (none : Bool) → IsAnswered (if none then 0 else 1)
+known_if true = zero_answers
+known_if false = one_answers
+
 known_findings : (count : ℕ) → IsAnswered (status_of count)
-known_findings zero = zero_answers
-known_findings (suc n) = one_answers
+known_findings count = known_if (count == 0)
 
 known_scene : (found : Result Scene ℕ) (status : ℕ) (text : List ℕ) → IsSceneAnswer found status text → IsAnswered status
 known_scene (Ok scene) status text r = known_report scene status text r
