@@ -1,5 +1,5 @@
 -- What the program answers.
-use Rattle.std.proofs.Common.{◌≡◌, ◌≢◌, ◌⊎◌, inl, inr, ℕ, zero, suc, ◌<◌, ◌≤◌, Bool, true, false, List, length, replicate, Option, Some, None, Result, Ok, Err, nat_lt, refl, sym, ap, arith}
+use Rattle.std.proofs.Common.{◌≡◌, ◌≢◌, ℕ, suc, ◌<◌, ◌≤◌, Bool, true, false, List, length, replicate, Option, Some, None, Result, Ok, Err, nat_lt, refl, sym, ap, arith}
 use Rattle.std.specs.Prelude.{◌==◌, if◌then◌else◌}
 use Rattle.std.proofs.lemmas.List.{length-replicate}
 use Rattle.std.proofs.lemmas.Bool.Decides.{nat_tests}
@@ -10,12 +10,12 @@ use Rattle.fetch_remote.specs.declared.fetching.fetch_error.FetchError.TheVarian
 use Rattle.fetch_remote.specs.declared.fetching.outcome.Outcome.{Outcome}
 use Rattle.fetch_wire.specs.declared.lines.line.Line.{Line}
 use Rattle.fetch_cli.specs.Bench.{generated_scene, summary_with, summary_of, IsSummary}
-use Rattle.fetch_cli.specs.Ends.{IsAll, IsLongerThan}
+use Rattle.fetch_cli.specs.Ends.{IsLongerThan}
 use Rattle.fetch_cli.specs.Report.{report_with, report_of, given_of, found_of, stream_of, fetched_by, left_by, keep_left_by, IsReport}
 use Rattle.fetch_cli.specs.ReportLines.{malformed_line}
 use Rattle.fetch_cli.specs.Run.{Are, IsSceneAnswer, IsServerAnswer, IsBytesAnswer, IsInputAnswer, IsAnswerTo, IsAnswer, HasFindings, HasValidScene, AsksBench, bench_status}
 use Rattle.fetch_cli.specs.ServerScenes.{server_scene_of}
-use Rattle.fetch_cli.specs.Checks.{AreFoundIn, IsChecked, repository_of}
+use Rattle.fetch_cli.specs.Checks.{IsChecked}
 use Rattle.fetch_cli.specs.declared.program.running.Task.{Task}
 use Rattle.fetch_cli.specs.declared.program.running.Task.TheVariants as tasks
 use Rattle.fetch_cli.specs.declared.program.server_scene.ServerScene.{ServerScene}

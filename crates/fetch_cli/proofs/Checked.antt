@@ -1,7 +1,7 @@
 -- All that is found in a repository is one value.
-use Rattle.std.proofs.Common.{◌≡◌, ℕ, List, Contains, sym, ap, ◌∙◌}
+use Rattle.std.proofs.Common.{◌≡◌, ℕ, List, sym, ap, ◌∙◌}
 use Rattle.fetch_store.specs.declared.id.ObjectId.{ObjectId}
-use Rattle.fetch_store.specs.Borders.{IdSet, ids_of, set_of}
+use Rattle.fetch_store.specs.Borders.{ids_of}
 use Rattle.fetch_store.specs.Closed.{Holding, holding}
 use Rattle.fetch_store.proofs.Borders.{ids_of-set, same_sets}
 use Rattle.fetch_refs.specs.Names.{Names}

@@ -1,5 +1,5 @@
 -- The keep file in a tree with no other file.
-use Rattle.std.proofs.Common.{◌≡◌, ◌⊎◌, inl, inr, subst, take, length-append, ℕ, zero, suc, ◌+◌, ◌-◌, ◌/◌, ◌%◌, Bool, true, false, cond, not, eqb, ◌&&◌, ◌||◌, List, [], ◌∷◌, ◌++◌, length, map, Option, Some, None, Result, Ok, Err, refl, sym, ap, ◌∙◌, append_assoc, codes, arith}
+use Rattle.std.proofs.Common.{◌≡◌, ◌⊎◌, inl, inr, subst, take, length-append, ℕ, zero, suc, ◌+◌, ◌-◌, ◌/◌, ◌%◌, Bool, true, false, cond, not, ◌&&◌, ◌||◌, List, [], ◌∷◌, ◌++◌, length, map, Option, Some, None, Result, Ok, Err, refl, sym, ap, ◌∙◌, append_assoc, codes, arith}
 use Rattle.std.specs.Prelude.{◌==◌, filter, is_some, slice_index, if◌then◌else◌}
 use Rattle.std.specs.List.{list_all, list_any, filter_map, slice_split, slice_get, onto_first, count_by}
 use Rattle.std.specs.Option.{option_map, option_and_then}
@@ -20,8 +20,7 @@ use Rattle.std.proofs.lemmas.List.Splits.{length-slice_split}
 use Rattle.hex.specs.Hex.{lower_digits, encode_with, encode_lower}
 use Rattle.fetch_store.specs.Lines.{IsWithout}
 use Rattle.fetch_store.specs.Paths.{Path, path_cmp, is_root, is_part, parts_of, parents_of, parent_of, after_path}
-use Rattle.fetch_store.specs.Trees.{Tree, node_at, is_file, is_directory, is_blocked, with_directory, with_each, written, name_behind, names_behind, names_in}
-use Rattle.fetch_store.specs.declared.node.TreeNode.{TreeNode}
+use Rattle.fetch_store.specs.Trees.{Tree, node_at, is_file, is_directory, is_blocked, with_directory, with_each, written, name_behind, names_in}
 use Rattle.fetch_store.specs.declared.node.TreeNode.TheVariants.{File, Directory}
 use Rattle.fetch_store.specs.Id.{bytes_of}
 use Rattle.fetch_store.specs.declared.id.ObjectId.{ObjectId}

@@ -1,5 +1,5 @@
 -- From a fetch to its report.
-use Rattle.std.proofs.Common.{◌≡◌, ◌≢◌, ℕ, true, false, List, ◌++◌, Option, Result, Ok, Err, IfOk, refl, sym, ap, ◌∙◌}
+use Rattle.std.proofs.Common.{◌≡◌, ◌≢◌, ℕ, List, Option, Result, Ok, Err, IfOk, refl, sym, ap, ◌∙◌}
 use Rattle.fetch_store.specs.Trees.{Tree}
 use Rattle.fetch_update.specs.declared.worktrees.Worktree.{Worktree}
 use Rattle.fetch_wire.specs.declared.lines.line.Line.{Line}
@@ -14,7 +14,7 @@ use Rattle.fetch_remote.specs.declared.fetching.outcome.Outcome.{Outcome}
 use Rattle.fetch_cli.specs.Fetched.{HasDone, HasRefused, HasFetchedBy, HasFetched}
 use Rattle.fetch_cli.specs.Heard.{lines_heard}
 use Rattle.fetch_cli.specs.KeepFiles.{first_kept}
-use Rattle.fetch_cli.specs.Report.{report_with, report_of, requests_of, fetched_by, left_by, keep_left_by, given_of, found_of, stream_of, done_text, refused_text, beside, Tells, IsReport, Reports}
+use Rattle.fetch_cli.specs.Report.{report_with, report_of, requests_of, left_by, keep_left_by, given_of, found_of, stream_of, done_text, beside, Tells, IsReport, Reports}
 use Rattle.fetch_scene.specs.declared.scene.Scene.{Scene}
 use Rattle.fetch_cli.proofs.KeepFiles.{kept_is}
 use Rattle.fetch_cli.proofs.Requested.{requests_heard}

@@ -1,5 +1,5 @@
 -- The requests of a fetch are lines that fit, and are read back as they were written.
-use Rattle.std.proofs.Common.{◌≡◌, ℕ, zero, suc, Bool, true, false, if◌then◌else◌, List, [], ◌∷◌, ◌++◌, Option, Some, None, Result, Ok, Err, map, codes, refl, ap, ◌∙◌}
+use Rattle.std.proofs.Common.{◌≡◌, ℕ, zero, suc, Bool, true, false, if◌then◌else◌, List, [], ◌∷◌, ◌++◌, Option, Some, None, Result, Ok, Err, map, refl, ap, ◌∙◌}
 use Rattle.std.specs.Prelude.{⊤}
 use Rattle.std.specs.FinMap as finmap
 use Rattle.std.specs.List.{list_all}
@@ -32,7 +32,7 @@ use Rattle.fetch_remote.specs.Errors.{preparing, receiving}
 use Rattle.fetch_remote.specs.Fetching.{requests_in}
 use Rattle.fetch_remote.specs.Form.{Given}
 use Rattle.fetch_remote.specs.Repositories.{State}
-use Rattle.fetch_remote.specs.Stages.{bound_of, inquiry_in, terms_in, listing_stage, pack_stage, receiving_stage, conversation}
+use Rattle.fetch_remote.specs.Stages.{bound_of, inquiry_in, terms_in, receiving_stage, conversation}
 use Rattle.fetch_cli.specs.Heard.{lines_heard, is_sent, AreSent}
 use Rattle.fetch_cli.specs.Report.{given_of, found_of, stream_of, requests_of}
 use Rattle.fetch_scene.specs.declared.scene.Scene.{Scene}

@@ -1,5 +1,5 @@
 -- The scene of a bench, and what is told of its fetch.
-use Rattle.std.specs.Prelude.{◌≡◌, ◌≢◌, ℕ, false, List, [], ◌∷◌, ◌++◌, length, codes, Option, Some, Result, Ok, Err, option_to_list, option_map}
+use Rattle.std.specs.Prelude.{◌≡◌, ◌≢◌, ℕ, false, List, [], ◌∷◌, ◌++◌, length, codes, Some, Result, Ok, Err, option_to_list, option_map}
 use Rattle.std.specs.FinMap as map
 use Rattle.std.specs.FinSet as set
 use Rattle.fetch_store.specs.declared.id.Kind.TheVariants.{Sha1}

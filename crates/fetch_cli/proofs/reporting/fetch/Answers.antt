@@ -1,4 +1,4 @@
-use Rattle.std.proofs.Common.{sym, ◌∙◌}
+use Rattle.std.proofs.Common.{◌∙◌}
 use Rattle.std.specs.List.{concat}
 use Rattle.fetch_cli.proofs.Fetching.{fetched, no_fault, in_nothing}
 use Rattle.fetch_cli.proofs.reporting.fetch.Goals as goal

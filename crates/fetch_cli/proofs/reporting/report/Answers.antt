@@ -1,6 +1,5 @@
-use Rattle.std.proofs.Common.{ap, List, ℕ, ◌∙◌}
+use Rattle.std.proofs.Common.{ap, List, ℕ}
 use Rattle.std.specs.List.{concat}
-use Rattle.fetch_cli.specs.KeepFiles.{first_kept}
 use Rattle.fetch_cli.proofs.Reported.{reports_if}
 use Rattle.fetch_cli.proofs.reporting.report.Goals as goal
 

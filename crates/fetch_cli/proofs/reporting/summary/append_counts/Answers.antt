@@ -1,5 +1,4 @@
 use Rattle.std.proofs.Common.{◌∙◌, length, ap}
-use Rattle.std.specs.FinMap as map
 use Rattle.fetch_remote.specs.Repositories.{state_of}
 use Rattle.fetch_cli.proofs.Summed.{counts}
 use Rattle.fetch_cli.proofs.reporting.summary.append_counts.Goals as goal
