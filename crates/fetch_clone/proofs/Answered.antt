@@ -5,6 +5,7 @@ use Rattle.std.specs.Prelude.{IfErr, IfOk}
 use Rattle.fetch_store.specs.Faults.{Faults, Rose}
 use Rattle.fetch_store.specs.Trees.{Tree}
 use Rattle.fetch_lookup.specs.declared.direction.Direction.TheVariants.{Fetch}
+use Rattle.fetch_update.specs.declared.update.Error.TheVariants as update
 use Rattle.fetch_update.specs.declared.worktrees.Worktree.{Worktree}
 use Rattle.fetch_wire.specs.Talks.{Talk}
 use Rattle.fetch_wire.specs.declared.listings.mapping.RefMap.{RefMap}
@@ -137,7 +138,10 @@ module _ {P : Type 0} (told : P → Option Talk) (answers : Bool) (before after 
 -- The refusals that have a count come only where it rose, once the peer is taken back.
 pub taken-counted : (was is : Meters) (wanted : Wanted) (map : RefMap) (peer peer_left : Faults) (r : Result Outcome Error) → IfErr r (IsOfReceiving wanted map) → is.lost ≡ with_lost peer_left was.lost → (r ≡ Err (errors.ReopenWithObjectHash opening.Io) → Rose was.files is.files)
     → (r ≡ Err (errors.Fetch fetch.Client) → Rose peer peer_left) → (r ≡ Err (errors.Fetch fetch.Interrupted) → Rose was.yes is.yes) → ((path : List ℕ) → r ≡ Err (errors.Fetch (fetch.KeepFile path)) → Rose was.files is.files)
-    → ((path : List ℕ) → r ≡ Err (errors.Fetch (fetch.RemovePackKeepFile path)) → Rose was.files is.files) → IfErr r (IsCounted was is)
-taken-counted was is wanted map peer peer_left (Ok x) kind lost reopened client stopped keep removed = tt
-taken-counted was is wanted map peer peer_left (Err e) kind lost reopened client stopped keep removed =
+    → ((path : List ℕ) → r ≡ Err (errors.Fetch (fetch.RemovePackKeepFile path)) → Rose was.files is.files)
+    → (r ≡ Err (errors.Fetch (fetch.UpdateRefs update.WorktreeListing)) → Rose was.trees.listing is.trees.listing) → (r ≡ Err (errors.Fetch (fetch.UpdateRefs update.OpenWorktreeRepo)) → Rose was.trees.open_repo is.trees.open_repo)
+    → (r ≡ Err (errors.Fetch (fetch.UpdateRefs update.FollowSymref)) → Rose was.trees.follow_symref is.trees.follow_symref) → IfErr r (IsCounted was is)
+taken-counted was is wanted map peer peer_left (Ok x) kind lost reopened client stopped keep removed listed opened followed = tt
+taken-counted was is wanted map peer peer_left (Err e) kind lost reopened client stopped keep removed listed opened followed =
     received-counted was is wanted map e kind (λ h. reopened (ap (λ x. Err x) h)) (λ h. subst (Rose was.lost) (sym lost) (lost_rose peer peer_left was.lost (client (ap (λ x. Err x) h)))) (λ h. stopped (ap (λ x. Err x) h)) (λ path h. keep path (ap (λ x. Err x) h)) (λ path h. removed path (ap (λ x. Err x) h))
+    (λ h. listed (ap (λ x. Err x) h)) (λ h. opened (ap (λ x. Err x) h)) (λ h. followed (ap (λ x. Err x) h))

@@ -3,6 +3,7 @@ use Rattle.std.proofs.Common.{◌≡◌, ◌≤◌, ℕ, Bool, true, List, Resul
 use Rattle.std.specs.Prelude.{OnOk, if◌then◌else◌}
 use Rattle.std.proofs.lemmas.Bool.{false≢true}
 use Rattle.fetch_store.specs.Faults.{Counts, Faults, Counts-none, Counts-then, Rose}
+use Rattle.fetch_update.specs.declared.update.Error.TheVariants as update
 use Rattle.fetch_conversation.specs.declared.fetch.Error.TheVariants as fetch
 use Rattle.fetch_conversation.specs.Errors.{is_interrupted}
 use Rattle.fetch_conversation.specs.Receiving.{last_question}
@@ -17,11 +18,29 @@ use Rattle.fetch_clone.specs.declared.clone.fetch.Error.{Error}
 use Rattle.fetch_clone.specs.declared.clone.fetch.Error.TheVariants as errors
 
 pub later-none : (a : Meters) → Later a a
-later-none a = record { made = Counts-none a.made; lost = omega arith; yes = Counts-none a.yes; files = Counts-none a.files }
+later-none a =
+    record {
+      made = Counts-none a.made;
+      lost = omega arith;
+      yes = Counts-none a.yes;
+      files = Counts-none a.files;
+      listing = Counts-none a.trees.listing;
+      open_repo = Counts-none a.trees.open_repo;
+      follow_symref = Counts-none a.trees.follow_symref;
+    }
 
 -- Only the files' count rose.
 pub later-files : (a : Meters) (files : Faults) → Counts a.files files → Later a (record a { files = files })
-later-files a files counts = record { made = Counts-none a.made; lost = omega arith; yes = Counts-none a.yes; files = counts }
+later-files a files counts =
+    record {
+      made = Counts-none a.made;
+      lost = omega arith;
+      yes = Counts-none a.yes;
+      files = counts;
+      listing = Counts-none a.trees.listing;
+      open_repo = Counts-none a.trees.open_repo;
+      follow_symref = Counts-none a.trees.follow_symref;
+    }
 
 -- one part after another
 pub later-then : (a b c : Meters) → Later a b → Later b c → Later a c
@@ -31,6 +50,9 @@ later-then a b c p q =
       lost = omega (arith, p.lost, q.lost);
       yes = Counts-then a.yes b.yes c.yes p.yes q.yes;
       files = Counts-then a.files b.files c.files p.files q.files;
+      listing = Counts-then a.trees.listing b.trees.listing c.trees.listing p.listing q.listing;
+      open_repo = Counts-then a.trees.open_repo b.trees.open_repo c.trees.open_repo p.open_repo q.open_repo;
+      follow_symref = Counts-then a.trees.follow_symref b.trees.follow_symref c.trees.follow_symref p.follow_symref q.follow_symref;
     }
 
 within : (a b c d : Faults) → a.count ≤ b.count → Rose b c → c.count ≤ d.count → Rose a d
@@ -88,7 +110,14 @@ counted-within a b c d (errors.Fetch (fetch.RejectShallowRemote x)) p q h = tt
 counted-within a b c d (errors.Fetch (fetch.Pack x)) p q h = tt
 counted-within a b c d (errors.Fetch (fetch.Collision x)) p q h = tt
 counted-within a b c d (errors.Fetch (fetch.KeepFile x)) p q h = within a.files b.files c.files d.files p.files.later h q.files.later
-counted-within a b c d (errors.Fetch (fetch.UpdateRefs x)) p q h = tt
+counted-within a b c d (errors.Fetch (fetch.UpdateRefs (update.FindReference x))) p q h = tt
+counted-within a b c d (errors.Fetch (fetch.UpdateRefs (update.InvalidRefName x))) p q h = tt
+counted-within a b c d (errors.Fetch (fetch.UpdateRefs (update.FindCommit x))) p q h = tt
+counted-within a b c d (errors.Fetch (fetch.UpdateRefs (update.PeelToId x y))) p q h = tt
+counted-within a b c d (errors.Fetch (fetch.UpdateRefs update.WorktreeListing)) p q h = within a.trees.listing b.trees.listing c.trees.listing d.trees.listing p.listing.later h q.listing.later
+counted-within a b c d (errors.Fetch (fetch.UpdateRefs update.OpenWorktreeRepo)) p q h = within a.trees.open_repo b.trees.open_repo c.trees.open_repo d.trees.open_repo p.open_repo.later h q.open_repo.later
+counted-within a b c d (errors.Fetch (fetch.UpdateRefs update.FollowSymref)) p q h = within a.trees.follow_symref b.trees.follow_symref c.trees.follow_symref d.trees.follow_symref p.follow_symref.later h q.follow_symref.later
+counted-within a b c d (errors.Fetch (fetch.UpdateRefs update.NoMemory)) p q h = tt
 counted-within a b c d (errors.Fetch (fetch.RemovePackKeepFile x)) p q h = within a.files b.files c.files d.files p.files.later h q.files.later
 counted-within a b c d (errors.Fetch fetch.NoMemory) p q h = tt
 counted-within a b c d (errors.FindRevision x) p q h = tt

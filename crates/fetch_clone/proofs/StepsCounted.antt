@@ -1,10 +1,11 @@
 -- Of each step, the refusals that have a count come only where it rose.
-use Rattle.std.proofs.Common.{◌≡◌, ℕ, Bool, List, inl, inr, Option, Some, None, Result, Ok, Err, refl, sym, ap, subst, ◌∙◌}
+use Rattle.std.proofs.Common.{◌≡◌, ℕ, Bool, true, List, inl, inr, Option, Some, None, Result, Ok, Err, refl, sym, ap, subst, ◌∙◌}
 use Rattle.std.specs.Prelude.{◌⊎◌, IfErr}
 use Rattle.fetch_config.specs.Contents.{Contents}
 use Rattle.fetch_store.specs.Faults.{Faults, Counts, Rose, Rose-earlier}
 use Rattle.fetch_store.specs.Trees.{Tree}
 use Rattle.fetch_wire.specs.declared.listings.mapping.RefMap.{RefMap}
+use Rattle.fetch_update.specs.declared.update.Error.TheVariants as update
 use Rattle.fetch_conversation.specs.declared.fetch.Error.{Error as ReceiveError}
 use Rattle.fetch_conversation.specs.declared.fetch.Error.TheVariants as fetch
 use Rattle.fetch_conversation.specs.declared.prepare.Error.{Error as PrepareError}
@@ -20,7 +21,7 @@ use Rattle.fetch_clone.specs.Cloned.{IsUnfinished}
 use Rattle.fetch_clone.specs.Counted.{Meters, IsCounted}
 use Rattle.fetch_clone.specs.Heading.{IsHeadRefusal}
 use Rattle.fetch_clone.specs.Listed.{Query, IsUnprepared, url_of}
-use Rattle.fetch_clone.specs.Mirrors.{IsMirrorRefusal}
+use Rattle.fetch_clone.specs.Mirrors.{IsMirrorRefusal, IsUnsavedAs, IsUnwritten}
 use Rattle.fetch_clone.specs.Planned.{Answering, IsNotNamed, overrides_of}
 use Rattle.fetch_clone.specs.Reached.{Ways, Line, IsTurnedAway, IsUnreached}
 use Rattle.fetch_clone.specs.Received.{IsOfReceiving, IsUnmapped, IsUnmappedFor}
@@ -33,7 +34,7 @@ use Rattle.fetch_clone.specs.declared.clone.fetch.Error.{Error}
 use Rattle.fetch_clone.specs.declared.clone.fetch.Error.TheVariants as errors
 use Rattle.fetch_clone.specs.declared.draft.Draft.{Draft}
 use Rattle.fetch_clone.specs.declared.prepare_fetch.ConfigureFault.{ConfigureFault}
-use Rattle.fetch_clone.proofs.Uncounted.{uncounted, override-uncounted, name-uncounted, choice-uncounted, same-uncounted, told-as-uncounted, target-uncounted}
+use Rattle.fetch_clone.proofs.Uncounted.{is_uncounted, uncounted, override-uncounted, name-uncounted, choice-uncounted, same-uncounted, told-as-uncounted, target-uncounted}
 
 -- ---- peers
 
@@ -101,33 +102,62 @@ named-counted w was is before after draft found repo e h lost said =
 
 -- ---- saving
 
+unwritten-counted : (was is : Meters) (may_fail : Bool) (told : Option Tree) (setup : Setup) (section : Contents) (now : Option Tree) (e : Error) → IsUnwritten may_fail told setup section now e
+    → (e ≡ errors.LoadConfig opening.Io → Rose was.files is.files) → (e ≡ errors.SaveConfigIo → Rose was.files is.files) → IsCounted was is e
+unwritten-counted was is may_fail told setup section now errors.Consumed h load io = tt
+unwritten-counted was is may_fail told setup section now (errors.ParseConfig x) h load io = tt
+unwritten-counted was is may_fail told setup section now (errors.RemoteName x) h load io = tt
+unwritten-counted was is may_fail told setup section now (errors.Connect x) h load io = absurd h
+unwritten-counted was is may_fail told setup section now (errors.RemoteConnection x) h load io = tt
+unwritten-counted was is may_fail told setup section now (errors.RefMap x) h load io = absurd h
+unwritten-counted was is may_fail told setup section now (errors.RefNameMissing x) h load io = tt
+unwritten-counted was is may_fail told setup section now (errors.RefNameAmbiguous x y) h load io = tt
+unwritten-counted was is may_fail told setup section now (errors.InvalidHeadRef x) h load io = tt
+unwritten-counted was is may_fail told setup section now (errors.ReferenceName x) h load io = tt
+unwritten-counted was is may_fail told setup section now (errors.RemoteConfiguration x) h load io = tt
+unwritten-counted was is may_fail told setup section now (errors.SaveConfig x) h load io = tt
+unwritten-counted was is may_fail told setup section now (errors.LoadConfig opening.Io) h load io = load refl
+unwritten-counted was is may_fail told setup section now (errors.LoadConfig (opening.Missing x)) h load io = tt
+unwritten-counted was is may_fail told setup section now (errors.LoadConfig (opening.Config x)) h load io = tt
+unwritten-counted was is may_fail told setup section now (errors.LoadConfig (opening.Override x)) h load io = tt
+unwritten-counted was is may_fail told setup section now (errors.LoadConfig opening.NoMemory) h load io = tt
+unwritten-counted was is may_fail told setup section now errors.SaveConfigIo h load io = io refl
+unwritten-counted was is may_fail told setup section now (errors.PrepareFetch x) h load io = absurd h
+unwritten-counted was is may_fail told setup section now (errors.RevisionMissing x) h load io = tt
+unwritten-counted was is may_fail told setup section now (errors.ReopenWithObjectHash x) h load io = absurd h
+unwritten-counted was is may_fail told setup section now (errors.Fetch x) h load io = absurd h
+unwritten-counted was is may_fail told setup section now (errors.FindRevision x) h load io = tt
+unwritten-counted was is may_fail told setup section now (errors.PeelRevision x) h load io = tt
+unwritten-counted was is may_fail told setup section now errors.NoMemory h load io = tt
+
+-- whether it isn't saved by itself
+unsaved-uncounted : (remote : RemoteValue) (name : List ℕ) (e : Error) → IsUnsavedAs remote name e → is_uncounted e ≡ true
+unsaved-uncounted remote name errors.Consumed h = refl
+unsaved-uncounted remote name (errors.ParseConfig x) h = refl
+unsaved-uncounted remote name (errors.RemoteName x) h = refl
+unsaved-uncounted remote name (errors.Connect x) h = absurd h
+unsaved-uncounted remote name (errors.RemoteConnection x) h = refl
+unsaved-uncounted remote name (errors.RefMap x) h = absurd h
+unsaved-uncounted remote name (errors.RefNameMissing x) h = refl
+unsaved-uncounted remote name (errors.RefNameAmbiguous x y) h = refl
+unsaved-uncounted remote name (errors.InvalidHeadRef x) h = refl
+unsaved-uncounted remote name (errors.ReferenceName x) h = refl
+unsaved-uncounted remote name (errors.RemoteConfiguration x) h = refl
+unsaved-uncounted remote name (errors.SaveConfig x) h = refl
+unsaved-uncounted remote name (errors.LoadConfig x) h = absurd h
+unsaved-uncounted remote name errors.SaveConfigIo h = absurd h
+unsaved-uncounted remote name (errors.PrepareFetch x) h = absurd h
+unsaved-uncounted remote name (errors.RevisionMissing x) h = refl
+unsaved-uncounted remote name (errors.ReopenWithObjectHash x) h = absurd h
+unsaved-uncounted remote name (errors.Fetch x) h = absurd h
+unsaved-uncounted remote name (errors.FindRevision x) h = refl
+unsaved-uncounted remote name (errors.PeelRevision x) h = refl
+unsaved-uncounted remote name errors.NoMemory h = refl
+
 mirror-counted : (was is : Meters) (may_fail : Bool) (told : Option Tree) (setup : Setup) (remote : RemoteValue) (name : List ℕ) (now : Option Tree) (e : Error) → IsMirrorRefusal may_fail told setup remote name now e
     → (e ≡ errors.LoadConfig opening.Io → Rose was.files is.files) → (e ≡ errors.SaveConfigIo → Rose was.files is.files) → IsCounted was is e
-mirror-counted was is may_fail told setup remote name now errors.Consumed h load io = tt
-mirror-counted was is may_fail told setup remote name now (errors.ParseConfig x) h load io = tt
-mirror-counted was is may_fail told setup remote name now (errors.RemoteName x) h load io = tt
-mirror-counted was is may_fail told setup remote name now (errors.Connect x) h load io = absurd h
-mirror-counted was is may_fail told setup remote name now (errors.RemoteConnection x) h load io = tt
-mirror-counted was is may_fail told setup remote name now (errors.RefMap x) h load io = absurd h
-mirror-counted was is may_fail told setup remote name now (errors.RefNameMissing x) h load io = tt
-mirror-counted was is may_fail told setup remote name now (errors.RefNameAmbiguous x y) h load io = tt
-mirror-counted was is may_fail told setup remote name now (errors.InvalidHeadRef x) h load io = tt
-mirror-counted was is may_fail told setup remote name now (errors.ReferenceName x) h load io = tt
-mirror-counted was is may_fail told setup remote name now (errors.RemoteConfiguration x) h load io = tt
-mirror-counted was is may_fail told setup remote name now (errors.SaveConfig x) h load io = tt
-mirror-counted was is may_fail told setup remote name now (errors.LoadConfig opening.Io) h load io = load refl
-mirror-counted was is may_fail told setup remote name now (errors.LoadConfig (opening.Missing x)) h load io = tt
-mirror-counted was is may_fail told setup remote name now (errors.LoadConfig (opening.Config x)) h load io = tt
-mirror-counted was is may_fail told setup remote name now (errors.LoadConfig (opening.Override x)) h load io = tt
-mirror-counted was is may_fail told setup remote name now (errors.LoadConfig opening.NoMemory) h load io = tt
-mirror-counted was is may_fail told setup remote name now errors.SaveConfigIo h load io = io refl
-mirror-counted was is may_fail told setup remote name now (errors.PrepareFetch x) h load io = absurd h
-mirror-counted was is may_fail told setup remote name now (errors.RevisionMissing x) h load io = tt
-mirror-counted was is may_fail told setup remote name now (errors.ReopenWithObjectHash x) h load io = absurd h
-mirror-counted was is may_fail told setup remote name now (errors.Fetch x) h load io = absurd h
-mirror-counted was is may_fail told setup remote name now (errors.FindRevision x) h load io = tt
-mirror-counted was is may_fail told setup remote name now (errors.PeelRevision x) h load io = tt
-mirror-counted was is may_fail told setup remote name now errors.NoMemory h load io = tt
+mirror-counted was is may_fail told setup remote name now e (inl u) load io = uncounted was is e (unsaved-uncounted remote name e u.1)
+mirror-counted was is may_fail told setup remote name now e (inr w) load io = unwritten-counted was is may_fail told setup _ now e w.1 load io
 
 pub saved-counted : (answers : Answering) (was is : Meters) (may_fail : Bool) (files files_left : Option Tree) (draft : Draft) (setup : Setup) (name : List ℕ) (target : Option (List ℕ)) (e : Error) → IsNotSavedAs answers may_fail files files_left draft setup name target e
     → (e ≡ errors.LoadConfig opening.Io → Rose was.files is.files) → (e ≡ errors.SaveConfigIo → Rose was.files is.files) → IsCounted was is e
@@ -202,23 +232,32 @@ unmapped-counted was is wanted map e (inl m) = subst (IsCounted was is) (sym m) 
 unmapped-counted was is wanted map e (inr u) = unmapped-uncounted was is wanted map e u
 
 receiving-counted : (was is : Meters) (cause : ReceiveError) → (receiving cause ≡ errors.Fetch fetch.Client → Rose was.lost is.lost) → (receiving cause ≡ errors.Fetch fetch.Interrupted → Rose was.yes is.yes)
-    → ((path : List ℕ) → receiving cause ≡ errors.Fetch (fetch.KeepFile path) → Rose was.files is.files) → ((path : List ℕ) → receiving cause ≡ errors.Fetch (fetch.RemovePackKeepFile path) → Rose was.files is.files) → IsCounted was is (receiving cause)
-receiving-counted was is (fetch.NoMapping x y) client stopped keep removed = tt
-receiving-counted was is (fetch.IncompatibleObjectHash x y) client stopped keep removed = tt
-receiving-counted was is (fetch.Disconnected x) client stopped keep removed = tt
-receiving-counted was is (fetch.RejectShallowRemoteConfig x) client stopped keep removed = tt
-receiving-counted was is (fetch.NegotiationAlgorithmConfig x) client stopped keep removed = tt
-receiving-counted was is (fetch.PackThreads x) client stopped keep removed = tt
-receiving-counted was is (fetch.Fetch x) client stopped keep removed = tt
-receiving-counted was is fetch.Client client stopped keep removed = client refl
-receiving-counted was is fetch.Interrupted client stopped keep removed = stopped refl
-receiving-counted was is (fetch.RejectShallowRemote x) client stopped keep removed = tt
-receiving-counted was is (fetch.Pack x) client stopped keep removed = tt
-receiving-counted was is (fetch.Collision x) client stopped keep removed = tt
-receiving-counted was is (fetch.KeepFile x) client stopped keep removed = keep x refl
-receiving-counted was is (fetch.UpdateRefs x) client stopped keep removed = tt
-receiving-counted was is (fetch.RemovePackKeepFile x) client stopped keep removed = removed x refl
-receiving-counted was is fetch.NoMemory client stopped keep removed = tt
+    → ((path : List ℕ) → receiving cause ≡ errors.Fetch (fetch.KeepFile path) → Rose was.files is.files) → ((path : List ℕ) → receiving cause ≡ errors.Fetch (fetch.RemovePackKeepFile path) → Rose was.files is.files)
+    → (receiving cause ≡ errors.Fetch (fetch.UpdateRefs update.WorktreeListing) → Rose was.trees.listing is.trees.listing) → (receiving cause ≡ errors.Fetch (fetch.UpdateRefs update.OpenWorktreeRepo) → Rose was.trees.open_repo is.trees.open_repo)
+    → (receiving cause ≡ errors.Fetch (fetch.UpdateRefs update.FollowSymref) → Rose was.trees.follow_symref is.trees.follow_symref) → IsCounted was is (receiving cause)
+receiving-counted was is (fetch.NoMapping x y) client stopped keep removed listed opened followed = tt
+receiving-counted was is (fetch.IncompatibleObjectHash x y) client stopped keep removed listed opened followed = tt
+receiving-counted was is (fetch.Disconnected x) client stopped keep removed listed opened followed = tt
+receiving-counted was is (fetch.RejectShallowRemoteConfig x) client stopped keep removed listed opened followed = tt
+receiving-counted was is (fetch.NegotiationAlgorithmConfig x) client stopped keep removed listed opened followed = tt
+receiving-counted was is (fetch.PackThreads x) client stopped keep removed listed opened followed = tt
+receiving-counted was is (fetch.Fetch x) client stopped keep removed listed opened followed = tt
+receiving-counted was is fetch.Client client stopped keep removed listed opened followed = client refl
+receiving-counted was is fetch.Interrupted client stopped keep removed listed opened followed = stopped refl
+receiving-counted was is (fetch.RejectShallowRemote x) client stopped keep removed listed opened followed = tt
+receiving-counted was is (fetch.Pack x) client stopped keep removed listed opened followed = tt
+receiving-counted was is (fetch.Collision x) client stopped keep removed listed opened followed = tt
+receiving-counted was is (fetch.KeepFile x) client stopped keep removed listed opened followed = keep x refl
+receiving-counted was is (fetch.UpdateRefs (update.FindReference x)) client stopped keep removed listed opened followed = tt
+receiving-counted was is (fetch.UpdateRefs (update.InvalidRefName x)) client stopped keep removed listed opened followed = tt
+receiving-counted was is (fetch.UpdateRefs (update.FindCommit x)) client stopped keep removed listed opened followed = tt
+receiving-counted was is (fetch.UpdateRefs (update.PeelToId x y)) client stopped keep removed listed opened followed = tt
+receiving-counted was is (fetch.UpdateRefs update.WorktreeListing) client stopped keep removed listed opened followed = listed refl
+receiving-counted was is (fetch.UpdateRefs update.OpenWorktreeRepo) client stopped keep removed listed opened followed = opened refl
+receiving-counted was is (fetch.UpdateRefs update.FollowSymref) client stopped keep removed listed opened followed = followed refl
+receiving-counted was is (fetch.UpdateRefs update.NoMemory) client stopped keep removed listed opened followed = tt
+receiving-counted was is (fetch.RemovePackKeepFile x) client stopped keep removed listed opened followed = removed x refl
+receiving-counted was is fetch.NoMemory client stopped keep removed listed opened followed = tt
 
 reopening-counted : (was is : Meters) (cause : OpenError) → (reopening cause ≡ errors.ReopenWithObjectHash opening.Io → Rose was.files is.files) → IsCounted was is (reopening cause)
 reopening-counted was is opening.Io reopened = reopened refl
@@ -228,14 +267,16 @@ reopening-counted was is (opening.Override x) reopened = tt
 reopening-counted was is opening.NoMemory reopened = tt
 
 pub received-counted : (was is : Meters) (wanted : Wanted) (map : RefMap) (e : Error) → IsOfReceiving wanted map e → (e ≡ errors.ReopenWithObjectHash opening.Io → Rose was.files is.files) → (e ≡ errors.Fetch fetch.Client → Rose was.lost is.lost)
-    → (e ≡ errors.Fetch fetch.Interrupted → Rose was.yes is.yes) → ((path : List ℕ) → e ≡ errors.Fetch (fetch.KeepFile path) → Rose was.files is.files) → ((path : List ℕ) → e ≡ errors.Fetch (fetch.RemovePackKeepFile path) → Rose was.files is.files) → IsCounted was is e
-received-counted was is wanted map e (inl u) reopened client stopped keep removed = unmapped-counted was is wanted map e u
-received-counted was is wanted map e (inr (inl b)) reopened client stopped keep removed =
+    → (e ≡ errors.Fetch fetch.Interrupted → Rose was.yes is.yes) → ((path : List ℕ) → e ≡ errors.Fetch (fetch.KeepFile path) → Rose was.files is.files) → ((path : List ℕ) → e ≡ errors.Fetch (fetch.RemovePackKeepFile path) → Rose was.files is.files)
+    → (e ≡ errors.Fetch (fetch.UpdateRefs update.WorktreeListing) → Rose was.trees.listing is.trees.listing) → (e ≡ errors.Fetch (fetch.UpdateRefs update.OpenWorktreeRepo) → Rose was.trees.open_repo is.trees.open_repo)
+    → (e ≡ errors.Fetch (fetch.UpdateRefs update.FollowSymref) → Rose was.trees.follow_symref is.trees.follow_symref) → IsCounted was is e
+received-counted was is wanted map e (inl u) reopened client stopped keep removed listed opened followed = unmapped-counted was is wanted map e u
+received-counted was is wanted map e (inr (inl b)) reopened client stopped keep removed listed opened followed =
     let t = b.1 in
     subst (IsCounted was is) (sym t) (reopening-counted was is b.0 (λ h. reopened (t ∙ h)))
-received-counted was is wanted map e (inr (inr b)) reopened client stopped keep removed =
+received-counted was is wanted map e (inr (inr b)) reopened client stopped keep removed listed opened followed =
     let t = b.1 in
-    subst (IsCounted was is) (sym t) (receiving-counted was is b.0 (λ h. client (t ∙ h)) (λ h. stopped (t ∙ h)) (λ path h. keep path (t ∙ h)) (λ path h. removed path (t ∙ h)))
+    subst (IsCounted was is) (sym t) (receiving-counted was is b.0 (λ h. client (t ∙ h)) (λ h. stopped (t ∙ h)) (λ path h. keep path (t ∙ h)) (λ path h. removed path (t ∙ h)) (λ h. listed (t ∙ h)) (λ h. opened (t ∙ h)) (λ h. followed (t ∙ h)))
 
 -- ---- finishing
 

@@ -1,6 +1,7 @@
 -- Refusals of a clone that come only where a count rose.
 use Rattle.std.specs.Prelude.{◌≤◌, ⊤}
 use Rattle.fetch_store.specs.Faults.{Faults, Counts, Rose}
+use Rattle.fetch_update.specs.declared.update.Error.TheVariants as update
 use Rattle.fetch_conversation.specs.declared.fetch.Error.TheVariants as fetch
 use Rattle.fetch_conversation.specs.declared.prepare.Error.TheVariants as prepare
 use Rattle.fetch_conversation.specs.declared.ref_map.Error.TheVariants as ref_map
@@ -9,16 +10,27 @@ use Rattle.fetch_remote.specs.declared.repository.open_error.OpenError.TheVarian
 use Rattle.fetch_clone.specs.declared.clone.fetch.Error.{Error}
 use Rattle.fetch_clone.specs.declared.clone.fetch.Error.TheVariants as errors
 
--- how often the maker failed, how many peers were lost, how often the interrupt said yes, and how often the files failed
+-- how often the work trees failed: to be listed, to have a repository opened, to have a head followed
+pub record TreeMeters : Type 0 where
+  pub listing : Faults
+  pub open_repo : Faults
+  pub follow_symref : Faults
+
+-- these counts
+abbrev pub tree_meters : Faults → Faults → Faults → TreeMeters
+tree_meters listing open_repo follow_symref = record { listing = listing; open_repo = open_repo; follow_symref = follow_symref }
+
+-- how often the maker failed, how many peers were lost, how often the interrupt said yes, and how often files and work trees failed
 pub record Meters : Type 0 where
   pub made : Faults
   pub lost : Faults
   pub yes : Faults
   pub files : Faults
+  pub trees : TreeMeters
 
--- the four counts at one moment
-abbrev pub meters : Faults → Faults → Faults → Faults → Meters
-meters made lost said files = record { made = made; lost = lost; yes = said; files = files }
+-- the counts at one moment
+abbrev pub meters : Faults → Faults → Faults → Faults → TreeMeters → Meters
+meters made lost said files trees = record { made = made; lost = lost; yes = said; files = files; trees = trees }
 
 -- A refusal that has a count comes only where that count rose.
 abbrev pub IsCounted : Meters → Meters → Error → Type 0
@@ -34,6 +46,9 @@ IsCounted was is (errors.Fetch fetch.Client) = Rose was.lost is.lost
 IsCounted was is (errors.Fetch fetch.Interrupted) = Rose was.yes is.yes
 IsCounted was is (errors.Fetch (fetch.KeepFile path)) = Rose was.files is.files
 IsCounted was is (errors.Fetch (fetch.RemovePackKeepFile path)) = Rose was.files is.files
+IsCounted was is (errors.Fetch (fetch.UpdateRefs update.WorktreeListing)) = Rose was.trees.listing is.trees.listing
+IsCounted was is (errors.Fetch (fetch.UpdateRefs update.OpenWorktreeRepo)) = Rose was.trees.open_repo is.trees.open_repo
+IsCounted was is (errors.Fetch (fetch.UpdateRefs update.FollowSymref)) = Rose was.trees.follow_symref is.trees.follow_symref
 IsCounted was is e = ⊤
 
 -- Nothing that is counted fell.
@@ -42,3 +57,6 @@ pub record Later (was is : Meters) : Type 0 where
   pub lost : was.lost.count ≤ is.lost.count
   pub yes : Counts was.yes is.yes
   pub files : Counts was.files is.files
+  pub listing : Counts was.trees.listing is.trees.listing
+  pub open_repo : Counts was.trees.open_repo is.trees.open_repo
+  pub follow_symref : Counts was.trees.follow_symref is.trees.follow_symref

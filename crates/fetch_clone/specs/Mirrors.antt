@@ -1,5 +1,5 @@
 -- A remote's section is written into the file `config` of a repository.
-use Rattle.std.specs.Prelude.{◌≡◌, ℕ, Bool, List, [], Option, Some, None, ⊤, Result, Ok, Err}
+use Rattle.std.specs.Prelude.{◌≡◌, ◌⊎◌, ℕ, Bool, List, [], Option, Some, None, ⊤, Result, Ok, Err}
 use Rattle.fetch_store.specs.FileCalls.{IsRefused}
 use Rattle.fetch_store.specs.Paths.{parts_of as parts_of_path}
 use Rattle.fetch_store.specs.Trees.{Tree, read_in, written}
@@ -41,18 +41,22 @@ pub record IsUnmirrored (may_fail : Bool) (told : Option Tree) (setup : Setup) (
 abbrev pub IsSaveable : RemoteValue → List ℕ → Type 0
 IsSaveable remote name = save_as_verdict name (parts_of remote) ≡ Ok tt
 
--- The remote can't be saved; or it can, and the file is missing, can't be read or breaks the grammar; or that can't be written.
-abbrev pub IsMirrorRefusal : Bool → Option Tree → Setup → RemoteValue → List ℕ → Option Tree → Error → Type 0
-IsMirrorRefusal may_fail told setup remote name now errors.NoMemory = now ≡ told
-IsMirrorRefusal may_fail told setup remote name now (errors.SaveConfig e) = (now ≡ told) × (save_as_verdict name (parts_of remote) ≡ Err e)
-IsMirrorRefusal may_fail told setup remote name now (errors.LoadConfig opening.Io) = (now ≡ told) × IsSaveable remote name × IsRefused may_fail told (λ t. read_in t (parts_of_path (path_of setup)))
-IsMirrorRefusal may_fail told setup remote name now (errors.LoadConfig opening.NoMemory) = ⊥
-IsMirrorRefusal may_fail told setup remote name now (errors.LoadConfig e) = (now ≡ told) × IsSaveable remote name × IsRefusedAt told (path_of setup) e
-IsMirrorRefusal may_fail told setup remote name now errors.SaveConfigIo = IsSaveable remote name × IsUnmirrored may_fail told setup (section_of setup remote name) now
-IsMirrorRefusal may_fail told setup remote name now e = ⊥
+-- Why sections aren't written into the file: it is missing, can't be read or breaks the grammar; or it can't be written.
+abbrev pub IsUnwritten : Bool → Option Tree → Setup → Contents → Option Tree → Error → Type 0
+IsUnwritten may_fail told setup section now errors.NoMemory = now ≡ told
+IsUnwritten may_fail told setup section now (errors.LoadConfig opening.Io) = (now ≡ told) × IsRefused may_fail told (λ t. read_in t (parts_of_path (path_of setup)))
+IsUnwritten may_fail told setup section now (errors.LoadConfig opening.NoMemory) = ⊥
+IsUnwritten may_fail told setup section now (errors.LoadConfig e) = (now ≡ told) × IsRefusedAt told (path_of setup) e
+IsUnwritten may_fail told setup section now errors.SaveConfigIo = IsUnmirrored may_fail told setup section now
+IsUnwritten may_fail told setup section now e = ⊥
 
 -- why a remote isn't saved by itself
 abbrev pub IsUnsavedAs : RemoteValue → List ℕ → Error → Type 0
 IsUnsavedAs remote name errors.NoMemory = ⊤
 IsUnsavedAs remote name (errors.SaveConfig e) = save_as_verdict name (parts_of remote) ≡ Err e
 IsUnsavedAs remote name e = ⊥
+
+-- The remote can't be saved; or it can, and its section isn't written into the file.
+abbrev pub IsMirrorRefusal : Bool → Option Tree → Setup → RemoteValue → List ℕ → Option Tree → Error → Type 0
+IsMirrorRefusal may_fail told setup remote name now e =
+    ((now ≡ told) × IsUnsavedAs remote name e) ⊎ (IsSaveable remote name × IsUnwritten may_fail told setup (section_of setup remote name) now e)

@@ -1,20 +1,24 @@
 -- What a clone's peer listed is fetched, and the peer is taken back.
-use Rattle.std.specs.Prelude.{◌≡◌, ◌⊎◌, ℕ, Bool, true, List, ◌++◌, codes, Option, Some, None, is_some, ⊤, Result, Ok, Err}
+use Rattle.std.specs.Prelude.{◌≡◌, ◌⊎◌, ℕ, Bool, true, false, List, ◌++◌, codes, Option, Some, None, is_some, ⊤, Result, Ok, Err}
+use Rattle.fetch_store.specs.FileCalls.{IsRefused as IsBlocked}
 use Rattle.fetch_store.specs.Trees.{Tree}
 use Rattle.fetch_update.specs.declared.message.RefLogMessage.TheVariants.{Override}
 use Rattle.fetch_update.specs.declared.worktrees.Worktree.{Worktree}
 use Rattle.fetch_wire.specs.Talks.{Talk}
 use Rattle.fetch_wire.specs.declared.listings.mapping.RefMap.{RefMap}
 use Rattle.fetch_conversation.specs.declared.fetch.Error.{Error as ReceiveError}
+use Rattle.fetch_conversation.specs.declared.fetch.Error.TheVariants as fetch
 use Rattle.fetch_remote.specs.Connecting.{TakesBack}
-use Rattle.fetch_remote.specs.Errors.{receiving as fetch_refusal}
+use Rattle.fetch_remote.specs.Errors.{is_free, receiving as fetch_refusal}
 use Rattle.fetch_remote.specs.Fetched.{IsFetched}
 use Rattle.fetch_remote.specs.Form.{Given}
+use Rattle.fetch_remote.specs.Keeping.{with_keep}
 use Rattle.fetch_remote.specs.Refused.{IsRefused}
 use Rattle.fetch_remote.specs.Remotes.{RemoteValue}
 use Rattle.fetch_remote.specs.Repositories.{in_force}
 use Rattle.fetch_remote.specs.RepositoryValues.{RepositoryValue, Setup, resolved_of}
 use Rattle.fetch_remote.specs.Stages.{inquiry_of}
+use Rattle.fetch_remote.specs.Valid.{HasValidInput}
 use Rattle.fetch_remote.specs.Steps.{HasListed}
 use Rattle.fetch_remote.specs.declared.fetching.options.FetchOptions.{FetchOptions}
 use Rattle.fetch_remote.specs.declared.fetching.outcome.Outcome.{Outcome}
@@ -108,7 +112,7 @@ pub record IsNotHashed (may_fail : Bool) (files files_left : Option Tree) (draft
   pub repository : repo ≡ found
 
 -- All was ready, and what was listed wasn't fetched; then too the file was put in force that was read again.
-pub record IsUnfetched (answers : Bool) (old new : Option Talk) (known : Option (List Worktree)) (files files_left : Option Tree) (draft : Draft) (remote : RemoteValue) (prepared : Prepared) (found repo : RepositoryValue) (e : Error) : Type 0 where
+pub record IsUnfetched (answers : Bool) (old new : Option Talk) (known : Option (List Worktree)) (may_fail : Bool) (files files_left : Option Tree) (draft : Draft) (remote : RemoteValue) (prepared : Prepared) (found repo : RepositoryValue) (e : Error) : Type 0 where
   pub asked : RepositoryValue
   pub written : Option Tree
   pub reread : Option Resolved
@@ -116,12 +120,17 @@ pub record IsUnfetched (answers : Bool) (old new : Option Talk) (known : Option 
   pub cause : ReceiveError
   pub told : e ≡ receiving cause
   pub refused : IsRefused answers old new known written files_left (given draft remote prepared asked.setup) asked.state repo.state (fetch_refusal cause)
+  -- Valid input is refused for what has a count or nothing in place of a cause alone.
+  pub complete : HasValidInput old new known (given draft remote prepared asked.setup) asked.state → is_free (fetch_refusal cause) ≡ true
+  -- Files that fail at nothing by themselves have something in the way of a keep file, and remove each one that they told.
+  pub in_the_way : (path : List ℕ) → cause ≡ fetch.KeepFile path → IsBlocked may_fail written (with_keep (Some path))
+  pub removable : (path : List ℕ) → cause ≡ fetch.RemovePackKeepFile path → may_fail ≡ false → written ≡ None
   pub setup : repo.setup ≡ with_reread asked.setup reread
 
 -- Why nothing is received, in the order of the steps.
 pub record IsUnreceived (answers : Bool) (old new : Option Talk) (known : Option (List Worktree)) (may_fail : Bool) (files files_left : Option Tree) (draft : Draft) (remote : RemoteValue) (prepared : Prepared) (found repo : RepositoryValue) (e : Error) : Type 0 where
   pub by : IsNotMapped files files_left draft prepared found repo e
-      ⊎ (IsNotHashed may_fail files files_left draft prepared found repo e ⊎ IsUnfetched answers old new known files files_left draft remote prepared found repo e)
+      ⊎ (IsNotHashed may_fail files files_left draft prepared found repo e ⊎ IsUnfetched answers old new known may_fail files files_left draft remote prepared found repo e)
 
 -- The refusal is of what is mapped, of the hash, or one of a fetch.
 abbrev pub IsOfReceiving : Wanted → RefMap → Error → Type 0

@@ -58,16 +58,37 @@ pub fn append_remote_to_local_config_file<F: Files>(
 {
     let mut named = remote.try_clone()?;
     let section = saved_alone(alloc, repo, &mut named, name)?;
+    match mirror(alloc, files, repo, &section) {
+        Ok(()) => {
+            *remote = named;
+            Ok(section)
+        }
+        Err(e) => Err(e),
+    }
+}
+
+/// Writes sections into the file `config`, in place of those of their names and subsections. After an error it is as before.
+fn mirror<F: Files>(
+    alloc: Global,
+    files: &mut F,
+    repo: &Repository,
+    section: &File,
+) -> Result<(), Error>
+    ensures written { OnOk result (mirrors.IsMirrored (F.told files.old) (setup_of repo.now) (F.told files.new) section.now) }
+    ensures refused { IfErr result (mirrors.IsUnwritten (F.may_fail files.old) (F.told files.old) (setup_of repo.now) section.now (F.told files.new)) }
+    ensures load { IsErrOf result (errors.LoadConfig opening.Io) → Rose (F.faults files.old) (F.faults files.new) }
+    ensures io { IsErrOf result errors.SaveConfigIo → Rose (F.faults files.old) (F.faults files.new) }
+    ensures counts { Counts (F.faults files.old) (F.faults files.new) }
+    ensures may_fail { F.may_fail files.new ≡ F.may_fail files.old }
+{
     let path = config_path(alloc, repo.git_dir())?;
     let local = match read_configuration(alloc, files, path, repo.local().meta()) {
         Ok(local) => local,
         Err(OpenError::NoMemory) => return Err(Error::NoMemory),
         Err(e) => return Err(Error::LoadConfig(e)),
     };
-    let local = replaced(alloc, &local, &section)?;
-    write_local(alloc, files, repo.git_dir(), &local)?;
-    *remote = named;
-    Ok(section)
+    let local = replaced(alloc, &local, section)?;
+    write_local(alloc, files, repo.git_dir(), &local)
 }
 
 /// The section of a remote in a file by itself.

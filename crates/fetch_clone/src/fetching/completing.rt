@@ -5,7 +5,7 @@ ghost use Rattle.std.specs.Fn.{CalledAtMut};
 ghost use Rattle.std.specs.Option.{option_copied};
 ghost use Rattle.fetch_clone.specs.Cloned as spec;
 ghost use Rattle.fetch_clone.specs.Cloned.{IsCompleted, IsUncompleted};
-ghost use Rattle.fetch_clone.specs.Counted.{IsCounted, Later, meters};
+ghost use Rattle.fetch_clone.specs.Counted.{IsCounted, Later, meters, tree_meters};
 ghost use Rattle.fetch_clone.specs.Reached.{line, ways};
 
 use crate::clone::fetch::Error;
@@ -52,8 +52,9 @@ pub(crate) fn completed<
     requires { G.IsAlwaysCallable configure.old }
     ensures completed { IfOk result (IsCompleted (ways (CalledAtMut G.FnMut) C.Peer.told C.Peer.answers) (line (C.left maker.old) (C.taken maker.old) (C.addresses maker.old) configure.old) (line (C.left maker.new) (C.taken maker.new) (C.addresses maker.new) configure.new) (W.told worktrees.old) (F.told files.old) (F.told files.new) draft.now saved.now repo.old repo.new) }
     ensures refused { IfErr result (IsUncompleted (ways (CalledAtMut G.FnMut) C.Peer.told C.Peer.answers) (C.faults maker.old) (C.faults maker.new) (line (C.left maker.old) (C.taken maker.old) (C.addresses maker.old) configure.old) (line (C.left maker.new) (C.taken maker.new) (C.addresses maker.new) configure.new) (W.told worktrees.old) (F.may_fail files.old) (F.told files.old) (F.told files.new) draft.now saved.now repo.old repo.new) }
-    ensures counted { IfErr result (IsCounted (meters (C.faults maker.old) (C.lost maker.old) (I.yes interrupt.old) (F.faults files.old)) (meters (C.faults maker.new) (C.lost maker.new) (I.yes interrupt.new) (F.faults files.new))) }
-    ensures later { Later (meters (C.faults maker.old) (C.lost maker.old) (I.yes interrupt.old) (F.faults files.old)) (meters (C.faults maker.new) (C.lost maker.new) (I.yes interrupt.new) (F.faults files.new)) }
+    ensures counted { IfErr result (IsCounted (meters (C.faults maker.old) (C.lost maker.old) (I.yes interrupt.old) (F.faults files.old) (tree_meters (W.listing worktrees.old) (W.open_repo worktrees.old) (W.follow_symref worktrees.old))) (meters (C.faults maker.new) (C.lost maker.new) (I.yes interrupt.new) (F.faults files.new) (tree_meters (W.listing worktrees.new) (W.open_repo worktrees.new) (W.follow_symref worktrees.new)))) }
+    ensures later { Later (meters (C.faults maker.old) (C.lost maker.old) (I.yes interrupt.old) (F.faults files.old) (tree_meters (W.listing worktrees.old) (W.open_repo worktrees.old) (W.follow_symref worktrees.old))) (meters (C.faults maker.new) (C.lost maker.new) (I.yes interrupt.new) (F.faults files.new) (tree_meters (W.listing worktrees.new) (W.open_repo worktrees.new) (W.follow_symref worktrees.new))) }
+    ensures told { W.told worktrees.new ≡ W.told worktrees.old }
     ensures uninterrupted { OnOk result ((I.yes interrupt.new).count ≡ (I.yes interrupt.old).count) }
     ensures out { C.out maker.new ≡ C.out maker.old }
     ensures may_fail { F.may_fail files.new ≡ F.may_fail files.old }

@@ -3,6 +3,7 @@
 ghost use Rattle.std.specs.Prelude.{◌≡◌, ℕ, List, Option, IfOk, IfErr, IsErrOf, OnOk};
 ghost use Rattle.fetch_store.specs.Faults.{Counts, Rose};
 ghost use Rattle.fetch_conversation.specs.declared.fetch.Error.TheVariants as receive_errors;
+ghost use Rattle.fetch_update.specs.declared.update.Error.TheVariants as update_errors;
 ghost use Rattle.fetch_wire.specs.Talks.{Talk};
 ghost use Rattle.fetch_remote.specs.Repositories.{state_of, setup_of};
 ghost use Rattle.fetch_remote.specs.declared.repository.open_error.OpenError.TheVariants as opening;
@@ -66,6 +67,13 @@ pub(crate) fn received<
     ensures keep_file { (path : List ℕ) → IsErrOf result (errors.Fetch (receive_errors.KeepFile path)) → Rose (F.faults files.old) (F.faults files.new) }
     ensures remove_keep_file { (path : List ℕ) → IsErrOf result (errors.Fetch (receive_errors.RemovePackKeepFile path)) → Rose (F.faults files.old) (F.faults files.new) }
     ensures may_fail { F.may_fail files.new ≡ F.may_fail files.old }
+    ensures told { W.told worktrees.new ≡ W.told worktrees.old }
+    ensures listing_counts { Counts (W.listing worktrees.old) (W.listing worktrees.new) }
+    ensures open_repo_counts { Counts (W.open_repo worktrees.old) (W.open_repo worktrees.new) }
+    ensures follow_symref_counts { Counts (W.follow_symref worktrees.old) (W.follow_symref worktrees.new) }
+    ensures listing { IsErrOf result (errors.Fetch (receive_errors.UpdateRefs update_errors.WorktreeListing)) → Rose (W.listing worktrees.old) (W.listing worktrees.new) }
+    ensures open_repo { IsErrOf result (errors.Fetch (receive_errors.UpdateRefs update_errors.OpenWorktreeRepo)) → Rose (W.open_repo worktrees.old) (W.open_repo worktrees.new) }
+    ensures follow_symref { IsErrOf result (errors.Fetch (receive_errors.UpdateRefs update_errors.FollowSymref)) → Rose (W.follow_symref worktrees.old) (W.follow_symref worktrees.new) }
 {
     check_mapped(alloc, &draft.choices.wanted, &prepared.listed.ref_map)?;
     // The order takes memory before anything is changed.

@@ -1,6 +1,6 @@
 use Rattle.std.proofs.Common.{refl, ◌∙◌, inl, inr}
 use Rattle.std.proofs.lemmas.Result.{err_from_is_err_and, IfErr-weaker, IfOk-weaker, on_ok_weaker}
-use Rattle.fetch_clone.specs.Counted.{meters}
+use Rattle.fetch_clone.specs.Counted.{meters, tree_meters}
 use Rattle.fetch_clone.proofs.Counted.{counted-later, later-then}
 use Rattle.fetch_clone.proofs.fetching.fetch_only.fetched_into.Goals as goal
 
@@ -19,14 +19,22 @@ pub returns-clause-refused : goal.returns-clause-refused
 returns-clause-refused g c =
     let refused = rw c.save.ensures.may_fail at c.completed.ensures.refused in
     IfErr-weaker c.completed.result _ _
-    (λ e h. record { by = inr (record { saved = c.in_ok-saved.saved; asked = c.save.new.repo; between = _; written = _; failed = g.C.Connect.faults c.save.new.maker; earlier = c.save.ensures.later.made; is_saved = c.in_ok-saved.ensures.saved; why = h }) })
+    (λ e h. record { by = inr (record { saved = c.in_ok-saved.saved; asked = c.save.new.repo; between = _; written = _; failed = g.C.Connect.faults c.save.new.maker; earlier = (c.save.ensures.later (tree_meters (g.W.Worktrees.listing c.args.worktrees.now) (g.W.Worktrees.open_repo c.args.worktrees.now) (g.W.Worktrees.follow_symref c.args.worktrees.now))).made; is_saved = c.in_ok-saved.ensures.saved; why = h }) })
     refused
 
 pub returns-clause-counted : goal.returns-clause-counted
-returns-clause-counted g c = IfErr-weaker c.completed.result _ _ (λ e h. counted-later (meters (g.C.Connect.faults c.args.maker.now) (g.C.Connect.lost c.args.maker.now) (g.I.Interrupt.yes c.args.interrupt.now) (g.F.Files.faults c.args.files.now)) (meters (g.C.Connect.faults c.save.new.maker) (g.C.Connect.lost c.save.new.maker) (g.I.Interrupt.yes c.save.new.interrupt) (g.F.Files.faults c.save.new.files)) (meters (g.C.Connect.faults c.completed.new.maker) (g.C.Connect.lost c.completed.new.maker) (g.I.Interrupt.yes c.completed.new.interrupt) (g.F.Files.faults c.completed.new.files)) e c.save.ensures.later h) c.completed.ensures.counted
+returns-clause-counted g c = IfErr-weaker c.completed.result _ _ (λ e h. counted-later (meters (g.C.Connect.faults c.args.maker.now) (g.C.Connect.lost c.args.maker.now) (g.I.Interrupt.yes c.args.interrupt.now) (g.F.Files.faults c.args.files.now) (tree_meters (g.W.Worktrees.listing c.args.worktrees.now) (g.W.Worktrees.open_repo c.args.worktrees.now) (g.W.Worktrees.follow_symref c.args.worktrees.now))) (meters (g.C.Connect.faults c.save.new.maker) (g.C.Connect.lost c.save.new.maker) (g.I.Interrupt.yes c.save.new.interrupt) (g.F.Files.faults c.save.new.files) (tree_meters (g.W.Worktrees.listing c.args.worktrees.now) (g.W.Worktrees.open_repo c.args.worktrees.now) (g.W.Worktrees.follow_symref c.args.worktrees.now))) (meters (g.C.Connect.faults c.completed.new.maker) (g.C.Connect.lost c.completed.new.maker) (g.I.Interrupt.yes c.completed.new.interrupt) (g.F.Files.faults c.completed.new.files) (tree_meters (g.W.Worktrees.listing c.completed.new.worktrees) (g.W.Worktrees.open_repo c.completed.new.worktrees) (g.W.Worktrees.follow_symref c.completed.new.worktrees))) e (c.save.ensures.later (tree_meters (g.W.Worktrees.listing c.args.worktrees.now) (g.W.Worktrees.open_repo c.args.worktrees.now) (g.W.Worktrees.follow_symref c.args.worktrees.now))) h) c.completed.ensures.counted
 
 pub returns-clause-later : goal.returns-clause-later
-returns-clause-later g c = later-then (meters (g.C.Connect.faults c.args.maker.now) (g.C.Connect.lost c.args.maker.now) (g.I.Interrupt.yes c.args.interrupt.now) (g.F.Files.faults c.args.files.now)) (meters (g.C.Connect.faults c.save.new.maker) (g.C.Connect.lost c.save.new.maker) (g.I.Interrupt.yes c.save.new.interrupt) (g.F.Files.faults c.save.new.files)) (meters (g.C.Connect.faults c.completed.new.maker) (g.C.Connect.lost c.completed.new.maker) (g.I.Interrupt.yes c.completed.new.interrupt) (g.F.Files.faults c.completed.new.files)) c.save.ensures.later c.completed.ensures.later
+returns-clause-later g c = later-then (meters (g.C.Connect.faults c.args.maker.now) (g.C.Connect.lost c.args.maker.now) (g.I.Interrupt.yes c.args.interrupt.now) (g.F.Files.faults c.args.files.now) (tree_meters (g.W.Worktrees.listing c.args.worktrees.now) (g.W.Worktrees.open_repo c.args.worktrees.now) (g.W.Worktrees.follow_symref c.args.worktrees.now))) (meters (g.C.Connect.faults c.save.new.maker) (g.C.Connect.lost c.save.new.maker) (g.I.Interrupt.yes c.save.new.interrupt) (g.F.Files.faults c.save.new.files) (tree_meters (g.W.Worktrees.listing c.args.worktrees.now) (g.W.Worktrees.open_repo c.args.worktrees.now) (g.W.Worktrees.follow_symref c.args.worktrees.now))) (meters (g.C.Connect.faults c.completed.new.maker) (g.C.Connect.lost c.completed.new.maker) (g.I.Interrupt.yes c.completed.new.interrupt) (g.F.Files.faults c.completed.new.files) (tree_meters (g.W.Worktrees.listing c.completed.new.worktrees) (g.W.Worktrees.open_repo c.completed.new.worktrees) (g.W.Worktrees.follow_symref c.completed.new.worktrees))) (c.save.ensures.later (tree_meters (g.W.Worktrees.listing c.args.worktrees.now) (g.W.Worktrees.open_repo c.args.worktrees.now) (g.W.Worktrees.follow_symref c.args.worktrees.now))) c.completed.ensures.later
 
 pub returns-clause-uninterrupted : goal.returns-clause-uninterrupted
 returns-clause-uninterrupted g c = on_ok_weaker c.completed.result (λ same. same ∙ c.in_ok-saved.ensures.uninterrupted) c.completed.ensures.uninterrupted
+
+pub returns-in_err-saved-clause-counted : goal.returns-in_err-saved-clause-counted
+returns-in_err-saved-clause-counted g c =
+    let p = err_from_is_err_and c.from_residual.result c.from_residual.ensures.1 in
+    rw (p.1, p.2) (c.in_err-saved.ensures.counted (tree_meters (g.W.Worktrees.listing c.args.worktrees.now) (g.W.Worktrees.open_repo c.args.worktrees.now) (g.W.Worktrees.follow_symref c.args.worktrees.now)))
+
+pub returns-in_err-saved-clause-later : goal.returns-in_err-saved-clause-later
+returns-in_err-saved-clause-later g c = c.in_err-saved.ensures.later (tree_meters (g.W.Worktrees.listing c.args.worktrees.now) (g.W.Worktrees.open_repo c.args.worktrees.now) (g.W.Worktrees.follow_symref c.args.worktrees.now))
