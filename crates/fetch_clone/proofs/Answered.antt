@@ -1,7 +1,7 @@
 -- What each step of a clone's fetch makes of the calls before it.
 use Rattle.std.proofs.Common.{◌≡◌, ℕ, Bool, true, false, List, [], ◌∷◌, Option, Some, None, Result, Ok, Err, IsErrAnd, refl, sym, ap, subst, ◌∙◌, inl, inr}
 use Rattle.std.specs.Bool.{OnFalse}
-use Rattle.std.specs.Prelude.{IfErr, IfOk}
+use Rattle.std.specs.Prelude.{IfErr, IfOk, OnOk}
 use Rattle.fetch_store.specs.Faults.{Faults, Rose}
 use Rattle.fetch_store.specs.Trees.{Tree}
 use Rattle.fetch_lookup.specs.declared.direction.Direction.TheVariants.{Fetch}
@@ -24,6 +24,7 @@ use Rattle.fetch_remote.specs.declared.fetching.outcome.Outcome.{Outcome}
 use Rattle.fetch_remote.specs.declared.fetching.prepared.Prepared.{Prepared}
 use Rattle.fetch_remote.specs.declared.repository.open_error.OpenError.TheVariants as opening
 use Rattle.fetch_clone.specs.Counted.{Meters, IsCounted}
+use Rattle.fetch_clone.specs.Heeded.{IsHeededOver}
 use Rattle.fetch_clone.specs.Heading.{IsToldAs}
 use Rattle.fetch_clone.specs.Meant.{is_memory, meant_in}
 use Rattle.fetch_clone.specs.Reached.{Ways, Line, IsTurnedAway, IsUnreached, connecting, line, turned_away}
@@ -123,11 +124,11 @@ unmapped name map cause e is told = unmapped-by name map cause e (is_memory caus
 
 module _ {P : Type 0} (told : P → Option Talk) (answers : Bool) (before after : Option (List P)) (known : Option (List Worktree)) (may_fail : Bool) (files files_left : Option Tree) (draft : Draft) (remote : RemoteValue) (prepared : Prepared) (found repo : RepositoryValue) (last : P) (H : Option Talk → Type 0)
     (returned : TakesBack before after last) where
-  pub is-taken : (r : Result Outcome Error)
+  pub is-taken : (will will' : ℕ → Type 0) (now : Option Talk) (r : Result Outcome Error) → OnOk r (IsHeededOver will will' now (told last))
       → IfOk r (λ outcome. (begun : Option Talk) → H begun → IsReceived answers begun (told last) known files files_left draft remote prepared found repo outcome)
-      → IfOk r (λ outcome. (begun : Option Talk) → H begun → IsTaken told answers begun before after known files files_left draft remote prepared found repo outcome)
-  is-taken (Ok x) received = λ begun h. record { last = last; received = received begun h; returned = returned }
-  is-taken (Err e) received = tt
+      → IfOk r (λ outcome. (begun : Option Talk) → H begun → (t : IsTaken told answers begun before after known files files_left draft remote prepared found repo outcome) × IsHeededOver will will' now (told t.last))
+  is-taken will will' now (Ok x) heeded received = λ begun h. (record { last = last; received = received begun h; returned = returned }, heeded)
+  is-taken will will' now (Err e) heeded received = tt
 
   pub not-taken : (r : Result Outcome Error)
       → IfErr r (λ e. (begun : Option Talk) → H begun → IsUnreceived answers begun (told last) known may_fail files files_left draft remote prepared found repo e)

@@ -12,6 +12,7 @@ pub mod Headed
 pub mod Returned
 pub mod Uncounted
 pub mod Counted
+pub mod Heeded
 pub mod Rehashed
 pub mod Answered
 pub mod Targeting

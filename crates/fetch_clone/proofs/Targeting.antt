@@ -11,11 +11,13 @@ use Rattle.fetch_remote.specs.RepositoryValues.{RepositoryValue}
 use Rattle.fetch_remote.specs.Stages.{inquiry_of}
 use Rattle.fetch_remote.specs.Steps.{HasInquired, IsUninquired}
 use Rattle.fetch_clone.specs.Heading.{aim_of}
+use Rattle.fetch_clone.specs.Heeded.{IsHeededOver, SaysNo}
 use Rattle.fetch_clone.specs.Reached.{Ways, Line, IsReached}
 use Rattle.fetch_clone.specs.Stages.{listing, lists_first, ref_name_of}
-use Rattle.fetch_clone.specs.Targets.{Aims, AreFirstOptions, HasListedFirst, HasNoTarget, HasTarget, HasTargetBy, IsAimedAt, IsAsked, IsUnaimedBy, IsUnlisted, IsUntargeted, bare}
+use Rattle.fetch_clone.specs.Targets.{Aims, AreFirstOptions, HasListedFirst, HasNoTarget, HasTarget, HasTargetBy, HeedsBy, HeedsFirst, IsAimedAt, IsAsked, IsUnaimedBy, IsUnlisted, IsUntargeted, bare}
 use Rattle.fetch_clone.specs.declared.clone.fetch.Error.{Error}
 use Rattle.fetch_clone.specs.declared.draft.Draft.{Draft}
+use Rattle.fetch_clone.proofs.Heeded.{heeded-ahead}
 
 module _ {G P : Type 0} (w : Ways G P) (was is : Faults) (before between after : Line G P) (draft : Draft) (repo : RepositoryValue) (remote : RemoteValue) (options : Options) (peer last : P)
     (a : AreFirstOptions draft.choices options)
@@ -28,17 +30,18 @@ module _ {G P : Type 0} (w : Ways G P) (was is : Faults) (before between after :
   abbrev asked : IsAsked w before after draft.url draft.choices
   asked = record { spec = a.0; says = a.1; between = between; peer = peer; reached = reached; last = last; returned = record { given = given; same_left = left; same_addresses = addresses; same_closure = closure } }
 
-  listed-first : (l : ListedValue) → HasInquired w.answers (w.told peer) (w.told last) (inquiry_of remote repo.setup.settings options) l → HasListedFirst w before after draft repo.setup l
+  abbrev listed-first : (l : ListedValue) → HasInquired w.answers (w.told peer) (w.told last) (inquiry_of remote repo.setup.settings options) l → HasListedFirst w before after draft repo.setup l
   listed-first l h =
       record {
         asked = asked;
         heard = subst (λ (o : Options). HasInquired w.answers (w.told peer) (w.told last) (inquiry_of (bare draft.url) repo.setup.settings o) l) a.2 (subst (λ (r : RemoteValue). HasInquired w.answers (w.told peer) (w.told last) (inquiry_of r repo.setup.settings options) l) is_bare h);
       }
 
-  pub aimed-at : (l : ListedValue) → HasInquired w.answers (w.told peer) (w.told last) (inquiry_of remote repo.setup.settings options) l → (r : Result (Option (List ℕ)) Error)
-      → IfOk r (Aims (aim_of repo.state l.ref_map (ref_name_of draft.choices.wanted) None)) → IfOk r (IsAimedAt w before after draft repo)
-  aimed-at l h (Ok target) aims = record { listed = l; heard = listed-first l h; aim = aims.0; aims = aims.1; tells = aims.2 }
-  aimed-at l h (Err e) aims = tt
+  pub aimed-at : (l : ListedValue) → HasInquired w.answers (w.told peer) (w.told last) (inquiry_of remote repo.setup.settings options) l → (will will' : ℕ → Type 0) → IsHeededOver will will' (w.told peer) (w.told last) → (r : Result (Option (List ℕ)) Error)
+      → IfOk r (Aims (aim_of repo.state l.ref_map (ref_name_of draft.choices.wanted) None))
+      → IfOk r (λ target. (t : IsAimedAt w before after draft repo target) × IsHeededOver will will' (w.told t.heard.asked.peer) (w.told t.heard.asked.last))
+  aimed-at l h will will' heeded (Ok target) aims = (record { listed = l; heard = listed-first l h; aim = aims.0; aims = aims.1; tells = aims.2 }, heeded)
+  aimed-at l h will will' heeded (Err e) aims = tt
 
   pub not-aimed-at : (l : ListedValue) → HasInquired w.answers (w.told peer) (w.told last) (inquiry_of remote repo.setup.settings options) l → (r : Result (Option (List ℕ)) Error)
       → IfErr r (IsUnaimedBy repo.state l.ref_map (ref_name_of draft.choices.wanted)) → IfErr r (IsUntargeted w was is before after draft repo)
@@ -55,9 +58,13 @@ module _ {G P : Type 0} (w : Ways G P) (was is : Faults) (before between after :
 -- ---- whether a first connection is made
 
 -- The first connection told a target.
-pub told-first : {G P : Type 0} (w : Ways G P) (before after : Line G P) (draft : Draft) (repo : RepositoryValue) (r : Result (Option (List ℕ)) Error) → lists_first draft.choices ≡ true → IfOk r (IsAimedAt w before after draft repo) → IfOk r (HasTarget w before after draft repo)
-told-first w before after draft repo (Ok target) e h = record { by = subst (λ (b : Bool). HasTargetBy b w before after draft repo target) (sym e) h }
-told-first w before after draft repo (Err x) e h = tt
+pub told-first : {G P : Type 0} (will will' : ℕ → Type 0) (w : Ways G P) (before after : Line G P) (draft : Draft) (repo : RepositoryValue) (r : Result (Option (List ℕ)) Error) → lists_first draft.choices ≡ true
+    → IfOk r (λ target. (t : IsAimedAt w before after draft repo target) × IsHeededOver will will' (w.told t.heard.asked.peer) (w.told t.heard.asked.last))
+    → IfOk r (λ target. (t : HasTarget w before after draft repo target) × HeedsFirst will will' t)
+told-first will will' w before after draft repo (Ok target) e h =
+    let p = subst (λ (b : Bool). (t : HasTargetBy b w before after draft repo target) × HeedsBy will will' b w before after draft repo target t) (sym e) h in
+    (record { by = p.0 }, record { heeds = p.1 })
+told-first will will' w before after draft repo (Err x) e h = tt
 
 -- The first connection was made, and told none.
 pub untold-first : {G P : Type 0} (w : Ways G P) (was is : Faults) (before after : Line G P) (draft : Draft) (repo : RepositoryValue) (r : Result (Option (List ℕ)) Error) → lists_first draft.choices ≡ true → IfErr r (IsUntargeted w was is before after draft repo)
@@ -66,5 +73,13 @@ untold-first w was is before after draft repo (Ok target) e h = tt
 untold-first w was is before after draft repo (Err x) e h = record { first = e; why = h }
 
 -- No first connection is made.
-pub unasked : {G P : Type 0} (w : Ways G P) (line : Line G P) (draft : Draft) (repo : RepositoryValue) → lists_first draft.choices ≡ false → HasTarget w line line draft repo None
-unasked w line draft repo e = record { by = subst (λ (b : Bool). HasTargetBy b w line line draft repo None) (sym e) (refl, refl) }
+pub unasked : {G P : Type 0} (will : ℕ → Type 0) (w : Ways G P) (line : Line G P) (draft : Draft) (repo : RepositoryValue) → lists_first draft.choices ≡ false → (t : HasTarget w line line draft repo None) × HeedsFirst will will t
+unasked will w line draft repo e =
+    let p = subst (λ (b : Bool). (t : HasTargetBy b w line line draft repo None) × HeedsBy will will b w line line draft repo None t) (sym e) ((refl, refl), tt) in
+    (record { by = p.0 }, record { heeds = p.1 })
+
+-- What is asked later changes nothing of it.
+pub heeds-ahead : {G P : Type 0} (will will' will'' : ℕ → Type 0) (first : Bool) (w : Ways G P) (before after : Line G P) (draft : Draft) (repo : RepositoryValue) (target : Option (List ℕ)) (t : HasTargetBy first w before after draft repo target) → SaysNo will' will''
+    → HeedsBy will will' first w before after draft repo target t → HeedsBy will will'' first w before after draft repo target t
+heeds-ahead will will' will'' false w before after draft repo target t says h = tt
+heeds-ahead will will' will'' true w before after draft repo target t says h = heeded-ahead will will' will'' (w.told t.heard.asked.peer) (w.told t.heard.asked.last) h says

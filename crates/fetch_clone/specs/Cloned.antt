@@ -11,6 +11,7 @@ use Rattle.fetch_remote.specs.Repositories.{reopened}
 use Rattle.fetch_remote.specs.RepositoryValues.{RepositoryValue, Setup}
 use Rattle.fetch_remote.specs.declared.fetching.outcome.Outcome.{Outcome}
 use Rattle.fetch_remote.specs.declared.fetching.prepared.Prepared.{Prepared}
+use Rattle.fetch_clone.specs.Heeded.{IsHeededOver}
 use Rattle.fetch_clone.specs.Heading.{HasHead, IsHeadRefusal}
 use Rattle.fetch_clone.specs.Listed.{Query, query, IsListed, IsUnprepared}
 use Rattle.fetch_clone.specs.Planned.{Answering}
@@ -19,6 +20,7 @@ use Rattle.fetch_clone.specs.Received.{IsTaken, IsNotTaken, message_of}
 use Rattle.fetch_clone.specs.Replacing.{replaced}
 use Rattle.fetch_clone.specs.Saving.{IsSaved, IsNotSaved}
 use Rattle.fetch_clone.specs.Stages.{ref_name_of, revision_of}
+use Rattle.fetch_clone.specs.Targets.{HeedsFirst}
 use Rattle.fetch_clone.specs.declared.clone.fetch.Error.{Error}
 use Rattle.fetch_clone.specs.declared.clone.fetch.Error.TheVariants as errors
 use Rattle.fetch_clone.specs.declared.draft.Draft.{Draft}
@@ -81,12 +83,13 @@ pub record HasFetched {G P : Type 0} (w : Ways G P) (before after : Line G P) (k
   pub same_addresses : after.addresses ≡ between.addresses
   pub same_closure : after.closure ≡ between.closure
 
--- The references were listed and fetched, and then `HEAD` took what it is to take.
-pub record IsCompleted {G P : Type 0} (w : Ways G P) (before after : Line G P) (known : Option (List Worktree)) (files files_left : Option Tree) (draft : Draft) (saved : Saved) (asked repo : RepositoryValue) (outcome : Outcome) : Type 0 where
+-- The references were listed and fetched, and then `HEAD` took what it is to take. The interrupt said no before each receive.
+pub record IsCompleted {G P : Type 0} (will will' : ℕ → Type 0) (w : Ways G P) (before after : Line G P) (known : Option (List Worktree)) (files files_left : Option Tree) (draft : Draft) (saved : Saved) (asked repo : RepositoryValue) (outcome : Outcome) : Type 0 where
   pub between : RepositoryValue
   pub stood : Option Tree
   pub fetched : HasFetched w before after known files stood draft saved asked between outcome
   pub finished : IsFinished stood files_left draft saved.name (section_left saved.section asked.state.hash between.state.hash) outcome.ref_map between repo
+  pub questions : IsHeededOver will will' (w.told fetched.listed.first) (w.told fetched.taken.last)
 
 -- The references were listed, and not fetched; the peer was taken back.
 pub record IsListedAlone {G P : Type 0} (w : Ways G P) (before after : Line G P) (known : Option (List Worktree)) (may_fail : Bool) (files files_left : Option Tree) (draft : Draft) (saved : Saved) (asked repo : RepositoryValue) (e : Error) : Type 0 where
@@ -114,14 +117,16 @@ pub record IsUncompleted {G P : Type 0} (w : Ways G P) (was is : Faults) (before
 
 -- ---- all of it
 
--- The remote was saved, and then all was completed.
-pub record IsCloned {G P : Type 0} (answers : Answering) (w : Ways G P) (before after : Line G P) (known : Option (List Worktree)) (files files_left : Option Tree) (draft : Draft) (found repo : RepositoryValue) (outcome : Outcome) : Type 0 where
+-- The remote was saved, and then all was completed. Will and will' are the questions that the interrupt will say yes to, before and
+-- after: it said no before each receive, of the peer that listed before, and of the one that was fetched from.
+pub record IsCloned {G P : Type 0} (will will' : ℕ → Type 0) (answers : Answering) (w : Ways G P) (before after : Line G P) (known : Option (List Worktree)) (files files_left : Option Tree) (draft : Draft) (found repo : RepositoryValue) (outcome : Outcome) : Type 0 where
   pub saved : Saved
   pub asked : RepositoryValue
   pub between : Line G P
   pub written : Option Tree
   pub is_saved : IsSaved answers w before between files written draft found asked saved
-  pub completed : IsCompleted w between after known written files_left draft saved asked repo outcome
+  pub listing : HeedsFirst will will' is_saved.named.targeted
+  pub completed : IsCompleted will will' w between after known written files_left draft saved asked repo outcome
 
 -- The remote was saved, and then something was refused; the maker had failed so often before.
 pub record IsSavedAlone {G P : Type 0} (answers : Answering) (w : Ways G P) (was is : Faults) (before after : Line G P) (known : Option (List Worktree)) (may_fail : Bool) (files files_left : Option Tree) (draft : Draft) (found repo : RepositoryValue) (e : Error) : Type 0 where

@@ -17,6 +17,7 @@ pub mod Mirrors
 pub mod Versioned
 pub mod Hashed
 pub mod Reached
+pub mod Heeded
 pub mod Stages
 pub mod Targets
 pub mod Planned

@@ -1,5 +1,5 @@
 -- The reference that a clone of another depth is of, as a first connection lists it.
-use Rattle.std.specs.Prelude.{◌≡◌, ◌⊎◌, ℕ, Bool, true, false, List, [], ◌∷◌, codes, Option, Some, None, is_some, unwrap_or, Result, Ok}
+use Rattle.std.specs.Prelude.{◌≡◌, ◌⊎◌, ℕ, Bool, true, false, List, [], ◌∷◌, codes, Option, Some, None, is_some, unwrap_or, Result, Ok, ⊤}
 use Rattle.fetch_store.specs.Faults.{Faults}
 use Rattle.fetch_specs.specs.Parses.{parsed}
 use Rattle.fetch_wire.specs.declared.listings.mapping.RefMap.{RefMap}
@@ -15,6 +15,7 @@ use Rattle.fetch_remote.specs.RepositoryValues.{State, Setup, RepositoryValue}
 use Rattle.fetch_remote.specs.Stages.{inquiry_of}
 use Rattle.fetch_remote.specs.Steps.{HasInquired, IsUninquired}
 use Rattle.fetch_clone.specs.Heading.{IsNoAim, aim_of}
+use Rattle.fetch_clone.specs.Heeded.{IsHeededOver}
 use Rattle.fetch_clone.specs.Reached.{Ways, Line, IsReached, IsReturned, IsTurnedAway, IsUnreached}
 use Rattle.fetch_clone.specs.Stages.{lists_first, listing, ref_name_of}
 use Rattle.fetch_clone.specs.declared.aim.Aim.{Aim}
@@ -99,6 +100,15 @@ HasTargetBy true w before after draft repo target = IsAimedAt w before after dra
 -- The target of a clone, where one is told before.
 pub record HasTarget {G P : Type 0} (w : Ways G P) (before after : Line G P) (draft : Draft) (repo : RepositoryValue) (target : Option (List ℕ)) : Type 0 where
   pub by : HasTargetBy (lists_first draft.choices) w before after draft repo target
+
+-- Where a first peer listed, the interrupt said no before each receive of that peer.
+abbrev pub HeedsBy : {G P : Type 0} → (ℕ → Type 0) → (ℕ → Type 0) → (first : Bool) → (w : Ways G P) → (before after : Line G P) → (draft : Draft) → (repo : RepositoryValue) → (target : Option (List ℕ)) → HasTargetBy first w before after draft repo target → Type 0
+HeedsBy will will' false w before after draft repo target t = ⊤
+HeedsBy will will' true w before after draft repo target t = IsHeededOver will will' (w.told t.heard.asked.peer) (w.told t.heard.asked.last)
+
+-- the same of the target of a clone
+pub record HeedsFirst {G P : Type 0} {w : Ways G P} {before after : Line G P} {draft : Draft} {repo : RepositoryValue} {target : Option (List ℕ)} (will will' : ℕ → Type 0) (t : HasTarget w before after draft repo target) : Type 0 where
+  pub heeds : HeedsBy will will' (lists_first draft.choices) w before after draft repo target t.by
 
 -- ---- why there is none
 

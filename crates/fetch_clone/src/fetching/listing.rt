@@ -6,13 +6,14 @@ ghost use Rattle.std.specs.List.{list_any};
 ghost use Rattle.std.specs.Option.{option_copied};
 ghost use Rattle.fetch_store.specs.Faults.{Counts, Rose};
 ghost use Rattle.fetch_conversation.specs.Errors.{is_interrupted};
-ghost use Rattle.fetch_conversation.specs.Receiving.{last_question};
+ghost use Rattle.fetch_conversation.specs.Receiving.{IsHeeded, last_question};
 ghost use Rattle.fetch_conversation.specs.declared.prepare.Error.TheVariants as prepare_errors;
 ghost use Rattle.fetch_conversation.specs.declared.ref_map.Error.TheVariants as ref_map_errors;
 ghost use Rattle.fetch_remote.specs.Connecting.{TakesBack, out_after};
 ghost use Rattle.fetch_update.specs.Policy.{is_forced as is_by_force};
 ghost use Rattle.fetch_remote.specs.Repositories.{setup_of};
 ghost use Rattle.fetch_remote.specs.Steps.{BreaksOff, HasListed, options_with};
+ghost use Rattle.fetch_clone.specs.Heeded.{IsHeededOver, SaysNo};
 ghost use Rattle.fetch_clone.specs.Listed as spec;
 ghost use Rattle.fetch_clone.specs.Listed.{IsListed, IsUnprepared, query};
 ghost use Rattle.fetch_clone.specs.Reached.{line, ways};
@@ -52,7 +53,7 @@ pub(crate) fn listed<
     interrupt: &mut I,
 ) -> Result<(C::Peer, Prepared), Error>
     requires { G.IsAlwaysCallable configure.old }
-    ensures listed { IfOk result (λ found. IsListed (ways (CalledAtMut G.FnMut) C.Peer.told C.Peer.answers) (line (C.left maker.old) (C.taken maker.old) (C.addresses maker.old) configure.old) (line (C.left maker.new) (C.taken maker.new) (C.addresses maker.new) configure.new) (query name.now choices.now remote.now (setup_of repo.now)) found.0 found.1) }
+    ensures listed { IfOk result (λ found. (l : IsListed (ways (CalledAtMut G.FnMut) C.Peer.told C.Peer.answers) (line (C.left maker.old) (C.taken maker.old) (C.addresses maker.old) configure.old) (line (C.left maker.new) (C.taken maker.new) (C.addresses maker.new) configure.new) (query name.now choices.now remote.now (setup_of repo.now)) found.0 found.1) × IsHeededOver (I.will_stop interrupt.old) (I.will_stop interrupt.new) (C.Peer.told l.first) (C.Peer.told found.0)) }
     ensures refused { IfErr result (IsUnprepared (ways (CalledAtMut G.FnMut) C.Peer.told C.Peer.answers) (C.faults maker.old) (C.faults maker.new) (line (C.left maker.old) (C.taken maker.old) (C.addresses maker.old) configure.old) (line (C.left maker.new) (C.taken maker.new) (C.addresses maker.new) configure.new) (query name.now choices.now remote.now (setup_of repo.now))) }
     ensures counts { Counts (C.faults maker.old) (C.faults maker.new) }
     ensures out { C.out maker.new ≡ out_after result (C.out maker.old) }
@@ -88,7 +89,7 @@ fn listed_again<C: Connect, I: Interrupt>(
     maker: &mut C,
     interrupt: &mut I,
 ) -> Result<(C::Peer, Prepared), Error>
-    ensures listed { IfOk result (λ found. spec.IsListedAgain C.Peer.told C.Peer.answers (C.left maker.old) (C.left maker.new) (C.taken maker.old) (C.taken maker.new) (C.addresses maker.old) (C.addresses maker.new) (query name.now choices.now remote.now (setup_of repo.now)) found.0 found.1) }
+    ensures listed { IfOk result (λ found. (l : spec.IsListedAgain C.Peer.told C.Peer.answers (C.left maker.old) (C.left maker.new) (C.taken maker.old) (C.taken maker.new) (C.addresses maker.old) (C.addresses maker.new) (query name.now choices.now remote.now (setup_of repo.now)) found.0 found.1) × IsHeededOver (I.will_stop interrupt.old) (I.will_stop interrupt.new) (C.Peer.told l.first) (C.Peer.told found.0)) }
     ensures refused { IfErr result (spec.IsUnpreparedAgain C.Peer.told C.Peer.answers (C.faults maker.old) (C.faults maker.new) (C.left maker.old) (C.left maker.new) (C.taken maker.old) (C.taken maker.new) (C.addresses maker.old) (C.addresses maker.new) (query name.now choices.now remote.now (setup_of repo.now))) }
     ensures counts { Counts (C.faults maker.old) (C.faults maker.new) }
     ensures out { C.out maker.new ≡ out_after result (C.out maker.old) }
@@ -133,6 +134,8 @@ fn listed_by<C: Connect, I: Interrupt>(
     ensures asked { Counts (I.yes interrupt.old) (I.yes interrupt.new) }
     ensures interrupted { IsErrOf result (prepare_errors.RefMap ref_map_errors.Interrupted) → Rose (I.yes interrupt.old) (I.yes interrupt.new) }
     ensures quiet { last_question is_interrupted result ≡ 0 → (I.yes interrupt.new).count ≡ (I.yes interrupt.old).count }
+    ensures noes { last_question is_interrupted result ≡ 0 → SaysNo (I.will_stop interrupt.old) (I.will_stop interrupt.new) }
+    ensures heeded { IfOk result (λ found. IsHeededOver (I.will_stop interrupt.old) (I.will_stop interrupt.new) (C.Peer.told peer) (C.Peer.told found.0)) }
 {
     let mut peer = peer;
     match prepared_by(alloc, remote, repo, &mut peer, interrupt, options) {
@@ -161,6 +164,7 @@ fn prepared_by<P: Peer, I: Interrupt>(
     ensures asked { Counts (I.yes interrupt.old) (I.yes interrupt.new) }
     ensures interrupted { IsErrOf result (prepare_errors.RefMap ref_map_errors.Interrupted) → Rose (I.yes interrupt.old) (I.yes interrupt.new) }
     ensures quiet { last_question is_interrupted result ≡ 0 → (I.yes interrupt.new).count ≡ (I.yes interrupt.old).count }
+    ensures questions { IsHeeded is_interrupted (I.will_stop interrupt.old) (I.will_stop interrupt.new) (P.told peer.old) (P.told peer.new) result }
 {
     let map = options.try_clone()?;
     let listed = list(alloc, remote, repo.settings(), peer, interrupt, options)?;

@@ -10,8 +10,10 @@ ghost use Rattle.fetch_remote.specs.Overriding.{overridden};
 ghost use Rattle.fetch_remote.specs.Repositories.{state_of, setup_of};
 ghost use Rattle.fetch_clone.specs.Planned as spec;
 ghost use Rattle.fetch_clone.specs.Planned.{IsNamed, IsNotNamed};
+ghost use Rattle.fetch_clone.specs.Heeded.{SaysNo};
 ghost use Rattle.fetch_clone.specs.Reached.{line, ways};
 ghost use Rattle.fetch_clone.specs.Stages as stages;
+ghost use Rattle.fetch_clone.specs.Targets.{HeedsFirst};
 ghost use Rattle.fetch_clone.specs.Tracking.{spec_text as tracked_text};
 ghost use Rattle.fetch_clone.specs.declared.clone.fetch.Error.TheVariants as errors;
 
@@ -40,7 +42,7 @@ pub(crate) fn named<C: Connect, G: FnMut(&mut C::Peer) -> Result<(), ConfigureFa
     interrupt: &mut I,
 ) -> Result<(Text, Option<FullName>), Error>
     requires { G.IsAlwaysCallable configure.old }
-    ensures named { IfOk result (λ found. IsNamed (ways (CalledAtMut G.FnMut) C.Peer.told C.Peer.answers) (line (C.left maker.old) (C.taken maker.old) (C.addresses maker.old) configure.old) (line (C.left maker.new) (C.taken maker.new) (C.addresses maker.new) configure.new) draft.now repo.old repo.new found.0 found.1) }
+    ensures named { IfOk result (λ found. (n : IsNamed (ways (CalledAtMut G.FnMut) C.Peer.told C.Peer.answers) (line (C.left maker.old) (C.taken maker.old) (C.addresses maker.old) configure.old) (line (C.left maker.new) (C.taken maker.new) (C.addresses maker.new) configure.new) draft.now repo.old repo.new found.0 found.1) × HeedsFirst (I.will_stop interrupt.old) (I.will_stop interrupt.new) n.targeted) }
     ensures refused { IfErr result (IsNotNamed (ways (CalledAtMut G.FnMut) C.Peer.told C.Peer.answers) (C.faults maker.old) (C.faults maker.new) (line (C.left maker.old) (C.taken maker.old) (C.addresses maker.old) configure.old) (line (C.left maker.new) (C.taken maker.new) (C.addresses maker.new) configure.new) draft.now repo.old repo.new) }
     ensures counts { Counts (C.faults maker.old) (C.faults maker.new) }
     ensures out { C.out maker.new ≡ C.out maker.old }
@@ -49,6 +51,7 @@ pub(crate) fn named<C: Connect, G: FnMut(&mut C::Peer) -> Result<(), ConfigureFa
     ensures asked { Counts (I.yes interrupt.old) (I.yes interrupt.new) }
     ensures interrupted { IsErrOf result (errors.RefMap ref_map_errors.Interrupted) → Rose (I.yes interrupt.old) (I.yes interrupt.new) }
     ensures uninterrupted { OnOk result ((I.yes interrupt.new).count ≡ (I.yes interrupt.old).count) }
+    ensures questions { OnOk result (SaysNo (I.will_stop interrupt.old) (I.will_stop interrupt.new)) }
     ensures again { G.IsAlwaysCallable configure.new }
 {
     override_with(alloc, draft, repo)?;

@@ -7,6 +7,7 @@ ghost use Rattle.fetch_update.specs.declared.update.Error.TheVariants as update_
 ghost use Rattle.fetch_wire.specs.Talks.{Talk};
 ghost use Rattle.fetch_remote.specs.Repositories.{state_of, setup_of};
 ghost use Rattle.fetch_remote.specs.declared.repository.open_error.OpenError.TheVariants as opening;
+ghost use Rattle.fetch_clone.specs.Heeded.{IsHeededOver};
 ghost use Rattle.fetch_clone.specs.Received as spec;
 ghost use Rattle.fetch_clone.specs.Received.{IsReceived, IsUnreceived, WasListed};
 ghost use Rattle.fetch_clone.specs.declared.clone.fetch.Error.TheVariants as errors;
@@ -62,6 +63,7 @@ pub(crate) fn received<
     ensures asked { Counts (I.yes interrupt.old) (I.yes interrupt.new) }
     ensures stopped { IsErrOf result (errors.Fetch receive_errors.Interrupted) → Rose (I.yes interrupt.old) (I.yes interrupt.new) }
     ensures uninterrupted { OnOk result ((I.yes interrupt.new).count ≡ (I.yes interrupt.old).count) }
+    ensures questions { OnOk result (IsHeededOver (I.will_stop interrupt.old) (I.will_stop interrupt.new) (P.told peer.old) (P.told peer.new)) }
     ensures file_counts { Counts (F.faults files.old) (F.faults files.new) }
     ensures reopened { IsErrOf result (errors.ReopenWithObjectHash opening.Io) → Rose (F.faults files.old) (F.faults files.new) }
     ensures keep_file { (path : List ℕ) → IsErrOf result (errors.Fetch (receive_errors.KeepFile path)) → Rose (F.faults files.old) (F.faults files.new) }

@@ -7,8 +7,10 @@ ghost use Rattle.fetch_store.specs.Faults.{Counts, Rose};
 ghost use Rattle.fetch_remote.specs.Repositories.{setup_of};
 ghost use Rattle.fetch_remote.specs.declared.repository.open_error.OpenError.TheVariants as opening;
 ghost use Rattle.fetch_clone.specs.Counted.{IsCounted, Later, TreeMeters, meters};
+ghost use Rattle.fetch_clone.specs.Heeded.{SaysNo};
 ghost use Rattle.fetch_clone.specs.Reached.{line, ways};
 ghost use Rattle.fetch_clone.specs.Saving as spec;
+ghost use Rattle.fetch_clone.specs.Targets.{HeedsFirst};
 ghost use Rattle.fetch_clone.specs.Saving.{IsNotSaved, IsSaved};
 ghost use Rattle.fetch_clone.specs.declared.clone.fetch.Error.TheVariants as errors;
 
@@ -56,12 +58,13 @@ pub(crate) fn save<
 ) -> Result<Saved, Error>
     requires remote { R.IsAlwaysCallable configure_remote.old }
     requires connection { G.IsAlwaysCallable configure_connection.old }
-    ensures saved { IfOk result (IsSaved (λ remote answer. R.step configure_remote.old remote answer configure_remote.new) (ways (CalledAtMut G.FnMut) C.Peer.told C.Peer.answers) (line (C.left maker.old) (C.taken maker.old) (C.addresses maker.old) configure_connection.old) (line (C.left maker.new) (C.taken maker.new) (C.addresses maker.new) configure_connection.new) (F.told files.old) (F.told files.new) draft.now repo.old repo.new) }
+    ensures saved { IfOk result (λ saved. (s : IsSaved (λ remote answer. R.step configure_remote.old remote answer configure_remote.new) (ways (CalledAtMut G.FnMut) C.Peer.told C.Peer.answers) (line (C.left maker.old) (C.taken maker.old) (C.addresses maker.old) configure_connection.old) (line (C.left maker.new) (C.taken maker.new) (C.addresses maker.new) configure_connection.new) (F.told files.old) (F.told files.new) draft.now repo.old repo.new saved) × HeedsFirst (I.will_stop interrupt.old) (I.will_stop interrupt.new) s.named.targeted) }
     ensures refused { IfErr result (IsNotSaved (λ remote answer. R.step configure_remote.old remote answer configure_remote.new) (configure_remote.new ≡ configure_remote.old) (ways (CalledAtMut G.FnMut) C.Peer.told C.Peer.answers) (C.faults maker.old) (C.faults maker.new) (line (C.left maker.old) (C.taken maker.old) (C.addresses maker.old) configure_connection.old) (line (C.left maker.new) (C.taken maker.new) (C.addresses maker.new) configure_connection.new) (F.may_fail files.old) (F.told files.old) (F.told files.new) draft.now repo.old repo.new) }
     // It asks nothing of the work trees.
     ensures counted { (trees : TreeMeters) → IfErr result (IsCounted (meters (C.faults maker.old) (C.lost maker.old) (I.yes interrupt.old) (F.faults files.old) trees) (meters (C.faults maker.new) (C.lost maker.new) (I.yes interrupt.new) (F.faults files.new) trees)) }
     ensures later { (trees : TreeMeters) → Later (meters (C.faults maker.old) (C.lost maker.old) (I.yes interrupt.old) (F.faults files.old) trees) (meters (C.faults maker.new) (C.lost maker.new) (I.yes interrupt.new) (F.faults files.new) trees) }
     ensures uninterrupted { OnOk result ((I.yes interrupt.new).count ≡ (I.yes interrupt.old).count) }
+    ensures questions { OnOk result (SaysNo (I.will_stop interrupt.old) (I.will_stop interrupt.new)) }
     ensures out { C.out maker.new ≡ C.out maker.old }
     ensures may_fail { F.may_fail files.new ≡ F.may_fail files.old }
     ensures remote_again { R.IsAlwaysCallable configure_remote.new }

@@ -8,6 +8,7 @@ ghost use Rattle.fetch_specs.specs.Parses.{parsed};
 ghost use Rattle.fetch_specs.specs.declared.operation.Operation.TheVariants as operations;
 ghost use Rattle.fetch_conversation.specs.declared.ref_map.Error.TheVariants as ref_map_errors;
 ghost use Rattle.fetch_remote.specs.Repositories.{state_of};
+ghost use Rattle.fetch_clone.specs.Heeded.{IsHeededOver, SaysNo};
 ghost use Rattle.fetch_clone.specs.Heading.{aim_of};
 ghost use Rattle.fetch_clone.specs.Reached.{line, ways};
 ghost use Rattle.fetch_clone.specs.Stages as stages;
@@ -46,7 +47,7 @@ pub(crate) fn target<
     interrupt: &mut I,
 ) -> Result<Option<FullName>, Error>
     requires { G.IsAlwaysCallable configure.old }
-    ensures target { IfOk result (HasTarget (ways (CalledAtMut G.FnMut) C.Peer.told C.Peer.answers) (line (C.left maker.old) (C.taken maker.old) (C.addresses maker.old) configure.old) (line (C.left maker.new) (C.taken maker.new) (C.addresses maker.new) configure.new) draft.now repo.now) }
+    ensures target { IfOk result (λ target. (t : HasTarget (ways (CalledAtMut G.FnMut) C.Peer.told C.Peer.answers) (line (C.left maker.old) (C.taken maker.old) (C.addresses maker.old) configure.old) (line (C.left maker.new) (C.taken maker.new) (C.addresses maker.new) configure.new) draft.now repo.now target) × spec.HeedsFirst (I.will_stop interrupt.old) (I.will_stop interrupt.new) t) }
     ensures refused { IfErr result (HasNoTarget (ways (CalledAtMut G.FnMut) C.Peer.told C.Peer.answers) (C.faults maker.old) (C.faults maker.new) (line (C.left maker.old) (C.taken maker.old) (C.addresses maker.old) configure.old) (line (C.left maker.new) (C.taken maker.new) (C.addresses maker.new) configure.new) draft.now repo.now) }
     ensures counts { Counts (C.faults maker.old) (C.faults maker.new) }
     ensures out { C.out maker.new ≡ C.out maker.old }
@@ -55,6 +56,7 @@ pub(crate) fn target<
     ensures asked { Counts (I.yes interrupt.old) (I.yes interrupt.new) }
     ensures interrupted { IsErrOf result (errors.RefMap ref_map_errors.Interrupted) → Rose (I.yes interrupt.old) (I.yes interrupt.new) }
     ensures uninterrupted { OnOk result ((I.yes interrupt.new).count ≡ (I.yes interrupt.old).count) }
+    ensures questions { OnOk result (SaysNo (I.will_stop interrupt.old) (I.will_stop interrupt.new)) }
     ensures again { G.IsAlwaysCallable configure.new }
 {
     if lists_first(&draft.choices) {
@@ -75,7 +77,7 @@ fn target_of<C: Connect, G: FnMut(&mut C::Peer) -> Result<(), ConfigureFault>, I
     interrupt: &mut I,
 ) -> Result<Option<FullName>, Error>
     requires { G.IsAlwaysCallable configure.old }
-    ensures target { IfOk result (spec.IsAimedAt (ways (CalledAtMut G.FnMut) C.Peer.told C.Peer.answers) (line (C.left maker.old) (C.taken maker.old) (C.addresses maker.old) configure.old) (line (C.left maker.new) (C.taken maker.new) (C.addresses maker.new) configure.new) draft.now repo.now) }
+    ensures target { IfOk result (λ target. (t : spec.IsAimedAt (ways (CalledAtMut G.FnMut) C.Peer.told C.Peer.answers) (line (C.left maker.old) (C.taken maker.old) (C.addresses maker.old) configure.old) (line (C.left maker.new) (C.taken maker.new) (C.addresses maker.new) configure.new) draft.now repo.now target) × IsHeededOver (I.will_stop interrupt.old) (I.will_stop interrupt.new) (C.Peer.told t.heard.asked.peer) (C.Peer.told t.heard.asked.last)) }
     ensures refused { IfErr result (spec.IsUntargeted (ways (CalledAtMut G.FnMut) C.Peer.told C.Peer.answers) (C.faults maker.old) (C.faults maker.new) (line (C.left maker.old) (C.taken maker.old) (C.addresses maker.old) configure.old) (line (C.left maker.new) (C.taken maker.new) (C.addresses maker.new) configure.new) draft.now repo.now) }
     ensures counts { Counts (C.faults maker.old) (C.faults maker.new) }
     ensures out { C.out maker.new ≡ C.out maker.old }
@@ -84,6 +86,7 @@ fn target_of<C: Connect, G: FnMut(&mut C::Peer) -> Result<(), ConfigureFault>, I
     ensures asked { Counts (I.yes interrupt.old) (I.yes interrupt.new) }
     ensures interrupted { IsErrOf result (errors.RefMap ref_map_errors.Interrupted) → Rose (I.yes interrupt.old) (I.yes interrupt.new) }
     ensures uninterrupted { OnOk result ((I.yes interrupt.new).count ≡ (I.yes interrupt.old).count) }
+    ensures questions { OnOk result (SaysNo (I.will_stop interrupt.old) (I.will_stop interrupt.new)) }
     ensures again { G.IsAlwaysCallable configure.new }
 {
     let remote = bare(alloc, draft.url.as_bytes())?;

@@ -4,6 +4,7 @@ use Rattle.fetch_store.specs.Faults.{Counts-none}
 use Rattle.fetch_clone.specs.Counted.{meters, tree_meters}
 use Rattle.fetch_clone.proofs.Completing.{was-listed}
 use Rattle.fetch_clone.proofs.Counted.{counted-later, later-files, later-then}
+use Rattle.fetch_clone.proofs.Heeded.{heeded-on}
 use Rattle.fetch_clone.proofs.StepsCounted.{finished-counted, listed-counted}
 use Rattle.fetch_clone.proofs.fetching.completing.completed.Goals as goal
 
@@ -23,7 +24,8 @@ returns-in_err-peer-clause-later g c = record { made = c.in_err-peer.ensures.cou
 pub returns-in_err-outcome-clause-refused : goal.returns-in_err-outcome-clause-refused
 returns-in_err-outcome-clause-refused g c =
     let p = err_from_is_err_and c.from_residual-in_err-outcome.result c.from_residual-in_err-outcome.ensures.1 in
-    let listed = rw c.as_bytes-name.ensures at c.in_ok-peer.ensures.listed in
+    let found = rw c.as_bytes-name.ensures at c.in_ok-peer.ensures.listed in
+    let listed = found.0 in
     rw (p.1, p.2)
     (record {
       by = inr (inl (record {
@@ -49,7 +51,8 @@ returns-in_err-outcome-clause-later g c =
 
 pub returns-in-Ok-clause-completed : goal.returns-in-Ok-clause-completed
 returns-in-Ok-clause-completed g c =
-    let listed = rw c.as_bytes-name.ensures at c.in_ok-peer.ensures.listed in
+    let found = rw c.as_bytes-name.ensures at c.in_ok-peer.ensures.listed in
+    let listed = found.0 in
     record {
       between = c.taken.new.repo;
       stood = _;
@@ -58,17 +61,19 @@ returns-in-Ok-clause-completed g c =
         peer = c.in_ok-peer.peer;
         prepared = c.in_ok-peer.prepared;
         listed = listed;
-        taken = c.in_ok-outcome.ensures.taken _ (was-listed _ _ _ _ _ _ listed);
+        taken = (c.in_ok-outcome.ensures.taken _ (was-listed _ _ _ _ _ _ listed)).0;
         same_left = c.in_ok-outcome.ensures.left;
         same_addresses = c.in_ok-outcome.ensures.addresses;
         same_closure = refl;
       };
       finished = rw (c.as_bytes-name.ensures, c.section_left-section.ensures, c.object_hash-before.ensures.hash, c.object_hash.ensures.hash) at c.in-Ok.ensures.ok;
+      questions = heeded-on _ _ _ _ _ _ found.1 (c.in_ok-outcome.ensures.taken _ (was-listed _ _ _ _ _ _ listed)).1;
     }
 
 pub returns-in-Err-clause-refused : goal.returns-in-Err-clause-refused
 returns-in-Err-clause-refused g c =
-    let listed = rw c.as_bytes-name.ensures at c.in_ok-peer.ensures.listed in
+    let found = rw c.as_bytes-name.ensures at c.in_ok-peer.ensures.listed in
+    let listed = found.0 in
     record {
       by = inr (inr (record {
         between = c.taken.new.repo;
@@ -79,7 +84,7 @@ returns-in-Err-clause-refused g c =
           peer = c.in_ok-peer.peer;
           prepared = c.in_ok-peer.prepared;
           listed = listed;
-          taken = c.in_ok-outcome.ensures.taken _ (was-listed _ _ _ _ _ _ listed);
+          taken = (c.in_ok-outcome.ensures.taken _ (was-listed _ _ _ _ _ _ listed)).0;
           same_left = c.in_ok-outcome.ensures.left;
           same_addresses = c.in_ok-outcome.ensures.addresses;
           same_closure = refl;

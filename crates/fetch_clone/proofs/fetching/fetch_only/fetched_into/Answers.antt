@@ -2,6 +2,8 @@ use Rattle.std.proofs.Common.{refl, ◌∙◌, inl, inr}
 use Rattle.std.proofs.lemmas.Result.{err_from_is_err_and, IfErr-weaker, IfOk-weaker, on_ok_weaker}
 use Rattle.fetch_clone.specs.Counted.{meters, tree_meters}
 use Rattle.fetch_clone.proofs.Counted.{counted-later, later-then}
+use Rattle.fetch_clone.proofs.Heeded.{heeded-behind, says-at}
+use Rattle.fetch_clone.proofs.Targeting.{heeds-ahead}
 use Rattle.fetch_clone.proofs.fetching.fetch_only.fetched_into.Goals as goal
 
 pub returns-in_err-saved-clause-refused : goal.returns-in_err-saved-clause-refused
@@ -12,14 +14,14 @@ returns-in_err-saved-clause-refused g c =
 pub returns-clause-cloned : goal.returns-clause-cloned
 returns-clause-cloned g c =
     IfOk-weaker c.completed.result _ _
-    (λ outcome h. record { saved = c.in_ok-saved.saved; asked = c.save.new.repo; between = _; written = _; is_saved = c.in_ok-saved.ensures.saved; completed = h })
+    (λ outcome h. record { saved = c.in_ok-saved.saved; asked = c.save.new.repo; between = _; written = _; is_saved = c.in_ok-saved.ensures.saved.0; listing = record { heeds = heeds-ahead _ _ _ _ _ _ _ _ _ _ _ (says-at _ _ _ _ h.questions) c.in_ok-saved.ensures.saved.1.heeds }; completed = record { between = h.between; stood = h.stood; fetched = h.fetched; finished = h.finished; questions = heeded-behind _ _ _ _ _ c.in_ok-saved.ensures.questions h.questions } })
     c.completed.ensures.completed
 
 pub returns-clause-refused : goal.returns-clause-refused
 returns-clause-refused g c =
     let refused = rw c.save.ensures.may_fail at c.completed.ensures.refused in
     IfErr-weaker c.completed.result _ _
-    (λ e h. record { by = inr (record { saved = c.in_ok-saved.saved; asked = c.save.new.repo; between = _; written = _; failed = g.C.Connect.faults c.save.new.maker; earlier = (c.save.ensures.later (tree_meters (g.W.Worktrees.listing c.args.worktrees.now) (g.W.Worktrees.open_repo c.args.worktrees.now) (g.W.Worktrees.follow_symref c.args.worktrees.now))).made; is_saved = c.in_ok-saved.ensures.saved; why = h }) })
+    (λ e h. record { by = inr (record { saved = c.in_ok-saved.saved; asked = c.save.new.repo; between = _; written = _; failed = g.C.Connect.faults c.save.new.maker; earlier = (c.save.ensures.later (tree_meters (g.W.Worktrees.listing c.args.worktrees.now) (g.W.Worktrees.open_repo c.args.worktrees.now) (g.W.Worktrees.follow_symref c.args.worktrees.now))).made; is_saved = c.in_ok-saved.ensures.saved.0; why = h }) })
     refused
 
 pub returns-clause-counted : goal.returns-clause-counted

@@ -3,6 +3,7 @@ use Rattle.std.proofs.lemmas.Result.{err_from_is_err_and, IfErr-weaker, IfOk-wea
 use Rattle.fetch_store.specs.Faults.{Counts-then}
 use Rattle.fetch_remote.specs.Connecting.{out_after}
 use Rattle.fetch_clone.proofs.Counted.{conflict-quiet}
+use Rattle.fetch_clone.proofs.Heeded.{heeded-behind}
 use Rattle.fetch_clone.proofs.fetching.listing.listed.Goals as goal
 
 pub returns-in_err-place-clause-refused : goal.returns-in_err-place-clause-refused
@@ -22,12 +23,14 @@ returns-in_err-peer-clause-refused g c =
 
 pub returns-in-Ok-clause-listed : goal.returns-in-Ok-clause-listed
 returns-in-Ok-clause-listed g c =
-    rw c.in-Ok.ensures.kept
-    (record {
-      with_head = true;
-      first = c.in_ok-peer.peer;
-      by = (c.in_ok-peer.ensures.reached, record { options = c.in_ok-options.options; asks = rw (c.as_bytes.ensures, c.in_ok-place.ensures) at c.in_ok-options.ensures; listed = c.in-Ok.ensures.listed; usual = c.in-Ok.ensures.usual });
-    })
+    rw c.in-Ok.ensures.kept (
+      (record {
+        with_head = true;
+        first = c.in_ok-peer.peer;
+        by = (c.in_ok-peer.ensures.reached, record { options = c.in_ok-options.options; asks = rw (c.as_bytes.ensures, c.in_ok-place.ensures) at c.in_ok-options.ensures; listed = c.in-Ok.ensures.listed; usual = c.in-Ok.ensures.usual });
+      }),
+      c.in-Ok.ensures.heeded,
+    )
 
 pub returns-clause-refused : goal.returns-clause-refused
 returns-clause-refused g c =
@@ -50,28 +53,31 @@ returns-clause-refused g c =
 pub returns-then-is_head_conflict-clause-listed : goal.returns-then-is_head_conflict-clause-listed
 returns-then-is_head_conflict-clause-listed g c =
     IfOk-weaker c.listed_again.result _ _
-    (λ found h. record {
-      with_head = false;
-      first = h.first;
-      by = (
-        _,
-        record {
-          cause = c.in-Err.e;
-          conflict = rw (c.as_bytes-in-Err.ensures, c.in_ok-place.ensures) at (sym c.is_head_conflict.ensures ∙ c.if-is_head_conflict.true);
-          broke = record {
-            between = _;
-            peer = c.in_ok-peer.peer;
-            reached = c.in_ok-peer.ensures.reached;
-            last = c.in-Err.ensures.broke.0;
-            broke = record { options = c.in_ok-options.options; asks = rw (c.as_bytes.ensures, c.in_ok-place.ensures) at c.in_ok-options.ensures; broke = c.in-Err.ensures.broke.1 };
-            returned = record { given = c.in-Err.ensures.broke.2; same_left = c.in-Err.ensures.left; same_addresses = c.in-Err.ensures.addresses; same_closure = refl };
-          };
-        },
-        record { next = h.made; at = h.at; kept = h.kept },
-        h.lists,
-        refl,
-      );
-    })
+    (λ found h. (
+      (record {
+        with_head = false;
+        first = h.0.first;
+        by = (
+          _,
+          record {
+            cause = c.in-Err.e;
+            conflict = rw (c.as_bytes-in-Err.ensures, c.in_ok-place.ensures) at (sym c.is_head_conflict.ensures ∙ c.if-is_head_conflict.true);
+            broke = record {
+              between = _;
+              peer = c.in_ok-peer.peer;
+              reached = c.in_ok-peer.ensures.reached;
+              last = c.in-Err.ensures.broke.0;
+              broke = record { options = c.in_ok-options.options; asks = rw (c.as_bytes.ensures, c.in_ok-place.ensures) at c.in_ok-options.ensures; broke = c.in-Err.ensures.broke.1 };
+              returned = record { given = c.in-Err.ensures.broke.2; same_left = c.in-Err.ensures.left; same_addresses = c.in-Err.ensures.addresses; same_closure = refl };
+            };
+          },
+          record { next = h.0.made; at = h.0.at; kept = h.0.kept },
+          h.0.lists,
+          refl,
+        );
+      }),
+      heeded-behind _ _ _ _ _ (c.in-Err.ensures.noes (conflict-quiet (Unit {0}) _ c.in-Err.e (sym c.is_head_conflict.ensures ∙ c.if-is_head_conflict.true))) h.1,
+    ))
     c.listed_again.ensures.listed
 
 pub returns-then-is_head_conflict-clause-refused : goal.returns-then-is_head_conflict-clause-refused

@@ -20,14 +20,16 @@ returns-in_err-peer-clause-refused g c =
 
 pub returns-in-Ok-clause-listed : goal.returns-in-Ok-clause-listed
 returns-in-Ok-clause-listed g c =
-    rw c.in-Ok.ensures.kept
-    (record {
-      first = c.in_ok-peer.peer;
-      made = c.in_ok-peer.ensures.left;
-      at = c.in_ok-peer.ensures.address;
-      kept = c.in_ok-peer.ensures.taken;
-      lists = record { options = c.in_ok-options.options; asks = rw (c.as_bytes.ensures, c.in_ok-place.ensures) at c.in_ok-options.ensures; listed = c.in-Ok.ensures.listed; usual = c.in-Ok.ensures.usual };
-    })
+    rw c.in-Ok.ensures.kept (
+      (record {
+        first = c.in_ok-peer.peer;
+        made = c.in_ok-peer.ensures.left;
+        at = c.in_ok-peer.ensures.address;
+        kept = c.in_ok-peer.ensures.taken;
+        lists = record { options = c.in_ok-options.options; asks = rw (c.as_bytes.ensures, c.in_ok-place.ensures) at c.in_ok-options.ensures; listed = c.in-Ok.ensures.listed; usual = c.in-Ok.ensures.usual };
+      }),
+      c.in-Ok.ensures.heeded,
+    )
 
 pub returns-clause-refused : goal.returns-clause-refused
 returns-clause-refused g c =

@@ -44,11 +44,13 @@ returns-in_err-target-clause-refused g c =
     rw (p.1, p.2) (record { by = inr (inr (record { state = c.override_with.ensures.state; overridden = c.in_ok-override_with.ensures.ok; accepted = rw c.config.ensures at c.in_ok-name.ensures.accepted; why = c.in_err-target.ensures.refused })) })
 
 pub returns-clause-named : goal.returns-clause-named
-returns-clause-named g c =
-    record {
-      state = c.override_with.ensures.state;
-      overridden = c.in_ok-override_with.ensures.ok;
-      called = rw c.config.ensures at c.in_ok-name.ensures.name;
-      accepted = rw c.in_ok-name.ensures.name c.in_ok-name.ensures.accepted;
-      targeted = c.in_ok-target.ensures.target;
-    }
+returns-clause-named g c = (
+  record {
+    state = c.override_with.ensures.state;
+    overridden = c.in_ok-override_with.ensures.ok;
+    called = rw c.config.ensures at c.in_ok-name.ensures.name;
+    accepted = rw c.in_ok-name.ensures.name c.in_ok-name.ensures.accepted;
+    targeted = c.in_ok-target.ensures.target.0;
+  },
+  c.in_ok-target.ensures.target.1,
+)

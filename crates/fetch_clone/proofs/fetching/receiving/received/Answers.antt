@@ -7,6 +7,7 @@ use Rattle.fetch_remote.specs.declared.repository.open_error.OpenError.TheVarian
 use Rattle.fetch_clone.specs.Counted.{Meters, IsCounted, meters, tree_meters}
 use Rattle.fetch_clone.specs.declared.clone.fetch.Error.TheVariants as errors
 use Rattle.fetch_clone.proofs.Answered.{is-receiving, same-error}
+use Rattle.fetch_clone.proofs.Heeded.{heeded-of}
 use Rattle.fetch_clone.proofs.Rehashed.{no-fetch, no-reopening, of-hash, resolved-in, still-listed}
 use Rattle.fetch_clone.proofs.StepsCounted.{unmapped-counted}
 use Rattle.fetch_clone.proofs.fetching.receiving.received.Goals as goal
@@ -237,3 +238,6 @@ returns-in-Err-clause-follow_symref g c is =
     let e : c.from.result ≡ errors.Fetch (fetch.UpdateRefs update.FollowSymref) = cc in
     let k : c.in-Err.e ≡ fetch.UpdateRefs update.FollowSymref = is-receiving c.in-Err.e (fetch.UpdateRefs update.FollowSymref) (sym c.from.ensures ∙ e) in
     c.in-Err.ensures.follow_symref (rw k refl)
+
+pub returns-in-Ok-clause-questions : goal.returns-in-Ok-clause-questions
+returns-in-Ok-clause-questions g c = heeded-of _ _ _ _ _ _ refl c.in-Ok.ensures.questions

@@ -21,11 +21,11 @@ returns-in_err-name-clause-later g c trees = record { made = c.in_err-name.ensur
 
 pub returns-clause-saved : goal.returns-clause-saved
 returns-clause-saved g c =
-    IfOk-weaker c.save_as.result _ _ (λ saved h. record { name = c.in_ok-name.name; target = c.in_ok-name.target; named = c.in_ok-name.ensures.named; saved_as = h }) (rw c.as_ref.ensures.value at c.save_as.ensures.saved)
+    IfOk-weaker c.save_as.result _ _ (λ saved h. (record { name = c.in_ok-name.name; target = c.in_ok-name.target; named = c.in_ok-name.ensures.named.0; saved_as = h }, c.in_ok-name.ensures.named.1)) (rw c.as_ref.ensures.value at c.save_as.ensures.saved)
 
 pub returns-clause-refused : goal.returns-clause-refused
 returns-clause-refused g c =
-    IfErr-weaker c.save_as.result _ _ (λ e h. record { by = inr (record { name = c.in_ok-name.name; target = c.in_ok-name.target; named = c.in_ok-name.ensures.named; why = h }) }) (rw c.as_ref.ensures.value at c.save_as.ensures.refused)
+    IfErr-weaker c.save_as.result _ _ (λ e h. record { by = inr (record { name = c.in_ok-name.name; target = c.in_ok-name.target; named = c.in_ok-name.ensures.named.0; why = h }) }) (rw c.as_ref.ensures.value at c.save_as.ensures.refused)
 
 pub returns-clause-later : goal.returns-clause-later
 returns-clause-later g c trees = record { made = c.in_ok-name.ensures.counts; lost = c.in_ok-name.ensures.lost; yes = c.in_ok-name.ensures.asked; files = c.save_as.ensures.counts; listing = Counts-none _; open_repo = Counts-none _; follow_symref = Counts-none _ }
@@ -36,3 +36,6 @@ returns-clause-counted g c trees =
 
 pub returns-clause-uninterrupted : goal.returns-clause-uninterrupted
 returns-clause-uninterrupted g c = at-ok c.save_as.result c.in_ok-name.ensures.uninterrupted
+
+pub returns-clause-questions : goal.returns-clause-questions
+returns-clause-questions g c = at-ok c.save_as.result c.in_ok-name.ensures.questions

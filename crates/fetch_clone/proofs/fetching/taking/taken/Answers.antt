@@ -7,7 +7,7 @@ use Rattle.fetch_clone.proofs.fetching.taking.taken.Goals as goal
 pub returns-clause-taken : goal.returns-clause-taken
 returns-clause-taken g c =
     is-taken _ _ _ _ _ (g.F.Files.may_fail c.args.files.now) _ _ c.args.draft.now c.args.remote.now c.args.prepared c.args.repo.now c.received-answer.new.repo c.received-answer.new.peer _
-    c.take_back.ensures.taken c.received-answer.result c.received-answer.ensures.received
+    c.take_back.ensures.taken _ _ _ c.received-answer.result c.received-answer.ensures.questions c.received-answer.ensures.received
 
 pub returns-clause-refused : goal.returns-clause-refused
 returns-clause-refused g c =

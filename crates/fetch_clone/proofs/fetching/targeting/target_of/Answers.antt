@@ -2,6 +2,7 @@ use Rattle.std.proofs.Common.{refl, inl, inr}
 use Rattle.std.proofs.lemmas.Result.{err_from_is_err_and}
 use Rattle.std.proofs.lemmas.Bool.{false≢true}
 use Rattle.fetch_clone.proofs.Counted.{at-ok}
+use Rattle.fetch_clone.proofs.Heeded.{heeded-of, says-of}
 use Rattle.fetch_clone.proofs.Uncounted.{target-uncounted}
 use Rattle.fetch_clone.proofs.Targeting.{aimed-at, not-aimed-at, unlisted}
 use Rattle.fetch_clone.proofs.fetching.targeting.target_of.Goals as goal
@@ -27,7 +28,7 @@ returns-in_err-map-clause-refused g c =
     rw (p.1, p.2) (inr (inl (c.in_err-map.field-0.0, refl, unlisted _ (g.C.Connect.faults c.args.maker.now) (g.C.Connect.faults c.take_back.new.self) _ _ _ c.args.draft.now c.args.repo.now c.in_ok-remote.remote c.in_ok-options.options c.in_ok-peer.peer c.inquired-listed.new.peer c.in_ok-options.ensures (rw c.as_bytes.ensures at c.in_ok-remote.ensures) (rw (c.in_ok-remote.ensures, c.as_bytes.ensures) at c.in_ok-peer.ensures.reached) c.take_back.ensures.taken c.take_back.ensures.left c.take_back.ensures.addresses refl c.in_err-map.field-0.0 c.in_err-map.ensures.refused)))
 
 pub returns-clause-target : goal.returns-clause-target
-returns-clause-target g c = aimed-at _ (g.C.Connect.faults c.args.maker.now) (g.C.Connect.faults c.take_back.new.self) _ _ _ c.args.draft.now c.args.repo.now c.in_ok-remote.remote c.in_ok-options.options c.in_ok-peer.peer c.inquired-listed.new.peer c.in_ok-options.ensures (rw c.as_bytes.ensures at c.in_ok-remote.ensures) (rw (c.in_ok-remote.ensures, c.as_bytes.ensures) at c.in_ok-peer.ensures.reached) c.take_back.ensures.taken c.take_back.ensures.left c.take_back.ensures.addresses refl _ c.in_ok-map.ensures.listed c.name_aimed_at.result (rw c.ref_name.ensures at c.name_aimed_at.ensures.target)
+returns-clause-target g c = aimed-at _ (g.C.Connect.faults c.args.maker.now) (g.C.Connect.faults c.take_back.new.self) _ _ _ c.args.draft.now c.args.repo.now c.in_ok-remote.remote c.in_ok-options.options c.in_ok-peer.peer c.inquired-listed.new.peer c.in_ok-options.ensures (rw c.as_bytes.ensures at c.in_ok-remote.ensures) (rw (c.in_ok-remote.ensures, c.as_bytes.ensures) at c.in_ok-peer.ensures.reached) c.take_back.ensures.taken c.take_back.ensures.left c.take_back.ensures.addresses refl _ c.in_ok-map.ensures.listed _ _ (heeded-of _ _ _ _ _ _ refl c.in_ok-map.ensures.questions) c.name_aimed_at.result (rw c.ref_name.ensures at c.name_aimed_at.ensures.target)
 
 pub returns-clause-refused : goal.returns-clause-refused
 returns-clause-refused g c = not-aimed-at _ (g.C.Connect.faults c.args.maker.now) (g.C.Connect.faults c.take_back.new.self) _ _ _ c.args.draft.now c.args.repo.now c.in_ok-remote.remote c.in_ok-options.options c.in_ok-peer.peer c.inquired-listed.new.peer c.in_ok-options.ensures (rw c.as_bytes.ensures at c.in_ok-remote.ensures) (rw (c.in_ok-remote.ensures, c.as_bytes.ensures) at c.in_ok-peer.ensures.reached) c.take_back.ensures.taken c.take_back.ensures.left c.take_back.ensures.addresses refl _ c.in_ok-map.ensures.listed c.name_aimed_at.result (rw c.ref_name.ensures at c.name_aimed_at.ensures.refused)
@@ -44,3 +45,6 @@ returns-clause-interrupted g c is =
 
 pub returns-clause-uninterrupted : goal.returns-clause-uninterrupted
 returns-clause-uninterrupted g c = at-ok c.name_aimed_at.result c.in_ok-map.ensures.uninterrupted
+
+pub returns-clause-questions : goal.returns-clause-questions
+returns-clause-questions g c = at-ok c.name_aimed_at.result (says-of _ _ _ _ _ _ refl c.in_ok-map.ensures.questions)
