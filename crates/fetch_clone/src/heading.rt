@@ -38,6 +38,8 @@ pub(crate) struct NewConfig {
 /// `HEAD` says. A name that it leads to gets its id, and `HEAD` a line in its reflog. Where that name is a branch that the
 /// saved remote's refspecs take, the local configuration gets a section for it, and the file `config` is written anew. All
 /// memory but that of this write is taken before `HEAD` moves.
+///
+/// It has an effect, unlike the laws of other crates: after a later fetch it moves `HEAD` as a clone does.
 // Many arguments: the public signature. A clone hands in what it was asked for.
 pub fn update_head<F: Files>(
     alloc: Global,

@@ -60,6 +60,9 @@ impl From<NoMemory> for ConfigureFault {
 }
 
 /// A clone that is prepared. Dropped without success, it removes its place where that was free before.
+///
+/// Objects and references are fetched into memory; on the files come to stand the directories, `config`, and a keep file while
+/// the fetch goes on.
 pub struct PrepareFetch<F: Files + Drop, C: Connect + Drop, R: Drop, G: Drop> {
     pub(crate) files: F,
     pub(crate) maker: C,
@@ -72,8 +75,9 @@ impl<F: Files + Drop, C: Connect + Drop, R: Drop, G: Drop> PrepareFetch<F, C, R,
     /// Creates an empty repository at the place, which has to be free unless the options say otherwise, to fetch into it
     /// from the address. A refusal hands the files back.
     ///
-    /// `configure_remote` is given the remote before it is saved. Which tags it chooses is saved, but all tags are fetched,
-    /// unless the builder of that name is called or a revision is asked for.
+    /// `configure_remote` is handed the remote before it is saved, and answers it, changed or not. What it says of tags is saved,
+    /// and yet all tags are fetched, unless the builder of that name is called or a revision is asked for.
+    /// `configure_connection` is handed each peer before it is asked, but the one that lists again without the remote's `HEAD`.
     // Many arguments: the public signature. All that a clone is made of is owned by it.
     pub fn new(
         alloc: Global,
@@ -199,8 +203,10 @@ impl<F: Files + Drop, C: Connect + Drop, R: Drop, G: Drop> PrepareFetch<F, C, R,
 
     /// The same, where `HEAD` is to lead to this reference: all branches are fetched beside it. Where another depth is asked
     /// for, and no more refspecs, that reference alone is, with the remote's `HEAD` and the tags; a connection more tells which
-    /// one is meant. It takes the place of a revision; None takes back a reference alone. Where the name is none, the clone is
-    /// handed back as it was.
+    /// one is meant. For one commit without tags take `with_revision`.
+    ///
+    /// It takes the place of a revision; None takes back a reference alone. Where the name is none, the clone is handed back as
+    /// it was.
     pub fn with_ref_name(self, name: Option<&[u8]>) -> Result<Self, (Self, NameError)>
         ensures ok { IfOk result (λ p. p ≡ record self { draft = with_choices self.draft (with_wanted self.draft.choices (ref_name_chosen self.draft.choices.wanted (option_copied name.entry))) }) }
         ensures verdict { RefNameVerdict (option_copied name.entry) result }
@@ -214,8 +220,11 @@ impl<F: Files + Drop, C: Connect + Drop, R: Drop, G: Drop> PrepareFetch<F, C, R,
         }
     }
 
-    /// The same, where this revision alone is fetched, at any depth, without branches and tags: `HEAD` takes its commit. It
-    /// takes the place of a reference; None takes back a revision alone. Where the text names none, the clone is handed back
+    /// The same, where this revision alone is fetched, at any depth, without branches and tags, and the saved remote has no
+    /// refspecs: `HEAD` takes its commit. One connection is made: it is the call for a dependency at a tag (`refs/tags/..`) or an
+    /// id. A server may refuse an id that it doesn't list.
+    ///
+    /// It takes the place of a reference; None takes back a revision alone. Where the text names none, the clone is handed back
     /// as it was.
     pub fn with_revision(
         self,
