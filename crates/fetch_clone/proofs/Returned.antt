@@ -1,5 +1,5 @@
 -- A peer that is taken back counts as lost where it failed.
-use Rattle.std.proofs.Common.{◌≡◌, ◌≤◌, ◌+◌, ℕ, Bool, true, false, refl, sym, arith, eqb-true}
+use Rattle.std.proofs.Common.{◌≡◌, ◌≤◌, ◌+◌, Bool, true, false, refl, arith, eqb-true}
 use Rattle.std.specs.Prelude.{◌==◌, if◌then◌else◌}
 use Rattle.fetch_store.specs.Faults.{Faults, Rose}
 use Rattle.fetch_remote.specs.Connecting.{with_lost}

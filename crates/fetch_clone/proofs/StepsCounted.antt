@@ -1,6 +1,6 @@
 -- Of each step, the refusals that have a count come only where it rose.
 use Rattle.std.proofs.Common.{◌≡◌, ℕ, Bool, true, List, inl, inr, Option, Some, None, Result, Ok, Err, refl, sym, ap, subst, ◌∙◌}
-use Rattle.std.specs.Prelude.{◌⊎◌, IfErr}
+use Rattle.std.specs.Prelude.{IfErr}
 use Rattle.fetch_config.specs.Contents.{Contents}
 use Rattle.fetch_store.specs.Faults.{Faults, Counts, Rose, Rose-earlier}
 use Rattle.fetch_store.specs.Trees.{Tree}

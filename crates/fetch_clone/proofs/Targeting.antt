@@ -1,5 +1,5 @@
 -- What a first connection lists, and what it aims at.
-use Rattle.std.proofs.Common.{◌≡◌, ℕ, Bool, true, false, List, Option, Some, None, Result, Ok, Err, refl, sym, subst, inl, inr}
+use Rattle.std.proofs.Common.{◌≡◌, ℕ, Bool, true, false, List, Option, Some, None, Result, Ok, Err, refl, sym, subst, inr}
 use Rattle.std.specs.Prelude.{IfErr, IfOk}
 use Rattle.fetch_store.specs.Faults.{Faults}
 use Rattle.fetch_conversation.specs.ListStage.{ListedValue}
@@ -13,7 +13,7 @@ use Rattle.fetch_remote.specs.Steps.{HasInquired, IsUninquired}
 use Rattle.fetch_clone.specs.Heading.{aim_of}
 use Rattle.fetch_clone.specs.Heeded.{IsHeededOver, SaysNo}
 use Rattle.fetch_clone.specs.Reached.{Ways, Line, IsReached}
-use Rattle.fetch_clone.specs.Stages.{listing, lists_first, ref_name_of}
+use Rattle.fetch_clone.specs.Stages.{lists_first, ref_name_of}
 use Rattle.fetch_clone.specs.Targets.{Aims, AreFirstOptions, HasListedFirst, HasNoTarget, HasTarget, HasTargetBy, HeedsBy, HeedsFirst, IsAimedAt, IsAsked, IsUnaimedBy, IsUnlisted, IsUntargeted, bare}
 use Rattle.fetch_clone.specs.declared.clone.fetch.Error.{Error}
 use Rattle.fetch_clone.specs.declared.draft.Draft.{Draft}

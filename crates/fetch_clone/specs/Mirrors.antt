@@ -1,5 +1,5 @@
 -- A remote's section is written into the file `config` of a repository.
-use Rattle.std.specs.Prelude.{◌≡◌, ◌⊎◌, ℕ, Bool, List, [], Option, Some, None, ⊤, Result, Ok, Err}
+use Rattle.std.specs.Prelude.{◌≡◌, ◌⊎◌, ℕ, Bool, List, [], Option, ⊤, Ok, Err}
 use Rattle.fetch_store.specs.FileCalls.{IsRefused}
 use Rattle.fetch_store.specs.Paths.{parts_of as parts_of_path}
 use Rattle.fetch_store.specs.Trees.{Tree, read_in, written}

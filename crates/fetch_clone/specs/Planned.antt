@@ -1,5 +1,5 @@
 -- The remote that a clone fetches by, as it is to be saved.
-use Rattle.std.specs.Prelude.{◌≡◌, ◌⊎◌, ℕ, Bool, not, List, [], ◌∷◌, ◌++◌, find, Option, Some, None, ⊤, Result, Ok, Err}
+use Rattle.std.specs.Prelude.{◌≡◌, ◌⊎◌, ℕ, not, List, [], ◌∷◌, ◌++◌, find, Option, Some, None, ⊤, Result, Ok, Err}
 use Rattle.fetch_store.specs.Faults.{Faults}
 use Rattle.fetch_specs.specs.Parses.{parsed}
 use Rattle.fetch_specs.specs.Specs.{Spec}
@@ -8,7 +8,7 @@ use Rattle.fetch_specs.specs.declared.tags.Tags.TheVariants as tags
 use Rattle.fetch_lookup.specs.Names.{IsNameRefusal, name_refusal}
 use Rattle.fetch_remote.specs.Overriding.{overridden}
 use Rattle.fetch_remote.specs.Remotes.{RemoteValue, nameless}
-use Rattle.fetch_remote.specs.RepositoryValues.{RepositoryValue, Setup, is_override}
+use Rattle.fetch_remote.specs.RepositoryValues.{RepositoryValue, is_override}
 use Rattle.fetch_clone.specs.Reached.{Ways, Line}
 use Rattle.fetch_clone.specs.Stages.{remote_name}
 use Rattle.fetch_clone.specs.Targets.{HasTarget, HasNoTarget}

@@ -1,5 +1,5 @@
 -- What a clone's peer listed is fetched, and the peer is taken back.
-use Rattle.std.specs.Prelude.{◌≡◌, ◌⊎◌, ℕ, Bool, true, false, List, ◌++◌, codes, Option, Some, None, is_some, ⊤, Result, Ok, Err}
+use Rattle.std.specs.Prelude.{◌≡◌, ◌⊎◌, ℕ, Bool, true, false, List, ◌++◌, codes, Option, Some, None, is_some, ⊤, Ok, Err}
 use Rattle.fetch_store.specs.FileCalls.{IsRefused as IsBlocked}
 use Rattle.fetch_store.specs.Trees.{Tree}
 use Rattle.fetch_update.specs.declared.message.RefLogMessage.TheVariants.{Override}

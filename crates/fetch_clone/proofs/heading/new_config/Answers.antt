@@ -1,4 +1,3 @@
-use Rattle.std.proofs.Common.{◌∙◌}
 use Rattle.fetch_clone.proofs.heading.new_config.Goals as goal
 
 pub returns-clause-ready : goal.returns-clause-ready

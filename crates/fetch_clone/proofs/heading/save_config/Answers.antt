@@ -1,4 +1,4 @@
-use Rattle.std.proofs.Common.{Some, refl, sym, ap, ◌∙◌}
+use Rattle.std.proofs.Common.{Some, sym, ap, ◌∙◌}
 use Rattle.fetch_remote.specs.RepositoryValues.{Setup}
 use Rattle.fetch_remote.specs.Repositories.{setup_of}
 use Rattle.fetch_clone.proofs.Headed.{written-anew}

@@ -1,5 +1,4 @@
-use Rattle.std.proofs.Common.{refl, ap, ◌∙◌}
-use Rattle.fetch_remote.specs.Paths.{config_path}
+use Rattle.std.proofs.Common.{refl, ◌∙◌}
 use Rattle.fetch_remote.proofs.Deletions.{text_kept}
 use Rattle.fetch_clone.proofs.Headed.{written-anew}
 use Rattle.fetch_clone.proofs.heading.write_local.Goals as goal

@@ -1,4 +1,4 @@
-use Rattle.std.proofs.Common.{◌≡◌, Ok, Err, subst}
+use Rattle.std.proofs.Common.{◌≡◌, Err, subst}
 use denote.Param.Members.{Called}
 use Rattle.fetch_clone.specs.declared.prepare_fetch.ConfigureFault.TheVariants as faults
 use Rattle.fetch_clone.proofs.fetching.planning.chosen.Goals as goal
