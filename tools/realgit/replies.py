@@ -1,0 +1,202 @@
+"""Replies of real `git upload-pack` and of the engine's server to the same request, and where the two differ.
+
+Each reason is named by its title in docs/DIFFERENCES.md.
+"""
+
+from dataclasses import dataclass, field
+
+from realgit.linking import links_of, reached, tags_from
+from realgit.lines import MalformedLine, Mark, placed_lines, text_of
+from realgit.plainpack import MalformedPack, Object, read_pack, write_pack
+from realgit.served import Fetch
+
+CHAIN = "A chain of names"
+NOT_OFFERED = "A want that isn't offered"
+READY = "An end of the rounds"
+NO_HAVES = "A request without haves"
+EMPTY_INFO = "An empty `shallow-info`"
+AGAIN = "Objects that come again"
+REASONS = (CHAIN, NOT_OFFERED, READY, NO_HAVES, EMPTY_INFO, AGAIN)
+ACKNOWLEDGED, SHALLOW, PACK, LAST = "acknowledgments", "shallow-info", "packfile", "ready"
+NONE = "NAK"
+PACK_WORDS = (b"plain-pack", b"plain-pack-2")
+
+
+@dataclass
+class Reply:
+    """What a reply to a fetch request says. What isn't there is None; `error` is the text of a refusal.
+
+    `is_whole` says whether it ends where its grammar lets it, and `pack` is the text of the pack.
+    """
+
+    error: str | None = None
+    acknowledged: list[str] | None = None
+    is_ready: bool = False
+    border: list[str] | None = None
+    pack: bytes | None = None
+    is_whole: bool = False
+
+
+@dataclass
+class Asked:
+    """A fetch request with the repository's objects, the ids that it offers, and the client's objects."""
+
+    request: Fetch
+    stored: dict[str, Object]
+    offered: set[str]
+    client: dict[str, Object] = field(default_factory=dict)
+
+    def known(self):
+        """The haves that are stored, in the order of the request."""
+        return [digits for digits in self.request.haves if digits in self.stored]
+
+    def held(self):
+        """What the client has by what it told."""
+        return reached(self.stored, self.known(), self.request.border)
+
+
+def read_reply(said):
+    """The reply that bytes are."""
+    reply, part = Reply(), None
+    for _, line in placed_lines(said):
+        if isinstance(line, Mark):
+            reply.is_whole, part = line is Mark.FLUSH, None
+        elif part == PACK:
+            reply.pack += line[1:] if line[:1] == b"\1" else b""
+        elif part is None:
+            part = _begin(reply, text_of(line))
+        elif part == SHALLOW:
+            reply.border.append(text_of(line))
+        elif text_of(line) == LAST:
+            reply.is_ready = True
+        elif text_of(line) != NONE:
+            reply.acknowledged.append(text_of(line))
+    return reply
+
+
+def _begin(reply, text):
+    """The part that a line begins."""
+    if text == ACKNOWLEDGED:
+        reply.acknowledged = []
+    elif text == SHALLOW:
+        reply.border = []
+    elif text == PACK:
+        reply.pack = b""
+    else:
+        reply.error = text
+    return text
+
+
+def greetings(real, ours):
+    """Where a greeting differs from that of Git, which may offer more."""
+    (version, *lines, flush), (first, *offers, last) = ([line for _, line in placed_lines(said)] for said in (real, ours))
+    offered = dict(map(_offer, lines))
+    more = [key for key, words in map(_offer, offers) if not words <= offered.get(key, set())]
+    if more or (version, flush) != (first, last):
+        yield f"the greeting: Git has {real}, the server {ours}", None
+
+
+def _offer(line):
+    """What a line of a greeting offers: a key, and the words of its value."""
+    key, _, value = line.removesuffix(b"\n").partition(b"=")
+    return key, set(value.split(b" "))
+
+
+def listings(real, ours, references):
+    """Where two listings differ, line by line."""
+    if real == ours:
+        return
+    real, ours = ([line for _, line in placed_lines(said)] for said in (real, ours))
+    if len(real) != len(ours):
+        yield f"the listing: Git has {real}, the server {ours}", None
+        return
+    for one, other in zip(real, ours):
+        if one != other:
+            reason = CHAIN if _is_chain(one, other, references) else None
+            yield f"a line of the listing: Git has {one}, the server {other}", reason
+
+
+def _is_chain(real, ours, references):
+    """Whether two lines are those of a reference that names another, which the second one tells, and leads on to a third."""
+    if isinstance(real, Mark) or isinstance(ours, Mark):
+        return False
+    words, others = (each.removesuffix(b"\n").split(b" ") for each in (real, ours))
+    name, way = words[1].decode(), []
+    while references.get(name, "").startswith("@"):
+        name = references[name][1:]
+        way.append(name)
+    told = [b"symref-target:" + each.encode() for each in way]
+    return len(way) > 1 and told[-1] in words and [told[0] if word == told[-1] else word for word in words] == others
+
+
+def fetches(real, ours, asked):
+    """Where two replies to a fetch request differ, and what isn't right in that of the engine's server."""
+    try:
+        theirs, reply = read_reply(real), read_reply(ours)
+    except MalformedLine as error:
+        yield f"a line at {error} that is none", None
+        return
+    if reply.error is not None or theirs.error is not None:
+        yield from _errors(theirs, reply, asked)
+        return
+    if not reply.is_whole:
+        yield "a reply without its flush", None
+    yield from _parts(theirs, reply, asked)
+    if asked.request.done:
+        yield from _packs(theirs, reply, asked)
+
+
+def _errors(theirs, reply, asked):
+    """The first want that isn't offered is told. Git serves what is stored."""
+    first = next((digits for digits in asked.request.wants if digits not in asked.offered), None)
+    is_served = theirs.error is None and first in asked.stored
+    is_refused = theirs.error is not None and "not our ref" in theirs.error
+    is_told = reply.error == f"ERR want {first} not offered" and (is_served or is_refused)
+    yield f"a want: Git has {theirs.error or 'a reply'}, the server {reply.error}", NOT_OFFERED if is_told else None
+
+
+def _parts(theirs, reply, asked):
+    """Where the parts before the packs differ."""
+    request = asked.request
+    if theirs.border == [] and reply.border is None and request.border:
+        yield "Git writes an empty shallow-info", EMPTY_INFO
+    elif theirs.border != reply.border:
+        yield f"shallow-info: Git has {theirs.border}, the server {reply.border}", None
+    if reply.is_ready or (reply.pack is None) == request.done or (reply.acknowledged is None) != request.done:
+        yield f"parts that weren't asked for: {reply}", None
+    if theirs.acknowledged is None and not request.done and not request.haves:
+        yield "Git sends the pack at once", NO_HAVES
+    elif theirs.acknowledged != reply.acknowledged:
+        yield f"acknowledgments: Git has {theirs.acknowledged}, the server {reply.acknowledged}", None
+    if theirs.is_ready and not request.done:
+        yield "Git is ready, and sends the pack", READY
+
+
+def _packs(theirs, reply, asked):
+    """Where the objects of two packs differ, and what the client lacks behind that of the engine's server."""
+    version, hash_name = PACK_WORDS.index(asked.request.version.encode()) + 1, asked.request.hash_name
+    try:
+        sent = {each.id: each for each in read_pack(reply.pack, hash_name)}
+        real = {each.id for each in read_pack(theirs.pack, hash_name)}
+    except MalformedPack as error:
+        yield f"a pack that is malformed at {error}", None
+        return
+    if write_pack([sent[digits] for digits in sorted(sent)], version, hash_name) != reply.pack:
+        yield "a pack that isn't its objects, each once, by ascending id", None
+    stored = asked.client | sent
+    lacking = reached(stored, [*asked.request.wants, *sent], asked.request.border) - stored.keys()
+    if lacking:
+        yield f"the client lacks {sorted(lacking)}", None
+    if sent.keys() - real:
+        yield f"sent by the server alone: {sorted(sent.keys() - real)}", None
+    if real - sent.keys():
+        more = real - sent.keys() - (asked.held() | _tags_of(asked, real))
+        yield f"sent by Git alone: {sorted(real - sent.keys())}", None if more else AGAIN
+
+
+def _tags_of(asked, real):
+    """The tags that come along with what the client has."""
+    if not asked.request.include_tag:
+        return set()
+    ways = [tags_from(asked.stored, digits) for digits in asked.offered]
+    return {digits for way in ways if way[-1] in real & asked.held() for digits in way}

@@ -1,0 +1,111 @@
+"""Where replies of real Git and of the engine's server differ, and the rows that ask the engine's server."""
+
+import os
+import tempfile
+import unittest
+from random import Random
+
+from common import TOOLS
+from realgit.lines import Mark, encoded
+from realgit.linking import links_of, reached
+from realgit.plainpack import write_pack
+from realgit.replies import AGAIN, CHAIN, NO_HAVES, NOT_OFFERED, READY, REASONS, Asked, fetches, greetings, listings
+from realgit.rowserver import escaped, row_of
+from realgit.served import Fetch, Growth, Maker
+from realgit.trouble import read_file
+
+
+def said(*lines):
+    """Lines with a flush."""
+    return b"".join(map(encoded, [*lines, Mark.FLUSH]))
+
+
+class Replies(unittest.TestCase):
+    """A line of two commits, of which the client has the first one, with another object that nothing leads to."""
+
+    def setUp(self):
+        self.growth = Growth(Random("checks"), "sha1")
+        self.first = self.growth.commit([])
+        self.old = set(self.growth.objects)
+        self.second = self.growth.commit([self.first])
+        self.new = reached(self.growth.objects, [self.second]) - self.old
+        self.other = self.growth.add("blob", b"other")
+
+    def asked(self, haves=True, done=True, wants=None):
+        stored, held = self.growth.objects, self.old if haves else set()
+        request = Fetch("sha1", "plain-pack-2", False, [], [wants or self.second], [self.first] if haves else [], done)
+        return Asked(request, stored, {self.second}, {digits: stored[digits] for digits in held})
+
+    def pack(self, ids):
+        return said(b"packfile\n", b"\1" + write_pack([self.growth.objects[digits] for digits in sorted(ids)], 2, "sha1"))
+
+    def reasons(self, real, ours, asked=None):
+        return [reason for _, reason in fetches(real, ours, asked or self.asked())]
+
+    def test_a_pack_is_compared_by_its_objects(self):
+        right = self.pack(self.new)
+        self.assertEqual(self.reasons(right, right), [])
+        self.assertEqual(self.reasons(self.pack(self.new | self.old), right), [AGAIN])
+        for ours in (self.new - {self.second}, self.new | {self.other}):
+            self.assertIn(None, self.reasons(right, self.pack(ours)))
+        self.assertEqual(self.reasons(self.pack(self.new | {self.other}), right), [None])
+
+    def test_a_pack_is_its_objects_by_ascending_id(self):
+        twice = self.pack([*self.new, self.second])
+        self.assertEqual(self.reasons(self.pack(self.new), twice), [None])
+
+    def test_acknowledgments(self):
+        known, none = (said(b"acknowledgments\n", line) for line in (f"ACK {self.first}\n".encode(), b"NAK\n"))
+        asked = self.asked(done=False)
+        self.assertEqual(self.reasons(known, known, asked), [])
+        self.assertEqual(self.reasons(known, none, asked), [None])
+        ready = known.removesuffix(b"0000") + b"000aready\n0001" + self.pack(self.new)
+        self.assertEqual(self.reasons(ready, known, asked), [READY])
+        self.assertEqual(self.reasons(self.pack(self.new), none, self.asked(haves=False, done=False)), [NO_HAVES])
+
+    def test_wants(self):
+        refused = said(f"ERR want {self.other} not offered\n".encode()).removesuffix(b"0000")
+        self.assertEqual(self.reasons(self.pack([self.other]), refused, self.asked(wants=self.other)), [NOT_OFFERED])
+        self.assertEqual(self.reasons(self.pack(self.new), refused), [None])
+
+    def test_listings_and_greetings(self):
+        direct, last, own = (said(f"{self.first} HEAD{each}\n".encode()) for each in (
+            "", " symref-target:refs/heads/main", " symref-target:refs/heads/alias"))
+        references = {"HEAD": "@refs/heads/alias", "refs/heads/alias": "@refs/heads/main", "refs/heads/main": self.first}
+        self.assertEqual([reason for _, reason in listings(last, own, references)], [CHAIN])
+        for ours in (direct, said()):
+            self.assertIn(None, [reason for _, reason in listings(last, ours, references)])
+        more, less = said(b"version 2\n", b"agent=git\n", b"fetch=shallow filter\n"), said(b"version 2\n", b"fetch=shallow\n")
+        self.assertEqual((list(greetings(more, less)), [reason for _, reason in greetings(less, more)]), ([], [None]))
+
+    def test_reasons_are_titles_of_the_documents(self):
+        text = read_file(os.path.join(TOOLS, "..", "docs", "DIFFERENCES.md")).decode()
+        for title in REASONS:
+            self.assertIn(f"**{title}**", text)
+
+
+class Made(unittest.TestCase):
+    def test_a_seed_makes_one_repository(self):
+        rows = []
+        for _ in range(2):
+            with tempfile.TemporaryDirectory() as folder:
+                maker = Maker(os.path.join(folder, "server.git"), "checks")
+                made = maker.make()
+                asked = maker.requests(maker.client(True))
+                rows.append(sorted(row_of(made, [each.lines() for each in asked]).split(b"\n")))
+        self.assertEqual(*rows)
+        self.assertIn(b"= serve a repository", rows[0])
+
+    def test_what_is_made_is_closed(self):
+        growth = Growth(Random("closed"), "sha256")
+        for _ in range(20):
+            growth.commit(growth.commits[-2:])
+        growth.tag("v1", growth.some("tree"))
+        self.assertEqual({link for each in growth.objects.values() for link in links_of(each)} - growth.objects.keys(), set())
+
+    def test_bytes_of_a_row(self):
+        self.assertEqual(escaped(b"a b%\n\0\xff"), b"a b%25%0A%00%FF")
+
+
+if __name__ == "__main__":
+    unittest.main()
