@@ -9,7 +9,7 @@ use Rattle.fetch_conversation.specs.ReadSettings.{algorithm_of_config, algorithm
 use Rattle.fetch_mirror.specs.Settings.{IsRead, config_from, config_text, own_meta}
 
 -- its one section
-abbrev section : Section
+abbrev pub section : Section
 section = record { name = codes "fetch"; sub = None; meta = own_meta; entries = (codes "negotiationAlgorithm", Some (codes "noop")) ∷ [] }
 
 pub one_section : sections_of own_meta config_text ≡ section ∷ []

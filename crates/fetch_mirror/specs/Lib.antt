@@ -3,3 +3,12 @@ pub mod GoingAlong
 pub mod Pairs
 pub mod Settings
 pub mod Shares
+pub mod Listings
+pub mod Fetches
+pub mod Workers
+pub mod Lent
+pub mod Opening
+pub mod Naming
+pub mod Mirroring
+pub mod Born
+pub mod Copying

@@ -1,28 +1,39 @@
 //! What holds of conversations with servers whose replies depend on all that was heard before, and of shares. Each law is a
 //! function without a body: its clauses are proved.
 
-ghost use Rattle.std.specs.Prelude.{◌≡◌, ◌↔◌, ◌++◌, ◌<◌, ℕ, None, sum_by, Bool, false, List, [], map, Option, Some, Result, Ok, Err, IsTrue};
+ghost use Rattle.std.specs.Prelude.{◌≡◌, ◌↔◌, ◌++◌, ◌<◌, ℕ, None, sum_by, Bool, false, List, [], map, Option, Some, Result, Ok, Err, IsTrue, ◌∷◌, ◌≤◌, true, codes, slice_get};
 ghost use Rattle.std.specs.List.{Contains};
+ghost use Rattle.std.specs.Option.{option_or};
 ghost use Rattle.fetch_store.specs.declared.id.Kind.{Kind};
+ghost use Rattle.fetch_store.specs.declared.id.ObjectId.{ObjectId};
 ghost use Rattle.fetch_specs.specs.Matches.{mappings_of};
 ghost use Rattle.fetch_specs.specs.Names.{is_full_name};
 ghost use Rattle.fetch_specs.specs.Parses.{parsed};
+ghost use Rattle.fetch_specs.specs.Prefixes.{prefixes_of};
 ghost use Rattle.fetch_specs.specs.declared.found.Match.{Match};
 ghost use Rattle.fetch_specs.specs.declared.operation.Operation.TheVariants.{Fetch};
-ghost use Rattle.fetch_wire.specs.Talks.{Talk, IsFront};
-ghost use Rattle.fetch_wire.specs.Written.{first_too_long, lines_text};
-ghost use Rattle.fetch_wire.specs.declared.lines.line.Line.{Line};
-ghost use Rattle.fetch_conversation.specs.Conversation.{Conversation, sent_in, answer_in, and_then, map_refusal, told_as, Concludes, Breaks};
-ghost use Rattle.fetch_conversation.specs.Served.{without_rest, IsFresh, Follows};
 ghost use Rattle.fetch_config.specs.declared.meta.Meta.{Meta};
+ghost use Rattle.fetch_refs.specs.declared.log.Signature.{Signature};
+ghost use Rattle.fetch_remote.specs.RepositoryValues.{RepositoryValue};
+ghost use Rattle.fetch_shared.specs.declared.entry.Entry.{Entry};
 ghost use Rattle.fetch_wire.specs.Awaited.{step_of, start_of, told_at};
 ghost use Rattle.fetch_wire.specs.Lines.{line_len};
 ghost use Rattle.fetch_wire.specs.LinesTold.{Tells};
+ghost use Rattle.fetch_wire.specs.Requests.{first_line};
+ghost use Rattle.fetch_wire.specs.Talks.{Talk, IsFront};
+ghost use Rattle.fetch_wire.specs.Written.{first_too_long, lines_text};
+ghost use Rattle.fetch_wire.specs.declared.lines.line.Line.{Line};
 ghost use Rattle.fetch_wire.specs.declared.replies.awaited.Await.{Await};
+ghost use Rattle.fetch_wire.specs.declared.replies.awaited.Fault.TheVariants.{Short, TooLong};
 ghost use Rattle.fetch_wire.specs.declared.replies.awaited.Told.{Told};
-ghost use Rattle.fetch_mirror.specs.Settings.{IsRead, config_from};
-ghost use Rattle.fetch_wire.specs.declared.replies.awaited.Fault.TheVariants.{TooLong};
-ghost use Rattle.fetch_conversation.specs.ListStage.{ListedValue, inquiry_stage, no_specs};
+ghost use Rattle.fetch_wire.specs.declared.requests.records.FetchReply.{FetchReply};
+ghost use Rattle.fetch_negotiate.specs.Requests.{Asked as Request, fetch_request};
+ghost use Rattle.fetch_negotiate.specs.declared.algorithm.Algorithm.TheVariants.{Noop};
+ghost use Rattle.fetch_conversation.specs.Conversation.{Conversation, sent_in, answer_in, and_then, map_refusal, told_as, Concludes, Breaks};
+ghost use Rattle.fetch_conversation.specs.ConverseStage.{algorithm_in, lacking, no_mapping, other_hash, received, unfit};
+ghost use Rattle.fetch_conversation.specs.Exchange.{TermsValue, asked_by, failed as unreceived_by};
+ghost use Rattle.fetch_conversation.specs.ListStage.{ListedValue, inquiry_stage, no_specs, InquiryValue, failed as unlisted_by, mapped, prefixes_asked};
+ghost use Rattle.fetch_conversation.specs.Served.{without_rest, IsFresh, Follows};
 ghost use Rattle.fetch_conversation.specs.declared.conversing.Received.{Received};
 ghost use Rattle.fetch_conversation.specs.declared.fetch.Error.{Error as ReceiveError};
 ghost use Rattle.fetch_conversation.specs.declared.prepare.Error.{Error as PrepareError};
@@ -31,12 +42,28 @@ ghost use Rattle.fetch_remote.specs.Fetched.{HasHeard};
 ghost use Rattle.fetch_remote.specs.Form.{Given};
 ghost use Rattle.fetch_remote.specs.Refused.{HasEnded};
 ghost use Rattle.fetch_remote.specs.Repositories.{State};
-ghost use Rattle.fetch_remote.specs.Stages.{Told as ToldInAll, bound_of, conversation, inquiry_in, pack_stage};
+ghost use Rattle.fetch_remote.specs.Stages.{Told as ToldInAll, bound_of, conversation, inquiry_in, pack_stage, terms_in};
 ghost use Rattle.fetch_remote.specs.Talking.{BreaksListing, BreaksReceiving};
 ghost use Rattle.fetch_remote.specs.declared.fetching.fetch_error.FetchError.{FetchError};
+ghost use Rattle.fetch_serve.specs.Offered.{offered_of};
+ghost use Rattle.fetch_serve.specs.Replies.{replies_of, reply_lines};
+ghost use Rattle.fetch_serve.specs.Peers.{ServedPeer};
+ghost use Rattle.fetch_serve.specs.Requests.{IsRequest};
+ghost use Rattle.fetch_serve.specs.Servable.{IsServable};
+ghost use Rattle.fetch_serve.specs.Served.{Data};
+ghost use Rattle.fetch_serve.specs.Texts.{request_bound};
+ghost use Rattle.fetch_serve.specs.declared.asked.Asked.TheVariants.{First, Listing, Fetch as Fetching};
 ghost use Rattle.fetch_mirror.specs.Along.{Grows, IsAlong, answer_along, sent_along};
+ghost use Rattle.fetch_mirror.specs.Born.{born_names};
+ghost use Rattle.fetch_mirror.specs.Copying.{given_by};
+ghost use Rattle.fetch_mirror.specs.Mirroring.{HasMirrored};
+ghost use Rattle.fetch_mirror.specs.Fetches.{AreNew, AreTerms, IsFetching, IsWanting, one_round, wanting_all};
 ghost use Rattle.fetch_mirror.specs.GoingAlong.{GoesAlong, GoesTo, IsAlongByCases};
-ghost use Rattle.fetch_mirror.specs.Shares.{as_itself, itself_text, AreDivided, AreOnce, AreOwnNames, IsOwnMatch};
+ghost use Rattle.fetch_mirror.specs.Listings.{AreRising, IsHeard, asked_lines, greeting_of};
+ghost use Rattle.fetch_mirror.specs.Naming.{names_of};
+ghost use Rattle.fetch_mirror.specs.Settings.{IsRead, config_from};
+ghost use Rattle.fetch_mirror.specs.Shares.{IsUnderRefs, as_itself, itself_text, AreDivided, AreOnce, AreOwnNames, IsOwnMatch};
+ghost use Rattle.fetch_mirror.specs.Workers.{IsListed};
 
 /// A conversation with one who answers by a rule, where each reply is read along its one path, has the answer that these
 /// replies give, whatever it is told by others.
@@ -110,6 +137,49 @@ pub fn a_fetch_goes_along_by_stages()
         → GoesAlong (bound_of g) rule [] (conversation g s) (sent ++ others) (Err (receiving e)) }
 {}
 
+/// A listing goes along what its server gives: its references are mapped, or the greeting or else the listing passes the bound.
+pub fn a_listing_goes_along_its_server()
+    ensures mapped { (d : Data) (bound : ℕ) (q : InquiryValue) → IsHeard d q → sum_by line_len (reply_lines d First) ≤ bound → sum_by line_len (reply_lines d (Listing true (prefixes_asked q))) ≤ bound
+        → GoesAlong bound (replies_of d) [] (inquiry_stage bound q) (asked_lines d q) (mapped q (greeting_of d.hash) (offered_of d true (prefixes_asked q))) }
+    ensures long_listing { (d : Data) (bound : ℕ) (q : InquiryValue) → IsHeard d q → sum_by line_len (reply_lines d First) ≤ bound → bound < sum_by line_len (reply_lines d (Listing true (prefixes_asked q)))
+        → GoesAlong bound (replies_of d) [] (inquiry_stage bound q) (asked_lines d q) (Err (unlisted_by bound TooLong)) }
+    ensures long_greeting { (d : Data) (bound : ℕ) (q : InquiryValue) → IsHeard d q → bound < sum_by line_len (reply_lines d First)
+        → GoesAlong bound (replies_of d) [] (inquiry_stage bound q) ((first_line (codes ".") [] ∷ []) ++ []) (Err (unlisted_by bound TooLong)) }
+{}
+
+/// A server reads the one fetch request of a worker.
+pub fn requests_of_workers_are_read()
+    ensures { (hash : Kind) (a : Request) (id : ObjectId) (wants : List ObjectId) → IsWanting hash a id wants → AreNew hash [] (id ∷ wants) → IsRequest hash true (fetch_request a [] true) (Fetching (wanting_all (id ∷ wants))) }
+{}
+
+/// The prefixes that names under `refs/` ask for rise, as a server reads them.
+pub fn prefixes_of_names_rise()
+    ensures { (names : List (List ℕ)) → ((i : ℕ) (name : List ℕ) → slice_get names i ≡ Some name → IsUnderRefs name) → AreRising [] (prefixes_of (map as_itself names)) }
+{}
+
+/// The conversation of a worker goes along what its server gives: the pack of its one request is had, or nothing is wanted. A pack
+/// that passes the bound is too long, and a request that is longer than a server reads is answered by nothing.
+pub fn a_worker_goes_along_its_server()
+    ensures fetches { (d : Data) (g : Given) (s : State) (l : ListedValue) (id : ObjectId) (wants : List ObjectId) (reply : FetchReply) (r : Option Received) → IsListed d g l → IsFetching d (terms_in g s l) id wants reply
+        → sum_by line_len (fetch_request (asked_by (terms_in g s l)) [] true) ≤ request_bound → sum_by line_len (reply_lines d (Fetching (wanting_all (id ∷ wants)))) ≤ bound_of g → received (terms_in g s l) (one_round reply) ≡ Ok r
+        → GoesAlong (bound_of g) (replies_of d) [] (conversation g s) (asked_lines d (inquiry_in g) ++ ((fetch_request (asked_by (terms_in g s l)) [] true ++ []) ++ [])) (Ok (record { listed = l; received = r })) }
+    ensures wants_nothing { (d : Data) (g : Given) (s : State) (l : ListedValue) → IsListed d g l
+        → option_or (no_mapping (terms_in g s l)) (option_or (other_hash (terms_in g s l)) (option_or (unfit (terms_in g s l).settings) (lacking (terms_in g s l)))) ≡ None → (terms_in g s l).view.wants ≡ []
+        → GoesAlong (bound_of g) (replies_of d) [] (conversation g s) (asked_lines d (inquiry_in g) ++ ([] ++ [])) (Ok (record { listed = l; received = None })) }
+    ensures long_pack { (d : Data) (g : Given) (s : State) (l : ListedValue) (id : ObjectId) (wants : List ObjectId) (reply : FetchReply) → IsListed d g l → IsFetching d (terms_in g s l) id wants reply
+        → sum_by line_len (fetch_request (asked_by (terms_in g s l)) [] true) ≤ request_bound → bound_of g < sum_by line_len (reply_lines d (Fetching (wanting_all (id ∷ wants))))
+        → GoesAlong (bound_of g) (replies_of d) [] (conversation g s) (asked_lines d (inquiry_in g) ++ (fetch_request (asked_by (terms_in g s l)) [] true ++ [])) (Err (receiving (unreceived_by (bound_of g) TooLong))) }
+    ensures long_request { (d : Data) (g : Given) (s : State) (l : ListedValue) (id : ObjectId) (wants : List ObjectId) (reply : FetchReply) → IsListed d g l → IsFetching d (terms_in g s l) id wants reply
+        → request_bound < sum_by line_len (fetch_request (asked_by (terms_in g s l)) [] true)
+        → GoesAlong (bound_of g) (replies_of d) [] (conversation g s) (asked_lines d (inquiry_in g) ++ (fetch_request (asked_by (terms_in g s l)) [] true ++ [])) (Err (receiving (unreceived_by (bound_of g) (Short 0)))) }
+{}
+
+/// Nothing is refused before the request of a worker, and it tells no haves.
+pub fn requests_of_workers_are_made()
+    ensures accepted { (hash : Kind) (t : TermsValue) → AreTerms hash t → option_or (no_mapping t) (option_or (other_hash t) (option_or (unfit t.settings) (lacking t))) ≡ None }
+    ensures noop { (hash : Kind) (t : TermsValue) → AreTerms hash t → algorithm_in t.settings ≡ Noop }
+{}
+
 /// Each full name makes a refspec that fetches it as itself, by force.
 pub fn names_are_read_as_themselves()
     ensures { (name : List ℕ) → IsTrue (is_full_name name) → parsed Fetch (itself_text name) ≡ Ok (as_itself name) }
@@ -135,4 +205,15 @@ pub fn replies_that_pass_the_bound_are_too_long()
 /// The settings of a mirror are read: it tells no haves.
 pub fn a_mirror_tells_no_haves()
     ensures { (meta : Meta) → IsRead (config_from meta) }
+{}
+
+/// The names that a server lists under `refs/` with an id are those of its references that are born.
+pub fn names_listed_are_those_born()
+    ensures { (d : Data) (unborn : Bool) → names_of (offered_of d unborn []) ≡ born_names d }
+{}
+
+/// Where lister and peers are servers of one repository, the names that are mirrored are those born there.
+pub fn a_mirror_of_servers_has_their_names()
+    ensures { (d : Data) → IsServable d → (committer : Signature) (workers bound : ℕ) (lister : ServedPeer) (peers : List ServedPeer) (repo : RepositoryValue) (journal : List Entry)
+        → (h : HasMirrored (given_by d committer workers bound lister peers) repo journal) → h.names ≡ born_names d }
 {}

@@ -1,0 +1,71 @@
+-- Each edit of an outcome is at the destination of a mapping.
+use Rattle.std.proofs.Common.{◌≡◌, ℕ, zero, suc, ◌+◌, ◌<◌, Bool, true, false, cond, List, [], ◌∷◌, length, filter, arith, Option, Some, None, Ok, refl, sym, ap, ◌∙◌}
+use Rattle.std.specs.Prelude.{slice_get, is_some}
+use Rattle.std.specs.List.{filter_map, range_with_len}
+use Rattle.std.specs.Option.{option_and_then}
+use Rattle.std.proofs.lemmas.Option.{slice_get_within}
+use Rattle.fetch_specs.specs.Specs.{Spec}
+use Rattle.fetch_refs.specs.declared.edit.RefEdit.{RefEdit}
+use Rattle.fetch_wire.specs.Mappings.{spec_at}
+use Rattle.fetch_wire.specs.declared.listings.mapping.Mapping.{Mapping}
+use Rattle.fetch_update.specs.Accepted.{EditsCarryOut, HasOneEach, edit_for, is_found}
+use Rattle.fetch_update.specs.Outcomes.{outcome_of}
+use Rattle.fetch_update.specs.Policy.{Policy}
+use Rattle.fetch_update.specs.declared.update.Outcome.{Outcome}
+use Rattle.fetch_update.specs.declared.update.Update.{Update}
+use Rattle.fetch_update.proofs.Wholes.{edits_carry_out, one_each}
+use Rattle.fetch_mirror.proofs.Places.{at_contains, from, mapped_at}
+
+-- the destination of one of these mappings
+pub record IsNamedBy (mappings : List Mapping) (name : List ℕ) : Type 0 where
+  pub at : ℕ
+  pub mapping : Mapping
+  pub there : slice_get mappings at ≡ Some mapping
+  pub local : mapping.local ≡ Some name
+
+-- so is the name of each edit
+abbrev pub AllNamed : List Mapping → List RefEdit → Type 0
+AllNamed ms es = (i : ℕ) (e : RefEdit) → slice_get es i ≡ Some e → IsNamedBy ms e.name
+
+range_at : (start n k : ℕ) → k < n → slice_get (range_with_len start n) k ≡ Some (start + k)
+range_at start zero k low = absurd (omega arith)
+range_at start (suc n) zero low = ap (λ (m : ℕ). Some m) (omega arith)
+range_at start (suc n) (suc k) low = range_at (start + 1) n k (omega arith) ∙ ap (λ (m : ℕ). Some m) (omega arith)
+
+-- what passes a filter passes its test
+passes : (test : ℕ → Bool) (xs : List ℕ) (i x : ℕ) → slice_get (filter test xs) i ≡ Some x → test x ≡ true
+passes test [] i x at = absurd cc
+passes test (z ∷ xs) i x at = by (test z) refl i (λ k is. passes test xs k x is) at
+  where
+    by : (b : Bool) → test z ≡ b → (i : ℕ) → ((k : ℕ) → slice_get (filter test xs) k ≡ Some x → test x ≡ true) → slice_get (cond b (z ∷ filter test xs) (filter test xs)) i ≡ Some x → test x ≡ true
+    by true is zero more at = let same : z ≡ x = cc in ap test (sym same) ∙ is
+    by true is (suc i) more at = more i at
+    by false is i more at = more i at
+
+there_found : (specs extra : List Spec) (o : Option Mapping) → is_some (option_and_then (λ (m : Mapping). spec_at m.spec_index specs extra) o) ≡ true → (m : Mapping) × (o ≡ Some m)
+there_found specs extra (Some m) is = (m, refl)
+there_found specs extra None is = absurd cc
+
+module _ (p : Policy) (specs extra : List Spec) (ms : List Mapping) (o : Outcome) (out : outcome_of p specs extra ms ≡ Ok o) where
+  carried : EditsCarryOut p ms o
+  carried = edits_carry_out p specs extra ms o out
+
+  found_each : HasOneEach specs extra ms o
+  found_each = one_each p specs extra ms o out
+
+  -- the update that an edit carries out, and its mapping
+  named_by : (i : ℕ) (e : RefEdit) → slice_get o.edits i ≡ Some e → IsNamedBy ms e.name
+  named_by i e at =
+      let low = slice_get_within o.edits i e at in
+      let index : slice_get (filter_map (λ (u : Update). u.edit_index) o.updates) i ≡ Some i = ap (λ (l : List ℕ). slice_get l i) carried.one_each ∙ range_at 0 (length o.edits) i low ∙ ap (λ (m : ℕ). Some m) (omega arith) in
+      let u = from (λ (u : Update). u.edit_index) o.updates i i index in
+      let place = at_contains o.updates u.x u.among in
+      let mapped = mapped_at (λ (u : Update). u.mapping_index) o.updates place.0 u.x place.1 in
+      let found = passes (is_found specs extra ms) (range_with_len 0 (length ms)) place.0 u.x.mapping_index (ap (λ (l : List ℕ). slice_get l place.0) (sym found_each) ∙ mapped) in
+      let m = there_found specs extra (slice_get ms u.x.mapping_index) found in
+      let edit : edit_for o.edits u.x ≡ Some e = ap (option_and_then (λ (k : ℕ). slice_get o.edits k)) u.is ∙ at in
+      record { at = u.x.mapping_index; mapping = m.0; there = m.1; local = (carried.each u.x m.0 e u.among m.1 edit).destination }
+
+-- each edit of an outcome is at the destination of a mapping
+pub outcome_so : (p : Policy) (specs extra : List Spec) (ms : List Mapping) (o : Outcome) → outcome_of p specs extra ms ≡ Ok o → AllNamed ms o.edits
+outcome_so p specs extra ms o out = named_by p specs extra ms o out

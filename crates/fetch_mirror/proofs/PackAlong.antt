@@ -1,0 +1,129 @@
+-- The fetch of a pack, along what a server gives.
+use Rattle.std.proofs.Common.{◌≡◌, ℕ, suc, ◌<◌, ◌≤◌, true, List, [], ◌∷◌, ◌++◌, Option, None, Ok, Err, refl, sym, ap, subst, ◌∙◌, sum_by}
+use Rattle.std.specs.Option.{option_or}
+use Rattle.std.specs.FinMap as map
+use Rattle.fetch_store.specs.Graph.{Graph}
+use Rattle.fetch_store.specs.declared.id.ObjectId.{ObjectId}
+use Rattle.fetch_wire.specs.Lines.{line_len}
+use Rattle.fetch_wire.specs.Written.{lines_text}
+use Rattle.fetch_wire.specs.declared.lines.line.Line.{Line}
+use Rattle.fetch_wire.specs.declared.replies.awaited.Await.TheVariants as await
+use Rattle.fetch_wire.specs.declared.replies.awaited.Fault.TheVariants.{Short, TooLong}
+use Rattle.fetch_wire.specs.declared.replies.awaited.Told.{Told}
+use Rattle.fetch_wire.specs.declared.replies.awaited.Told.TheVariants as told
+use Rattle.fetch_wire.specs.declared.requests.records.FetchReply.{FetchReply}
+use Rattle.fetch_negotiate.specs.Requests.{fetch_request}
+use Rattle.fetch_negotiate.specs.Windows.{window_of}
+use Rattle.fetch_negotiate.specs.declared.algorithm.Algorithm.{Algorithm}
+use Rattle.fetch_negotiate.specs.declared.algorithm.Algorithm.TheVariants as algorithms
+use Rattle.fetch_conversation.specs.Conversation.{Conversation, ends, asks, asks_unless, and_then}
+use Rattle.fetch_conversation.specs.ConverseStage.{converse_stage, fetching, lacking, no_mapping, other_hash, received, unfit, wanting}
+use Rattle.fetch_conversation.specs.Exchange.{TermsValue, asked_by, exchange, failed, replied, reply_to, too_long}
+use Rattle.fetch_conversation.specs.ListStage.{unless}
+use Rattle.fetch_conversation.specs.Rounds.{Negotiated, first_course, negotiating}
+use Rattle.fetch_conversation.specs.declared.conversing.Received.{Received}
+use Rattle.fetch_conversation.specs.declared.fetch.Error.{Error}
+use Rattle.fetch_serve.specs.declared.asked.Asked.TheVariants.{Fetch}
+use Rattle.fetch_serve.specs.Replies.{replies_of, reply_lines}
+use Rattle.fetch_serve.specs.Served.{Data}
+use Rattle.fetch_serve.specs.Texts.{request_bound}
+use Rattle.fetch_mirror.specs.Fetches.{IsFetching, one_round, wanting_all}
+use Rattle.fetch_mirror.specs.GoingAlong.{GoesAlong, GoesTo}
+use Rattle.fetch_mirror.proofs.FetchRead.{fetch_read}
+use Rattle.fetch_mirror.proofs.GoingAlong.{goes_end}
+use Rattle.fetch_mirror.proofs.RequestsRead.{asked_too_long, asked_whole}
+use Rattle.fetch_mirror.proofs.ServedAlong.{AreWhole, IsServed, served_on, served_to, served_too_long, unserved}
+use Rattle.fetch_mirror.proofs.StagesAlong.{to_end}
+
+-- ---- the tree
+
+module _ (d : Data) (bound : ℕ) (g : Graph) (t : TermsValue) (id : ObjectId) (wants : List ObjectId) (reply : FetchReply) (h : IsFetching d t id wants reply) where
+  request : List Line
+  request = fetch_request (asked_by t) [] true
+
+  -- what follows a reply
+  next : Told → Conversation (Option Received) Error
+  next = λ x. and_then (and_then (replied x) (λ reply. ends (Ok (one_round reply)))) (λ n. ends (received t n))
+
+  tree : Conversation (Option Received) Error
+  tree = asks request (await.Reply (reply_to t [] true)) (failed bound) next
+
+  asks_it : exchange bound t [] true ≡ asks request (await.Reply (reply_to t [] true)) (failed bound) (λ x. replied x)
+  unfolding exchange request
+  asks_it = ap (λ (o : Option ℕ). asks_unless o too_long (asks (fetch_request (asked_by t) [] true) (await.Reply (reply_to t [] true)) (failed bound) (λ x. replied x))) h.fits
+
+  one : (more : ℕ) → negotiating (suc more) bound t g algorithms.Noop (first_course algorithms.Noop t.view) ≡ and_then (exchange bound t [] true) (λ reply. ends (Ok (one_round reply)))
+  unfolding negotiating window_of
+  one more = refl
+
+  stage : converse_stage bound g t ≡ tree
+  unfolding converse_stage fetching tree next and_then
+  stage =
+      ap (λ (o : Option Error). unless o (wanting bound g t t.view.wants)) h.accepted
+      ∙ ap (wanting bound g t) h.wanted
+      ∙ ap (λ (a : Algorithm). and_then (negotiating (suc (map.len g)) bound t g a (first_course a t.view)) (λ n. ends (received t n))) h.noop
+      ∙ ap (λ (c : Conversation Negotiated Error). and_then c (λ n. ends (received t n))) (one (map.len g))
+      ∙ ap (λ (c : Conversation FetchReply Error). and_then (and_then c (λ reply. ends (Ok (one_round reply)))) (λ n. ends (received t n))) asks_it
+
+  ends_so : next (told.Reply reply) ≡ ends (received t (one_round reply))
+  unfolding next and_then
+  ends_so = refl
+
+  served : (heard : List ℕ) → AreWhole d.hash true heard → sum_by line_len request ≤ request_bound → IsServed d true heard request (await.Reply (reply_to t [] true)) (Fetch (wanting_all (id ∷ wants))) (told.Reply reply)
+  unfolding request
+  served heard whole short = record {
+    whole = whole;
+    read = asked_whole d.hash true (fetch_request (asked_by t) [] true) (Fetch (wanting_all (id ∷ wants))) (fetch_read d.hash (asked_by t) id wants h.asked h.new) h.fits short;
+    tells = h.tells;
+    fits = h.whole;
+  }
+
+  -- The pack is read.
+  pub pack_along : (heard : List ℕ) → AreWhole d.hash true heard → sum_by line_len (fetch_request (asked_by t) [] true) ≤ request_bound → sum_by line_len (reply_lines d (Fetch (wanting_all (id ∷ wants)))) ≤ bound
+      → GoesAlong bound (replies_of d) heard (converse_stage bound g t) (fetch_request (asked_by t) [] true ++ []) (received t (one_round reply))
+  unfolding request tree
+  pack_along heard whole short within =
+      subst (λ (c : Conversation (Option Received) Error). GoesAlong bound (replies_of d) heard c (fetch_request (asked_by t) [] true ++ []) (received t (one_round reply))) (sym stage)
+      (served_on d bound true heard (fetch_request (asked_by t) [] true) (await.Reply (reply_to t [] true)) (failed bound) next (Fetch (wanting_all (id ∷ wants))) (told.Reply reply) [] (received t (one_round reply)) (served heard whole short) within
+      (subst (λ (c : Conversation (Option Received) Error). GoesAlong bound (replies_of d) (heard ++ lines_text (fetch_request (asked_by t) [] true)) c [] (received t (one_round reply))) (sym ends_so)
+      (goes_end bound (replies_of d) (heard ++ lines_text (fetch_request (asked_by t) [] true)) (received t (one_round reply)))))
+
+  -- The same as a stage behind which the conversation goes on.
+  pub pack_to : (heard : List ℕ) (x : Option Received) → AreWhole d.hash true heard → sum_by line_len (fetch_request (asked_by t) [] true) ≤ request_bound → sum_by line_len (reply_lines d (Fetch (wanting_all (id ∷ wants)))) ≤ bound
+      → received t (one_round reply) ≡ Ok x
+      → GoesTo bound (replies_of d) heard (heard ++ lines_text (fetch_request (asked_by t) [] true)) (converse_stage bound g t) (fetch_request (asked_by t) [] true ++ []) x
+  unfolding request tree
+  pack_to heard x whole short within is =
+      subst (λ (c : Conversation (Option Received) Error). GoesTo bound (replies_of d) heard (heard ++ lines_text (fetch_request (asked_by t) [] true)) c (fetch_request (asked_by t) [] true ++ []) x) (sym stage)
+      (served_to d bound true heard (fetch_request (asked_by t) [] true) (await.Reply (reply_to t [] true)) (failed bound) next (Fetch (wanting_all (id ∷ wants))) (told.Reply reply)
+      (heard ++ lines_text (fetch_request (asked_by t) [] true)) [] x (served heard whole short) within
+      (subst (λ (c : Conversation (Option Received) Error). GoesTo bound (replies_of d) (heard ++ lines_text (fetch_request (asked_by t) [] true)) (heard ++ lines_text (fetch_request (asked_by t) [] true)) c [] x) (sym ends_so)
+      (to_end bound (replies_of d) (heard ++ lines_text (fetch_request (asked_by t) [] true)) (received t (one_round reply)) x is)))
+
+  -- Its reply passes the bound.
+  pub pack_too_long : (heard : List ℕ) → AreWhole d.hash true heard → sum_by line_len (fetch_request (asked_by t) [] true) ≤ request_bound → bound < sum_by line_len (reply_lines d (Fetch (wanting_all (id ∷ wants))))
+      → GoesAlong bound (replies_of d) heard (converse_stage bound g t) (fetch_request (asked_by t) [] true ++ []) (Err (failed bound TooLong))
+  unfolding request tree
+  pack_too_long heard whole short far =
+      subst (λ (c : Conversation (Option Received) Error). GoesAlong bound (replies_of d) heard c (fetch_request (asked_by t) [] true ++ []) (Err (failed bound TooLong))) (sym stage)
+      (served_too_long d bound true heard (fetch_request (asked_by t) [] true) (await.Reply (reply_to t [] true)) (failed bound) next (Fetch (wanting_all (id ∷ wants))) (told.Reply reply) (served heard whole short) far)
+
+  -- The request is longer than a server reads: it is dead.
+  pub pack_unserved : (heard : List ℕ) → AreWhole d.hash true heard → request_bound < sum_by line_len (fetch_request (asked_by t) [] true)
+      → GoesAlong bound (replies_of d) heard (converse_stage bound g t) (fetch_request (asked_by t) [] true ++ []) (Err (failed bound (Short 0)))
+  unfolding request tree
+  pack_unserved heard whole long =
+      subst (λ (c : Conversation (Option Received) Error). GoesAlong bound (replies_of d) heard c (fetch_request (asked_by t) [] true ++ []) (Err (failed bound (Short 0)))) (sym stage)
+      (unserved d bound true heard (fetch_request (asked_by t) [] true) (await.Reply (reply_to t [] true)) (failed bound) next whole
+      (asked_too_long d.hash true (fetch_request (asked_by t) [] true) (Fetch (wanting_all (id ∷ wants))) (fetch_read d.hash (asked_by t) id wants h.asked h.new) h.fits long))
+
+-- where nothing is wanted nothing is asked
+no_request : (bound : ℕ) (g : Graph) (t : TermsValue) → option_or (no_mapping t) (option_or (other_hash t) (option_or (unfit t.settings) (lacking t))) ≡ None → t.view.wants ≡ [] → converse_stage bound g t ≡ ends (Ok None)
+unfolding converse_stage
+no_request bound g t accepted none = ap (λ (o : Option Error). unless o (wanting bound g t t.view.wants)) accepted ∙ ap (wanting bound g t) none
+
+-- Nothing is wanted: nothing is asked.
+pub nothing_to : (d : Data) (bound : ℕ) (g : Graph) (t : TermsValue) (heard : List ℕ) → option_or (no_mapping t) (option_or (other_hash t) (option_or (unfit t.settings) (lacking t))) ≡ None → t.view.wants ≡ []
+    → GoesTo bound (replies_of d) heard heard (converse_stage bound g t) [] None
+nothing_to d bound g t heard accepted none =
+    subst (λ (c : Conversation (Option Received) Error). GoesTo bound (replies_of d) heard heard c [] None) (sym (no_request bound g t accepted none)) (to_end bound (replies_of d) heard (Ok None) None refl)

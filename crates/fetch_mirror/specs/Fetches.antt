@@ -1,0 +1,73 @@
+-- What a worker of a mirror asks its server for.
+use Rattle.std.specs.Prelude.{◌≡◌, ⊤, true, false, List, [], ◌∷◌, ◌++◌, None}
+use Rattle.std.specs.Option.{option_or}
+use Rattle.fetch_store.specs.declared.id.Kind.{Kind}
+use Rattle.fetch_store.specs.declared.id.ObjectId.{ObjectId}
+use Rattle.fetch_store.specs.Borders.{ids_of}
+use Rattle.fetch_specs.specs.declared.tags.Tags.TheVariants as tags
+use Rattle.fetch_pack.specs.declared.version.PackVersion.TheVariants.{V2}
+use Rattle.fetch_wire.specs.Awaited.{step_of, start_of}
+use Rattle.fetch_wire.specs.LinesTold.{Tells}
+use Rattle.fetch_wire.specs.ServerLines.{IsIdOf}
+use Rattle.fetch_wire.specs.Written.{first_too_long}
+use Rattle.fetch_wire.specs.declared.replies.awaited.Await.TheVariants as await
+use Rattle.fetch_wire.specs.declared.replies.awaited.Told.TheVariants as told
+use Rattle.fetch_wire.specs.declared.requests.records.FetchReply.{FetchReply}
+use Rattle.fetch_negotiate.specs.Requests.{Asked, fetch_request}
+use Rattle.fetch_negotiate.specs.declared.algorithm.Algorithm.TheVariants as algorithms
+use Rattle.fetch_negotiate.specs.declared.algorithm.Shallow.TheVariants.{NoChange}
+use Rattle.fetch_conversation.specs.ConverseStage.{algorithm_in, lacking, no_mapping, other_hash, unfit}
+use Rattle.fetch_conversation.specs.Exchange.{TermsValue, asked_by, reply_to}
+use Rattle.fetch_conversation.specs.ListStage.{is_nil}
+use Rattle.fetch_conversation.specs.Rounds.{Negotiated}
+use Rattle.fetch_serve.specs.declared.asked.Asked.TheVariants.{Fetch}
+use Rattle.fetch_serve.specs.declared.asked.FetchAsked.{FetchAsked}
+use Rattle.fetch_serve.specs.Replies.{reply_lines}
+use Rattle.fetch_serve.specs.Requests.{has_id, nothing_asked}
+use Rattle.fetch_serve.specs.Served.{Data}
+use Rattle.fetch_mirror.specs.Listings.{greeting_of}
+use Rattle.fetch_mirror.specs.Settings.{IsRead}
+
+-- Ids of this hash, each new behind these and the ones before it.
+abbrev pub AreNew : Kind → List ObjectId → List ObjectId → Type 0
+AreNew hash before [] = ⊤
+AreNew hash before (id ∷ ids) = IsIdOf hash id × (has_id id before ≡ false) × AreNew hash (before ++ id ∷ []) ids
+
+-- the request for these and all that they reach: no tags, no border, no haves, and done at once
+abbrev pub wanting_all : List ObjectId → FetchAsked
+wanting_all wants = record (nothing_asked V2) { wants = wants; done = true }
+
+-- The request of a worker, behind its server's greeting: these are wanted, without tags, a border and a change of the depth.
+pub record IsWanting (hash : Kind) (a : Asked) (id : ObjectId) (wants : List ObjectId) : Type 0 where
+  pub handshake : a.handshake ≡ greeting_of hash
+  pub tags : a.tags ≡ tags.None
+  pub shallow : a.shallow ≡ NoChange
+  pub border : ids_of a.border ≡ []
+  pub wanted : a.wants ≡ id ∷ wants
+
+-- The second stage of a worker, behind a listing: nothing is refused before it, some ids are wanted, no haves are told, and the
+-- server reads the request, whose reply tells this.
+pub record IsFetching (d : Data) (t : TermsValue) (id : ObjectId) (wants : List ObjectId) (reply : FetchReply) : Type 0 where
+  pub accepted : option_or (no_mapping t) (option_or (other_hash t) (option_or (unfit t.settings) (lacking t))) ≡ None
+  pub wanted : t.view.wants ≡ id ∷ wants
+  pub noop : algorithm_in t.settings ≡ algorithms.Noop
+  pub asked : IsWanting d.hash (asked_by t) id wants
+  pub new : AreNew d.hash [] (id ∷ wants)
+  pub fits : first_too_long (fetch_request (asked_by t) [] true) ≡ None
+  pub tells : Tells step_of (start_of (await.Reply (reply_to t [] true))) (reply_lines d (Fetch (wanting_all (id ∷ wants)))) (told.Reply reply)
+  pub whole : first_too_long (reply_lines d (Fetch (wanting_all (id ∷ wants)))) ≡ None
+
+-- what the one round of it ends with
+abbrev pub one_round : FetchReply → Negotiated
+one_round reply = record { rounds = record { haves = []; acknowledged = reply.acknowledged; done = true } ∷ []; reply = reply }
+
+-- What a worker asks by, behind its server's greeting: the settings of a mirror, some reference mapped, and nothing of a border or a
+-- depth.
+pub record AreTerms (hash : Kind) (t : TermsValue) : Type 0 where
+  pub read : IsRead t.settings.config
+  pub strict : t.settings.lenient ≡ false
+  pub kind : t.settings.kind ≡ hash
+  pub handshake : t.listed.handshake ≡ greeting_of hash
+  pub mapped : is_nil t.listed.ref_map.mappings ≡ false
+  pub border : ids_of t.view.border ≡ []
+  pub shallow : t.shallow ≡ NoChange

@@ -1,0 +1,27 @@
+//! How a mirror is made, and what it is.
+
+use fetch_refs::Signature;
+use fetch_remote::Repository;
+use fetch_shared::Entry;
+use fetch_store::List;
+use fetch_wire::ReplyBound;
+
+/// How a mirror is made.
+#[derive(Debug, Drop)]
+pub struct MirrorOptions {
+    /// How many fetch at once: 1 to 8.
+    pub workers: u32,
+    /// Who commits the references. A mirror writes no reflogs.
+    pub committer: Signature,
+    /// The most bytes of one reply.
+    pub max_reply_bytes: ReplyBound,
+}
+
+/// A mirror, and how it came to be.
+#[derive(Drop)]
+pub struct Mirrored {
+    /// The mirror.
+    pub repo: Repository,
+    /// What the workers entered, in its order. Worker `i` has the number `i`.
+    pub journal: List<Entry>,
+}

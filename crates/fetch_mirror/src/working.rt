@@ -1,0 +1,158 @@
+//! Workers that fetch at once, each with a peer that is lent.
+
+ghost use Rattle.std.specs.Prelude.{◌≡◌, ℕ, ◌<◌, ◌≤◌, All, [], IfOk, IfSome, Some, length, map, slice_index_or};
+ghost use Rattle.fetch_race.specs.Racing.{IsRun};
+ghost use Rattle.fetch_race.specs.Seats.{HaveRaced, IsRest};
+ghost use Rattle.fetch_shared.specs.Journals.{pass_of};
+ghost use Rattle.fetch_shared.specs.Shared.{IsKept};
+ghost use Rattle.fetch_mirror.specs.Lent.{all_owning, owning};
+ghost use Rattle.fetch_mirror.specs.Mirroring as spec;
+ghost use Rattle.fetch_mirror.specs.Mirroring.{AreWorkers};
+
+use crate::listing::map_options;
+use crate::pairs::for_each_pair_mut;
+use crate::sharing::share;
+use fetch_race::{Job, Racer, closed, fetch_by_pass, gather, seat_all};
+use fetch_remote::{FetchOptions, Outcome, Remote, Repository};
+use fetch_shared::{Entry, Pass, Receipt, SharedError, SharedRepository};
+use fetch_specs::{FullName, RefSpec, Tags};
+use fetch_store::{List, NoMemory, Text};
+use fetch_wire::{Peer, ReplyBound};
+use std::alloc::Global;
+use std::sync::Wait;
+use std::thread::Threads;
+
+/// The workers that have a share of these names, without passes and peers.
+pub(crate) fn workers_for(
+    alloc: Global,
+    names: &[FullName],
+    workers: u32,
+    bound: ReplyBound,
+) -> Result<Vec<Racer<()>>, NoMemory>
+    requires some { 1 ≤ workers }
+    ensures { IfOk result (λ racers. AreWorkers workers bound names.now racers.items) }
+{
+    let mut shares = share(alloc, names, workers)?.into_vec();
+    shares.truncate(names.len());
+    Ok(racers_of(alloc, shares, bound)?)
+}
+
+fn racers_of(
+    alloc: Global,
+    shares: Vec<List<RefSpec>>,
+    bound: ReplyBound,
+) -> Result<Vec<Racer<()>>, NoMemory>
+    ensures { IfOk result (λ racers. racers.items ≡ map (spec.worker bound) shares.items) }
+{
+    let mut racers = Vec::with_capacity(alloc, shares.len())?;
+    for specs in shares {
+        racers.push(worker(alloc, specs, bound)?)?;
+    }
+    Ok(racers)
+}
+
+/// A worker that fetches by these refspecs.
+fn worker(alloc: Global, specs: List<RefSpec>, bound: ReplyBound) -> Result<Racer<()>, NoMemory>
+    ensures { IfOk result (λ racer. racer ≡ spec.worker bound specs) }
+{
+    let mut urls = List::new(alloc);
+    urls.push(Text::new(alloc, b".")?)?;
+    let mut options = FetchOptions::new(alloc);
+    options.map = map_options(alloc, bound);
+    let job = Job {
+        remote: Remote::new(urls, specs, Tags::None),
+        peer: (),
+        options,
+    };
+    Ok(Racer {
+        job,
+        pass: None,
+        answer: None,
+    })
+}
+
+/// Lets the workers fetch into a shared repository by parts of the pass that holds every number, each from the peer at its
+/// place, and closes it: what their journal leaves, and the journal.
+pub(crate) fn fetch_in<R: Threads + Wait + Sync, P: Peer + Send>(
+    rt: &R,
+    alloc: Global,
+    shared: SharedRepository,
+    pass: Pass,
+    racers: &mut [Racer<()>],
+    peers: &mut [P],
+) -> (Repository, Vec<Entry>)
+    requires all { IsRest shared 0 pass }
+    requires few { length racers.old ≤ 8 }
+    requires same { length racers.old ≡ length peers.old }
+    ensures kept { IsKept (record { opening = shared.opening; repository = result.0; journal = result.1.items }) }
+    ensures numbered { All (λ e. pass_of e < 18446744073709551615) result.1.items }
+    ensures raced { HaveRaced (record { answers = P.answers; told = P.told; faults = P.faults; trees = []; opening = shared.opening }) result.1.items (map (λ r. r.job) (all_owning racers.old peers.old)) (all_owning racers.new peers.new) }
+{
+    let rest = seat_all(&shared, pass, racers);
+    fetch_all(rt, alloc, &shared, racers, peers);
+    let pass = gather(&shared, rest, racers);
+    closed(rt, shared, pass)
+}
+
+/// Lets each worker that has a pass fetch by it, all at once, each from the peer at its place.
+fn fetch_all<R: Threads + Wait + Sync, P: Peer + Send>(
+    rt: &R,
+    alloc: Global,
+    shared: &SharedRepository,
+    racers: &mut [Racer<()>],
+    peers: &mut [P],
+)
+    requires same { length racers.old ≡ length peers.old }
+    requires shared { All (λ r. IfSome r.pass (λ p. p.shared ≡ shared.now)) racers.old }
+    ensures ran { (i : ℕ) (d : _) → i < length (all_owning racers.old peers.old) → IfSome (slice_index_or (all_owning racers.old peers.old) i d).pass (λ pass. IsRun
+        (record { answers = P.answers; told = P.told; faults = P.faults; trees = []; opening = shared.now.opening }) pass (slice_index_or (all_owning racers.old peers.old) i d) (slice_index_or (all_owning racers.new peers.new) i d)) }
+    ensures racer_count { length racers.new ≡ length racers.old }
+    ensures peer_count { length peers.new ≡ length peers.old }
+{
+    for_each_pair_mut(
+        rt,
+        &|racer, peer|
+            requires { IfSome racer.old.pass (λ p. p.shared ≡ shared.now) }
+        { fetch_one(rt, alloc, shared, racer, peer) },
+        racers,
+        peers,
+    );
+}
+
+/// Lets a worker that has a pass fetch by it.
+fn fetch_one<R: Threads + Wait + Sync, P: Peer>(
+    rt: &R,
+    alloc: Global,
+    shared: &SharedRepository,
+    racer: &mut Racer<()>,
+    peer: &mut P,
+)
+    requires shared { IfSome racer.old.pass (λ p. p.shared ≡ shared.now) }
+    ensures ran { IfSome racer.old.pass (λ pass. IsRun
+        (record { answers = P.answers; told = P.told; faults = P.faults; trees = []; opening = shared.now.opening }) pass (owning racer.old peer.old) (owning racer.new peer.new)) }
+{
+    let Some(pass) = racer.pass.take() else {
+        return;
+    };
+    let (pass, receipt, answer) = fetch_by_pass(
+        rt,
+        alloc,
+        shared,
+        pass,
+        &racer.job.remote,
+        peer,
+        &racer.job.options,
+        &[],
+    );
+    arrive(racer, pass, receipt, answer)
+}
+
+/// Puts a pass that came back and what became of the job beside the job.
+fn arrive(racer: &mut Racer<()>, pass: Pass, receipt: Receipt, answer: Result<Outcome, SharedError>)
+    ensures job { racer.new.job ≡ racer.old.job }
+    ensures pass { racer.new.pass ≡ Some pass }
+    ensures answer { racer.new.answer ≡ Some (receipt, answer) }
+{
+    drop(racer.pass.replace(pass));
+    drop(racer.answer.replace((receipt, answer)));
+}
