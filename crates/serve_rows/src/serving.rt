@@ -9,7 +9,7 @@ use rows::{lines, say};
 use std::alloc::Global;
 
 /// The repository that the lines before the first question put down. None where one of them puts nothing down.
-fn world_of(alloc: Global, lines: &[&[u8]]) -> Result<Option<World>, NoMemory> {
+pub(crate) fn world_of(alloc: Global, lines: &[&[u8]]) -> Result<Option<World>, NoMemory> {
     let mut world = World::new(alloc, Kind::Sha1);
     for line in lines {
         if line.starts_with(b"? ") {
