@@ -61,14 +61,7 @@ fn tell_saved(
     if !is_writable(&world.store) {
         return Ok(false);
     }
-    match save_bundle(
-        alloc,
-        &world.store,
-        &world.refs,
-        &world.border,
-        files,
-        PATH,
-    ) {
+    match save_bundle(alloc, &world.store, &world.refs, &world.border, files, PATH) {
         Ok(()) => say(out, &[b"saved"])?,
         Err(e) => say_kept(out, &e)?,
     }
@@ -206,11 +199,7 @@ fn ask_by_text<R: Threads + Sync>(
 
 /// `fail <call>`: files in which nothing stands, and this call fails, counted from 0. `put <text>`: a file of this text.
 /// Whether one of these is asked for.
-fn set_files(
-    alloc: Global,
-    files: &mut MemoryFiles,
-    question: &[u8],
-) -> Result<bool, NoMemory> {
+fn set_files(alloc: Global, files: &mut MemoryFiles, question: &[u8]) -> Result<bool, NoMemory> {
     let (word, rest) = split_word(question);
     if word == b"fail".as_slice() {
         let call = decimal(rest).unwrap_or(0);
