@@ -1,7 +1,7 @@
-"""What a report tells, written into a real repository.
+"""What a report or a bundle tells, written into a real repository.
 
 The objects stand before a reference moves. Then all that changes is locked, and what is found under the locks is
-compared with the scene. What commits the changes is a process that outlives the tool: one that is killed leaves border
+compared with what was before. What commits the changes is a process that outlives the tool: one that is killed leaves border
 and references all as they were, or all changed.
 """
 
@@ -10,9 +10,9 @@ from contextlib import ExitStack, closing
 from realgit.changing import BorderChange, changes_of
 from realgit.gitpack import store
 from realgit.locks import clear
-from realgit.moving import moves_of, refuse_changed, refuse_changed_border
+from realgit.moving import moves_of, moves_to, refuse_changed, refuse_changed_border
 from realgit.outliving import outlive
-from realgit.trouble import BAD_INPUT, Trouble
+from realgit.trouble import BAD_INPUT, CHANGED, Trouble
 
 # The committer of an engine's reflog lines.
 SCENES_COMMITTER = {"GIT_COMMITTER_NAME": "fetch", "GIT_COMMITTER_EMAIL": "fetch@localhost",
@@ -32,10 +32,42 @@ def apply(repository, scene, report, committer=None, reached=lambda step: None):
     if border_moves:
         refuse_changed_border(*border, standing)
     objects = lacking(repository, scene, report)
+    _write(repository, objects, border if border_moves else None, moves, committer or {}, reached)
+    return len(objects), len(moves)
+
+
+def apply_bundle(repository, bundle, reached=lambda step: None):
+    """Writes a bundle, and answers how many objects were stored and how many references moved. `reached` as for `apply`."""
+    clear(repository)
+    moves = moves_to(bundle.references, repository.references())
+    border = _both_borders(repository, bundle)
+    stored = repository.stored_ids()
+    objects = [each for each in bundle.objects if each.id not in stored]
+    _write(repository, objects, border, moves, {}, reached)
+    return len(objects), len(moves)
+
+
+def _both_borders(repository, bundle):
+    """The border as it stands and with that of the bundle, or None where that stands already. Refused where one cuts off a
+    history that the other side has.
+    """
+    standing = set(repository.border())
+    for digits in sorted({each.id for each in bundle.objects} & standing - set(bundle.border)):
+        raise Trouble(CHANGED, f"the border at {digits} cuts off what the bundle has; nothing was moved")
+    more = set(bundle.border) - standing
+    if not more:
+        return None
+    for digits in sorted(more & repository.reached_commits()):
+        raise Trouble(CHANGED, f"the bundle's border at {digits} cuts off what references have; nothing was moved")
+    return sorted(standing), sorted(standing | more)
+
+
+def _write(repository, objects, border, moves, committer, reached):
+    """Stores objects, and then moves the border, where it is one of old and new ids, and references."""
     with ExitStack() as stack:
-        changes = [stack.enter_context(closing(BorderChange(repository, *border)))] if border_moves else []
+        changes = [] if border is None else [stack.enter_context(closing(BorderChange(repository, *border)))]
         _step(reached, "objects", lambda: store(repository, objects, changes[0].file if changes else None))
-        for each in changes_of(repository, moves, committer or {}):
+        for each in changes_of(repository, moves, committer):
             changes.append(stack.enter_context(closing(each)))
         try:
             for each in changes:
@@ -43,7 +75,6 @@ def apply(repository, scene, report, committer=None, reached=lambda step: None):
         finally:
             refuse_changed(moves, repository.references())
         outlive(lambda: _commit(changes, reached))
-    return len(objects), len(moves)
 
 
 def _step(reached, name, work):

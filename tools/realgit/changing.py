@@ -10,7 +10,7 @@ from itertools import groupby
 
 from realgit.lines import decoded_text, encoded_text
 from realgit.locks import LockedFile
-from realgit.moving import refuse_changed_border
+from realgit.moving import HeadMove, refuse_changed_border
 from realgit.repository import environment, why
 from realgit.trouble import GIT_REFUSED, Trouble
 
@@ -38,6 +38,44 @@ class BorderChange:
 
     def undo(self):
         file = self._with(self._old)
+        try:
+            file.take()
+            file.put()
+        finally:
+            file.close()
+
+    def close(self):
+        self._file.close()
+
+
+class HeadChange:
+    """A `HEAD` that leads to an absent name, and gets another value before that name or another one is there.
+
+    Where a transaction makes the name, Git holds the lock of `HEAD` for it, as soon as that is prepared.
+    """
+
+    name = "HEAD"
+
+    def __init__(self, repository, move, has_lock):
+        self._repository, self._move, self._has_lock = repository, move, has_lock
+        self._file = self._with(move.new)
+
+    def _with(self, value):
+        text = f"ref: {value[1:]}\n" if value.startswith("@") else f"{value}\n"
+        return LockedFile(self._repository.common_dir, self._repository.place("HEAD"), encoded_text(text))
+
+    def prepare(self):
+        if not self._has_lock:
+            self._file.take()
+
+    def commit(self):
+        if self._has_lock:
+            self._file.put_below_another_lock()
+        else:
+            self._file.put()
+
+    def undo(self):
+        file = self._with(self._move.old)
         try:
             file.take()
             file.put()
@@ -133,8 +171,13 @@ class SymbolicChange:
 
 
 def changes_of(repository, moves, committer):
-    """The changes that make these moves: a transaction for each message, and the symbolic references one by one."""
+    """The changes that make these moves: first that of `HEAD` where it leads to an absent name, then a transaction for each
+    message, and the symbolic references one by one.
+    """
+    heads, moves = ([each for each in moves if isinstance(each, HeadMove) is is_head] for is_head in (True, False))
     direct = sorted((each for each in moves if not each.is_symbolic()), key=_by_message)
+    made = {each.name for each in direct}
+    yield from (HeadChange(repository, each, each.old[1:] in made) for each in heads)
     groups = [list(group) for _, group in groupby(direct, key=_by_message)]
     yield from (Transaction(repository, group, committer) for group in groups)
     yield from (SymbolicChange(repository, each, committer) for each in moves if each.is_symbolic())

@@ -4,6 +4,7 @@ import os
 import re
 from dataclasses import dataclass, field
 
+from realgit.bundle import followed
 from realgit.gitpack import store
 from realgit.lines import decoded_text, encoded_text
 from realgit.repository import LOCK, Repository, git, run_git
@@ -156,17 +157,7 @@ def _reason_of_link(link, stored, is_reached, theirs):
 def _reason(references, stored, name, is_ours):
     """Why one alone tells of a reference."""
     is_symbolic = references.get(name, "")[:1] == "@"
-    end = _followed(references, name)
+    end = followed(references, name)
     if is_symbolic and not is_ours and end is None:
         return UNBORN
     return BEHIND_TAGS if is_symbolic and is_ours and end in stored else UNEXPLAINED
-
-
-def _followed(references, name):
-    """The id that a reference leads to by names; None where it leads to an absent one, and a name where there are too many."""
-    for _ in range(5):
-        target = references.get(name)
-        if target is None or target[0] != "@":
-            return target
-        name = target[1:]
-    return f"@{name}"

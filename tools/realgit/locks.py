@@ -47,6 +47,10 @@ class LockedFile:
             os.remove(self.path)
         os.remove(self.lock)
 
+    def put_below_another_lock(self):
+        """Puts the new text in the place of the old one, under a lock that another process holds for this one."""
+        os.rename(self.own, self.path)
+
     def close(self):
         """Gives back what is still held. A lock of another one stays."""
         for path in (self.lock, self.own):

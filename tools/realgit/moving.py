@@ -1,14 +1,15 @@
-"""What a report moves in a repository, and what stands against it."""
+"""What a report or a bundle moves in a repository, and what stands against it."""
 
 from dataclasses import dataclass
 
+from realgit.bundle import followed
 from realgit.report import LogLine
 from realgit.trouble import CHANGED, GIT_REFUSED, Trouble
 
 
 @dataclass(frozen=True)
 class Move:
-    """A reference that moves: what it was in the scene, None for nothing, what it will be, and its log line, or None.
+    """A reference that moves: what it was before, None for nothing, what it will be, and its log line, or None.
 
     Values are as in a scene: an id in hex, or `@` and a name.
     """
@@ -27,6 +28,10 @@ class Move:
         return None if self.log is None else self.log.message
 
 
+class HeadMove(Move):
+    """A `HEAD` that leads to an absent name, and comes to stand for something else."""
+
+
 def moves_of(scene, report, standing):
     """The moves of a report in a repository where these references stand, without those that were made already.
 
@@ -40,15 +45,36 @@ def moves_of(scene, report, standing):
     return moves
 
 
+def moves_to(references, standing):
+    """The moves that make these references stand, without those that stand already, where no other has one of the names.
+    A `HEAD` that leads to an absent name is none.
+    """
+    others = {name: new for name, new in references.items() if standing.get(name) != new}
+    moves = [_move_to(name, new, standing) for name, new in others.items()]
+    _refuse_nested(moves, standing)
+    return moves
+
+
+def _move_to(name, new, standing):
+    if name != "HEAD" and not name.startswith("refs/"):
+        raise Trouble(GIT_REFUSED, f"{name} is neither HEAD nor below refs/, where Git has its references; nothing was moved")
+    old = standing.get(name)
+    if old is None:
+        return Move(name, None, new, None)
+    if name == "HEAD" and followed(standing, name) is None:
+        return HeadMove(name, old, new, None)
+    raise Trouble(CHANGED, f"{name} stands otherwise: the bundle has {new}, and {old} stands there; nothing was moved")
+
+
 def refuse_changed(moves, standing):
-    """Refuses moves of which one doesn't find the reference as it was in the scene."""
+    """Refuses moves of which one doesn't find the reference as it was before."""
     for each in moves:
         if standing.get(each.name) != each.old:
             raise _changed(each.name, each.old, standing.get(each.name))
 
 
 def refuse_changed_border(old, new, standing):
-    """Refuses to move the border from the old ids to the new ones where it isn't as it was in the scene."""
+    """Refuses to move the border from the old ids to the new ones where it isn't as it was before."""
     for digits in sorted(set(old) ^ set(standing)):
         if standing != new:
             raise _changed(f"the border at {digits}", *("it" if digits in ids else None for ids in (old, standing)))
@@ -56,7 +82,7 @@ def refuse_changed_border(old, new, standing):
 
 def _changed(what, expected, found):
     expected, found = ("nothing" if each is None else each for each in (expected, found))
-    return Trouble(CHANGED, f"{what} was changed meanwhile: the scene has {expected}, and {found} stands there; "
+    return Trouble(CHANGED, f"{what} was changed meanwhile: before was {expected}, and {found} stands there; "
                             "nothing was moved")
 
 

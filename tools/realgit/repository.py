@@ -100,7 +100,7 @@ class Repository:
     def direct_references(self):
         """The references under `refs/` that are ids."""
         out = decoded_text(self.git("for-each-ref", "--format=%(objectname) %(symref) %(refname)"))
-        lines = (line.split(" ") for line in out.splitlines())
+        lines = (line.split(" ") for line in out.split("\n")[:-1])
         return {name: digits for digits, symbolic, name in lines if not symbolic}
 
     def _symbolic_references(self, direct):
@@ -141,6 +141,10 @@ class Repository:
                 return sorted(file.read().split())
         except FileNotFoundError:
             return []
+
+    def reached_commits(self):
+        """The commits that references reach."""
+        return set(self.text("rev-list", "--all").split())
 
     def worktrees(self):
         """Each branch that is checked out, with its directory."""
