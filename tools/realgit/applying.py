@@ -10,7 +10,7 @@ from contextlib import ExitStack, closing
 from realgit.changing import BorderChange, changes_of
 from realgit.gitpack import store
 from realgit.locks import clear
-from realgit.moving import moves_of, moves_to, refuse_changed, refuse_changed_border
+from realgit.moving import has_begun, moves_of, moves_to, refuse_changed, refuse_changed_border
 from realgit.outliving import outlive
 from realgit.trouble import BAD_INPUT, CHANGED, Trouble
 
@@ -74,7 +74,7 @@ def _write(repository, objects, border, moves, committer, reached):
                 _step(reached, f"prepare {each.name}", each.prepare)
         finally:
             refuse_changed(moves, repository.references())
-        outlive(lambda: _commit(changes, reached))
+        outlive(lambda: _commit(changes, lambda: has_begun(moves, repository.references()), reached))
 
 
 def _step(reached, name, work):
@@ -83,15 +83,17 @@ def _step(reached, name, work):
     reached(f"after {name}")
 
 
-def _commit(changes, reached):
-    """Commits changes. Where one is refused, those before it are undone, if all of them can be."""
+def _commit(changes, has_begun, reached):
+    """Commits changes. Where one is refused, those before it are undone, if all of them can be and no reference has moved:
+    Git moves those of a transaction one after the other, and may be stopped between.
+    """
     committed = []
     try:
         for each in changes:
             _step(reached, f"commit {each.name}", each.commit)
             committed.append(each)
     except (Trouble, OSError):
-        if all(each.undo for each in committed):
+        if all(each.undo for each in committed) and not has_begun():
             for each in committed:
                 each.undo()
         raise

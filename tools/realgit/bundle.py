@@ -35,6 +35,10 @@ class Bundle:
         return b"".join(map(encoded, [*map(text_line, texts), Mark.DELIMITER, *pack, Mark.FLUSH]))
 
 
+class NotWhole(Exception):
+    """A pack whose objects are no whole repository. Its argument is the place of the pack's first line."""
+
+
 class OtherId(Exception):
     """A pack before one of whose objects an id stands that isn't its own. Its argument is that id."""
 
@@ -45,6 +49,8 @@ def read_bundle(data):
         return _bundle(data)
     except MalformedLine as error:
         why = f"malformed at {error}"
+    except NotWhole as error:
+        why = f"malformed at {error}: its pack holds no whole repository"
     except OtherDigest:
         why = "the digest of its pack isn't that of its bytes"
     except MalformedPack as error:
@@ -68,7 +74,7 @@ def _bundle(data):
     objects, links = _opened(pack, hash_name)
     bundle = Bundle(hash_name, references, [decoded_text(digits) for (digits,) in border], objects)
     if not _is_whole(bundle, links):
-        raise MalformedLine(f"{pack_place}: its pack holds no whole repository")
+        raise NotWhole(pack_place)
     return bundle
 
 
@@ -165,13 +171,13 @@ def _is_whole(bundle, links):
         return False
     if any(kinds.get(digits) != "commit" for digits in bundle.border):
         return False
-    within = links_within(bundle, links)
+    within = _links_within(bundle, links)
     if not all(digits in kinds for named in within.values() for digits in named):
         return False
     ends = [followed(bundle.references, name) for name in bundle.references]
     if not all(end is None or end in kinds for end in ends):
         return False
-    return reached(within, direct_ids(bundle.references)) == kinds.keys()
+    return reached(within, _direct_ids(bundle.references)) == kinds.keys()
 
 
 def bundle_of(hash_name, references, border, objects):
@@ -181,7 +187,7 @@ def bundle_of(hash_name, references, border, objects):
         links = [links_in(each, hash_name) for each in whole.objects]
     except MalformedObject:
         raise Trouble(BAD_INPUT, "an object breaks the grammar of its kind") from None
-    ids = reached(links_within(whole, links), direct_ids(references))
+    ids = reached(_links_within(whole, links), _direct_ids(references))
     kept = [(each, found) for each, found in zip(whole.objects, links) if each.id in ids]
     bundle = Bundle(hash_name, references, [digits for digits in whole.border if digits in ids], [each for each, _ in kept])
     if not _is_whole(bundle, [found for _, found in kept]):
@@ -189,14 +195,14 @@ def bundle_of(hash_name, references, border, objects):
     return bundle
 
 
-def links_within(bundle, links):
+def _links_within(bundle, links):
     """What each object links to, parents of border commits aside."""
     border = set(bundle.border)
     return {each.id: found.others + ([] if each.id in border else found.parents)
             for each, found in zip(bundle.objects, links)}
 
 
-def direct_ids(references):
+def _direct_ids(references):
     """The ids of the direct references."""
     return [target for target in references.values() if target[0] != "@"]
 

@@ -66,6 +66,11 @@ def _move_to(name, new, standing):
     raise Trouble(CHANGED, f"{name} stands otherwise: the bundle has {new}, and {old} stands there; nothing was moved")
 
 
+def has_begun(moves, standing):
+    """Whether one of the moves was made, that of a `HEAD` that led to an absent name aside."""
+    return any(standing.get(each.name) == each.new for each in moves if not isinstance(each, HeadMove))
+
+
 def refuse_changed(moves, standing):
     """Refuses moves of which one doesn't find the reference as it was before."""
     for each in moves:

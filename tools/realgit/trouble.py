@@ -20,7 +20,7 @@ statuses:
   3  what they name is no repository, scene, report or bundle, or can't be read or written
   4  Git refused
   5  the engine failed
-  6  the repository was changed meanwhile, or has a name of the bundle otherwise, and nothing was moved
+  6  the repository was changed meanwhile, or has what a bundle has otherwise, and nothing was moved
 
 Whatever isn't done gets one line on standard error."""
 

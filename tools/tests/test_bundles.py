@@ -359,17 +359,31 @@ class Applied(WithBundles):
         for branch in ("main", "other"):
             self.init("--bare", "-b", branch)
             before = self.state()[:2]
-            with self.assertRaises(Trouble) as caught:
-                apply_bundle(Repository(self.made), self.small.bundle(True),
-                             reached=lambda step: step == "after commit HEAD" and self.block())
-            self.assertEqual(caught.exception.status, GIT_REFUSED)
-            os.remove(os.path.join(self.made, SIDE, "file"))
+            self.apply_blocked(MAIN)
             self.assertEqual(self.state()[:2], before)
-            self.assert_clear()
 
-    def block(self):
-        os.makedirs(os.path.join(self.made, SIDE))
-        write_file(os.path.join(self.made, SIDE, "file"), b"")
+    def test_they_stay_where_a_reference_has_moved_before_one_is_refused(self):
+        for branch in ("main", "other"):
+            self.init("--bare", "-b", branch)
+            bundle = self.small.bundle(True)
+            self.apply_blocked(SIDE)
+            self.assertEqual(self.state()[:2], ({MAIN: self.small.three.id, HEAD: f"@{SIDE}"}, bundle.border))
+            self.assertEqual(self.apply(bundle)[0], 0)
+            self.assert_holds(bundle)
+
+    def apply_blocked(self, name):
+        """A run in which a directory is in the way of a reference, which goes again."""
+        place = os.path.join(self.made, name)
+        with self.assertRaises(Trouble) as caught:
+            apply_bundle(Repository(self.made), self.small.bundle(True),
+                         reached=lambda step: step == "after commit HEAD" and self.block(place))
+        self.assertEqual(caught.exception.status, GIT_REFUSED)
+        os.remove(os.path.join(place, "file"))
+        self.assert_clear()
+
+    def block(self, place):
+        os.makedirs(place)
+        write_file(os.path.join(place, "file"), b"")
 
     def test_what_goes_wrong_is_told_in_a_line(self):
         text = self.small.bundle().to_bytes()
