@@ -18,6 +18,7 @@ from realgit.trouble import BAD_INPUT, BAD_WORDS, CHANGED, GIT_REFUSED, Trouble,
 
 MAIN, SIDE, NOTE, LAST, HEAD = "refs/heads/main", "refs/heads/side", "refs/tags/note", "refs/remotes/origin/HEAD", "HEAD"
 PERSON = "A <a@x> 1 +0000"
+ONE_COMMIT = b"tree 4b825dc642cb6eb9a060e54bf8d69288fbee4904\nauthor A <a@x> 1 +0000\ncommitter A <a@x> 1 +0000\n\none\n"
 STEPS = [f"{when} {step}" for when in ("before", "after") for step in (
     "objects", "prepare border", "prepare HEAD", "prepare references", "prepare symbolic references", "commit border",
     "commit HEAD", "commit references", "commit symbolic references")]
@@ -72,6 +73,11 @@ class Texts(unittest.TestCase):
         unborn = Bundle("sha1", {HEAD: f"@{MAIN}"}).to_bytes()
         self.assertEqual((len(unborn), unborn[27:57]), (101, b"001eref @refs/heads/main HEAD\n"))
         self.assertEqual(read_bundle(unborn).references, {HEAD: f"@{MAIN}"})
+        objects = [made("sha1", "tree", b""), made("sha1", "commit", ONE_COMMIT)]
+        one = Bundle("sha1", {"refs/remotes/origin/main": objects[1].id}, [], objects).to_bytes()
+        head = f"004aref {objects[1].id} refs/remotes/origin/main\n000100c2PLNP".encode()
+        self.assertEqual((len(one), one[27:27 + len(head)]), (303, head))
+        self.assertEqual(read_bundle(one).objects, objects)
 
     def test_each_cut_and_each_byte_behind(self):
         text = Small().bundle(True).to_bytes()
@@ -417,10 +423,10 @@ class Killed(WithBundles):
     def test_the_process_that_moves_references_is_killed(self):
         bundle = self.small.bundle(True)
         write_file(self.path("bundle"), bundle.to_bytes())
-        for step in STEPS:
-            if FROM_MOVER in step:
-                with self.subTest(step):
-                    self.init("--bare", "-b", "other")
+        for branch in ("main", "other"):
+            for step in (each for each in STEPS if FROM_MOVER in each):
+                with self.subTest(step, branch=branch):
+                    self.init("--bare", "-b", branch)
                     self.assertEqual(self.kill("mover", step), 1)
                     self.assert_ends_well(bundle)
 
