@@ -1,0 +1,5 @@
+pub mod FetchFailures
+pub mod SharedFailures
+pub mod CloneFailures
+pub mod Streams
+pub mod Heads
