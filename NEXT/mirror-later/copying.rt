@@ -1,0 +1,64 @@
+//! A mirror of a repository, from servers of it.
+
+ghost use Rattle.std.specs.Prelude.{◌≡◌, ◌≢◌, replicate, IfOk, IfErr, OnOk};
+ghost use Rattle.fetch_mirror.specs.Copying.{IsCopied, IsUncopied, fresh};
+ghost use Rattle.fetch_mirror.specs.declared.error.MirrorError.TheVariants as errors;
+ghost use Rattle.fetch_serve.specs.Servable.{IsServable, IsTrouble};
+ghost use Rattle.fetch_serve.specs.Served.{data_of};
+ghost use Rattle.fetch_serve.specs.Servings.{unfed};
+
+use crate::error::MirrorError;
+use crate::mirroring::{is_few, mirror_from};
+use crate::options::{MirrorOptions, Mirrored};
+use fetch_refs::Refs;
+use fetch_serve::{ServeError, Server, ServerPeer};
+use fetch_store::{Border, NoMemory, Store};
+use std::alloc::Global;
+use std::sync::Wait;
+use std::thread::Threads;
+
+/// Mirrors a repository: makes servers of these parts, and lets the workers fetch from them, as `mirror_from` does. The
+/// mirror's hash is the store's.
+///
+/// `Workers` comes first, exactly where there are fewer workers than one or more than eight; then `Server`, exactly where
+/// `Server::new` refuses, and then `List` and `Worker`.
+pub fn run_mirror<R: Threads + Wait + Sync>(
+    rt: &R,
+    alloc: Global,
+    store: &Store,
+    refs: &Refs,
+    border: &Border,
+    options: MirrorOptions,
+) -> Result<Mirrored, MirrorError>
+    ensures copied { IfOk result (λ m. IsCopied (data_of store.now refs.now) options.committer options.workers options.max_reply_bytes m.repo m.journal) }
+    ensures refused { IfErr result (λ e. IsUncopied (data_of store.now refs.now) border.now options.committer options.workers options.max_reply_bytes e) }
+{
+    if !is_few(options.workers) {
+        return Err(MirrorError::Workers {
+            count: options.workers,
+        });
+    }
+    let server = match Server::new(alloc, store, refs, border) {
+        Ok(server) => server,
+        Err(ServeError::NoMemory) => return Err(MirrorError::NoMemory),
+        Err(e) => return Err(MirrorError::Server(e)),
+    };
+    let mut lister = ServerPeer::new(server.fresh());
+    let mut peers = peers_of(alloc, &server, options.workers)?;
+    mirror_from(rt, alloc, store.kind(), &mut lister, peers.as_mut_slice(), options)
+}
+
+/// So many peers of a server.
+fn peers_of<'a>(
+    alloc: Global,
+    server: &Server<'a>,
+    count: u32,
+) -> Result<Vec<ServerPeer<'a>>, NoMemory>
+    ensures { IfOk result (λ peers. peers.items ≡ replicate count (fresh server.now.served)) }
+{
+    let mut peers = Vec::with_capacity(alloc, count as usize)?;
+    for _ in 0..count {
+        peers.push(ServerPeer::new(server.fresh()))?;
+    }
+    Ok(peers)
+}
