@@ -15,6 +15,15 @@ from realgit.repository import environment, why
 from realgit.trouble import GIT_REFUSED, Trouble
 
 
+def _put(file):
+    """Takes the lock of a file, and puts its text in the place of the old one."""
+    try:
+        file.take()
+        file.put()
+    finally:
+        file.close()
+
+
 class BorderChange:
     """The border, which gets other ids."""
 
@@ -37,12 +46,7 @@ class BorderChange:
         self._file.put()
 
     def undo(self):
-        file = self._with(self._old)
-        try:
-            file.take()
-            file.put()
-        finally:
-            file.close()
+        _put(self._with(self._old))
 
     def close(self):
         self._file.close()
@@ -75,12 +79,7 @@ class HeadChange:
             self._file.put()
 
     def undo(self):
-        file = self._with(self._move.old)
-        try:
-            file.take()
-            file.put()
-        finally:
-            file.close()
+        _put(self._with(self._move.old))
 
     def close(self):
         self._file.close()
