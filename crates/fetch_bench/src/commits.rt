@@ -25,7 +25,8 @@ fn append_signature(out: &mut Vec<u8>, number: usize) -> Result<(), NoMemory>
 
 /// Puts the line of a parent, where there is one, after what is there.
 fn append_parent(out: &mut Vec<u8>, parent: Option<&ObjectId>) -> Result<(), NoMemory>
-    ensures { OnOk result (out.new.items ≡ out.old.items ++ flat_map parent_line (option_to_list (option_map hex_of (option_copied parent.entry)))) }
+    ensures { OnOk result (out.new.items ≡ out.old.items
+        ++ flat_map parent_line (option_to_list (option_map hex_of (option_copied parent.entry)))) }
 {
     if let Some(parent) = parent {
         out.extend_from_slice(b"parent ")?;

@@ -1,5 +1,6 @@
 -- Bundles: one text for one repository.
-use Rattle.std.specs.Prelude.{ℕ, ◌+◌, Bool, List, [], ◌∷◌, ◌++◌, map, filter, length, codes, nat_lt, Option, Some, None, slice_get, if◌then◌else◌}
+use Rattle.std.specs.Prelude.{ℕ, ◌+◌, Bool, List, [], ◌∷◌, ◌++◌, map, filter, length, codes, nat_lt, Option, Some, None, slice_get}
+use Rattle.std.specs.Prelude.{if◌then◌else◌}
 use Rattle.std.specs.List.{filter_map}
 use Rattle.std.specs.FinMap as finmap
 use Rattle.fetch_store.specs.declared.id.Kind.{Kind}
@@ -108,7 +109,12 @@ bundle_text b = lines_text (bundle_lines b)
 
 -- the references, the objects at these ids, and the border's commits among them
 abbrev pub bundled : Kind → Names → Holding → List ObjectId → Bundled
-bundled hash names h ids = record { hash = hash; names = names; border = set_of (filter (λ id. is_among id ids) (ids_of h.border)); objects = entries_at h.objects ids }
+bundled hash names h ids = record {
+  hash = hash;
+  names = names;
+  border = set_of (filter (λ id. is_among id ids) (ids_of h.border));
+  objects = entries_at h.objects ids;
+}
 
 -- whether the line of a reference would have a payload of more than 65,516 bytes
 abbrev pub has_long_line : List ℕ × Target → Bool

@@ -53,7 +53,8 @@ cause_of names objects (name, Symbolic target) = cause_in objects (end_of names 
 
 -- a reference with its cause, if it is broken; each name of references is a full one
 abbrev pub broken_at : Names → ObjectMap → List ℕ × Target → Option Broken
-broken_at names objects e = if is_full_name e.0 then option_map (λ cause. record { name = e.0; cause = cause }) (cause_of names objects e) else None
+broken_at names objects e = if is_full_name e.0
+    then option_map (λ cause. record { name = e.0; cause = cause }) (cause_of names objects e) else None
 
 -- the broken references, by ascending name
 abbrev pub broken_of : Names → ObjectMap → List Broken

@@ -1,5 +1,6 @@
 -- When bytes are a bundle, and what is told where they aren't.
-use Rattle.std.specs.Prelude.{◌≡◌, ◌⊎◌, ◌<◌, ◌≤◌, nat_eq, ℕ, false, List, [], ◌∷◌, ◌++◌, length, map, Result, Ok, Err, IfOk, IfErr, if◌then◌else◌}
+use Rattle.std.specs.Prelude.{◌≡◌, ◌⊎◌, ◌<◌, ◌≤◌, nat_eq, ℕ, false, List, [], ◌∷◌, ◌++◌, length, map, Result, Ok, Err, IfOk, IfErr}
+use Rattle.std.specs.Prelude.{if◌then◌else◌}
 use Rattle.std.specs.List.{AllByRecursion, starts_with}
 use Rattle.std.specs.List.Sorted.{IsStrictlySortedBy}
 use Rattle.std.specs.Map.{keys_of}
@@ -103,7 +104,11 @@ pub record HoldsWhole (names : Names) (border : IdSet) (c : Contents) : Type 0 w
 
 -- the objects as a pack's contents
 abbrev pub contents_in : Bundled → Contents
-contents_in b = record { objects = b.objects; count = length b.objects; digest = digest b.hash (body V2 b.hash (payloads_of (map (λ e. e.1) b.objects))) }
+contents_in b = record {
+  objects = b.objects;
+  count = length b.objects;
+  digest = digest b.hash (body V2 b.hash (payloads_of (map (λ e. e.1) b.objects)));
+}
 
 -- A bundle: what it says can stand in lines, its pack is read as its objects, and these are a whole repository.
 pub record IsBundle (b : Bundled) : Type 0 where

@@ -20,7 +20,8 @@ is_memory _ = false
 abbrev pub write_trouble : Names → Holding → Option BundleError
 write_trouble names h =
     option_or (option_map (λ link. Missing link) (slice_get (missing_pairs h) 0))
-    (option_or (option_map (λ broken. Broken broken) (slice_get (broken_of names h.objects) 0)) (option_map (λ name. NameTooLong name) (first_long names)))
+    (option_or (option_map (λ broken. Broken broken) (slice_get (broken_of names h.objects) 0))
+    (option_map (λ name. NameTooLong name) (first_long names)))
 
 -- the ids that the direct references reach, ascending
 pub record AreReached (names : Names) (h : Holding) (ids : List ObjectId) : Type 0 where

@@ -36,14 +36,16 @@ pub record Stand (bytes : List ℕ) (place : ℕ) (lines : List Line) (next : �
 
 -- No such line stands at the place.
 abbrev pub NoneStands : {X : Type 0} → (X → Line) → (X → Type 0) → List ℕ → ℕ → Type 0
-NoneStands {X = X} line Is bytes place = (x : X) (rest : List ℕ) → Is x → IsWritten (line x) → drop place bytes ≡ line_text (line x) ++ rest → ⊥
+NoneStands {X = X} line Is bytes place = (x : X) (rest : List ℕ) → Is x → IsWritten (line x)
+    → drop place bytes ≡ line_text (line x) ++ rest → ⊥
 
 -- whether a key is above that of the last element, if there is one
 abbrev pub is_above : {X K : Type 0} → (K → K → Ordering) → (X → K) → List X → K → Bool
 is_above cmp key xs k = option_map_or (λ x. is_lt (cmp (key x) k)) (slice_get xs (length xs - 1)) true
 
 -- The lines of this list stand between two places, and none stands behind them that could make the list longer.
-pub record AreRead {X : Type 0} (line : X → Line) (May : List X → Type 0) (bytes : List ℕ) (place : ℕ) (xs : List X) (next : ℕ) : Type 0 where
+pub record AreRead {X : Type 0} (line : X → Line) (May : List X → Type 0) (bytes : List ℕ) (place : ℕ) (xs : List X)
+    (next : ℕ) : Type 0 where
   pub stand : Stand bytes place (map line xs) next
   pub may : May xs
   pub ended : NoneStands line (λ x. May (xs ++ x ∷ [])) bytes next

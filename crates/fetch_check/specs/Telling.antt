@@ -38,7 +38,8 @@ end_line count = if count == 0 then codes "ok\n" else codes "found " ++ decimal 
 
 -- a line for each finding, and the last line
 abbrev pub findings_text : Findings → List ℕ
-findings_text f = flat_map missing_line f.missing ++ flat_map broken_line f.broken ++ flat_map unreached_line f.unreached ++ end_line (count_of f)
+findings_text f = flat_map missing_line f.missing ++ flat_map broken_line f.broken ++ flat_map unreached_line f.unreached
+    ++ end_line (count_of f)
 
 -- 0 where there are none
 abbrev pub status_of : ℕ → ℕ

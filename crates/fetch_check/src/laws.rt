@@ -50,7 +50,11 @@ pub fn bundled_packs_are_read()
         AreAllOf hash h.objects → AreObjects h.objects → AreOwnIds h.objects → AreReached names h ids
         → Fits V2 (payloads_of (objects_at h.objects ids)) →
         read hash (pack_of (bundled hash names h ids)) ≡
-        Ok (record { objects = (bundled hash names h ids).objects; count = length ids; digest = hashing.digest hash (body V2 hash (payloads_of (objects_at h.objects ids))) }) }
+        Ok (record {
+          objects = (bundled hash names h ids).objects;
+          count = length ids;
+          digest = hashing.digest hash (body V2 hash (payloads_of (objects_at h.objects ids)));
+        }) }
 {}
 
 /// What is bundled of a repository is a bundle, where `write_bundle` has no trouble with it. So its text is read back as the
@@ -62,15 +66,18 @@ pub fn a_bundle_reads_back()
 
 /// Each text is refused for one cause at most, and no bundle's text for any.
 pub fn a_text_has_one_answer()
-    ensures one { (bytes : List ℕ) (e : BundleError) (f : BundleError) → is_memory e ≡ false → is_memory f ≡ false → IsRefused bytes e → IsRefused bytes f → e ≡ f }
+    ensures one { (bytes : List ℕ) (e : BundleError) (f : BundleError) → is_memory e ≡ false → is_memory f ≡ false → IsRefused bytes e
+        → IsRefused bytes f → e ≡ f }
     ensures none { (b : Bundled) (e : BundleError) → is_memory e ≡ false → IsBundle b → IsRefused (bundle_text b) e → ⊥ }
     ensures bundle { (b : Bundled) (c : Bundled) → IsBundle b → IsBundle c → bundle_text b ≡ bundle_text c → b ≡ c }
 {}
 
 /// What is saved at a path is what is loaded from it: that bundle, and never an error that tells of the bundle.
 pub fn what_is_saved_is_loaded()
-    ensures loaded { (t : Tree) (u : Tree) (path : List ℕ) (b : Bundled) (found : Option Bundle) → IsBundle b → saved t path (bundle_text b) ≡ Some u
+    ensures loaded { (t : Tree) (u : Tree) (path : List ℕ) (b : Bundled) (found : Option Bundle) → IsBundle b
+        → saved t path (bundle_text b) ≡ Some u
         → IfSome found IsRead → IsLoaded (read_in u (parts_of path)) found → option_map bundle_of found ≡ Some b }
-    ensures none { (t : Tree) (u : Tree) (path : List ℕ) (b : Bundled) (e : BundleError) → IsBundle b → saved t path (bundle_text b) ≡ Some u
+    ensures none { (t : Tree) (u : Tree) (path : List ℕ) (b : Bundled) (e : BundleError) → IsBundle b
+        → saved t path (bundle_text b) ≡ Some u
         → IsNoBundle (read_in u (parts_of path)) e → ⊥ }
 {}

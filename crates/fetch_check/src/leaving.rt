@@ -38,7 +38,8 @@ pub(crate) fn reached_from_refs(
     refs: &Refs,
     border: &Border,
 ) -> Result<List<ObjectId>, NoMemory>
-    ensures ids { IfOk result (λ ids. (id : Id) → Contains ids id ↔ Reached (holding store.now.objects border.now) (direct_ids refs.now.names) id) }
+    ensures ids { IfOk result (λ ids. (id : Id)
+        → Contains ids id ↔ Reached (holding store.now.objects border.now) (direct_ids refs.now.names) id) }
     ensures ascending { IfOk result (λ ids. IsStrictlySortedBy id_cmp ids) }
 {
     let starts = direct_ids(alloc, refs)?;

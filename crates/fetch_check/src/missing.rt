@@ -48,7 +48,8 @@ fn add_unlinked(
     border: &Border,
     found: &mut Distinct<Pair, Pair>,
 ) -> Result<(), NoMemory>
-    ensures { OnOk result (found.new ≡ with_pairs found.old (pairs_of (told.unlinked_in store.now.objects border.now (map.entries store.now.objects)))) }
+    ensures { OnOk result (found.new ≡ with_pairs found.old
+        (pairs_of (told.unlinked_in store.now.objects border.now (map.entries store.now.objects)))) }
 {
     let mut objects = store.iter();
     while let Some((id, object)) = objects.next() {

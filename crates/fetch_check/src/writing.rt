@@ -52,7 +52,8 @@ pub fn write_bundle(
     requires few { map.len store.now.objects < 2 ^ 32 }
     requires own { AreOwnIds store.now.objects }
     ensures text { OnOk result ((ids : Items Id) × AreReached refs.now.names (holding store.now.objects border.now) ids
-        × (out.new.items ≡ out.old.items ++ bundle_text (bundled store.now.hash refs.now.names (holding store.now.objects border.now) ids))) }
+        × (out.new.items ≡ out.old.items ++ bundle_text
+        (bundled store.now.hash refs.now.names (holding store.now.objects border.now) ids))) }
     ensures refused { RefusesUnless is_memory (write_trouble refs.now.names (holding store.now.objects border.now)) result }
     ensures err { OnErr result (out.new.items ≡ out.old.items) }
 {
@@ -152,7 +153,8 @@ fn append_reference(
     out: &mut Vec<u8>,
 ) -> Result<(), BundleError>
     ensures line { OnOk result (out.new.items ≡ out.old.items ++ lines_text (sent (spec.ref_text (name.now, seen target.entry) ∷ []))) }
-    ensures refused { RefusesUnless is_memory (option_map (λ long. NameTooLong long) (spec.long_name (name.now, seen target.entry))) result }
+    ensures refused { RefusesUnless is_memory
+        (option_map (λ long. NameTooLong long) (spec.long_name (name.now, seen target.entry))) result }
     ensures err { OnErr result (out.new.items ≡ out.old.items) }
 {
     let text = reference_text(alloc, name, target)?;

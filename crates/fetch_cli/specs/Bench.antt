@@ -73,11 +73,13 @@ bench_line n = counted_line (codes "bench ") n
 
 -- how many objects and references there are: as many as the report has lines of ids and of references
 abbrev pub count_lines : State → List ℕ
-count_lines s = counted_line (codes "objects ") (length (map.keys s.objects)) ++ counted_line (codes "refs ") (length (map.entries s.refs.names))
+count_lines s = counted_line (codes "objects ") (length (map.keys s.objects))
+    ++ counted_line (codes "refs ") (length (map.entries s.refs.names))
 
 -- the summary of a fetch that was done
 unfoldable pub done_summary : ℕ → Outcome → State → List ℕ
-done_summary n outcome after = bench_line n ++ map_lines outcome.ref_map.mappings (updates_of outcome.status).updates ++ count_lines after ++ codes "ok\n"
+done_summary n outcome after = bench_line n ++ map_lines outcome.ref_map.mappings (updates_of outcome.status).updates ++ count_lines after
+    ++ codes "ok\n"
 
 -- the summary of a fetch that was refused
 unfoldable pub refused_summary : ℕ → FetchError → List ℕ

@@ -13,12 +13,14 @@ use Rattle.fetch_remote.specs.declared.fetching.fetch_error.FetchError.TheVarian
 use Rattle.fetch_remote.specs.declared.fetching.outcome.Outcome.{Outcome}
 
 -- It was done, and the peer heard all requests.
-pub record HasDone (g : Given) (trees : List Worktree) (found : State) (stream : List ℕ) (outcome : Outcome) (left : State) (heard : List ℕ) : Type 0 where
+pub record HasDone (g : Given) (trees : List Worktree) (found : State) (stream : List ℕ) (outcome : Outcome) (left : State)
+    (heard : List ℕ) : Type 0 where
   pub fetched : fetched_in g trees found stream ≡ Ok (outcome, left)
   pub requests : heard ≡ lines_text (requests_in g found stream)
 
 -- It was refused, and the peer heard all requests up to that. The one file that may stand is the keep file.
-pub record HasRefused (g : Given) (trees : List Worktree) (found : State) (stream : List ℕ) (e : FetchError) (now : State) (files : Tree) (heard : List ℕ) : Type 0 where
+pub record HasRefused (g : Given) (trees : List Worktree) (found : State) (stream : List ℕ) (e : FetchError) (now : State) (files : Tree)
+    (heard : List ℕ) : Type 0 where
   pub fetched : fetched_in g trees found stream ≡ Err e
   pub left : now ≡ left_in g found stream
   pub kept : with_keep (keep_left_in g found stream) map.empty ≡ Some files
@@ -36,5 +38,6 @@ HasFetchedBy g trees found stream (Ok outcome) left files heard = HasDone g tree
 HasFetchedBy g trees found stream (Err e) left files heard = HasRefusedBy g trees found stream e left files heard
 
 -- the same, as a fact of its own
-pub record HasFetched (g : Given) (trees : List Worktree) (found : State) (stream : List ℕ) (result : Result Outcome FetchError) (left : State) (files : Tree) (heard : List ℕ) : Type 0 where
+pub record HasFetched (g : Given) (trees : List Worktree) (found : State) (stream : List ℕ) (result : Result Outcome FetchError)
+    (left : State) (files : Tree) (heard : List ℕ) : Type 0 where
   pub by : HasFetchedBy g trees found stream result left files heard

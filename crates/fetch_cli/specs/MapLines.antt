@@ -28,7 +28,8 @@ type_change_text (Some changes.SymbolicToDirect) = codes " [symbolic-to-direct]"
 
 -- `map <index> <source> -> <destination>`
 unfoldable pub map_front : ℕ → Mapping → List ℕ
-map_front index mapping = codes "map " ++ decimal index ++ codes " " ++ source_text mapping.remote ++ codes " -> " ++ destination_text mapping.local
+map_front index mapping = codes "map " ++ decimal index ++ codes " " ++ source_text mapping.remote ++ codes " -> "
+    ++ destination_text mapping.local
 
 -- `: <mode>`, and the change of type
 unfoldable pub map_back : Update → List ℕ

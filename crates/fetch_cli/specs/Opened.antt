@@ -8,4 +8,7 @@ use Rattle.fetch_scene.specs.declared.references.Reference.{Reference}
 
 -- the edit that puts a reference at its name, whatever is there, and isn't logged
 abbrev pub edit_of : Reference → RefEdit
-edit_of r = record { change = Update (record { mode = AndReference; force_create_reflog = false; message = [] }) Any r.target; name = r.name }
+edit_of r = record {
+  change = Update (record { mode = AndReference; force_create_reflog = false; message = [] }) Any r.target;
+  name = r.name;
+}

@@ -46,7 +46,12 @@ committer = record { name = codes "fetch"; email = codes "fetch@localhost"; seco
 -- the options of a scene's fetch
 abbrev pub fetch_options : SceneOptions → List Spec → FetchOptions
 fetch_options o extra = record {
-  map = record { prefix_from_spec_as_filter_on_remote = o.filter; handshake_parameters = o.parameters; extra_refspecs = extra; max_reply_bytes = o.bound };
+  map = record {
+    prefix_from_spec_as_filter_on_remote = o.filter;
+    handshake_parameters = o.parameters;
+    extra_refspecs = extra;
+    max_reply_bytes = o.bound;
+  };
   dry_run = o.dry_run;
   write_packed_refs_only = o.packed_only;
   reflog_message = o.message;
@@ -143,7 +148,8 @@ log_lines refs = flat_map (λ e. log_lines_at refs.logs e.0) (map.entries refs.n
 
 -- references, reflogs, border and ids, each in ascending order
 unfoldable pub state_lines : State → List ℕ
-state_lines s = ref_lines s.refs.names ++ log_lines s.refs ++ flat_map border_line (ids_of s.border) ++ flat_map id_line (map.keys s.objects)
+state_lines s = ref_lines s.refs.names ++ log_lines s.refs ++ flat_map border_line (ids_of s.border)
+    ++ flat_map id_line (map.keys s.objects)
 
 -- the updates of a status
 abbrev pub updates_of : Status → Updates
@@ -158,7 +164,8 @@ keep_lines (Some path) = keep_line path
 -- the report of a fetch that was done
 unfoldable pub done_text : List Line → Outcome → State → List ℕ
 done_text sent outcome after =
-    sent_lines sent ++ map_lines outcome.ref_map.mappings (updates_of outcome.status).updates ++ state_lines after ++ keep_lines (keep_in outcome.status) ++ codes "ok\n"
+    sent_lines sent ++ map_lines outcome.ref_map.mappings (updates_of outcome.status).updates ++ state_lines after
+    ++ keep_lines (keep_in outcome.status) ++ codes "ok\n"
 
 -- the report of a fetch that was refused
 unfoldable pub refused_text : List Line → FetchError → State → Option (List ℕ) → List ℕ
@@ -179,7 +186,8 @@ beside left (Ok outcome) = Ok (outcome, left)
 beside left (Err e) = Err e
 
 -- the report of a fetch that answered this, left this state and this keep file, and whose peer heard these bytes
-pub record Tells (old new : List ℕ) (status : ℕ) (result : Result Outcome FetchError) (left : State) (keep : Option (List ℕ)) (heard : List ℕ) : Type 0 where
+pub record Tells (old new : List ℕ) (status : ℕ) (result : Result Outcome FetchError) (left : State) (keep : Option (List ℕ))
+    (heard : List ℕ) : Type 0 where
   pub text : List ℕ
   pub is : report_with (lines_heard heard) (beside left result) left keep ≡ (status, text)
   pub known : result ≢ Err errors.NoMemory

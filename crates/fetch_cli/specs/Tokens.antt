@@ -93,7 +93,8 @@ hash_text Sha256 = codes "sha256"
 -- a refusal from the fetch request on
 unfoldable pub receive_token : ReceiveError → List ℕ
 receive_token (receive.NoMapping refspecs count) = keeping (codes "NoMapping") (decimal count)
-receive_token (receive.IncompatibleObjectHash local remote) = keeping (keeping (codes "IncompatibleObjectHash") (hash_text local)) (hash_text remote)
+receive_token (receive.IncompatibleObjectHash local remote) =
+    keeping (keeping (codes "IncompatibleObjectHash") (hash_text local)) (hash_text remote)
 receive_token (receive.Disconnected link) = keeping (keeping (codes "Disconnected") (hex_of link.from)) (hex_of link.to)
 receive_token (receive.RejectShallowRemoteConfig value) = keeping (codes "RejectShallowRemoteConfig") value
 receive_token (receive.NegotiationAlgorithmConfig value) = keeping (codes "NegotiationAlgorithmConfig") value

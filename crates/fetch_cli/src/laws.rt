@@ -22,7 +22,8 @@ pub fn a_report_tells_the_requests()
 
 /// The report of a scene with valid input tells a fetch that was done.
 pub fn a_valid_scene_is_fetched()
-    ensures { (scene : Scene) (status : ℕ) (text : List ℕ) → IsValidInput (given_of scene) scene.worktrees (found_of scene) (stream_of scene) → IsReport scene status text → status ≡ 0 }
+    ensures { (scene : Scene) (status : ℕ) (text : List ℕ)
+        → IsValidInput (given_of scene) scene.worktrees (found_of scene) (stream_of scene) → IsReport scene status text → status ≡ 0 }
 {}
 
 /// A bench ends as the report of its scene does: both are done, or both name a refusal.

@@ -47,7 +47,8 @@ pub(crate) struct Fetched {
 
 /// Fetches as it is set up, from a peer, with files and worktrees that never fail; and gives the files back, too.
 fn fetch<R: Threads + Sync>(rt: &R, alloc: Global, setting: Setting) -> (Fetched, MemoryFiles)
-    ensures fetched { HasFetched (record { remote = setting.remote; options = setting.options; setup = setup_of setting.repo }) setting.worktrees (state_of setting.repo) (concat setting.pieces)
+    ensures fetched { HasFetched (record { remote = setting.remote; options = setting.options; setup = setup_of setting.repo })
+        setting.worktrees (state_of setting.repo) (concat setting.pieces)
         result.0.result (state_of result.0.repo) result.1.tree result.0.peer.heard }
     ensures setup { setup_of result.0.repo ≡ setup_of setting.repo }
     ensures calm { ⟦<MemoryFiles as Files>⟧.may_fail result.1 ≡ false }
@@ -178,7 +179,8 @@ fn append_refused_fetch(
     repo: &Repository,
     keep: &Option<Text>,
 ) -> Result<(), NoMemory>
-    ensures { OnOk result (out.new.items ≡ out.old.items ++ spec.refused_text (lines_heard heard.now) refusal.now (state_of repo.now) keep.now) }
+    ensures { OnOk result (out.new.items ≡ out.old.items
+        ++ spec.refused_text (lines_heard heard.now) refusal.now (state_of repo.now) keep.now) }
 {
     append_heard(out, heard)?;
     append_refusal(out, refusal)?;
@@ -188,7 +190,8 @@ fn append_refused_fetch(
 
 /// The report of a fetch, and its status. At a refusal it left this keep file.
 fn append_report(out: &mut Vec<u8>, fetched: &Fetched, keep: &Option<Text>) -> Result<u8, NoMemory>
-    ensures { IfOk result (λ status. spec.Tells out.old.items out.new.items status fetched.now.result (state_of fetched.now.repo) keep.now fetched.now.peer.heard) }
+    ensures { IfOk result (λ status. spec.Tells out.old.items out.new.items status fetched.now.result
+        (state_of fetched.now.repo) keep.now fetched.now.peer.heard) }
 {
     let heard = fetched.peer.heard();
     match &fetched.result {

@@ -1,5 +1,6 @@
 -- What `HEAD` is to take of what a remote listed, and the edits by which it does.
-use Rattle.std.specs.Prelude.{ℕ, Bool, true, false, ◌&&◌, List, [], ◌∷◌, find, codes, Option, Some, None, is_some, Result, Ok, Err, if◌then◌else◌}
+use Rattle.std.specs.Prelude.{ℕ, Bool, true, false, ◌&&◌, List, [], ◌∷◌, find, codes, Option, Some, None, is_some, Result, Ok, Err}
+use Rattle.std.specs.Prelude.{if◌then◌else◌}
 use Rattle.std.specs.FinMap as finmap
 use Rattle.std.specs.Option.{option_and_then}
 use Rattle.std.specs.Str.{bytes_eq}
@@ -89,7 +90,8 @@ of_peeled graph first (Err e) = Err (unaimed.Peel first)
 -- the commit of a revision's id
 abbrev pub of_id : Graph → Option ObjectId → Result Aim Unaimed
 of_id graph None = Err unaimed.Revision
-of_id graph (Some id) = if is_some (finmap.get graph id) then of_peeled graph id (through graph (finmap.len graph) [] id) else Err (unaimed.Find id)
+of_id graph (Some id) = if is_some (finmap.get graph id) then of_peeled graph id (through graph (finmap.len graph) [] id)
+    else Err (unaimed.Find id)
 
 -- ---- all of it
 
@@ -109,7 +111,10 @@ is_memory e = false
 
 -- an edit that writes a value and expects nothing
 abbrev pub update_of : RefLog → List ℕ → List ℕ → Target → RefEdit
-update_of mode message name new = record { change = Update (record { mode = mode; force_create_reflog = false; message = message }) Any new; name = name }
+update_of mode message name new = record {
+  change = Update (record { mode = mode; force_create_reflog = false; message = message }) Any new;
+  name = name;
+}
 
 -- the same, of the reference and its reflog
 abbrev pub update : List ℕ → List ℕ → Target → RefEdit
@@ -118,7 +123,8 @@ update message name new = update_of AndReference message name new
 -- Where there is an id, the name gets it, and `HEAD` gets a line in its reflog.
 abbrev pub named_edits : List ℕ → List ℕ → Option ObjectId → List RefEdit
 named_edits message name None = []
-named_edits message name (Some id) = update message name (targets.Object id) ∷ update_of Only message (codes "HEAD") (targets.Object id) ∷ []
+named_edits message name (Some id) = update message name (targets.Object id)
+    ∷ update_of Only message (codes "HEAD") (targets.Object id) ∷ []
 
 -- `HEAD` takes the id, or leads to the name.
 abbrev pub edits_of : List ℕ → Aim → List RefEdit

@@ -7,7 +7,8 @@ use Rattle.fetch_specs.specs.Names.{first_is, full_name_trouble}
 
 -- `init.defaultBranch`, where an entry has a value, or else `main`
 unfoldable pub default_branch_of : Contents → List ℕ
-default_branch_of config = unwrap_or (last_of (explicit (values_of (codes "init") None (codes "defaultBranch") false config.sections))) (codes "main")
+default_branch_of config = unwrap_or (last_of (explicit (values_of (codes "init") None (codes "defaultBranch") false config.sections)))
+    (codes "main")
 
 -- the full name of a branch
 abbrev pub full_branch : List ℕ → List ℕ

@@ -17,7 +17,12 @@ plain = record {
   shallow = NoChange;
   overrides = [];
   wanted = Everything;
-  options = record { prefix_from_spec_as_filter_on_remote = true; handshake_parameters = []; extra_refspecs = []; max_reply_bytes = 268435456 };
+  options = record {
+    prefix_from_spec_as_filter_on_remote = true;
+    handshake_parameters = [];
+    extra_refspecs = [];
+    max_reply_bytes = 268435456;
+  };
 }
 
 -- A ref name that was chosen is taken back, and a revision stays.

@@ -41,18 +41,22 @@ section_left section hashes.Sha1 hashes.Sha256 = None
 section_left section hashes.Sha256 hashes.Sha1 = None
 
 -- The configuration in memory took the remote's section, and then `HEAD` what it is to take.
-pub record IsFinished (files files_left : Option Tree) (draft : Draft) (name : List ℕ) (section : Option Contents) (map : RefMap) (before after : RepositoryValue) : Type 0 where
+pub record IsFinished (files files_left : Option Tree) (draft : Draft) (name : List ℕ) (section : Option Contents) (map : RefMap)
+    (before after : RepositoryValue) : Type 0 where
   pub between : RepositoryValue
   pub state : between.state ≡ before.state
   pub in_force : IsInForce section before.setup between.setup
-  pub head : HasHead files files_left between after map (message_of draft) name (ref_name_of draft.choices.wanted) (revision_of draft.choices.wanted)
+  pub head : HasHead files files_left between after map (message_of draft) name (ref_name_of draft.choices.wanted)
+      (revision_of draft.choices.wanted)
 
 -- The configuration in memory took the section, and `HEAD` wasn't updated, or the branch's section not written.
-pub record IsUnheaded (may_fail : Bool) (files files_left : Option Tree) (draft : Draft) (name : List ℕ) (section : Option Contents) (map : RefMap) (before after : RepositoryValue) (e : Error) : Type 0 where
+pub record IsUnheaded (may_fail : Bool) (files files_left : Option Tree) (draft : Draft) (name : List ℕ) (section : Option Contents)
+    (map : RefMap) (before after : RepositoryValue) (e : Error) : Type 0 where
   pub between : RepositoryValue
   pub state : between.state ≡ before.state
   pub in_force : IsInForce section before.setup between.setup
-  pub why : IsHeadRefusal may_fail files files_left between after map (message_of draft) name (ref_name_of draft.choices.wanted) (revision_of draft.choices.wanted) e
+  pub why : IsHeadRefusal may_fail files files_left between after map (message_of draft) name (ref_name_of draft.choices.wanted)
+      (revision_of draft.choices.wanted) e
 
 -- Memory ran out before anything was changed.
 pub record IsUntouched (files files_left : Option Tree) (before after : RepositoryValue) (e : Error) : Type 0 where
@@ -62,7 +66,8 @@ pub record IsUntouched (files files_left : Option Tree) (before after : Reposito
   pub tree : files_left ≡ files
 
 -- Why it isn't finished: `HEAD` wasn't updated, the branch's section wasn't written, or memory ran out.
-pub record IsUnfinished (may_fail : Bool) (files files_left : Option Tree) (draft : Draft) (name : List ℕ) (section : Option Contents) (map : RefMap) (before after : RepositoryValue) (e : Error) : Type 0 where
+pub record IsUnfinished (may_fail : Bool) (files files_left : Option Tree) (draft : Draft) (name : List ℕ) (section : Option Contents)
+    (map : RefMap) (before after : RepositoryValue) (e : Error) : Type 0 where
   pub by : IsUntouched files files_left before after e ⊎ IsUnheaded may_fail files files_left draft name section map before after e
 
 -- ---- from the saved remote on
@@ -73,53 +78,66 @@ query_of draft saved setup = query saved.name draft.choices saved.remote setup
 
 -- The references were listed by a peer, and what is wanted of them was fetched from it: the headline of a fetch holds of that
 -- peer, from where it stood before it was asked. Then it was taken back.
-pub record HasFetched {G P : Type 0} (w : Ways G P) (before after : Line G P) (known : Option (List Worktree)) (files files_left : Option Tree) (draft : Draft) (saved : Saved) (asked repo : RepositoryValue) (outcome : Outcome) : Type 0 where
+pub record HasFetched {G P : Type 0} (w : Ways G P) (before after : Line G P) (known : Option (List Worktree))
+    (files files_left : Option Tree) (draft : Draft) (saved : Saved) (asked repo : RepositoryValue) (outcome : Outcome) : Type 0 where
   pub between : Line G P
   pub peer : P
   pub prepared : Prepared
   pub listed : IsListed w before between (query_of draft saved asked.setup) peer prepared
-  pub taken : IsTaken w.told w.answers (w.told listed.first) between.taken after.taken known files files_left draft saved.remote prepared asked repo outcome
+  pub taken : IsTaken w.told w.answers (w.told listed.first) between.taken after.taken known files files_left draft saved.remote prepared
+      asked repo outcome
   pub same_left : after.left ≡ between.left
   pub same_addresses : after.addresses ≡ between.addresses
   pub same_closure : after.closure ≡ between.closure
 
 -- The references were listed and fetched, and then `HEAD` took what it is to take. The interrupt said no before each receive.
-pub record IsCompleted {G P : Type 0} (will will' : ℕ → Type 0) (w : Ways G P) (before after : Line G P) (known : Option (List Worktree)) (files files_left : Option Tree) (draft : Draft) (saved : Saved) (asked repo : RepositoryValue) (outcome : Outcome) : Type 0 where
+pub record IsCompleted {G P : Type 0} (will will' : ℕ → Type 0) (w : Ways G P) (before after : Line G P) (known : Option (List Worktree))
+    (files files_left : Option Tree) (draft : Draft) (saved : Saved) (asked repo : RepositoryValue) (outcome : Outcome) : Type 0 where
   pub between : RepositoryValue
   pub stood : Option Tree
   pub fetched : HasFetched w before after known files stood draft saved asked between outcome
-  pub finished : IsFinished stood files_left draft saved.name (section_left saved.section asked.state.hash between.state.hash) outcome.ref_map between repo
+  pub finished : IsFinished stood files_left draft saved.name
+      (section_left saved.section asked.state.hash between.state.hash) outcome.ref_map between repo
   pub questions : IsHeededOver will will' (w.told fetched.listed.first) (w.told fetched.taken.last)
 
 -- The references were listed, and not fetched; the peer was taken back.
-pub record IsListedAlone {G P : Type 0} (w : Ways G P) (before after : Line G P) (known : Option (List Worktree)) (may_fail : Bool) (files files_left : Option Tree) (draft : Draft) (saved : Saved) (asked repo : RepositoryValue) (e : Error) : Type 0 where
+pub record IsListedAlone {G P : Type 0} (w : Ways G P) (before after : Line G P) (known : Option (List Worktree)) (may_fail : Bool)
+    (files files_left : Option Tree) (draft : Draft) (saved : Saved) (asked repo : RepositoryValue) (e : Error) : Type 0 where
   pub between : Line G P
   pub peer : P
   pub prepared : Prepared
   pub listed : IsListed w before between (query_of draft saved asked.setup) peer prepared
-  pub why : IsNotTaken w.told w.answers (w.told listed.first) between.taken after.taken known may_fail files files_left draft saved.remote prepared asked repo e
+  pub why : IsNotTaken w.told w.answers (w.told listed.first) between.taken after.taken known may_fail files files_left draft saved.remote
+      prepared asked repo e
   pub same_left : after.left ≡ between.left
   pub same_addresses : after.addresses ≡ between.addresses
   pub same_closure : after.closure ≡ between.closure
 
 -- The references were fetched, and then something was refused.
-pub record IsFetchedAlone {G P : Type 0} (w : Ways G P) (before after : Line G P) (known : Option (List Worktree)) (may_fail : Bool) (files files_left : Option Tree) (draft : Draft) (saved : Saved) (asked repo : RepositoryValue) (e : Error) : Type 0 where
+pub record IsFetchedAlone {G P : Type 0} (w : Ways G P) (before after : Line G P) (known : Option (List Worktree)) (may_fail : Bool)
+    (files files_left : Option Tree) (draft : Draft) (saved : Saved) (asked repo : RepositoryValue) (e : Error) : Type 0 where
   pub between : RepositoryValue
   pub stood : Option Tree
   pub outcome : Outcome
   pub fetched : HasFetched w before after known files stood draft saved asked between outcome
-  pub why : IsUnfinished may_fail stood files_left draft saved.name (section_left saved.section asked.state.hash between.state.hash) outcome.ref_map between repo e
+  pub why : IsUnfinished may_fail stood files_left draft saved.name
+      (section_left saved.section asked.state.hash between.state.hash) outcome.ref_map between repo e
 
 -- No references were listed, and nothing else has changed; or they weren't fetched; or something was refused then.
-pub record IsUncompleted {G P : Type 0} (w : Ways G P) (was is : Faults) (before after : Line G P) (known : Option (List Worktree)) (may_fail : Bool) (files files_left : Option Tree) (draft : Draft) (saved : Saved) (asked repo : RepositoryValue) (e : Error) : Type 0 where
+pub record IsUncompleted {G P : Type 0} (w : Ways G P) (was is : Faults) (before after : Line G P) (known : Option (List Worktree))
+    (may_fail : Bool) (files files_left : Option Tree) (draft : Draft) (saved : Saved) (asked repo : RepositoryValue)
+    (e : Error) : Type 0 where
   pub by : (IsUnprepared w was is before after (query_of draft saved asked.setup) e × (repo ≡ asked) × (files_left ≡ files))
-      ⊎ (IsListedAlone w before after known may_fail files files_left draft saved asked repo e ⊎ IsFetchedAlone w before after known may_fail files files_left draft saved asked repo e)
+      ⊎ (IsListedAlone w before after known may_fail files files_left draft saved asked repo e
+      ⊎ IsFetchedAlone w before after known may_fail files files_left draft saved asked repo e)
 
 -- ---- all of it
 
 -- The remote was saved, and then all was completed. Will and will' are the questions that the interrupt will say yes to, before and
 -- after: it said no before each receive, of the peer that listed before, and of the one that was fetched from.
-pub record IsCloned {G P : Type 0} (will will' : ℕ → Type 0) (answers : Answering) (w : Ways G P) (before after : Line G P) (known : Option (List Worktree)) (files files_left : Option Tree) (draft : Draft) (found repo : RepositoryValue) (outcome : Outcome) : Type 0 where
+pub record IsCloned {G P : Type 0} (will will' : ℕ → Type 0) (answers : Answering) (w : Ways G P) (before after : Line G P)
+    (known : Option (List Worktree)) (files files_left : Option Tree) (draft : Draft) (found repo : RepositoryValue)
+    (outcome : Outcome) : Type 0 where
   pub saved : Saved
   pub asked : RepositoryValue
   pub between : Line G P
@@ -129,7 +147,9 @@ pub record IsCloned {G P : Type 0} (will will' : ℕ → Type 0) (answers : Answ
   pub completed : IsCompleted will will' w between after known written files_left draft saved asked repo outcome
 
 -- The remote was saved, and then something was refused; the maker had failed so often before.
-pub record IsSavedAlone {G P : Type 0} (answers : Answering) (w : Ways G P) (was is : Faults) (before after : Line G P) (known : Option (List Worktree)) (may_fail : Bool) (files files_left : Option Tree) (draft : Draft) (found repo : RepositoryValue) (e : Error) : Type 0 where
+pub record IsSavedAlone {G P : Type 0} (answers : Answering) (w : Ways G P) (was is : Faults) (before after : Line G P)
+    (known : Option (List Worktree)) (may_fail : Bool) (files files_left : Option Tree) (draft : Draft) (found repo : RepositoryValue)
+    (e : Error) : Type 0 where
   pub saved : Saved
   pub asked : RepositoryValue
   pub between : Line G P
@@ -141,6 +161,8 @@ pub record IsSavedAlone {G P : Type 0} (answers : Answering) (w : Ways G P) (was
 
 -- The remote wasn't saved; or it was, and something was refused then. Each comes after the steps before it. Uncalled is what holds
 -- of the closure for the remote where it wasn't called.
-pub record IsUncloned {G P : Type 0} (answers : Answering) (uncalled : Type 0) (w : Ways G P) (was is : Faults) (before after : Line G P) (known : Option (List Worktree)) (may_fail : Bool) (files files_left : Option Tree) (draft : Draft) (found repo : RepositoryValue) (e : Error) : Type 0 where
+pub record IsUncloned {G P : Type 0} (answers : Answering) (uncalled : Type 0) (w : Ways G P) (was is : Faults) (before after : Line G P)
+    (known : Option (List Worktree)) (may_fail : Bool) (files files_left : Option Tree) (draft : Draft) (found repo : RepositoryValue)
+    (e : Error) : Type 0 where
   pub by : IsNotSaved answers uncalled w was is before after may_fail files files_left draft found repo e
       ⊎ IsSavedAlone answers w was is before after known may_fail files files_left draft found repo e

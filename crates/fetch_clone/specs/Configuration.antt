@@ -32,7 +32,8 @@ symlinks_in false = entry (codes "symlinks") (codes "false")
 -- SHA-1 is what the first version of the format means, and any other hash is an extension of the next.
 abbrev pub version_in : Kind → List ℕ
 version_in hashes.Sha1 = entry (codes "repositoryformatversion") (codes "0")
-version_in hashes.Sha256 = entry (codes "repositoryformatversion") (codes "1") ++ line (codes "[extensions]") ++ entry (codes "objectformat") (codes "sha256")
+version_in hashes.Sha256 = entry (codes "repositoryformatversion") (codes "1") ++ line (codes "[extensions]")
+    ++ entry (codes "objectformat") (codes "sha256")
 
 -- the configuration of a new repository
 unfoldable pub configuration_of : Layout → Capabilities → Kind → List ℕ

@@ -8,7 +8,8 @@ use Rattle.fetch_store.specs.Trees.{Tree, kind_in, names_in, with_directories, w
 use Rattle.fetch_store.specs.declared.node.Node.{Node}
 use Rattle.fetch_store.specs.declared.node.Node.TheVariants as nodes
 use Rattle.fetch_clone.specs.declared.create.Error.{Error}
-use Rattle.fetch_clone.specs.declared.create.Error.TheVariants.{IoOpen, IoWrite, CreateDirectory, DirectoryNotEmpty, DirectoryExists, NoMemory}
+use Rattle.fetch_clone.specs.declared.create.Error.TheVariants.{IoOpen, IoWrite, CreateDirectory, DirectoryNotEmpty, DirectoryExists}
+use Rattle.fetch_clone.specs.declared.create.Error.TheVariants.{NoMemory}
 use Rattle.fetch_clone.specs.declared.step.Step.{Step}
 use Rattle.fetch_clone.specs.declared.step.Step.TheVariants.{Clear, Vacant, Directory, File}
 
@@ -86,11 +87,16 @@ opened_in t path (Some (Some names)) = Some t
 -- Why a step is refused, at the tree that stood then, which stays.
 abbrev pub IsStopAt : Bool → Option Tree → Step → Option Tree → Error → Type 0
 IsStopAt may_fail stood (Clear path) now (DirectoryNotEmpty told) = (told ≡ path) × (now ≡ stood) × IfSome stood (λ t. HasEntry t path)
-IsStopAt may_fail stood (Clear path) now (IoOpen told) = (told ≡ path) × (now ≡ stood) × IsRefused may_fail stood (λ t. opened_in t path (listed_in t path))
-IsStopAt may_fail stood (Vacant path) now (DirectoryExists told) = (told ≡ path) × (now ≡ stood) × IfSome stood (λ t. kind_in t (parts_of path) ≡ Some (Some nodes.Directory))
-IsStopAt may_fail stood (Vacant path) now (IoOpen told) = (told ≡ path) × (now ≡ stood) × IsRefused may_fail stood (λ t. kind_in t (parts_of path))
-IsStopAt may_fail stood (Directory path) now (CreateDirectory told) = (told ≡ path) × (now ≡ stood) × IsRefused may_fail stood (λ t. with_directories t (parts_of path))
-IsStopAt may_fail stood (File path bytes) now (IoWrite told) = (told ≡ path) × (now ≡ stood) × IsRefused may_fail stood (λ t. written t (parts_of path) bytes)
+IsStopAt may_fail stood (Clear path) now (IoOpen told) = (told ≡ path) × (now ≡ stood)
+    × IsRefused may_fail stood (λ t. opened_in t path (listed_in t path))
+IsStopAt may_fail stood (Vacant path) now (DirectoryExists told) = (told ≡ path) × (now ≡ stood)
+    × IfSome stood (λ t. kind_in t (parts_of path) ≡ Some (Some nodes.Directory))
+IsStopAt may_fail stood (Vacant path) now (IoOpen told) = (told ≡ path) × (now ≡ stood)
+    × IsRefused may_fail stood (λ t. kind_in t (parts_of path))
+IsStopAt may_fail stood (Directory path) now (CreateDirectory told) = (told ≡ path) × (now ≡ stood)
+    × IsRefused may_fail stood (λ t. with_directories t (parts_of path))
+IsStopAt may_fail stood (File path bytes) now (IoWrite told) = (told ≡ path) × (now ≡ stood)
+    × IsRefused may_fail stood (λ t. written t (parts_of path) bytes)
 IsStopAt may_fail stood step now NoMemory = now ≡ stood
 IsStopAt may_fail stood step now e = ⊥
 

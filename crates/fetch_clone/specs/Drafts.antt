@@ -1,5 +1,6 @@
 -- A clone that was prepared: an empty repository, and what is asked of it.
-use Rattle.std.specs.Prelude.{◌≡◌, ℕ, ◌==◌, ◌||◌, Bool, true, false, ◌⊎◌, List, [], ◌∷◌, Option, Some, None, IfSome, is_some, unwrap_or, if◌then◌else◌}
+use Rattle.std.specs.Prelude.{◌≡◌, ℕ, ◌==◌, ◌||◌, Bool, true, false, ◌⊎◌, List, [], ◌∷◌, Option, Some, None, IfSome, is_some, unwrap_or}
+use Rattle.std.specs.Prelude.{if◌then◌else◌}
 use Rattle.std.specs.List.{list_any}
 use Rattle.fetch_store.specs.FileCalls.{IsRefused}
 use Rattle.fetch_store.specs.Faults.{Faults, Counts, Rose}
@@ -35,14 +36,16 @@ is_free (Some (Some (name ∷ names))) = false
 
 -- Before anything is made it is noted whether the place is free; where the listing failed, which its count tells, it isn't.
 abbrev pub IsNoted : Faults → Faults → Option Tree → List ℕ → Bool → Type 0
-IsNoted was is before place free = ((is.count ≡ was.count) × IfSome before (λ t. free ≡ is_free (listed_in t place))) ⊎ ((free ≡ false) × Rose was is)
+IsNoted was is before place free = ((is.count ≡ was.count) × IfSome before (λ t. free ≡ is_free (listed_in t place)))
+    ⊎ ((free ≡ false) × Rose was is)
 
 -- A clone's place has to be empty, unless the options say otherwise.
 abbrev pub strict : Options → Options
 strict options = record options { destination_must_be_empty = Some (unwrap_or options.destination_must_be_empty true) }
 
 -- The place was noted, and an empty repository was created and opened there.
-pub record IsPrepared (was is : Faults) (before : Option Tree) (url place : List ℕ) (making : Making) (now : Option Tree) (draft : Draft) : Type 0 where
+pub record IsPrepared (was is : Faults) (before : Option Tree) (url place : List ℕ) (making : Making) (now : Option Tree)
+    (draft : Draft) : Type 0 where
   pub address : is_no_address url ≡ false
   -- The files had failed so often once the place was noted.
   pub failed : Faults
@@ -59,12 +62,14 @@ pub record IsPrepared (was is : Faults) (before : Option Tree) (url place : List
   pub unset : draft.configures_remote ≡ false
 
 -- The place was noted, and no repository was created or opened there.
-pub record IsUnprepared (was is : Faults) (may_fail : Bool) (before : Option Tree) (place : List ℕ) (making : Making) (now : Option Tree) (e : InitError) : Type 0 where
+pub record IsUnprepared (was is : Faults) (may_fail : Bool) (before : Option Tree) (place : List ℕ) (making : Making) (now : Option Tree)
+    (e : InitError) : Type 0 where
   pub free : Bool
   pub failed : Faults
   pub noted : IsNoted was failed before place free
   pub later : Counts failed is
-  pub why : IsInitRefusal may_fail before (steps_of place making.kind (strict making.options)) (new_of place making.kind (strict making.options) making.committer making.open_options) now e
+  pub why : IsInitRefusal may_fail before (steps_of place making.kind (strict making.options))
+      (new_of place making.kind (strict making.options) making.committer making.open_options) now e
 
 -- Out of memory is never wrapped.
 abbrev pub init_refusal : InitError → Error
@@ -76,7 +81,8 @@ init_refusal e = Init e
 abbrev pub IsPrepareRefusal : Faults → Faults → Bool → Option Tree → List ℕ → List ℕ → Making → Option Tree → Error → Type 0
 IsPrepareRefusal was is may_fail before url place making now Url = (is_no_address url ≡ true) × (now ≡ before)
 IsPrepareRefusal was is may_fail before url place making now (Init initial.NoMemory) = ⊥
-IsPrepareRefusal was is may_fail before url place making now (Init e) = (is_no_address url ≡ false) × IsUnprepared was is may_fail before place making now e
+IsPrepareRefusal was is may_fail before url place making now (Init e) = (is_no_address url ≡ false)
+    × IsUnprepared was is may_fail before place making now e
 IsPrepareRefusal was is may_fail before url place making now NoMemory = TellsStill before now
 
 -- whether the cause is a fault of the files
@@ -97,7 +103,8 @@ IsGone before place now = TellsStill before now × IfSome before (λ t. without_
 
 -- The removal was refused, and all stays: its fault is counted, and something is in the way, unless the files fail by themselves.
 abbrev pub IsNotGone : Faults → Faults → Bool → Option Tree → List ℕ → Option Tree → Type 0
-IsNotGone was is may_fail before place now = Rose was is × ((now ≡ before) × IsRefused may_fail before (λ t. without_all t (parts_of place)))
+IsNotGone was is may_fail before place now = Rose was is
+    × ((now ≡ before) × IsRefused may_fail before (λ t. without_all t (parts_of place)))
 
 -- The place is gone, or its removal was refused.
 abbrev pub IsRemoved : Faults → Faults → Bool → Option Tree → List ℕ → Option Tree → Type 0

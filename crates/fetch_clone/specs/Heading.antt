@@ -59,7 +59,8 @@ followed setup remote (Name name id) = following setup.local remote (saved_specs
 
 -- The text is written into the file `config`.
 abbrev pub IsWritten : Option Tree → List ℕ → Contents → Option Tree → Type 0
-IsWritten before git_dir local now = TellsStill before now × IfSome before (λ t. written t (parts_of (config_path git_dir)) (text_of local.sections) ≡ now)
+IsWritten before git_dir local now = TellsStill before now
+    × IfSome before (λ t. written t (parts_of (config_path git_dir)) (text_of local.sections) ≡ now)
 
 -- Where there is such a section, it stands in the file `config`, which is written anew, and in memory; else both are as before.
 abbrev pub FollowsIf : Setup → Setup → Option Tree → Option Tree → Option Contents → Type 0
@@ -74,7 +75,8 @@ local_of new = option_map (λ n. n.resolved.file) new
 abbrev pub IsReadyIn : Setup → Option NewConfig → Type 0
 IsReadyIn setup None = ⊤
 IsReadyIn setup (Some new) =
-    (new.path ≡ config_path setup.settings.git_dir) × (new.text ≡ text_of new.resolved.file.sections) × (resolved_of setup.base new.resolved.file setup.overrides ≡ Some new.resolved.config)
+    (new.path ≡ config_path setup.settings.git_dir) × (new.text ≡ text_of new.resolved.file.sections)
+    × (resolved_of setup.base new.resolved.file setup.overrides ≡ Some new.resolved.config)
 
 -- ---- all of it
 
@@ -83,7 +85,8 @@ abbrev pub aim_of : State → RefMap → Option (List ℕ) → Option Spec → R
 aim_of s map ref_name revision = aim_in map (graph_of s.objects) ref_name revision
 
 -- `HEAD` took what was aimed at.
-pub record HasHead (told now : Option Tree) (before after : RepositoryValue) (map : RefMap) (message remote : List ℕ) (ref_name : Option (List ℕ)) (revision : Option Spec) : Type 0 where
+pub record HasHead (told now : Option Tree) (before after : RepositoryValue) (map : RefMap) (message remote : List ℕ)
+    (ref_name : Option (List ℕ)) (revision : Option Spec) : Type 0 where
   pub aim : Aim
   pub takes : aim_of (state_of before) map ref_name revision ≡ Ok aim
   pub state : state_of after ≡ moved (setup_of before) (state_of before) message aim
@@ -104,7 +107,8 @@ source_of (Some revision) = revision.source
 -- how a refusal to aim is told: a ref name and a revision with what was wanted
 abbrev pub told_as : Option (List ℕ) → Option Spec → Unaimed → Error
 told_as ref_name revision (unaimed.Name unmeant.Missing) = wanting ref_name errors.RefNameMissing
-told_as ref_name revision (unaimed.Name (unmeant.Ambiguous candidates)) = wanting ref_name (λ wanted. errors.RefNameAmbiguous wanted candidates)
+told_as ref_name revision (unaimed.Name (unmeant.Ambiguous candidates)) =
+    wanting ref_name (λ wanted. errors.RefNameAmbiguous wanted candidates)
 told_as ref_name revision (unaimed.Name unmeant.NoMemory) = errors.NoMemory
 told_as ref_name revision (unaimed.InvalidHead name) = errors.InvalidHeadRef name
 told_as ref_name revision unaimed.Revision = wanting (source_of revision) errors.RevisionMissing
@@ -121,7 +125,8 @@ IsToldAs ref_name revision cause e = e ≡ told_as ref_name revision cause
 -- why a local file isn't saved
 abbrev pub IsUnsaved : Bool → Option Tree → List ℕ → Option Contents → Error → Type 0
 IsUnsaved may_fail told git_dir local errors.NoMemory = (file : Contents) × (local ≡ Some file)
-IsUnsaved may_fail told git_dir local errors.SaveConfigIo = (file : Contents) × (local ≡ Some file) × IsRefused may_fail told (λ t. written t (parts_of (config_path git_dir)) (text_of file.sections))
+IsUnsaved may_fail told git_dir local errors.SaveConfigIo = (file : Contents) × (local ≡ Some file)
+    × IsRefused may_fail told (λ t. written t (parts_of (config_path git_dir)) (text_of file.sections))
 IsUnsaved may_fail told git_dir local e = ⊥
 
 -- Why there is nothing to aim at.
@@ -137,14 +142,16 @@ IsNoAim s map ref_name revision errors.SaveConfigIo = ⊥
 IsNoAim s map ref_name revision e = HasNoAim s map ref_name revision e
 
 -- There was nothing to aim at, and nothing has changed.
-pub record IsUnaimed (told now : Option Tree) (before after : RepositoryValue) (map : RefMap) (ref_name : Option (List ℕ)) (revision : Option Spec) (e : Error) : Type 0 where
+pub record IsUnaimed (told now : Option Tree) (before after : RepositoryValue) (map : RefMap) (ref_name : Option (List ℕ))
+    (revision : Option Spec) (e : Error) : Type 0 where
   pub why : HasNoAim (state_of before) map ref_name revision e
   pub state : state_of after ≡ state_of before
   pub setup : setup_of after ≡ setup_of before
   pub tree : now ≡ told
 
 -- `HEAD` took what was aimed at, and then the branch's section couldn't be written.
-pub record IsUnwritten (may_fail : Bool) (told now : Option Tree) (before after : RepositoryValue) (map : RefMap) (message remote : List ℕ) (ref_name : Option (List ℕ)) (revision : Option Spec) : Type 0 where
+pub record IsUnwritten (may_fail : Bool) (told now : Option Tree) (before after : RepositoryValue) (map : RefMap) (message remote : List ℕ)
+    (ref_name : Option (List ℕ)) (revision : Option Spec) : Type 0 where
   pub aim : Aim
   pub takes : aim_of (state_of before) map ref_name revision ≡ Ok aim
   pub state : state_of after ≡ moved (setup_of before) (state_of before) message aim
@@ -152,7 +159,8 @@ pub record IsUnwritten (may_fail : Bool) (told now : Option Tree) (before after 
   pub local : Contents
   pub follows : followed (setup_of before) remote aim ≡ Some local
   pub tree : now ≡ told
-  pub refused : IsRefused may_fail told (λ t. written t (parts_of (config_path (setup_of before).settings.git_dir)) (text_of local.sections))
+  pub refused : IsRefused may_fail told (λ t.
+      written t (parts_of (config_path (setup_of before).settings.git_dir)) (text_of local.sections))
 
 -- Nothing has changed.
 pub record IsUnmoved (told now : Option Tree) (before after : RepositoryValue) : Type 0 where
@@ -161,7 +169,8 @@ pub record IsUnmoved (told now : Option Tree) (before after : RepositoryValue) :
   pub tree : now ≡ told
 
 -- `HEAD` took what was aimed at, and the configuration in memory is as before: the branch's section was still to be saved.
-pub record IsMovedOnly (told now : Option Tree) (before after : RepositoryValue) (map : RefMap) (message remote : List ℕ) (ref_name : Option (List ℕ)) (revision : Option Spec) : Type 0 where
+pub record IsMovedOnly (told now : Option Tree) (before after : RepositoryValue) (map : RefMap) (message remote : List ℕ)
+    (ref_name : Option (List ℕ)) (revision : Option Spec) : Type 0 where
   pub aim : Aim
   pub takes : aim_of (state_of before) map ref_name revision ≡ Ok aim
   pub state : state_of after ≡ moved (setup_of before) (state_of before) message aim
@@ -171,11 +180,17 @@ pub record IsMovedOnly (told now : Option Tree) (before after : RepositoryValue)
   pub tree : now ≡ told
 
 -- Memory ran out before anything was changed, or when the branch's section was written.
-abbrev pub IsWanting : Option Tree → Option Tree → RepositoryValue → RepositoryValue → RefMap → List ℕ → List ℕ → Option (List ℕ) → Option Spec → Type 0
-IsWanting told now before after map message remote ref_name revision = IsUnmoved told now before after ⊎ IsMovedOnly told now before after map message remote ref_name revision
+abbrev pub IsWanting : Option Tree → Option Tree → RepositoryValue → RepositoryValue → RefMap → List ℕ → List ℕ → Option (List ℕ)
+    → Option Spec → Type 0
+IsWanting told now before after map message remote ref_name revision = IsUnmoved told now before after
+    ⊎ IsMovedOnly told now before after map message remote ref_name revision
 
 -- Why `HEAD` didn't take its aim.
-abbrev pub IsHeadRefusal : Bool → Option Tree → Option Tree → RepositoryValue → RepositoryValue → RefMap → List ℕ → List ℕ → Option (List ℕ) → Option Spec → Error → Type 0
-IsHeadRefusal may_fail told now before after map message remote ref_name revision errors.NoMemory = IsWanting told now before after map message remote ref_name revision
-IsHeadRefusal may_fail told now before after map message remote ref_name revision errors.SaveConfigIo = IsUnwritten may_fail told now before after map message remote ref_name revision
-IsHeadRefusal may_fail told now before after map message remote ref_name revision e = IsUnaimed told now before after map ref_name revision e
+abbrev pub IsHeadRefusal : Bool → Option Tree → Option Tree → RepositoryValue → RepositoryValue → RefMap → List ℕ → List ℕ → Option (List ℕ)
+    → Option Spec → Error → Type 0
+IsHeadRefusal may_fail told now before after map message remote ref_name revision errors.NoMemory =
+    IsWanting told now before after map message remote ref_name revision
+IsHeadRefusal may_fail told now before after map message remote ref_name revision errors.SaveConfigIo =
+    IsUnwritten may_fail told now before after map message remote ref_name revision
+IsHeadRefusal may_fail told now before after map message remote ref_name revision e =
+    IsUnaimed told now before after map ref_name revision e

@@ -44,11 +44,16 @@ hash_of options = unwrap_or options.object_hash hashes.Sha1
 
 -- what a repository is opened with, once its files are created
 abbrev pub new_of : List ℕ → Layout → Options → Signature → OpenOptions → New
-new_of directory kind options committer opened = record { path = path_of directory kind; hash = hash_of options; committer = committer; options = opened }
+new_of directory kind options committer opened =
+    record { path = path_of directory kind; hash = hash_of options; committer = committer; options = opened }
 
 -- settings that can't be read are taken as absent, there are no overrides, and nothing comes before the local file
 abbrev pub lenient : OpenOptions
-lenient = record { lenient_config = true; api_config_overrides = []; base = record { meta = record { source = System; level = 0; path = None; trusted = true }; sections = [] } }
+lenient = record {
+  lenient_config = true;
+  api_config_overrides = [];
+  base = record { meta = record { source = System; level = 0; path = None; trusted = true }; sections = [] };
+}
 
 -- the path of its configuration
 abbrev pub config_of : New → List ℕ
@@ -84,7 +89,10 @@ parts_with new local =
 
 -- by which `HEAD` leads to a branch, whatever stood there
 abbrev pub leading : List ℕ → RefEdit
-leading branch = record { change = Update (record { mode = AndReference; force_create_reflog = false; message = [] }) Any (Symbolic branch); name = codes "HEAD" }
+leading branch = record {
+  change = Update (record { mode = AndReference; force_create_reflog = false; message = [] }) Any (Symbolic branch);
+  name = codes "HEAD";
+}
 
 -- `HEAD` leads to a branch, and its reflog gets no line.
 abbrev pub with_head : State → List ℕ → State
@@ -160,7 +168,8 @@ IsUnready may_fail stood new now NoMemory = now ≡ stood
 IsUnready may_fail stood new now (Init e) = ⊥
 
 -- All was created, and then it was refused.
-pub record IsCreatedOnly (may_fail : Bool) (before : Option Tree) (steps : List Step) (new : New) (now : Option Tree) (e : Error) : Type 0 where
+pub record IsCreatedOnly (may_fail : Bool) (before : Option Tree) (steps : List Step) (new : New) (now : Option Tree)
+    (e : Error) : Type 0 where
   pub stood : Option Tree
   pub created : Reaches before steps stood
   pub why : IsUnready may_fail stood new now e

@@ -1,5 +1,6 @@
 -- The references that a clone fetches, as they are listed, and the peer that listed them.
-use Rattle.std.specs.Prelude.{◌≡◌, ◌⊎◌, ℕ, Bool, true, false, not, ◌&&◌, List, [], ◌∷◌, ◌++◌, codes, filter, if◌then◌else◌, Option, Some, None, slice_get, Ok}
+use Rattle.std.specs.Prelude.{◌≡◌, ◌⊎◌, ℕ, Bool, true, false, not, ◌&&◌, List, [], ◌∷◌, ◌++◌, codes, filter, if◌then◌else◌, Option, Some}
+use Rattle.std.specs.Prelude.{None, slice_get, Ok}
 use Rattle.std.specs.List.{list_any}
 use Rattle.std.specs.Str.{bytes_eq}
 use Rattle.fetch_store.specs.Faults.{Faults, Counts}
@@ -42,7 +43,8 @@ head_text place = codes "HEAD:" ++ place
 
 -- whether a refspec is that of the remote's `HEAD`: one by force is the caller's own
 abbrev pub is_head : List ℕ → Spec → Bool
-is_head place spec = not (is_forced spec.mode) && (is_same_side spec.source (Some (codes "HEAD")) && is_same_side spec.destination (Some place))
+is_head place spec = not (is_forced spec.mode)
+    && (is_same_side spec.source (Some (codes "HEAD")) && is_same_side spec.destination (Some place))
 
 -- These are the refspecs that a text says, where there is one.
 abbrev pub Says : Option (List ℕ) → List Spec → Type 0
@@ -119,13 +121,15 @@ abbrev pub AreAsked : Bool → Query → Options → Type 0
 AreAsked with_head q options = AreOptions with_head (head_at q.name) q.choices options
 
 -- The listing broke off, asked by these options, of a peer that stood so before, and stands so.
-pub record BreaksAt {P : Type 0} (told : P → Option Talk) (answers : Bool) (with_head : Bool) (q : Query) (first last : P) (e : PrepareError) : Type 0 where
+pub record BreaksAt {P : Type 0} (told : P → Option Talk) (answers : Bool) (with_head : Bool) (q : Query) (first last : P)
+    (e : PrepareError) : Type 0 where
   pub options : Options
   pub asks : AreAsked with_head q options
   pub broke : BreaksOff answers (told first) (told last) (asked q.remote q.setup options) e
 
 -- The references were listed, asked by these options, by a peer that stood so before, and stands so.
-pub record ListsAt {P : Type 0} (told : P → Option Talk) (answers : Bool) (with_head : Bool) (q : Query) (first last : P) (prepared : Prepared) : Type 0 where
+pub record ListsAt {P : Type 0} (told : P → Option Talk) (answers : Bool) (with_head : Bool) (q : Query) (first last : P)
+    (prepared : Prepared) : Type 0 where
   pub options : Options
   pub asks : AreAsked with_head q options
   pub listed : HasListed answers (told first) (told last) (asked q.remote q.setup options) prepared.listed
@@ -151,7 +155,8 @@ pub record IsConflicting {G P : Type 0} (w : Ways G P) (before after : Line G P)
 -- ---- the second peer, which is asked without the remote's `HEAD`, and without the closure
 
 -- It was made, and listed the references.
-pub record IsListedAgain {P : Type 0} (told : P → Option Talk) (answers : Bool) (left left_after taken taken_after : Option (List P)) (addresses addresses_after : Option (List (List ℕ))) (q : Query) (peer : P) (prepared : Prepared) : Type 0 where
+pub record IsListedAgain {P : Type 0} (told : P → Option Talk) (answers : Bool) (left left_after taken taken_after : Option (List P))
+    (addresses addresses_after : Option (List (List ℕ))) (q : Query) (peer : P) (prepared : Prepared) : Type 0 where
   pub first : P
   pub made : Makes {E = ConnectError} left left_after (Ok first)
   pub at : MakesAtFirst {E = ConnectError} (url_of q) addresses addresses_after (Ok first)
@@ -159,7 +164,8 @@ pub record IsListedAgain {P : Type 0} (told : P → Option Talk) (answers : Bool
   pub lists : ListsAt told answers false q first peer prepared
 
 -- It was made, the listing broke off, and it was taken back.
-pub record IsBrokenAgain {P : Type 0} (told : P → Option Talk) (answers : Bool) (left left_after taken taken_after : Option (List P)) (addresses addresses_after : Option (List (List ℕ))) (q : Query) (e : PrepareError) : Type 0 where
+pub record IsBrokenAgain {P : Type 0} (told : P → Option Talk) (answers : Bool) (left left_after taken taken_after : Option (List P))
+    (addresses addresses_after : Option (List (List ℕ))) (q : Query) (e : PrepareError) : Type 0 where
   pub first : P
   pub made : Makes {E = ConnectError} left left_after (Ok first)
   pub at : MakesAtFirst {E = ConnectError} (url_of q) addresses addresses_after (Ok first)
@@ -171,9 +177,11 @@ pub record IsBrokenAgain {P : Type 0} (told : P → Option Talk) (answers : Bool
 
 -- The first peer listed them; or there was that conflict, and the second did.
 abbrev pub IsListedBy : {G P : Type 0} → Ways G P → Line G P → Line G P → Query → P → Prepared → Bool → P → Type 0
-IsListedBy w before after q peer prepared true first = IsReached w (url_of q) before after first × ListsAt w.told w.answers true q first peer prepared
+IsListedBy w before after q peer prepared true first = IsReached w (url_of q) before after first
+    × ListsAt w.told w.answers true q first peer prepared
 IsListedBy {G} {P} w before after q peer prepared false first =
-    (between : Line G P) × IsConflicting w before between q × IsMade (url_of q) between after first × ListsAt w.told w.answers false q first peer prepared × (after.closure ≡ between.closure)
+    (between : Line G P) × IsConflicting w before between q × IsMade (url_of q) between after first
+    × ListsAt w.told w.answers false q first peer prepared × (after.closure ≡ between.closure)
 
 -- The references were listed, by a peer that is kept; it stood so before anything was asked: as the closure left it, or as it
 -- was made.
@@ -189,8 +197,12 @@ IsUnpreparedFirst w was is before after q e =
     ⊎ ((cause : PrepareError) × (e ≡ preparing cause) × IsBroken w before after q cause × (is_conflict_at (head_at q.name) cause ≡ false))
 
 -- Why the second peer listed none: it wasn't made; or the listing broke off.
-pub record IsUnpreparedAgain {P : Type 0} (told : P → Option Talk) (answers : Bool) (was is : Faults) (left left_after taken taken_after : Option (List P)) (addresses addresses_after : Option (List (List ℕ))) (q : Query) (e : Error) : Type 0 where
-  pub by : IsUnreached (λ fault. ⊥) ((left_after ≡ left) × (taken_after ≡ taken) × (addresses_after ≡ addresses)) was is (url_of q) e ⊎ ((cause : PrepareError) × (e ≡ preparing cause) × IsBrokenAgain told answers left left_after taken taken_after addresses addresses_after q cause)
+pub record IsUnpreparedAgain {P : Type 0} (told : P → Option Talk) (answers : Bool) (was is : Faults)
+    (left left_after taken taken_after : Option (List P)) (addresses addresses_after : Option (List (List ℕ))) (q : Query)
+    (e : Error) : Type 0 where
+  pub by : IsUnreached (λ fault. ⊥) ((left_after ≡ left) × (taken_after ≡ taken) × (addresses_after ≡ addresses)) was is (url_of q) e
+      ⊎ ((cause : PrepareError) × (e ≡ preparing cause)
+      × IsBrokenAgain told answers left left_after taken taken_after addresses addresses_after q cause)
 
 -- There was that conflict, and then the second peer listed none; the maker had failed so often before.
 pub record IsUnlistedAgain {G P : Type 0} (w : Ways G P) (was is : Faults) (before after : Line G P) (q : Query) (e : Error) : Type 0 where
@@ -198,7 +210,8 @@ pub record IsUnlistedAgain {G P : Type 0} (w : Ways G P) (was is : Faults) (befo
   pub failed : Faults
   pub earlier : Counts was failed
   pub conflicting : IsConflicting w before between q
-  pub why : IsUnpreparedAgain w.told w.answers failed is between.left after.left between.taken after.taken between.addresses after.addresses q e
+  pub why : IsUnpreparedAgain w.told w.answers failed is between.left after.left between.taken after.taken between.addresses
+      after.addresses q e
   pub same_closure : after.closure ≡ between.closure
 
 -- The first peer listed none; or there was that conflict, and the second listed none.

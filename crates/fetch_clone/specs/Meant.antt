@@ -1,5 +1,6 @@
 -- Which reference a name means among those that are mapped.
-use Rattle.std.specs.Prelude.{ℕ, Bool, true, false, ◌&&◌, if◌then◌else◌, List, [], ◌∷◌, ◌++◌, map, find, codes, nat_eq, option_to_list, Option, Some, None, is_some, Result, Ok, Err}
+use Rattle.std.specs.Prelude.{ℕ, Bool, true, false, ◌&&◌, if◌then◌else◌, List, [], ◌∷◌, ◌++◌, map, find, codes, nat_eq, option_to_list}
+use Rattle.std.specs.Prelude.{Option, Some, None, is_some, Result, Ok, Err}
 use Rattle.std.specs.List.{starts_with}
 use Rattle.std.specs.Option.{option_map, option_or, option_and_then}
 use Rattle.std.specs.Str.{bytes_eq}
@@ -33,13 +34,15 @@ branch_or_tag mappings wanted = option_or (named mappings (codes "refs/heads/" +
 
 -- the name itself; outside `refs/` also a branch, or else a tag
 abbrev pub written_out : List Mapping → List ℕ → Option Meant
-written_out mappings wanted = option_or (named mappings wanted) (if starts_with nat_eq wanted (codes "refs/") then None else branch_or_tag mappings wanted)
+written_out mappings wanted = option_or (named mappings wanted) (if starts_with nat_eq wanted (codes "refs/") then None
+    else branch_or_tag mappings wanted)
 
 -- what else a refspec with a short source takes: a name right under `refs/`, one of `refs/remotes/`, or the `HEAD` of a remote
 abbrev pub taken_beside : List Mapping → List ℕ → List Meant
 taken_beside mappings wanted =
     option_to_list (named mappings (codes "refs/" ++ wanted))
-    ++ (option_to_list (named mappings (codes "refs/remotes/" ++ wanted)) ++ option_to_list (named mappings (codes "refs/remotes/" ++ wanted ++ codes "/HEAD")))
+    ++ (option_to_list (named mappings (codes "refs/remotes/" ++ wanted))
+    ++ option_to_list (named mappings (codes "refs/remotes/" ++ wanted ++ codes "/HEAD")))
 
 -- what else a refspec with this source takes, outside `refs/`
 abbrev pub beside : List Mapping → List ℕ → List Meant

@@ -35,7 +35,8 @@ pub record IsUnmirrored (may_fail : Bool) (told : Option Tree) (setup : Setup) (
   pub local : Contents
   pub read : HasRead told (path_of setup) setup.local.meta local
   pub tree : now ≡ told
-  pub refused : IsRefused may_fail told (λ t. written t (parts_of_path (path_of setup)) (text_of (replaced section.sections local).sections))
+  pub refused : IsRefused may_fail told (λ t.
+      written t (parts_of_path (path_of setup)) (text_of (replaced section.sections local).sections))
 
 -- The remote can be saved under this name.
 abbrev pub IsSaveable : RemoteValue → List ℕ → Type 0
@@ -44,7 +45,8 @@ IsSaveable remote name = save_as_verdict name (parts_of remote) ≡ Ok tt
 -- Why sections aren't written into the file: it is missing, can't be read or breaks the grammar; or it can't be written.
 abbrev pub IsUnwritten : Bool → Option Tree → Setup → Contents → Option Tree → Error → Type 0
 IsUnwritten may_fail told setup section now errors.NoMemory = now ≡ told
-IsUnwritten may_fail told setup section now (errors.LoadConfig opening.Io) = (now ≡ told) × IsRefused may_fail told (λ t. read_in t (parts_of_path (path_of setup)))
+IsUnwritten may_fail told setup section now (errors.LoadConfig opening.Io) = (now ≡ told)
+    × IsRefused may_fail told (λ t. read_in t (parts_of_path (path_of setup)))
 IsUnwritten may_fail told setup section now (errors.LoadConfig opening.NoMemory) = ⊥
 IsUnwritten may_fail told setup section now (errors.LoadConfig e) = (now ≡ told) × IsRefusedAt told (path_of setup) e
 IsUnwritten may_fail told setup section now errors.SaveConfigIo = IsUnmirrored may_fail told setup section now
@@ -59,4 +61,5 @@ IsUnsavedAs remote name e = ⊥
 -- The remote can't be saved; or it can, and its section isn't written into the file.
 abbrev pub IsMirrorRefusal : Bool → Option Tree → Setup → RemoteValue → List ℕ → Option Tree → Error → Type 0
 IsMirrorRefusal may_fail told setup remote name now e =
-    ((now ≡ told) × IsUnsavedAs remote name e) ⊎ (IsSaveable remote name × IsUnwritten may_fail told setup (section_of setup remote name) now e)
+    ((now ≡ told) × IsUnsavedAs remote name e)
+    ⊎ (IsSaveable remote name × IsUnwritten may_fail told setup (section_of setup remote name) now e)

@@ -73,7 +73,8 @@ restricted (RefName wanted) remote = remote
 -- ---- the name and the target
 
 -- The overrides are in force, the remote has a valid name, and its target is told.
-pub record IsNamed {G P : Type 0} (w : Ways G P) (before after : Line G P) (draft : Draft) (found repo : RepositoryValue) (name : List ℕ) (target : Option (List ℕ)) : Type 0 where
+pub record IsNamed {G P : Type 0} (w : Ways G P) (before after : Line G P) (draft : Draft) (found repo : RepositoryValue) (name : List ℕ)
+    (target : Option (List ℕ)) : Type 0 where
   pub state : repo.state ≡ found.state
   pub overridden : overridden found.setup (overrides_of draft) ≡ Some repo.setup
   pub called : name ≡ remote_name draft.choices repo.setup.settings.config
@@ -81,7 +82,8 @@ pub record IsNamed {G P : Type 0} (w : Ways G P) (before after : Line G P) (draf
   pub targeted : HasTarget w before after draft repo target
 
 -- An override isn't one, and all is as before.
-pub record IsOverrideRefused {G P : Type 0} (before after : Line G P) (draft : Draft) (found repo : RepositoryValue) (e : Error) : Type 0 where
+pub record IsOverrideRefused {G P : Type 0} (before after : Line G P) (draft : Draft) (found repo : RepositoryValue)
+    (e : Error) : Type 0 where
   pub why : IsUnoverridden (overrides_of draft) e
   pub state : repo.state ≡ found.state
   pub setup : repo.setup ≡ found.setup
@@ -95,15 +97,18 @@ pub record HasBadName {G P : Type 0} (before after : Line G P) (draft : Draft) (
   pub same : after ≡ before
 
 -- The remote has a name, and no target is told.
-pub record IsWithoutTarget {G P : Type 0} (w : Ways G P) (was is : Faults) (before after : Line G P) (draft : Draft) (found repo : RepositoryValue) (e : Error) : Type 0 where
+pub record IsWithoutTarget {G P : Type 0} (w : Ways G P) (was is : Faults) (before after : Line G P) (draft : Draft)
+    (found repo : RepositoryValue) (e : Error) : Type 0 where
   pub state : repo.state ≡ found.state
   pub overridden : overridden found.setup (overrides_of draft) ≡ Some repo.setup
   pub accepted : name_refusal (remote_name draft.choices repo.setup.settings.config) ≡ None
   pub why : HasNoTarget w was is before after draft repo e
 
 -- An override isn't one; or the remote can't be called so; or no target is told.
-pub record IsNotNamed {G P : Type 0} (w : Ways G P) (was is : Faults) (before after : Line G P) (draft : Draft) (found repo : RepositoryValue) (e : Error) : Type 0 where
-  pub by : IsOverrideRefused before after draft found repo e ⊎ (HasBadName before after draft found repo e ⊎ IsWithoutTarget w was is before after draft found repo e)
+pub record IsNotNamed {G P : Type 0} (w : Ways G P) (was is : Faults) (before after : Line G P) (draft : Draft)
+    (found repo : RepositoryValue) (e : Error) : Type 0 where
+  pub by : IsOverrideRefused before after draft found repo e
+      ⊎ (HasBadName before after draft found repo e ⊎ IsWithoutTarget w was is before after draft found repo e)
 
 -- ---- the closure for the remote
 

@@ -66,7 +66,8 @@ pub record IsReturned {G P : Type 0} (before after : Line G P) (peer : P) : Type
 
 -- The next peer was made at this address, and the closure, called on it, refused so. The peer was taken back as the closure
 -- left it.
-pub record IsTurnedAway {G P : Type 0} (w : Ways G P) (url : Option (List ℕ)) (before after : Line G P) (fault : ConfigureFault) : Type 0 where
+pub record IsTurnedAway {G P : Type 0} (w : Ways G P) (url : Option (List ℕ)) (before after : Line G P)
+    (fault : ConfigureFault) : Type 0 where
   pub made : P
   pub next : Makes {E = ConnectError} before.left after.left (Ok made)
   pub at : MakesAtFirst {E = ConnectError} url before.addresses after.addresses (Ok made)

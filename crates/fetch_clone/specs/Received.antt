@@ -47,7 +47,11 @@ message_of draft = codes "clone: from " ++ draft.url
 
 -- References are written packed, reflogs say where the clone is from, and the depth changes as the clone was asked.
 abbrev pub options_of : Draft → FetchOptions → FetchOptions
-options_of draft options = record options { write_packed_refs_only = true; reflog_message = Some (Override (message_of draft)); shallow = draft.choices.shallow }
+options_of draft options = record options {
+  write_packed_refs_only = true;
+  reflog_message = Some (Override (message_of draft));
+  shallow = draft.choices.shallow;
+}
 
 -- what the fetch is given
 abbrev pub given : Draft → RemoteValue → Prepared → Setup → Given
@@ -64,7 +68,8 @@ IsMapped (Revision spec) map = is_some (revision_id map spec) ≡ true
 -- Nothing that is mapped is meant by the ref name, or there are several; the revision isn't mapped.
 abbrev pub IsUnmappedFor : Wanted → RefMap → Error → Type 0
 IsUnmappedFor Everything map e = ⊥
-IsUnmappedFor (RefName name) map e = (cause : Unmeant) × (meant_in map.mappings name ≡ Err cause) × IsToldAs (Some name) None (unaimed.Name cause) e
+IsUnmappedFor (RefName name) map e = (cause : Unmeant) × (meant_in map.mappings name ≡ Err cause)
+    × IsToldAs (Some name) None (unaimed.Name cause) e
 IsUnmappedFor (Revision spec) map e = (revision_id map spec ≡ None) × IsToldAs None (Some spec) unaimed.Revision e
 
 -- the same, unless memory ran out
@@ -84,14 +89,16 @@ with_reread setup None = setup
 with_reread setup (Some reread) = in_force setup reread.file reread.config
 
 -- What is wanted is mapped, and the repository stands as it is asked from: it took the remote's hash, where it was to.
-pub record IsReady (files files_left : Option Tree) (draft : Draft) (prepared : Prepared) (found asked : RepositoryValue) (reread : Option Resolved) : Type 0 where
+pub record IsReady (files files_left : Option Tree) (draft : Draft) (prepared : Prepared) (found asked : RepositoryValue)
+    (reread : Option Resolved) : Type 0 where
   pub mapped : IsMapped draft.choices.wanted prepared.listed.ref_map
   pub hashed : IsHashed files files_left prepared.listed.ref_map.object_hash found asked reread
 
 -- ---- what is received
 
 -- What was listed was fetched, once all was ready, and then the file was put in force that was read again.
-pub record IsReceived (answers : Bool) (old new : Option Talk) (known : Option (List Worktree)) (files files_left : Option Tree) (draft : Draft) (remote : RemoteValue) (prepared : Prepared) (found repo : RepositoryValue) (outcome : Outcome) : Type 0 where
+pub record IsReceived (answers : Bool) (old new : Option Talk) (known : Option (List Worktree)) (files files_left : Option Tree)
+    (draft : Draft) (remote : RemoteValue) (prepared : Prepared) (found repo : RepositoryValue) (outcome : Outcome) : Type 0 where
   pub asked : RepositoryValue
   pub written : Option Tree
   pub reread : Option Resolved
@@ -100,26 +107,31 @@ pub record IsReceived (answers : Bool) (old new : Option Talk) (known : Option (
   pub setup : repo.setup ≡ with_reread asked.setup reread
 
 -- What is wanted isn't mapped, or memory ran out before anything was changed: all is as found.
-pub record IsNotMapped (files files_left : Option Tree) (draft : Draft) (prepared : Prepared) (found repo : RepositoryValue) (e : Error) : Type 0 where
+pub record IsNotMapped (files files_left : Option Tree) (draft : Draft) (prepared : Prepared) (found repo : RepositoryValue)
+    (e : Error) : Type 0 where
   pub why : IsUnmapped draft.choices.wanted prepared.listed.ref_map e
   pub repository : repo ≡ found
   pub tree : files_left ≡ files
 
 -- What is wanted is mapped, and the remote's hash couldn't be taken: the repository is as found.
-pub record IsNotHashed (may_fail : Bool) (files files_left : Option Tree) (draft : Draft) (prepared : Prepared) (found repo : RepositoryValue) (e : Error) : Type 0 where
+pub record IsNotHashed (may_fail : Bool) (files files_left : Option Tree) (draft : Draft) (prepared : Prepared)
+    (found repo : RepositoryValue) (e : Error) : Type 0 where
   pub mapped : IsMapped draft.choices.wanted prepared.listed.ref_map
   pub why : IsUnhashed may_fail files files_left prepared.listed.ref_map.object_hash found e
   pub repository : repo ≡ found
 
 -- All was ready, and what was listed wasn't fetched; then too the file was put in force that was read again.
-pub record IsUnfetched (answers : Bool) (old new : Option Talk) (known : Option (List Worktree)) (may_fail : Bool) (files files_left : Option Tree) (draft : Draft) (remote : RemoteValue) (prepared : Prepared) (found repo : RepositoryValue) (e : Error) : Type 0 where
+pub record IsUnfetched (answers : Bool) (old new : Option Talk) (known : Option (List Worktree)) (may_fail : Bool)
+    (files files_left : Option Tree) (draft : Draft) (remote : RemoteValue) (prepared : Prepared) (found repo : RepositoryValue)
+    (e : Error) : Type 0 where
   pub asked : RepositoryValue
   pub written : Option Tree
   pub reread : Option Resolved
   pub ready : IsReady files written draft prepared found asked reread
   pub cause : ReceiveError
   pub told : e ≡ receiving cause
-  pub refused : IsRefused answers old new known written files_left (given draft remote prepared asked.setup) asked.state repo.state (fetch_refusal cause)
+  pub refused : IsRefused answers old new known written files_left (given draft remote prepared asked.setup) asked.state repo.state
+      (fetch_refusal cause)
   -- Valid input is refused for what has a count or nothing in place of a cause alone.
   pub complete : HasValidInput old new known (given draft remote prepared asked.setup) asked.state → is_free (fetch_refusal cause) ≡ true
   -- Files that fail at nothing by themselves have something in the way of a keep file, and remove each one that they told.
@@ -128,28 +140,37 @@ pub record IsUnfetched (answers : Bool) (old new : Option Talk) (known : Option 
   pub setup : repo.setup ≡ with_reread asked.setup reread
 
 -- Why nothing is received, in the order of the steps.
-pub record IsUnreceived (answers : Bool) (old new : Option Talk) (known : Option (List Worktree)) (may_fail : Bool) (files files_left : Option Tree) (draft : Draft) (remote : RemoteValue) (prepared : Prepared) (found repo : RepositoryValue) (e : Error) : Type 0 where
+pub record IsUnreceived (answers : Bool) (old new : Option Talk) (known : Option (List Worktree)) (may_fail : Bool)
+    (files files_left : Option Tree) (draft : Draft) (remote : RemoteValue) (prepared : Prepared) (found repo : RepositoryValue)
+    (e : Error) : Type 0 where
   pub by : IsNotMapped files files_left draft prepared found repo e
-      ⊎ (IsNotHashed may_fail files files_left draft prepared found repo e ⊎ IsUnfetched answers old new known may_fail files files_left draft remote prepared found repo e)
+      ⊎ (IsNotHashed may_fail files files_left draft prepared found repo e
+      ⊎ IsUnfetched answers old new known may_fail files files_left draft remote prepared found repo e)
 
 -- The refusal is of what is mapped, of the hash, or one of a fetch.
 abbrev pub IsOfReceiving : Wanted → RefMap → Error → Type 0
-IsOfReceiving wanted map e = IsUnmapped wanted map e ⊎ (((cause : OpenError) × (e ≡ reopening cause)) ⊎ ((cause : ReceiveError) × (e ≡ receiving cause)))
+IsOfReceiving wanted map e = IsUnmapped wanted map e
+    ⊎ (((cause : OpenError) × (e ≡ reopening cause)) ⊎ ((cause : ReceiveError) × (e ≡ receiving cause)))
 
 -- ---- the peer
 
 -- The references were listed by a peer that stood so before it was asked.
 abbrev pub WasListed : Bool → Option Talk → Option Talk → RemoteValue → Setup → Prepared → Type 0
-WasListed answers begun now remote setup prepared = HasListed answers begun now (inquiry_of remote setup.settings prepared.options.map) prepared.listed
+WasListed answers begun now remote setup prepared =
+    HasListed answers begun now (inquiry_of remote setup.settings prepared.options.map) prepared.listed
 
 -- What was listed was fetched, from a peer that stood so before it was asked for references; and the peer was taken back.
-pub record IsTaken {P : Type 0} (told : P → Option Talk) (answers : Bool) (begun : Option Talk) (before after : Option (List P)) (known : Option (List Worktree)) (files files_left : Option Tree) (draft : Draft) (remote : RemoteValue) (prepared : Prepared) (found repo : RepositoryValue) (outcome : Outcome) : Type 0 where
+pub record IsTaken {P : Type 0} (told : P → Option Talk) (answers : Bool) (begun : Option Talk) (before after : Option (List P))
+    (known : Option (List Worktree)) (files files_left : Option Tree) (draft : Draft) (remote : RemoteValue) (prepared : Prepared)
+    (found repo : RepositoryValue) (outcome : Outcome) : Type 0 where
   pub last : P
   pub received : IsReceived answers begun (told last) known files files_left draft remote prepared found repo outcome
   pub returned : TakesBack before after last
 
 -- Nothing was received; and the peer was taken back.
-pub record IsNotTaken {P : Type 0} (told : P → Option Talk) (answers : Bool) (begun : Option Talk) (before after : Option (List P)) (known : Option (List Worktree)) (may_fail : Bool) (files files_left : Option Tree) (draft : Draft) (remote : RemoteValue) (prepared : Prepared) (found repo : RepositoryValue) (e : Error) : Type 0 where
+pub record IsNotTaken {P : Type 0} (told : P → Option Talk) (answers : Bool) (begun : Option Talk) (before after : Option (List P))
+    (known : Option (List Worktree)) (may_fail : Bool) (files files_left : Option Tree) (draft : Draft) (remote : RemoteValue)
+    (prepared : Prepared) (found repo : RepositoryValue) (e : Error) : Type 0 where
   pub last : P
   pub why : IsUnreceived answers begun (told last) known may_fail files files_left draft remote prepared found repo e
   pub returned : TakesBack before after last

@@ -1,5 +1,6 @@
 -- Which texts name one revision of a remote.
-use Rattle.std.specs.Prelude.{◌≡◌, ℕ, Bool, true, false, not, ◌&&◌, ◌||◌, ◌==◌, if◌then◌else◌, List, Option, Some, None, is_some, is_none, Result, Ok, Err, codes, nat_eq}
+use Rattle.std.specs.Prelude.{◌≡◌, ℕ, Bool, true, false, not, ◌&&◌, ◌||◌, ◌==◌, if◌then◌else◌, List, Option, Some, None, is_some, is_none}
+use Rattle.std.specs.Prelude.{Result, Ok, Err, codes, nat_eq}
 use Rattle.std.specs.Bool.{OnFalse}
 use Rattle.std.specs.List.{list_any, starts_with}
 use Rattle.std.specs.Str.{bytes_eq}
@@ -22,7 +23,8 @@ is_pattern_sign c = c == 42 || (c == 63 || (c == 91 || (c == 93 || c == 92)))
 
 -- `HEAD`, an id, or a name under `refs/` that is no pattern
 unfoldable pub names_one : List ℕ → Bool
-names_one text = bytes_eq text (codes "HEAD") || (is_id text || (starts_with nat_eq text (codes "refs/") && not (list_any is_pattern_sign text)))
+names_one text = bytes_eq text (codes "HEAD")
+    || (is_id text || (starts_with nat_eq text (codes "refs/") && not (list_any is_pattern_sign text)))
 
 -- whether a side is this text
 abbrev pub is_side : List ℕ → Option (List ℕ) → Bool

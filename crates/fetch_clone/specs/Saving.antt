@@ -23,7 +23,8 @@ abbrev pub tagged : Draft → RemoteValue → RemoteValue
 tagged draft remote = if takes_all_tags draft then record remote { tags = tags.All } else remote
 
 -- A remote was chosen, its section was written into the file `config`, and it is fetched from under that name.
-pub record IsSavedAs (answers : Answering) (files files_left : Option Tree) (draft : Draft) (setup : Setup) (name : List ℕ) (target : Option (List ℕ)) (saved : Saved) : Type 0 where
+pub record IsSavedAs (answers : Answering) (files files_left : Option Tree) (draft : Draft) (setup : Setup) (name : List ℕ)
+    (target : Option (List ℕ)) (saved : Saved) : Type 0 where
   pub chosen : RemoteValue
   pub is_chosen : IsChosen answers draft name target chosen
   pub section : saved.section ≡ section_of setup chosen name
@@ -32,29 +33,36 @@ pub record IsSavedAs (answers : Answering) (files files_left : Option Tree) (dra
   pub remote : saved.remote ≡ tagged draft (renamed (valid_name name) chosen)
 
 -- A remote was chosen, and couldn't be saved.
-pub record IsNotWritten (answers : Answering) (may_fail : Bool) (files files_left : Option Tree) (draft : Draft) (setup : Setup) (name : List ℕ) (target : Option (List ℕ)) (e : Error) : Type 0 where
+pub record IsNotWritten (answers : Answering) (may_fail : Bool) (files files_left : Option Tree) (draft : Draft) (setup : Setup)
+    (name : List ℕ) (target : Option (List ℕ)) (e : Error) : Type 0 where
   pub chosen : RemoteValue
   pub is_chosen : IsChosen answers draft name target chosen
   pub why : IsMirrorRefusal may_fail files setup chosen name files_left e
 
 -- No remote was chosen; or it couldn't be saved.
-pub record IsNotSavedAs (answers : Answering) (may_fail : Bool) (files files_left : Option Tree) (draft : Draft) (setup : Setup) (name : List ℕ) (target : Option (List ℕ)) (e : Error) : Type 0 where
-  pub by : (IsUnchosen answers draft name target e × (files_left ≡ files)) ⊎ IsNotWritten answers may_fail files files_left draft setup name target e
+pub record IsNotSavedAs (answers : Answering) (may_fail : Bool) (files files_left : Option Tree) (draft : Draft) (setup : Setup)
+    (name : List ℕ) (target : Option (List ℕ)) (e : Error) : Type 0 where
+  pub by : (IsUnchosen answers draft name target e × (files_left ≡ files))
+      ⊎ IsNotWritten answers may_fail files files_left draft setup name target e
 
 -- The remote was named, chosen and saved.
-pub record IsSaved {G P : Type 0} (answers : Answering) (w : Ways G P) (before after : Line G P) (files files_left : Option Tree) (draft : Draft) (found repo : RepositoryValue) (saved : Saved) : Type 0 where
+pub record IsSaved {G P : Type 0} (answers : Answering) (w : Ways G P) (before after : Line G P) (files files_left : Option Tree)
+    (draft : Draft) (found repo : RepositoryValue) (saved : Saved) : Type 0 where
   pub name : List ℕ
   pub target : Option (List ℕ)
   pub named : IsNamed w before after draft found repo name target
   pub saved_as : IsSavedAs answers files files_left draft repo.setup name target saved
 
 -- The remote was named, and then not chosen or not saved.
-pub record IsNamedAlone {G P : Type 0} (answers : Answering) (w : Ways G P) (before after : Line G P) (may_fail : Bool) (files files_left : Option Tree) (draft : Draft) (found repo : RepositoryValue) (e : Error) : Type 0 where
+pub record IsNamedAlone {G P : Type 0} (answers : Answering) (w : Ways G P) (before after : Line G P) (may_fail : Bool)
+    (files files_left : Option Tree) (draft : Draft) (found repo : RepositoryValue) (e : Error) : Type 0 where
   pub name : List ℕ
   pub target : Option (List ℕ)
   pub named : IsNamed w before after draft found repo name target
   pub why : IsNotSavedAs answers may_fail files files_left draft repo.setup name target e
 
 -- The remote wasn't named, and then the closure for it wasn't called; or it was named, and wasn't chosen or saved.
-pub record IsNotSaved {G P : Type 0} (answers : Answering) (uncalled : Type 0) (w : Ways G P) (was is : Faults) (before after : Line G P) (may_fail : Bool) (files files_left : Option Tree) (draft : Draft) (found repo : RepositoryValue) (e : Error) : Type 0 where
-  pub by : (IsNotNamed w was is before after draft found repo e × (files_left ≡ files) × uncalled) ⊎ IsNamedAlone answers w before after may_fail files files_left draft found repo e
+pub record IsNotSaved {G P : Type 0} (answers : Answering) (uncalled : Type 0) (w : Ways G P) (was is : Faults) (before after : Line G P)
+    (may_fail : Bool) (files files_left : Option Tree) (draft : Draft) (found repo : RepositoryValue) (e : Error) : Type 0 where
+  pub by : (IsNotNamed w was is before after draft found repo e × (files_left ≡ files) × uncalled)
+      ⊎ IsNamedAlone answers w before after may_fail files files_left draft found repo e

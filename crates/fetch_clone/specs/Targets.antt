@@ -38,7 +38,12 @@ first_text choices = unwrap_or (ref_name_of choices.wanted) (codes "HEAD")
 
 -- the options of the first listing: one extra refspec, no parameters, filtered, with the bound that was given
 abbrev pub first_options : Choices → Spec → Options
-first_options choices spec = record { prefix_from_spec_as_filter_on_remote = true; handshake_parameters = []; extra_refspecs = spec ∷ []; max_reply_bytes = choices.options.max_reply_bytes }
+first_options choices spec = record {
+  prefix_from_spec_as_filter_on_remote = true;
+  handshake_parameters = [];
+  extra_refspecs = spec ∷ [];
+  max_reply_bytes = choices.options.max_reply_bytes;
+}
 
 -- These are the options of the first listing.
 abbrev pub AreFirstOptions : Choices → Options → Type 0
@@ -76,16 +81,19 @@ pub record IsAsked {G P : Type 0} (w : Ways G P) (before after : Line G P) (url 
   pub returned : IsReturned between after last
 
 -- The references were listed.
-pub record HasListedFirst {G P : Type 0} (w : Ways G P) (before after : Line G P) (draft : Draft) (setup : Setup) (listed : ListedValue) : Type 0 where
+pub record HasListedFirst {G P : Type 0} (w : Ways G P) (before after : Line G P) (draft : Draft) (setup : Setup)
+    (listed : ListedValue) : Type 0 where
   pub asked : IsAsked w before after draft.url draft.choices
-  pub heard : HasInquired w.answers (w.told asked.peer) (w.told asked.last) (first_inquiry draft.url draft.choices setup.settings asked.spec) listed
+  pub heard : HasInquired w.answers (w.told asked.peer) (w.told asked.last)
+      (first_inquiry draft.url draft.choices setup.settings asked.spec) listed
 
 -- what the listing aims at
 abbrev pub first_aim : Draft → State → ListedValue → Result Aim Unaimed
 first_aim draft state listed = aim_of state listed.ref_map (ref_name_of draft.choices.wanted) None
 
 -- The references were listed, and this name is aimed at.
-pub record IsAimedAt {G P : Type 0} (w : Ways G P) (before after : Line G P) (draft : Draft) (repo : RepositoryValue) (target : Option (List ℕ)) : Type 0 where
+pub record IsAimedAt {G P : Type 0} (w : Ways G P) (before after : Line G P) (draft : Draft) (repo : RepositoryValue)
+    (target : Option (List ℕ)) : Type 0 where
   pub listed : ListedValue
   pub heard : HasListedFirst w before after draft repo.setup listed
   pub aim : Aim
@@ -98,16 +106,19 @@ HasTargetBy false w before after draft repo target = (after ≡ before) × (targ
 HasTargetBy true w before after draft repo target = IsAimedAt w before after draft repo target
 
 -- The target of a clone, where one is told before.
-pub record HasTarget {G P : Type 0} (w : Ways G P) (before after : Line G P) (draft : Draft) (repo : RepositoryValue) (target : Option (List ℕ)) : Type 0 where
+pub record HasTarget {G P : Type 0} (w : Ways G P) (before after : Line G P) (draft : Draft) (repo : RepositoryValue)
+    (target : Option (List ℕ)) : Type 0 where
   pub by : HasTargetBy (lists_first draft.choices) w before after draft repo target
 
 -- Where a first peer listed, the interrupt said no before each receive of that peer.
-abbrev pub HeedsBy : {G P : Type 0} → (ℕ → Type 0) → (ℕ → Type 0) → (first : Bool) → (w : Ways G P) → (before after : Line G P) → (draft : Draft) → (repo : RepositoryValue) → (target : Option (List ℕ)) → HasTargetBy first w before after draft repo target → Type 0
+abbrev pub HeedsBy : {G P : Type 0} → (ℕ → Type 0) → (ℕ → Type 0) → (first : Bool) → (w : Ways G P) → (before after : Line G P)
+    → (draft : Draft) → (repo : RepositoryValue) → (target : Option (List ℕ)) → HasTargetBy first w before after draft repo target → Type 0
 HeedsBy will will' false w before after draft repo target t = ⊤
 HeedsBy will will' true w before after draft repo target t = IsHeededOver will will' (w.told t.heard.asked.peer) (w.told t.heard.asked.last)
 
 -- the same of the target of a clone
-pub record HeedsFirst {G P : Type 0} {w : Ways G P} {before after : Line G P} {draft : Draft} {repo : RepositoryValue} {target : Option (List ℕ)} (will will' : ℕ → Type 0) (t : HasTarget w before after draft repo target) : Type 0 where
+pub record HeedsFirst {G P : Type 0} {w : Ways G P} {before after : Line G P} {draft : Draft} {repo : RepositoryValue}
+    {target : Option (List ℕ)} (will will' : ℕ → Type 0) (t : HasTarget w before after draft repo target) : Type 0 where
   pub heeds : HeedsBy will will' (lists_first draft.choices) w before after draft repo target t.by
 
 -- ---- why there is none
@@ -115,14 +126,16 @@ pub record HeedsFirst {G P : Type 0} {w : Ways G P} {before after : Line G P} {d
 -- The listing broke off.
 pub record IsUnlisted {G P : Type 0} (w : Ways G P) (before after : Line G P) (draft : Draft) (setup : Setup) (e : MapError) : Type 0 where
   pub asked : IsAsked w before after draft.url draft.choices
-  pub broke : IsUninquired w.answers (w.told asked.peer) (w.told asked.last) (first_inquiry draft.url draft.choices setup.settings asked.spec) e
+  pub broke : IsUninquired w.answers (w.told asked.peer) (w.told asked.last)
+      (first_inquiry draft.url draft.choices setup.settings asked.spec) e
 
 -- What is aimed at is refused; the name that a ref name means, where it is no full name, has a refusal of its own.
 abbrev pub IsUnaimedBy : State → RefMap → Option (List ℕ) → Error → Type 0
 IsUnaimedBy s map ref_name e = (cause : Error) × IsNoAim s map ref_name None cause × (e ≡ told_again (is_some ref_name) cause)
 
 -- The references were listed, and what they aim at is refused.
-pub record IsUnaimed {G P : Type 0} (w : Ways G P) (before after : Line G P) (draft : Draft) (repo : RepositoryValue) (e : Error) : Type 0 where
+pub record IsUnaimed {G P : Type 0} (w : Ways G P) (before after : Line G P) (draft : Draft) (repo : RepositoryValue)
+    (e : Error) : Type 0 where
   pub listed : ListedValue
   pub heard : HasListedFirst w before after draft repo.setup listed
   pub why : IsUnaimedBy repo.state listed.ref_map (ref_name_of draft.choices.wanted) e
@@ -132,9 +145,11 @@ pub record IsUnaimed {G P : Type 0} (w : Ways G P) (before after : Line G P) (dr
 abbrev pub IsUntargeted : {G P : Type 0} → Ways G P → Faults → Faults → Line G P → Line G P → Draft → RepositoryValue → Error → Type 0
 IsUntargeted w was is before after draft repo e =
     IsUnreached (IsTurnedAway w (Some draft.url) before after) (after ≡ before) was is (Some draft.url) e
-    ⊎ (((cause : MapError) × (e ≡ listing cause) × IsUnlisted w before after draft repo.setup cause) ⊎ IsUnaimed w before after draft repo e)
+    ⊎ (((cause : MapError) × (e ≡ listing cause) × IsUnlisted w before after draft repo.setup cause)
+    ⊎ IsUnaimed w before after draft repo e)
 
 -- the same, and the references are listed before
-pub record HasNoTarget {G P : Type 0} (w : Ways G P) (was is : Faults) (before after : Line G P) (draft : Draft) (repo : RepositoryValue) (e : Error) : Type 0 where
+pub record HasNoTarget {G P : Type 0} (w : Ways G P) (was is : Faults) (before after : Line G P) (draft : Draft) (repo : RepositoryValue)
+    (e : Error) : Type 0 where
   pub first : lists_first draft.choices ≡ true
   pub why : IsUntargeted w was is before after draft repo e

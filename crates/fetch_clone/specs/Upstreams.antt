@@ -1,5 +1,6 @@
 -- The section of a configuration by which a branch follows the one that it was cloned from.
-use Rattle.std.specs.Prelude.{ℕ, Bool, true, false, ◌&&◌, if◌then◌else◌, List, [], ◌∷◌, ◌++◌, codes, position, Option, Some, None, is_some, is_none}
+use Rattle.std.specs.Prelude.{ℕ, Bool, true, false, ◌&&◌, if◌then◌else◌, List, [], ◌∷◌, ◌++◌, codes, position, Option, Some, None, is_some}
+use Rattle.std.specs.Prelude.{is_none}
 use Rattle.std.specs.List.{list_any}
 use Rattle.std.specs.Str.{is_utf8}
 use Rattle.fetch_store.specs.declared.id.Kind.{Kind}
@@ -34,11 +35,18 @@ is_followed specs kind name = is_local (category_of name) && (is_utf8 (shortened
 -- the section of a branch that follows one of a remote
 abbrev pub branch_section : Meta → List ℕ → List ℕ → Section
 branch_section meta remote name =
-    record { name = codes "branch"; sub = Some (shortened name); meta = meta; entries = (codes "remote", Some remote) ∷ (codes "merge", Some name) ∷ [] }
+    record {
+      name = codes "branch";
+      sub = Some (shortened name);
+      meta = meta;
+      entries = (codes "remote", Some remote)
+          ∷ (codes "merge", Some name) ∷ [];
+    }
 
 -- A configuration keeps no NUL, and in a subsection no line feed.
 abbrev pub is_kept : List ℕ → List ℕ → Bool
-is_kept remote name = is_none (position is_nul_or_feed (shortened name)) && (is_none (position is_nul remote) && is_none (position is_nul name))
+is_kept remote name = is_none (position is_nul_or_feed (shortened name))
+    && (is_none (position is_nul remote) && is_none (position is_nul name))
 
 -- the configuration with that section at its end
 abbrev pub with_branch : Contents → List ℕ → List ℕ → Contents
@@ -46,4 +54,5 @@ with_branch local remote name = with_sections local (local.sections ++ branch_se
 
 -- the local file with a section for the branch, where it is one that the refspecs take and can be kept
 abbrev pub following : Contents → List ℕ → List Spec → Kind → List ℕ → Option Contents
-following local remote specs kind name = if is_followed specs kind name && is_kept remote name then Some (with_branch local remote name) else None
+following local remote specs kind name = if is_followed specs kind name && is_kept remote name
+    then Some (with_branch local remote name) else None

@@ -31,7 +31,8 @@ placed (Some index) new entry sections = on_section index (with_entry entry) sec
 
 -- The first section of this name ends with the entry, or a new one does.
 unfoldable pub with_setting : List ℕ → List ℕ → List ℕ → Contents → Contents
-with_setting name key value file = with_sections file (placed (position (is_plain name) file.sections) (empty_section file.meta name) (key, Some value) file.sections)
+with_setting name key value file = with_sections file
+    (placed (position (is_plain name) file.sections) (empty_section file.meta name) (key, Some value) file.sections)
 
 -- A key has this value, in the first section of this name, and stands nowhere else in sections of the name.
 unfoldable pub with_only : List ℕ → List ℕ → List ℕ → Contents → Contents
@@ -44,5 +45,7 @@ without_sections name file = with_sections file (filter (λ s. not (is_plain nam
 -- SHA-1 is what the first version of the format means, and no extension stays. Any other hash is an extension of the next
 -- version.
 unfoldable pub versioned : Kind → Contents → Contents
-versioned hashes.Sha1 file = without_sections (codes "extensions") (with_only (codes "core") (codes "repositoryformatversion") (codes "0") file)
-versioned hashes.Sha256 file = with_only (codes "extensions") (codes "objectformat") (codes "sha256") (with_only (codes "core") (codes "repositoryformatversion") (codes "1") file)
+versioned hashes.Sha1 file = without_sections (codes "extensions")
+    (with_only (codes "core") (codes "repositoryformatversion") (codes "0") file)
+versioned hashes.Sha256 file = with_only (codes "extensions") (codes "objectformat") (codes "sha256")
+    (with_only (codes "core") (codes "repositoryformatversion") (codes "1") file)

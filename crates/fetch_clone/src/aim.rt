@@ -68,7 +68,8 @@ pub(crate) fn aim_of<O: Objects>(
     ref_name: Option<&PartialName>,
     revision: Option<&RefSpec>,
 ) -> Result<Aim, Unaimed>
-    ensures { AnswersUnless spec.is_memory (spec.aim_in map.now (O.graph objects.now) (option_copied ref_name.entry) (option_copied revision.entry)) result }
+    ensures { AnswersUnless spec.is_memory (spec.aim_in map.now (O.graph objects.now) (option_copied ref_name.entry)
+        (option_copied revision.entry)) result }
 {
     if let Some(revision) = revision {
         return of_id(objects, revision_id(map, revision));

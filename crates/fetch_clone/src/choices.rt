@@ -1,6 +1,7 @@
 //! What a clone is asked for beside its place.
 
-ghost use Rattle.std.specs.Prelude.{◌≡◌, IfOk, IfErr, IsOkUnless, MatchOption, OnOk, OnErr, IfSome, None, Some, Err, Ok, false, true, IsTrue};
+ghost use Rattle.std.specs.Prelude.{◌≡◌, IfOk, IfErr, IsOkUnless, MatchOption, OnOk, OnErr, IfSome, None, Some, Err, Ok, false, true};
+ghost use Rattle.std.specs.Prelude.{IsTrue};
 ghost use Rattle.std.specs.Option.{option_copied};
 ghost use Rattle.fetch_lookup.specs.Names.{IsNameRefusal, name_refusal};
 ghost use Rattle.fetch_specs.specs.Names.{name_trouble};
@@ -123,7 +124,9 @@ impl Choices {
     /// Chooses a ref name in place of whatever was chosen. None takes back a ref name alone.
     pub fn choose_ref_name(&mut self, alloc: Global, name: Option<&[u8]>) -> Result<(), NameError>
         ensures ok { OnOk result (self.new ≡ spec.with_wanted self.old (spec.ref_name_chosen self.old.wanted (option_copied name.entry))) }
-        ensures verdict { IfSome (option_copied name.entry) (λ text. MatchOption (name_trouble false text) (IsOkUnless result name_errors.NoMemory) (λ place. result ≡ Err (name_errors.Invalid place))) }
+        ensures verdict { IfSome (option_copied name.entry)
+            (λ text. MatchOption (name_trouble false text) (IsOkUnless result name_errors.NoMemory)
+            (λ place. result ≡ Err (name_errors.Invalid place))) }
         ensures none { option_copied name.entry ≡ None → result ≡ Ok tt }
         ensures err { OnErr result (self.new ≡ self.old) }
     {

@@ -141,7 +141,8 @@ pub fn into<F: Files>(
 ) -> Result<Path, Error>
     ensures path { IfOk result (λ path. path ≡ path_of directory.now kind) }
     ensures done { OnOk result (Reaches (F.told files.old) (steps_of directory.now kind options) (F.told files.new)) }
-    ensures refused { IfErr result (IsStopped (F.may_fail files.old) (F.told files.old) (steps_of directory.now kind options) (F.told files.new)) }
+    ensures refused { IfErr result (IsStopped (F.may_fail files.old) (F.told files.old) (steps_of directory.now kind options)
+        (F.told files.new)) }
     ensures cause { IfErr result (λ e. IsTrue (is_fault e) → Rose (F.faults files.old) (F.faults files.new)) }
     ensures counts { Counts (F.faults files.old) (F.faults files.new) }
     ensures may_fail { F.may_fail files.new ≡ F.may_fail files.old }

@@ -59,8 +59,10 @@ pub(crate) fn prepare<F: Files>(
     place: &[u8],
     making: Making,
 ) -> Result<Draft, Error>
-    ensures ok { IfOk result (IsPrepared (F.faults files.old) (F.faults files.new) (F.told files.old) url.now place.now making (F.told files.new)) }
-    ensures refused { IfErr result (IsPrepareRefusal (F.faults files.old) (F.faults files.new) (F.may_fail files.old) (F.told files.old) url.now place.now making (F.told files.new)) }
+    ensures ok { IfOk result (IsPrepared (F.faults files.old) (F.faults files.new) (F.told files.old) url.now place.now making
+        (F.told files.new)) }
+    ensures refused { IfErr result (IsPrepareRefusal (F.faults files.old) (F.faults files.new) (F.may_fail files.old)
+        (F.told files.old) url.now place.now making (F.told files.new)) }
     ensures untouched { IsErrOf result errors.Url → files.new ≡ files.old }
     ensures cause { IfErr result (λ e. IsTrue (is_clone_fault e) → Rose (F.faults files.old) (F.faults files.new)) }
     ensures counts { Counts (F.faults files.old) (F.faults files.new) }
@@ -159,7 +161,8 @@ fn is_free<F: Files>(files: &mut F, place: &Text) -> Result<bool, NoMemory>
 
 /// Asks for the removal of the place of a clone without success, where it was free. A fault is ignored.
 pub(crate) fn give_up<F: Files>(files: &mut F, draft: &Draft)
-    ensures removed { spec.is_removed draft.now ≡ true → IsRemoved (F.faults files.old) (F.faults files.new) (F.may_fail files.old) (F.told files.old) draft.now.place (F.told files.new) }
+    ensures removed { spec.is_removed draft.now ≡ true
+        → IsRemoved (F.faults files.old) (F.faults files.new) (F.may_fail files.old) (F.told files.old) draft.now.place (F.told files.new) }
     ensures untouched { spec.is_removed draft.now ≡ false → files.new ≡ files.old }
     ensures counts { Counts (F.faults files.old) (F.faults files.new) }
     ensures may_fail { F.may_fail files.new ≡ F.may_fail files.old }
@@ -177,7 +180,8 @@ fn is_removed(draft: &Draft) -> bool
 }
 
 fn remove<F: Files>(files: &mut F, place: &Text)
-    ensures removed { IsRemoved (F.faults files.old) (F.faults files.new) (F.may_fail files.old) (F.told files.old) place.now (F.told files.new) }
+    ensures removed { IsRemoved (F.faults files.old) (F.faults files.new) (F.may_fail files.old) (F.told files.old) place.now
+        (F.told files.new) }
     ensures counts { Counts (F.faults files.old) (F.faults files.new) }
     ensures may_fail { F.may_fail files.new ≡ F.may_fail files.old }
 {

@@ -51,8 +51,10 @@ pub fn update_head<F: Files>(
     ref_name: Option<&PartialName>,
     revision: Option<&RefSpec>,
 ) -> Result<(), Error>
-    ensures ok { OnOk result (spec.HasHead (F.told files.old) (F.told files.new) repo.old repo.new map.now message.now remote_name.now (option_copied ref_name.entry) (option_copied revision.entry)) }
-    ensures refused { IfErr result (spec.IsHeadRefusal (F.may_fail files.old) (F.told files.old) (F.told files.new) repo.old repo.new map.now message.now remote_name.now (option_copied ref_name.entry) (option_copied revision.entry)) }
+    ensures ok { OnOk result (spec.HasHead (F.told files.old) (F.told files.new) repo.old repo.new map.now message.now remote_name.now
+        (option_copied ref_name.entry) (option_copied revision.entry)) }
+    ensures refused { IfErr result (spec.IsHeadRefusal (F.may_fail files.old) (F.told files.old) (F.told files.new) repo.old repo.new
+        map.now message.now remote_name.now (option_copied ref_name.entry) (option_copied revision.entry)) }
     ensures io { IsErrOf result errors.SaveConfigIo → Rose (F.faults files.old) (F.faults files.new) }
     ensures counts { Counts (F.faults files.old) (F.faults files.new) }
     ensures may_fail { F.may_fail files.new ≡ F.may_fail files.old }
@@ -72,8 +74,10 @@ pub(crate) fn aimed(
     ref_name: Option<&PartialName>,
     revision: Option<&RefSpec>,
 ) -> Result<Aim, Error>
-    ensures ok { IfOk result (λ aim. spec.aim_of (state_of repo.now) map.now (option_copied ref_name.entry) (option_copied revision.entry) ≡ Ok aim) }
-    ensures refused { IfErr result (spec.IsNoAim (state_of repo.now) map.now (option_copied ref_name.entry) (option_copied revision.entry)) }
+    ensures ok { IfOk result (λ aim. spec.aim_of (state_of repo.now) map.now (option_copied ref_name.entry)
+        (option_copied revision.entry) ≡ Ok aim) }
+    ensures refused { IfErr result (spec.IsNoAim (state_of repo.now) map.now (option_copied ref_name.entry)
+        (option_copied revision.entry)) }
 {
     match aim_of(alloc, map, repo.store(), ref_name, revision) {
         Ok(aim) => Ok(aim),
@@ -311,8 +315,10 @@ fn save_if<F: Files>(
 ) -> Result<(), Error>
     requires { spec.IsReadyIn (setup_of repo.old) new }
     ensures state { state_of repo.new ≡ state_of repo.old }
-    ensures ok { OnOk result (spec.FollowsIf (setup_of repo.old) (setup_of repo.new) (F.told files.old) (F.told files.new) (spec.local_of new)) }
-    ensures refused { IfErr result (spec.IsUnsaved (F.may_fail files.old) (F.told files.old) (setup_of repo.old).settings.git_dir (spec.local_of new)) }
+    ensures ok { OnOk result (spec.FollowsIf (setup_of repo.old) (setup_of repo.new) (F.told files.old) (F.told files.new)
+        (spec.local_of new)) }
+    ensures refused { IfErr result (spec.IsUnsaved (F.may_fail files.old) (F.told files.old) (setup_of repo.old).settings.git_dir
+        (spec.local_of new)) }
     ensures err { OnErr result (setup_of repo.new ≡ setup_of repo.old) }
     ensures tree { OnErr result (F.told files.new ≡ F.told files.old) }
     ensures io { IsErrOf result errors.SaveConfigIo → Rose (F.faults files.old) (F.faults files.new) }
@@ -329,8 +335,10 @@ fn save_if<F: Files>(
 fn save_config<F: Files>(repo: &mut Repository, files: &mut F, new: NewConfig) -> Result<(), Error>
     requires { spec.IsReadyIn (setup_of repo.old) (Some new) }
     ensures state { state_of repo.new ≡ state_of repo.old }
-    ensures ok { OnOk result (spec.FollowsIf (setup_of repo.old) (setup_of repo.new) (F.told files.old) (F.told files.new) (Some new.resolved.file)) }
-    ensures refused { IfErr result (spec.IsUnsaved (F.may_fail files.old) (F.told files.old) (setup_of repo.old).settings.git_dir (Some new.resolved.file)) }
+    ensures ok { OnOk result (spec.FollowsIf (setup_of repo.old) (setup_of repo.new) (F.told files.old) (F.told files.new)
+        (Some new.resolved.file)) }
+    ensures refused { IfErr result (spec.IsUnsaved (F.may_fail files.old) (F.told files.old) (setup_of repo.old).settings.git_dir
+        (Some new.resolved.file)) }
     ensures err { OnErr result (setup_of repo.new ≡ setup_of repo.old) }
     ensures tree { OnErr result (F.told files.new ≡ F.told files.old) }
     ensures io { IsErrOf result errors.SaveConfigIo → Rose (F.faults files.old) (F.faults files.new) }

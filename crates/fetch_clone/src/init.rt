@@ -103,7 +103,8 @@ pub fn init<F: Files>(
 ) -> Result<ThreadSafeRepository, Error>
     ensures created { OnOk result (Reaches (F.told files.old) (steps_of directory.now kind options) (F.told files.new)) }
     ensures repo { IfOk result (IsInitial (F.told files.new) (new_of directory.now kind options committer usual)) }
-    ensures refused { IfErr result (IsInitRefusal (F.may_fail files.old) (F.told files.old) (steps_of directory.now kind options) (new_of directory.now kind options committer usual) (F.told files.new)) }
+    ensures refused { IfErr result (IsInitRefusal (F.may_fail files.old) (F.told files.old) (steps_of directory.now kind options)
+        (new_of directory.now kind options committer usual) (F.told files.new)) }
     ensures cause { IfErr result (λ e. IsTrue (is_init_fault e) → Rose (F.faults files.old) (F.faults files.new)) }
     ensures counts { Counts (F.faults files.old) (F.faults files.new) }
     ensures may_fail { F.may_fail files.new ≡ F.may_fail files.old }
@@ -136,7 +137,8 @@ pub fn init_opts<F: Files>(
 ) -> Result<ThreadSafeRepository, Error>
     ensures created { OnOk result (Reaches (F.told files.old) (steps_of directory.now kind options) (F.told files.new)) }
     ensures repo { IfOk result (IsInitial (F.told files.new) (new_of directory.now kind options committer open_options)) }
-    ensures refused { IfErr result (IsInitRefusal (F.may_fail files.old) (F.told files.old) (steps_of directory.now kind options) (new_of directory.now kind options committer open_options) (F.told files.new)) }
+    ensures refused { IfErr result (IsInitRefusal (F.may_fail files.old) (F.told files.old) (steps_of directory.now kind options)
+        (new_of directory.now kind options committer open_options) (F.told files.new)) }
     ensures cause { IfErr result (λ e. IsTrue (is_init_fault e) → Rose (F.faults files.old) (F.faults files.new)) }
     ensures counts { Counts (F.faults files.old) (F.faults files.new) }
     ensures may_fail { F.may_fail files.new ≡ F.may_fail files.old }

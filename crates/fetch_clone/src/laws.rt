@@ -17,5 +17,6 @@ pub use crate::mirror_remote::{append_config_to_repo_config, append_remote_to_lo
 /// The file `config` of a new repository, read, and written with the version of any hash, is the one that a new repository of
 /// that hash has.
 pub fn a_new_configuration_takes_any_version()
-    ensures { (meta : Meta) (kind : Layout) (can : Capabilities) (was is : Kind) → text_of (versioned is (file_of meta (configuration_of kind can was))).sections ≡ configuration_of kind can is }
+    ensures { (meta : Meta) (kind : Layout) (can : Capabilities) (was is : Kind)
+        → text_of (versioned is (file_of meta (configuration_of kind can was))).sections ≡ configuration_of kind can is }
 {}

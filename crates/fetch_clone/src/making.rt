@@ -62,7 +62,8 @@ fn clear<F: Files>(files: &mut F, path: &Text) -> Result<(), Error>
 /// Makes a directory that is to be opened, and is absent.
 fn open_absent<F: Files>(files: &mut F, path: &Text) -> Result<(), Error>
     ensures done { OnOk result (Makes (F.told files.old) (steps.Directory path.now) (F.told files.new)) }
-    ensures refused { IfErr result (IsOpenRefusal (F.may_fail files.old) (F.told files.old) path.now (λ t. with_directories t (parts_of path.now)) (F.told files.new)) }
+    ensures refused { IfErr result (IsOpenRefusal (F.may_fail files.old) (F.told files.old) path.now
+        (λ t. with_directories t (parts_of path.now)) (F.told files.new)) }
     ensures cause { IfErr result (λ e. IsTrue (is_fault e) → Rose (F.faults files.old) (F.faults files.new)) }
     ensures counts { Counts (F.faults files.old) (F.faults files.new) }
     ensures may_fail { F.may_fail files.new ≡ F.may_fail files.old }
@@ -79,8 +80,10 @@ fn open_absent<F: Files>(files: &mut F, path: &Text) -> Result<(), Error>
 /// What is listed at the path. None where nothing stands there.
 pub(crate) fn listed<F: Files>(files: &mut F, path: &Text) -> Result<Option<Vec<Text>>, Error>
     ensures tree { IfOk result (λ found. F.told files.new ≡ F.told files.old) }
-    ensures found { IfOk result (λ found. IfSome (F.told files.old) (λ t. listed_in t path.now ≡ Some (option_map (λ names. names.items) found))) }
-    ensures refused { IfErr result (IsOpenRefusal (F.may_fail files.old) (F.told files.old) path.now (λ t. listed_in t path.now) (F.told files.new)) }
+    ensures found { IfOk result (λ found. IfSome (F.told files.old)
+        (λ t. listed_in t path.now ≡ Some (option_map (λ names. names.items) found))) }
+    ensures refused { IfErr result (IsOpenRefusal (F.may_fail files.old) (F.told files.old) path.now (λ t. listed_in t path.now)
+        (F.told files.new)) }
     ensures quiet { OnOk result ((F.faults files.new).count ≡ (F.faults files.old).count) }
     ensures cause { IfErr result (λ e. IsTrue (is_fault e) → Rose (F.faults files.old) (F.faults files.new)) }
     ensures counts { Counts (F.faults files.old) (F.faults files.new) }
@@ -102,7 +105,8 @@ pub(crate) fn listed<F: Files>(files: &mut F, path: &Text) -> Result<Option<Vec<
 fn kind_at<F: Files>(files: &mut F, path: &Text) -> Result<Option<Node>, Error>
     ensures tree { IfOk result (λ found. F.told files.new ≡ F.told files.old) }
     ensures found { IfOk result (λ found. IfSome (F.told files.old) (λ t. kind_in t (parts_of path.now) ≡ Some found)) }
-    ensures refused { IfErr result (IsOpenRefusal (F.may_fail files.old) (F.told files.old) path.now (λ t. kind_in t (parts_of path.now)) (F.told files.new)) }
+    ensures refused { IfErr result (IsOpenRefusal (F.may_fail files.old) (F.told files.old) path.now (λ t. kind_in t (parts_of path.now))
+        (F.told files.new)) }
     ensures quiet { OnOk result ((F.faults files.new).count ≡ (F.faults files.old).count) }
     ensures cause { IfErr result (λ e. IsTrue (is_fault e) → Rose (F.faults files.old) (F.faults files.new)) }
     ensures counts { Counts (F.faults files.old) (F.faults files.new) }

@@ -28,7 +28,8 @@ pub fn append_config_to_repo_config(
     config: &File,
 ) -> Result<(), OpenError>
     ensures state { state_of repo.new ≡ state_of repo.old }
-    ensures ok { OnOk result (reopened (setup_of repo.old) (replaced_in config.now.sections (setup_of repo.old).local) ≡ Some (setup_of repo.new)) }
+    ensures ok { OnOk result (reopened (setup_of repo.old) (replaced_in config.now.sections (setup_of repo.old).local)
+        ≡ Some (setup_of repo.new)) }
     ensures refused { IfErr result (λ e. e ≡ opening.NoMemory) }
     ensures err { OnErr result (setup_of repo.new ≡ setup_of repo.old) }
 {
@@ -49,7 +50,8 @@ pub fn append_remote_to_local_config_file<F: Files>(
     ensures section { IfOk result (λ section. section ≡ mirrors.section_of (setup_of repo.now) remote.old name.now) }
     ensures named { OnOk result (remote.new ≡ renamed (valid_name name.now) remote.old) }
     ensures written { IfOk result (mirrors.IsMirrored (F.told files.old) (setup_of repo.now) (F.told files.new)) }
-    ensures refused { IfErr result (mirrors.IsMirrorRefusal (F.may_fail files.old) (F.told files.old) (setup_of repo.now) remote.old name.now (F.told files.new)) }
+    ensures refused { IfErr result (mirrors.IsMirrorRefusal (F.may_fail files.old) (F.told files.old)
+        (setup_of repo.now) remote.old name.now (F.told files.new)) }
     ensures err { OnErr result (remote.new ≡ remote.old) }
     ensures load { IsErrOf result (errors.LoadConfig opening.Io) → Rose (F.faults files.old) (F.faults files.new) }
     ensures io { IsErrOf result errors.SaveConfigIo → Rose (F.faults files.old) (F.faults files.new) }
@@ -75,7 +77,8 @@ fn mirror<F: Files>(
     section: &File,
 ) -> Result<(), Error>
     ensures written { OnOk result (mirrors.IsMirrored (F.told files.old) (setup_of repo.now) (F.told files.new) section.now) }
-    ensures refused { IfErr result (mirrors.IsUnwritten (F.may_fail files.old) (F.told files.old) (setup_of repo.now) section.now (F.told files.new)) }
+    ensures refused { IfErr result (mirrors.IsUnwritten (F.may_fail files.old) (F.told files.old) (setup_of repo.now) section.now
+        (F.told files.new)) }
     ensures load { IsErrOf result (errors.LoadConfig opening.Io) → Rose (F.faults files.old) (F.faults files.new) }
     ensures io { IsErrOf result errors.SaveConfigIo → Rose (F.faults files.old) (F.faults files.new) }
     ensures counts { Counts (F.faults files.old) (F.faults files.new) }

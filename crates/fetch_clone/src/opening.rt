@@ -80,7 +80,8 @@ fn read_local<F: Files>(alloc: Global, files: &mut F, git_dir: &Text) -> Result<
     ensures file { IfOk result (spec.IsLocalAt (F.told files.old) (path_of_config git_dir.now)) }
     ensures refused { IfErr result (IsRefusedAt (F.told files.old) (path_of_config git_dir.now)) }
     ensures io { IsErrOf result errors.Io → Rose (F.faults files.old) (F.faults files.new) }
-    ensures in_the_way { IsErrOf result errors.Io → IsRefused (F.may_fail files.old) (F.told files.old) (λ t. read_in t (parts_of (path_of_config git_dir.now))) }
+    ensures in_the_way { IsErrOf result errors.Io
+        → IsRefused (F.may_fail files.old) (F.told files.old) (λ t. read_in t (parts_of (path_of_config git_dir.now))) }
     ensures counts { Counts (F.faults files.old) (F.faults files.new) }
     ensures tree { F.told files.new ≡ F.told files.old }
     ensures may_fail { F.may_fail files.new ≡ F.may_fail files.old }

@@ -92,12 +92,16 @@ impl<F: Files + Drop, C: Connect + Drop, R: Drop, G: Drop> PrepareFetch<F, C, R,
         configure_remote: R,
         configure_connection: G,
     ) -> Result<Self, (F, clone::Error)>
-        ensures ok { IfOk result (λ p. IsPrepared (F.faults files) (F.faults p.files) (F.told files) url.now path.now (making_of kind create_options open_options committer) (F.told p.files) p.draft) }
-        ensures kept { IfOk result (λ p. (p.maker ≡ maker) × (p.configure_remote ≡ configure_remote) × (p.configure_connection ≡ configure_connection)) }
-        ensures refused { IfErr result (λ e. IsPrepareRefusal (F.faults files) (F.faults e.0) (F.may_fail files) (F.told files) url.now path.now (making_of kind create_options open_options committer) (F.told e.0) e.1) }
+        ensures ok { IfOk result (λ p. IsPrepared (F.faults files) (F.faults p.files) (F.told files) url.now path.now
+            (making_of kind create_options open_options committer) (F.told p.files) p.draft) }
+        ensures kept { IfOk result (λ p. (p.maker ≡ maker) × (p.configure_remote ≡ configure_remote)
+            × (p.configure_connection ≡ configure_connection)) }
+        ensures refused { IfErr result (λ e. IsPrepareRefusal (F.faults files) (F.faults e.0) (F.may_fail files)
+            (F.told files) url.now path.now (making_of kind create_options open_options committer) (F.told e.0) e.1) }
         ensures untouched { IfErr result (λ e. e.1 ≡ causes.Url → e.0 ≡ files) }
         ensures cause { IfErr result (λ e. IsTrue (is_clone_fault e.1) → Rose (F.faults files) (F.faults e.0)) }
-        ensures counts { MatchResult result (λ p. Counts (F.faults files) (F.faults p.files)) (λ e. Counts (F.faults files) (F.faults e.0)) }
+        ensures counts { MatchResult result (λ p. Counts (F.faults files) (F.faults p.files))
+            (λ e. Counts (F.faults files) (F.faults e.0)) }
         ensures may_fail { MatchResult result (λ p. F.may_fail p.files ≡ F.may_fail files) (λ e. F.may_fail e.0 ≡ F.may_fail files) }
     {
         let making = Making {
@@ -171,7 +175,10 @@ impl<F: Files + Drop, C: Connect + Drop, R: Drop, G: Drop> PrepareFetch<F, C, R,
 
     /// The same with this name for the remote, unless the name is none: then the clone is handed back as it was.
     pub fn with_remote_name(self, name: &[u8]) -> Result<Self, (Self, name::Error)>
-        ensures ok { IfOk result (λ p. p ≡ record self { draft = with_choices self.draft (record self.draft.choices { remote_name = Some name.now }) }) }
+        ensures ok { IfOk result (λ p. p ≡ record self {
+          draft = with_choices self.draft
+              (record self.draft.choices { remote_name = Some name.now });
+        }) }
         ensures refused { IfErr result (λ e. (e.0 ≡ self) × IsNameRefusal name.now e.1) }
         ensures accepted { IfOk result (λ p. name_refusal name.now ≡ None) }
     {
@@ -208,7 +215,10 @@ impl<F: Files + Drop, C: Connect + Drop, R: Drop, G: Drop> PrepareFetch<F, C, R,
     /// It takes the place of a revision; None takes back a reference alone. Where the name is none, the clone is handed back as
     /// it was.
     pub fn with_ref_name(self, name: Option<&[u8]>) -> Result<Self, (Self, NameError)>
-        ensures ok { IfOk result (λ p. p ≡ record self { draft = with_choices self.draft (with_wanted self.draft.choices (ref_name_chosen self.draft.choices.wanted (option_copied name.entry))) }) }
+        ensures ok { IfOk result (λ p. p ≡ record self {
+          draft = with_choices self.draft
+              (with_wanted self.draft.choices (ref_name_chosen self.draft.choices.wanted (option_copied name.entry)));
+        }) }
         ensures verdict { RefNameVerdict (option_copied name.entry) result }
         ensures err { IfErr result (λ e. e.0 ≡ self) }
     {
@@ -231,7 +241,10 @@ impl<F: Files + Drop, C: Connect + Drop, R: Drop, G: Drop> PrepareFetch<F, C, R,
         revision: Option<&[u8]>,
     ) -> Result<Self, (Self, with_revision::Error)>
         ensures ok { IfOk result (λ p. ChoosesRevision self.draft.choices.wanted (option_copied revision.entry) p.draft.choices.wanted) }
-        ensures rest { IfOk result (λ p. p ≡ record self { draft = with_choices self.draft (with_wanted self.draft.choices p.draft.choices.wanted) }) }
+        ensures rest { IfOk result (λ p. p ≡ record self {
+          draft = with_choices self.draft
+              (with_wanted self.draft.choices p.draft.choices.wanted);
+        }) }
         ensures refused { IfErr result (λ e. (e.0 ≡ self) × IsRevisionRefusal (option_copied revision.entry) e.1) }
     {
         let mut clone = self;
@@ -268,7 +281,9 @@ impl<F: Files + Drop, C: Connect + Drop, R: Drop, G: Drop> PrepareFetch<F, C, R,
     /// Gives the clone up: without success, and not persisted, the removal of the place is asked for exactly where it was free
     /// before. A fault of that is ignored. A drop does the same.
     pub fn abandon(self) -> F
-        ensures removed { is_removed self.draft ≡ true → IsRemoved (F.faults self.files) (F.faults result) (F.may_fail self.files) (F.told self.files) self.draft.place (F.told result) }
+        ensures removed { is_removed self.draft ≡ true
+            → IsRemoved (F.faults self.files) (F.faults result) (F.may_fail self.files) (F.told self.files) self.draft.place
+            (F.told result) }
         ensures untouched { is_removed self.draft ≡ false → result ≡ self.files }
         ensures counts { Counts (F.faults self.files) (F.faults result) }
         ensures may_fail { F.may_fail result ≡ F.may_fail self.files }

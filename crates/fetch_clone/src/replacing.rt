@@ -36,7 +36,8 @@ fn remove_replaced(file: &mut File, news: &File)
 
 fn remove_at(file: &mut File, index: usize, news: &File)
     requires { index < length file.old.sections }
-    ensures { file.new ≡ with_sections file.old (edited_at index (λ s. if spec.is_replaced news.now.sections s then [] else s ∷ []) file.old.sections) }
+    ensures { file.new ≡ with_sections file.old
+        (edited_at index (λ s. if spec.is_replaced news.now.sections s then [] else s ∷ []) file.old.sections) }
 {
     let section = &file.sections()[index];
     if is_replaced(section, news) {

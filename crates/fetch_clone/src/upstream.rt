@@ -91,7 +91,8 @@ fn with_branch(
     remote: &[u8],
     name: &FullName,
 ) -> Result<Option<File>, NoMemory>
-    ensures { IfOk result (λ found. found ≡ if spec.is_kept remote.now name.now then Some (spec.with_branch local.now remote.now name.now) else None) }
+    ensures { IfOk result (λ found. found ≡ if spec.is_kept remote.now name.now
+        then Some (spec.with_branch local.now remote.now name.now) else None) }
 {
     let mut file = local.try_clone(alloc)?;
     match push_branch(alloc, &mut file, remote, name) {

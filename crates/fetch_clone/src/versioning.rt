@@ -112,7 +112,8 @@ fn push_new(
     key: &[u8],
     value: &[u8],
 ) -> Result<(), NoMemory>
-    ensures { OnOk result (file.new ≡ with_sections file.old (spec.placed None (spec.empty_section file.old.meta name.now) (key.now, Some value.now) file.old.sections)) }
+    ensures { OnOk result (file.new ≡ with_sections file.old
+        (spec.placed None (spec.empty_section file.old.meta name.now) (key.now, Some value.now) file.old.sections)) }
 {
     let meta = file.meta().try_clone()?;
     match file.push_section(alloc, name, None, meta) {

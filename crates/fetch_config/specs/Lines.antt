@@ -33,7 +33,8 @@ header_behind name (c ∷ cs) =
 
 -- `[name]` or `[name "subsection"]`, from after the bracket on
 abbrev pub header_of : List ℕ → Option Line
-header_of text = let name = take_while is_name_byte text in if is_name name then header_behind name (drop (prefix_len is_name_byte text) text) else None
+header_of text = let name = take_while is_name_byte text in if is_name name
+    then header_behind name (drop (prefix_len is_name_byte text) text) else None
 
 -- what stands after a key and its blanks
 abbrev pub entry_behind : List ℕ → List ℕ → Option Line
@@ -42,7 +43,8 @@ entry_behind key (c ∷ cs) = if c == 61 then option_map (λ value. Entry key (S
 
 -- `key = value`, or `key` alone
 abbrev pub entry_of : List ℕ → Option Line
-entry_of text = let key = take_while is_name_byte text in if is_key key then entry_behind key (skip_blanks (drop (prefix_len is_name_byte text) text)) else None
+entry_of text = let key = take_while is_name_byte text in if is_key key
+    then entry_behind key (skip_blanks (drop (prefix_len is_name_byte text) text)) else None
 
 -- a line from its first byte on that is no blank
 abbrev pub line_at : List ℕ → Option Line
@@ -69,7 +71,8 @@ abbrev pub gather : Meta → List Line → EntryList × List Section
 gather meta [] = ([], [])
 gather meta (Nothing ∷ ls) = gather meta ls
 gather meta (Entry key value ∷ ls) = let more = gather meta ls in ((key, value) ∷ more.0, more.1)
-gather meta (Header name sub ∷ ls) = let more = gather meta ls in ([], record { name = name; sub = sub; meta = meta; entries = more.0 } ∷ more.1)
+gather meta (Header name sub ∷ ls) = let more =
+    gather meta ls in ([], record { name = name; sub = sub; meta = meta; entries = more.0 } ∷ more.1)
 
 -- Each section of a text has the entries that stand between its header and the next one.
 unfoldable pub sections_of : Meta → List ℕ → List Section

@@ -27,7 +27,8 @@ override_section name sub key value =
 abbrev pub section_at : List ℕ → Option (List ℕ) → Option Section
 section_at path value = do
   first ← split_first 46 path
-  option_map_or (λ last. override_section first.0 (Some last.0) last.1 value) (split_last 46 first.1) (override_section first.0 None first.1 value)
+  option_map_or (λ last. override_section first.0 (Some last.0) last.1 value) (split_last 46 first.1)
+      (override_section first.0 None first.1 value)
 
 -- The section that an override adds. None: it has no `section.key` before its first `=`.
 unfoldable pub override_of : List ℕ → Option Section
@@ -35,9 +36,11 @@ override_of text = let parts = path_and_value text in section_at parts.0 parts.1
 
 -- the first byte that can't be kept
 unfoldable pub unkept_place : List ℕ → Option ℕ
-unkept_place text = let path = (path_and_value text).0 in option_map_or (λ place. Some place) (position is_nul_or_feed path) (position is_nul text)
+unkept_place text = let path = (path_and_value text).0 in option_map_or (λ place. Some place) (position is_nul_or_feed path)
+    (position is_nul text)
 
--- Why an override is refused: it has no key, also where it has a NUL; where it has one, its first byte that can't be kept; or out of memory.
+-- Why an override is refused: it has no key, also where it has a NUL; where it has one, its first byte that can't be kept; or out of
+-- memory.
 abbrev pub IsOverrideRefusal : List ℕ → ConfigError → Type 0
 IsOverrideRefusal text (Syntax line) = ⊥
 IsOverrideRefusal text (BadValue place) = IsTrue (is_some (override_of text)) × (unkept_place text ≡ Some place)

@@ -1,6 +1,7 @@
 //! A configuration.
 
-ghost use Rattle.std.specs.Prelude.{◌≡◌, ◌<◌, ◌++◌, length, IfOk, OnOk, IfErr, OnErr, IfSome, IsOkUnless, MatchOption, IsTrue, is_some, None, Some, Ok, Err, option_map, position, remove, [], ◌∷◌, slice_get};
+ghost use Rattle.std.specs.Prelude.{◌≡◌, ◌<◌, ◌++◌, length, IfOk, OnOk, IfErr, OnErr, IfSome, IsOkUnless, MatchOption, IsTrue, is_some};
+ghost use Rattle.std.specs.Prelude.{None, Some, Ok, Err, option_map, position, remove, [], ◌∷◌, slice_get};
 ghost use Rattle.std.specs.Option.{option_copied, option_map_or};
 ghost use Rattle.fetch_config.specs.Contents.{Contents, with_sections, on_section, with_entry, without_key, IsRefusedAt};
 ghost use Rattle.fetch_config.specs.Kept as kept;
@@ -111,10 +112,12 @@ impl File {
     /// Adds a section of its own for `section.key=value` or `section.subsection.key=value`. Without `=` the entry
     /// is implicit. After an error the file is as before.
     pub fn apply_override(&mut self, alloc: Global, text: &[u8]) -> Result<(), ConfigError>
-        ensures ok { OnOk result (option_map (λ s. with_sections self.old (self.old.sections ++ s ∷ [])) (overrides.override_of text.now) ≡ Some self.new) }
+        ensures ok { OnOk result (option_map (λ s. with_sections self.old (self.old.sections ++ s ∷ [])) (overrides.override_of text.now)
+            ≡ Some self.new) }
         ensures kept { OnOk result (overrides.unkept_place text.now ≡ None) }
         ensures refused { IfErr result (overrides.IsOverrideRefusal text.now) }
-        ensures bad_value { IsTrue (is_some (overrides.override_of text.now)) → IfSome (overrides.unkept_place text.now) (λ place. result ≡ Err (errors.BadValue place)) }
+        ensures bad_value { IsTrue (is_some (overrides.override_of text.now))
+            → IfSome (overrides.unkept_place text.now) (λ place. result ≡ Err (errors.BadValue place)) }
         ensures err { OnErr result (self.new ≡ self.old) }
     {
         let Some(said) = override_of(text) else {
@@ -138,7 +141,8 @@ impl File {
         key: &[u8],
         trusted_only: bool,
     ) -> Option<&[u8]>
-        ensures { option_map (λ v. v.now) result ≡ lookups.last_of (lookups.explicit (lookups.values_of section.now (option_map (λ s. s.now) sub.entry) key.now trusted_only self.now.sections)) }
+        ensures { option_map (λ v. v.now) result ≡ lookups.last_of
+            (lookups.explicit (lookups.values_of section.now (option_map (λ s. s.now) sub.entry) key.now trusted_only self.now.sections)) }
     {
         lookup::last_text(self.sections.as_slice(), section, sub, key, trusted_only)
     }
@@ -151,7 +155,8 @@ impl File {
         key: &[u8],
         trusted_only: bool,
     ) -> Option<&Option<Text>>
-        ensures { option_copied result ≡ lookups.last_of (lookups.values_of section.now (option_map (λ s. s.now) sub.entry) key.now trusted_only self.now.sections) }
+        ensures { option_copied result ≡ lookups.last_of
+            (lookups.values_of section.now (option_map (λ s. s.now) sub.entry) key.now trusted_only self.now.sections) }
     {
         lookup::last_value(self.sections.as_slice(), section, sub, key, trusted_only)
     }
@@ -165,7 +170,8 @@ impl File {
         key: &[u8],
         trusted_only: bool,
     ) -> Result<Vec<Text>, ConfigError>
-        ensures ok { IfOk result (λ values. values.items ≡ lookups.explicit (lookups.values_of section.now (option_map (λ s. s.now) sub.entry) key.now trusted_only self.now.sections)) }
+        ensures ok { IfOk result (λ values. values.items ≡ lookups.explicit
+            (lookups.values_of section.now (option_map (λ s. s.now) sub.entry) key.now trusted_only self.now.sections)) }
         ensures err { IfErr result (λ e. e ≡ errors.NoMemory) }
     {
         let sections = self.sections.as_slice();
@@ -182,7 +188,8 @@ impl File {
         key: &[u8],
         trusted_only: bool,
     ) -> Option<Result<bool, Unreadable>>
-        ensures { result ≡ lookups.boolean_of (lookups.values_of section.now (option_map (λ s. s.now) sub.entry) key.now trusted_only self.now.sections) }
+        ensures { result ≡ lookups.boolean_of
+            (lookups.values_of section.now (option_map (λ s. s.now) sub.entry) key.now trusted_only self.now.sections) }
     {
         lookup::boolean(self.sections.as_slice(), section, sub, key, trusted_only)
     }
@@ -196,7 +203,8 @@ impl File {
         key: &[u8],
         trusted_only: bool,
     ) -> Option<Result<i64, Unreadable>>
-        ensures { result ≡ lookups.integer_of (lookups.values_of section.now (option_map (λ s. s.now) sub.entry) key.now trusted_only self.now.sections) }
+        ensures { result ≡ lookups.integer_of
+            (lookups.values_of section.now (option_map (λ s. s.now) sub.entry) key.now trusted_only self.now.sections) }
     {
         lookup::integer(self.sections.as_slice(), section, sub, key, trusted_only)
     }
@@ -233,10 +241,12 @@ impl File {
         sub: Option<&[u8]>,
         meta: Meta,
     ) -> Result<usize, ConfigError>
-        ensures ok { OnOk result (self.new ≡ with_sections self.old (self.old.sections ++ record { name = name.now; sub = option_map (λ s. s.now) sub.entry; meta = meta; entries = [] } ∷ [])) }
+        ensures ok { OnOk result (self.new ≡ with_sections self.old (self.old.sections
+            ++ record { name = name.now; sub = option_map (λ s. s.now) sub.entry; meta = meta; entries = [] } ∷ [])) }
         ensures index { IfOk result (λ index. index ≡ length self.old.sections) }
         ensures kept { OnOk result (option_map_or (λ s. position kept.is_nul_or_feed s.now) sub.entry None ≡ None) }
-        ensures verdict { MatchOption (option_map_or (λ s. position kept.is_nul_or_feed s.now) sub.entry None) (IsOkUnless result errors.NoMemory) (λ place. result ≡ Err (errors.BadValue place)) }
+        ensures verdict { MatchOption (option_map_or (λ s. position kept.is_nul_or_feed s.now) sub.entry None)
+            (IsOkUnless result errors.NoMemory) (λ place. result ≡ Err (errors.BadValue place)) }
         ensures err { OnErr result (self.new ≡ self.old) }
     {
         let section = new_section(alloc, name, sub, meta)?;
@@ -255,9 +265,11 @@ impl File {
         value: &[u8],
     ) -> Result<(), ConfigError>
         requires { index < length self.old.sections }
-        ensures ok { OnOk result (self.new ≡ with_sections self.old (on_section index (with_entry (key.now, Some value.now)) self.old.sections)) }
+        ensures ok { OnOk result (self.new ≡ with_sections self.old
+            (on_section index (with_entry (key.now, Some value.now)) self.old.sections)) }
         ensures kept { OnOk result (position kept.is_nul value.now ≡ None) }
-        ensures verdict { MatchOption (position kept.is_nul value.now) (IsOkUnless result errors.NoMemory) (λ place. result ≡ Err (errors.BadValue place)) }
+        ensures verdict { MatchOption (position kept.is_nul value.now) (IsOkUnless result errors.NoMemory)
+            (λ place. result ≡ Err (errors.BadValue place)) }
         ensures err { OnErr result (self.new ≡ self.old) }
     {
         if let Some(place) = nul_place(value) {
@@ -293,9 +305,11 @@ fn new_section(
     sub: Option<&[u8]>,
     meta: Meta,
 ) -> Result<Section, ConfigError>
-    ensures ok { IfOk result (λ section. section ≡ record { name = name.now; sub = option_map (λ s. s.now) sub.entry; meta = meta; entries = [] }) }
+    ensures ok { IfOk result (λ section. section
+        ≡ record { name = name.now; sub = option_map (λ s. s.now) sub.entry; meta = meta; entries = [] }) }
     ensures kept { OnOk result (option_map_or (λ s. position kept.is_nul_or_feed s.now) sub.entry None ≡ None) }
-    ensures verdict { MatchOption (option_map_or (λ s. position kept.is_nul_or_feed s.now) sub.entry None) (IsOkUnless result errors.NoMemory) (λ place. result ≡ Err (errors.BadValue place)) }
+    ensures verdict { MatchOption (option_map_or (λ s. position kept.is_nul_or_feed s.now) sub.entry None)
+        (IsOkUnless result errors.NoMemory) (λ place. result ≡ Err (errors.BadValue place)) }
 {
     let sub = match sub {
         Some(sub) => Some(checked_sub(alloc, sub)?),
@@ -312,7 +326,8 @@ fn new_section(
 fn checked_sub(alloc: Global, sub: &[u8]) -> Result<Text, ConfigError>
     ensures ok { IfOk result (λ copy. copy ≡ sub.now) }
     ensures kept { OnOk result (position kept.is_nul_or_feed sub.now ≡ None) }
-    ensures verdict { MatchOption (position kept.is_nul_or_feed sub.now) (IsOkUnless result errors.NoMemory) (λ place. result ≡ Err (errors.BadValue place)) }
+    ensures verdict { MatchOption (position kept.is_nul_or_feed sub.now) (IsOkUnless result errors.NoMemory)
+        (λ place. result ≡ Err (errors.BadValue place)) }
 {
     if let Some(place) = nul_or_feed_place(sub) {
         return Err(ConfigError::BadValue { place });

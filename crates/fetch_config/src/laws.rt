@@ -29,17 +29,20 @@ pub fn a_value_stands_between_blanks_before_a_comment()
 /// A subsection ends at its first quote that has no backslash before it; a backslash takes the next byte as it is, and
 /// each other byte stands for itself.
 pub fn a_backslash_takes_the_next_byte_of_a_subsection()
-    ensures { (text : List ℕ) → (name : List ℕ) → (rest : List ℕ) → (subsection_of false text ≡ Some (name, rest)) ↔ IsQuotedName text name rest }
+    ensures { (text : List ℕ) → (name : List ℕ) → (rest : List ℕ)
+        → (subsection_of false text ≡ Some (name, rest)) ↔ IsQuotedName text name rest }
 {}
 
 /// A line is a header exactly where it is blanks, a bracket, a name, maybe blanks and a subsection between
 /// quotes, a bracket, and then nothing or a comment.
 pub fn a_header_is_a_name_between_brackets()
-    ensures { (text : List ℕ) → (name : List ℕ) → (sub : Option (List ℕ)) → (line_of text ≡ Some (lines.Header name sub)) ↔ SaysHeader text name sub }
+    ensures { (text : List ℕ) → (name : List ℕ) → (sub : Option (List ℕ))
+        → (line_of text ≡ Some (lines.Header name sub)) ↔ SaysHeader text name sub }
 {}
 
 /// A line is an entry exactly where it is blanks, a key, blanks, and then a `=` with a value after it, or
 /// nothing: an implicit entry.
 pub fn an_entry_is_a_key_and_maybe_a_value()
-    ensures { (text : List ℕ) → (key : List ℕ) → (value : Option (List ℕ)) → (line_of text ≡ Some (lines.Entry key value)) ↔ SaysEntry text key value }
+    ensures { (text : List ℕ) → (key : List ℕ) → (value : Option (List ℕ))
+        → (line_of text ≡ Some (lines.Entry key value)) ↔ SaysEntry text key value }
 {}

@@ -73,7 +73,8 @@ fn last_in<'a>(
     trusted_only: bool,
     found: Option<&'a Option<Text>>,
 ) -> Option<&'a Option<Text>>
-    ensures { option_copied result ≡ spec.last_or (option_copied found.entry) (spec.values_in name.now (option_map (λ s. s.now) sub.entry) key.now trusted_only section.now) }
+    ensures { option_copied result ≡ spec.last_or (option_copied found.entry)
+        (spec.values_in name.now (option_map (λ s. s.now) sub.entry) key.now trusted_only section.now) }
 {
     if is_meant(section, name, sub, trusted_only) {
         last_at(section.entries.as_slice(), key, found)
@@ -90,7 +91,8 @@ pub(crate) fn last_value<'a>(
     key: &[u8],
     trusted_only: bool,
 ) -> Option<&'a Option<Text>>
-    ensures { option_copied result ≡ spec.last_of (spec.values_of name.now (option_map (λ s. s.now) sub.entry) key.now trusted_only sections.now) }
+    ensures { option_copied result ≡ spec.last_of
+        (spec.values_of name.now (option_map (λ s. s.now) sub.entry) key.now trusted_only sections.now) }
 {
     let mut last = None;
     for section in sections {
@@ -106,7 +108,8 @@ fn later_text<'a>(
     key: &[u8],
     found: Option<&'a [u8]>,
 ) -> Option<&'a [u8]>
-    ensures { option_map (λ v. v.now) result ≡ spec.last_or (option_map (λ v. v.now) found.entry) (spec.explicit (spec.values_at key.now entry.now)) }
+    ensures { option_map (λ v. v.now) result ≡ spec.last_or (option_map (λ v. v.now) found.entry)
+        (spec.explicit (spec.values_at key.now entry.now)) }
 {
     if !is_same_name(entry.0.as_bytes(), key) {
         return found;
@@ -122,7 +125,8 @@ fn last_text_at<'a>(
     key: &[u8],
     found: Option<&'a [u8]>,
 ) -> Option<&'a [u8]>
-    ensures { option_map (λ v. v.now) result ≡ spec.last_or (option_map (λ v. v.now) found.entry) (spec.explicit (flat_map (spec.values_at key.now) entries.now)) }
+    ensures { option_map (λ v. v.now) result ≡ spec.last_or (option_map (λ v. v.now) found.entry)
+        (spec.explicit (flat_map (spec.values_at key.now) entries.now)) }
 {
     let mut last = found;
     for entry in entries {
@@ -140,7 +144,8 @@ fn last_text_in<'a>(
     trusted_only: bool,
     found: Option<&'a [u8]>,
 ) -> Option<&'a [u8]>
-    ensures { option_map (λ v. v.now) result ≡ spec.last_or (option_map (λ v. v.now) found.entry) (spec.explicit (spec.values_in name.now (option_map (λ s. s.now) sub.entry) key.now trusted_only section.now)) }
+    ensures { option_map (λ v. v.now) result ≡ spec.last_or (option_map (λ v. v.now) found.entry)
+        (spec.explicit (spec.values_in name.now (option_map (λ s. s.now) sub.entry) key.now trusted_only section.now)) }
 {
     if is_meant(section, name, sub, trusted_only) {
         last_text_at(section.entries.as_slice(), key, found)
@@ -157,7 +162,8 @@ pub(crate) fn last_text<'a>(
     key: &[u8],
     trusted_only: bool,
 ) -> Option<&'a [u8]>
-    ensures { option_map (λ v. v.now) result ≡ spec.last_of (spec.explicit (spec.values_of name.now (option_map (λ s. s.now) sub.entry) key.now trusted_only sections.now)) }
+    ensures { option_map (λ v. v.now) result ≡ spec.last_of
+        (spec.explicit (spec.values_of name.now (option_map (λ s. s.now) sub.entry) key.now trusted_only sections.now)) }
 {
     let mut last = None;
     for section in sections {
@@ -194,7 +200,8 @@ fn count_in(
     trusted_only: bool,
     count: usize,
 ) -> usize
-    ensures { result ≡ min (count + length (spec.values_in name.now (option_map (λ s. s.now) sub.entry) key.now trusted_only section.now)) (2 ^ 64 - 1) }
+    ensures { result ≡ min (count + length (spec.values_in name.now (option_map (λ s. s.now) sub.entry) key.now trusted_only section.now))
+        (2 ^ 64 - 1) }
 {
     if is_meant(section, name, sub, trusted_only) {
         count_at(section.entries.as_slice(), key, count)
@@ -211,7 +218,8 @@ fn count(
     key: &[u8],
     trusted_only: bool,
 ) -> usize
-    ensures { result ≡ min (length (spec.values_of name.now (option_map (λ s. s.now) sub.entry) key.now trusted_only sections.now)) (2 ^ 64 - 1) }
+    ensures { result ≡ min (length (spec.values_of name.now (option_map (λ s. s.now) sub.entry) key.now trusted_only sections.now))
+        (2 ^ 64 - 1) }
 {
     let mut count = 0;
     for section in sections {
@@ -262,7 +270,8 @@ fn collect_in(
     key: &[u8],
     trusted_only: bool,
 ) -> Result<(), NoMemory>
-    ensures { OnOk result (values.new.items ≡ values.old.items ++ spec.explicit (spec.values_in name.now (option_map (λ s. s.now) sub.entry) key.now trusted_only section.now)) }
+    ensures { OnOk result (values.new.items ≡ values.old.items
+        ++ spec.explicit (spec.values_in name.now (option_map (λ s. s.now) sub.entry) key.now trusted_only section.now)) }
 {
     if is_meant(section, name, sub, trusted_only) {
         return collect_at(values, section.entries.as_slice(), key);
@@ -279,7 +288,8 @@ pub(crate) fn collect(
     key: &[u8],
     trusted_only: bool,
 ) -> Result<Vec<Text>, NoMemory>
-    ensures { IfOk result (λ values. values.items ≡ spec.explicit (spec.values_of name.now (option_map (λ s. s.now) sub.entry) key.now trusted_only sections.now)) }
+    ensures { IfOk result (λ values. values.items
+        ≡ spec.explicit (spec.values_of name.now (option_map (λ s. s.now) sub.entry) key.now trusted_only sections.now)) }
 {
     let mut values = Vec::new(alloc);
     for section in sections {

@@ -49,7 +49,8 @@ fn with_key<'a>(
     key: &'a [u8],
     value: Option<&'a [u8]>,
 ) -> Option<Override<'a>>
-    ensures { option_map seen.section_of result ≡ spec.override_section name.now (option_map (λ s. s.now) sub.entry) key.now (option_map (λ v. v.now) value.entry) }
+    ensures { option_map seen.section_of result
+        ≡ spec.override_section name.now (option_map (λ s. s.now) sub.entry) key.now (option_map (λ v. v.now) value.entry) }
 {
     if !is_name(name) {
         return None;

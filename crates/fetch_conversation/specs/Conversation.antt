@@ -58,7 +58,8 @@ ends_in go (Err (faults.Said text)) = false
 -- whether a reply is awaited of a peer that said this: one that isn't whole yet, and of which nothing is wrong
 unfoldable pub awaits_more : {X E : Type 0} → ℕ → Conversation X E → List ℕ → Bool
 awaits_more bound (ends answer) stream = false
-awaits_more bound (asks lines awaited failed next) stream = ends_in (λ told rest. awaits_more bound (next told) rest) (told_at bound awaited stream)
+awaits_more bound (asks lines awaited failed next) stream =
+    ends_in (λ told rest. awaits_more bound (next told) rest) (told_at bound awaited stream)
 
 -- The peer's bytes are replies to the requests before one that it didn't hear whole: its reply is awaited, and nothing is
 -- wrong with the bytes.
@@ -111,7 +112,8 @@ told_as g (asks lines awaited failed next) = asks lines awaited (λ fault. g (fa
 -- The conversation was held to its end: the peer heard its lines, and this is its answer, whatever comes after. No
 -- receive was made before all that was to be sent so far had been heard, and none after a reply that was whole. Each gave
 -- something.
-pub record Concludes {X E : Type 0} (answers : Bool) (bound : ℕ) (old new : Option Talk) (pending : List ℕ) (c : Conversation X E) (x : X) (rest : List ℕ) : Type 0 where
+pub record Concludes {X E : Type 0} (answers : Bool) (bound : ℕ) (old new : Option Talk) (pending : List ℕ) (c : Conversation X E) (x : X)
+    (rest : List ℕ) : Type 0 where
   pub said : List ℕ
   pub heard : List ℕ
   pub passed : Talks answers old new heard said
@@ -133,7 +135,8 @@ IsRefusedBy bound now c stream heard e =
 -- It broke off: the peer heard a prefix of its lines, and each receive was due. Unless the refusal is a free one, as want
 -- of memory and a counted fault are, it is the one of this conversation with this peer, which heard all lines up to it.
 -- Where it was stopped by a yes, a receive was due.
-pub record Breaks {X E : Type 0} (free stopped : E → Bool) (answers : Bool) (bound : ℕ) (old new : Option Talk) (pending : List ℕ) (c : Conversation X E) (e : E) : Type 0 where
+pub record Breaks {X E : Type 0} (free stopped : E → Bool) (answers : Bool) (bound : ℕ) (old new : Option Talk) (pending : List ℕ)
+    (c : Conversation X E) (e : E) : Type 0 where
   pub said : List ℕ
   pub heard : List ℕ
   pub passed : Talks answers old new heard said
@@ -143,13 +146,15 @@ pub record Breaks {X E : Type 0} (free stopped : E → Bool) (answers : Bool) (b
   pub due : stopped e ≡ true → IsDue bound c pending (record { heard = heard; given = said })
 
 -- What a conversation held gives: an answer, or where it broke off.
-abbrev pub ConversesBy : {X E : Type 0} → (E → Bool) → (E → Bool) → Bool → ℕ → Option Talk → Option Talk → List ℕ → List ℕ → Conversation X E → Result X E → Type 0
+abbrev pub ConversesBy : {X E : Type 0} → (E → Bool) → (E → Bool) → Bool → ℕ → Option Talk → Option Talk → List ℕ → List ℕ
+    → Conversation X E → Result X E → Type 0
 ConversesBy free stopped answers bound old new pending rest c (Ok x) = Concludes answers bound old new pending c x rest
 ConversesBy free stopped answers bound old new pending rest c (Err e) = Breaks free stopped answers bound old new pending c e
 
 -- What a call leaves that holds the conversation. Pending is what was received and not read before it, and rest what
 -- was received and not read after it.
-pub record Converses {X E : Type 0} (free stopped : E → Bool) (answers : Bool) (bound : ℕ) (old new : Option Talk) (pending rest : List ℕ) (c : Conversation X E) (result : Result X E) : Type 0 where
+pub record Converses {X E : Type 0} (free stopped : E → Bool) (answers : Bool) (bound : ℕ) (old new : Option Talk) (pending rest : List ℕ)
+    (c : Conversation X E) (result : Result X E) : Type 0 where
   pub held : ConversesBy free stopped answers bound old new pending rest c result
 
 -- What a peer gave in a call and has still to give are valid replies: to all requests of the conversation, or at least to

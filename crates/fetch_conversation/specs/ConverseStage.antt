@@ -1,5 +1,6 @@
 -- The second stage of a fetch: a pack is asked for and read.
-use Rattle.std.specs.Prelude.{ℕ, suc, Bool, true, false, not, ◌&&◌, ◌||◌, ◌==◌, List, [], ◌∷◌, ◌++◌, length, find, Option, Some, None, Result, Ok, Err, codes, unwrap_or, if◌then◌else◌}
+use Rattle.std.specs.Prelude.{ℕ, suc, Bool, true, false, not, ◌&&◌, ◌||◌, ◌==◌, List, [], ◌∷◌, ◌++◌, length, find, Option, Some, None}
+use Rattle.std.specs.Prelude.{Result, Ok, Err, codes, unwrap_or, if◌then◌else◌}
 use Rattle.std.specs.FinMap as map
 use Rattle.std.specs.FinSet as set
 use Rattle.std.specs.List.{list_any}
@@ -155,11 +156,23 @@ lacking t = lacked t.listed.handshake (needs_shallow t)
 
 -- the pack beside the rounds, where it holds this
 abbrev pub with_pack : Negotiated → Contents → Received
-with_pack n c = record { negotiate = record { rounds = n.rounds }; objects = c.objects; shallow = n.reply.shallow; unshallow = n.reply.unshallow; pack = Some (c.count, c.digest) }
+with_pack n c = record {
+  negotiate = record { rounds = n.rounds };
+  objects = c.objects;
+  shallow = n.reply.shallow;
+  unshallow = n.reply.unshallow;
+  pack = Some (c.count, c.digest);
+}
 
 -- the same where no pack is read
 abbrev pub without_pack : Negotiated → Received
-without_pack n = record { negotiate = record { rounds = n.rounds }; objects = []; shallow = n.reply.shallow; unshallow = n.reply.unshallow; pack = None }
+without_pack n = record {
+  negotiate = record { rounds = n.rounds };
+  objects = [];
+  shallow = n.reply.shallow;
+  unshallow = n.reply.unshallow;
+  pack = None;
+}
 
 -- what a pack brings, or why it can't be read
 abbrev pub unpacked : Negotiated → Result Contents PackError → Result (Option Received) Error
@@ -179,7 +192,8 @@ first_outside border shallow = find (λ id. not (set.contains border id)) shallo
 -- isn't to change.
 abbrev pub rejected : Settings → View → Shallow → FetchReply → Option Error
 rejected settings view shallow reply =
-    if is_rejecting (rejects_shallow_of settings.config) && is_no_change shallow then option_map (λ id. errors.RejectShallowRemote id) (first_outside view.border reply.shallow) else None
+    if is_rejecting (rejects_shallow_of settings.config) && is_no_change shallow
+    then option_map (λ id. errors.RejectShallowRemote id) (first_outside view.border reply.shallow) else None
 
 -- this refusal, where there is one
 abbrev pub result_unless : {X E : Type 0} → Option E → Result X E → Result X E
@@ -218,4 +232,5 @@ wanting bound g t (id ∷ ids) = fetching bound g t
 
 -- the whole stage, over the objects that are stored
 unfoldable pub converse_stage : ℕ → Graph → TermsValue → Conversation (Option Received) Error
-converse_stage bound g t = unless (option_or (no_mapping t) (option_or (other_hash t) (option_or (unfit t.settings) (lacking t)))) (wanting bound g t t.view.wants)
+converse_stage bound g t = unless (option_or (no_mapping t) (option_or (other_hash t) (option_or (unfit t.settings) (lacking t))))
+    (wanting bound g t t.view.wants)

@@ -26,7 +26,14 @@ use Rattle.fetch_conversation.specs.declared.rounds.Course.{Course}
 
 -- what a pack is asked for by, which was lent
 abbrev pub terms_told : ListedValue → Terms → TermsValue
-terms_told l t = record { listed = l; settings = t.settings.now; view = t.view.now; tags = t.tags; shallow = t.shallow.now; dry_run = t.dry_run }
+terms_told l t = record {
+  listed = l;
+  settings = t.settings.now;
+  view = t.view.now;
+  tags = t.tags;
+  shallow = t.shallow.now;
+  dry_run = t.dry_run;
+}
 
 -- a refusal is told, or out of memory in its place; where there is none, nothing is refused
 abbrev pub Tells : {T : Type 0} → Option Error → Result T Error → Type 0
@@ -78,18 +85,23 @@ course_of c = record { so_far = so_far_of c.negotiator; shared = c.shared.items;
 
 -- A round was held: the request of its window was answered by the reply that is kept, and it is told whether that ends
 -- the rounds.
-pub record IsHeld (answers : Bool) (bound : ℕ) (old new : Option Talk) (pending rest : List ℕ) (t : TermsValue) (g : Graph) (algorithm : Algorithm) (c now : CourseValue) (stored : Option FetchReply) (last : Bool) : Type 0 where
+pub record IsHeld (answers : Bool) (bound : ℕ) (old new : Option Talk) (pending rest : List ℕ) (t : TermsValue) (g : Graph)
+    (algorithm : Algorithm) (c now : CourseValue) (stored : Option FetchReply) (last : Bool) : Type 0 where
   pub reply : FetchReply
   pub kept : stored ≡ Some reply
-  pub held : Concludes answers bound old new pending (exchange bound t (haves_told c.shared (next_window g algorithm c).haves) (is_short c (next_window g algorithm c))) reply rest
+  pub held : Concludes answers bound old new pending
+      (exchange bound t (haves_told c.shared (next_window g algorithm c).haves) (is_short c (next_window g algorithm c))) reply rest
   pub ends : last ≡ is_end c (next_window g algorithm c) reply
   pub rounds : now.rounds ≡ rounds_with c (next_window g algorithm c) reply
   pub goes : last ≡ false → now ≡ course_after algorithm c (next_window g algorithm c) reply
 
 -- A round is held, or the rounds break off.
-abbrev pub Holds : Bool → ℕ → Option Talk → Option Talk → List ℕ → List ℕ → TermsValue → Graph → Algorithm → CourseValue → CourseValue → Option FetchReply → Result Bool Error → Type 0
-Holds answers bound old new pending rest t g algorithm c now kept (Ok last) = IsHeld answers bound old new pending rest t g algorithm c now kept last
-Holds answers bound old new pending rest t g algorithm c now kept (Err e) = (more : ℕ) → Breaks is_free_receiving is_stopped answers bound old new pending (negotiating (suc more) bound t g algorithm c) e
+abbrev pub Holds : Bool → ℕ → Option Talk → Option Talk → List ℕ → List ℕ → TermsValue → Graph → Algorithm → CourseValue → CourseValue
+    → Option FetchReply → Result Bool Error → Type 0
+Holds answers bound old new pending rest t g algorithm c now kept (Ok last) =
+    IsHeld answers bound old new pending rest t g algorithm c now kept last
+Holds answers bound old new pending rest t g algorithm c now kept (Err e) = (more : ℕ)
+    → Breaks is_free_receiving is_stopped answers bound old new pending (negotiating (suc more) bound t g algorithm c) e
 
 -- what the rounds end with, the reply being the one that a session keeps
 abbrev pub negotiated_of : Result Negotiate Error → Option FetchReply → Result Negotiated Error

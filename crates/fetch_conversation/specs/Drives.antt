@@ -89,7 +89,8 @@ RunsOut s now (Err stops.Interrupted) = ⊤
 
 -- The same, with the peer's count of faults and the interrupt's of yes answers: neither falls, each rose where its stop
 -- is told, and no Ok follows a yes. The interrupt was asked once before each receive.
-pub record IsDriven {T : Type 0} (answers : Bool) (old new : Option Talk) (s now : SessionState) (faults faults' yes yes' : Faults) (will will' : ℕ → Type 0) (result : Result T Stop) : Type 0 where
+pub record IsDriven {T : Type 0} (answers : Bool) (old new : Option Talk) (s now : SessionState) (faults faults' yes yes' : Faults)
+    (will will' : ℕ → Type 0) (result : Result T Stop) : Type 0 where
   pub driven : Drives answers old new s now result
   pub memory : RunsOut s now result
   pub peer : BlamesPeer faults faults' (is_told is_failed result)
@@ -106,7 +107,8 @@ IsUnsent stops.Interrupted = ⊥
 -- A piece came that isn't empty, and was fed; or it is refused, or the end of the peer's bytes is.
 abbrev pub Takes : {T : Type 0} → Option Talk → Option Talk → SessionState → SessionState → Result T Stop → Type 0
 Takes old new s now (Ok x) = (piece : List ℕ) × (0 < length piece) × Talks false old new [] piece × IsAlike now (fed s piece)
-Takes old new s now (Err e) = (piece : List ℕ) × Talks false old new [] piece × (Explains new [] (fed s piece) e ⊎ ((piece ≡ []) × Explains new [] s e))
+Takes old new s now (Err e) = (piece : List ℕ) × Talks false old new [] piece
+    × (Explains new [] (fed s piece) e ⊎ ((piece ≡ []) × Explains new [] s e))
 
 -- one receive is made, and none where the interrupt says yes
 abbrev pub made_by : {T : Type 0} → Result T Stop → List Receive

@@ -33,7 +33,14 @@ pub record TermsValue : Type 0 where
 
 -- what each request is made of, but for its haves
 abbrev pub asked_by : TermsValue → Asked
-asked_by t = record { handshake = t.listed.handshake; agent = agent_of t.settings.config; tags = t.tags; shallow = t.shallow; border = t.view.border; wants = t.view.wants }
+asked_by t = record {
+  handshake = t.listed.handshake;
+  agent = agent_of t.settings.config;
+  tags = t.tags;
+  shallow = t.shallow;
+  border = t.view.border;
+  wants = t.view.wants;
+}
 
 -- the haves of a request: the ids acknowledged so far, in the order in which each first was, and then the window
 abbrev pub haves_told : List ObjectId → List ObjectId → List ObjectId
@@ -64,4 +71,5 @@ reply_to t haves done = record { kind = t.listed.handshake.object_hash; haves = 
 
 -- the request with these haves, and its reply
 unfoldable pub exchange : ℕ → TermsValue → List ObjectId → Bool → Conversation FetchReply Error
-exchange bound t haves done = asking too_long (fetch_request (asked_by t) haves done) (awaits.Reply (reply_to t haves done)) (failed bound) (λ x. replied x)
+exchange bound t haves done = asking too_long (fetch_request (asked_by t) haves done) (awaits.Reply (reply_to t haves done)) (failed bound)
+    (λ x. replied x)

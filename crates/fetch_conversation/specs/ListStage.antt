@@ -1,5 +1,6 @@
 -- The first stage of a fetch: the greeting, the listing, and the mappings.
-use Rattle.std.specs.Prelude.{◌≡◌, ℕ, Bool, true, false, ◌&&◌, List, [], ◌∷◌, ◌++◌, length, map, Option, Some, None, Result, Ok, Err, if◌then◌else◌}
+use Rattle.std.specs.Prelude.{◌≡◌, ℕ, Bool, true, false, ◌&&◌, List, [], ◌∷◌, ◌++◌, length, map, Option, Some, None, Result, Ok, Err}
+use Rattle.std.specs.Prelude.{if◌then◌else◌}
 use Rattle.std.specs.List.{list_any}
 use Rattle.std.specs.Option.{option_map}
 use Rattle.fetch_specs.specs.Conflicts.{conflicts_of}
@@ -94,7 +95,8 @@ no_specs q = if is_nil q.specs && is_nil q.options.extra_refspecs then Some erro
 
 -- address, parameters and agent hold neither a NUL nor a line feed
 abbrev pub unsendable : InquiryValue → Option Error
-unsendable q = option_map (λ (bad : List ℕ × ℕ). handshaking (wire.BadParameter bad.0 bad.1)) (first_bad (texts_told q.address q.options.handshake_parameters q.agent))
+unsendable q = option_map (λ (bad : List ℕ × ℕ). handshaking (wire.BadParameter bad.0 bad.1))
+    (first_bad (texts_told q.address q.options.handshake_parameters q.agent))
 
 -- ---- the conversation
 
@@ -141,7 +143,8 @@ unlisted h = if offers listing_feature h.capabilities then None else Some (hands
 unfoldable pub listing : ℕ → InquiryValue → Handshake → Conversation ListedValue Error
 listing bound q h =
     let lines = listing_lines h q.agent (prefixes_asked q) in
-    asks_unless (first_too_long lines) too_long (unless (unlisted h) (asks lines (awaits.Listing h.object_hash) (failed bound) (λ t. listed q h t)))
+    asks_unless (first_too_long lines) too_long
+    (unless (unlisted h) (asks lines (awaits.Listing h.object_hash) (failed bound) (λ t. listed q h t)))
 
 -- a server of version 1 lists in its greeting
 abbrev pub greeted : ℕ → InquiryValue → Told → Conversation ListedValue Error
@@ -153,7 +156,8 @@ greeted bound q (told.Reply reply) = ends (Err other_reply)
 -- the first line, the greeting, the listing request, and the listing
 unfoldable pub inquiry_stage : ℕ → InquiryValue → Conversation ListedValue Error
 inquiry_stage bound q =
-    unless (unsendable q) (asking too_long (first_line q.address q.options.handshake_parameters ∷ []) awaits.Greeting (failed bound) (λ t. greeted bound q t))
+    unless (unsendable q) (asking too_long (first_line q.address q.options.handshake_parameters ∷ []) awaits.Greeting (failed bound)
+    (λ t. greeted bound q t))
 
 -- the whole stage: without a refspec nothing is asked
 unfoldable pub list_stage : ℕ → InquiryValue → Conversation ListedValue Error

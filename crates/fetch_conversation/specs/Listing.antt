@@ -29,7 +29,8 @@ pub record IsOpened (q : InquiryValue) (s : SessionState) : Type 0 where
 
 -- why the inquiry can't be sent
 abbrev pub TellsUnopened : InquiryValue → WireError → Type 0
-TellsUnopened q e = TellsUnsent (first_bad (texts_told q.address q.options.handshake_parameters q.agent)) (first_too_long (first_of q ∷ [])) e
+TellsUnopened q e = TellsUnsent (first_bad (texts_told q.address q.options.handshake_parameters q.agent))
+    (first_too_long (first_of q ∷ [])) e
 
 -- what is found, once greeting and references are there
 abbrev pub found_in : InquiryValue → Option Handshake → Option (List Ref) → Result ListedValue Error

@@ -27,7 +27,8 @@ index_among remote index = if nat_lt index remote then ExplicitInRemote index el
 
 -- the mapping that a match makes
 abbrev pub mapping_by : ℕ → List Ref → Match → Option Mapping
-mapping_by remote refs m = option_map (λ source. record { remote = source; local = m.rhs; spec_index = index_among remote m.spec_index }) (taken_by refs m.lhs m.item_index)
+mapping_by remote refs m = option_map (λ source. record { remote = source; local = m.rhs; spec_index = index_among remote m.spec_index })
+    (taken_by refs m.lhs m.item_index)
 
 -- the mappings of what is listed, by refspecs of which that many are the remote's
 unfoldable pub ref_mappings : ℕ → List Spec → Kind → List Ref → List Mapping

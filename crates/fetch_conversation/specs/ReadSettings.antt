@@ -1,5 +1,6 @@
 -- What the settings of a fetch say.
-use Rattle.std.specs.Prelude.{ℕ, zero, suc, Bool, true, false, if◌then◌else◌, List, [], Option, Some, None, Result, Ok, Err, ℤ, unsigned_abs, codes}
+use Rattle.std.specs.Prelude.{ℕ, zero, suc, Bool, true, false, if◌then◌else◌, List, [], Option, Some, None, Result, Ok, Err, ℤ}
+use Rattle.std.specs.Prelude.{unsigned_abs, codes}
 use Rattle.std.specs.Int.{is_negative}
 use Rattle.std.specs.Option.{unwrap_or, option_flatten}
 use Rattle.std.specs.Borrow.{Bor}

@@ -15,7 +15,8 @@ last_question is_yes (Err e) = if is_yes e then 1 else 0
 
 -- The interrupt was asked once before each receive, and said no; and, where a yes is told, once more. No yes was passed
 -- over that it was to say, and all later ones it has still to say, so it was asked no oftener.
-pub record IsHeeded {T E : Type 0} (is_yes : E → Bool) (will will' : ℕ → Type 0) (old new : Option Talk) (result : Result T E) : Type 0 where
+pub record IsHeeded {T E : Type 0} (is_yes : E → Bool) (will will' : ℕ → Type 0) (old new : Option Talk)
+    (result : Result T E) : Type 0 where
   pub receives : ℕ
   pub made : HasReceived receives old new
   pub no_yes : (n : ℕ) → n < receives → will n → ⊥

@@ -16,7 +16,8 @@ use Rattle.fetch_conversation.specs.Exchange.{TermsValue, asked_by, haves_told}
 -- was, and then its window; and `done` where its round has that.
 abbrev pub requests_of : Asked → List ObjectId → List Round → List Line
 requests_of a shared [] = []
-requests_of a shared (r ∷ rounds) = fetch_request a (haves_told shared r.haves) r.done ++ requests_of a (each_once (shared ++ r.acknowledged)) rounds
+requests_of a shared (r ∷ rounds) = fetch_request a (haves_told shared r.haves) r.done
+    ++ requests_of a (each_once (shared ++ r.acknowledged)) rounds
 
 -- None but the last of the rounds has `done`.
 abbrev pub AreOpen : List Round → Type 0

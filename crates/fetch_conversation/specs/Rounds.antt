@@ -67,4 +67,5 @@ negotiating zero bound t g algorithm c = ends (Err other_reply)
 negotiating (suc more) bound t g algorithm c =
     let w : Window = next_window g algorithm c in
     and_then (exchange bound t (haves_told c.shared w.haves) (is_short c w)) (λ reply.
-    if is_end c w reply then ends (Ok (record { rounds = rounds_with c w reply; reply = reply })) else negotiating more bound t g algorithm (course_after algorithm c w reply))
+    if is_end c w reply then ends (Ok (record { rounds = rounds_with c w reply; reply = reply }))
+    else negotiating more bound t g algorithm (course_after algorithm c w reply))

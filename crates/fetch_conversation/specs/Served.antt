@@ -49,7 +49,8 @@ IsReadWhole again next (Ok x) = ((x.1 ≡ []) × again x.0) ⊎ IsOver (next x.0
 -- Each request of the conversation is answered by a whole reply.
 unfoldable pub IsAnswered : {X E : Type 0} → ℕ → (List Line → List ℕ) → Conversation X E → Type 0
 IsAnswered bound serve (ends answer) = ⊤
-IsAnswered bound serve (asks lines awaited failed next) = IsReadWhole (λ told. IsAnswered bound serve (next told)) next (told_at bound awaited (serve lines))
+IsAnswered bound serve (asks lines awaited failed next) =
+    IsReadWhole (λ told. IsAnswered bound serve (next told)) next (told_at bound awaited (serve lines))
 
 -- the answer alone, without what is left of the bytes
 abbrev pub without_rest : {X E : Type 0} → Result (X × List ℕ) E → Result X E

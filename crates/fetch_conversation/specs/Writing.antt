@@ -12,7 +12,8 @@ use Rattle.fetch_wire.specs.Lines.{line_len}
 use Rattle.fetch_wire.specs.NamesTold.{AreNamedOnce}
 use Rattle.fetch_wire.specs.References.{name_in}
 use Rattle.fetch_wire.specs.Requests.{listing_lines}
-use Rattle.fetch_wire.specs.ServerLines.{greeting_lines, IsTellable, listing_lines_of, IsListable, IsIdOf, round_lines, in_round, BorderChange, IsChangeOf, last_lines, at_last, ready_lines}
+use Rattle.fetch_wire.specs.ServerLines.{greeting_lines, IsTellable, listing_lines_of, IsListable, IsIdOf, round_lines, in_round}
+use Rattle.fetch_wire.specs.ServerLines.{BorderChange, IsChangeOf, last_lines, at_last, ready_lines}
 use Rattle.fetch_wire.specs.SessionStates.{listing_feature}
 use Rattle.fetch_wire.specs.Written.{lines_text, first_too_long}
 use Rattle.fetch_wire.specs.declared.replies.awaited.AskedReply.{AskedReply}
@@ -112,7 +113,8 @@ after g algorithm c a = course_after algorithm c (next_window g algorithm c) (re
 abbrev pub AnswerRounds : ℕ → TermsValue → Graph → Algorithm → CourseValue → Answer → List Answer → Type 0
 AnswerRounds bound t g algorithm c a [] = AnswersRound bound t g algorithm c a × (is_end c (next_window g algorithm c) (reply_of a) ≡ true)
 AnswerRounds bound t g algorithm c a (b ∷ answers) =
-    AnswersRound bound t g algorithm c a × (is_end c (next_window g algorithm c) (reply_of a) ≡ false) × AnswerRounds bound t g algorithm (after g algorithm c a) b answers
+    AnswersRound bound t g algorithm c a × (is_end c (next_window g algorithm c) (reply_of a) ≡ false)
+    × AnswerRounds bound t g algorithm (after g algorithm c a) b answers
 
 -- what the rounds end with, answered so
 abbrev pub negotiated_by : Graph → Algorithm → CourseValue → Answer → List Answer → Negotiated

@@ -128,14 +128,16 @@ pub fn converse<R: Threads + Sync, P: Peer, I: Interrupt, Q: Progress, O: Object
     interrupt: &mut I,
 ) -> Result<Option<Received>, fetch::Error>
     requires { IsReady listed.old }
-    ensures held { Converses is_free_receiving is_stopped P.answers listed.old.session.intake.bound (P.told peer.old) (P.told peer.new) (pending_of listed.old) (pending_of listed.new)
+    ensures held { Converses is_free_receiving is_stopped P.answers listed.old.session.intake.bound (P.told peer.old) (P.told peer.new)
+        (pending_of listed.old) (pending_of listed.new)
         (converse_stage listed.old.session.intake.bound (O.graph objects.now) (terms_told (shown listed.old) terms.now)) result }
     ensures of_kind { IfOk result (λ found. IfSome found (λ r. AreOf listed.old.handshake.object_hash r.objects)) }
     ensures distinct { IfOk result (λ found. IfSome found (λ r. HasDistinctIds r.objects)) }
     ensures kept { shown listed.new ≡ shown listed.old }
     ensures unasked { asks_nothing result ≡ true → listed.new ≡ listed.old }
     ensures peer { BlamesPeer (P.faults peer.old) (P.faults peer.new) (is_told is_client result) }
-    ensures interrupt { BlamesInterrupt (I.yes interrupt.old) (I.yes interrupt.new) (I.will_stop interrupt.old) (I.will_stop interrupt.new) (P.told peer.old) (P.told peer.new) (last_question is_stopped result) }
+    ensures interrupt { BlamesInterrupt (I.yes interrupt.old) (I.yes interrupt.new) (I.will_stop interrupt.old) (I.will_stop interrupt.new)
+        (P.told peer.old) (P.told peer.new) (last_question is_stopped result) }
 {
     refuse(alloc, listed, terms)?;
     if terms.view.wants.is_empty() {

@@ -85,7 +85,8 @@ fn receive<P: Peer, I: Interrupt>(
     ensures memory { IfErr result (λ e. e ≡ stops.Refused wire.NoMemory → session.new.trouble ≢ None) }
     ensures receives { Makes (P.told peer.old) (P.told peer.new) (made_by result) }
     ensures peer { BlamesPeer (P.faults peer.old) (P.faults peer.new) (is_told is_failed result) }
-    ensures interrupt { BlamesInterrupt (I.yes interrupt.old) (I.yes interrupt.new) (I.will_stop interrupt.old) (I.will_stop interrupt.new) (P.told peer.old) (P.told peer.new) (last_question is_yes result) }
+    ensures interrupt { BlamesInterrupt (I.yes interrupt.old) (I.yes interrupt.new) (I.will_stop interrupt.old) (I.will_stop interrupt.new)
+        (P.told peer.old) (P.told peer.new) (last_question is_yes result) }
 {
     if interrupt.asked() {
         return Err(Stop::Interrupted);
@@ -111,7 +112,8 @@ fn take_turns<P: Peer, I: Interrupt>(
 ) -> Result<(), Stop>
     requires drivable { IsDrivable session.old }
     requires room { 0 < length buffer.old }
-    ensures { IsDriven P.answers (P.told peer.old) (P.told peer.new) session.old session.new (P.faults peer.old) (P.faults peer.new) (I.yes interrupt.old) (I.yes interrupt.new) (I.will_stop interrupt.old) (I.will_stop interrupt.new) result }
+    ensures { IsDriven P.answers (P.told peer.old) (P.told peer.new) session.old session.new (P.faults peer.old) (P.faults peer.new)
+        (I.yes interrupt.old) (I.yes interrupt.new) (I.will_stop interrupt.old) (I.will_stop interrupt.new) result }
 {
     'turns: loop {
         match session.poll() {
@@ -135,7 +137,8 @@ pub(crate) fn drive<P: Peer, I: Interrupt>(
     ensures driven { Drives P.answers (P.told peer.old) (P.told peer.new) session.old session.new result }
     ensures memory { RunsOut session.old session.new result }
     ensures peer { BlamesPeer (P.faults peer.old) (P.faults peer.new) (is_told is_failed result) }
-    ensures interrupt { BlamesInterrupt (I.yes interrupt.old) (I.yes interrupt.new) (I.will_stop interrupt.old) (I.will_stop interrupt.new) (P.told peer.old) (P.told peer.new) (last_question is_yes result) }
+    ensures interrupt { BlamesInterrupt (I.yes interrupt.old) (I.yes interrupt.new) (I.will_stop interrupt.old) (I.will_stop interrupt.new)
+        (P.told peer.old) (P.told peer.new) (last_question is_yes result) }
 {
     let mut buffer = vec![in alloc; 0u8; PIECE]?;
     take_turns(session, peer, interrupt, &mut buffer)

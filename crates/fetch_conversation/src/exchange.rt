@@ -32,8 +32,11 @@ fn ask(
     round: &Round,
 ) -> Result<(), WireError>
     requires { IsReady listed.old }
-    ensures asked { OnOk result (IsAsked (terms_told (shown listed.old) terms.now) (haves_told shared.now round.now.haves) round.now.done listed.old.session listed.new.session) }
-    ensures too_long { IfErr result (λ e. TellsTooLong (first_too_long (fetch_request (asked_by (terms_told (shown listed.old) terms.now)) (haves_told shared.now round.now.haves) round.now.done)) e) }
+    ensures asked { OnOk result (IsAsked (terms_told (shown listed.old) terms.now)
+        (haves_told shared.now round.now.haves) round.now.done listed.old.session listed.new.session) }
+    ensures too_long { IfErr result (λ e. TellsTooLong
+        (first_too_long (fetch_request (asked_by (terms_told (shown listed.old) terms.now))
+        (haves_told shared.now round.now.haves) round.now.done)) e) }
     ensures kept { shown listed.new ≡ shown listed.old }
 {
     let request = request_of(
@@ -62,14 +65,17 @@ pub(crate) fn exchange<P: Peer, I: Interrupt>(
     interrupt: &mut I,
 ) -> Result<(), fetch::Error>
     requires { IsReady listed.old }
-    ensures held { Converses is_free_receiving is_stopped P.answers listed.old.session.intake.bound (P.told peer.old) (P.told peer.new) (pending_of listed.old) (pending_of listed.new)
-        (spec.exchange listed.old.session.intake.bound (terms_told (shown listed.old) terms.now) (haves_told shared.now round.now.haves) round.now.done) (reply_of result listed.new.session.reply) }
+    ensures held { Converses is_free_receiving is_stopped P.answers listed.old.session.intake.bound (P.told peer.old) (P.told peer.new)
+        (pending_of listed.old) (pending_of listed.new)
+        (spec.exchange listed.old.session.intake.bound (terms_told (shown listed.old) terms.now)
+        (haves_told shared.now round.now.haves) round.now.done) (reply_of result listed.new.session.reply) }
     ensures asked { IfErr result (λ e. is_unasked e ≡ false) }
     ensures ready { OnOk result (IsReady listed.new) }
     ensures bound { OnOk result (listed.new.session.intake.bound ≡ listed.old.session.intake.bound) }
     ensures kept { shown listed.new ≡ shown listed.old }
     ensures peer { BlamesPeer (P.faults peer.old) (P.faults peer.new) (is_told is_client result) }
-    ensures interrupt { BlamesInterrupt (I.yes interrupt.old) (I.yes interrupt.new) (I.will_stop interrupt.old) (I.will_stop interrupt.new) (P.told peer.old) (P.told peer.new) (last_question is_stopped result) }
+    ensures interrupt { BlamesInterrupt (I.yes interrupt.old) (I.yes interrupt.new) (I.will_stop interrupt.old) (I.will_stop interrupt.new)
+        (P.told peer.old) (P.told peer.new) (last_question is_stopped result) }
 {
     let alloc = round.haves.allocator();
     ask(alloc, listed, terms, shared, round)?;

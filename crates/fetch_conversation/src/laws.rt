@@ -25,10 +25,12 @@ ghost use Rattle.fetch_conversation.specs.Writing.{Answer, IsAskable, IsListing,
 /// A conversation that was held to its end with a peer that answers request by request has the answer that these
 /// replies give; and one that broke off, but for a free refusal, has their refusal.
 pub fn a_served_conversation<X, E>()
-    ensures concluded { (is_request : List Line → Bool) (rule : List ℕ → List ℕ) (serve : List Line → List ℕ) (answers : Bool) (bound : ℕ) (old : Option Talk) (new : Talk) (c : Conversation X E) (x : X) (rest : List ℕ)
+    ensures concluded { (is_request : List Line → Bool) (rule : List ℕ → List ℕ) (serve : List Line → List ℕ) (answers : Bool) (bound : ℕ)
+        (old : Option Talk) (new : Talk) (c : Conversation X E) (x : X) (rest : List ℕ)
         → Serves is_request rule serve → AsksOnly is_request c → IsAnswered bound serve c → IsFresh rule old → Follows rule new
         → Concludes answers bound old (Some new) [] c x rest → answer_with bound serve c ≡ Ok x }
-    ensures broken { (is_request : List Line → Bool) (rule : List ℕ → List ℕ) (serve : List Line → List ℕ) (answers : Bool) (bound : ℕ) (old : Option Talk) (new : Talk) (c : Conversation X E) (free stopped : E → Bool) (e : E)
+    ensures broken { (is_request : List Line → Bool) (rule : List ℕ → List ℕ) (serve : List Line → List ℕ) (answers : Bool) (bound : ℕ)
+        (old : Option Talk) (new : Talk) (c : Conversation X E) (free stopped : E → Bool) (e : E)
         → Serves is_request rule serve → AsksOnly is_request c → IsAnswered bound serve c → IsFresh rule old → Follows rule new
         → Breaks free stopped answers bound old (Some new) [] c e → free e ≡ false → answer_with bound serve c ≡ Err e }
 {}
@@ -43,25 +45,33 @@ pub fn valid_replies_are_never_refused<X, E>()
 /// it, in the order in which each first was, and then the next window of the algorithm, and has `done` exactly where that
 /// window isn't full; a request with `done` is the last. Where something is received, it tells these rounds.
 pub fn requests_tell_rounds()
-    ensures sent { (bound : ℕ) (g : Graph) (t : TermsValue) (stream : List ℕ) → (rounds : List Round) × TellsRounds g t (sent_in bound (converse_stage bound g t) stream) rounds }
+    ensures sent { (bound : ℕ) (g : Graph) (t : TermsValue) (stream : List ℕ) → (rounds : List Round)
+        × TellsRounds g t (sent_in bound (converse_stage bound g t) stream) rounds }
     ensures received { (bound : ℕ) (g : Graph) (t : TermsValue) (stream : List ℕ) (r : Received) (rest : List ℕ)
-        → answer_in bound (converse_stage bound g t) stream ≡ Ok (Some r, rest) → TellsRounds g t (sent_in bound (converse_stage bound g t) stream) r.negotiate.rounds }
+        → answer_in bound (converse_stage bound g t) stream ≡ Ok (Some r, rest)
+        → TellsRounds g t (sent_in bound (converse_stage bound g t) stream) r.negotiate.rounds }
 {}
 
 /// As many rounds as there are stored objects, and one, are never used up: were more allowed, the same would be sent and
 /// answered.
 pub fn rounds_are_never_used_up()
     ensures sent { (bound more : ℕ) (t : TermsValue) (g : Graph) (algorithm : Algorithm) (view : View) (stream : List ℕ)
-        → sent_in bound (negotiating (suc (map.len g) + more) bound t g algorithm (first_course algorithm view)) stream ≡ sent_in bound (negotiating (suc (map.len g)) bound t g algorithm (first_course algorithm view)) stream }
+        → sent_in bound (negotiating (suc (map.len g) + more) bound t g algorithm (first_course algorithm view)) stream
+        ≡ sent_in bound (negotiating (suc (map.len g)) bound t g algorithm (first_course algorithm view)) stream }
     ensures answered { (bound more : ℕ) (t : TermsValue) (g : Graph) (algorithm : Algorithm) (view : View) (stream : List ℕ)
-        → answer_in bound (negotiating (suc (map.len g) + more) bound t g algorithm (first_course algorithm view)) stream ≡ answer_in bound (negotiating (suc (map.len g)) bound t g algorithm (first_course algorithm view)) stream }
+        → answer_in bound (negotiating (suc (map.len g) + more) bound t g algorithm (first_course algorithm view)) stream
+        ≡ answer_in bound (negotiating (suc (map.len g)) bound t g algorithm (first_course algorithm view)) stream }
 {}
 
 /// What a server writes is read to its end: its greeting and its references are listed, and its answers to the requests
 /// bring the pack, whatever comes after.
 pub fn what_a_server_writes_is_heard()
-    ensures listed { (bound : ℕ) (q : InquiryValue) (capabilities : List Capability) (refs : List Ref) (rest : List ℕ) → IsAskable q (handshake_of capabilities) → IsListing bound q capabilities refs
-        → answer_in bound (list_stage bound q) (listing_text capabilities refs ++ rest) ≡ Ok (record { ref_map = map_of q (handshake_of capabilities) refs; handshake = handshake_of capabilities }, rest) }
-    ensures received { (bound : ℕ) (g : Graph) (t : TermsValue) (a : Answer) (answers : List Answer) (contents : Contents) (rest : List ℕ) → IsPacking bound t g a answers contents
-        → answer_in bound (converse_stage bound g t) (answers_text a answers ++ rest) ≡ Ok (Some (with_pack (negotiated_in t g a answers) contents), rest) }
+    ensures listed { (bound : ℕ) (q : InquiryValue) (capabilities : List Capability) (refs : List Ref) (rest : List ℕ)
+        → IsAskable q (handshake_of capabilities) → IsListing bound q capabilities refs
+        → answer_in bound (list_stage bound q) (listing_text capabilities refs ++ rest)
+        ≡ Ok (record { ref_map = map_of q (handshake_of capabilities) refs; handshake = handshake_of capabilities }, rest) }
+    ensures received { (bound : ℕ) (g : Graph) (t : TermsValue) (a : Answer) (answers : List Answer) (contents : Contents) (rest : List ℕ)
+        → IsPacking bound t g a answers contents
+        → answer_in bound (converse_stage bound g t) (answers_text a answers ++ rest)
+        ≡ Ok (Some (with_pack (negotiated_in t g a answers) contents), rest) }
 {}

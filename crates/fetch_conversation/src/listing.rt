@@ -5,7 +5,8 @@ ghost use Rattle.fetch_conversation.specs.Blame.{BlamesPeer, BlamesInterrupt, is
 ghost use Rattle.fetch_conversation.specs.Receiving.{last_question};
 ghost use Rattle.fetch_conversation.specs.Conversation.{Converses};
 ghost use Rattle.fetch_conversation.specs.Errors.{is_free_listing, is_transport, is_interrupted};
-ghost use Rattle.fetch_conversation.specs.ListStage.{InquiryValue, inquiry_stage, list_stage, answer_shown, left_by, IsReady, all_specs, with_tags, is_nil};
+ghost use Rattle.fetch_conversation.specs.ListStage.{InquiryValue, inquiry_stage, list_stage, answer_shown, left_by, IsReady, all_specs};
+ghost use Rattle.fetch_conversation.specs.ListStage.{with_tags, is_nil};
 ghost use Rattle.fetch_conversation.specs.Listing.{IsOpened, TellsUnopened, TellsUntold, Answers};
 ghost use Rattle.fetch_wire.specs.SessionStates.{turn_of};
 ghost use Rattle.fetch_wire.specs.declared.session.turn.Turn.TheVariants as turns;
@@ -53,9 +54,29 @@ fn open(
     options: &Options,
     specs: &[RefSpec],
 ) -> Result<Session, WireError>
-    requires { specs.now ≡ all_specs (record { address = inquiry.now.address.now; agent = inquiry.now.agent.now; specs = inquiry.now.specs.now; tags = inquiry.now.tags; options = options.now }) }
-    ensures opened { IfOk result (λ s. IsOpened (record { address = inquiry.now.address.now; agent = inquiry.now.agent.now; specs = inquiry.now.specs.now; tags = inquiry.now.tags; options = options.now }) s) }
-    ensures refused { IfErr result (λ e. TellsUnopened (record { address = inquiry.now.address.now; agent = inquiry.now.agent.now; specs = inquiry.now.specs.now; tags = inquiry.now.tags; options = options.now }) e) }
+    requires { specs.now ≡ all_specs (record {
+      address = inquiry.now.address.now;
+      agent = inquiry.now.agent.now;
+      specs = inquiry.now.specs.now;
+      tags = inquiry.now.tags;
+      options = options.now;
+    }) }
+    ensures opened { IfOk result (λ s. IsOpened
+        (record {
+          address = inquiry.now.address.now;
+          agent = inquiry.now.agent.now;
+          specs = inquiry.now.specs.now;
+          tags = inquiry.now.tags;
+          options = options.now;
+        }) s) }
+    ensures refused { IfErr result (λ e. TellsUnopened
+        (record {
+          address = inquiry.now.address.now;
+          agent = inquiry.now.agent.now;
+          specs = inquiry.now.specs.now;
+          tags = inquiry.now.tags;
+          options = options.now;
+        }) e) }
 {
     let filtered = options.prefix_from_spec_as_filter_on_remote;
     let prefixes = prefixes_for(alloc, filtered, specs)?;
@@ -95,7 +116,13 @@ fn map_listed(
     requires specs { specs.now ≡ inquiry.now.specs.now ++ extra.items }
     requires idle { turn_of session ≡ turns.Idle }
     requires unrefused { session.refused ≡ false }
-    ensures answer { Answers (record { address = inquiry.now.address.now; agent = inquiry.now.agent.now; specs = inquiry.now.specs.now; tags = inquiry.now.tags; options = options.now }) session result }
+    ensures answer { Answers (record {
+      address = inquiry.now.address.now;
+      agent = inquiry.now.agent.now;
+      specs = inquiry.now.specs.now;
+      tags = inquiry.now.tags;
+      options = options.now;
+    }) session result }
     ensures ready { IfOk result (λ l. IsReady l) }
     ensures heard { IfErr result (λ e. is_transport e ≡ false) }
     ensures uninterrupted { IfErr result (λ e. is_interrupted e ≡ false) }
@@ -142,12 +169,21 @@ pub fn inquire<P: Peer, I: Interrupt>(
     interrupt: &mut I,
     options: Options,
 ) -> Result<Listed, prepare::Error>
-    ensures held { Converses is_free_listing is_interrupted P.answers options.max_reply_bytes (P.told peer.old) (P.told peer.new) [] (left_by result)
-        (inquiry_stage options.max_reply_bytes (record { address = inquiry.now.address.now; agent = inquiry.now.agent.now; specs = inquiry.now.specs.now; tags = inquiry.now.tags; options = options })) (answer_shown result) }
+    ensures held { Converses is_free_listing is_interrupted P.answers options.max_reply_bytes (P.told peer.old) (P.told peer.new) []
+        (left_by result)
+        (inquiry_stage options.max_reply_bytes
+        (record {
+          address = inquiry.now.address.now;
+          agent = inquiry.now.agent.now;
+          specs = inquiry.now.specs.now;
+          tags = inquiry.now.tags;
+          options = options;
+        })) (answer_shown result) }
     ensures ready { IfOk result (λ l. IsReady l) }
     ensures bound { IfOk result (λ l. l.session.intake.bound ≡ options.max_reply_bytes) }
     ensures peer { BlamesPeer (P.faults peer.old) (P.faults peer.new) (is_told is_transport result) }
-    ensures interrupt { BlamesInterrupt (I.yes interrupt.old) (I.yes interrupt.new) (I.will_stop interrupt.old) (I.will_stop interrupt.new) (P.told peer.old) (P.told peer.new) (last_question is_interrupted result) }
+    ensures interrupt { BlamesInterrupt (I.yes interrupt.old) (I.yes interrupt.new) (I.will_stop interrupt.old) (I.will_stop interrupt.new)
+        (P.told peer.old) (P.told peer.new) (last_question is_interrupted result) }
 {
     let extra = specs_with_tags(alloc, inquiry.tags, options.extra_refspecs.as_slice())?;
     let specs = joined_specs(alloc, inquiry.specs, &extra)?;
@@ -165,12 +201,20 @@ pub fn list<P: Peer, I: Interrupt>(
     interrupt: &mut I,
     options: Options,
 ) -> Result<Listed, prepare::Error>
-    ensures held { Converses is_free_listing is_interrupted P.answers options.max_reply_bytes (P.told peer.old) (P.told peer.new) [] (left_by result)
-        (list_stage options.max_reply_bytes (record { address = inquiry.now.address.now; agent = inquiry.now.agent.now; specs = inquiry.now.specs.now; tags = inquiry.now.tags; options = options })) (answer_shown result) }
+    ensures held { Converses is_free_listing is_interrupted P.answers options.max_reply_bytes (P.told peer.old) (P.told peer.new) []
+        (left_by result)
+        (list_stage options.max_reply_bytes (record {
+          address = inquiry.now.address.now;
+          agent = inquiry.now.agent.now;
+          specs = inquiry.now.specs.now;
+          tags = inquiry.now.tags;
+          options = options;
+        })) (answer_shown result) }
     ensures ready { IfOk result (λ l. IsReady l) }
     ensures bound { IfOk result (λ l. l.session.intake.bound ≡ options.max_reply_bytes) }
     ensures peer { BlamesPeer (P.faults peer.old) (P.faults peer.new) (is_told is_transport result) }
-    ensures interrupt { BlamesInterrupt (I.yes interrupt.old) (I.yes interrupt.new) (I.will_stop interrupt.old) (I.will_stop interrupt.new) (P.told peer.old) (P.told peer.new) (last_question is_interrupted result) }
+    ensures interrupt { BlamesInterrupt (I.yes interrupt.old) (I.yes interrupt.new) (I.will_stop interrupt.old) (I.will_stop interrupt.new)
+        (P.told peer.old) (P.told peer.new) (last_question is_interrupted result) }
 {
     if names_none(inquiry, &options) {
         return Err(prepare::Error::MissingRefSpecs);

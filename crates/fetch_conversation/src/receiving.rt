@@ -105,8 +105,10 @@ fn unpack<R: Threads + Sync>(
     negotiate: Negotiate,
     reply: &FetchReply,
 ) -> Result<Received, fetch::Error>
-    ensures received { IfOk result (λ r. read_of kind terms.now.dry_run (record { rounds = negotiate.rounds; reply = reply.now }) ≡ Ok (Some r)) }
-    ensures refused { IfErr result (λ e. is_free_receiving e ≡ false → read_of kind terms.now.dry_run (record { rounds = negotiate.rounds; reply = reply.now }) ≡ Err e) }
+    ensures received { IfOk result (λ r. read_of kind terms.now.dry_run (record { rounds = negotiate.rounds; reply = reply.now })
+        ≡ Ok (Some r)) }
+    ensures refused { IfErr result (λ e. is_free_receiving e ≡ false
+        → read_of kind terms.now.dry_run (record { rounds = negotiate.rounds; reply = reply.now }) ≡ Err e) }
     ensures of_kind { IfOk result (λ r. AreOf kind r.objects) }
     ensures distinct { IfOk result (λ r. HasDistinctIds r.objects) }
     ensures own { IfErr result (λ e. IsOwn e) }
@@ -135,8 +137,10 @@ pub(crate) fn received<R: Threads + Sync>(
     negotiate: Negotiate,
     reply: &FetchReply,
 ) -> Result<Received, fetch::Error>
-    ensures received { IfOk result (λ r. spec.received (terms_told (shown listed.now) terms.now) (record { rounds = negotiate.rounds; reply = reply.now }) ≡ Ok (Some r)) }
-    ensures refused { IfErr result (λ e. is_free_receiving e ≡ false → spec.received (terms_told (shown listed.now) terms.now) (record { rounds = negotiate.rounds; reply = reply.now }) ≡ Err e) }
+    ensures received { IfOk result (λ r. spec.received (terms_told (shown listed.now) terms.now)
+        (record { rounds = negotiate.rounds; reply = reply.now }) ≡ Ok (Some r)) }
+    ensures refused { IfErr result (λ e. is_free_receiving e ≡ false
+        → spec.received (terms_told (shown listed.now) terms.now) (record { rounds = negotiate.rounds; reply = reply.now }) ≡ Err e) }
     ensures of_kind { IfOk result (λ r. AreOf listed.now.handshake.object_hash r.objects) }
     ensures distinct { IfOk result (λ r. HasDistinctIds r.objects) }
     ensures own { IfErr result (λ e. IsOwn e) }

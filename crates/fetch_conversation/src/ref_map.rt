@@ -24,7 +24,12 @@ pub struct Options {
 impl Options {
     /// Filtered, without parameters and extra refspecs, and with the default bound.
     pub fn new(alloc: Global) -> Options
-        ensures { result ≡ record { prefix_from_spec_as_filter_on_remote = true; handshake_parameters = []; extra_refspecs = []; max_reply_bytes = 268435456 } }
+        ensures { result ≡ record {
+          prefix_from_spec_as_filter_on_remote = true;
+          handshake_parameters = [];
+          extra_refspecs = [];
+          max_reply_bytes = 268435456;
+        } }
     {
         Options {
             prefix_from_spec_as_filter_on_remote: true,

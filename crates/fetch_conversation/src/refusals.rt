@@ -108,7 +108,8 @@ fn refuse_rejection(alloc: Global, settings: &Settings) -> Result<(), fetch::Err
 
 /// Refuses an algorithm that is none, unless that is let pass.
 fn refuse_algorithm(alloc: Global, settings: &Settings) -> Result<(), fetch::Error>
-    ensures told { Tells (spec.unread_as errors.NegotiationAlgorithmConfig (algorithm_of_config settings.now.config settings.now.lenient)) result }
+    ensures told { Tells (spec.unread_as errors.NegotiationAlgorithmConfig
+        (algorithm_of_config settings.now.config settings.now.lenient)) result }
     ensures own { IfErr result (λ e. IsOwn e) }
 {
     match algorithm(settings) {
@@ -163,7 +164,8 @@ fn needs_border(border: &Border, shallow: &Shallow) -> bool
 /// Whether plain packs of either version are offered.
 #[tactic(auto, unfolding(crate::specs::ConverseStage::fetch_feature, fetch_wire::specs::RequestWords::plain_pack, fetch_wire::specs::RequestWords::plain_pack_2))]
 fn offers_packs(handshake: &Handshake) -> bool
-    ensures { result ≡ (has_word plain_pack (value_of spec.fetch_feature handshake.now.capabilities) || has_word plain_pack_2 (value_of spec.fetch_feature handshake.now.capabilities)) }
+    ensures { result ≡ (has_word plain_pack (value_of spec.fetch_feature handshake.now.capabilities)
+        || has_word plain_pack_2 (value_of spec.fetch_feature handshake.now.capabilities)) }
 {
     handshake.supports(b"fetch", b"plain-pack") || handshake.supports(b"fetch", b"plain-pack-2")
 }
@@ -171,7 +173,8 @@ fn offers_packs(handshake: &Handshake) -> bool
 /// Whether the border is offered where the server has to know of one.
 #[tactic(auto, unfolding(crate::specs::ConverseStage::fetch_feature, crate::specs::ConverseStage::shallow_feature))]
 fn offers_border(handshake: &Handshake, border: &Border, shallow: &Shallow) -> bool
-    ensures { result ≡ (not (spec.is_border_needed border.now shallow.now) || has_word spec.shallow_feature (value_of spec.fetch_feature handshake.now.capabilities)) }
+    ensures { result ≡ (not (spec.is_border_needed border.now shallow.now)
+        || has_word spec.shallow_feature (value_of spec.fetch_feature handshake.now.capabilities)) }
 {
     !needs_border(border, shallow) || handshake.supports(b"fetch", b"shallow")
 }
@@ -183,7 +186,8 @@ fn refuse_unoffered(
     packs: bool,
     border: bool,
 ) -> Result<(), fetch::Error>
-    ensures told { Tells (option_or (spec.lacks fetch spec.fetch_feature) (option_or (spec.lacks packs plain_pack) (spec.lacks border spec.shallow_feature))) result }
+    ensures told { Tells (option_or (spec.lacks fetch spec.fetch_feature)
+        (option_or (spec.lacks packs plain_pack) (spec.lacks border spec.shallow_feature))) result }
     ensures own { IfErr result (λ e. IsOwn e) }
 {
     refuse_unless(alloc, fetch, b"fetch")?;

@@ -92,9 +92,14 @@ impl Course {
         ensures round { IfOk result (λ r. r ≡ record {
           haves = (spec.next_window (O.graph objects.now) (algorithm_of self.old.negotiator) (course_of self.old)).haves;
           acknowledged = [];
-          done = spec.is_short (course_of self.old) (spec.next_window (O.graph objects.now) (algorithm_of self.old.negotiator) (course_of self.old));
+          done = spec.is_short (course_of self.old)
+              (spec.next_window (O.graph objects.now) (algorithm_of self.old.negotiator) (course_of self.old));
         }) }
-        ensures course { OnOk result (course_of self.new ≡ record (course_of self.old) { so_far = (spec.next_window (O.graph objects.now) (algorithm_of self.old.negotiator) (course_of self.old)).later }) }
+        ensures course { OnOk result (course_of self.new
+            ≡ record (course_of self.old) {
+              so_far = (spec.next_window (O.graph objects.now) (algorithm_of self.old.negotiator)
+                  (course_of self.old)).later;
+            }) }
         ensures algorithm { algorithm_of self.new.negotiator ≡ algorithm_of self.old.negotiator }
         ensures told { IsTold (known_by self.new.negotiator) (O.graph objects.now) }
     {
@@ -111,7 +116,8 @@ impl Course {
     /// Tells the negotiator what the other side has.
     fn tell<O: Objects>(&mut self, objects: &O, ids: &[ObjectId]) -> Result<(), NoMemory>
         requires { IsTold (known_by self.old.negotiator) (O.graph objects.now) }
-        ensures course { OnOk result (course_of self.new ≡ record (course_of self.old) { so_far = sharing_all (algorithm_of self.old.negotiator) (course_of self.old).so_far ids.now }) }
+        ensures course { OnOk result (course_of self.new
+            ≡ record (course_of self.old) { so_far = sharing_all (algorithm_of self.old.negotiator) (course_of self.old).so_far ids.now }) }
         ensures algorithm { algorithm_of self.new.negotiator ≡ algorithm_of self.old.negotiator }
         ensures told { IsTold (known_by self.new.negotiator) (O.graph objects.now) }
     {
@@ -150,7 +156,8 @@ impl Course {
     ) -> Result<bool, NoMemory>
         requires { IsTold (known_by self.old.negotiator) (O.graph objects.now) }
         ensures ends { IfOk result (λ last. last ≡ (round.done || reply.now.last)) }
-        ensures rounds { OnOk result (self.new.rounds ≡ self.old.rounds ++ (record { haves = round.haves; acknowledged = reply.now.acknowledged; done = round.done }) ∷ []) }
+        ensures rounds { OnOk result (self.new.rounds ≡ self.old.rounds
+            ++ (record { haves = round.haves; acknowledged = reply.now.acknowledged; done = round.done }) ∷ []) }
         ensures goes { IfOk result (λ last. last ≡ false → course_of self.new ≡ record {
           so_far = sharing_all (algorithm_of self.old.negotiator) (course_of self.old).so_far reply.now.acknowledged;
           shared = each_once (self.old.shared.items ++ reply.now.acknowledged);
@@ -185,8 +192,10 @@ fn hold_round<P: Peer, I: Interrupt, O: Objects>(
 ) -> Result<bool, fetch::Error>
     requires ready { IsReady listed.old }
     requires told { IsTold (known_by course.old.negotiator) (O.graph objects.now) }
-    ensures held { Holds P.answers listed.old.session.intake.bound (P.told peer.old) (P.told peer.new) (pending_of listed.old) (pending_of listed.new)
-        (terms_told (shown listed.old) terms.now) (O.graph objects.now) (algorithm_of course.old.negotiator) (course_of course.old) (course_of course.new) listed.new.session.reply result }
+    ensures held { Holds P.answers listed.old.session.intake.bound (P.told peer.old) (P.told peer.new) (pending_of listed.old)
+        (pending_of listed.new)
+        (terms_told (shown listed.old) terms.now) (O.graph objects.now) (algorithm_of course.old.negotiator) (course_of course.old)
+        (course_of course.new) listed.new.session.reply result }
     ensures asked { IfErr result (λ e. is_unasked e ≡ false) }
     ensures algorithm { OnOk result (algorithm_of course.new.negotiator ≡ algorithm_of course.old.negotiator) }
     ensures told { OnOk result (IsTold (known_by course.new.negotiator) (O.graph objects.now)) }
@@ -194,7 +203,8 @@ fn hold_round<P: Peer, I: Interrupt, O: Objects>(
     ensures bound { OnOk result (listed.new.session.intake.bound ≡ listed.old.session.intake.bound) }
     ensures kept { shown listed.new ≡ shown listed.old }
     ensures peer { BlamesPeer (P.faults peer.old) (P.faults peer.new) (is_told is_client result) }
-    ensures interrupt { BlamesInterrupt (I.yes interrupt.old) (I.yes interrupt.new) (I.will_stop interrupt.old) (I.will_stop interrupt.new) (P.told peer.old) (P.told peer.new) (last_question is_stopped result) }
+    ensures interrupt { BlamesInterrupt (I.yes interrupt.old) (I.yes interrupt.new) (I.will_stop interrupt.old) (I.will_stop interrupt.new)
+        (P.told peer.old) (P.told peer.new) (last_question is_stopped result) }
 {
     let round = course.next(objects)?;
     exchange(
@@ -233,13 +243,16 @@ pub(crate) fn negotiate<P: Peer, I: Interrupt, O: Objects>(
     interrupt: &mut I,
 ) -> Result<Negotiate, fetch::Error>
     requires { IsReady listed.old }
-    ensures held { Converses is_free_receiving is_stopped P.answers listed.old.session.intake.bound (P.told peer.old) (P.told peer.new) (pending_of listed.old) (pending_of listed.new)
-        (spec.negotiating (suc (map.len (O.graph objects.now))) listed.old.session.intake.bound (terms_told (shown listed.old) terms.now) (O.graph objects.now) (algorithm_in terms.now.settings.now)
+    ensures held { Converses is_free_receiving is_stopped P.answers listed.old.session.intake.bound (P.told peer.old) (P.told peer.new)
+        (pending_of listed.old) (pending_of listed.new)
+        (spec.negotiating (suc (map.len (O.graph objects.now))) listed.old.session.intake.bound (terms_told (shown listed.old) terms.now)
+        (O.graph objects.now) (algorithm_in terms.now.settings.now)
         (spec.first_course (algorithm_in terms.now.settings.now) terms.now.view.now)) (negotiated_of result listed.new.session.reply) }
     ensures asked { IfErr result (λ e. is_unasked e ≡ false) }
     ensures kept { shown listed.new ≡ shown listed.old }
     ensures peer { BlamesPeer (P.faults peer.old) (P.faults peer.new) (is_told is_client result) }
-    ensures interrupt { BlamesInterrupt (I.yes interrupt.old) (I.yes interrupt.new) (I.will_stop interrupt.old) (I.will_stop interrupt.new) (P.told peer.old) (P.told peer.new) (last_question is_stopped result) }
+    ensures interrupt { BlamesInterrupt (I.yes interrupt.old) (I.yes interrupt.new) (I.will_stop interrupt.old) (I.will_stop interrupt.new)
+        (P.told peer.old) (P.told peer.new) (last_question is_stopped result) }
 {
     let most = most_rounds(objects)?;
     let mut course = Course::new(alloc, terms)?;

@@ -1,5 +1,6 @@
 -- How remotes and branches are named.
-use Rattle.std.specs.Prelude.{◌≡◌, ℕ, ◌==◌, Bool, true, false, ◌&&◌, ◌||◌, if◌then◌else◌, List, [], ◌∷◌, ◌++◌, codes, filter, option_to_list, option_and_then, Option, Some, None, Result, Ok, Err}
+use Rattle.std.specs.Prelude.{◌≡◌, ℕ, ◌==◌, Bool, true, false, ◌&&◌, ◌||◌, if◌then◌else◌, List, [], ◌∷◌, ◌++◌, codes, filter}
+use Rattle.std.specs.Prelude.{option_to_list, option_and_then, Option, Some, None, Result, Ok, Err}
 use Rattle.std.specs.List.{list_any, flat_map, find}
 use Rattle.std.specs.Option.{option_map, option_or}
 use Rattle.std.specs.declared.cmp.Ordering.{Ordering}
@@ -129,7 +130,8 @@ branch_string_of sections short key = string_of sections branch (Some short) key
 
 -- the text that says which remote a branch has
 unfoldable pub branch_text_of : List Section → List ℕ → Direction → Option (List ℕ)
-branch_text_of sections short Push = option_or (branch_string_of sections short (codes "pushRemote")) (option_or (push_default_of sections false) (branch_string_of sections short (codes "remote")))
+branch_text_of sections short Push = option_or (branch_string_of sections short (codes "pushRemote"))
+    (option_or (push_default_of sections false) (branch_string_of sections short (codes "remote")))
 branch_text_of sections short Fetch = branch_string_of sections short (codes "remote")
 
 -- Which remote a branch has, where the text is a name.

@@ -1,5 +1,6 @@
 -- What a configuration says of a remote.
-use Rattle.std.specs.Prelude.{ℕ, ◌-◌, ◌==◌, Bool, true, false, not, ◌||◌, if◌then◌else◌, List, [], ◌∷◌, codes, length, drop, Option, Some, None, Result, Ok, Err}
+use Rattle.std.specs.Prelude.{ℕ, ◌-◌, ◌==◌, Bool, true, false, not, ◌||◌, if◌then◌else◌, List, [], ◌∷◌, codes, length, drop, Option, Some}
+use Rattle.std.specs.Prelude.{None, Result, Ok, Err}
 use Rattle.std.specs.List.{list_any, suffix_len}
 use Rattle.std.specs.Result.{result_map_both}
 use Rattle.std.specs.Str.{bytes_eq}
@@ -91,7 +92,8 @@ spec_key Push = codes "push"
 -- the refspecs in ascending order, each once, or why the first that doesn't parse is refused
 unfoldable pub specs_in : List Section → List ℕ → Direction → Result (List Spec) Error
 specs_in sections name direction =
-    result_map_both (ascending spec_cmp) (RefSpec direction name) (all_of (parsed (operation_of direction)) (texts_of sections name (spec_key direction)))
+    result_map_both (ascending spec_cmp) (RefSpec direction name)
+    (all_of (parsed (operation_of direction)) (texts_of sections name (spec_key direction)))
 
 -- What the trusted sections of a remote say: the first part that is refused refuses the whole.
 unfoldable pub found_in : List Section → List ℕ → Result RemoteParts Error
@@ -101,4 +103,11 @@ found_in sections name =
     and_then (addresses_in sections name Push) λ push_urls.
     and_then (specs_in sections name Fetch) λ fetch_specs.
     and_then (specs_in sections name Push) λ push_specs.
-    Ok (record { name = name_of name; urls = urls; push_urls = push_urls; fetch_specs = fetch_specs; push_specs = push_specs; fetch_tags = tags })
+    Ok (record {
+      name = name_of name;
+      urls = urls;
+      push_urls = push_urls;
+      fetch_specs = fetch_specs;
+      push_specs = push_specs;
+      fetch_tags = tags;
+    })

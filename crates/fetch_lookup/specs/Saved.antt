@@ -1,5 +1,6 @@
 -- What a configuration is after a remote was saved into it.
-use Rattle.std.specs.Prelude.{◌≡◌, ℕ, ◌==◌, Bool, true, false, not, ◌&&◌, ◌||◌, if◌then◌else◌, List, [], ◌∷◌, ◌++◌, codes, length, map, filter, position, slice_get, suc, option_to_list, option_map, Option, Some, None, Result, Ok, Err}
+use Rattle.std.specs.Prelude.{◌≡◌, ℕ, ◌==◌, Bool, true, false, not, ◌&&◌, ◌||◌, if◌then◌else◌, List, [], ◌∷◌, ◌++◌, codes, length, map}
+use Rattle.std.specs.Prelude.{filter, position, slice_get, suc, option_to_list, option_map, Option, Some, None, Result, Ok, Err}
 use Rattle.std.specs.List.{list_any, list_all, flat_map, filter_map}
 use Rattle.std.specs.Option.{option_or}
 use Rattle.fetch_specs.specs.Parses.{printed}
@@ -65,7 +66,8 @@ cleaned name sections = flat_map (cleaned_at name) sections
 
 -- all four parts are the same
 abbrev pub is_same_meta : Meta → Meta → Bool
-is_same_meta a b = is_same_origin a.source b.source && a.level == b.level && is_same_sub a.path b.path && (if a.trusted then b.trusted else not b.trusted)
+is_same_meta a b = is_same_origin a.source b.source && a.level == b.level && is_same_sub a.path b.path
+    && (if a.trusted then b.trusted else not b.trusted)
 
 -- whether a text is empty
 abbrev pub is_empty : List ℕ → Bool
@@ -154,11 +156,13 @@ placed_in (Some i) new lines sections = on_section i (with_lines lines) sections
 -- The keys of the remote go, and what it is now is written into one section.
 unfoldable pub saved : Contents → List ℕ → RemoteParts → Contents
 saved file name parts =
-    with_sections file (placed_in (used_place file name) (new_section file.meta name) (saved_lines file name parts) (cleaned name file.sections))
+    with_sections file (placed_in (used_place file name) (new_section file.meta name) (saved_lines file name parts)
+    (cleaned name file.sections))
 
 -- The lines at the end of this section are the lines in the place that is used.
 abbrev pub IsUsedAt : Contents → List ℕ → Option ℕ → ℕ → Contents → Type 0
-IsUsedAt file name used index new = (lines : List KeyLine) → with_sections new (on_section index (with_lines lines) new.sections) ≡ with_sections file (placed_in used (new_section file.meta name) lines file.sections)
+IsUsedAt file name used index new = (lines : List KeyLine) → with_sections new (on_section index (with_lines lines) new.sections)
+    ≡ with_sections file (placed_in used (new_section file.meta name) lines file.sections)
 
 -- out of memory
 abbrev pub is_memory : Error → Bool

@@ -1,5 +1,6 @@
 -- The branch of a remote that a tracking branch follows.
-use Rattle.std.specs.Prelude.{◌≡◌, ℕ, ◌==◌, nat_lt, Bool, true, false, ◌||◌, if◌then◌else◌, List, [], ◌∷◌, ◌++◌, length, Option, Some, None, Result, Ok, Err}
+use Rattle.std.specs.Prelude.{◌≡◌, ℕ, ◌==◌, nat_lt, Bool, true, false, ◌||◌, if◌then◌else◌, List, [], ◌∷◌, ◌++◌, length, Option, Some, None}
+use Rattle.std.specs.Prelude.{Result, Ok, Err}
 use Rattle.std.specs.List.{Contains, list_any, flat_map, find}
 use Rattle.std.specs.Result.{result_map_both}
 use Rattle.fetch_specs.specs.Categories.{category_of}
@@ -17,7 +18,8 @@ use Rattle.fetch_lookup.specs.declared.find.Error.TheVariants as finding
 use Rattle.fetch_lookup.specs.declared.leading.Leading.{Leading}
 use Rattle.fetch_lookup.specs.declared.remote.RemoteParts.{RemoteParts}
 use Rattle.fetch_lookup.specs.declared.upstream.Error.{Error}
-use Rattle.fetch_lookup.specs.declared.upstream.Error.TheVariants.{BranchCategory, FindRemote, AmbiguousRemotes, ValidateUpstreamBranch, NoMemory}
+use Rattle.fetch_lookup.specs.declared.upstream.Error.TheVariants.{BranchCategory, FindRemote, AmbiguousRemotes, ValidateUpstreamBranch}
+use Rattle.fetch_lookup.specs.declared.upstream.Error.TheVariants.{NoMemory}
 use Rattle.fetch_lookup.specs.Names.{remote_names_of}
 use Rattle.fetch_lookup.specs.Remotes.{found_in}
 use Rattle.fetch_lookup.specs.Results.{and_then, all_of}
@@ -92,7 +94,8 @@ upstream_among found =
 -- The branch that a tracking branch follows, and its remote.
 unfoldable pub upstream_in : List Section → List ℕ → Result (Option (List ℕ × RemoteParts)) Error
 upstream_in sections tracking =
-    if is_tracking_category (category_of tracking) then and_then (all_of (leading_in sections tracking) (remote_names_of sections)) upstream_among
+    if is_tracking_category (category_of tracking)
+    then and_then (all_of (leading_in sections tracking) (remote_names_of sections)) upstream_among
     else Err (BranchCategory tracking)
 
 -- A refspec of these, which is no exclusion, maps the branch to the tracking branch.

@@ -138,13 +138,15 @@ fn has_cleared(entries: &[(Text, Option<Text>)], key: &[u8], any: bool) -> bool
 }
 
 fn any_cleared(entries: &[(Text, Option<Text>)], key: &[u8], any: bool) -> bool
-    ensures { result ≡ list_any (λ e. pieces.is_same_name e.0 key.now && option_map_or (λ address. any || spec.is_empty address) e.1 false) entries.now }
+    ensures { result ≡ list_any (λ e. pieces.is_same_name e.0 key.now
+        && option_map_or (λ address. any || spec.is_empty address) e.1 false) entries.now }
 {
     entries.iter().any(|entry| is_cleared(entry, key, any))
 }
 
 fn is_cleared(entry: &(Text, Option<Text>), key: &[u8], any: bool) -> bool
-    ensures { result ≡ (pieces.is_same_name entry.now.0 key.now && option_map_or (λ address. any || spec.is_empty address) entry.now.1 false) }
+    ensures { result ≡ (pieces.is_same_name entry.now.0 key.now
+        && option_map_or (λ address. any || spec.is_empty address) entry.now.1 false) }
 {
     is_same_name(entry.0.as_bytes(), key) && is_cleared_value(&entry.1, any)
 }

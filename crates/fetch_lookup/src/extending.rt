@@ -45,7 +45,8 @@ pub fn with_refspecs(
     texts: &[Text],
     direction: Direction,
 ) -> Result<(), SpecError>
-    ensures answer { AnswersBy (λ _. specs.new) is_spec_memory (spec.with_all specs.old (all_of (parsed (operation_of direction)) texts.now)) result }
+    ensures answer { AnswersBy (λ _. specs.new) is_spec_memory
+        (spec.with_all specs.old (all_of (parsed (operation_of direction)) texts.now)) result }
     ensures err { OnErr result (specs.new ≡ specs.old) }
 {
     match parse_all(alloc, texts, operation_of(direction)) {

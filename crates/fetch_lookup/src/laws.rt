@@ -26,10 +26,12 @@ pub fn refspecs_ascend()
 /// A remote that was saved into a trusted file is found, its addresses and its choice of tags as they were, its
 /// refspecs in order, each once: where it has an address to fetch from, and no address is empty or has a line feed.
 pub fn a_saved_remote_reads_back()
-    ensures { (file : Contents) (name : List ℕ) (parts : RemoteParts) → file.meta.trusted ≡ true → IsReadable parts → ReadsBack (saved file name parts).sections name parts }
+    ensures { (file : Contents) (name : List ℕ) (parts : RemoteParts) → file.meta.trusted ≡ true → IsReadable parts
+        → ReadsBack (saved file name parts).sections name parts }
 {}
 
 /// An upstream that is found is mapped to the tracking branch by a refspec of its remote that is no exclusion.
 pub fn an_upstream_is_mapped_to_its_tracking_branch()
-    ensures { (sections : List Section) (tracking upstream : List ℕ) (remote : RemoteParts) → upstream_in sections tracking ≡ Ok (Some (upstream, remote)) → IsFollowed remote.fetch_specs upstream tracking }
+    ensures { (sections : List Section) (tracking upstream : List ℕ) (remote : RemoteParts)
+        → upstream_in sections tracking ≡ Ok (Some (upstream, remote)) → IsFollowed remote.fetch_specs upstream tracking }
 {}

@@ -33,7 +33,8 @@ pub(crate) fn all_leading(
     file: &File,
     tracking: &FullName,
 ) -> Result<Vec<Leading>, Error>
-    ensures { AnswersBy (λ found. found.items) spec.is_memory (all_of (spec.leading_in file.now.sections tracking.now) (remote_names_of file.now.sections)) result }
+    ensures { AnswersBy (λ found. found.items) spec.is_memory
+        (all_of (spec.leading_in file.now.sections tracking.now) (remote_names_of file.now.sections)) result }
 {
     let names = in_a_list(alloc, remote_names(alloc, file)?)?;
     each_leading(alloc, file, tracking, names.as_slice())

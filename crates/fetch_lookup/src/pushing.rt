@@ -30,7 +30,8 @@ pub fn branch_remote_ref_name(
     direction: Direction,
     lenient: bool,
 ) -> Option<Result<FullName, Error>>
-    ensures { AnswersMaybe spec.is_memory (spec.remote_name_in file.now.sections (option_copied remote.entry) name.now direction lenient) result }
+    ensures { AnswersMaybe spec.is_memory (spec.remote_name_in file.now.sections
+        (option_copied remote.entry) name.now direction lenient) result }
 {
     told(
         alloc,
@@ -40,7 +41,8 @@ pub fn branch_remote_ref_name(
 
 /// The name that a text is, where there is one.
 fn told(alloc: Global, text: Result<Option<Text>, Error>) -> Option<Result<FullName, Error>>
-    ensures { (expected : Result (Option (List ℕ)) Refusal) → AnswersUnless spec.is_memory expected text → AnswersMaybe spec.is_memory (spec.told expected) result }
+    ensures { (expected : Result (Option (List ℕ)) Refusal) → AnswersUnless spec.is_memory expected text
+        → AnswersMaybe spec.is_memory (spec.told expected) result }
 {
     match text {
         Ok(Some(text)) => Some(full_name(alloc, &text)),
@@ -68,7 +70,8 @@ fn counterpart(
     direction: Direction,
     lenient: bool,
 ) -> Result<Option<Text>, Error>
-    ensures { AnswersUnless spec.is_memory (spec.counterpart_in file.now.sections (option_copied remote.entry) name.now direction lenient) result }
+    ensures { AnswersUnless spec.is_memory (spec.counterpart_in file.now.sections
+        (option_copied remote.entry) name.now direction lenient) result }
 {
     match direction {
         Direction::Fetch => Ok(merge_text(alloc, file, name)?),

@@ -34,7 +34,8 @@ pub fn without_branch_sections(file: &mut File, names: &Names)
 
 fn remove_at(file: &mut File, index: usize, names: &Names)
     requires { index < length file.old.sections }
-    ensures { file.new ≡ with_sections file.old (edited_at index (λ s. if spec.is_branch_of names.now.keys s then [] else s ∷ []) file.old.sections) }
+    ensures { file.new ≡ with_sections file.old
+        (edited_at index (λ s. if spec.is_branch_of names.now.keys s then [] else s ∷ []) file.old.sections) }
 {
     let section = &file.sections()[index];
     if is_branch_of(section, names) {

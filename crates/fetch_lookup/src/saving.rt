@@ -168,7 +168,9 @@ fn with_lines(
     lines: &[KeyLine],
 ) -> Result<File, Error>
     requires { position is_nul_or_feed name.now ≡ None }
-    ensures placed { IfOk result (λ new. new ≡ with_sections file (spec.placed_in (spec.used_or_new is_new file.meta name.now file.sections) (spec.new_section file.meta name.now) lines.now file.sections)) }
+    ensures placed { IfOk result (λ new. new ≡ with_sections file
+        (spec.placed_in (spec.used_or_new is_new file.meta name.now file.sections)
+        (spec.new_section file.meta name.now) lines.now file.sections)) }
     ensures answer { AnswersBy (λ _. tt) spec.is_memory (spec.at_place (slice_get (filter_map spec.nul_at lines.now) 0)) result }
 {
     let mut file = file;
@@ -188,7 +190,8 @@ fn used_section(
 ) -> Result<usize, NoMemory>
     requires { position is_nul_or_feed name.now ≡ None }
     ensures within { IfOk result (λ index. index < length file.new.sections) }
-    ensures used { IfOk result (λ index. spec.IsUsedAt file.old name.now (spec.used_or_new is_new file.old.meta name.now file.old.sections) index file.new) }
+    ensures used { IfOk result (λ index. spec.IsUsedAt file.old name.now
+        (spec.used_or_new is_new file.old.meta name.now file.old.sections) index file.new) }
 {
     if is_new {
         return push_new(alloc, file, name);
@@ -248,7 +251,8 @@ fn push_lines(alloc: Global, file: &mut File, index: usize, lines: &[KeyLine]) -
 
 fn push_line(alloc: Global, file: &mut File, index: usize, line: &KeyLine) -> Result<(), Error>
     requires { index < length file.old.sections }
-    ensures pushed { OnOk result (file.new ≡ with_sections file.old (on_section index (spec.with_lines (line.now ∷ [])) file.old.sections)) }
+    ensures pushed { OnOk result (file.new ≡ with_sections file.old
+        (on_section index (spec.with_lines (line.now ∷ [])) file.old.sections)) }
     ensures answer { AnswersUnless spec.is_memory (spec.at_place (spec.nul_at line.now)) result }
 {
     match file.push_value(alloc, index, line.0.as_bytes(), line.1.as_bytes()) {

@@ -54,7 +54,8 @@ pub record IsFetching (d : Data) (t : TermsValue) (id : ObjectId) (wants : List 
   pub asked : IsWanting d.hash (asked_by t) id wants
   pub new : AreNew d.hash [] (id ∷ wants)
   pub fits : first_too_long (fetch_request (asked_by t) [] true) ≡ None
-  pub tells : Tells step_of (start_of (await.Reply (reply_to t [] true))) (reply_lines d (Fetch (wanting_all (id ∷ wants)))) (told.Reply reply)
+  pub tells : Tells step_of (start_of (await.Reply (reply_to t [] true))) (reply_lines d (Fetch (wanting_all (id ∷ wants))))
+      (told.Reply reply)
   pub whole : first_too_long (reply_lines d (Fetch (wanting_all (id ∷ wants)))) ≡ None
 
 -- what the one round of it ends with

@@ -11,7 +11,8 @@ use Rattle.fetch_wire.specs.declared.replies.awaited.Fault.{Fault}
 use Rattle.fetch_wire.specs.declared.replies.awaited.Fault.TheVariants.{Short}
 
 -- The conversation goes along the rule's replies, with these lines sent, to this answer.
-pub record GoesAlong {X E : Type 0} (bound : ℕ) (rule : List ℕ → List ℕ) (before : List ℕ) (c : Conversation X E) (sent : List Line) (answer : Result X E) : Type 0 where
+pub record GoesAlong {X E : Type 0} (bound : ℕ) (rule : List ℕ → List ℕ) (before : List ℕ) (c : Conversation X E) (sent : List Line)
+    (answer : Result X E) : Type 0 where
   pub so : IsAlong bound rule before c
   pub is : answer_along bound rule before c ≡ answer
   pub asked : sent_along bound rule before c ≡ sent
@@ -20,8 +21,10 @@ pub record GoesAlong {X E : Type 0} (bound : ℕ) (rule : List ℕ → List ℕ)
 unfoldable pub IsAlongByCases : {X E : Type 0} → ℕ → (List ℕ → List ℕ) → List ℕ → Conversation X E → Type 0
 IsAlongByCases bound rule before (ends answer) = ⊤
 IsAlongByCases bound rule before (asks lines awaited failed next) =
-    ((told : Told) × (told_at bound awaited (added rule before (lines_text lines)) ≡ Ok (told, [])) × IsAlongByCases bound rule (before ++ lines_text lines) (next told))
-    ⊎ (((told : Told) × (rest : List ℕ) × (told_at bound awaited (added rule before (lines_text lines)) ≡ Ok (told, rest)) × IsOver (next told))
+    ((told : Told) × (told_at bound awaited (added rule before (lines_text lines)) ≡ Ok (told, []))
+    × IsAlongByCases bound rule (before ++ lines_text lines) (next told))
+    ⊎ (((told : Told) × (rest : List ℕ) × (told_at bound awaited (added rule before (lines_text lines)) ≡ Ok (told, rest))
+    × IsOver (next told))
     ⊎ (((fault : Fault) × (told_at bound awaited (added rule before (lines_text lines)) ≡ Err fault) × ((place : ℕ) → fault ≢ Short place))
     ⊎ ((added rule before (lines_text lines) ≡ []) × ((more : List ℕ) → rule (before ++ (lines_text lines ++ more)) ≡ rule before))))
 
@@ -29,4 +32,5 @@ IsAlongByCases bound rule before (asks lines awaited failed next) =
 unfoldable pub GoesTo : {X E : Type 0} → ℕ → (List ℕ → List ℕ) → List ℕ → List ℕ → Conversation X E → List Line → X → Type 0
 GoesTo bound rule before after (ends answer) sent x = (answer ≡ Ok x) × (before ≡ after) × (sent ≡ [])
 GoesTo bound rule before after (asks lines awaited failed next) sent x =
-    (told : Told) × (told_at bound awaited (added rule before (lines_text lines)) ≡ Ok (told, [])) × (others : List Line) × (sent ≡ lines ++ others) × GoesTo bound rule (before ++ lines_text lines) after (next told) others x
+    (told : Told) × (told_at bound awaited (added rule before (lines_text lines)) ≡ Ok (told, [])) × (others : List Line)
+    × (sent ≡ lines ++ others) × GoesTo bound rule (before ++ lines_text lines) after (next told) others x

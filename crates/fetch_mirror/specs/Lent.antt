@@ -4,7 +4,11 @@ use Rattle.fetch_race.specs.declared.job.Racer.{Racer}
 
 -- a racer as if it had the peer that is lent to it
 abbrev pub owning : {P : Type 0} → Racer (Unit {0}) → P → Racer P
-owning racer peer = record { job = record { remote = racer.job.remote; peer = peer; options = racer.job.options }; pass = racer.pass; answer = racer.answer }
+owning racer peer = record {
+  job = record { remote = racer.job.remote; peer = peer; options = racer.job.options };
+  pass = racer.pass;
+  answer = racer.answer;
+}
 
 -- so each of a row
 abbrev pub all_owning : {P : Type 0} → List (Racer (Unit {0})) → List P → List (Racer P)

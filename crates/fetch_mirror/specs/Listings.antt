@@ -40,7 +40,8 @@ pub record IsInquiry (q : InquiryValue) : Type 0 where
 -- The greeting and the listing of a server tell what it offers under these prefixes.
 pub record AreTold (d : Data) (prefixes : List (List ℕ)) : Type 0 where
   pub greeting : Tells step_of (start_of await.Greeting) (reply_lines d First) (told.Greeting (greeting_of d.hash))
-  pub listing : Tells step_of (start_of (await.Listing d.hash)) (reply_lines d (Listing true prefixes)) (told.Listing (offered_of d true prefixes))
+  pub listing : Tells step_of (start_of (await.Listing d.hash)) (reply_lines d (Listing true prefixes))
+      (told.Listing (offered_of d true prefixes))
 
 -- The requests of an inquiry: the first line, and the listing request.
 abbrev pub asked_lines : Data → InquiryValue → List Line

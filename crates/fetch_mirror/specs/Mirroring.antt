@@ -1,5 +1,6 @@
 -- How a server is mirrored: its references are listed, and workers fetch them into one empty repository.
-use Rattle.std.specs.Prelude.{◌≡◌, ◌≢◌, ◌⊎◌, ℕ, ◌≤◌, ◌<◌, min, Bool, false, List, [], ◌∷◌, length, take, drop, codes, Option, Some, None, Result, Err, IsOk, slice_get, ⊤}
+use Rattle.std.specs.Prelude.{◌≡◌, ◌≢◌, ◌⊎◌, ℕ, ◌≤◌, ◌<◌, min, Bool, false, List, [], ◌∷◌, length, take, drop, codes, Option, Some, None}
+use Rattle.std.specs.Prelude.{Result, Err, IsOk, slice_get, ⊤}
 use Rattle.std.specs.FinMap as finmap
 use Rattle.std.specs.List.{Contains}
 use Rattle.fetch_store.specs.Faults.{Faults}
@@ -41,7 +42,13 @@ worker_remote specs = nameless (codes "." ∷ []) specs tags.None
 
 -- how it fetches
 abbrev pub worker_options : ℕ → FetchOptions
-worker_options bound = record { map = map_options bound; dry_run = false; write_packed_refs_only = false; reflog_message = None; shallow = NoChange }
+worker_options bound = record {
+  map = map_options bound;
+  dry_run = false;
+  write_packed_refs_only = false;
+  reflog_message = None;
+  shallow = NoChange;
+}
 
 -- what it does
 abbrev pub worker_job : {P : Type 0} → ℕ → List Spec → P → Job P
@@ -50,7 +57,8 @@ worker_job bound specs peer = record { remote = worker_remote specs; peer = peer
 -- The jobs of the workers that have a share: worker `i` fetches share `i`, of the peer at that place.
 pub record AreJobs {P : Type 0} (workers bound : ℕ) (names : List (List ℕ)) (peers : List P) (jobs : List (Job P)) : Type 0 where
   pub count : length jobs ≡ min workers (length names)
-  pub each : (i : ℕ) (job : Job P) → slice_get jobs i ≡ Some job → (peer : P) × (slice_get peers i ≡ Some peer) × (job ≡ worker_job bound (share_of workers i names) peer)
+  pub each : (i : ℕ) (job : Job P) → slice_get jobs i ≡ Some job → (peer : P) × (slice_get peers i ≡ Some peer)
+      × (job ≡ worker_job bound (share_of workers i names) peer)
 
 -- a worker without a pass and a peer
 abbrev pub worker : ℕ → List Spec → Racer (Unit {0})
@@ -76,12 +84,14 @@ pub record Asking (P : Type 0) : Type 0 where
 pub record HasListed {P : Type 0} (a : Asking P) (names : List (List ℕ)) : Type 0 where
   pub listed : ListedValue
   pub behind : List ℕ
-  pub heard : Concludes a.answers a.bound (a.told a.lister) (a.told a.lister_now) [] (inquiry_stage a.bound (inquiry_by a.bound)) listed behind
+  pub heard : Concludes a.answers a.bound (a.told a.lister) (a.told a.lister_now) []
+      (inquiry_stage a.bound (inquiry_by a.bound)) listed behind
   pub names_are : names ≡ names_of listed.ref_map.remote_refs
 
 -- The references weren't listed: the peer's fault is told only where its count rose, and never a yes of an interrupt.
 pub record IsUnlisted {P : Type 0} (a : Asking P) (e : ListError) : Type 0 where
-  pub broke : Breaks is_free_listing is_interrupted a.answers a.bound (a.told a.lister) (a.told a.lister_now) [] (inquiry_stage a.bound (inquiry_by a.bound)) (prepare.RefMap e)
+  pub broke : Breaks is_free_listing is_interrupted a.answers a.bound (a.told a.lister) (a.told a.lister_now) []
+      (inquiry_stage a.bound (inquiry_by a.bound)) (prepare.RefMap e)
   pub blames : BlamesPeer (a.faults a.lister) (a.faults a.lister_now) (is_transport (prepare.RefMap e))
   pub never : is_interrupted (prepare.RefMap e) ≡ false
 
@@ -104,14 +114,26 @@ pub record Given (P : Type 0) : Type 0 where
 
 -- what the workers have in common: no work trees, and the empty mirror
 abbrev pub race_of : {P : Type 0} → Given P → Race P
-race_of g = record { answers = g.asking.answers; told = g.asking.told; faults = g.asking.faults; trees = []; opening = empty_mirror g.kind g.committer }
+race_of g = record {
+  answers = g.asking.answers;
+  told = g.asking.told;
+  faults = g.asking.faults;
+  trees = [];
+  opening = empty_mirror g.kind g.committer;
+}
 
 -- The workers that have a share of these names did their jobs side by side, and this is what their journal leaves. The other
 -- peers weren't asked.
-pub record HaveFetched {P : Type 0} (g : Given P) (names : List (List ℕ)) (repo : RepositoryValue) (journal : List Entry) (answers : List (Result Outcome SharedError)) : Type 0 where
+pub record HaveFetched {P : Type 0} (g : Given P) (names : List (List ℕ)) (repo : RepositoryValue) (journal : List Entry)
+    (answers : List (Result Outcome SharedError)) : Type 0 where
   pub jobs : List (Job P)
   pub jobs_are : AreJobs g.workers g.asking.bound names g.peers jobs
-  pub raced : IsRaced (race_of g) jobs (record { repo = repo; journal = journal; answers = answers; peers = take (length jobs) g.peers_now })
+  pub raced : IsRaced (race_of g) jobs (record {
+    repo = repo;
+    journal = journal;
+    answers = answers;
+    peers = take (length jobs) g.peers_now;
+  })
   pub others : drop (length jobs) g.peers_now ≡ drop (length jobs) g.peers
 
 -- The references were listed and fetched, and no worker was refused.

@@ -13,7 +13,12 @@ use Rattle.fetch_mirror.specs.Shares.{as_itself}
 
 -- how references are listed: those that are asked for, without parameters
 abbrev pub map_options : ℕ → Options
-map_options bound = record { prefix_from_spec_as_filter_on_remote = true; handshake_parameters = []; extra_refspecs = []; max_reply_bytes = bound }
+map_options bound = record {
+  prefix_from_spec_as_filter_on_remote = true;
+  handshake_parameters = [];
+  extra_refspecs = [];
+  max_reply_bytes = bound;
+}
 
 -- every name under `refs/`, as itself
 abbrev pub everything : Spec
@@ -21,7 +26,13 @@ everything = as_itself (refs ++ codes "*")
 
 -- what a server is asked for all its references, at its own place
 abbrev pub inquiry_by : ℕ → InquiryValue
-inquiry_by bound = record { address = codes "."; agent = codes "oxide-0.87.1"; specs = everything ∷ []; tags = tags.None; options = map_options bound }
+inquiry_by bound = record {
+  address = codes ".";
+  agent = codes "oxide-0.87.1";
+  specs = everything ∷ [];
+  tags = tags.None;
+  options = map_options bound;
+}
 
 -- whether it is a full name under `refs/`
 abbrev pub is_own_name : List ℕ → Bool

@@ -9,7 +9,12 @@ use Rattle.fetch_mirror.specs.Settings.{config_from, own_meta}
 
 -- without objects and references, of this hash
 abbrev pub empty_state : Kind → State
-empty_state kind = record { hash = kind; objects = map.empty; border = set.empty; refs = record { hash = kind; names = map.empty; logs = map.empty; packed = map.empty } }
+empty_state kind = record {
+  hash = kind;
+  objects = map.empty;
+  border = set.empty;
+  refs = record { hash = kind; names = map.empty; logs = map.empty; packed = map.empty };
+}
 
 -- bare, at `.`, with nothing before its own configuration, and with no reflogs
 abbrev pub bare_setup : Kind → Signature → Setup

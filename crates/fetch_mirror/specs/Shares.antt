@@ -63,5 +63,6 @@ pub record IsOwnMatch (names listed : List (List ℕ)) (m : Match) : Type 0 wher
 -- Names that are dealt to so many workers: each goes to the one that its place says, and to no other, and none comes twice.
 pub record AreDivided (workers : ℕ) (names : List (List ℕ)) : Type 0 where
   pub each : (i : ℕ) (name : List ℕ) → slice_get names i ≡ Some name → Contains (dealt_to workers (i % workers) names) name
-  pub among : (worker : ℕ) (name : List ℕ) → Contains (dealt_to workers worker names) name → (i : ℕ) × (slice_get names i ≡ Some name) × (i % workers ≡ worker)
+  pub among : (worker : ℕ) (name : List ℕ) → Contains (dealt_to workers worker names) name → (i : ℕ) × (slice_get names i ≡ Some name)
+      × (i % workers ≡ worker)
   pub own : (worker : ℕ) → AreOwnNames names → AreOwnNames (dealt_to workers worker names)

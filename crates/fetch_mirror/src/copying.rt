@@ -30,8 +30,10 @@ pub fn run_mirror<R: Threads + Wait + Sync>(
     border: &Border,
     options: MirrorOptions,
 ) -> Result<Mirrored, MirrorError>
-    ensures copied { IfOk result (λ m. IsCopied (data_of store.now refs.now) options.committer options.workers options.max_reply_bytes m.repo m.journal) }
-    ensures refused { IfErr result (λ e. IsUncopied (data_of store.now refs.now) border.now options.committer options.workers options.max_reply_bytes e) }
+    ensures copied { IfOk result (λ m. IsCopied
+        (data_of store.now refs.now) options.committer options.workers options.max_reply_bytes m.repo m.journal) }
+    ensures refused { IfErr result (λ e. IsUncopied
+        (data_of store.now refs.now) border.now options.committer options.workers options.max_reply_bytes e) }
 {
     if !is_few(options.workers) {
         return Err(MirrorError::Workers {

@@ -1,7 +1,8 @@
 //! What holds of conversations with servers whose replies depend on all that was heard before, and of shares. Each law is a
 //! function without a body: its clauses are proved.
 
-ghost use Rattle.std.specs.Prelude.{◌≡◌, ◌↔◌, ◌++◌, ◌<◌, ℕ, None, sum_by, Bool, false, List, [], map, Option, Some, Result, Ok, Err, IsTrue, ◌∷◌, ◌≤◌, true, codes, slice_get};
+ghost use Rattle.std.specs.Prelude.{◌≡◌, ◌↔◌, ◌++◌, ◌<◌, ℕ, None, sum_by, Bool, false, List, [], map, Option, Some, Result, Ok, Err};
+ghost use Rattle.std.specs.Prelude.{IsTrue, ◌∷◌, ◌≤◌, true, codes, slice_get};
 ghost use Rattle.std.specs.List.{Contains};
 ghost use Rattle.std.specs.Option.{option_or};
 ghost use Rattle.fetch_store.specs.declared.id.Kind.{Kind};
@@ -29,10 +30,12 @@ ghost use Rattle.fetch_wire.specs.declared.replies.awaited.Told.{Told};
 ghost use Rattle.fetch_wire.specs.declared.requests.records.FetchReply.{FetchReply};
 ghost use Rattle.fetch_negotiate.specs.Requests.{Asked as Request, fetch_request};
 ghost use Rattle.fetch_negotiate.specs.declared.algorithm.Algorithm.TheVariants.{Noop};
-ghost use Rattle.fetch_conversation.specs.Conversation.{Conversation, sent_in, answer_in, and_then, map_refusal, told_as, Concludes, Breaks};
+ghost use Rattle.fetch_conversation.specs.Conversation.{Conversation, sent_in, answer_in, and_then, map_refusal, told_as, Concludes};
+ghost use Rattle.fetch_conversation.specs.Conversation.{Breaks};
 ghost use Rattle.fetch_conversation.specs.ConverseStage.{algorithm_in, lacking, no_mapping, other_hash, received, unfit};
 ghost use Rattle.fetch_conversation.specs.Exchange.{TermsValue, asked_by, failed as unreceived_by};
-ghost use Rattle.fetch_conversation.specs.ListStage.{ListedValue, inquiry_stage, no_specs, InquiryValue, failed as unlisted_by, mapped, prefixes_asked};
+ghost use Rattle.fetch_conversation.specs.ListStage.{ListedValue, inquiry_stage, no_specs, InquiryValue, failed as unlisted_by, mapped};
+ghost use Rattle.fetch_conversation.specs.ListStage.{prefixes_asked};
 ghost use Rattle.fetch_conversation.specs.Served.{without_rest, IsFresh, Follows};
 ghost use Rattle.fetch_conversation.specs.declared.conversing.Received.{Received};
 ghost use Rattle.fetch_conversation.specs.declared.fetch.Error.{Error as ReceiveError};
@@ -76,10 +79,12 @@ pub fn a_conversation_goes_along<X, E>()
 /// A conversation that was held to its end with a fresh peer that answers by a rule has the answer that the rule's replies
 /// give; and one that broke off, but for a free refusal, has their refusal. The peer says nothing before it hears something.
 pub fn a_conversation_with_a_peer_goes_along<X, E>()
-    ensures concluded { (rule : List ℕ → List ℕ) (answers : Bool) (bound : ℕ) (old : Option Talk) (new : Talk) (c : Conversation X E) (x : X) (rest : List ℕ)
+    ensures concluded { (rule : List ℕ → List ℕ) (answers : Bool) (bound : ℕ) (old : Option Talk) (new : Talk) (c : Conversation X E)
+        (x : X) (rest : List ℕ)
         → Grows rule → rule [] ≡ [] → IsAlong bound rule [] c → IsFresh rule old → Follows rule new
         → Concludes answers bound old (Some new) [] c x rest → answer_along bound rule [] c ≡ Ok x }
-    ensures broken { (rule : List ℕ → List ℕ) (answers : Bool) (bound : ℕ) (old : Option Talk) (new : Talk) (c : Conversation X E) (free stopped : E → Bool) (e : E)
+    ensures broken { (rule : List ℕ → List ℕ) (answers : Bool) (bound : ℕ) (old : Option Talk) (new : Talk) (c : Conversation X E)
+        (free stopped : E → Bool) (e : E)
         → Grows rule → rule [] ≡ [] → IsAlong bound rule [] c → IsFresh rule old → Follows rule new
         → Breaks free stopped answers bound old (Some new) [] c e → free e ≡ false → answer_along bound rule [] c ≡ Err e }
 {}
@@ -87,9 +92,11 @@ pub fn a_conversation_with_a_peer_goes_along<X, E>()
 /// What a server heard of a conversation, also of one that broke off, is a front of what is sent along its replies.
 pub fn a_server_hears_what_is_sent_along<X, E>()
     ensures by_bytes { (bound : ℕ) (rule : List ℕ → List ℕ) (before heard said to_come : List ℕ) (c : Conversation X E) → Grows rule
-        → rule (before ++ heard) ≡ rule before ++ (said ++ to_come) → IsFront heard (lines_text (sent_in bound c said)) → IsAlong bound rule before c
+        → rule (before ++ heard) ≡ rule before ++ (said ++ to_come) → IsFront heard (lines_text (sent_in bound c said))
+        → IsAlong bound rule before c
         → IsFront heard (lines_text (sent_along bound rule before c)) }
-    ensures by_a_peer { (rule : List ℕ → List ℕ) (answers : Bool) (bound : ℕ) (old : Option Talk) (new : Talk) (c : Conversation X E) (free stopped : E → Bool) (e : E)
+    ensures by_a_peer { (rule : List ℕ → List ℕ) (answers : Bool) (bound : ℕ) (old : Option Talk) (new : Talk) (c : Conversation X E)
+        (free stopped : E → Bool) (e : E)
         → Grows rule → rule [] ≡ [] → IsAlong bound rule [] c → IsFresh rule old → Follows rule new
         → (h : Breaks free stopped answers bound old (Some new) [] c e) → IsFront h.heard (lines_text (sent_along bound rule [] c)) }
 {}
@@ -97,29 +104,38 @@ pub fn a_server_hears_what_is_sent_along<X, E>()
 /// Each reply is read along the path where it is whole, or read in part with no more asked behind it, or broken whatever
 /// follows, or empty, of a server that gives nothing more.
 pub fn each_reply_is_so_by_cases<X, E>()
-    ensures { (bound : ℕ) (rule : List ℕ → List ℕ) (before : List ℕ) (c : Conversation X E) → IsAlongByCases bound rule before c → IsAlong bound rule before c }
+    ensures { (bound : ℕ) (rule : List ℕ → List ℕ) (before : List ℕ) (c : Conversation X E) → IsAlongByCases bound rule before c
+        → IsAlong bound rule before c }
 {}
 
 /// Two conversations, one after the other, go along a rule's replies where each does.
 pub fn stages_go_along<X, Y, E, F>()
-    ensures both { (bound : ℕ) (rule : List ℕ → List ℕ) (before after : List ℕ) (c : Conversation X E) (f : X → Conversation Y E) (x : X) (sent others : List Line) (answer : Result Y E)
-        → GoesTo bound rule before after c sent x → GoesAlong bound rule after (f x) others answer → GoesAlong bound rule before (and_then c f) (sent ++ others) answer }
-    ensures first { (bound : ℕ) (rule : List ℕ → List ℕ) (before : List ℕ) (c : Conversation X E) (f : X → Conversation Y E) (sent : List Line) (e : E)
+    ensures both { (bound : ℕ) (rule : List ℕ → List ℕ) (before after : List ℕ) (c : Conversation X E) (f : X → Conversation Y E) (x : X)
+        (sent others : List Line) (answer : Result Y E)
+        → GoesTo bound rule before after c sent x → GoesAlong bound rule after (f x) others answer
+        → GoesAlong bound rule before (and_then c f) (sent ++ others) answer }
+    ensures first { (bound : ℕ) (rule : List ℕ → List ℕ) (before : List ℕ) (c : Conversation X E) (f : X → Conversation Y E)
+        (sent : List Line) (e : E)
         → GoesAlong bound rule before c sent (Err e) → GoesAlong bound rule before (and_then c f) sent (Err e) }
-    ensures told_otherwise { (bound : ℕ) (rule : List ℕ → List ℕ) (before : List ℕ) (g : E → F) (c : Conversation X E) (sent : List Line) (answer : Result X E)
+    ensures told_otherwise { (bound : ℕ) (rule : List ℕ → List ℕ) (before : List ℕ) (g : E → F) (c : Conversation X E) (sent : List Line)
+        (answer : Result X E)
         → GoesAlong bound rule before c sent answer → GoesAlong bound rule before (told_as g c) sent (map_refusal g answer) }
 {}
 
 /// A fetch from a fresh peer that answers by a rule tells what the rule's replies tell, or is refused as they say, unless
 /// freely. One tree serves for all: the whole conversation, over any state where the references weren't listed.
 pub fn a_fetch_goes_along()
-    ensures ended { (rule : List ℕ → List ℕ) (answers : Bool) (old : Option Talk) (new : Talk) (g : Given) (s : State) (said : List ℕ) (told : ToldInAll) → Grows rule → rule [] ≡ []
+    ensures ended { (rule : List ℕ → List ℕ) (answers : Bool) (old : Option Talk) (new : Talk) (g : Given) (s : State) (said : List ℕ)
+        (told : ToldInAll) → Grows rule → rule [] ≡ []
         → IsAlong (bound_of g) rule [] (conversation g s) → IsFresh rule old → Follows rule new
-        → HasHeard answers old (Some new) g s said → HasEnded g s said told → answer_along (bound_of g) rule [] (conversation g s) ≡ Ok told }
-    ensures unlisted { (rule : List ℕ → List ℕ) (answers : Bool) (old : Option Talk) (new : Talk) (g : Given) (s : State) (e : FetchError) → Grows rule → rule [] ≡ []
+        → HasHeard answers old (Some new) g s said → HasEnded g s said told
+        → answer_along (bound_of g) rule [] (conversation g s) ≡ Ok told }
+    ensures unlisted { (rule : List ℕ → List ℕ) (answers : Bool) (old : Option Talk) (new : Talk) (g : Given) (s : State) (e : FetchError)
+        → Grows rule → rule [] ≡ []
         → IsAlong (bound_of g) rule [] (conversation g s) → IsFresh rule old → Follows rule new
         → BreaksListing answers old (Some new) g e → is_free e ≡ false → answer_along (bound_of g) rule [] (conversation g s) ≡ Err e }
-    ensures unreceived { (rule : List ℕ → List ℕ) (answers : Bool) (old : Option Talk) (new : Talk) (g : Given) (s : State) (e : FetchError) → Grows rule → rule [] ≡ []
+    ensures unreceived { (rule : List ℕ → List ℕ) (answers : Bool) (old : Option Talk) (new : Talk) (g : Given) (s : State) (e : FetchError)
+        → Grows rule → rule [] ≡ []
         → IsAlong (bound_of g) rule [] (conversation g s) → IsFresh rule old → Follows rule new
         → BreaksReceiving answers old (Some new) g s e → is_free e ≡ false → answer_along (bound_of g) rule [] (conversation g s) ≡ Err e }
 {}
@@ -127,56 +143,81 @@ pub fn a_fetch_goes_along()
 /// The whole conversation of a fetch goes along a rule's replies where its listing does and then its fetch of a pack: to what
 /// both tell, or to the refusal of either.
 pub fn a_fetch_goes_along_by_stages()
-    ensures fetched { (rule : List ℕ → List ℕ) (g : Given) (s : State) (after last : List ℕ) (sent others : List Line) (l : ListedValue) (r : Option Received) → no_specs (inquiry_in g) ≡ None
-        → GoesTo (bound_of g) rule [] after (inquiry_stage (bound_of g) (inquiry_in g)) sent l → GoesTo (bound_of g) rule after last (pack_stage g s l) others r
+    ensures fetched { (rule : List ℕ → List ℕ) (g : Given) (s : State) (after last : List ℕ) (sent others : List Line) (l : ListedValue)
+        (r : Option Received) → no_specs (inquiry_in g) ≡ None
+        → GoesTo (bound_of g) rule [] after (inquiry_stage (bound_of g) (inquiry_in g)) sent l
+        → GoesTo (bound_of g) rule after last (pack_stage g s l) others r
         → GoesAlong (bound_of g) rule [] (conversation g s) (sent ++ (others ++ [])) (Ok (record { listed = l; received = r })) }
-    ensures unlisted { (rule : List ℕ → List ℕ) (g : Given) (s : State) (sent : List Line) (e : PrepareError) → no_specs (inquiry_in g) ≡ None
-        → GoesAlong (bound_of g) rule [] (inquiry_stage (bound_of g) (inquiry_in g)) sent (Err e) → GoesAlong (bound_of g) rule [] (conversation g s) sent (Err (preparing e)) }
-    ensures unreceived { (rule : List ℕ → List ℕ) (g : Given) (s : State) (after : List ℕ) (sent others : List Line) (l : ListedValue) (e : ReceiveError) → no_specs (inquiry_in g) ≡ None
-        → GoesTo (bound_of g) rule [] after (inquiry_stage (bound_of g) (inquiry_in g)) sent l → GoesAlong (bound_of g) rule after (pack_stage g s l) others (Err e)
+    ensures unlisted { (rule : List ℕ → List ℕ) (g : Given) (s : State) (sent : List Line) (e : PrepareError)
+        → no_specs (inquiry_in g) ≡ None
+        → GoesAlong (bound_of g) rule [] (inquiry_stage (bound_of g) (inquiry_in g)) sent (Err e)
+        → GoesAlong (bound_of g) rule [] (conversation g s) sent (Err (preparing e)) }
+    ensures unreceived { (rule : List ℕ → List ℕ) (g : Given) (s : State) (after : List ℕ) (sent others : List Line) (l : ListedValue)
+        (e : ReceiveError) → no_specs (inquiry_in g) ≡ None
+        → GoesTo (bound_of g) rule [] after (inquiry_stage (bound_of g) (inquiry_in g)) sent l
+        → GoesAlong (bound_of g) rule after (pack_stage g s l) others (Err e)
         → GoesAlong (bound_of g) rule [] (conversation g s) (sent ++ others) (Err (receiving e)) }
 {}
 
 /// A listing goes along what its server gives: its references are mapped, or the greeting or else the listing passes the bound.
 pub fn a_listing_goes_along_its_server()
-    ensures mapped { (d : Data) (bound : ℕ) (q : InquiryValue) → IsHeard d q → sum_by line_len (reply_lines d First) ≤ bound → sum_by line_len (reply_lines d (Listing true (prefixes_asked q))) ≤ bound
-        → GoesAlong bound (replies_of d) [] (inquiry_stage bound q) (asked_lines d q) (mapped q (greeting_of d.hash) (offered_of d true (prefixes_asked q))) }
-    ensures long_listing { (d : Data) (bound : ℕ) (q : InquiryValue) → IsHeard d q → sum_by line_len (reply_lines d First) ≤ bound → bound < sum_by line_len (reply_lines d (Listing true (prefixes_asked q)))
+    ensures mapped { (d : Data) (bound : ℕ) (q : InquiryValue) → IsHeard d q → sum_by line_len (reply_lines d First) ≤ bound
+        → sum_by line_len (reply_lines d (Listing true (prefixes_asked q))) ≤ bound
+        → GoesAlong bound (replies_of d) [] (inquiry_stage bound q) (asked_lines d q)
+        (mapped q (greeting_of d.hash) (offered_of d true (prefixes_asked q))) }
+    ensures long_listing { (d : Data) (bound : ℕ) (q : InquiryValue) → IsHeard d q → sum_by line_len (reply_lines d First) ≤ bound
+        → bound < sum_by line_len (reply_lines d (Listing true (prefixes_asked q)))
         → GoesAlong bound (replies_of d) [] (inquiry_stage bound q) (asked_lines d q) (Err (unlisted_by bound TooLong)) }
     ensures long_greeting { (d : Data) (bound : ℕ) (q : InquiryValue) → IsHeard d q → bound < sum_by line_len (reply_lines d First)
-        → GoesAlong bound (replies_of d) [] (inquiry_stage bound q) ((first_line (codes ".") [] ∷ []) ++ []) (Err (unlisted_by bound TooLong)) }
+        → GoesAlong bound (replies_of d) [] (inquiry_stage bound q) ((first_line (codes ".") [] ∷ []) ++ [])
+        (Err (unlisted_by bound TooLong)) }
 {}
 
 /// A server reads the one fetch request of a worker.
 pub fn requests_of_workers_are_read()
-    ensures { (hash : Kind) (a : Request) (id : ObjectId) (wants : List ObjectId) → IsWanting hash a id wants → AreNew hash [] (id ∷ wants) → IsRequest hash true (fetch_request a [] true) (Fetching (wanting_all (id ∷ wants))) }
+    ensures { (hash : Kind) (a : Request) (id : ObjectId) (wants : List ObjectId) → IsWanting hash a id wants → AreNew hash [] (id ∷ wants)
+        → IsRequest hash true (fetch_request a [] true) (Fetching (wanting_all (id ∷ wants))) }
 {}
 
 /// The prefixes that names under `refs/` ask for rise, as a server reads them.
 pub fn prefixes_of_names_rise()
-    ensures { (names : List (List ℕ)) → ((i : ℕ) (name : List ℕ) → slice_get names i ≡ Some name → IsUnderRefs name) → AreRising [] (prefixes_of (map as_itself names)) }
+    ensures { (names : List (List ℕ)) → ((i : ℕ) (name : List ℕ) → slice_get names i ≡ Some name → IsUnderRefs name)
+        → AreRising [] (prefixes_of (map as_itself names)) }
 {}
 
 /// The conversation of a worker goes along what its server gives: the pack of its one request is had, or nothing is wanted. A pack
 /// that passes the bound is too long, and a request that is longer than a server reads is answered by nothing.
 pub fn a_worker_goes_along_its_server()
-    ensures fetches { (d : Data) (g : Given) (s : State) (l : ListedValue) (id : ObjectId) (wants : List ObjectId) (reply : FetchReply) (r : Option Received) → IsListed d g l → IsFetching d (terms_in g s l) id wants reply
-        → sum_by line_len (fetch_request (asked_by (terms_in g s l)) [] true) ≤ request_bound → sum_by line_len (reply_lines d (Fetching (wanting_all (id ∷ wants)))) ≤ bound_of g → received (terms_in g s l) (one_round reply) ≡ Ok r
-        → GoesAlong (bound_of g) (replies_of d) [] (conversation g s) (asked_lines d (inquiry_in g) ++ ((fetch_request (asked_by (terms_in g s l)) [] true ++ []) ++ [])) (Ok (record { listed = l; received = r })) }
+    ensures fetches { (d : Data) (g : Given) (s : State) (l : ListedValue) (id : ObjectId) (wants : List ObjectId) (reply : FetchReply)
+        (r : Option Received) → IsListed d g l → IsFetching d (terms_in g s l) id wants reply
+        → sum_by line_len (fetch_request (asked_by (terms_in g s l)) [] true) ≤ request_bound
+        → sum_by line_len (reply_lines d (Fetching (wanting_all (id ∷ wants)))) ≤ bound_of g
+        → received (terms_in g s l) (one_round reply) ≡ Ok r
+        → GoesAlong (bound_of g) (replies_of d) [] (conversation g s) (asked_lines d (inquiry_in g)
+        ++ ((fetch_request (asked_by (terms_in g s l)) [] true ++ []) ++ [])) (Ok (record { listed = l; received = r })) }
     ensures wants_nothing { (d : Data) (g : Given) (s : State) (l : ListedValue) → IsListed d g l
-        → option_or (no_mapping (terms_in g s l)) (option_or (other_hash (terms_in g s l)) (option_or (unfit (terms_in g s l).settings) (lacking (terms_in g s l)))) ≡ None → (terms_in g s l).view.wants ≡ []
-        → GoesAlong (bound_of g) (replies_of d) [] (conversation g s) (asked_lines d (inquiry_in g) ++ ([] ++ [])) (Ok (record { listed = l; received = None })) }
-    ensures long_pack { (d : Data) (g : Given) (s : State) (l : ListedValue) (id : ObjectId) (wants : List ObjectId) (reply : FetchReply) → IsListed d g l → IsFetching d (terms_in g s l) id wants reply
-        → sum_by line_len (fetch_request (asked_by (terms_in g s l)) [] true) ≤ request_bound → bound_of g < sum_by line_len (reply_lines d (Fetching (wanting_all (id ∷ wants))))
-        → GoesAlong (bound_of g) (replies_of d) [] (conversation g s) (asked_lines d (inquiry_in g) ++ (fetch_request (asked_by (terms_in g s l)) [] true ++ [])) (Err (receiving (unreceived_by (bound_of g) TooLong))) }
-    ensures long_request { (d : Data) (g : Given) (s : State) (l : ListedValue) (id : ObjectId) (wants : List ObjectId) (reply : FetchReply) → IsListed d g l → IsFetching d (terms_in g s l) id wants reply
+        → option_or (no_mapping (terms_in g s l))
+        (option_or (other_hash (terms_in g s l)) (option_or (unfit (terms_in g s l).settings) (lacking (terms_in g s l)))) ≡ None
+        → (terms_in g s l).view.wants ≡ []
+        → GoesAlong (bound_of g) (replies_of d) [] (conversation g s) (asked_lines d (inquiry_in g) ++ ([] ++ []))
+        (Ok (record { listed = l; received = None })) }
+    ensures long_pack { (d : Data) (g : Given) (s : State) (l : ListedValue) (id : ObjectId) (wants : List ObjectId) (reply : FetchReply)
+        → IsListed d g l → IsFetching d (terms_in g s l) id wants reply
+        → sum_by line_len (fetch_request (asked_by (terms_in g s l)) [] true) ≤ request_bound
+        → bound_of g < sum_by line_len (reply_lines d (Fetching (wanting_all (id ∷ wants))))
+        → GoesAlong (bound_of g) (replies_of d) [] (conversation g s) (asked_lines d (inquiry_in g)
+        ++ (fetch_request (asked_by (terms_in g s l)) [] true ++ [])) (Err (receiving (unreceived_by (bound_of g) TooLong))) }
+    ensures long_request { (d : Data) (g : Given) (s : State) (l : ListedValue) (id : ObjectId) (wants : List ObjectId) (reply : FetchReply)
+        → IsListed d g l → IsFetching d (terms_in g s l) id wants reply
         → request_bound < sum_by line_len (fetch_request (asked_by (terms_in g s l)) [] true)
-        → GoesAlong (bound_of g) (replies_of d) [] (conversation g s) (asked_lines d (inquiry_in g) ++ (fetch_request (asked_by (terms_in g s l)) [] true ++ [])) (Err (receiving (unreceived_by (bound_of g) (Short 0)))) }
+        → GoesAlong (bound_of g) (replies_of d) [] (conversation g s) (asked_lines d (inquiry_in g)
+        ++ (fetch_request (asked_by (terms_in g s l)) [] true ++ [])) (Err (receiving (unreceived_by (bound_of g) (Short 0)))) }
 {}
 
 /// Nothing is refused before the request of a worker, and it tells no haves.
 pub fn requests_of_workers_are_made()
-    ensures accepted { (hash : Kind) (t : TermsValue) → AreTerms hash t → option_or (no_mapping t) (option_or (other_hash t) (option_or (unfit t.settings) (lacking t))) ≡ None }
+    ensures accepted { (hash : Kind) (t : TermsValue) → AreTerms hash t
+        → option_or (no_mapping t) (option_or (other_hash t) (option_or (unfit t.settings) (lacking t))) ≡ None }
     ensures noop { (hash : Kind) (t : TermsValue) → AreTerms hash t → algorithm_in t.settings ≡ Noop }
 {}
 
@@ -198,7 +239,8 @@ pub fn shares_divide_the_names()
 
 /// A reply whose lines pass the bound is told as too long, whatever follows.
 pub fn replies_that_pass_the_bound_are_too_long()
-    ensures { (bound : ℕ) (awaited : Await) (lines : List Line) (rest : List ℕ) (told : Told) → Tells step_of (start_of awaited) lines told → first_too_long lines ≡ None
+    ensures { (bound : ℕ) (awaited : Await) (lines : List Line) (rest : List ℕ) (told : Told) → Tells step_of (start_of awaited) lines told
+        → first_too_long lines ≡ None
         → bound < sum_by line_len lines → told_at bound awaited (lines_text lines ++ rest) ≡ Err TooLong }
 {}
 
@@ -214,6 +256,7 @@ pub fn names_listed_are_those_born()
 
 /// Where lister and peers are servers of one repository, the names that are mirrored are those born there.
 pub fn a_mirror_of_servers_has_their_names()
-    ensures { (d : Data) → IsServable d → (committer : Signature) (workers bound : ℕ) (lister : ServedPeer) (peers : List ServedPeer) (repo : RepositoryValue) (journal : List Entry)
+    ensures { (d : Data) → IsServable d → (committer : Signature) (workers bound : ℕ) (lister : ServedPeer) (peers : List ServedPeer)
+        (repo : RepositoryValue) (journal : List Entry)
         → (h : HasMirrored (given_by d committer workers bound lister peers) repo journal) → h.names ≡ born_names d }
 {}

@@ -34,7 +34,8 @@ pub(crate) fn list<P: Peer>(
     lister: &mut P,
     bound: ReplyBound,
 ) -> Result<Listed, prepare::Error>
-    ensures held { Converses is_free_listing is_interrupted P.answers bound (P.told lister.old) (P.told lister.new) [] (left_by result) (inquiry_stage bound (inquiry_by bound)) (answer_shown result) }
+    ensures held { Converses is_free_listing is_interrupted P.answers bound (P.told lister.old) (P.told lister.new) [] (left_by result)
+        (inquiry_stage bound (inquiry_by bound)) (answer_shown result) }
     ensures peer { BlamesPeer (P.faults lister.old) (P.faults lister.new) (is_told is_transport result) }
     ensures never { IfErr result (λ e. is_interrupted e ≡ false) }
 {

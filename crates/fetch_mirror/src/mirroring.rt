@@ -1,7 +1,8 @@
 //! A mirror of what any peers tell.
 
 ghost use Rattle.std.specs.Prelude.{◌≡◌, ◌↔◌, ◌≤◌, None, length, IfOk, IfErr, IfSome, IsTrue, OnOk};
-ghost use Rattle.fetch_mirror.specs.Mirroring.{AreUnrefused, HasListed, HasMirrored, IsFew, IsRefusalOf, IsToldOf, IsUnmirrored, IsUnnamed, IsUnrefused, TellsFirst};
+ghost use Rattle.fetch_mirror.specs.Mirroring.{AreUnrefused, HasListed, HasMirrored, IsFew, IsRefusalOf, IsToldOf, IsUnmirrored, IsUnnamed};
+ghost use Rattle.fetch_mirror.specs.Mirroring.{IsUnrefused, TellsFirst};
 ghost use Rattle.fetch_race.specs.Seats.{answer_in};
 
 use crate::error::MirrorError;
@@ -36,8 +37,38 @@ pub fn mirror_from<R: Threads + Wait + Sync, P: Peer + Send>(
 ) -> Result<Mirrored, MirrorError>
     requires peers { length peers.old ≡ options.workers }
     ensures few { IfOk result (λ _. IsFew options.workers) }
-    ensures mirrored { IfOk result (λ m. HasMirrored (record { asking = record { answers = P.answers; told = P.told; faults = P.faults; lister = lister.old; lister_now = lister.new; bound = options.max_reply_bytes }; peers = peers.old; peers_now = peers.new; kind = kind; committer = options.committer; workers = options.workers }) m.repo m.journal) }
-    ensures refused { IfErr result (λ e. IsUnmirrored (record { asking = record { answers = P.answers; told = P.told; faults = P.faults; lister = lister.old; lister_now = lister.new; bound = options.max_reply_bytes }; peers = peers.old; peers_now = peers.new; kind = kind; committer = options.committer; workers = options.workers }) e) }
+    ensures mirrored { IfOk result (λ m. HasMirrored
+        (record {
+          asking = record {
+            answers = P.answers;
+            told = P.told;
+            faults = P.faults;
+            lister = lister.old;
+            lister_now = lister.new;
+            bound = options.max_reply_bytes;
+          };
+          peers = peers.old;
+          peers_now = peers.new;
+          kind = kind;
+          committer = options.committer;
+          workers = options.workers;
+        }) m.repo m.journal) }
+    ensures refused { IfErr result (λ e. IsUnmirrored
+        (record {
+          asking = record {
+            answers = P.answers;
+            told = P.told;
+            faults = P.faults;
+            lister = lister.old;
+            lister_now = lister.new;
+            bound = options.max_reply_bytes;
+          };
+          peers = peers.old;
+          peers_now = peers.new;
+          kind = kind;
+          committer = options.committer;
+          workers = options.workers;
+        }) e) }
 {
     let MirrorOptions {
         workers,
@@ -73,8 +104,11 @@ fn listed_names<P: Peer>(
     lister: &mut P,
     bound: ReplyBound,
 ) -> Result<Vec<FullName>, MirrorError>
-    ensures names { IfOk result (λ names. HasListed (record { answers = P.answers; told = P.told; faults = P.faults; lister = lister.old; lister_now = lister.new; bound = bound }) names.items) }
-    ensures refused { IfErr result (λ e. IsUnnamed (record { answers = P.answers; told = P.told; faults = P.faults; lister = lister.old; lister_now = lister.new; bound = bound }) e) }
+    ensures names { IfOk result (λ names. HasListed
+        (record { answers = P.answers; told = P.told; faults = P.faults; lister = lister.old; lister_now = lister.new; bound = bound })
+        names.items) }
+    ensures refused { IfErr result (λ e. IsUnnamed
+        (record { answers = P.answers; told = P.told; faults = P.faults; lister = lister.old; lister_now = lister.new; bound = bound }) e) }
 {
     match list(alloc, lister, bound) {
         Ok(listed) => Ok(names_of(alloc, listed.ref_map.remote_refs.as_slice())?),

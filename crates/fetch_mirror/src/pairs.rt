@@ -31,11 +31,13 @@ pub fn for_each_pair_mut<R: Threads + Sync, A: Send, B: Send, F: Fn(&mut A, &mut
     join_mut(
         rt,
         &mut ||
-            requires { IsSync R.row × IsSync F.row × IsSend A.row × IsSend B.row × (length front_left.now ≡ length front_right.now) × AcceptsPairs F.Fn f.now front_left.now front_right.now }
+            requires { IsSync R.row × IsSync F.row × IsSend A.row × IsSend B.row × (length front_left.now ≡ length front_right.now)
+                × AcceptsPairs F.Fn f.now front_left.now front_right.now }
             ensures { ChangesPairs F.Fn f.entry.now front_left.entry.now front_right.entry.now front_left.exit.now front_right.exit.now }
         { for_each_pair_mut(rt, f, front_left, front_right) },
         &mut ||
-            requires { IsSync R.row × IsSync F.row × IsSend A.row × IsSend B.row × (length back_left.now ≡ length back_right.now) × AcceptsPairs F.Fn f.now back_left.now back_right.now }
+            requires { IsSync R.row × IsSync F.row × IsSend A.row × IsSend B.row × (length back_left.now ≡ length back_right.now)
+                × AcceptsPairs F.Fn f.now back_left.now back_right.now }
             ensures { ChangesPairs F.Fn f.entry.now back_left.entry.now back_right.entry.now back_left.exit.now back_right.exit.now }
         { for_each_pair_mut(rt, f, back_left, back_right) },
     );

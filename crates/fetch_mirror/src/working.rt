@@ -86,7 +86,8 @@ pub(crate) fn fetch_in<R: Threads + Wait + Sync, P: Peer + Send>(
     requires same { length racers.old ≡ length peers.old }
     ensures kept { IsKept (record { opening = shared.opening; repository = result.0; journal = result.1.items }) }
     ensures numbered { All (λ e. pass_of e < 18446744073709551615) result.1.items }
-    ensures raced { HaveRaced (record { answers = P.answers; told = P.told; faults = P.faults; trees = []; opening = shared.opening }) result.1.items (map (λ r. r.job) (all_owning racers.old peers.old)) (all_owning racers.new peers.new) }
+    ensures raced { HaveRaced (record { answers = P.answers; told = P.told; faults = P.faults; trees = []; opening = shared.opening })
+        result.1.items (map (λ r. r.job) (all_owning racers.old peers.old)) (all_owning racers.new peers.new) }
 {
     let rest = seat_all(&shared, pass, racers);
     fetch_all(rt, alloc, &shared, racers, peers);
@@ -104,8 +105,10 @@ fn fetch_all<R: Threads + Wait + Sync, P: Peer + Send>(
 )
     requires same { length racers.old ≡ length peers.old }
     requires shared { All (λ r. IfSome r.pass (λ p. p.shared ≡ shared.now)) racers.old }
-    ensures ran { (i : ℕ) (d : _) → i < length (all_owning racers.old peers.old) → IfSome (slice_index_or (all_owning racers.old peers.old) i d).pass (λ pass. IsRun
-        (record { answers = P.answers; told = P.told; faults = P.faults; trees = []; opening = shared.now.opening }) pass (slice_index_or (all_owning racers.old peers.old) i d) (slice_index_or (all_owning racers.new peers.new) i d)) }
+    ensures ran { (i : ℕ) (d : _) → i < length (all_owning racers.old peers.old)
+        → IfSome (slice_index_or (all_owning racers.old peers.old) i d).pass (λ pass. IsRun
+        (record { answers = P.answers; told = P.told; faults = P.faults; trees = []; opening = shared.now.opening }) pass
+        (slice_index_or (all_owning racers.old peers.old) i d) (slice_index_or (all_owning racers.new peers.new) i d)) }
     ensures racer_count { length racers.new ≡ length racers.old }
     ensures peer_count { length peers.new ≡ length peers.old }
 {
@@ -129,7 +132,8 @@ fn fetch_one<R: Threads + Wait + Sync, P: Peer>(
 )
     requires shared { IfSome racer.old.pass (λ p. p.shared ≡ shared.now) }
     ensures ran { IfSome racer.old.pass (λ pass. IsRun
-        (record { answers = P.answers; told = P.told; faults = P.faults; trees = []; opening = shared.now.opening }) pass (owning racer.old peer.old) (owning racer.new peer.new)) }
+        (record { answers = P.answers; told = P.told; faults = P.faults; trees = []; opening = shared.now.opening }) pass
+        (owning racer.old peer.old) (owning racer.new peer.new)) }
 {
     let Some(pass) = racer.pass.take() else {
         return;

@@ -15,7 +15,8 @@ use Rattle.fetch_negotiate.specs.declared.commits.Commit.{Commit}
 
 -- a commit, coded
 abbrev pub coded_commit : Coded Commit
-coded_commit = code_by (ℕ × List ObjectId) (coded× coded_ℕ (coded_list coded_id)) (λ c. (c.seconds, c.parents)) (λ p. record { seconds = p.0; parents = p.1 }) (λ _. refl)
+coded_commit = code_by (ℕ × List ObjectId) (coded× coded_ℕ (coded_list coded_id)) (λ c. (c.seconds, c.parents))
+    (λ p. record { seconds = p.0; parents = p.1 }) (λ _. refl)
 
 -- whether the list has the id
 abbrev pub has : List ObjectId → ObjectId → Bool

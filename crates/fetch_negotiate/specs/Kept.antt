@@ -21,12 +21,15 @@ read_by known = λ id. map.get known id
 
 abbrev coded_negotiation : Coded Negotiation
 coded_negotiation =
-    code_by (List ObjectId × (set.FinSet id_cmp × (List ObjectId × List ObjectId))) (coded× (coded_list coded_id) (coded× (set.code {R = id_cmp} coded_id) (coded× (coded_list coded_id) (coded_list coded_id))))
-    (λ n. (n.tips, (n.border, (n.taken, n.acknowledged)))) (λ p. record { tips = p.0; border = p.1.0; taken = p.1.1.0; acknowledged = p.1.1.1 }) (λ _. refl)
+    code_by (List ObjectId × (set.FinSet id_cmp × (List ObjectId × List ObjectId)))
+    (coded× (coded_list coded_id) (coded× (set.code {R = id_cmp} coded_id) (coded× (coded_list coded_id) (coded_list coded_id))))
+    (λ n. (n.tips, (n.border, (n.taken, n.acknowledged))))
+    (λ p. record { tips = p.0; border = p.1.0; taken = p.1.1.0; acknowledged = p.1.1.1 }) (λ _. refl)
 
 -- what a negotiator keeps, coded
 abbrev pub coded_kept : Coded Kept
-coded_kept = code_by (Known × Negotiation) (coded× coded_known coded_negotiation) (λ k. (k.known, k.so_far)) (λ p. record { known = p.0; so_far = p.1 }) (λ _. refl)
+coded_kept = code_by (Known × Negotiation) (coded× coded_known coded_negotiation) (λ k. (k.known, k.so_far))
+    (λ p. record { known = p.0; so_far = p.1 }) (λ _. refl)
 
 -- the same, and the commits that were offered, in order
 pub record KeptOffers : Type 0 where
@@ -37,4 +40,5 @@ pub record KeptOffers : Type 0 where
 -- the same with what was offered, coded
 abbrev pub coded_offers : Coded KeptOffers
 coded_offers =
-    code_by (Known × (Negotiation × List ObjectId)) (coded× coded_known (coded× coded_negotiation (coded_list coded_id))) (λ k. (k.known, (k.so_far, k.offered))) (λ p. record { known = p.0; so_far = p.1.0; offered = p.1.1 }) (λ _. refl)
+    code_by (Known × (Negotiation × List ObjectId)) (coded× coded_known (coded× coded_negotiation (coded_list coded_id)))
+    (λ k. (k.known, (k.so_far, k.offered))) (λ p. record { known = p.0; so_far = p.1.0; offered = p.1.1 }) (λ _. refl)

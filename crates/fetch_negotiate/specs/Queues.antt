@@ -48,7 +48,8 @@ pub record IsQueued (k : Read) (candidates : List ObjectId) (r : Rank) : Type 0 
   pub seconds : r ≡ rank_at k r.1
 
 -- What a walk keeps of its candidates: where they come from, which entered the queue, and which were taken.
-pub record IsLine (k : Read) (border : set.FinSet id_cmp) (commits : List ObjectId) (tips : ℕ) (candidates : List ObjectId) (entered : ℕ) (queue : BTreeSet Rank) (taken : List ObjectId) : Type 0 where
+pub record IsLine (k : Read) (border : set.FinSet id_cmp) (commits : List ObjectId) (tips : ℕ) (candidates : List ObjectId) (entered : ℕ)
+    (queue : BTreeSet Rank) (taken : List ObjectId) : Type 0 where
   pub tips_in : tips ≤ length candidates
   pub entered_in : entered ≤ length candidates
   pub all : candidates ≡ take tips candidates ++ flat_map (links_at k border) taken
@@ -58,7 +59,8 @@ pub record IsLine (k : Read) (border : set.FinSet id_cmp) (commits : List Object
 
 -- the same, of the line of a walk
 abbrev pub IsLineIn : Read → set.FinSet id_cmp → List ObjectId → Line → Type 0
-IsLineIn k border commits l = IsMarked l.told l.taken.items × IsLine k border commits l.tips l.candidates.items l.entered l.queue l.taken.items
+IsLineIn k border commits l = IsMarked l.told l.taken.items
+    × IsLine k border commits l.tips l.candidates.items l.entered l.queue l.taken.items
 
 -- The commit is in the queue and open, and nothing in the queue comes before it.
 pub record IsChosen (k : Read) (commits taken : List ObjectId) (queue : BTreeSet Rank) (id : ObjectId) : Type 0 where

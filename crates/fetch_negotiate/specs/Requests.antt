@@ -13,7 +13,8 @@ use Rattle.fetch_wire.specs.declared.lines.line.Line.TheVariants.{Flush, Delim}
 use Rattle.fetch_negotiate.specs.declared.algorithm.Shallow.{Shallow}
 use Rattle.fetch_negotiate.specs.declared.algorithm.Shallow.TheVariants.{NoChange, DepthAtRemote, Deepen, Since, Exclude}
 use Rattle.fetch_wire.specs.Greetings.{has_word, value_of}
-use Rattle.fetch_wire.specs.RequestWords.{command_word, plain_pack, plain_pack_2, include_tag, shallow_word, deepen_word, relative_word, since_word, not_word, want_word, have_word, done_word}
+use Rattle.fetch_wire.specs.RequestWords.{command_word, plain_pack, plain_pack_2, include_tag, shallow_word, deepen_word, relative_word}
+use Rattle.fetch_wire.specs.RequestWords.{since_word, not_word, want_word, have_word, done_word}
 use Rattle.fetch_wire.specs.Requests.{head_texts, sent, when}
 use Rattle.fetch_wire.specs.RequestLines.{id_lines}
 
@@ -69,4 +70,5 @@ text_lines a = head_of a.handshake a.agent ++ asked_of (pack_word a.handshake) a
 unfoldable pub fetch_request : Asked → List ObjectId → Bool → List Line
 fetch_request a haves done =
     sent (head_of a.handshake a.agent) ++ Delim ∷ []
-    ++ sent (asked_of (pack_word a.handshake) a.tags a.shallow a.border a.wants ++ id_lines have_word haves ++ when done done_word) ++ Flush ∷ []
+    ++ sent (asked_of (pack_word a.handshake) a.tags a.shallow a.border a.wants ++ id_lines have_word haves ++ when done done_word)
+    ++ Flush ∷ []

@@ -22,7 +22,8 @@ pub record IsRound (g : Graph) (algorithm : Algorithm) (size : ℕ) (n : Negotia
 abbrev pub AreRounds : Graph → Algorithm → ℕ → Negotiation → List Round → Type 0
 AreRounds g algorithm size n [] = Unit {0}
 AreRounds g algorithm size n (r ∷ rounds) =
-    IsRound g algorithm size n r × AreRounds g algorithm (next_size size) (sharing_all algorithm (window_of g algorithm size n).later r.acknowledged) rounds
+    IsRound g algorithm size n r × AreRounds g algorithm (next_size size)
+    (sharing_all algorithm (window_of g algorithm size n).later r.acknowledged) rounds
 
 -- the haves of all rounds
 abbrev pub haves_in : List Round → List ObjectId

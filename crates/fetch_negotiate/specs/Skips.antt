@@ -1,5 +1,6 @@
 -- Which commits are passed over: the further back, the more of them.
-use Rattle.std.specs.Prelude.{ℕ, zero, suc, ◌+◌, ◌-◌, ◌*◌, ◌/◌, min, Bool, not, ◌||◌, ◌==◌, nat_lt, List, [], ◌∷◌, ◌++◌, map, length, fold, Option, Some, None, is_some, if◌then◌else◌}
+use Rattle.std.specs.Prelude.{ℕ, zero, suc, ◌+◌, ◌-◌, ◌*◌, ◌/◌, min, Bool, not, ◌||◌, ◌==◌, nat_lt, List, [], ◌∷◌, ◌++◌, map, length, fold}
+use Rattle.std.specs.Prelude.{Option, Some, None, is_some, if◌then◌else◌}
 use Rattle.std.specs.FinMap as finmap
 use Rattle.std.specs.FinSet as set
 use Rattle.std.specs.List.{list_any}
@@ -30,7 +31,8 @@ is_offered g border s id = s.left == 0 || not (has_parents g border id)
 
 -- the pair that a commit hands on to its parents
 abbrev pub handed : Bool → Skip → Skip
-handed offered s = if offered then record { first = longer s.first; left = longer s.first } else record { first = s.first; left = s.left - 1 }
+handed offered s = if offered then record { first = longer s.first; left = longer s.first }
+    else record { first = s.first; left = s.left - 1 }
 
 -- of a commit's own pair and one that is handed to it, its own unless its first is smaller
 abbrev pub higher : Skip → Skip → Skip

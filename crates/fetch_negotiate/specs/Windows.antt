@@ -30,7 +30,8 @@ abbrev pub next_size : ℕ → ℕ
 next_size size = min (size * 2) 1024
 
 -- A window that was broken off: some of its commits were told, and the others are what comes next.
-pub record IsBroken (g : Graph) (algorithm : Algorithm) (size : ℕ) (before now : Negotiation) (given given_now : List ObjectId) : Type 0 where
+pub record IsBroken (g : Graph) (algorithm : Algorithm) (size : ℕ) (before now : Negotiation)
+    (given given_now : List ObjectId) : Type 0 where
   pub told : List ObjectId
   pub left : ℕ
   pub some_left : 0 < left

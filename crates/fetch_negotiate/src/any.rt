@@ -75,10 +75,13 @@ impl AnyNegotiator {
     ) -> Result<Vec<ObjectId>, NoMemory>
         requires { IsTold (known_by self.old) (O.graph objects.now) }
         ensures algorithm { algorithm_of self.new ≡ algorithm_of self.old }
-        ensures haves { IfOk result (λ window. window.items ≡ (window_of (O.graph objects.now) (algorithm_of self.old) size (so_far_of self.old)).haves) }
-        ensures later { OnOk result (so_far_of self.new ≡ (window_of (O.graph objects.now) (algorithm_of self.old) size (so_far_of self.old)).later) }
+        ensures haves { IfOk result (λ window. window.items
+            ≡ (window_of (O.graph objects.now) (algorithm_of self.old) size (so_far_of self.old)).haves) }
+        ensures later { OnOk result (so_far_of self.new
+            ≡ (window_of (O.graph objects.now) (algorithm_of self.old) size (so_far_of self.old)).later) }
         ensures given { IfOk result (λ window. given_by self.new ≡ given_by self.old ++ window.items) }
-        ensures broken { OnErr result (IsBroken (O.graph objects.now) (algorithm_of self.old) size (so_far_of self.old) (so_far_of self.new) (given_by self.old) (given_by self.new)) }
+        ensures broken { OnErr result (IsBroken (O.graph objects.now) (algorithm_of self.old) size (so_far_of self.old) (so_far_of self.new)
+            (given_by self.old) (given_by self.new)) }
         ensures told { IsTold (known_by self.new) (O.graph objects.now) }
     {
         let mut window = Vec::new(alloc);
@@ -102,9 +105,11 @@ impl Negotiator for AnyNegotiator {
         requires { IsTold (known_by self.old) (O.graph objects.now) }
         ensures algorithm { algorithm_of self.new ≡ algorithm_of self.old }
         ensures next { IfOk result (λ next. next ≡ (offer_of (O.graph objects.now) (algorithm_of self.old) (so_far_of self.old)).have) }
-        ensures ok { OnOk result (so_far_of self.new ≡ (offer_of (O.graph objects.now) (algorithm_of self.old) (so_far_of self.old)).later) }
+        ensures ok { OnOk result (so_far_of self.new
+            ≡ (offer_of (O.graph objects.now) (algorithm_of self.old) (so_far_of self.old)).later) }
         ensures unchanged { OnErr result (so_far_of self.new ≡ so_far_of self.old) }
-        ensures later { OnErr result (offer_of (O.graph objects.now) (algorithm_of self.old) (so_far_of self.new) ≡ offer_of (O.graph objects.now) (algorithm_of self.old) (so_far_of self.old)) }
+        ensures later { OnErr result (offer_of (O.graph objects.now) (algorithm_of self.old) (so_far_of self.new)
+            ≡ offer_of (O.graph objects.now) (algorithm_of self.old) (so_far_of self.old)) }
         ensures stored { IfOk result (λ next. IfSome next (λ id. IsStoredCommit (O.graph objects.now) id)) }
         ensures fresh { IfOk result (λ next. IfSome next (λ id. has (given_by self.old) id ≡ false)) }
         ensures given { IfOk result (λ next. given_by self.new ≡ given_by self.old ++ option_to_list next) }

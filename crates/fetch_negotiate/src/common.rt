@@ -67,7 +67,8 @@ impl Common {
 fn mark(common: &mut Common, alloc: Global, id: &ObjectId) -> Result<(), NoMemory>
     requires { IsMarked common.old.marked common.old.commits.items }
     ensures marked { IsMarked common.new.marked common.new.commits.items }
-    ensures ok { OnOk result (common.new.commits.items ≡ (if has common.old.commits.items id.now then common.old.commits.items else common.old.commits.items ++ id.now ∷ [])) }
+    ensures ok { OnOk result (common.new.commits.items
+        ≡ (if has common.old.commits.items id.now then common.old.commits.items else common.old.commits.items ++ id.now ∷ [])) }
     ensures err { OnErr result (common.new.commits.items ≡ common.old.commits.items) }
     ensures acknowledged { common.new.acknowledged ≡ common.old.acknowledged }
     ensures settled { common.new.settled ≡ common.old.settled }
@@ -123,7 +124,8 @@ fn mark_parents<O: Objects>(
     requires common { IsCommonIn (read_in table.old) border.now common.old }
     requires told { IsTold (read_in table.old) (O.graph objects.now) }
     requires read { is_some (commit_at (read_in table.old) id.now) ≡ true }
-    requires within { AreWithin (read_in table.old) border.now common.old.acknowledged.items (links_at (read_in table.old) border.now id.now) }
+    requires within { AreWithin (read_in table.old) border.now common.old.acknowledged.items
+        (links_at (read_in table.old) border.now id.now) }
     ensures common { IsCommonIn (read_in table.new) border.now common.new }
     ensures told { IsTold (read_in table.new) (O.graph objects.now) }
     ensures grows { Grows (read_in table.old) (read_in table.new) }

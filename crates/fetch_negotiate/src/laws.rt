@@ -23,20 +23,26 @@ ghost use Rattle.fetch_negotiate.specs.Windows.{first_size};
 /// An ancestor ends a line of stored commits, each a parent of the one before. None but the last of them is a border
 /// commit, and neither is the commit that the line begins at.
 pub fn ancestors_end_lines()
-    ensures { (g : Graph) (border : set.FinSet id_cmp) (from to : ObjectId) → (is_ancestor g border from to ≡ true) ↔ IsAncestor g border from to }
+    ensures { (g : Graph) (border : set.FinSet id_cmp) (from to : ObjectId)
+        → (is_ancestor g border from to ≡ true) ↔ IsAncestor g border from to }
 {}
 
 /// The haves of all rounds are stored commits, and each stands in one window alone and once there.
 pub fn haves_are_told_once()
-    ensures once { (g : Graph) (algorithm : Algorithm) (tips : List ObjectId) (border : set.FinSet id_cmp) (rounds : List Round) → AreRounds g algorithm first_size (begun algorithm tips border) rounds → IsDistinct (eq_by_cmp id_cmp) (haves_in rounds) }
-    ensures stored { (g : Graph) (algorithm : Algorithm) (tips : List ObjectId) (border : set.FinSet id_cmp) (rounds : List Round) → AreRounds g algorithm first_size (begun algorithm tips border) rounds → All (IsStoredCommit g) (haves_in rounds) }
+    ensures once { (g : Graph) (algorithm : Algorithm) (tips : List ObjectId) (border : set.FinSet id_cmp) (rounds : List Round)
+        → AreRounds g algorithm first_size (begun algorithm tips border) rounds → IsDistinct (eq_by_cmp id_cmp) (haves_in rounds) }
+    ensures stored { (g : Graph) (algorithm : Algorithm) (tips : List ObjectId) (border : set.FinSet id_cmp) (rounds : List Round)
+        → AreRounds g algorithm first_size (begun algorithm tips border) rounds → All (IsStoredCommit g) (haves_in rounds) }
 {}
 
 /// A round that doesn't end the rounds tells a full window, of sixteen commits or more. So there are no more such rounds,
 /// times sixteen, than stored objects.
 pub fn open_rounds_are_few()
-    ensures full { (g : Graph) (algorithm : Algorithm) (tips : List ObjectId) (border : set.FinSet id_cmp) (rounds : List Round) → AreRounds g algorithm first_size (begun algorithm tips border) rounds → All (λ r. r.done ≡ false → 16 ≤ length r.haves) rounds }
-    ensures few { (g : Graph) (algorithm : Algorithm) (tips : List ObjectId) (border : set.FinSet id_cmp) (rounds : List Round) → AreRounds g algorithm first_size (begun algorithm tips border) rounds → All (λ r. r.done ≡ false) rounds → 16 * length rounds ≤ map.len g }
+    ensures full { (g : Graph) (algorithm : Algorithm) (tips : List ObjectId) (border : set.FinSet id_cmp) (rounds : List Round)
+        → AreRounds g algorithm first_size (begun algorithm tips border) rounds → All (λ r. r.done ≡ false → 16 ≤ length r.haves) rounds }
+    ensures few { (g : Graph) (algorithm : Algorithm) (tips : List ObjectId) (border : set.FinSet id_cmp) (rounds : List Round)
+        → AreRounds g algorithm first_size (begun algorithm tips border) rounds → All (λ r. r.done ≡ false) rounds
+        → 16 * length rounds ≤ map.len g }
 {}
 
 /// Where commits are passed over, each is the next one and isn't offered. Then one is offered, or nothing is left.

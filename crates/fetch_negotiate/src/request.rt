@@ -33,7 +33,15 @@ pub fn request_of(
     window: &[ObjectId],
     done: bool,
 ) -> Result<Request, WireError>
-    ensures lines { IfOk result (λ r. r.lines ≡ spec.text_lines (record { handshake = handshake.now; agent = agent.now; tags = tags; shallow = shallow.now; border = border.now; wants = wants.now })) }
+    ensures lines { IfOk result (λ r. r.lines
+        ≡ spec.text_lines (record {
+          handshake = handshake.now;
+          agent = agent.now;
+          tags = tags;
+          shallow = shallow.now;
+          border = border.now;
+          wants = wants.now;
+        })) }
     ensures haves { IfOk result (λ r. r.haves ≡ firsts acknowledged.now ++ window.now) }
     ensures done { IfOk result (λ r. r.done ≡ done) }
     ensures memory { IfErr result (λ e. e ≡ errors.NoMemory) }
@@ -58,7 +66,8 @@ fn text_lines(
     border: &Border,
     wants: &[ObjectId],
 ) -> Result<Vec<Text>, NoMemory>
-    ensures { IfOk result (λ lines. lines.items ≡ spec.head_of handshake.now agent.now ++ spec.asked_of (spec.pack_word handshake.now) tags shallow.now border.now wants.now) }
+    ensures { IfOk result (λ lines. lines.items ≡ spec.head_of handshake.now agent.now
+        ++ spec.asked_of (spec.pack_word handshake.now) tags shallow.now border.now wants.now) }
 {
     let mut lines = Vec::new(alloc);
     push_head(&mut lines, alloc, handshake, agent)?;

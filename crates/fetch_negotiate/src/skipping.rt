@@ -86,7 +86,8 @@ impl Negotiator for Skipping {
         ensures next { IfOk result (λ next. next ≡ (next_offered (O.graph objects.now) self.old.so_far).have) }
         ensures ok { OnOk result (self.new.so_far ≡ (next_offered (O.graph objects.now) self.old.so_far).later) }
         ensures unchanged { OnErr result (self.new.so_far ≡ self.old.so_far) }
-        ensures later { OnErr result (next_offered (O.graph objects.now) self.new.so_far ≡ next_offered (O.graph objects.now) self.old.so_far) }
+        ensures later { OnErr result (next_offered (O.graph objects.now) self.new.so_far
+            ≡ next_offered (O.graph objects.now) self.old.so_far) }
         ensures stored { IfOk result (λ next. IfSome next (λ id. IsStoredCommit (O.graph objects.now) id)) }
         ensures fresh { IfOk result (λ next. IfSome next (λ id. has self.old.offered id ≡ false)) }
         ensures given { IfOk result (λ next. self.new.offered ≡ self.old.offered ++ option_to_list next) }
@@ -208,7 +209,8 @@ fn hand_on(
     ensures table { walk.new.table ≡ walk.old.table }
     ensures ok { OnOk result (so_far_in walk.new ≡ taking (so_far_in walk.old) (Some id.now)) }
     ensures err { OnErr result (so_far_in walk.new ≡ so_far_in walk.old) }
-    ensures handed { OnOk result (skips.new.handed.items ≡ skips.old.handed.items ++ listed (λ p. (p, skip)) (links_at (read_in walk.old.table) walk.old.border id.now)) }
+    ensures handed { OnOk result (skips.new.handed.items ≡ skips.old.handed.items
+        ++ listed (λ p. (p, skip)) (links_at (read_in walk.old.table) walk.old.border id.now)) }
     ensures kept { OnErr result (skips.new.handed.items ≡ skips.old.handed.items) }
 {
     make_room(skips, links(&walk.table, &walk.border, id).len())?;

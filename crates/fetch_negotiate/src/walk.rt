@@ -160,7 +160,8 @@ fn choose(walk: &mut HaveWalk) -> Option<ObjectId>
     ensures candidates { walk.new.line.candidates ≡ walk.old.line.candidates }
     ensures entered { walk.new.line.entered ≡ walk.old.line.entered }
     ensures taken { walk.new.line.taken ≡ walk.old.line.taken }
-    ensures chosen { IfSome result (IsChosen (read_in walk.new.table) walk.new.common.commits.items walk.new.line.taken.items walk.new.line.queue) }
+    ensures chosen { IfSome result (IsChosen (read_in walk.new.table) walk.new.common.commits.items walk.new.line.taken.items
+        walk.new.line.queue) }
     ensures none { IfNone result (IsNone walk.new.line.queue) }
     ensures read { IfSome result (IsRead walk.new) }
 {

@@ -19,7 +19,8 @@ pub record IsReading (kind : Kind) (bytes : List ℕ) (result : Result Pack Pack
   -- What is read is a pack.
   pub found : IfOk result (λ p. (v : PackVersion) × (ps : List Payload) × IsPack v kind bytes ps × (contents p ≡ contents_of v kind ps))
   -- A pack is read, unless memory runs out.
-  pub only : (v : PackVersion) (ps : List Payload) → IsPack v kind bytes ps → AnswersBy contents is_memory (Ok (contents_of v kind ps)) result
+  pub only : (v : PackVersion) (ps : List Payload) → IsPack v kind bytes ps
+      → AnswersBy contents is_memory (Ok (contents_of v kind ps)) result
   -- The objects are of the kind that was asked for.
   pub of_kind : IfOk result (λ p. AreOf kind p.objects)
   -- Their ids are their hashes.

@@ -12,7 +12,13 @@ written r = record { id = r.id.now; payload = record { kind = r.kind; bytes = r.
 
 -- the parts of a pack that are lent, as values
 abbrev pub frame : Kind → Framed → Frame
-frame hash f = record { version = f.version; count = f.count; written = (records f.version hash f.count f.records.now).written; body = f.body.now; digest = f.digest }
+frame hash f = record {
+  version = f.version;
+  count = f.count;
+  written = (records f.version hash f.count f.records.now).written;
+  body = f.body.now;
+  digest = f.digest;
+}
 
 -- a pack that was read, as a value
 abbrev pub contents : Pack → Contents

@@ -153,7 +153,9 @@ fn all_parsed(
     framed: &Framed<'_>,
 ) -> Result<Vec<Object>, PackError>
     requires { length framed.now.records.now ≤ pack_len }
-    ensures { AnswersBy (λ v. v.items) is_memory (spec.all_parsed framed.now.version hash (pack_len - length framed.now.records.now) (records framed.now.version hash framed.now.count framed.now.records.now).written) result }
+    ensures { AnswersBy (λ v. v.items) is_memory
+        (spec.all_parsed framed.now.version hash (pack_len - length framed.now.records.now)
+        (records framed.now.version hash framed.now.count framed.now.records.now).written) result }
 {
     let version = framed.version;
     let mut objects = Vec::with_capacity(alloc, framed.count as usize)?;

@@ -51,16 +51,31 @@ IsAnswered line c receipt (Err e) = IsSharedRefused line c receipt e
 -- nothing and with these work trees. The peer's fault is told only where its count rose, and neither a yes nor a fault of
 -- the files or of the work trees is told. With valid input there is no refusal but out of memory, the peer's fault, or that
 -- of an event by what others entered.
-pub record IsDone {P : Type 0} (race : Race P) (job : Job P) (peer : P) (before after : Holder) (receipt : Receipt) (answer : Result Outcome SharedError) : Type 0 where
+pub record IsDone {P : Type 0} (race : Race P) (job : Job P) (peer : P) (before after : Holder) (receipt : Receipt)
+    (answer : Result Outcome SharedError) : Type 0 where
   pub left : Option Tree
   pub back : IsBack before after
   pub in_order : IsReceipt before after receipt
   pub answered : IsAnswered (record { answers = race.answers; old = race.told job.peer; new = race.told peer })
-      (record { given = given_to job.remote job.options before; before = before; after = after; known = Some race.trees; files = Some map.empty; left = left }) receipt answer
+      (record {
+        given = given_to job.remote job.options before;
+        before = before;
+        after = after;
+        known = Some race.trees;
+        files = Some map.empty;
+        left = left;
+      }) receipt answer
   pub blames : BlamesPeer (race.faults job.peer) (race.faults peer) (is_told is_of_peer answer)
   pub never : IfErr answer (λ e. (is_yes e ≡ false) × (is_of_files e ≡ false))
   pub complete : IfErr answer (λ e. HasValidInput (record { answers = race.answers; old = race.told job.peer; new = race.told peer })
-      (record { given = given_to job.remote job.options before; before = before; after = after; known = Some race.trees; files = Some map.empty; left = left }) receipt → is_free e ≡ true)
+      (record {
+        given = given_to job.remote job.options before;
+        before = before;
+        after = after;
+        known = Some race.trees;
+        files = Some map.empty;
+        left = left;
+      }) receipt → is_free e ≡ true)
 
 -- A job that has a pass was done by it: the rest of the job is as it was, and what became of it stands beside it, with the
 -- pass as it came back.
@@ -84,7 +99,8 @@ pub record IsFresh (opening : RepositoryValue) (number : ℕ) (pass : Holder) : 
 
 -- A job with this number was done in a race with this journal: its pass has seen a beginning of the journal, with all
 -- entries of the number.
-pub record HasRaced {P : Type 0} (race : Race P) (journal : List Entry) (number : ℕ) (job : Job P) (answer : Result Outcome SharedError) (peer : P) : Type 0 where
+pub record HasRaced {P : Type 0} (race : Race P) (journal : List Entry) (number : ℕ) (job : Job P) (answer : Result Outcome SharedError)
+    (peer : P) : Type 0 where
   pub before : Holder
   pub after : Holder
   pub receipt : Receipt
@@ -94,10 +110,12 @@ pub record HasRaced {P : Type 0} (race : Race P) (journal : List Entry) (number 
   pub entries : entries_of number journal ≡ entries_of number after.front
 
 -- Each job was done, by a pass with its place as number, and its peer came back. No other number has an entry.
-pub record AreRaced {P : Type 0} (race : Race P) (journal : List Entry) (jobs : List (Job P)) (answers : List (Result Outcome SharedError)) (peers : List P) : Type 0 where
+pub record AreRaced {P : Type 0} (race : Race P) (journal : List Entry) (jobs : List (Job P)) (answers : List (Result Outcome SharedError))
+    (peers : List P) : Type 0 where
   pub answered : length answers ≡ length jobs
   pub given_back : length peers ≡ length jobs
-  pub each : (i : ℕ) (job : Job P) (answer : Result Outcome SharedError) (peer : P) → slice_get jobs i ≡ Some job → slice_get answers i ≡ Some answer → slice_get peers i ≡ Some peer → HasRaced race journal i job answer peer
+  pub each : (i : ℕ) (job : Job P) (answer : Result Outcome SharedError) (peer : P) → slice_get jobs i ≡ Some job
+      → slice_get answers i ≡ Some answer → slice_get peers i ≡ Some peer → HasRaced race journal i job answer peer
   pub others : (n : ℕ) → length jobs ≤ n → entries_of n journal ≡ []
 
 -- A race that was run: its repository is what its journal leaves of the one that was opened, and the jobs were done.

@@ -69,7 +69,8 @@ pub record HasTaken (number : ℕ) (other pass : Holder) : Type 0 where
 
 -- One pass for the racers below this number, and for all numbers from the count of racers on, which have no entry.
 pub record AreGathered {P : Type 0} (racers : List (Racer P)) (number : ℕ) (pass : Holder) : Type 0 where
-  pub taken : (i : ℕ) (racer : Racer P) (other : Holder) → i < number → slice_get racers i ≡ Some racer → racer.pass ≡ Some other → HasTaken i other pass
+  pub taken : (i : ℕ) (racer : Racer P) (other : Holder) → i < number → slice_get racers i ≡ Some racer → racer.pass ≡ Some other
+      → HasTaken i other pass
   pub holds : (n : ℕ) → length racers ≤ n → n < 18446744073709551615 → Holds pass.held n
   pub none : (n : ℕ) → length racers ≤ n → n < 18446744073709551615 → entries_of n pass.front ≡ []
 
@@ -87,7 +88,8 @@ pub record HasAnswer {P : Type 0} (race : Race P) (journal : List Entry) (number
 -- Each job was done so, and no other number that a pass may hold has an entry.
 pub record HaveRaced {P : Type 0} (race : Race P) (journal : List Entry) (jobs : List (Job P)) (racers : List (Racer P)) : Type 0 where
   pub count : length racers ≡ length jobs
-  pub each : (i : ℕ) (job : Job P) (racer : Racer P) → slice_get jobs i ≡ Some job → slice_get racers i ≡ Some racer → HasAnswer race journal i job racer
+  pub each : (i : ℕ) (job : Job P) (racer : Racer P) → slice_get jobs i ≡ Some job → slice_get racers i ≡ Some racer
+      → HasAnswer race journal i job racer
   pub others : (n : ℕ) → length jobs ≤ n → n < 18446744073709551615 → entries_of n journal ≡ []
 
 -- The pass holds every number.

@@ -58,7 +58,13 @@ fn fetch<R: Threads + Wait + Sync, P: Peer>(
     worktrees: Vec<Worktree>,
 ) -> (Pass, Receipt, Result<Outcome, SharedError>)
     requires { pass.shared ≡ shared.now }
-    ensures { IsDone (record { answers = P.answers; told = P.told; faults = P.faults; trees = worktrees.items; opening = shared.now.opening })
+    ensures { IsDone (record {
+      answers = P.answers;
+      told = P.told;
+      faults = P.faults;
+      trees = worktrees.items;
+      opening = shared.now.opening;
+    })
         (record { remote = remote.now; peer = peer.old; options = options }) peer.new pass result.0 result.1 result.2 }
 {
     let mut interrupt = ScriptedInterrupt::new(Vec::new(alloc));

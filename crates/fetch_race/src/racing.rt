@@ -29,8 +29,10 @@ pub fn race_over<R: Threads + Wait + Sync, P: Peer + Send>(
 )
     requires shared { All (λ r. IfSome r.pass (λ p. p.shared ≡ shared.now)) racers.old }
     ensures ran { (i : ℕ) (d : _) → i < length racers.old → IfSome (slice_index_or racers.old i d).pass (λ pass. IsRun
-        (record { answers = P.answers; told = P.told; faults = P.faults; trees = worktrees.now; opening = shared.now.opening }) pass (slice_index_or racers.old i d) (slice_index_or racers.new i d)) }
-    ensures left { (i : ℕ) (d : _) → i < length racers.old → (slice_index_or racers.old i d).pass ≡ None → slice_index_or racers.new i d ≡ slice_index_or racers.old i d }
+        (record { answers = P.answers; told = P.told; faults = P.faults; trees = worktrees.now; opening = shared.now.opening }) pass
+        (slice_index_or racers.old i d) (slice_index_or racers.new i d)) }
+    ensures left { (i : ℕ) (d : _) → i < length racers.old → (slice_index_or racers.old i d).pass ≡ None
+        → slice_index_or racers.new i d ≡ slice_index_or racers.old i d }
 {
     let threads = racers.len().max(1);
     thread::for_each_mut(
@@ -53,7 +55,8 @@ fn run<R: Threads + Wait + Sync, P: Peer>(
 )
     requires shared { IfSome racer.old.pass (λ p. p.shared ≡ shared.now) }
     ensures ran { IfSome racer.old.pass (λ pass. IsRun
-        (record { answers = P.answers; told = P.told; faults = P.faults; trees = worktrees.now; opening = shared.now.opening }) pass racer.old racer.new) }
+        (record { answers = P.answers; told = P.told; faults = P.faults; trees = worktrees.now; opening = shared.now.opening }) pass
+        racer.old racer.new) }
     ensures left { racer.old.pass ≡ None → racer.new ≡ racer.old }
 {
     let Some(pass) = racer.pass.take() else {

@@ -1,10 +1,12 @@
 //! Jobs that get passes, and give them back.
 
-ghost use Rattle.std.specs.Prelude.{◌≡◌, ℕ, ◌<◌, ◌≤◌, ◌+◌, All, Err, IfOk, IsOkUnless, IfSome, IsSome, MatchOption, Some, length, map, slice_get, vec_len};
+ghost use Rattle.std.specs.Prelude.{◌≡◌, ℕ, ◌<◌, ◌≤◌, ◌+◌, All, Err, IfOk, IsOkUnless, IfSome, IsSome, MatchOption, Some, length, map};
+ghost use Rattle.std.specs.Prelude.{slice_get, vec_len};
 ghost use Rattle.fetch_store.specs.Missing.{unclosed};
 ghost use Rattle.fetch_race.specs.Racing.{IsRaced};
 ghost use Rattle.fetch_race.specs.Rooms.{HasRoom};
-ghost use Rattle.fetch_race.specs.Seats.{AreGathered, AreOver, AreSeated, HaveRaced, HoldsAll, IsJoined, IsOwn, IsRest, IsSeated, answer_in};
+ghost use Rattle.fetch_race.specs.Seats.{AreGathered, AreOver, AreSeated, HaveRaced, HoldsAll, IsJoined, IsOwn, IsRest, IsSeated};
+ghost use Rattle.fetch_race.specs.Seats.{answer_in};
 ghost use Rattle.fetch_shared.specs.Journals.{pass_of};
 ghost use Rattle.fetch_shared.specs.Machine.{held};
 ghost use Rattle.fetch_shared.specs.Passes.{Holder};
@@ -37,8 +39,10 @@ pub fn race_with<R: Threads + Wait + Sync, P: Peer + Drop + Send>(
     worktrees: &[Worktree],
 ) -> Result<Raced<P>, SharedError>
     requires few { (1 ≤ vec_len jobs) × (vec_len jobs ≤ 8) }
-    ensures closed { MatchOption (slice_get (unclosed (held repo)) 0) (IsOkUnless result errors.NoMemory) (λ link. result ≡ Err (errors.NotClosed link)) }
-    ensures raced { IfOk result (λ r. IsRaced (record { answers = P.answers; told = P.told; faults = P.faults; trees = worktrees.now; opening = repo }) jobs.items r) }
+    ensures closed { MatchOption (slice_get (unclosed (held repo)) 0) (IsOkUnless result errors.NoMemory)
+        (λ link. result ≡ Err (errors.NotClosed link)) }
+    ensures raced { IfOk result (λ r. IsRaced
+        (record { answers = P.answers; told = P.told; faults = P.faults; trees = worktrees.now; opening = repo }) jobs.items r) }
 {
     match opened(alloc, repo) {
         Ok((shared, pass)) => Ok(race_in(rt, alloc, shared, pass, jobs, worktrees)?),
@@ -49,7 +53,8 @@ pub fn race_with<R: Threads + Wait + Sync, P: Peer + Drop + Send>(
 /// Shares a repository, and gives the pass that holds every number. `NotClosed` comes exactly where the repository isn't
 /// closed, with its first missing link, and else only out of memory.
 pub fn opened(alloc: Global, repo: Repository) -> Result<(SharedRepository, Pass), SharedError>
-    ensures closed { MatchOption (slice_get (unclosed (held repo)) 0) (IsOkUnless result errors.NoMemory) (λ link. result ≡ Err (errors.NotClosed link)) }
+    ensures closed { MatchOption (slice_get (unclosed (held repo)) 0) (IsOkUnless result errors.NoMemory)
+        (λ link. result ≡ Err (errors.NotClosed link)) }
     ensures opening { IfOk result (λ r. r.0.opening ≡ repo) }
     ensures all { IfOk result (λ r. IsRest r.0 0 r.1) }
 {
@@ -67,7 +72,8 @@ fn race_in<R: Threads + Wait + Sync, P: Peer + Drop + Send>(
 ) -> Result<Raced<P>, NoMemory>
     requires few { vec_len jobs ≤ 8 }
     requires all { IsRest shared 0 pass }
-    ensures raced { IfOk result (λ r. IsRaced (record { answers = P.answers; told = P.told; faults = P.faults; trees = worktrees.now; opening = shared.opening }) jobs.items r) }
+    ensures raced { IfOk result (λ r. IsRaced
+        (record { answers = P.answers; told = P.told; faults = P.faults; trees = worktrees.now; opening = shared.opening }) jobs.items r) }
 {
     let room = room_for(alloc, jobs.len())?;
     match racers_of(alloc, jobs) {
@@ -121,7 +127,13 @@ fn raced<R: Threads + Wait + Sync, P: Peer + Drop + Send>(
     requires few { vec_len racers ≤ 8 }
     requires all { IsRest shared 0 pass }
     requires room { HasRoom (vec_len racers) room }
-    ensures raced { IsRaced (record { answers = P.answers; told = P.told; faults = P.faults; trees = worktrees.now; opening = shared.opening }) (map (λ r. r.job) racers.items) result }
+    ensures raced { IsRaced (record {
+      answers = P.answers;
+      told = P.told;
+      faults = P.faults;
+      trees = worktrees.now;
+      opening = shared.opening;
+    }) (map (λ r. r.job) racers.items) result }
 {
     let pass = race_among(rt, alloc, &shared, pass, racers.as_mut_slice(), worktrees);
     let (repo, journal) = closed(rt, shared, pass);
@@ -201,7 +213,13 @@ fn race_among<R: Threads + Wait + Sync, P: Peer + Drop + Send>(
     requires all { IsRest shared.now 0 pass }
     ensures shared { result.shared ≡ shared.now }
     ensures all { HoldsAll result }
-    ensures raced { HaveRaced (record { answers = P.answers; told = P.told; faults = P.faults; trees = worktrees.now; opening = shared.now.opening }) result.front (map (λ r. r.job) racers.old) racers.new }
+    ensures raced { HaveRaced (record {
+      answers = P.answers;
+      told = P.told;
+      faults = P.faults;
+      trees = worktrees.now;
+      opening = shared.now.opening;
+    }) result.front (map (λ r. r.job) racers.old) racers.new }
 {
     let rest = seat_all(shared, pass, racers);
     race_over(rt, alloc, shared, racers, worktrees);

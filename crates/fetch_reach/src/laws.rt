@@ -31,14 +31,20 @@ pub fn stored_packs_are_read()
         AreAllOf hash objects → AreObjects objects → All (IsOwnId objects) ids → Fits v (payloads_of (objects_at objects ids)) →
         IsPack v hash (pack_text v hash (payloads_of (objects_at objects ids))) (payloads_of (objects_at objects ids)) }
     ensures read { (v : PackVersion) (hash : Kind) (objects : ObjectMap) (ids : List ObjectId) →
-        AreAllOf hash objects → AreObjects objects → IsStrictlySortedBy id_cmp ids → All (IsOwnId objects) ids → Fits v (payloads_of (objects_at objects ids)) →
+        AreAllOf hash objects → AreObjects objects → IsStrictlySortedBy id_cmp ids → All (IsOwnId objects) ids
+        → Fits v (payloads_of (objects_at objects ids)) →
         read hash (pack_text v hash (payloads_of (objects_at objects ids))) ≡
-        Ok (record { objects = entries_at objects ids; count = length ids; digest = hashing.digest hash (body v hash (payloads_of (objects_at objects ids))) }) }
+        Ok (record {
+          objects = entries_at objects ids;
+          count = length ids;
+          digest = hashing.digest hash (body v hash (payloads_of (objects_at objects ids)));
+        }) }
 {}
 
 /// An honest pack stays honest where more haves were told.
 pub fn honest_packs_stay_honest_with_more_haves()
-    ensures { (r : Request) (haves : List ObjectId) (pack : Pack) → All (Contains haves) r.haves → IsHonest r pack → IsHonest (with_haves r haves) pack }
+    ensures { (r : Request) (haves : List ObjectId) (pack : Pack) → All (Contains haves) r.haves → IsHonest r pack
+        → IsHonest (with_haves r haves) pack }
 {}
 
 /// A pack that has its wants and all its links, and no lines, leaves nothing missing, whoever takes it.

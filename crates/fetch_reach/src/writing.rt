@@ -25,8 +25,10 @@ pub fn write_stored(
 ) -> Result<ObjectId, NoMemory>
     requires own { All (IsOwnId store.now.objects) ids.now }
     requires fits { CanHold version (objects_at store.now.objects ids.now) }
-    ensures pack { OnOk result (out.new.items ≡ out.old.items ++ pack_text version store.now.hash (payloads_of (objects_at store.now.objects ids.now))) }
-    ensures digest { IfOk result (λ id. id ≡ hashing.digest store.now.hash (body version store.now.hash (payloads_of (objects_at store.now.objects ids.now)))) }
+    ensures pack { OnOk result (out.new.items ≡ out.old.items
+        ++ pack_text version store.now.hash (payloads_of (objects_at store.now.objects ids.now))) }
+    ensures digest { IfOk result (λ id. id ≡ hashing.digest store.now.hash
+        (body version store.now.hash (payloads_of (objects_at store.now.objects ids.now)))) }
     ensures fits { OnOk result (Fits version (payloads_of (objects_at store.now.objects ids.now))) }
     ensures err { OnErr result (out.new.items ≡ out.old.items) }
 {
@@ -48,8 +50,10 @@ fn append_pack(
 ) -> Result<ObjectId, NoMemory>
     requires own { All (IsOwnId store.now.objects) ids.now }
     requires fits { CanHold version (objects_at store.now.objects ids.now) }
-    ensures pack { OnOk result (out.new.items ≡ out.old.items ++ pack_text version store.now.hash (payloads_of (objects_at store.now.objects ids.now))) }
-    ensures digest { IfOk result (λ id. id ≡ hashing.digest store.now.hash (body version store.now.hash (payloads_of (objects_at store.now.objects ids.now)))) }
+    ensures pack { OnOk result (out.new.items ≡ out.old.items
+        ++ pack_text version store.now.hash (payloads_of (objects_at store.now.objects ids.now))) }
+    ensures digest { IfOk result (λ id. id ≡ hashing.digest store.now.hash
+        (body version store.now.hash (payloads_of (objects_at store.now.objects ids.now)))) }
     ensures fits { OnOk result (Fits version (payloads_of (objects_at store.now.objects ids.now))) }
     ensures keeps { Keeps out.old.items out.new.items }
 {
@@ -71,7 +75,8 @@ fn append_body(
     requires of_hash { AreAllOf store.now.hash store.now.objects }
     requires own { All (IsOwnId store.now.objects) ids.now }
     requires fits { CanHold version (objects_at store.now.objects ids.now) }
-    ensures body { OnOk result (out.new.items ≡ out.old.items ++ body version store.now.hash (payloads_of (objects_at store.now.objects ids.now))) }
+    ensures body { OnOk result (out.new.items ≡ out.old.items
+        ++ body version store.now.hash (payloads_of (objects_at store.now.objects ids.now))) }
     ensures fits { OnOk result (Fits version (payloads_of (objects_at store.now.objects ids.now))) }
     ensures keeps { Keeps out.old.items out.new.items }
 {
@@ -106,7 +111,8 @@ fn append_record(
     out: &mut Vec<u8>,
 ) -> Result<(), NoMemory>
     requires { version ≡ V1 → length (seen object).bytes < 2 ^ 32 }
-    ensures record { OnOk result (out.new.items ≡ out.old.items ++ record_text version (record { id = id_text version id.now; payload = payload_of (seen object.entry) })) }
+    ensures record { OnOk result (out.new.items ≡ out.old.items
+        ++ record_text version (record { id = id_text version id.now; payload = payload_of (seen object.entry) })) }
     ensures fits { OnOk result (length (seen object.entry).bytes < spec.limit_of version) }
     ensures keeps { OnErr result (Keeps out.old.items out.new.items) }
 {

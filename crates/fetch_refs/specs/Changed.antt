@@ -25,7 +25,12 @@ added logs name (Some line) = with_line logs name line
 
 -- after the logging of an edit
 abbrev pub logged_in : Logging → RefsValue → RefEdit → RefsValue
-logged_in how r e = record { hash = r.hash; names = r.names; logs = logged how r.logs e.name (finmap.get r.names e.name) e.change; packed = r.packed }
+logged_in how r e = record {
+  hash = r.hash;
+  names = r.names;
+  logs = logged how r.logs e.name (finmap.get r.names e.name) e.change;
+  packed = r.packed;
+}
 
 -- after the change of its reference
 abbrev pub changed_in : PackedRefs → RefsValue → RefEdit → RefsValue
@@ -33,7 +38,12 @@ changed_in how r e = record { hash = r.hash; names = changed r.names e; logs = r
 
 -- after an update of a reference
 abbrev pub updated_in : PackedRefs → RefsValue → List ℕ → Target → RefsValue
-updated_in how r name new = record { hash = r.hash; names = finmap.insert r.names name new; logs = r.logs; packed = with_packed r.packed name (packed_by how new) }
+updated_in how r name new = record {
+  hash = r.hash;
+  names = finmap.insert r.names name new;
+  logs = r.logs;
+  packed = with_packed r.packed name (packed_by how new);
+}
 
 -- after its deletion
 abbrev pub deleted_in : RefsValue → List ℕ → RefsValue

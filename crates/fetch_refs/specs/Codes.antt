@@ -33,10 +33,12 @@ coded_target = code_by (ObjectId ⊎ List ℕ) (coded⊎ coded_id coded_text) sp
 abbrev pub coded_signature : Coded Signature
 coded_signature =
     code_by (List ℕ × (List ℕ × (ℕ × ℤ))) (coded× coded_text (coded× coded_text (coded× coded_ℕ coded_ℤ)))
-    (λ s. (s.name, (s.email, (s.seconds, s.offset_minutes)))) (λ p. record { name = p.0; email = p.1.0; seconds = p.1.1.0; offset_minutes = p.1.1.1 }) (λ _. refl)
+    (λ s. (s.name, (s.email, (s.seconds, s.offset_minutes))))
+    (λ p. record { name = p.0; email = p.1.0; seconds = p.1.1.0; offset_minutes = p.1.1.1 }) (λ _. refl)
 
 -- a line of a reflog, coded
 abbrev pub coded_line : Coded LogLine
 coded_line =
     code_by (ObjectId × (ObjectId × (Signature × List ℕ))) (coded× coded_id (coded× coded_id (coded× coded_signature coded_text)))
-    (λ l. (l.old, (l.new, (l.committer, l.message)))) (λ p. record { old = p.0; new = p.1.0; committer = p.1.1.0; message = p.1.1.1 }) (λ _. refl)
+    (λ l. (l.old, (l.new, (l.committer, l.message))))
+    (λ p. record { old = p.0; new = p.1.0; committer = p.1.1.0; message = p.1.1.1 }) (λ _. refl)

@@ -84,7 +84,12 @@ has_room c (u ∷ us) = has_place c u && has_room c us
 
 -- with what a place holds
 abbrev pub with_slot_in : RefsValue → List ℕ → Slot → RefsValue
-with_slot_in r name s = record { hash = r.hash; names = with_slot r.names name s.value; logs = r.logs; packed = with_slot r.packed name s.packed }
+with_slot_in r name s = record {
+  hash = r.hash;
+  names = with_slot r.names name s.value;
+  logs = r.logs;
+  packed = with_slot r.packed name s.packed;
+}
 
 -- with these lines at a name
 abbrev pub with_lines_in : RefsValue → List ℕ → List Rattle.fetch_refs.specs.declared.log.LogLine.LogLine → RefsValue

@@ -26,7 +26,8 @@ deletes name e = bytes_eq name e.name && is_deletion e.change
 abbrev pub line_for : Logging → List ℕ → LogChange → Option Target → Target → List LogLine
 line_for how name log before (Symbolic target) = []
 line_for how name log before (Object id) =
-    if gets_line how.enabled name log before (Object id) then record { old = old_id how.hash before; new = id; committer = how.committer; message = log.message } ∷ [] else []
+    if gets_line how.enabled name log before (Object id)
+    then record { old = old_id how.hash before; new = id; committer = how.committer; message = log.message } ∷ [] else []
 
 -- the line that a change gives the reflog, or none
 abbrev pub line_of_change : Logging → List ℕ → Option Target → Change → List LogLine

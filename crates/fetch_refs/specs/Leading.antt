@@ -33,12 +33,16 @@ pub record IsNameWay (names : Names) (first : List ℕ) (way : List (List ℕ)) 
   pub leads : Leads (next_name names) first way end
   pub distinct : IsDistinct bytes_eq way
 
--- Where the names end: at the id of a direct reference, at a name where nothing stands, at a name of the way, or, after five of them, at a further one.
+-- Where the names end: at the id of a direct reference, at a name where nothing stands, at a name of the way, or, after five of them, at a
+-- further one.
 abbrev pub EndsNames : Names → List ℕ → Result ObjectId RefError → Type 0
-EndsNames names first (Ok id) = (way : List (List ℕ)) × (end : List ℕ) × IsNameWay names first way end × (length way < 5) × (map.get names end ≡ Some (Object id))
-EndsNames names first (Err (errors.Unborn end)) = (way : List (List ℕ)) × IsNameWay names first way end × (length way < 5) × (map.get names end ≡ None)
+EndsNames names first (Ok id) = (way : List (List ℕ)) × (end : List ℕ) × IsNameWay names first way end × (length way < 5)
+    × (map.get names end ≡ Some (Object id))
+EndsNames names first (Err (errors.Unborn end)) = (way : List (List ℕ)) × IsNameWay names first way end × (length way < 5)
+    × (map.get names end ≡ None)
 EndsNames names first (Err (errors.Cycle end)) = (way : List (List ℕ)) × IsNameWay names first way end × (length way ≤ 5) × Contains way end
-EndsNames names first (Err (errors.Depth end)) = (way : List (List ℕ)) × IsNameWay names first way end × (length way ≡ 5) × (Contains way end → ⊥)
+EndsNames names first (Err (errors.Depth end)) = (way : List (List ℕ)) × IsNameWay names first way end × (length way ≡ 5)
+    × (Contains way end → ⊥)
 EndsNames names first (Err e) = ⊥
 
 -- where a stored tag leads
@@ -52,7 +56,8 @@ pub record IsTagWay (graph : Graph) (first : ObjectId) (way : List ObjectId) (en
 
 -- Where the tags end: at an object that is stored and no tag, at an id that isn't stored, or at a tag of the way.
 abbrev pub EndsTags : Graph → ObjectId → Result ObjectId RefError → Type 0
-EndsTags graph first (Ok id) = (way : List ObjectId) × IsTagWay graph first way id × ((n : Node) × (map.get graph id ≡ Some n) × (n.target ≡ None))
+EndsTags graph first (Ok id) = (way : List ObjectId) × IsTagWay graph first way id
+    × ((n : Node) × (map.get graph id ≡ Some n) × (n.target ≡ None))
 EndsTags graph first (Err (errors.MissingObject id)) = (way : List ObjectId) × IsTagWay graph first way id × (map.get graph id ≡ None)
 EndsTags graph first (Err (errors.TagCycle id)) = (way : List ObjectId) × IsTagWay graph first way id × Contains way id
 EndsTags graph first (Err e) = ⊥
@@ -63,7 +68,8 @@ IsDirectlyAt names name answer = (id : ObjectId) × (map.get names name ≡ Some
 
 -- after the names of a symbolic reference, where the tags end
 abbrev pub IsBehindTags : Names → Graph → List ℕ → Result ObjectId RefError → Type 0
-IsBehindTags names graph name answer = (to : List ℕ) × (id : ObjectId) × (map.get names name ≡ Some (Symbolic to)) × EndsNames names name (Ok id) × EndsTags graph id answer
+IsBehindTags names graph name answer = (to : List ℕ) × (id : ObjectId) × (map.get names name ≡ Some (Symbolic to))
+    × EndsNames names name (Ok id) × EndsTags graph id answer
 
 -- the refusal of the names
 abbrev pub IsRefusedByNames : Names → List ℕ → Result ObjectId RefError → Type 0
@@ -71,4 +77,5 @@ IsRefusedByNames names name answer = (e : RefError) × EndsNames names name (Err
 
 -- What peeling a name answers, in each of its three cases.
 abbrev pub IsPeeledTo : Names → Graph → List ℕ → Result ObjectId RefError → Type 0
-IsPeeledTo names graph name answer = IsDirectlyAt names name answer ⊎ IsBehindTags names graph name answer ⊎ IsRefusedByNames names name answer
+IsPeeledTo names graph name answer = IsDirectlyAt names name answer ⊎ IsBehindTags names graph name answer
+    ⊎ IsRefusedByNames names name answer

@@ -1,5 +1,6 @@
 -- The reflogs after edits.
-use Rattle.std.specs.Prelude.{ℕ, Bool, true, false, not, ◌&&◌, ◌||◌, List, [], ◌∷◌, ◌++◌, Option, Some, None, if◌then◌else◌, unwrap_or, codes, nat_eq, replicate}
+use Rattle.std.specs.Prelude.{ℕ, Bool, true, false, not, ◌&&◌, ◌||◌, List, [], ◌∷◌, ◌++◌, Option, Some, None, if◌then◌else◌, unwrap_or}
+use Rattle.std.specs.Prelude.{codes, nat_eq, replicate}
 use Rattle.std.specs.FinMap as map
 use Rattle.std.specs.List.{starts_with}
 use Rattle.std.specs.Str.{bytes_eq}
@@ -31,7 +32,9 @@ pub record Logging : Type 0 where
 
 -- `HEAD`, branches, remote branches and notes
 unfoldable pub is_logged : List ℕ → Bool
-is_logged name = bytes_eq name (codes "HEAD") || (starts_with nat_eq name (codes "refs/heads/") || (starts_with nat_eq name (codes "refs/remotes/") || starts_with nat_eq name (codes "refs/notes/")))
+is_logged name = bytes_eq name (codes "HEAD")
+    || (starts_with nat_eq name (codes "refs/heads/")
+    || (starts_with nat_eq name (codes "refs/remotes/") || starts_with nat_eq name (codes "refs/notes/")))
 
 -- whether a mode is of the reflog alone
 abbrev pub is_only : RefLog → Bool
@@ -45,7 +48,8 @@ is_found new (Some found) = is_same found new
 
 -- whether an update gets a line: for the reflog alone, or with another value than the one found; where it is forced, or the name is logged
 unfoldable pub gets_line : Bool → List ℕ → LogChange → Option Target → Target → Bool
-gets_line enabled name log found new = (is_only log.mode || not (is_found new found)) && (log.force_create_reflog || (enabled && is_logged name))
+gets_line enabled name log found new = (is_only log.mode || not (is_found new found))
+    && (log.force_create_reflog || (enabled && is_logged name))
 
 -- the id of zeros
 abbrev pub null_id : Kind → ObjectId
@@ -69,7 +73,13 @@ with_line logs name line = map.insert logs name (lines_of logs name ++ line ∷ 
 abbrev pub updated : Logging → Logs → List ℕ → LogChange → Option Target → Target → Logs
 updated how logs name log found (Symbolic target) = logs
 updated how logs name log found (Object id) =
-    if gets_line how.enabled name log found (Object id) then with_line logs name (record { old = old_id how.hash found; new = id; committer = how.committer; message = log.message }) else logs
+    if gets_line how.enabled name log found (Object id)
+    then with_line logs name (record {
+      old = old_id how.hash found;
+      new = id;
+      committer = how.committer;
+      message = log.message;
+    }) else logs
 
 -- the reflogs after an edit of a reference that had this value
 abbrev pub logged : Logging → Logs → List ℕ → Option Target → Change → Logs
@@ -97,7 +107,8 @@ applied committer logging packed refs e =
     record {
       hash = refs.hash;
       names = changed refs.names e;
-      logs = logged (record { hash = refs.hash; committer = committer; enabled = logging }) refs.logs e.name (map.get refs.names e.name) e.change;
+      logs = logged (record { hash = refs.hash; committer = committer; enabled = logging }) refs.logs e.name
+          (map.get refs.names e.name) e.change;
       packed = packed_changed packed refs.packed e;
     }
 

@@ -39,5 +39,7 @@ pub record RefsValue : Type 0 where
 abbrev pub coded_refs : Coded RefsValue
 coded_refs =
     code_by (Kind × (Names × (Logs × PackedList)))
-    (coded× coded_kind (coded× (map.code {R = name_cmp} (coded_list coded_ℕ) coded_target) (coded× (map.code {R = name_cmp} (coded_list coded_ℕ) (coded_list coded_line)) (map.code {R = name_cmp} (coded_list coded_ℕ) coded_id))))
+    (coded× coded_kind (coded× (map.code {R = name_cmp} (coded_list coded_ℕ) coded_target)
+    (coded× (map.code {R = name_cmp} (coded_list coded_ℕ) (coded_list coded_line))
+    (map.code {R = name_cmp} (coded_list coded_ℕ) coded_id))))
     (λ r. (r.hash, (r.names, (r.logs, r.packed)))) (λ p. record { hash = p.0; names = p.1.0; logs = p.1.1.0; packed = p.1.1.1 }) (λ _. refl)

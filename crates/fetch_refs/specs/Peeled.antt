@@ -28,7 +28,8 @@ read name (Some (Symbolic target)) direct next = next target
 unfoldable pub follow : Names → ℕ → List (List ℕ) → List ℕ → Result ObjectId RefError
 follow names zero met name = Err (if is_met met name then errors.Cycle name else errors.Depth name)
 follow names (suc left) met name =
-    if is_met met name then Err (errors.Cycle name) else read name (map.get names name) (λ id. Ok id) (λ target. follow names left (met ++ name ∷ []) target)
+    if is_met met name then Err (errors.Cycle name)
+    else read name (map.get names name) (λ id. Ok id) (λ target. follow names left (met ++ name ∷ []) target)
 
 -- The id that a reference leads to by names, of which there are five at most, and its own is the first.
 abbrev pub resolved : Names → List ℕ → Target → Result ObjectId RefError
@@ -48,7 +49,8 @@ open_tag id (Some node) next = option_map_or next node.target (Ok id)
 unfoldable pub through : Graph → ℕ → List ObjectId → ObjectId → Result ObjectId RefError
 through graph zero met id = Err (if is_met_id met id then errors.TagCycle id else errors.MissingObject id)
 through graph (suc left) met id =
-    if is_met_id met id then Err (errors.TagCycle id) else open_tag id (map.get graph id) (λ target. through graph left (met ++ id ∷ []) target)
+    if is_met_id met id then Err (errors.TagCycle id)
+    else open_tag id (map.get graph id) (λ target. through graph left (met ++ id ∷ []) target)
 
 -- the id of an object that is stored
 abbrev pub stopped : ObjectId → Option Node → Result ObjectId RefError

@@ -10,4 +10,5 @@ pub record PendingValue : Type 0 where
 
 -- edits that are made ready, coded
 abbrev pub coded_pending : Coded PendingValue
-coded_pending = code_by (RefsValue × RefsValue) (coded× coded_refs coded_refs) (λ p. (p.before, p.after)) (λ p. record { before = p.0; after = p.1 }) (λ _. refl)
+coded_pending = code_by (RefsValue × RefsValue) (coded× coded_refs coded_refs) (λ p. (p.before, p.after))
+    (λ p. record { before = p.0; after = p.1 }) (λ _. refl)

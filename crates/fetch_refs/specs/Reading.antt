@@ -26,7 +26,12 @@ AreEntries kind list = AllByRecursion (IsEntry kind) (map.entries list)
 
 -- the references that a packed list alone gives
 abbrev pub references_of : Kind → PackedList → RefsValue
-references_of kind list = record { hash = kind; names = over map.empty (each (λ id. Some (Object id)) (map.entries list)); logs = map.empty; packed = list }
+references_of kind list = record {
+  hash = kind;
+  names = over map.empty (each (λ id. Some (Object id)) (map.entries list));
+  logs = map.empty;
+  packed = list;
+}
 
 -- The text is the lines of a list, of that many bytes, and then the rest.
 pub record GoesOnAt (kind : Kind) (text : List ℕ) (place : ℕ) (list : PackedList) (rest : List ℕ) : Type 0 where

@@ -146,7 +146,8 @@ fn packed_for(
     new: &Target,
     packed: PackedRefs,
 ) -> Option<ObjectId>
-    ensures { with_slot (shown_in contents.now).packed name.now result ≡ with_packed (shown_in contents.now).packed name.now (packed_by packed new.now) }
+    ensures { with_slot (shown_in contents.now).packed name.now result
+        ≡ with_packed (shown_in contents.now).packed name.now (packed_by packed new.now) }
 {
     match packed {
         PackedRefs::Never => contents.packed_id(name),
@@ -198,7 +199,8 @@ fn line_of(
     found: Option<TargetRef<'_>>,
     new: &Target,
 ) -> Result<Option<LogLine>, NoMemory>
-    ensures { IfOk result (λ line. (logs : Logs) → added logs name.now line ≡ spec.updated (logging_of logger.now) logs name.now change.now (option_map seen found.entry) new.now) }
+    ensures { IfOk result (λ line. (logs : Logs)
+        → added logs name.now line ≡ spec.updated (logging_of logger.now) logs name.now change.now (option_map seen found.entry) new.now) }
 {
     let Target::Object(id) = new else {
         return Ok(None);

@@ -1,6 +1,7 @@
 //! What references are kept in.
 
-ghost use Rattle.std.specs.Prelude.{◌≡◌, ℕ, List as Items, ◌++◌, ◌∷◌, [], None, Some, true, cond, is_some, unwrap_or, take, OnOk, OnErr, IfOk, option_map};
+ghost use Rattle.std.specs.Prelude.{◌≡◌, ℕ, List as Items, ◌++◌, ◌∷◌, [], None, Some, true, cond, is_some, unwrap_or, take, OnOk, OnErr};
+ghost use Rattle.std.specs.Prelude.{IfOk, option_map};
 ghost use Rattle.std.specs.BTreeMap.{is_at};
 ghost use Rattle.std.specs.FinMap as map;
 ghost use Rattle.std.specs.Map.{lookup};
@@ -177,8 +178,10 @@ fn push_line(
     line: LogLine,
 ) -> Result<(), NoMemory>
     ensures ok { (q : Items ℕ) → OnOk result (lookup (is_at (name_cmp q)) logs.new.entries
-        ≡ cond (is_at (name_cmp name.now) q) (Some (unwrap_or (lookup (is_at (name_cmp name.now)) logs.old.entries) [] ++ line ∷ [])) (lookup (is_at (name_cmp q)) logs.old.entries)) }
-    ensures err { (q : Items ℕ) → OnErr result (lookup (is_at (name_cmp q)) logs.new.entries ≡ lookup (is_at (name_cmp q)) logs.old.entries) }
+        ≡ cond (is_at (name_cmp name.now) q) (Some (unwrap_or (lookup (is_at (name_cmp name.now)) logs.old.entries) [] ++ line ∷ []))
+        (lookup (is_at (name_cmp q)) logs.old.entries)) }
+    ensures err { (q : Items ℕ) → OnErr result
+        (lookup (is_at (name_cmp q)) logs.new.entries ≡ lookup (is_at (name_cmp q)) logs.old.entries) }
 {
     if let Some(lines) = logs.get_mut(name) {
         return lines.push(line);
@@ -193,7 +196,8 @@ fn push_line(
 /// Puts a value at a name that has a place.
 fn put<V: Drop>(map: &mut BTreeMap<FullName, V>, name: FullName, value: V)
     requires { is_some (lookup (is_at (name_cmp name)) map.old.entries) ≡ true }
-    ensures { (q : Items ℕ) → lookup (is_at (name_cmp q)) map.new.entries ≡ cond (is_at (name_cmp name) q) (Some value) (lookup (is_at (name_cmp q)) map.old.entries) }
+    ensures { (q : Items ℕ) → lookup (is_at (name_cmp q)) map.new.entries
+        ≡ cond (is_at (name_cmp name) q) (Some value) (lookup (is_at (name_cmp q)) map.old.entries) }
 {
     match map.insert(name, value) {
         Ok(_) => {}
@@ -208,8 +212,10 @@ fn cut_lines(
     name: &FullName,
     left: usize,
 )
-    ensures shown { logs_of logs.new.entries ≡ with_lines (logs_of logs.old.entries) name.now (take left (lines_of (logs_of logs.old.entries) name.now)) }
-    ensures keeps { (q : Items ℕ) → is_some (lookup (is_at (name_cmp q)) logs.old.entries) ≡ true → is_some (lookup (is_at (name_cmp q)) logs.new.entries) ≡ true }
+    ensures shown { logs_of logs.new.entries ≡ with_lines (logs_of logs.old.entries) name.now
+        (take left (lines_of (logs_of logs.old.entries) name.now)) }
+    ensures keeps { (q : Items ℕ) → is_some (lookup (is_at (name_cmp q)) logs.old.entries) ≡ true
+        → is_some (lookup (is_at (name_cmp q)) logs.new.entries) ≡ true }
 {
     match logs.get_mut(name) {
         Some(lines) => cut(alloc, lines, left),

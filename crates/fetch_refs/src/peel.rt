@@ -101,7 +101,8 @@ fn cycle(name: &FullName) -> Result<ObjectId, RefError>
 
 /// Whether a name is the first, or among those that the next leads to, that many.
 fn is_met(refs: &Refs, first: &[u8], next: &FullName, count: usize, name: &FullName) -> bool
-    ensures { (way : List (List ℕ)) (end : List ℕ) → Leads (next_name refs.now.names) next.now way end → length way ≡ count → result ≡ is_met (first.now ∷ way) name.now }
+    ensures { (way : List (List ℕ)) (end : List ℕ) → Leads (next_name refs.now.names) next.now way end → length way ≡ count
+        → result ≡ is_met (first.now ∷ way) name.now }
 {
     if first == name.as_bytes() {
         return true;
@@ -111,7 +112,8 @@ fn is_met(refs: &Refs, first: &[u8], next: &FullName, count: usize, name: &FullN
 
 /// Whether a name is among the first ones of a way of symbolic references, that many.
 fn leads_to(refs: &Refs, first: &FullName, count: usize, name: &FullName) -> bool
-    ensures { (way : List (List ℕ)) (end : List ℕ) → Leads (next_name refs.now.names) first.now way end → length way ≡ count → result ≡ is_met way name.now }
+    ensures { (way : List (List ℕ)) (end : List ℕ) → Leads (next_name refs.now.names) first.now way end → length way ≡ count
+        → result ≡ is_met way name.now }
 {
     let mut at = first;
     let mut left = count;
@@ -201,7 +203,8 @@ fn along_tags<O: Objects>(objects: &O, first: ObjectId) -> Result<ObjectId, RefE
 
 /// Whether the id is among the first ones of a way of tags, that many.
 fn is_among<O: Objects>(objects: &O, first: ObjectId, count: usize, id: &ObjectId) -> bool
-    ensures { (way : List ObjectId) (end : ObjectId) → Leads (next_tag (O.graph objects.now)) first way end → length way ≡ count → result ≡ is_met_id way id.now }
+    ensures { (way : List ObjectId) (end : ObjectId) → Leads (next_tag (O.graph objects.now)) first way end → length way ≡ count
+        → result ≡ is_met_id way id.now }
 {
     let mut at = first;
     let mut left = count;

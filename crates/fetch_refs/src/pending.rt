@@ -117,7 +117,8 @@ fn edit_all(
     ensures room { HasRoom journal.new }
     ensures before { before journal.new ≡ before journal.old }
     ensures ok { OnOk result (now_in journal.new ≡ after committer.now logging packed (now_in journal.old) edits.now) }
-    ensures texts { IfOk result (λ changed. (text : Items ℕ) → text ≡ packed_text (before journal.new).packed → HasTexts journal.new text changed) }
+    ensures texts { IfOk result (λ changed. (text : Items ℕ) → text ≡ packed_text (before journal.new).packed
+        → HasTexts journal.new text changed) }
 {
     apply_all(journal, edits, committer, logging, packed)?;
     if keeps_list(&journal.contents, journal.undo.as_slice()) {

@@ -40,7 +40,8 @@ impl Refs {
         ensures same_reference { IfOk result (λ p. (lent p).ghost_name ≡ self.entry.ghost_name) }
         ensures unchanged { IfOk result (λ p. (lent p).now ≡ self.old) }
         ensures ready { IfOk result (λ p. ready p ≡ after committer.now logging packed self.old edits.now) }
-        ensures refusal { MatchOption (refusal_of self.old.names edits.now) (IfErr result (λ e. e ≡ errors.NoMemory)) (λ e. IsErrAnd result (IsUnlessMemory e)) }
+        ensures refusal { MatchOption (refusal_of self.old.names edits.now) (IfErr result (λ e. e ≡ errors.NoMemory))
+            (λ e. IsErrAnd result (IsUnlessMemory e)) }
         ensures exact { IfSome (refusal_of self.old.names edits.now) (λ e. tells_name e ≡ false → IsErrAnd result (λ found. found ≡ e)) }
     {
         check(self, edits)?;

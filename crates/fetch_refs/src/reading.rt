@@ -182,7 +182,8 @@ fn name_at(alloc: Global, place: usize, text: &[u8]) -> Result<FullName, PackedE
 /// Whether a name is above the last one.
 fn is_above(names: &BTreeMap<FullName, Slot>, name: &FullName) -> bool
     ensures first { names.now.entries ≡ [] → IsTrue result }
-    ensures last { (others : List (List ℕ × Slot)) (last : List ℕ × Slot) → names.now.entries ≡ others ++ last ∷ [] → result ≡ is_lt (name_cmp last.0 name.now) }
+    ensures last { (others : List (List ℕ × Slot)) (last : List ℕ × Slot) → names.now.entries ≡ others ++ last ∷ []
+        → result ≡ is_lt (name_cmp last.0 name.now) }
 {
     match names.last_key_value() {
         Some((last, _)) => last < name,

@@ -81,7 +81,12 @@ impl Refs {
     /// Puts all direct references into the packed list, and nothing else. After an error nothing is
     /// changed. The only error is out of memory.
     pub fn compact(&mut self) -> Result<(), RefError>
-        ensures ok { OnOk result (self.new ≡ record { hash = self.old.hash; names = self.old.names; logs = self.old.logs; packed = all_direct self.old.names }) }
+        ensures ok { OnOk result (self.new ≡ record {
+          hash = self.old.hash;
+          names = self.old.names;
+          logs = self.old.logs;
+          packed = all_direct self.old.names;
+        }) }
         ensures err { OnErr result (self.new ≡ self.old) }
         ensures memory { IfErr result (λ e. e ≡ errors.NoMemory) }
     {

@@ -1,5 +1,6 @@
 -- Peers that are made and taken back.
-use Rattle.std.specs.Prelude.{◌≡◌, ℕ, ◌+◌, ◌==◌, Bool, true, false, not, length, filter, if◌then◌else◌, List, [], ◌∷◌, ◌++◌, ⊤, Option, Some, None, Result, Ok, Err}
+use Rattle.std.specs.Prelude.{◌≡◌, ℕ, ◌+◌, ◌==◌, Bool, true, false, not, length, filter, if◌then◌else◌, List, [], ◌∷◌, ◌++◌, ⊤, Option}
+use Rattle.std.specs.Prelude.{Some, None, Result, Ok, Err}
 use Rattle.fetch_store.specs.Calls.{CallList}
 use Rattle.fetch_store.specs.Faults.{Faults, counted}
 use Rattle.fetch_wire.specs.Scripts.{Script}
@@ -61,7 +62,8 @@ IsMissing (Some url) direction (Err (errors.MissingUrl told)) = ⊥
 IsMissing (Some url) direction (Err errors.Connect) = ⊤
 IsMissing (Some url) direction (Err errors.NoMemory) = ⊤
 
--- a scripted maker: the peers still to be made, those taken back, the addresses at which any were made, how many are out, the calls that fail, and how many failed
+-- a scripted maker: the peers still to be made, those taken back, the addresses at which any were made, how many are out, the calls that
+-- fail, and how many failed
 pub record Making : Type 0 where
   pub left : List Script
   pub taken : List Script

@@ -1,5 +1,6 @@
 -- Local branches that are deleted: what is tested before, and what goes. The names of a deletion are in ascending order, each once.
-use Rattle.std.specs.Prelude.{◌≡◌, ◌⊎◌, ℕ, Bool, true, false, not, List, [], find, map as each, Option, Some, None, IfSome, ⊤, nat_eq, codes}
+use Rattle.std.specs.Prelude.{◌≡◌, ◌⊎◌, ℕ, Bool, true, false, not, List, [], find, map as each, Option, Some, None, IfSome, ⊤, nat_eq}
+use Rattle.std.specs.Prelude.{codes}
 use Rattle.std.specs.FinMap as finmap
 use Rattle.std.specs.List.{starts_with}
 use Rattle.std.specs.Option.{option_and_then}
@@ -91,7 +92,8 @@ setup_without names s = reopened s (without_branches (short_names names) s.local
 
 -- the new text is written beside the file, and then put in its place
 abbrev pub replaced : List ℕ → List ℕ → Tree → Option Tree
-replaced git_dir text t = option_and_then (λ u. renamed u (parts_of (lock_path git_dir)) (parts_of (config_path git_dir))) (written t (parts_of (lock_path git_dir)) text)
+replaced git_dir text t = option_and_then (λ u. renamed u (parts_of (lock_path git_dir)) (parts_of (config_path git_dir)))
+    (written t (parts_of (lock_path git_dir)) text)
 
 -- Where the file has sections of these branches, they go from the file and from memory.
 pub record IsCleaned (names : List (List ℕ)) (text : Option (List ℕ)) (told now : Option Tree) (before after : Setup) : Type 0 where
@@ -126,7 +128,8 @@ pub record IsCheckedOut (told : Option (List Worktree)) (names : List (List ℕ)
   pub all_directories : directories ≡ directories_of trees name
 
 -- The branches were deleted, once no test stood against it.
-pub record IsDeleted (trees : Option (List Worktree)) (told now : Option Tree) (names : List (List ℕ)) (before after : RepositoryValue) : Type 0 where
+pub record IsDeleted (trees : Option (List Worktree)) (told now : Option Tree) (names : List (List ℕ))
+    (before after : RepositoryValue) : Type 0 where
   pub free : AreFree trees names
   pub text : Option (List ℕ)
   pub read : Reads told (config_path before.setup.settings.git_dir) text
@@ -163,7 +166,8 @@ IsRefused trees told git_dir names errors.OpenWorktreeRepo = find is_foreign nam
 IsRefused trees told git_dir names errors.FollowSymref = find is_foreign names ≡ None
 IsRefused trees told git_dir names (errors.CheckedOut name directories) = IsCheckedOut trees names name directories
 IsRefused trees told git_dir names (errors.ConfigRead cause) = AreFree trees names × IsUnread told git_dir cause
-IsRefused trees told git_dir names (errors.Cleanup references source) = (references ≡ names) × (AreFree trees names × HasSections told git_dir names)
+IsRefused trees told git_dir names (errors.Cleanup references source) = (references ≡ names)
+    × (AreFree trees names × HasSections told git_dir names)
 IsRefused trees told git_dir names errors.NoMemory = ⊤
 
 -- The new text stands beside the file, which is the one found.
@@ -192,8 +196,10 @@ Leaves told now git_dir names before after errors.OpenWorktreeRepo = (after ≡ 
 Leaves told now git_dir names before after errors.FollowSymref = (after ≡ before) × (now ≡ told)
 Leaves told now git_dir names before after (errors.CheckedOut name directories) = (after ≡ before) × (now ≡ told)
 Leaves told now git_dir names before after (errors.ConfigRead cause) = (after ≡ before) × (now ≡ told)
-Leaves told now git_dir names before after (errors.Cleanup references source) = (after ≡ state_without names before) × LeavesFiles told now git_dir names source
-Leaves told now git_dir names before after errors.NoMemory = ((after ≡ before) × (now ≡ told)) ⊎ IsForgotten told now git_dir names before after
+Leaves told now git_dir names before after (errors.Cleanup references source) = (after ≡ state_without names before)
+    × LeavesFiles told now git_dir names source
+Leaves told now git_dir names before after errors.NoMemory = ((after ≡ before) × (now ≡ told))
+    ⊎ IsForgotten told now git_dir names before after
 
 -- A failed file call.
 abbrev pub is_file_fault : Error → Bool
@@ -209,8 +215,10 @@ IsUnwritten may_fail told now lock path text cleaning.Commit = IsCallRefused may
 
 -- The same of a deletion: of its reading, and of its new text.
 abbrev pub IsInTheWay : Bool → Option Tree → Option Tree → List ℕ → Error → Type 0
-IsInTheWay may_fail told now git_dir (errors.ConfigRead causes.Io) = IsCallRefused may_fail told (λ t. read_in t (parts_of (config_path git_dir)))
-IsInTheWay may_fail told now git_dir (errors.Cleanup references source) = (text : List ℕ) × IsUnwritten may_fail told now (lock_path git_dir) (config_path git_dir) text source
+IsInTheWay may_fail told now git_dir (errors.ConfigRead causes.Io) =
+    IsCallRefused may_fail told (λ t. read_in t (parts_of (config_path git_dir)))
+IsInTheWay may_fail told now git_dir (errors.Cleanup references source) = (text : List ℕ)
+    × IsUnwritten may_fail told now (lock_path git_dir) (config_path git_dir) text source
 IsInTheWay may_fail told now git_dir e = ⊤
 
 -- What is told before the work trees are asked, and before the files are.

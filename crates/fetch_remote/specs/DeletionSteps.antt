@@ -19,7 +19,8 @@ use Rattle.fetch_update.specs.declared.worktrees.Worktree.{Worktree}
 use Rattle.fetch_update.specs.declared.worktrees.WorktreeFault.{WorktreeFault}
 use Rattle.fetch_update.specs.declared.worktrees.WorktreeFault.TheVariants as faults
 use Rattle.fetch_remote.specs.Deleting as spec
-use Rattle.fetch_remote.specs.Deleting.{Cleans, HasSections, broken_in, file_meta, has_sections, lock_path, sections_in, setup_without, short_names, state_without}
+use Rattle.fetch_remote.specs.Deleting.{Cleans, HasSections, broken_in, file_meta, has_sections, lock_path, sections_in, setup_without}
+use Rattle.fetch_remote.specs.Deleting.{short_names, state_without}
 use Rattle.fetch_remote.specs.Judging.{IsTold}
 use Rattle.fetch_remote.specs.Keeping.{AreFiles}
 use Rattle.fetch_remote.specs.Paths.{config_path}
@@ -73,7 +74,8 @@ listing_refusal faults.NoMemory = errors.NoMemory
 
 -- The first branch that these work trees have checked out is told, or memory ran out.
 abbrev pub IsHeldIn : List Worktree → List (List ℕ) → Error → Type 0
-IsHeldIn trees names (errors.CheckedOut name directories) = (find (is_checked_out trees) names ≡ Some name) × (directories ≡ directories_of trees name)
+IsHeldIn trees names (errors.CheckedOut name directories) = (find (is_checked_out trees) names ≡ Some name)
+    × (directories ≡ directories_of trees name)
 IsHeldIn trees names errors.NoMemory = ⊤
 IsHeldIn trees names e = ⊥
 

@@ -63,9 +63,11 @@ pub record HasRead (g : Given) (before : State) (said : List ℕ) (outcome : Out
   -- and the reply, where a pack is asked for, in the rest.
   pub received : Option Received
   pub rest : List ℕ
-  pub replied : (more : List ℕ) → answer_in (bound_of g) (pack_stage g before (listed_in outcome)) (behind ++ more) ≡ Ok (received, rest ++ more)
+  pub replied : (more : List ℕ) → answer_in (bound_of g) (pack_stage g before (listed_in outcome)) (behind ++ more)
+      ≡ Ok (received, rest ++ more)
   -- The mappings are those of the remote's refspecs and the extra ones, with that of the tags, over what was listed.
-  pub mappings : outcome.ref_map.mappings ≡ ref_mappings (length g.remote.fetch_specs) (all_specs (inquiry_in g)) outcome.handshake.object_hash outcome.ref_map.remote_refs
+  pub mappings : outcome.ref_map.mappings ≡ ref_mappings (length g.remote.fetch_specs)
+      (all_specs (inquiry_in g)) outcome.handshake.object_hash outcome.ref_map.remote_refs
   pub specs : outcome.ref_map.refspecs ≡ g.remote.fetch_specs
   pub extra : outcome.ref_map.extra_refspecs ≡ extra_specs (inquiry_in g)
 
@@ -76,17 +78,22 @@ abbrev pub policy_at : Given → List Worktree → State → State → Policy
 policy_at g trees before after = policy_in (record before { objects = after.objects }) (manner_in g) trees
 
 -- What became of the mappings, by the policy.
-pub record IsJudged (g : Given) (trees : List Worktree) (before after : State) (received : Option Received) (outcome : Outcome) : Type 0 where
+pub record IsJudged (g : Given) (trees : List Worktree) (before after : State) (received : Option Received)
+    (outcome : Outcome) : Type 0 where
   -- Each mapping is judged by the policy.
   pub updates : Updates
-  pub verdicts : outcome_of (policy_at g trees before after) outcome.ref_map.refspecs outcome.ref_map.extra_refspecs outcome.ref_map.mappings ≡ Ok updates
+  pub verdicts : outcome_of (policy_at g trees before after) outcome.ref_map.refspecs outcome.ref_map.extra_refspecs
+      outcome.ref_map.mappings ≡ Ok updates
   -- There is one update for each mapping whose refspec is found, in order.
   pub one_each : HasOneEach outcome.ref_map.refspecs outcome.ref_map.extra_refspecs outcome.ref_map.mappings updates
   -- It tells an accepting mode exactly where that mode's row holds; in a dry run its row for a dry run.
-  pub accepts : g.options.dry_run ≡ false → AcceptsExactly (policy_at g trees before after) outcome.ref_map.refspecs outcome.ref_map.extra_refspecs outcome.ref_map.mappings updates
-  pub guesses : g.options.dry_run ≡ true → GuessesExactly (policy_at g trees before after) outcome.ref_map.refspecs outcome.ref_map.extra_refspecs outcome.ref_map.mappings updates
+  pub accepts : g.options.dry_run ≡ false → AcceptsExactly
+      (policy_at g trees before after) outcome.ref_map.refspecs outcome.ref_map.extra_refspecs outcome.ref_map.mappings updates
+  pub guesses : g.options.dry_run ≡ true → GuessesExactly
+      (policy_at g trees before after) outcome.ref_map.refspecs outcome.ref_map.extra_refspecs outcome.ref_map.mappings updates
   -- It tells a rejecting mode exactly where that mode's row holds.
-  pub rejects : RejectsExactly (policy_at g trees before after) outcome.ref_map.refspecs outcome.ref_map.extra_refspecs outcome.ref_map.mappings updates
+  pub rejects : RejectsExactly (policy_at g trees before after) outcome.ref_map.refspecs outcome.ref_map.extra_refspecs
+      outcome.ref_map.mappings updates
   -- The outcome tells the pack, the rounds and the updates.
   pub status : outcome.status ≡ status_of g.setup.settings.git_dir g.options.dry_run received updates
 
@@ -95,7 +102,8 @@ pub record IsWritten (g : Given) (trees : List Worktree) (before after : State) 
   -- Each edit expects what was found, and writes what the remote has.
   pub carried : EditsCarryOut (policy_at g trees before after) outcome.ref_map.mappings updates
   -- What reflogs get to say of it is what its row says.
-  pub says : EditsSay (policy_at g trees before after) outcome.ref_map.refspecs outcome.ref_map.extra_refspecs outcome.ref_map.mappings updates
+  pub says : EditsSay (policy_at g trees before after) outcome.ref_map.refspecs outcome.ref_map.extra_refspecs
+      outcome.ref_map.mappings updates
   -- A change from symbolic to direct is told, and nothing else is.
   pub turns : TellsTypeChanges (policy_at g trees before after) updates
 
@@ -117,14 +125,19 @@ carried_out true edits = []
 carried_out false edits = edits
 
 -- What is left of the repository.
-pub record IsLeft (dry_run : Bool) (packed_refs : PackedRefs) (setup : Setup) (before after : State) (received : Option Received) (updates : Updates) : Type 0 where
+pub record IsLeft (dry_run : Bool) (packed_refs : PackedRefs) (setup : Setup) (before after : State) (received : Option Received)
+    (updates : Updates) : Type 0 where
   -- The objects and the border are those found with the reply's objects and shallow lines; in a dry run those found.
   pub objects : after.objects ≡ objects_with before.objects (brought dry_run received)
   pub border : after.border ≡ border_with before.border (brought dry_run received)
   pub hash : after.hash ≡ before.hash
   -- The references are those found with the edits, and so are their logs; in a dry run those found.
   pub refs : after.refs.names ≡ refs_after before.refs.names (carried_out dry_run updates.edits)
-  pub logs : after.refs.logs ≡ logs_after (record { hash = before.refs.hash; committer = setup.settings.committer; enabled = setup.logging }) before.refs.names before.refs.logs (carried_out dry_run updates.edits)
+  pub logs : after.refs.logs ≡ logs_after (record {
+    hash = before.refs.hash;
+    committer = setup.settings.committer;
+    enabled = setup.logging;
+  }) before.refs.names before.refs.logs (carried_out dry_run updates.edits)
   -- The packed list is the one found with what the edits put into it, where references are written packed, and without
   -- what they take out of it.
   pub packed : after.refs.packed ≡ packed_after packed_refs before.refs.packed (carried_out dry_run updates.edits)
@@ -149,7 +162,8 @@ is_aside g m mapping = is_included g.remote.tags && is_tag_index mapping.spec_in
 
 -- the id of each mapping is stored, implicit tags aside
 pub record HoldsMapped (g : Given) (m : RefMap) (objects : ObjectMap) : Type 0 where
-  pub each : (mapping : Mapping) (id : ObjectId) → Contains m.mappings mapping → is_aside g m mapping ≡ false → source_id mapping.remote ≡ Some id → IsStored objects id
+  pub each : (mapping : Mapping) (id : ObjectId) → Contains m.mappings mapping → is_aside g m mapping ≡ false
+      → source_id mapping.remote ≡ Some id → IsStored objects id
 
 -- A closed repository stays closed, whatever the peer sent; and, but for a dry run, it holds each id that is mapped.
 pub record IsSafe (g : Given) (before after : State) (m : RefMap) : Type 0 where
@@ -159,7 +173,8 @@ pub record IsSafe (g : Given) (before after : State) (m : RefMap) : Type 0 where
 -- ---- the headline
 
 -- What holds after a fetch that was done.
-pub record IsFetched (answers : Bool) (old new : Option Talk) (known : Option (List Worktree)) (files files_left : Option Tree) (g : Given) (before after : State) (outcome : Outcome) : Type 0 where
+pub record IsFetched (answers : Bool) (old new : Option Talk) (known : Option (List Worktree)) (files files_left : Option Tree) (g : Given)
+    (before after : State) (outcome : Outcome) : Type 0 where
   pub said : List ℕ
   pub heard : HasHeard answers old new g before said
   pub read : HasRead g before said outcome

@@ -29,7 +29,12 @@ message_of message = unwrap_or message usual_message
 
 -- how it is to be settled
 abbrev pub manner_of : Tags → FetchOptions → Manner
-manner_of tags o = record { tags = tags; dry_run = o.dry_run; packed = places_of o.write_packed_refs_only; message = message_of o.reflog_message }
+manner_of tags o = record {
+  tags = tags;
+  dry_run = o.dry_run;
+  packed = places_of o.write_packed_refs_only;
+  message = message_of o.reflog_message;
+}
 
 -- how a fetch is settled
 abbrev pub manner_in : Given → Manner

@@ -1,5 +1,6 @@
 -- Which remotes a repository finds.
-use Rattle.std.specs.Prelude.{ℕ, Bool, true, false, ◌==◌, ◌||◌, if◌then◌else◌, List, [], ◌∷◌, codes, length, option_and_then, Option, Some, None, Result, Ok, Err}
+use Rattle.std.specs.Prelude.{ℕ, Bool, true, false, ◌==◌, ◌||◌, if◌then◌else◌, List, [], ◌∷◌, codes, length, option_and_then, Option, Some}
+use Rattle.std.specs.Prelude.{None, Result, Ok, Err}
 use Rattle.std.specs.FinMap as map
 use Rattle.std.specs.List.{list_any}
 use Rattle.std.specs.Option.{option_map, option_or}
@@ -99,7 +100,8 @@ default_in sections direction = option_map (existing_in sections) (default_name_
 
 -- a place: the remote of that name, or else one at that address
 unfoldable pub placed_in : List Section → List ℕ → Result RemoteValue ExistingError
-placed_in sections text = if is_remote sections text then named_in sections text else result_map_both (λ r. r) place_refusal (remote_at text)
+placed_in sections text = if is_remote sections text then named_in sections text
+    else result_map_both (λ r. r) place_refusal (remote_at text)
 
 -- a symbol that names no remote is none
 unfoldable pub of_name : List Section → Name → Option (Result RemoteValue ExistingError)

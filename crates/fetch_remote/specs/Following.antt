@@ -61,7 +61,8 @@ abbrev pub named : Option (Result (List ℕ) LookupError) → Option (Result (Li
 named answer = option_map (result_map_both (λ name. name) name_refusal) answer
 
 -- what is told with a remote, where there is one and it isn't refused
-abbrev pub with_remote : Option (Result RemoteValue ExistingError) → (RemoteValue → Option (Result (List ℕ) Error)) → Option (Result (List ℕ) Error)
+abbrev pub with_remote : Option (Result RemoteValue ExistingError) → (RemoteValue → Option (Result (List ℕ) Error))
+    → Option (Result (List ℕ) Error)
 with_remote None f = None
 with_remote (Some (Err e)) f = Some (Err (remote_refusal e))
 with_remote (Some (Ok remote)) f = f remote
@@ -87,11 +88,13 @@ tracked_by remote there = named (option_map pushed.named (destination_in remote.
 
 -- where the branch's remote tracks a name
 unfoldable pub tracked_there : List Section → List ℕ → Direction → List ℕ → Option (Result (List ℕ) Error)
-tracked_there sections name direction there = with_remote (branch_remote_in sections (shortened name) direction) (λ remote. tracked_by remote there)
+tracked_there sections name direction there =
+    with_remote (branch_remote_in sections (shortened name) direction) (λ remote. tracked_by remote there)
 
 -- Where what a branch is called on its remote is tracked.
 unfoldable pub tracked_in : List Section → List ℕ → Direction → Bool → Option (Result (List ℕ) Error)
-tracked_in sections name direction lenient = with_name (remote_name_in sections name direction lenient) (tracked_there sections name direction)
+tracked_in sections name direction lenient = with_name (remote_name_in sections name direction lenient)
+    (tracked_there sections name direction)
 
 -- The branch that a tracking branch follows, and its remote.
 abbrev pub followed : List ℕ × RemoteParts → List ℕ × RemoteValue

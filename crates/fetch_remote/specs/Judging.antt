@@ -36,7 +36,8 @@ abbrev pub IsOnce : ℕ → ℕ → Type 0
 IsOnce before now = (now ≡ before) ⊎ (now ≡ one_more before)
 
 -- The mappings are judged by the policy over a list of worktrees, which is the one that is told.
-pub record Judges (told : Option (List Worktree)) (policy : List Worktree → Policy) (m : RefMap) (result : Result Outcome Error) : Type 0 where
+pub record Judges (told : Option (List Worktree)) (policy : List Worktree → Policy) (m : RefMap)
+    (result : Result Outcome Error) : Type 0 where
   pub trees : List Worktree
   pub listed_trees : IsTold told trees
   pub by : AnswersUnless is_free_judging (judged_of (policy trees) m) result

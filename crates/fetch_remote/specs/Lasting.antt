@@ -18,7 +18,8 @@ updates_in (statuses.Change negotiate pack updates) = updates
 
 -- No accepted update has an edit of this name.
 abbrev pub AcceptsNone : Updates → List ℕ → Type 0
-AcceptsNone o name = (u : Update) (e : RefEdit) → Contains o.updates u → IsTrue (is_accepting u.mode) → edit_for o.edits u ≡ Some e → e.name ≢ name
+AcceptsNone o name = (u : Update) (e : RefEdit) → Contains o.updates u → IsTrue (is_accepting u.mode) → edit_for o.edits u ≡ Some e
+    → e.name ≢ name
 
 -- the same fetch, with references written packed or loose
 abbrev pub with_packed : Bool → Given → Given

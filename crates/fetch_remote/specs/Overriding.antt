@@ -6,7 +6,11 @@ use Rattle.fetch_remote.specs.RepositoryValues.{Setup, logging_of, resolved_of}
 
 -- the setup with these overrides, and with this configuration in force
 abbrev pub with_overridden : Setup → List (List ℕ) → Contents → Setup
-with_overridden s overrides config = record s { overrides = overrides; settings = record s.settings { config = config }; logging = logging_of config s.workdir }
+with_overridden s overrides config = record s {
+  overrides = overrides;
+  settings = record s.settings { config = config };
+  logging = logging_of config s.workdir;
+}
 
 -- the setup of the same parts with these overrides
 abbrev pub overridden : Setup → List (List ℕ) → Option Setup

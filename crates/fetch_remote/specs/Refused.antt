@@ -27,16 +27,19 @@ use Rattle.fetch_remote.specs.declared.fetching.fetch_error.FetchError.TheVarian
 
 -- With these worktrees, and from a peer that says this and nothing else, the fetch is refused so; the peer hears these
 -- bytes, which are all requests, and this is left; of the files those found, with the keep file where that was made.
-pub record RefusesWith (g : Given) (trees : List Worktree) (before after : State) (files files_left : Option Tree) (stream heard : List ℕ) (e : FetchError) : Type 0 where
+pub record RefusesWith (g : Given) (trees : List Worktree) (before after : State) (files files_left : Option Tree) (stream heard : List ℕ)
+    (e : FetchError) : Type 0 where
   pub refused : fetched_in g trees before stream ≡ Err e
   pub requests : lines_text (requests_in g before stream) ≡ heard
   pub left : left_in g before stream ≡ after
   pub kept : AreFiles files files_left (with_keep (keep_left_in g before stream))
 
 -- The refusal is that of what was said, whatever comes after; or nothing is to come, and it is that of all that was said.
-abbrev pub IsRefusedBy : Option Talk → Given → List Worktree → State → State → Option Tree → Option Tree → List ℕ → List ℕ → FetchError → Type 0
+abbrev pub IsRefusedBy : Option Talk → Given → List Worktree → State → State → Option Tree → Option Tree → List ℕ → List ℕ
+    → FetchError → Type 0
 IsRefusedBy now g trees before after files files_left said heard e =
-    ((more : List ℕ) → RefusesWith g trees before after files files_left (said ++ more) heard e) ⊎ (IsDrained now × RefusesWith g trees before after files files_left said heard e)
+    ((more : List ℕ) → RefusesWith g trees before after files files_left (said ++ more) heard e)
+    ⊎ (IsDrained now × RefusesWith g trees before after files files_left said heard e)
 
 -- ---- where it stands
 
@@ -78,7 +81,8 @@ pub record IsTaken (g : Given) (before after : State) (files files_left : Option
   pub refs : after.refs ≡ before.refs
 
 -- The references have moved, and references, objects and border are as at Ok. The keep file stands.
-pub record IsMoved (g : Given) (trees : List Worktree) (before after : State) (files files_left : Option Tree) (said path : List ℕ) : Type 0 where
+pub record IsMoved (g : Given) (trees : List Worktree) (before after : State) (files files_left : Option Tree)
+    (said path : List ℕ) : Type 0 where
   pub outcome : Outcome
   pub fetched : (more : List ℕ) → fetched_in g trees before (said ++ more) ≡ Ok (outcome, after)
   pub removed : removed_in g.setup.settings.git_dir outcome.status ≡ Some path
@@ -87,7 +91,8 @@ pub record IsMoved (g : Given) (trees : List Worktree) (before after : State) (f
 -- All is as found, but for the keep file where that was made, or all that was received is taken.
 abbrev pub IsStanding : Given → State → State → Option Tree → Option Tree → List ℕ → Type 0
 IsStanding g before after files files_left said =
-    IsFound before after files files_left ⊎ (((path : List ℕ) × IsMade g before after files files_left said path) ⊎ IsTaken g before after files files_left said)
+    IsFound before after files files_left ⊎ (((path : List ℕ) × IsMade g before after files files_left said path)
+    ⊎ IsTaken g before after files files_left said)
 
 -- ---- counted refusals
 
@@ -139,7 +144,8 @@ is_early (errors.Receive e) = settling.is_early e
 is_early errors.NoMemory = false
 
 -- What is said of a counted refusal in place of a cause. Where the worktrees fail, all that was received is taken.
-pub record IsCounted (g : Given) (trees : List Worktree) (before after : State) (files files_left : Option Tree) (said heard : List ℕ) (e : FetchError) : Type 0 where
+pub record IsCounted (g : Given) (trees : List Worktree) (before after : State) (files files_left : Option Tree) (said heard : List ℕ)
+    (e : FetchError) : Type 0 where
   pub transport : e ≡ errors.Prepare (prepare.RefMap ref_map.Transport) → IsCutListing g before after files files_left said heard
   pub interrupted : e ≡ interrupted_listing → IsCutListing g before after files files_left said heard
   pub client : e ≡ errors.Receive receive.Client → IsCutReceiving g before after files files_left said heard
@@ -151,7 +157,8 @@ pub record IsCounted (g : Given) (trees : List Worktree) (before after : State) 
 -- ---- the refusal
 
 -- What holds after a fetch that was refused.
-pub record IsRefused (answers : Bool) (old new : Option Talk) (known : Option (List Worktree)) (files files_left : Option Tree) (g : Given) (before after : State) (e : FetchError) : Type 0 where
+pub record IsRefused (answers : Bool) (old new : Option Talk) (known : Option (List Worktree)) (files files_left : Option Tree) (g : Given)
+    (before after : State) (e : FetchError) : Type 0 where
   -- What the peer gave in the call is what it said, and it heard a prefix of the requests for that. Each receive was
   -- made where it had heard all that was to be sent so far, and a reply was still awaited.
   pub said : List ℕ

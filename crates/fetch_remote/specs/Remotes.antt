@@ -18,15 +18,36 @@ pub record RemoteValue : Type 0 where
 
 -- the remote that a configuration tells
 abbrev pub value_of : RemoteParts → RemoteValue
-value_of p = record { name = p.name; urls = p.urls; push_urls = p.push_urls; fetch_specs = p.fetch_specs; push_specs = p.push_specs; tags = p.fetch_tags }
+value_of p = record {
+  name = p.name;
+  urls = p.urls;
+  push_urls = p.push_urls;
+  fetch_specs = p.fetch_specs;
+  push_specs = p.push_specs;
+  tags = p.fetch_tags;
+}
 
 -- what a configuration says of the remote
 abbrev pub parts_of : RemoteValue → RemoteParts
-parts_of r = record { name = r.name; urls = r.urls; push_urls = r.push_urls; fetch_specs = r.fetch_specs; push_specs = r.push_specs; fetch_tags = r.tags }
+parts_of r = record {
+  name = r.name;
+  urls = r.urls;
+  push_urls = r.push_urls;
+  fetch_specs = r.fetch_specs;
+  push_specs = r.push_specs;
+  fetch_tags = r.tags;
+}
 
 -- a remote without a name, which is pushed to where it is fetched from, by no refspecs
 abbrev pub nameless : List (List ℕ) → List Spec → Tags → RemoteValue
-nameless urls fetch_specs tags = record { name = None; urls = urls; push_urls = []; fetch_specs = fetch_specs; push_specs = []; tags = tags }
+nameless urls fetch_specs tags = record {
+  name = None;
+  urls = urls;
+  push_urls = [];
+  fetch_specs = fetch_specs;
+  push_specs = [];
+  tags = tags;
+}
 
 -- the refspecs for a direction
 abbrev pub specs_for : RemoteValue → Direction → List Spec

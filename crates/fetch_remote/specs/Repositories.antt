@@ -13,7 +13,16 @@ use Rattle.fetch_remote.specs.declared.repository.open_error.OpenError.TheVarian
 use Rattle.fetch_remote.specs.declared.repository.OpenOptions.{OpenOptions}
 use Rattle.fetch_remote.specs.declared.repository.Parts.{Parts}
 use Rattle.fetch_conversation.specs.declared.settings.Settings.{Settings}
-pub use Rattle.fetch_remote.specs.RepositoryValues.{State, Setup, RepositoryValue, logging_of, is_override, with_override, with_overrides, resolved_of}
+pub use Rattle.fetch_remote.specs.RepositoryValues.{
+  State,
+  Setup,
+  RepositoryValue,
+  logging_of,
+  is_override,
+  with_override,
+  with_overrides,
+  resolved_of,
+}
 
 -- what a fetch may change
 abbrev pub state_of : RepositoryValue → State
@@ -63,7 +72,13 @@ state_in p = record { hash = p.store.hash; objects = p.store.objects; border = p
 
 -- the settings of the parts, with this configuration in force
 abbrev pub settings_with : Parts → Contents → Settings
-settings_with p config = record { kind = p.store.hash; config = config; lenient = p.options.lenient_config; git_dir = p.git_dir; committer = p.committer }
+settings_with p config = record {
+  kind = p.store.hash;
+  config = config;
+  lenient = p.options.lenient_config;
+  git_dir = p.git_dir;
+  committer = p.committer;
+}
 
 -- the setup of the parts, with this configuration in force
 abbrev pub setup_with : Parts → Contents → Setup
@@ -84,7 +99,11 @@ setup_in p = option_map (setup_with p) (resolved_of p.options.base p.local p.opt
 
 -- the setup with this configuration in force
 abbrev pub in_force : Setup → Contents → Contents → Setup
-in_force s local config = record s { local = local; settings = record s.settings { config = config }; logging = logging_of config s.workdir }
+in_force s local config = record s {
+  local = local;
+  settings = record s.settings { config = config };
+  logging = logging_of config s.workdir;
+}
 
 -- the setup of the same parts with another local file
 abbrev pub reopened : Setup → Contents → Option Setup

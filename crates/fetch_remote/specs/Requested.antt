@@ -42,7 +42,8 @@ first_request g = first_line (address_of g.remote) g.options.map.handshake_param
 
 -- No refspec is named, or a text can't be sent, or the line is too long.
 abbrev pub first_refusal : Given → Option PrepareError
-first_refusal g = option_or (no_specs (inquiry_in g)) (option_or (unsendable (inquiry_in g)) (option_map too_long (first_too_long (first_request g))))
+first_refusal g = option_or (no_specs (inquiry_in g))
+    (option_or (unsendable (inquiry_in g)) (option_map too_long (first_too_long (first_request g))))
 
 -- ---- the listing request
 
@@ -80,7 +81,8 @@ first_window g s l =
 
 -- the first fetch request for what was listed
 abbrev pub first_fetch : Given → State → ListedValue → List Line
-first_fetch g s l = fetch_request (asked_by (terms_in g s l)) (first_window g s l).haves (nat_lt (length (first_window g s l).haves) first_size)
+first_fetch g s l = fetch_request (asked_by (terms_in g s l)) (first_window g s l).haves
+    (nat_lt (length (first_window g s l).haves) first_size)
 
 -- Nothing is mapped, the hashes differ, a setting can't be read, or the server lacks something.
 abbrev pub fetch_refusal : Given → State → ListedValue → Option ReceiveError

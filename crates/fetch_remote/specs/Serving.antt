@@ -31,7 +31,8 @@ pub record IsAllStored (g : Given) (s : State) (capabilities : List Capability) 
   pub unwanted : wants_in g s (listed_by g capabilities refs).ref_map ≡ []
 
 -- A server lists these references, and by these answers it sends a pack of these contents.
-pub record IsServed (g : Given) (s : State) (capabilities : List Capability) (refs : List Ref) (a : Answer) (answers : List Answer) (contents : Contents) : Type 0 where
+pub record IsServed (g : Given) (s : State) (capabilities : List Capability) (refs : List Ref) (a : Answer) (answers : List Answer)
+    (contents : Contents) : Type 0 where
   pub listed : IsListed g capabilities refs
   pub packed : IsPacking (bound_of g) (terms_in g s (listed_by g capabilities refs)) (graph_of s.objects) a answers contents
 

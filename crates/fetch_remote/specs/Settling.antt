@@ -1,5 +1,6 @@
 -- What a fetch does with what it received.
-use Rattle.std.specs.Prelude.{◌≡◌, ◌≢◌, ◌⊎◌, ◌||◌, ℕ, Bool, true, false, if◌then◌else◌, List, Option, Some, None, Result, Ok, Err, codes, slice_get}
+use Rattle.std.specs.Prelude.{◌≡◌, ◌≢◌, ◌⊎◌, ◌||◌, ℕ, Bool, true, false, if◌then◌else◌, List, Option, Some, None, Result, Ok, Err, codes}
+use Rattle.std.specs.Prelude.{slice_get}
 use Rattle.std.specs.Option.{option_map, option_and_then}
 use Rattle.fetch_store.specs.declared.id.ObjectId.{ObjectId}
 use Rattle.fetch_store.specs.declared.missing.Missing.{Missing}
@@ -131,21 +132,31 @@ status_of git_dir false (Some r) updates = told_with git_dir r.negotiate r.pack 
 
 -- the outcome of a fetch
 abbrev pub outcome_in : List ℕ → Manner → ListedValue → Option Received → Updates → Outcome
-outcome_in git_dir how listed r updates = record { ref_map = listed.ref_map; handshake = listed.handshake; status = status_of git_dir how.dry_run r updates }
+outcome_in git_dir how listed r updates = record {
+  ref_map = listed.ref_map;
+  handshake = listed.handshake;
+  status = status_of git_dir how.dry_run r updates;
+}
 
 -- ---- all of it
 
 -- the outcome, and the state that is left
 abbrev pub done : Setup → Manner → ListedValue → Option Received → State → Updates → Outcome × State
-done setup how listed r s updates = (outcome_in setup.settings.git_dir how listed r updates, moved how.dry_run how.packed setup s updates.edits)
+done setup how listed r s updates = (
+  outcome_in setup.settings.git_dir how listed r updates,
+  moved how.dry_run how.packed setup s updates.edits,
+)
 
 -- The objects are taken, the mappings are judged over the state with them and these worktrees, and the references move.
-unfoldable pub settled : Setup → Manner → List Worktree → State → List ObjectId → ListedValue → Option Received → Result (Outcome × State) Error
+unfoldable pub settled : Setup → Manner → List Worktree → State → List ObjectId → ListedValue → Option Received
+    → Result (Outcome × State) Error
 settled setup how trees before wants listed r =
-    taken before wants (brought how.dry_run r) >>= λ s. judged_of (policy_in s how trees) listed.ref_map >>= λ updates. Ok (done setup how listed r s updates)
+    taken before wants (brought how.dry_run r) >>= λ s. judged_of (policy_in s how trees) listed.ref_map >>= λ updates.
+    Ok (done setup how listed r s updates)
 
 -- It was settled over a list of worktrees, which is the one that is told.
-pub record IsSettled (known : Option (List Worktree)) (setup : Setup) (how : Manner) (before : State) (wants : List ObjectId) (listed : ListedValue) (r : Option Received) (outcome : Outcome) (now : State) : Type 0 where
+pub record IsSettled (known : Option (List Worktree)) (setup : Setup) (how : Manner) (before : State) (wants : List ObjectId)
+    (listed : ListedValue) (r : Option Received) (outcome : Outcome) (now : State) : Type 0 where
   pub trees : List Worktree
   pub listed_trees : IsTold known trees
   pub by : settled setup how trees before wants listed r ≡ Ok (outcome, now)
@@ -159,11 +170,19 @@ pack_kept git_dir pack = record { num_objects = pack.0; digest = pack.1; path = 
 -- what was taken
 abbrev pub told_of : List ℕ → Bool → Option Received → Option Taken
 told_of git_dir dry_run None = None
-told_of git_dir dry_run (Some r) = Some (record { negotiate = r.negotiate; pack = option_map (pack_kept git_dir) (pack_read dry_run (Some r)) })
+told_of git_dir dry_run (Some r) = Some (record {
+  negotiate = r.negotiate;
+  pack = option_map (pack_kept git_dir) (pack_read dry_run (Some r));
+})
 
 -- what is told of it
 abbrev pub kept_told : Updates → Kept → PackOutcome
-kept_told updates k = record { num_objects = k.num_objects; digest = k.digest; keep_path = if stays updates k.num_objects then Some k.path else None }
+kept_told updates k = record {
+  num_objects = k.num_objects;
+  digest = k.digest;
+  keep_path = if stays updates k.num_objects
+      then Some k.path else None;
+}
 
 -- the status of a fetch that took this
 abbrev pub told_by : Bool → Negotiate → Option Kept → Updates → Status
@@ -274,7 +293,8 @@ pub record IsMoved (all : Result (Outcome × State) Error) (git_dir path : List 
   pub stands : AreFiles files left (with_keep (Some path))
 
 -- Why it was refused, and what that leaves: of all of it, of the taking, and of the keep file that is made.
-pub record IsUnsettledBy (all : Result (Outcome × State) Error) (took : Result State Error) (keep : Option (List ℕ)) (git_dir : List ℕ) (files left : Option Tree) (before now : State) (e : Error) : Type 0 where
+pub record IsUnsettledBy (all : Result (Outcome × State) Error) (took : Result State Error) (keep : Option (List ℕ)) (git_dir : List ℕ)
+    (files left : Option Tree) (before now : State) (e : Error) : Type 0 where
   pub why : is_free_settling e ≡ false → (all ≡ Err e) × (now ≡ kept_or before took) × AreFiles files left (with_keep (standing took keep))
   pub stands : is_late e ≡ false → IsLeft before took keep files left now
   pub unlisted : (fault : UpdateError) → is_worktree_fault fault ≡ true → e ≡ errors.UpdateRefs fault → IsTaken took keep files left now
@@ -284,7 +304,9 @@ pub record IsUnsettledBy (all : Result (Outcome × State) Error) (took : Result 
   pub unheard : (e ≢ errors.Client) × (e ≢ errors.Interrupted)
 
 -- It was refused: for its reason, over a list of worktrees, which is the one that is told.
-pub record IsUnsettled (known : Option (List Worktree)) (files left : Option Tree) (setup : Setup) (how : Manner) (before : State) (wants : List ObjectId) (listed : ListedValue) (r : Option Received) (now : State) (e : Error) : Type 0 where
+pub record IsUnsettled (known : Option (List Worktree)) (files left : Option Tree) (setup : Setup) (how : Manner) (before : State)
+    (wants : List ObjectId) (listed : ListedValue) (r : Option Received) (now : State) (e : Error) : Type 0 where
   pub trees : List Worktree
   pub listed_trees : IsTold known trees
-  pub by : IsUnsettledBy (settled setup how trees before wants listed r) (taken before wants (brought how.dry_run r)) (keep_of setup how r) setup.settings.git_dir files left before now e
+  pub by : IsUnsettledBy (settled setup how trees before wants listed r) (taken before wants (brought how.dry_run r))
+      (keep_of setup how r) setup.settings.git_dir files left before now e

@@ -28,7 +28,13 @@ use Rattle.fetch_remote.specs.declared.fetching.fetch_error.FetchError.{FetchErr
 
 -- what a remote is asked for its references
 abbrev pub inquiry_of : RemoteValue → Settings → Options → InquiryValue
-inquiry_of r settings options = record { address = address_of r; agent = agent_of settings.config; specs = r.fetch_specs; tags = r.tags; options = options }
+inquiry_of r settings options = record {
+  address = address_of r;
+  agent = agent_of settings.config;
+  specs = r.fetch_specs;
+  tags = r.tags;
+  options = options;
+}
 
 -- what the server is asked for its references
 abbrev pub inquiry_in : Given → InquiryValue
@@ -44,7 +50,11 @@ wants_in g s m = wants_of m g.remote.tags g.options.shallow (graph_of s.objects)
 
 -- what a repository shows
 abbrev pub view_with : State → RefMap → Tags → Shallow → View
-view_with s m tags shallow = record { wants = wants_of m tags shallow (graph_of s.objects); border = s.border; tips = tips_of s.refs.names (graph_of s.objects) }
+view_with s m tags shallow = record {
+  wants = wants_of m tags shallow (graph_of s.objects);
+  border = s.border;
+  tips = tips_of s.refs.names (graph_of s.objects);
+}
 
 -- what the pack is asked for by
 abbrev pub terms_in : Given → State → ListedValue → TermsValue

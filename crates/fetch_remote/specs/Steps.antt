@@ -94,7 +94,8 @@ pub record BreaksOff (answers : Bool) (old now : Option Talk) (q : InquiryValue)
 
 -- The listing broke off, with the peer left so. The peer's fault is told only where its count rose, and the interrupt was
 -- asked once before each receive.
-pub record IsUnlisted {P : Type 0} (told : P → Option Talk) (faults : P → Faults) (answers : Bool) (will will' : ℕ → Type 0) (q : InquiryValue) (before last : P) (e : PrepareError) : Type 0 where
+pub record IsUnlisted {P : Type 0} (told : P → Option Talk) (faults : P → Faults) (answers : Bool) (will will' : ℕ → Type 0)
+    (q : InquiryValue) (before last : P) (e : PrepareError) : Type 0 where
   pub off : BreaksOff answers (told before) (told last) q e
   pub counts : Counts (faults before) (faults last)
   pub transport : e ≡ prepare.RefMap ref_map.Transport → Rose (faults before) (faults last)
@@ -121,7 +122,8 @@ listing_error prepare.NoMemory = ref_map.NoMemory
 
 -- The listing broke off.
 pub record IsUninquired (answers : Bool) (old now : Option Talk) (q : InquiryValue) (e : MapError) : Type 0 where
-  pub broke : Breaks is_free_listing is_interrupted answers q.options.max_reply_bytes old now [] (inquiry_stage q.options.max_reply_bytes q) (prepare_of e)
+  pub broke : Breaks is_free_listing is_interrupted answers q.options.max_reply_bytes old now [] (inquiry_stage q.options.max_reply_bytes q)
+      (prepare_of e)
 
 -- ---- the second stage
 
@@ -134,15 +136,18 @@ pub record HasReceived (answers : Bool) (mid new : Option Talk) (g : Given) (s :
 -- What was received after the listing, or where that broke off.
 abbrev pub TalksOnBy : Bool → Option Talk → Option Talk → Given → State → Listed → Result Talked ReceiveError → Type 0
 TalksOnBy answers mid new g s listed (Ok t) = HasReceived answers mid new g s listed t
-TalksOnBy answers mid new g s listed (Err e) = Breaks is_free_receiving is_stopped answers (bound_of g) mid new (pending_of listed) (pack_stage g s (shown listed)) e
+TalksOnBy answers mid new g s listed (Err e) =
+    Breaks is_free_receiving is_stopped answers (bound_of g) mid new (pending_of listed) (pack_stage g s (shown listed)) e
 
 -- What the call leaves that holds the second stage, once this was listed.
-pub record TalksOn (answers : Bool) (mid new : Option Talk) (g : Given) (s : State) (listed : Listed) (result : Result Talked ReceiveError) : Type 0 where
+pub record TalksOn (answers : Bool) (mid new : Option Talk) (g : Given) (s : State) (listed : Listed)
+    (result : Result Talked ReceiveError) : Type 0 where
   pub held : TalksOnBy answers mid new g s listed result
 
 -- What a call leaves that goes on with what was listed. In it the peer heard the fetch requests for what it said, and no
 -- more, whatever comes after, and the reply is read in that; the rest is as in the whole fetch.
-pub record IsReceived (answers : Bool) (mid new : Option Talk) (known : Option (List Worktree)) (files files_left : Option Tree) (g : Given) (before after : State) (listed : Listed) (outcome : Outcome) : Type 0 where
+pub record IsReceived (answers : Bool) (mid new : Option Talk) (known : Option (List Worktree)) (files files_left : Option Tree) (g : Given)
+    (before after : State) (listed : Listed) (outcome : Outcome) : Type 0 where
   pub shows : listed_in outcome ≡ shown listed
   pub received : Option Received
   pub rest : List ℕ
@@ -157,19 +162,24 @@ pub record IsReceived (answers : Bool) (mid new : Option Talk) (known : Option (
   pub safe : IsSafe g before after outcome.ref_map
 
 -- A call that goes on with what was listed broke off in its conversation: all is as found.
-pub record IsCutOff (answers : Bool) (mid new : Option Talk) (files files_left : Option Tree) (g : Given) (before after : State) (listed : Listed) (e : ReceiveError) : Type 0 where
+pub record IsCutOff (answers : Bool) (mid new : Option Talk) (files files_left : Option Tree) (g : Given) (before after : State)
+    (listed : Listed) (e : ReceiveError) : Type 0 where
   pub broke : Breaks is_free_receiving is_stopped answers (bound_of g) mid new (pending_of listed) (pack_stage g before (shown listed)) e
   pub same_state : after ≡ before
   pub same_files : files_left ≡ files
 
 -- It held its conversation to the end, and what was received was refused after it.
-pub record IsTurnedDown (answers : Bool) (mid new : Option Talk) (known : Option (List Worktree)) (files files_left : Option Tree) (g : Given) (before after : State) (listed : Listed) (e : ReceiveError) : Type 0 where
+pub record IsTurnedDown (answers : Bool) (mid new : Option Talk) (known : Option (List Worktree)) (files files_left : Option Tree)
+    (g : Given) (before after : State) (listed : Listed) (e : ReceiveError) : Type 0 where
   pub received : Option Received
   pub rest : List ℕ
   pub pack : Concludes answers (bound_of g) mid new (pending_of listed) (pack_stage g before (shown listed)) received rest
-  pub unsettled : IsUnsettled known files files_left g.setup (manner_in g) before (wants_in g before listed.ref_map) (shown listed) received after e
+  pub unsettled : IsUnsettled known files files_left g.setup (manner_in g) before (wants_in g before listed.ref_map)
+      (shown listed) received after e
 
 -- Why a call that goes on with what was listed was refused, and what it leaves.
-abbrev pub IsUnreceived : Bool → Option Talk → Option Talk → Option (List Worktree) → Option Tree → Option Tree → Given → State → State → Listed → ReceiveError → Type 0
+abbrev pub IsUnreceived : Bool → Option Talk → Option Talk → Option (List Worktree) → Option Tree → Option Tree → Given → State → State
+    → Listed → ReceiveError → Type 0
 IsUnreceived answers mid new known files files_left g before after listed e =
-    IsCutOff answers mid new files files_left g before after listed e ⊎ IsTurnedDown answers mid new known files files_left g before after listed e
+    IsCutOff answers mid new files files_left g before after listed e
+    ⊎ IsTurnedDown answers mid new known files files_left g before after listed e

@@ -15,7 +15,8 @@ use Rattle.fetch_remote.specs.declared.fetching.fetch_error.FetchError.{FetchErr
 use Rattle.fetch_remote.specs.declared.fetching.talking.Talked.{Talked}
 
 -- Both stages came to their ends, one after the other; after is what was received and not read after the first.
-pub record HasTold (answers : Bool) (old new : Option Talk) (g : Given) (s : State) (listed : ListedValue) (received : Option Received) (rest : List ℕ) : Type 0 where
+pub record HasTold (answers : Bool) (old new : Option Talk) (g : Given) (s : State) (listed : ListedValue) (received : Option Received)
+    (rest : List ℕ) : Type 0 where
   pub between : Option Talk
   pub behind : List ℕ
   pub list : Concludes answers (bound_of g) old between [] (listing_stage g) listed behind

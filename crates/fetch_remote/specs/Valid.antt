@@ -33,7 +33,8 @@ pub record AreJudgeable (p : Policy) (m : RefMap) : Type 0 where
 
 -- what is judged by: the references found, and the objects with what was received
 abbrev pub policy_with : Given → List Worktree → State → Told → Policy
-policy_with g trees s told = policy_in (record s { objects = objects_with s.objects (brought g.options.dry_run told.received) }) (manner_in g) trees
+policy_with g trees s told = policy_in (record s { objects = objects_with s.objects (brought g.options.dry_run told.received) })
+    (manner_in g) trees
 
 -- What the peer says is valid input of this fetch.
 pub record IsValidInput (g : Given) (trees : List Worktree) (s : State) (stream : List ℕ) : Type 0 where
@@ -58,4 +59,5 @@ pub record HasValidInput (old new : Option Talk) (known : Option (List Worktree)
   pub said : List ℕ
   pub gave : after.given ≡ before.given ++ said
   -- They are replies to all requests of the fetch, or at least to each that was heard whole.
-  pub valid : (trees : List Worktree) → IsTold known trees → IsValidInput g trees s (said ++ after.to_come) ⊎ IsUnheard (bound_of g) (conversation g s) heard (said ++ after.to_come)
+  pub valid : (trees : List Worktree) → IsTold known trees → IsValidInput g trees s (said ++ after.to_come)
+      ⊎ IsUnheard (bound_of g) (conversation g s) heard (said ++ after.to_come)

@@ -64,10 +64,14 @@ impl Repository {
         worktrees: &mut W,
         files: &mut F,
     ) -> Result<(), Error>
-        ensures nothing { names.now ≡ [] → (result ≡ Ok tt) × ((self.new ≡ self.old) × ((worktrees.new ≡ worktrees.old) × (files.new ≡ files.old))) }
-        ensures deleted { names.now ≢ [] → OnOk result (spec.IsDeleted (W.told worktrees.old) (F.told files.old) (F.told files.new) (spec.in_order names.now) self.old self.new) }
-        ensures refused { IfErr result (spec.IsRefused (W.told worktrees.old) (F.told files.old) (setup_of self.old).settings.git_dir (spec.in_order names.now)) }
-        ensures left { IfErr result (spec.Leaves (F.told files.old) (F.told files.new) (setup_of self.old).settings.git_dir (spec.in_order names.now) (state_of self.old) (state_of self.new)) }
+        ensures nothing { names.now ≡ [] → (result ≡ Ok tt)
+            × ((self.new ≡ self.old) × ((worktrees.new ≡ worktrees.old) × (files.new ≡ files.old))) }
+        ensures deleted { names.now ≢ [] → OnOk result
+            (spec.IsDeleted (W.told worktrees.old) (F.told files.old) (F.told files.new) (spec.in_order names.now) self.old self.new) }
+        ensures refused { IfErr result (spec.IsRefused (W.told worktrees.old) (F.told files.old) (setup_of self.old).settings.git_dir
+            (spec.in_order names.now)) }
+        ensures left { IfErr result (spec.Leaves (F.told files.old) (F.told files.new) (setup_of self.old).settings.git_dir
+            (spec.in_order names.now) (state_of self.old) (state_of self.new)) }
         ensures setup { OnErr result (setup_of self.new ≡ setup_of self.old) }
         ensures unasked { IfErr result (λ e. OnTrue (spec.is_unlocal e) (worktrees.new ≡ worktrees.old)) }
         ensures listing { IsErrOf result errors.WorktreeListing → Rose (W.listing worktrees.old) (W.listing worktrees.new) }
@@ -80,7 +84,8 @@ impl Repository {
         ensures asked_once { IsOnce (W.asked worktrees.old) (W.asked worktrees.new) }
         ensures untouched { IfErr result (λ e. OnTrue (spec.is_before_files e) (files.new ≡ files.old)) }
         ensures file_fault { IfErr result (λ e. OnTrue (spec.is_file_fault e) (Rose (F.faults files.old) (F.faults files.new))) }
-        ensures in_the_way { IfErr result (spec.IsInTheWay (F.may_fail files.old) (F.told files.old) (F.told files.new) (setup_of self.old).settings.git_dir) }
+        ensures in_the_way { IfErr result (spec.IsInTheWay (F.may_fail files.old) (F.told files.old) (F.told files.new)
+            (setup_of self.old).settings.git_dir) }
         ensures counts { Counts (F.faults files.old) (F.faults files.new) }
         ensures tree { is_some (F.told files.new) ≡ is_some (F.told files.old) }
         ensures may_fail { F.may_fail files.new ≡ F.may_fail files.old }
@@ -103,10 +108,12 @@ impl Repository {
     ) -> Result<(), Error>
         ensures deleted { OnOk result (steps.IsGone (F.told files.old) (F.told files.new) names self.old self.new) }
         ensures refused { IfErr result (steps.IsNotGone (F.told files.old) (setup_of self.old).settings.git_dir names) }
-        ensures left { IfErr result (spec.Leaves (F.told files.old) (F.told files.new) (setup_of self.old).settings.git_dir names (state_of self.old) (state_of self.new)) }
+        ensures left { IfErr result (spec.Leaves (F.told files.old) (F.told files.new) (setup_of self.old).settings.git_dir names
+            (state_of self.old) (state_of self.new)) }
         ensures setup { OnErr result (setup_of self.new ≡ setup_of self.old) }
         ensures file_fault { IfErr result (λ e. OnTrue (spec.is_file_fault e) (Rose (F.faults files.old) (F.faults files.new))) }
-        ensures in_the_way { IfErr result (spec.IsInTheWay (F.may_fail files.old) (F.told files.old) (F.told files.new) (setup_of self.old).settings.git_dir) }
+        ensures in_the_way { IfErr result (spec.IsInTheWay (F.may_fail files.old) (F.told files.old) (F.told files.new)
+            (setup_of self.old).settings.git_dir) }
         ensures counts { Counts (F.faults files.old) (F.faults files.new) }
         ensures tree { is_some (F.told files.new) ≡ is_some (F.told files.old) }
         ensures may_fail { F.may_fail files.new ≡ F.may_fail files.old }
@@ -220,7 +227,8 @@ fn read_config<F: Files>(alloc: Global, path: &[u8], files: &mut F) -> Result<Fi
     ensures ok { IfOk result (steps.IsRead (F.told files.old) path.now) }
     ensures refused { IfErr result (steps.IsUnread (F.told files.old) path.now) }
     ensures io { IsErrOf result causes.Io → Rose (F.faults files.old) (F.faults files.new) }
-    ensures in_the_way { IsErrOf result causes.Io → IsRefused (F.may_fail files.old) (F.told files.old) (λ t. read_in t (parts_of path.now)) }
+    ensures in_the_way { IsErrOf result causes.Io
+        → IsRefused (F.may_fail files.old) (F.told files.old) (λ t. read_in t (parts_of path.now)) }
     ensures counts { Counts (F.faults files.old) (F.faults files.new) }
     ensures tree { F.told files.new ≡ F.told files.old }
     ensures may_fail { F.may_fail files.new ≡ F.may_fail files.old }
@@ -278,11 +286,14 @@ fn replace_file<F: Files>(
     names: List<FullName>,
     files: &mut F,
 ) -> Result<(), Error>
-    ensures ok { OnOk result (IfSome (F.told files.old) (λ t. option_and_then (λ u. renamed u (parts_of change.now.lock) (parts_of path.now)) (written t (parts_of change.now.lock) change.now.text) ≡ F.told files.new)) }
+    ensures ok { OnOk result (IfSome (F.told files.old)
+        (λ t. option_and_then (λ u. renamed u (parts_of change.now.lock) (parts_of path.now))
+        (written t (parts_of change.now.lock) change.now.text) ≡ F.told files.new)) }
     ensures refused { IfErr result (steps.IsCleanup names) }
     ensures left { IfErr result (steps.LeavesTree (F.told files.old) (F.told files.new) change.now.lock change.now.text) }
     ensures fault { IfErr result (λ e. OnTrue (spec.is_file_fault e) (Rose (F.faults files.old) (F.faults files.new))) }
-    ensures in_the_way { IfErr result (steps.IsBarred (F.may_fail files.old) (F.told files.old) (F.told files.new) change.now.lock path.now change.now.text) }
+    ensures in_the_way { IfErr result (steps.IsBarred (F.may_fail files.old) (F.told files.old)
+        (F.told files.new) change.now.lock path.now change.now.text) }
     ensures counts { Counts (F.faults files.old) (F.faults files.new) }
     ensures tree { is_some (F.told files.new) ≡ is_some (F.told files.old) }
     ensures may_fail { F.may_fail files.new ≡ F.may_fail files.old }

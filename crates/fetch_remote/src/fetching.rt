@@ -73,39 +73,52 @@ impl Remote {
         worktrees: &mut W,
         options: FetchOptions,
     ) -> Result<Outcome, FetchError>
-        ensures fetched { IfOk result (λ outcome. IsFetched P.answers (P.told peer.old) (P.told peer.new) (W.told worktrees.old) (F.told files.old) (F.told files.new)
+        ensures fetched { IfOk result (λ outcome.
+            IsFetched P.answers (P.told peer.old) (P.told peer.new) (W.told worktrees.old) (F.told files.old) (F.told files.new)
             (record { remote = self.now; options = options; setup = setup_of repo.old }) (state_of repo.old) (state_of repo.new) outcome) }
-        ensures refused { IfErr result (λ e. IsRefused P.answers (P.told peer.old) (P.told peer.new) (W.told worktrees.old) (F.told files.old) (F.told files.new)
+        ensures refused { IfErr result (λ e. IsRefused P.answers (P.told peer.old) (P.told peer.new) (W.told worktrees.old)
+            (F.told files.old) (F.told files.new)
             (record { remote = self.now; options = options; setup = setup_of repo.old }) (state_of repo.old) (state_of repo.new) e) }
         ensures complete { IfErr result (λ e. HasValidInput (P.told peer.old) (P.told peer.new) (W.told worktrees.old)
             (record { remote = self.now; options = options; setup = setup_of repo.old }) (state_of repo.old) → is_free e ≡ true) }
         ensures setup { setup_of repo.new ≡ setup_of repo.old }
         ensures counts { Counts (P.faults peer.old) (P.faults peer.new) }
-        ensures transport { IsErrOf result (errors.Prepare (prepare_errors.RefMap ref_map_errors.Transport)) → Rose (P.faults peer.old) (P.faults peer.new) }
+        ensures transport { IsErrOf result (errors.Prepare (prepare_errors.RefMap ref_map_errors.Transport))
+            → Rose (P.faults peer.old) (P.faults peer.new) }
         ensures client { IsErrOf result (errors.Receive receive_errors.Client) → Rose (P.faults peer.old) (P.faults peer.new) }
         ensures asked { Counts (I.yes interrupt.old) (I.yes interrupt.new) }
-        ensures interrupted { IsErrOf result (errors.Prepare (prepare_errors.RefMap ref_map_errors.Interrupted)) → Rose (I.yes interrupt.old) (I.yes interrupt.new) }
+        ensures interrupted { IsErrOf result (errors.Prepare (prepare_errors.RefMap ref_map_errors.Interrupted))
+            → Rose (I.yes interrupt.old) (I.yes interrupt.new) }
         ensures stopped { IsErrOf result (errors.Receive receive_errors.Interrupted) → Rose (I.yes interrupt.old) (I.yes interrupt.new) }
         ensures uninterrupted { OnOk result ((I.yes interrupt.new).count ≡ (I.yes interrupt.old).count) }
         // The interrupt is asked once before each receive, and no oftener.
-        ensures questions { IsHeeded is_yes (I.will_stop interrupt.old) (I.will_stop interrupt.new) (P.told peer.old) (P.told peer.new) result }
+        ensures questions { IsHeeded is_yes (I.will_stop interrupt.old) (I.will_stop interrupt.new) (P.told peer.old)
+            (P.told peer.new) result }
         ensures dry { options.dry_run ≡ true → files.new ≡ files.old }
-        ensures unread { IfOk result (λ outcome. made_in (setup_of repo.old).settings.git_dir outcome.status ≡ None → files.new ≡ files.old) }
+        ensures unread { IfOk result (λ outcome. made_in (setup_of repo.old).settings.git_dir outcome.status ≡ None
+            → files.new ≡ files.old) }
         ensures early { IfErr result (λ e. is_early e ≡ true → files.new ≡ files.old) }
         ensures file_counts { Counts (F.faults files.old) (F.faults files.new) }
-        ensures keep_file { (path : List ℕ) → IsErrOf result (errors.Receive (receive_errors.KeepFile path)) → Rose (F.faults files.old) (F.faults files.new) }
-        ensures in_the_way { (path : List ℕ) → IsErrOf result (errors.Receive (receive_errors.KeepFile path)) → IsBlocked (F.may_fail files.old) (F.told files.old) (with_keep (Some path)) }
-        ensures remove_keep_file { (path : List ℕ) → IsErrOf result (errors.Receive (receive_errors.RemovePackKeepFile path)) → Rose (F.faults files.old) (F.faults files.new) }
-        ensures removable { (path : List ℕ) → IsErrOf result (errors.Receive (receive_errors.RemovePackKeepFile path)) → F.may_fail files.old ≡ false → F.told files.old ≡ None }
+        ensures keep_file { (path : List ℕ) → IsErrOf result (errors.Receive (receive_errors.KeepFile path))
+            → Rose (F.faults files.old) (F.faults files.new) }
+        ensures in_the_way { (path : List ℕ) → IsErrOf result (errors.Receive (receive_errors.KeepFile path))
+            → IsBlocked (F.may_fail files.old) (F.told files.old) (with_keep (Some path)) }
+        ensures remove_keep_file { (path : List ℕ) → IsErrOf result (errors.Receive (receive_errors.RemovePackKeepFile path))
+            → Rose (F.faults files.old) (F.faults files.new) }
+        ensures removable { (path : List ℕ) → IsErrOf result (errors.Receive (receive_errors.RemovePackKeepFile path))
+            → F.may_fail files.old ≡ false → F.told files.old ≡ None }
         ensures may_fail { F.may_fail files.new ≡ F.may_fail files.old }
         ensures told { W.told worktrees.new ≡ W.told worktrees.old }
         ensures asked_once { IsOnce (W.asked worktrees.old) (W.asked worktrees.new) }
         ensures listing_counts { Counts (W.listing worktrees.old) (W.listing worktrees.new) }
         ensures open_repo_counts { Counts (W.open_repo worktrees.old) (W.open_repo worktrees.new) }
         ensures follow_symref_counts { Counts (W.follow_symref worktrees.old) (W.follow_symref worktrees.new) }
-        ensures listing { IsErrOf result (errors.Receive (receive_errors.UpdateRefs update_errors.WorktreeListing)) → Rose (W.listing worktrees.old) (W.listing worktrees.new) }
-        ensures open_repo { IsErrOf result (errors.Receive (receive_errors.UpdateRefs update_errors.OpenWorktreeRepo)) → Rose (W.open_repo worktrees.old) (W.open_repo worktrees.new) }
-        ensures follow_symref { IsErrOf result (errors.Receive (receive_errors.UpdateRefs update_errors.FollowSymref)) → Rose (W.follow_symref worktrees.old) (W.follow_symref worktrees.new) }
+        ensures listing { IsErrOf result (errors.Receive (receive_errors.UpdateRefs update_errors.WorktreeListing))
+            → Rose (W.listing worktrees.old) (W.listing worktrees.new) }
+        ensures open_repo { IsErrOf result (errors.Receive (receive_errors.UpdateRefs update_errors.OpenWorktreeRepo))
+            → Rose (W.open_repo worktrees.old) (W.open_repo worktrees.new) }
+        ensures follow_symref { IsErrOf result (errors.Receive (receive_errors.UpdateRefs update_errors.FollowSymref))
+            → Rose (W.follow_symref worktrees.old) (W.follow_symref worktrees.new) }
     {
         let FetchOptions {
             map,

@@ -7,7 +7,8 @@ ghost use Rattle.fetch_store.specs.Collisions.{HasDistinctIds};
 ghost use Rattle.fetch_store.specs.Stores.{AreOf};
 ghost use Rattle.fetch_conversation.specs.Conversation.{Converses};
 ghost use Rattle.fetch_conversation.specs.ConverseStage.{converse_stage};
-ghost use Rattle.fetch_conversation.specs.Errors.{is_free_listing, is_free_receiving, is_client, is_interrupted, is_stopped, is_transport, asks_nothing};
+ghost use Rattle.fetch_conversation.specs.Errors.{is_free_listing, is_free_receiving, is_client, is_interrupted, is_stopped, is_transport};
+ghost use Rattle.fetch_conversation.specs.Errors.{asks_nothing};
 ghost use Rattle.fetch_conversation.specs.ListStage.{list_stage, answer_shown, left_by, IsReady, shown, pending_of};
 ghost use Rattle.fetch_remote.specs.Stages.{inquiry_of};
 
@@ -40,12 +41,14 @@ pub fn list<P: Peer, I: Interrupt>(
     interrupt: &mut I,
     options: Options,
 ) -> Result<Listed, prepare::Error>
-    ensures held { Converses is_free_listing is_interrupted P.answers options.max_reply_bytes (P.told peer.old) (P.told peer.new) [] (left_by result)
+    ensures held { Converses is_free_listing is_interrupted P.answers options.max_reply_bytes (P.told peer.old) (P.told peer.new) []
+        (left_by result)
         (list_stage options.max_reply_bytes (inquiry_of remote.now settings.now options)) (answer_shown result) }
     ensures ready { IfOk result (λ l. IsReady l) }
     ensures bound { IfOk result (λ l. l.session.intake.bound ≡ options.max_reply_bytes) }
     ensures peer { BlamesPeer (P.faults peer.old) (P.faults peer.new) (is_told is_transport result) }
-    ensures interrupt { BlamesInterrupt (I.yes interrupt.old) (I.yes interrupt.new) (I.will_stop interrupt.old) (I.will_stop interrupt.new) (P.told peer.old) (P.told peer.new) (last_question is_interrupted result) }
+    ensures interrupt { BlamesInterrupt (I.yes interrupt.old) (I.yes interrupt.new) (I.will_stop interrupt.old) (I.will_stop interrupt.new)
+        (P.told peer.old) (P.told peer.new) (last_question is_interrupted result) }
 {
     let inquiry = Inquiry {
         address: remote.address(),
@@ -74,7 +77,8 @@ pub fn converse<R: Threads + Sync, P: Peer, I: Interrupt, Q: Progress, O: Object
     interrupt: &mut I,
 ) -> Result<Option<Received>, fetch::Error>
     requires { IsReady listed.old }
-    ensures held { Converses is_free_receiving is_stopped P.answers listed.old.session.intake.bound (P.told peer.old) (P.told peer.new) (pending_of listed.old) (pending_of listed.new)
+    ensures held { Converses is_free_receiving is_stopped P.answers listed.old.session.intake.bound (P.told peer.old) (P.told peer.new)
+        (pending_of listed.old) (pending_of listed.new)
         (converse_stage listed.old.session.intake.bound (O.graph objects.now) (record {
           listed = shown listed.old;
           settings = settings.now;
@@ -88,7 +92,8 @@ pub fn converse<R: Threads + Sync, P: Peer, I: Interrupt, Q: Progress, O: Object
     ensures kept { shown listed.new ≡ shown listed.old }
     ensures unasked { asks_nothing result ≡ true → listed.new ≡ listed.old }
     ensures peer { BlamesPeer (P.faults peer.old) (P.faults peer.new) (is_told is_client result) }
-    ensures interrupt { BlamesInterrupt (I.yes interrupt.old) (I.yes interrupt.new) (I.will_stop interrupt.old) (I.will_stop interrupt.new) (P.told peer.old) (P.told peer.new) (last_question is_stopped result) }
+    ensures interrupt { BlamesInterrupt (I.yes interrupt.old) (I.yes interrupt.new) (I.will_stop interrupt.old) (I.will_stop interrupt.new)
+        (P.told peer.old) (P.told peer.new) (last_question is_stopped result) }
 {
     let terms = Terms {
         settings,

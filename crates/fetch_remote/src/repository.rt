@@ -9,7 +9,8 @@ pub mod settings;
 pub mod thread_safe;
 pub mod threads;
 
-ghost use Rattle.std.specs.Prelude.{◌≡◌, ◌↔◌, IfOk, IfErr, IfSome, OnOk, OnErr, MatchOption, IsOkUnless, IsTrue, IsNone, Some, None, true, false, not, option_map};
+ghost use Rattle.std.specs.Prelude.{◌≡◌, ◌↔◌, IfOk, IfErr, IfSome, OnOk, OnErr, MatchOption, IsOkUnless, IsTrue, IsNone, Some, None, true};
+ghost use Rattle.std.specs.Prelude.{false, not, option_map};
 ghost use Rattle.std.specs.FinSet as set;
 ghost use Rattle.fetch_store.specs.Stores.{AreOf, collision};
 ghost use Rattle.fetch_remote.specs.declared.repository.open_error.OpenError.TheVariants as errors;
@@ -152,7 +153,14 @@ impl Model for Repository {
 
     ghost view = { λ r. record {
       state = record { hash = r.store.hash; objects = r.store.objects; border = r.border; refs = r.refs };
-      setup = record { base = r.base; local = r.local; overrides = r.overrides; workdir = r.workdir; settings = r.settings; logging = logging_of r.settings.config r.workdir };
+      setup = record {
+        base = r.base;
+        local = r.local;
+        overrides = r.overrides;
+        workdir = r.workdir;
+        settings = r.settings;
+        logging = logging_of r.settings.config r.workdir;
+      };
     } };
 
     ghost invariant = { λ r. IsWhole r.store.hash r.refs.hash r.settings r.base r.local r.overrides };
@@ -409,7 +417,8 @@ impl Repository {
     #[tactic(auto, using(crate::proofs::Overrides::memory_alone))]
     pub fn resolve_local(&self, alloc: Global, local: File) -> Result<Resolved, OpenError>
         ensures file { IfOk result (λ resolved. resolved.file ≡ local) }
-        ensures config { IfOk result (λ resolved. spec.resolved_of (setup_of self.now).base local (setup_of self.now).overrides ≡ Some resolved.config) }
+        ensures config { IfOk result (λ resolved. spec.resolved_of (setup_of self.now).base local (setup_of self.now).overrides
+            ≡ Some resolved.config) }
         ensures refused { IfErr result (λ e. e ≡ errors.NoMemory) }
     {
         let config = resolved(alloc, &self.base, &local, self.overrides.as_slice())?;
@@ -438,7 +447,8 @@ impl Repository {
     ) -> Result<(), StoreError>
         requires { AreOf (state_of self.old).hash objects.items }
         ensures ok { OnOk result (state_of self.new ≡ spec.with_pack (state_of self.old) objects.items border) }
-        ensures collision { MatchOption (collision (state_of self.old).objects objects.items) (IsOkUnless result StoreError.NoMemory) (λ id. result ≡ Err (StoreError.Collision id)) }
+        ensures collision { MatchOption (collision (state_of self.old).objects objects.items) (IsOkUnless result StoreError.NoMemory)
+            (λ id. result ≡ Err (StoreError.Collision id)) }
         ensures err { OnErr result (state_of self.new ≡ state_of self.old) }
         ensures setup { setup_of self.new ≡ setup_of self.old }
     {

@@ -14,7 +14,8 @@ use Rattle.fetch_scene.specs.Gives.{◌>>=◌}
 use Rattle.fetch_scene.specs.LineKinds.{border_of, worktree_of, tags_of, refspec_of}
 use Rattle.fetch_scene.specs.SceneConfig.{config_of}
 use Rattle.fetch_scene.specs.SceneHead.{head_of}
-use Rattle.fetch_scene.specs.SceneLines.{Placed, Lines, value_of, payload_of, delimits, flushes, next, each_with, each_of, group_of, behind_group, place_of, lines_of}
+use Rattle.fetch_scene.specs.SceneLines.{Placed, Lines, value_of, payload_of, delimits, flushes, next, each_with, each_of, group_of}
+use Rattle.fetch_scene.specs.SceneLines.{behind_group, place_of, lines_of}
 use Rattle.fetch_scene.specs.SceneOptions.{option_of, options_of}
 use Rattle.fetch_scene.specs.SceneRefs.{references_of}
 
@@ -37,7 +38,8 @@ bytes_in p = unwrap_or (payload_of p.line) []
 unfoldable pub objects_in : Kind → List Placed → Option Entries
 objects_in hash payloads = option_map (λ pack. pack.objects) (result_ok (read hash (flat_map bytes_in payloads)))
 
--- The objects at the front, whatever follows. A pack that breaks is malformed at its first payload, or where it has none at the line after it.
+-- The objects at the front, whatever follows. A pack that breaks is malformed at its first payload, or where it has none at the line after
+-- it.
 unfoldable pub pack_objects_of : Kind → Lines → Result (Entries × Lines) ℕ
 pack_objects_of hash ls = do
   objects ← ok_or (objects_in hash (group_of payload_of ls)) (place_of ls)

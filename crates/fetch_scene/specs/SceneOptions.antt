@@ -5,7 +5,8 @@ use Rattle.std.specs.Str.{bytes_eq}
 use Rattle.fetch_store.specs.Scan.{◌>>=◌, split_first}
 use Rattle.fetch_wire.specs.declared.lines.line.Line.{Line}
 use Rattle.fetch_scene.specs.declared.options.SceneOption.{SceneOption}
-use Rattle.fetch_scene.specs.declared.options.SceneOption.TheVariants.{DryRun, PackedOnly, NoFilter, Depth, Deepen, Since, Not, Parameter, Bound, Action, Message}
+use Rattle.fetch_scene.specs.declared.options.SceneOption.TheVariants.{DryRun, PackedOnly, NoFilter, Depth, Deepen, Since, Not, Parameter}
+use Rattle.fetch_scene.specs.declared.options.SceneOption.TheVariants.{Bound, Action, Message}
 use Rattle.fetch_scene.specs.declared.options.SceneOptions.{SceneOptions}
 use Rattle.fetch_negotiate.specs.declared.algorithm.Shallow.{Shallow}
 use Rattle.fetch_negotiate.specs.declared.algorithm.Shallow.TheVariants as shallow
@@ -90,7 +91,15 @@ option_of line = value_of (codes "option ") line >>= option_in
 
 -- the options where none is told
 abbrev pub no_options : SceneOptions
-no_options = record { dry_run = false; packed_only = false; filter = true; shallow = shallow.NoChange; parameters = []; bound = 268435456; message = None }
+no_options = record {
+  dry_run = false;
+  packed_only = false;
+  filter = true;
+  shallow = shallow.NoChange;
+  parameters = [];
+  bound = 268435456;
+  message = None;
+}
 
 -- A time takes the place of a depth, or of a time before it.
 abbrev pub with_since : ℕ → Shallow → Shallow

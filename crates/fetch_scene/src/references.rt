@@ -107,7 +107,8 @@ type Gathered = Distinct<FullName, Reference>;
 #[tactic(auto, using(crate::proofs::Gathered::has_key_is))]
 fn add(gathered: &mut Gathered, reference: Reference) -> Result<bool, NoMemory>
     ensures new { IfOk result (λ is_new. is_new ≡ not (spec.has_name gathered.old reference.name)) }
-    ensures added { OnOk result (gathered.new ≡ if spec.has_name gathered.old reference.name then gathered.old else gathered.old ++ reference ∷ []) }
+    ensures added { OnOk result (gathered.new ≡ if spec.has_name gathered.old reference.name then gathered.old else gathered.old
+        ++ reference ∷ []) }
 {
     gathered.add(reference)
 }
@@ -120,7 +121,8 @@ fn add_line(
     gathered: &mut Gathered,
     line: &Placed<'_>,
 ) -> Result<bool, NoMemory>
-    ensures { IfOk result (λ is_new. (if is_new then Some gathered.new else None) ≡ option_map (λ r. gathered.old ++ r ∷ []) (spec.new_reference hash gathered.old line.now.line)) }
+    ensures { IfOk result (λ is_new. (if is_new then Some gathered.new else None)
+        ≡ option_map (λ r. gathered.old ++ r ∷ []) (spec.new_reference hash gathered.old line.now.line)) }
 {
     match reference_at(alloc, hash, line)? {
         Some(reference) => add(gathered, reference),

@@ -10,7 +10,8 @@ pub data Act : Type 0 where
 -- an act that isn't refused, and what was sent by it
 abbrev pub Does : Serving → Act → List ℕ → Serving → Type 0
 Does s (Feeds piece) given now = (given ≡ []) × Takes s piece now None
-Does s (Sends count) given now = (count ≤ length s.outgoing) × (given ≡ take count s.outgoing) × (now ≡ record s { outgoing = drop count s.outgoing })
+Does s (Sends count) given now = (count ≤ length s.outgoing) × (given ≡ take count s.outgoing)
+    × (now ≡ record s { outgoing = drop count s.outgoing })
 
 -- acts one after another, and all that was sent
 abbrev pub DoesAll : Serving → List Act → List ℕ → Serving → Type 0

@@ -29,5 +29,6 @@ pub record IsShown (before : Serving) (front : List ℕ) (now : Serving) : Type 
 abbrev pub Hears : Option Refusal → Serving → List ℕ → ℕ → Serving → Result (Unit {0}) SendFault → Type 0
 Hears (Some refusal) before bytes count now result = (count ≡ 0) × (now ≡ before) × (result ≡ Err (fault_of refusal))
 Hears None before bytes count now (Ok u) = (count ≡ length bytes) × (now.refusal ≡ None) × Takes before bytes now None
-Hears None before bytes count now (Err sending.NoMemory) = (count ≤ length bytes) × (now.refusal ≡ Some refusals.NoMemory) × Takes before (take count bytes) now None
+Hears None before bytes count now (Err sending.NoMemory) = (count ≤ length bytes) × (now.refusal ≡ Some refusals.NoMemory)
+    × Takes before (take count bytes) now None
 Hears None before bytes count now (Err sending.Failed) = (count ≤ length bytes) × IsShown before (take count bytes) now

@@ -1,5 +1,6 @@
 -- The references that a server offers, and its greeting.
-use Rattle.std.specs.Prelude.{ℕ, Bool, true, false, ◌&&◌, ◌||◌, List, [], ◌∷◌, ◌++◌, length, nat_eq, codes, Option, Some, None, if◌then◌else◌}
+use Rattle.std.specs.Prelude.{ℕ, Bool, true, false, ◌&&◌, ◌||◌, List, [], ◌∷◌, ◌++◌, length, nat_eq, codes, Option, Some, None}
+use Rattle.std.specs.Prelude.{if◌then◌else◌}
 use Rattle.std.specs.List.{filter_map, flat_map, list_any, starts_with}
 use Rattle.std.specs.Option.{option_and_then}
 use Rattle.std.specs.Result.{result_ok}
@@ -30,7 +31,8 @@ capability name value = record { name = name; value = Some value }
 -- what a server of this hash offers
 unfoldable pub capabilities_of : Kind → List Capability
 capabilities_of hash =
-    capability (codes "ls-refs") (codes "unborn") ∷ capability (codes "fetch") (codes "shallow plain-pack plain-pack-2") ∷ capability (codes "object-format") (kind_text hash) ∷ []
+    capability (codes "ls-refs") (codes "unborn") ∷ capability (codes "fetch") (codes "shallow plain-pack plain-pack-2")
+    ∷ capability (codes "object-format") (kind_text hash) ∷ []
 
 -- ---- the references
 

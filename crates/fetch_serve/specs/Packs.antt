@@ -1,5 +1,6 @@
 -- The pack that a server gives.
-use Rattle.std.specs.Prelude.{◌≡◌, ◌⊎◌, ℕ, zero, suc, Bool, false, not, ◌&&◌, ◌||◌, List, [], ◌∷◌, ◌++◌, filter, nat_eq, codes, Option, Some, None, IsTrue, All, Contains, if◌then◌else◌}
+use Rattle.std.specs.Prelude.{◌≡◌, ◌⊎◌, ℕ, zero, suc, Bool, false, not, ◌&&◌, ◌||◌, List, [], ◌∷◌, ◌++◌, filter, nat_eq, codes, Option}
+use Rattle.std.specs.Prelude.{Some, None, IsTrue, All, Contains, if◌then◌else◌}
 use Rattle.std.specs.FinSet as set
 use Rattle.std.specs.FinMap as finmap
 use Rattle.std.specs.List.{flat_map, starts_with}
@@ -177,8 +178,10 @@ pack_of d r = pack_at d r (depth_of d r)
 
 -- Where both hold an id that is in the client's border or reached from its haves, they hold one object there.
 pub record Agrees (d : Data) (client : Holding) (haves : List ObjectId) : Type 0 where
-  pub border : (id : ObjectId) (o p : Stored) → IsTrue (set.contains client.border id) → finmap.get client.objects id ≡ Some o → finmap.get d.objects id ≡ Some p → o ≡ p
-  pub reached : (id : ObjectId) (o p : Stored) → Reached client haves id → finmap.get client.objects id ≡ Some o → finmap.get d.objects id ≡ Some p → o ≡ p
+  pub border : (id : ObjectId) (o p : Stored) → IsTrue (set.contains client.border id) → finmap.get client.objects id ≡ Some o
+      → finmap.get d.objects id ≡ Some p → o ≡ p
+  pub reached : (id : ObjectId) (o p : Stored) → Reached client haves id → finmap.get client.objects id ≡ Some o
+      → finmap.get d.objects id ≡ Some p → o ≡ p
 
 -- A closed client that may have sent this request: its border is the one that was sent, and each have is a commit that it
 -- holds.

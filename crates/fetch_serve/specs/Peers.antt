@@ -1,5 +1,6 @@
 -- A server as the peer of a fetch.
-use Rattle.std.specs.Prelude.{◌≡◌, ℕ, ◌-◌, Bool, false, true, List, [], ◌++◌, length, take, drop, Option, Some, None, is_some, ⊤, if◌then◌else◌, refl}
+use Rattle.std.specs.Prelude.{◌≡◌, ℕ, ◌-◌, Bool, false, true, List, [], ◌++◌, length, take, drop, Option, Some, None, is_some, ⊤}
+use Rattle.std.specs.Prelude.{if◌then◌else◌, refl}
 use Rattle.std.specs.Coded.{Coded, code_by, coded_ℕ, coded_list, coded×}
 use Rattle.fetch_store.specs.Faults.{Faults}
 use Rattle.fetch_wire.specs.Talks.{Talk, Receive}
@@ -21,12 +22,14 @@ pub record ServedPeer : Type 0 where
 
 -- a receive, coded
 abbrev pub coded_receive : Coded Receive
-coded_receive = code_by (List ℕ × List ℕ) (coded× (coded_list coded_ℕ) (coded_list coded_ℕ)) (λ r. (r.heard, r.given)) (λ p. record { heard = p.0; given = p.1 }) (λ _. refl)
+coded_receive = code_by (List ℕ × List ℕ) (coded× (coded_list coded_ℕ) (coded_list coded_ℕ)) (λ r. (r.heard, r.given))
+    (λ p. record { heard = p.0; given = p.1 }) (λ _. refl)
 
 -- a peer, coded
 abbrev pub coded_peer : Coded ServedPeer
 coded_peer =
-    code_by (Data × (List ℕ × (ℕ × (List Receive × ℕ)))) (coded× coded_data (coded× (coded_list coded_ℕ) (coded× coded_ℕ (coded× (coded_list coded_receive) coded_ℕ))))
+    code_by (Data × (List ℕ × (ℕ × (List Receive × ℕ))))
+    (coded× coded_data (coded× (coded_list coded_ℕ) (coded× coded_ℕ (coded× (coded_list coded_receive) coded_ℕ))))
     (λ p. (p.served, (p.heard, (p.left, (p.receives, p.failed)))))
     (λ q. record { served = q.0; heard = q.1.0; left = q.1.1.0; receives = q.1.1.1.0; failed = q.1.1.1.1 }) (λ _. refl)
 

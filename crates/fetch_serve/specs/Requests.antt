@@ -1,5 +1,6 @@
 -- What a server is asked, read line by line.
-use Rattle.std.specs.Prelude.{ℕ, Bool, true, false, List, [], ◌∷◌, ◌++◌, length, slice_index_or, slice_get, ◌-◌, Option, Some, None, if◌then◌else◌}
+use Rattle.std.specs.Prelude.{ℕ, Bool, true, false, List, [], ◌∷◌, ◌++◌, length, slice_index_or, slice_get, ◌-◌, Option, Some, None}
+use Rattle.std.specs.Prelude.{if◌then◌else◌}
 use Rattle.std.specs.List.{list_any}
 use Rattle.std.specs.Option.{option_and_then, option_map}
 use Rattle.std.specs.Ordering.{eq_by_cmp, is_lt}
@@ -15,7 +16,8 @@ use Rattle.fetch_refs.specs.Names.{name_cmp}
 use Rattle.fetch_wire.specs.declared.lines.line.Line.{Line}
 use Rattle.fetch_wire.specs.declared.lines.line.Line.TheVariants.{Payload, Flush, Delim, End}
 use Rattle.fetch_wire.specs.LinesTold.{Tells}
-use Rattle.fetch_wire.specs.RequestWords.{command_word, format_is, plain_pack, plain_pack_2, include_tag, shallow_word, want_word, have_word, done_word}
+use Rattle.fetch_wire.specs.RequestWords.{command_word, format_is, plain_pack, plain_pack_2, include_tag, shallow_word, want_word}
+use Rattle.fetch_wire.specs.RequestWords.{have_word, done_word}
 use Rattle.fetch_wire.specs.Requests.{listing_word, kind_text}
 use Rattle.fetch_wire.specs.Stepping.{Step, goes, ends, breaks, or_breaks}
 use Rattle.fetch_wire.specs.Texts.{without_lf}
@@ -170,7 +172,8 @@ with_detail r details.Done = Some (record r { done = true })
 -- a line of a fetch request
 abbrev pub at_detail : Kind → FetchPart → FetchAsked → List ℕ → Step Reading Asked
 at_detail hash part r text =
-    or_breaks (detail_in hash text) (λ detail. or_breaks (part_after part detail) (λ next. or_breaks (with_detail r detail) (λ more. goes (reading.Details next more))))
+    or_breaks (detail_in hash text) (λ detail.
+    or_breaks (part_after part detail) (λ next. or_breaks (with_detail r detail) (λ more. goes (reading.Details next more))))
 
 -- ---- the whole
 
@@ -183,11 +186,13 @@ asked_step hash (reading.Listing listing.Delimiter) line = expects_delimiter (re
 asked_step hash (reading.Listing listing.Symrefs) line = expects symrefs_word (reading.Listing listing.Peel) line
 asked_step hash (reading.Listing listing.Peel) line = expects peel_word (reading.Listing listing.Unborn) line
 asked_step hash (reading.Listing listing.Unborn) line = by_request_line (ends (asking.Listing false [])) breaks at_unborn line
-asked_step hash (reading.Prefixes unborn prefixes) line = by_request_line (ends (asking.Listing unborn prefixes)) breaks (at_prefix unborn prefixes) line
+asked_step hash (reading.Prefixes unborn prefixes) line =
+    by_request_line (ends (asking.Listing unborn prefixes)) breaks (at_prefix unborn prefixes) line
 asked_step hash (reading.Fetch head.Format) line = expects (format_text hash) (reading.Fetch head.Delimiter) line
 asked_step hash (reading.Fetch head.Delimiter) line = expects_delimiter (reading.Fetch head.Version) line
 asked_step hash (reading.Fetch head.Version) line = by_request_line breaks breaks at_version line
-asked_step hash (reading.Details part r) line = by_request_line (if may_end part then ends (asking.Fetch r) else breaks) breaks (at_detail hash part r) line
+asked_step hash (reading.Details part r) line =
+    by_request_line (if may_end part then ends (asking.Fetch r) else breaks) breaks (at_detail hash part r) line
 
 -- what was read before the first line of a request: nothing of a conversation, or the conversation's first line
 abbrev pub start_of : Bool → Reading

@@ -1,5 +1,6 @@
 -- A server, as contracts see it.
-use Rattle.std.specs.Prelude.{◌≡◌, ℕ, Bool, true, false, List, [], ◌∷◌, ◌++◌, length, ◌≤◌, Option, Some, None, is_some, Result, Ok, Err, ⊤, ◌⊎◌, if◌then◌else◌, refl}
+use Rattle.std.specs.Prelude.{◌≡◌, ℕ, Bool, true, false, List, [], ◌∷◌, ◌++◌, length, ◌≤◌, Option, Some, None, is_some, Result, Ok, Err, ⊤}
+use Rattle.std.specs.Prelude.{◌⊎◌, if◌then◌else◌, refl}
 use Rattle.std.proofs.Common.{inl, inr}
 use Rattle.std.specs.Coded.{Coded, code_by, coded_ℕ, coded_bool, coded_list, coded_option, coded×, coded⊎}
 use Rattle.std.specs.FinMap as map
@@ -84,13 +85,15 @@ coded_refusal = code_by (ℕ ⊎ Bool) (coded⊎ coded_ℕ coded_bool) split joi
 -- what is served, coded
 abbrev pub coded_data : Coded Data
 coded_data =
-    code_by (Kind × (ObjectMap × Names)) (coded× coded_kind (coded× (map.code {R = id_cmp} coded_id coded_stored) (map.code {R = name_cmp} (coded_list coded_ℕ) coded_target)))
+    code_by (Kind × (ObjectMap × Names)) (coded× coded_kind
+    (coded× (map.code {R = id_cmp} coded_id coded_stored) (map.code {R = name_cmp} (coded_list coded_ℕ) coded_target)))
     (λ d. (d.hash, (d.objects, d.names))) (λ p. record { hash = p.0; objects = p.1.0; names = p.1.1 }) (λ _. refl)
 
 -- a server, coded
 abbrev pub coded_serving : Coded Serving
 coded_serving =
-    code_by (Data × (Bool × (List ℕ × (List ℕ × Option Refusal)))) (coded× coded_data (coded× coded_bool (coded× (coded_list coded_ℕ) (coded× (coded_list coded_ℕ) (coded_option coded_refusal)))))
+    code_by (Data × (Bool × (List ℕ × (List ℕ × Option Refusal))))
+    (coded× coded_data (coded× coded_bool (coded× (coded_list coded_ℕ) (coded× (coded_list coded_ℕ) (coded_option coded_refusal)))))
     (λ s. (s.served, (s.begun, (s.pending, (s.outgoing, s.refusal)))))
     (λ p. record { served = p.0; begun = p.1.0; pending = p.1.1.0; outgoing = p.1.1.1.0; refusal = p.1.1.1.1 }) (λ _. refl)
 
@@ -101,7 +104,8 @@ pub record Takes (before : Serving) (piece : List ℕ) (now : Serving) (why : Op
   pub served : now.served ≡ before.served
   pub begun : now.begun ≡ (asked_in before.served.hash before.begun (before.pending ++ piece)).begun
   pub pending : now.pending ≡ (asked_in before.served.hash before.begun (before.pending ++ piece)).rest
-  pub outgoing : now.outgoing ≡ before.outgoing ++ replies_to before.served (asked_in before.served.hash before.begun (before.pending ++ piece)).whole
+  pub outgoing : now.outgoing ≡ before.outgoing
+      ++ replies_to before.served (asked_in before.served.hash before.begun (before.pending ++ piece)).whole
   pub trouble : (asked_in before.served.hash before.begun (before.pending ++ piece)).trouble ≡ why
 
 -- a piece was refused: where memory ran out a front of it was taken
@@ -114,4 +118,5 @@ RefusesBy before piece now refusals.NoMemory = (front : List ℕ) × IsFront fro
 abbrev pub FeedsBy : Option Refusal → Serving → List ℕ → Serving → Result (Unit {0}) ServeError → Type 0
 FeedsBy (Some refusal) before piece now result = (result ≡ Err (error_of refusal)) × (now ≡ before)
 FeedsBy None before piece now (Ok u) = (now.refusal ≡ None) × Takes before piece now None
-FeedsBy None before piece now (Err e) = (refusal : Refusal) × (now.refusal ≡ Some refusal) × (e ≡ error_of refusal) × RefusesBy before piece now refusal
+FeedsBy None before piece now (Err e) = (refusal : Refusal) × (now.refusal ≡ Some refusal) × (e ≡ error_of refusal)
+    × RefusesBy before piece now refusal

@@ -47,7 +47,15 @@ impl Model for FetchReading {
 
     ghost Value = { FetchAsked };
 
-    ghost view = { λ r. record { version = r.version; include_tag = r.include_tag; border = r.border; depth = None; wants = r.wants; haves = r.haves; done = r.done } };
+    ghost view = { λ r. record {
+      version = r.version;
+      include_tag = r.include_tag;
+      border = r.border;
+      depth = None;
+      wants = r.wants;
+      haves = r.haves;
+      done = r.done;
+    } };
 }
 
 impl FetchReading {
@@ -214,7 +222,8 @@ pub(crate) fn read_detail(
     before: FetchReading,
     saying: Saying<'_>,
 ) -> Result<Read, NoMemory>
-    ensures { IfOk result (λ read. step_in read ≡ by_saying (if spec.may_end part then ends (asking.Fetch before) else breaks) breaks (spec.at_detail hash part before) saying.entry) }
+    ensures { IfOk result (λ read. step_in read ≡ by_saying (if spec.may_end part then ends (asking.Fetch before) else breaks) breaks
+        (spec.at_detail hash part before) saying.entry) }
 {
     match saying {
         Saying::Text(text) => add_text(hash, part, before, text),

@@ -7,7 +7,8 @@ ghost use Rattle.fetch_pack.specs.Records.{body, payloads_of};
 ghost use Rattle.fetch_serve.specs.Acts.{Act, DoesAll, fed_by};
 ghost use Rattle.fetch_serve.specs.Answers.{awaits, fails, pack_bytes, told_of};
 ghost use Rattle.fetch_serve.specs.Packs.{Depth, IsClient, IsDepth, IsNeeded, IsServed, is_needed, is_reached, pack_at, pack_of, served_of};
-ghost use Rattle.fetch_serve.specs.Replies.{error_lines, first_unoffered, is_too_large, objects_of, replies_of, replies_to, reply_lines, reply_text};
+ghost use Rattle.fetch_serve.specs.Replies.{error_lines, first_unoffered, is_too_large, objects_of, replies_of, replies_to, reply_lines};
+ghost use Rattle.fetch_serve.specs.Replies.{reply_text};
 ghost use Rattle.fetch_serve.specs.Servable.{IsServable};
 ghost use Rattle.fetch_serve.specs.Served.{Data};
 ghost use Rattle.fetch_serve.specs.Servings.{Serving, Takes, unfed};
@@ -36,7 +37,8 @@ pub fn what_is_asked_stays()
 pub fn requests_come_one_by_one()
     ensures first { (hash : Kind) (begun : Bool) (text rest : List ℕ) (asked : Asked) →
         request_at hash begun text ≡ Ok (asked, rest) → asked_in hash begun text ≡ with_first asked (asked_in hash true rest) }
-    ensures begun { (hash : Kind) (begun : Bool) (text : List ℕ) → IsBegun hash begun text → asked_in hash begun text ≡ ends_at begun text None }
+    ensures begun { (hash : Kind) (begun : Bool) (text : List ℕ) → IsBegun hash begun text
+        → asked_in hash begun text ≡ ends_at begun text None }
 {}
 
 /// Before anything was heard nothing is said.
@@ -47,7 +49,8 @@ pub fn nothing_is_said_first()
 /// What was said stays, and more may come after it. Behind a line that can't stand nothing more is said.
 pub fn replies_grow()
     ensures grow { (d : Data) (heard more : List ℕ) → (added : List ℕ) × (replies_of d (heard ++ more) ≡ replies_of d heard ++ added) }
-    ensures silent { (d : Data) (heard more : List ℕ) (e : ServeError) → (asked_in d.hash false heard).trouble ≡ Some e → replies_of d (heard ++ more) ≡ replies_of d heard }
+    ensures silent { (d : Data) (heard more : List ℕ) (e : ServeError) → (asked_in d.hash false heard).trouble ≡ Some e
+        → replies_of d (heard ++ more) ≡ replies_of d heard }
 {}
 
 /// A request is answered, and then those behind it.
@@ -61,7 +64,8 @@ pub fn replies_come_one_by_one()
 pub fn every_list_of_pieces_gives_the_replies()
     ensures goes_on { (d : Data) (acts : List Act) (given : List ℕ) (now : Serving) → DoesAll (unfed d) acts given now →
         (given ++ now.outgoing ≡ replies_of d (fed_by acts)) × ((asked_in d.hash false (fed_by acts)).trouble ≡ None) }
-    ensures refused { (d : Data) (acts : List Act) (given piece : List ℕ) (s now : Serving) (e : ServeError) → DoesAll (unfed d) acts given s → Takes s piece now (Some e) →
+    ensures refused { (d : Data) (acts : List Act) (given piece : List ℕ) (s now : Serving) (e : ServeError)
+        → DoesAll (unfed d) acts given s → Takes s piece now (Some e) →
         (given ++ now.outgoing ≡ replies_of d (fed_by acts ++ piece)) × ((asked_in d.hash false (fed_by acts ++ piece)).trouble ≡ Some e) }
 {}
 
@@ -82,23 +86,31 @@ pub fn what_is_served_is_listed()
 /// A request is answered by lines that are read back as what it asks for. Where a want isn't offered, or the pack is too large,
 /// the reply is the one line of a server that fails. Each line of the reply to a request that was read fits.
 pub fn replies_are_replies()
-    ensures told { (d : Data) (asked : Asked) → IsServable d → fails d asked ≡ false → Tells step_of (start_of (awaits d asked)) (reply_lines d asked) (told_of d asked) }
+    ensures told { (d : Data) (asked : Asked) → IsServable d → fails d asked ≡ false
+        → Tells step_of (start_of (awaits d asked)) (reply_lines d asked) (told_of d asked) }
     ensures error { (d : Data) (asked : Asked) → fails d asked ≡ true → (text : List ℕ) × (reply_lines d asked ≡ error_lines text) }
-    ensures fit { (d : Data) (begun : Bool) (text rest : List ℕ) (asked : Asked) → IsServable d → request_at d.hash begun text ≡ Ok (asked, rest) → first_too_long (reply_lines d asked) ≡ None }
+    ensures fit { (d : Data) (begun : Bool) (text rest : List ℕ) (asked : Asked) → IsServable d
+        → request_at d.hash begun text ≡ Ok (asked, rest) → first_too_long (reply_lines d asked) ≡ None }
 {}
 
 /// The pack of a request, which its reply tells, is read as the objects that are served, under their ids.
 pub fn served_packs_are_read()
     ensures { (d : Data) (r : FetchAsked) → IsServable d → is_too_large r.version (objects_of d r) ≡ false
         → read d.hash (pack_bytes d r)
-        ≡ Ok (record { objects = (pack_of d r).objects; count = length (served_of d r); digest = hashing.digest d.hash (body r.version d.hash (payloads_of (objects_of d r))) }) }
+        ≡ Ok (record {
+          objects = (pack_of d r).objects;
+          count = length (served_of d r);
+          digest = hashing.digest d.hash (body r.version d.hash (payloads_of (objects_of d r)));
+        }) }
 {}
 
 /// A pack is honest for each closed client that may have asked for it, over any rounds: more haves may have been told before. So
 /// it is whatever depth lines decide.
 pub fn served_packs_are_honest()
-    ensures pack { (d : Data) (r : FetchAsked) (client : Holding) (haves : List Id) → IsServable d → first_unoffered d r ≡ None → IsClient d r client → All (Contains haves) r.haves
+    ensures pack { (d : Data) (r : FetchAsked) (client : Holding) (haves : List Id) → IsServable d → first_unoffered d r ≡ None
+        → IsClient d r client → All (Contains haves) r.haves
         → IsHonest (record { held = client; wants = r.wants; haves = haves }) (pack_of d r) }
-    ensures any_depth { (d : Data) (r : FetchAsked) (x : Depth) (client : Holding) (haves : List Id) → IsServable d → first_unoffered d r ≡ None → IsDepth d r x → IsClient d r client → All (Contains haves) r.haves
+    ensures any_depth { (d : Data) (r : FetchAsked) (x : Depth) (client : Holding) (haves : List Id) → IsServable d
+        → first_unoffered d r ≡ None → IsDepth d r x → IsClient d r client → All (Contains haves) r.haves
         → IsHonest (record { held = client; wants = r.wants; haves = haves }) (pack_at d r x) }
 {}

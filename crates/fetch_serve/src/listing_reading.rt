@@ -36,7 +36,8 @@ fn is_rising(before: &[Text], prefix: &[u8]) -> bool
 /// The prefix of a line, where it may stand behind those before it.
 #[tactic(auto, unfolding(crate::specs::RequestTexts::prefix_word))]
 fn rising_prefix<'a>(before: &[Text], text: &'a [u8]) -> Option<&'a [u8]>
-    ensures { option_map (λ prefix. before.now ++ prefix.now ∷ []) result ≡ option_and_then (spec.if_rising before.now) (after prefix_word text.now) }
+    ensures { option_map (λ prefix. before.now ++ prefix.now ∷ []) result
+        ≡ option_and_then (spec.if_rising before.now) (after prefix_word text.now) }
 {
     let prefix = after(b"ref-prefix ", text)?;
     if is_rising(before, prefix) {
@@ -72,7 +73,8 @@ pub(crate) fn read_prefix(
     before: List<Text>,
     saying: Saying<'_>,
 ) -> Result<Read, NoMemory>
-    ensures { IfOk result (λ read. step_in read ≡ by_saying (ends (asking.Listing unborn before)) breaks (spec.at_prefix unborn before) saying.entry) }
+    ensures { IfOk result (λ read. step_in read
+        ≡ by_saying (ends (asking.Listing unborn before)) breaks (spec.at_prefix unborn before) saying.entry) }
 {
     match saying {
         Saying::Text(text) => add_prefix(alloc, unborn, before, text),

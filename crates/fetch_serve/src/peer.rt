@@ -1,6 +1,7 @@
 //! A server as the peer of a fetch.
 
-ghost use Rattle.std.specs.Prelude.{◌≡◌, ◌≤◌, ◌+◌, ◌-◌, ◌^◌, ◌++◌, ◌∷◌, ◌↔◌, [], List, ℕ, Some, length, min, true, IfOk, IsErrOf, IsTrue, OnErr};
+ghost use Rattle.std.specs.Prelude.{◌≡◌, ◌≤◌, ◌+◌, ◌-◌, ◌^◌, ◌++◌, ◌∷◌, ◌↔◌, [], List, ℕ, Some, length, min, true, IfOk, IsErrOf, IsTrue};
+ghost use Rattle.std.specs.Prelude.{OnErr};
 ghost use Rattle.fetch_serve.specs.Hearing.{Hears, fault_of};
 ghost use Rattle.fetch_serve.specs.Peers.{faults_of, told_by};
 ghost use Rattle.fetch_serve.specs.Replies.{replies_of};

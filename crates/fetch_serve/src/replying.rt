@@ -85,7 +85,8 @@ fn append_greeting(alloc: Global, hash: Kind, out: &mut Vec<u8>) -> Result<(), N
 
 fn append_listing(parts: Parts<'_>, wanted: Wanted<'_>, out: &mut Vec<u8>) -> Result<(), NoMemory>
     requires { IsServable (held_by parts) }
-    ensures { OnOk result (out.new.items ≡ out.old.items ++ lines_text (lines.listing_lines_of (offered_of (held_by parts.entry) wanted.entry.unborn wanted.entry.prefixes.now))) }
+    ensures { OnOk result (out.new.items ≡ out.old.items
+        ++ lines_text (lines.listing_lines_of (offered_of (held_by parts.entry) wanted.entry.unborn wanted.entry.prefixes.now))) }
 {
     let references = offered(parts, wanted)?;
     let lines = listing_lines(parts.alloc, &references)?;

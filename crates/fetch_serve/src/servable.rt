@@ -83,7 +83,8 @@ fn first_unservable(parts: Parts<'_>) -> Result<Option<FullName>, NoMemory>
 
 /// The first link that keeps a repository from being closed.
 fn missing_of(store: &Store, border: &Border) -> Option<Missing>
-    ensures { MatchOption result (IsClosed (holding store.now.objects border.now)) (λ link. slice_get (unclosed (holding store.now.objects border.now)) 0 ≡ Some link) }
+    ensures { MatchOption result (IsClosed (holding store.now.objects border.now))
+        (λ link. slice_get (unclosed (holding store.now.objects border.now)) 0 ≡ Some link) }
 {
     match first_missing(store, border) {
         Ok(missing) => missing,

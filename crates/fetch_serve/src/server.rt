@@ -51,7 +51,13 @@ impl<'a> Model for Server<'a> {
     ghost use Rattle.fetch_serve.specs.Parts.{held_by};
     ghost use Rattle.fetch_serve.specs.Servings.{IsKept};
 
-    ghost view = { λ s. record { served = held_by s.parts; begun = s.intake.begun; pending = s.intake.pending; outgoing = drop s.sent s.outgoing.items; refusal = s.refusal } };
+    ghost view = { λ s. record {
+      served = held_by s.parts;
+      begun = s.intake.begun;
+      pending = s.intake.pending;
+      outgoing = drop s.sent s.outgoing.items;
+      refusal = s.refusal;
+    } };
 
     ghost invariant = { λ s. IsKept (held_by s.parts) s.intake s.sent s.outgoing.items s.refusal };
 }
@@ -205,10 +211,12 @@ fn answer(
     requires servable { IsServable (held_by parts) }
     requires hash { intake.old.hash ≡ (held_by parts).hash }
     requires begun { IsBegun intake.old.hash intake.old.begun intake.old.pending }
-    ensures ok { OnOk result (Takes (state_of (held_by parts.entry) intake.old out.old.items) piece.now (state_of (held_by parts.entry) intake.new out.new.items) None) }
+    ensures ok { OnOk result (Takes (state_of (held_by parts.entry) intake.old out.old.items) piece.now
+        (state_of (held_by parts.entry) intake.new out.new.items) None) }
     ensures begun { OnOk result (IsBegun intake.new.hash intake.new.begun intake.new.pending) }
     ensures hash { intake.new.hash ≡ intake.old.hash }
-    ensures err { IfErr result (RefusesBy (state_of (held_by parts.entry) intake.old out.old.items) piece.now (state_of (held_by parts.entry) intake.new out.new.items)) }
+    ensures err { IfErr result (RefusesBy (state_of (held_by parts.entry) intake.old out.old.items) piece.now
+        (state_of (held_by parts.entry) intake.new out.new.items)) }
 {
     let mut kept = intake.len();
     match intake.feed(piece) {

@@ -44,6 +44,8 @@ pub record HasBrought (before after : Holder) (dry_run : Bool) (wants : List Obj
 
 -- What was received is refused by the state that the pass has seen, for its first reason; or memory ran out. Nothing is
 -- entered.
-pub record IsUnbrought (before after : Holder) (dry_run : Bool) (wants : List ObjectId) (r : Option Received) (e : SharedError) : Type 0 where
+pub record IsUnbrought (before after : Holder) (dry_run : Bool) (wants : List ObjectId) (r : Option Received)
+    (e : SharedError) : Type 0 where
   pub none : entries_of before.number after.front ≡ entries_of before.number before.front
-  pub why : (e ≡ errors.NoMemory) ⊎ ((reply : Received) × (brought dry_run r ≡ Some reply) × IsRefusedAt before.shared.opening before.front after.front (Take before.number wants (pack_of reply)) e)
+  pub why : (e ≡ errors.NoMemory) ⊎ ((reply : Received) × (brought dry_run r ≡ Some reply)
+      × IsRefusedAt before.shared.opening before.front after.front (Take before.number wants (pack_of reply)) e)

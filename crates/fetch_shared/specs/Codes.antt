@@ -47,7 +47,8 @@ coded_mode = code_by Bool coded_bool touches_reference mode_from mode_back
 abbrev pub coded_log : Coded LogChange
 coded_log =
     code_by (RefLog × (Bool × List ℕ)) (coded× coded_mode (coded× coded_bool coded_text))
-    (λ l. (l.mode, (l.force_create_reflog, l.message))) (λ p. record { mode = p.0; force_create_reflog = p.1.0; message = p.1.1 }) (λ _. refl)
+    (λ l. (l.mode, (l.force_create_reflog, l.message)))
+    (λ p. record { mode = p.0; force_create_reflog = p.1.0; message = p.1.1 }) (λ _. refl)
 
 -- a number for what names no value; else whether one has to stand there, and which
 abbrev split_expected : PreviousValue → ℕ ⊎ (Bool × Target)
@@ -98,12 +99,14 @@ change_back (Delete expected log) = refl
 -- a change, coded
 abbrev pub coded_change : Coded Change
 coded_change =
-    code_by ((LogChange × (PreviousValue × Target)) ⊎ (PreviousValue × RefLog)) (coded⊎ (coded× coded_log (coded× coded_expected coded_target)) (coded× coded_expected coded_mode))
+    code_by ((LogChange × (PreviousValue × Target)) ⊎ (PreviousValue × RefLog))
+    (coded⊎ (coded× coded_log (coded× coded_expected coded_target)) (coded× coded_expected coded_mode))
     split_change join_change change_back
 
 -- an edit, coded
 abbrev pub coded_edit : Coded RefEdit
-coded_edit = code_by (Change × List ℕ) (coded× coded_change coded_text) (λ e. (e.change, e.name)) (λ p. record { change = p.0; name = p.1 }) (λ _. refl)
+coded_edit = code_by (Change × List ℕ) (coded× coded_change coded_text) (λ e. (e.change, e.name))
+    (λ p. record { change = p.0; name = p.1 }) (λ _. refl)
 
 -- ---- journals
 
@@ -136,7 +139,8 @@ entry_back (entries.Delete pass names) = refl
 abbrev pub coded_entry : Coded Entry
 coded_entry =
     code_by (Taking ⊎ (Committing ⊎ Deleting))
-    (coded⊎ (coded× coded_ℕ (coded× (coded_list coded_id) (coded× (coded_list coded_id) (coded_list coded_id)))) (coded⊎ (coded× coded_ℕ (coded× (coded_list coded_edit) coded_signature)) (coded× coded_ℕ (coded_list coded_text))))
+    (coded⊎ (coded× coded_ℕ (coded× (coded_list coded_id) (coded× (coded_list coded_id) (coded_list coded_id))))
+    (coded⊎ (coded× coded_ℕ (coded× (coded_list coded_edit) coded_signature)) (coded× coded_ℕ (coded_list coded_text))))
     split_entry join_entry entry_back
 
 -- a shared state, coded

@@ -24,7 +24,8 @@ pub record HasEntered (names : List (List ℕ)) (before after : Holder) (receipt
   pub added : entries_of before.number after.front ≡ entries_of before.number before.front ++ entries.Delete before.number names ∷ []
 
 -- The branches were deleted, once no test stood against it.
-pub record HasDeleted (trees : Option (List Worktree)) (names : List (List ℕ)) (before after : Holder) (receipt : Option Receipt) : Type 0 where
+pub record HasDeleted (trees : Option (List Worktree)) (names : List (List ℕ)) (before after : Holder)
+    (receipt : Option Receipt) : Type 0 where
   pub free : AreFree trees names
   pub entered : HasEntered names before after receipt
 

@@ -11,7 +11,12 @@ use Rattle.fetch_refs.specs.Names.{RefsValue}
 
 -- without what stands at a name: a reference, a reflog, an entry of the packed list
 abbrev pub without_name : RefsValue → List ℕ → RefsValue
-without_name refs name = record { hash = refs.hash; names = map.remove refs.names name; logs = map.remove refs.logs name; packed = map.remove refs.packed name }
+without_name refs name = record {
+  hash = refs.hash;
+  names = map.remove refs.names name;
+  logs = map.remove refs.logs name;
+  packed = map.remove refs.packed name;
+}
 
 -- without what stands at these names
 abbrev pub without : RefsValue → List (List ℕ) → RefsValue

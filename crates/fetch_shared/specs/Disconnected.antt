@@ -13,17 +13,25 @@ use Rattle.fetch_shared.specs.Machine.{held}
 use Rattle.fetch_shared.specs.Talking.{Line}
 
 -- the repository at `planned`
-abbrev pub planned_in : {line : Line} {c : Call} {receipt : Receipt} {link : Missing} → IsStopped line c receipt (Disconnected link) → RepositoryValue
+abbrev pub planned_in : {line : Line} {c : Call} {receipt : Receipt} {link : Missing} → IsStopped line c receipt (Disconnected link)
+    → RepositoryValue
 planned_in h = h.conversed.seen.repository
 
 -- the repository of the front that came back, which refused the pack
-abbrev pub found_in : {line : Line} {c : Call} {receipt : Receipt} {link : Missing} → IsStopped line c receipt (Disconnected link) → RepositoryValue
+abbrev pub found_in : {line : Line} {c : Call} {receipt : Receipt} {link : Missing} → IsStopped line c receipt (Disconnected link)
+    → RepositoryValue
 found_in h = h.unsettled.refused.found.repository
 
 -- the pack that was refused
-abbrev pub refused_pack : {line : Line} {c : Call} {receipt : Receipt} {link : Missing} → IsStopped line c receipt (Disconnected link) → Pack
+abbrev pub refused_pack : {line : Line} {c : Call} {receipt : Receipt} {link : Missing}
+    → IsStopped line c receipt (Disconnected link) → Pack
 refused_pack h = pack_of h.unsettled.reply
 
 -- what the plan asked for, with these haves
-abbrev pub request_in : {line : Line} {c : Call} {receipt : Receipt} {link : Missing} → List ObjectId → IsStopped line c receipt (Disconnected link) → Request
-request_in {line} {c} haves h = record { held = held (planned_in h); wants = wants_in c.given (planned_in h).state h.told.listed.ref_map; haves = haves }
+abbrev pub request_in : {line : Line} {c : Call} {receipt : Receipt} {link : Missing} → List ObjectId
+    → IsStopped line c receipt (Disconnected link) → Request
+request_in {line} {c} haves h = record {
+  held = held (planned_in h);
+  wants = wants_in c.given (planned_in h).state h.told.listed.ref_map;
+  haves = haves;
+}

@@ -79,7 +79,8 @@ pub record HasConversed (line : Line) (c : Call) (planned : ℕ) (told : Told) :
 
 -- What the outcome tells is what was read, the rounds are those that were held, each mapping is judged by the policy over
 -- the state at `judged`, which, but for a dry run, holds each id that is mapped, and the keep file stays where no edit stands.
-pub record IsTold (line : Line) (c : Call) (planned judged : State) (trees : List Worktree) (said : List ℕ) (outcome : Outcome) : Type 0 where
+pub record IsTold (line : Line) (c : Call) (planned judged : State) (trees : List Worktree) (said : List ℕ)
+    (outcome : Outcome) : Type 0 where
   pub read : HasRead c.given planned said outcome
   pub rounds : AreHeld c.given planned (listed_in outcome) read.behind read.received
   pub verdicts : IsJudged c.given trees judged judged read.received outcome
@@ -102,7 +103,8 @@ pub record IsSharedFetch (line : Line) (c : Call) (receipt : Receipt) (outcome :
   pub receipt_is : receipt ≡ receipt_of c.before (Some count) (Some judged) place
 
 -- the repository that the verdicts saw
-abbrev pub judged_in : {line : Line} {c : Call} {receipt : Receipt} {outcome : Outcome} → IsSharedFetch line c receipt outcome → RepositoryValue
+abbrev pub judged_in : {line : Line} {c : Call} {receipt : Receipt} {outcome : Outcome} → IsSharedFetch line c receipt outcome
+    → RepositoryValue
 judged_in h = h.settled.by.taken.seen.repository
 
 -- ---- refused
@@ -146,7 +148,8 @@ pub record HasSpoken (line : Line) (g : Given) (s : State) : Type 0 where
 -- Where no plan was made, it is so of every state: what was sent lists the references.
 abbrev pub HasSpokenAt : Line → Call → Option ℕ → Type 0
 HasSpokenAt line c None = (s : State) → HasSpoken line c.given s
-HasSpokenAt line c (Some count) = (v : SharedValue) × IsStateAt c.before.shared.opening c.before.front c.after.front count v × HasSpoken line c.given v.repository.state
+HasSpokenAt line c (Some count) = (v : SharedValue) × IsStateAt c.before.shared.opening c.before.front c.after.front count v
+    × HasSpoken line c.given v.repository.state
 
 -- Memory ran out before anything was received: nothing is entered.
 pub record RanOut (line : Line) (c : Call) (receipt : Receipt) : Type 0 where
@@ -161,9 +164,12 @@ pub record RanOut (line : Line) (c : Call) (receipt : Receipt) : Type 0 where
 abbrev pub IsSharedRefused : Line → Call → Receipt → SharedError → Type 0
 IsSharedRefused line c receipt (errors.Fetch (fetch.Prepare prepare.NoMemory)) = ⊥
 IsSharedRefused line c receipt (errors.Fetch (fetch.Prepare cause)) = IsUnlisted line c receipt (fetch.Prepare cause)
-IsSharedRefused line c receipt (errors.Fetch (fetch.Receive (receive.KeepFile path))) = IsStopped line c receipt (errors.Fetch (fetch.Receive (receive.KeepFile path)))
-IsSharedRefused line c receipt (errors.Fetch (fetch.Receive (receive.UpdateRefs cause))) = IsStopped line c receipt (errors.Fetch (fetch.Receive (receive.UpdateRefs cause)))
-IsSharedRefused line c receipt (errors.Fetch (fetch.Receive (receive.RemovePackKeepFile path))) = IsStopped line c receipt (errors.Fetch (fetch.Receive (receive.RemovePackKeepFile path)))
+IsSharedRefused line c receipt (errors.Fetch (fetch.Receive (receive.KeepFile path))) =
+    IsStopped line c receipt (errors.Fetch (fetch.Receive (receive.KeepFile path)))
+IsSharedRefused line c receipt (errors.Fetch (fetch.Receive (receive.UpdateRefs cause))) =
+    IsStopped line c receipt (errors.Fetch (fetch.Receive (receive.UpdateRefs cause)))
+IsSharedRefused line c receipt (errors.Fetch (fetch.Receive (receive.RemovePackKeepFile path))) =
+    IsStopped line c receipt (errors.Fetch (fetch.Receive (receive.RemovePackKeepFile path)))
 IsSharedRefused line c receipt (errors.Fetch (fetch.Receive (receive.Disconnected link))) = ⊥
 IsSharedRefused line c receipt (errors.Fetch (fetch.Receive receive.NoMemory)) = ⊥
 IsSharedRefused line c receipt (errors.Fetch (fetch.Receive cause)) = IsUnanswered line c receipt (fetch.Receive cause)

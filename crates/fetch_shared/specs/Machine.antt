@@ -61,7 +61,8 @@ request s wants haves = record { held = held s.repository; wants = wants; haves 
 
 -- an id that would have two objects, or else the first link that would be missing
 abbrev pub take_refusal : Holding → List ObjectId → Pack → Option SharedError
-take_refusal h wants pack = option_or (option_map Collision (collision h.objects pack.objects)) (option_map Disconnected (slice_get (missing h wants pack) 0))
+take_refusal h wants pack = option_or (option_map Collision (collision h.objects pack.objects))
+    (option_map Disconnected (slice_get (missing h wants pack) 0))
 
 -- the first edit that doesn't find what it expects
 abbrev pub commit_refusal : Names → List RefEdit → Option SharedError
@@ -87,9 +88,11 @@ entered s r entry = record { repository = r; journal = s.journal ++ entry ∷ []
 abbrev pub effect : State → Event → State
 effect s Plan = s
 effect s Snapshot = s
-effect s (Take pass wants pack) = entered s (with_pack s.repository pack) (entries.Take pass (map (λ e. e.0) pack.objects) pack.shallow pack.unshallow)
+effect s (Take pass wants pack) = entered s (with_pack s.repository pack)
+    (entries.Take pass (map (λ e. e.0) pack.objects) pack.shallow pack.unshallow)
 effect s (Commit pass edits committer) =
-    entered s (with_refs s.repository (edited s.repository.setup.logging s.repository.state.refs edits committer)) (entries.Commit pass edits committer)
+    entered s (with_refs s.repository (edited s.repository.setup.logging s.repository.state.refs edits committer))
+    (entries.Commit pass edits committer)
 effect s (Delete pass names) = entered s (with_refs s.repository (without s.repository.state.refs names)) (entries.Delete pass names)
 
 -- An event that isn't allowed changes nothing.

@@ -9,7 +9,12 @@ use Rattle.fetch_refs.specs.declared.log.Signature.{Signature}
 use Rattle.fetch_remote.specs.RepositoryValues.{State, Setup, RepositoryValue}
 
 abbrev nothing_held : State
-nothing_held = record { hash = Sha1; objects = map.empty; border = set.empty; refs = record { hash = Sha1; names = map.empty; logs = map.empty; packed = map.empty } }
+nothing_held = record {
+  hash = Sha1;
+  objects = map.empty;
+  border = set.empty;
+  refs = record { hash = Sha1; names = map.empty; logs = map.empty; packed = map.empty };
+}
 
 abbrev no_file : Contents
 no_file = record { meta = record { source = Local; level = 0; path = None; trusted = false }; sections = [] }

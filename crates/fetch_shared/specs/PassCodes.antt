@@ -15,11 +15,13 @@ coded_span = code_by (ℕ × ℕ) (coded× coded_ℕ coded_ℕ) (λ s. (s.first,
 -- which shared repository a pass is of, coded
 abbrev pub coded_which : Coded Which
 coded_which =
-    code_by (TableId × RepositoryValue) (coded× table_id_coded coded_repository) (λ w. (w.table, w.opening)) (λ p. record { table = p.0; opening = p.1 }) (λ _. refl)
+    code_by (TableId × RepositoryValue) (coded× table_id_coded coded_repository) (λ w. (w.table, w.opening))
+    (λ p. record { table = p.0; opening = p.1 }) (λ _. refl)
 
 -- what a pass is seen as, coded
 abbrev pub coded_holder : Coded Holder
 coded_holder =
-    code_by (Which × (ℕ × (Span × (List Span × List Entry)))) (coded× coded_which (coded× coded_ℕ (coded× coded_span (coded× (coded_list coded_span) (coded_list coded_entry)))))
+    code_by (Which × (ℕ × (Span × (List Span × List Entry))))
+    (coded× coded_which (coded× coded_ℕ (coded× coded_span (coded× (coded_list coded_span) (coded_list coded_entry)))))
     (λ h. (h.shared, (h.number, (h.unused, (h.held, h.front)))))
     (λ p. record { shared = p.0; number = p.1.0; unused = p.1.1.0; held = p.1.1.1.0; front = p.1.1.1.1 }) (λ _. refl)

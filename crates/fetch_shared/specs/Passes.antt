@@ -39,7 +39,13 @@ pub record Holder : Type 0 where
 
 -- what a seat of this view is seen as
 abbrev pub holder_of : TableId → View → Holder
-holder_of table v = record { shared = record { table = table; opening = v.opening }; number = v.number; unused = v.unused; held = own v; front = v.front }
+holder_of table v = record {
+  shared = record { table = table; opening = v.opening };
+  number = v.number;
+  unused = v.unused;
+  held = own v;
+  front = v.front;
+}
 
 -- the seat has neither the turn nor a slot, and its view has this number and these unused ones
 pub record IsAtRest (number : ℕ) (unused : Span) (me : Me (Option SharedValue) View) : Type 0 where
@@ -62,7 +68,8 @@ pub record IsBack (before after : Holder) : Type 0 where
 -- pass's front, with no entry more of a number that the pass holds. Ok comes only where the event is allowed there, with
 -- what is told of that state, and then the pass has seen the event's entry, at the end, and what the event leaves is kept.
 -- Else it has seen what the turn found, and the refusal is that of the event there, or out of memory.
-pub record IsTurn {X : Type 0} (before after : Holder) (event : Event) (told : SharedValue → X) (answer : Result X SharedError) : Type 0 where
+pub record IsTurn {X : Type 0} (before after : Holder) (event : Event) (told : SharedValue → X)
+    (answer : Result X SharedError) : Type 0 where
   pub found : SharedValue
   pub opening : found.opening ≡ before.shared.opening
   pub kept : IsKept found

@@ -22,7 +22,13 @@ pub record Outline : Type 0 where
 
 -- all of a repository but what its objects hold
 abbrev pub outline : RepositoryValue → Outline
-outline r = record { hash = r.state.hash; ids = set_of (map.keys r.state.objects); border = r.state.border; refs = r.state.refs; setup = r.setup }
+outline r = record {
+  hash = r.state.hash;
+  ids = set_of (map.keys r.state.objects);
+  border = r.state.border;
+  refs = r.state.refs;
+  setup = r.setup;
+}
 
 -- what an entry makes of it
 abbrev pub played : Outline → Entry → Outline

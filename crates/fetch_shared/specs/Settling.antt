@@ -1,5 +1,6 @@
 -- What a fetch does with what it received, over a shared repository.
-use Rattle.std.specs.Prelude.{◌≡◌, ◌≤◌, ◌<◌, ◌⊎◌, ℕ, Bool, true, false, List, [], ◌∷◌, ◌++◌, length, Option, Some, None, Ok, Err, slice_get, ⊤}
+use Rattle.std.specs.Prelude.{◌≡◌, ◌≤◌, ◌<◌, ◌⊎◌, ℕ, Bool, true, false, List, [], ◌∷◌, ◌++◌, length, Option, Some, None, Ok, Err, slice_get}
+use Rattle.std.specs.Prelude.{⊤}
 use Rattle.std.specs.Option.{option_map}
 use Rattle.fetch_store.specs.Answers.{AnswersUnless}
 use Rattle.fetch_store.specs.Stores.{AreOf}
@@ -122,7 +123,8 @@ commit_entry m number updates = entries.Commit number updates.edits m.setup.sett
 pub record IsSettled (m : Matter) (c : Course) (judged : ℕ) (place : Option ℕ) (outcome : Outcome) : Type 0 where
   pub updates : Updates
   pub by : HasJudged m c judged updates
-  pub commits : Commits m.how.dry_run c.number judged (entries_of c.number by.taken.seen.journal) c.front (commit_entry m c.number updates) place
+  pub commits : Commits m.how.dry_run c.number judged (entries_of c.number by.taken.seen.journal) c.front
+      (commit_entry m c.number updates) place
   pub outcome_is : outcome ≡ outcome_in m.setup.settings.git_dir m.how m.told.listed m.told.received updates
   pub kept : AreFiles c.files c.left (left_tree m.setup.settings.git_dir outcome.status)
 
@@ -158,7 +160,8 @@ pub record IsUnjudged (m : Matter) (c : Course) (judged place : Option ℕ) (cau
   pub none : entries_of c.number c.front ≡ entries_of c.number taken.seen.journal
   pub trees : List Worktree
   pub listed_trees : IsTold c.known trees
-  pub why : is_worktree_fault cause ≡ false → judged_of (policy_in taken.seen.repository.state m.how trees) m.told.listed.ref_map ≡ Err (receive.UpdateRefs cause)
+  pub why : is_worktree_fault cause ≡ false → judged_of (policy_in taken.seen.repository.state m.how trees) m.told.listed.ref_map
+      ≡ Err (receive.UpdateRefs cause)
   pub kept : AreFiles c.files c.left (with_keep (keep_in m))
 
 -- What was received is taken, its keep file stands, and the edits of the verdicts are refused as they are committed.
@@ -179,7 +182,8 @@ pub record IsUnremoved (m : Matter) (c : Course) (judged place : Option ℕ) (pa
   pub judged_is : judged ≡ Some count
   pub updates : Updates
   pub by : HasJudged m c count updates
-  pub commits : Commits m.how.dry_run c.number count (entries_of c.number by.taken.seen.journal) c.front (commit_entry m c.number updates) place
+  pub commits : Commits m.how.dry_run c.number count (entries_of c.number by.taken.seen.journal) c.front
+      (commit_entry m c.number updates) place
   pub removed : removed_in m.setup.settings.git_dir (status_of m.setup.settings.git_dir m.how.dry_run m.told.received updates) ≡ Some path
   pub kept : AreFiles c.files c.left (with_keep (keep_in m))
 
@@ -270,7 +274,8 @@ abbrev pub policy_by : Brought → Manner → List Worktree → Policy
 policy_by b how trees = policy_over b.taken.refs.names b.taken.graph how.message how.tags how.dry_run trees
 
 -- The keep file stands where one was made, and each mapping has its verdict over what the taking left.
-pub record HasVerdicts (known : Option (List Worktree)) (files left : Option Tree) (git_dir : List ℕ) (how : Manner) (map : RefMap) (b : Brought) (v : Verdicts) : Type 0 where
+pub record HasVerdicts (known : Option (List Worktree)) (files left : Option Tree) (git_dir : List ℕ) (how : Manner) (map : RefMap)
+    (b : Brought) (v : Verdicts) : Type 0 where
   pub taken : v.taken ≡ kept_of git_dir b
   pub count : v.judged ≡ b.taken.place
   pub kept : AreFiles files left (with_keep (made git_dir b.pack))
@@ -284,7 +289,8 @@ pub record StopsMaking (files left : Option Tree) (git_dir : List ℕ) (b : Brou
   pub unmade : IsUnmade (made git_dir b.pack) files left s.cause
 
 -- it was made, and the mappings are refused
-pub record StopsJudging (known : Option (List Worktree)) (files left : Option Tree) (git_dir : List ℕ) (how : Manner) (map : RefMap) (b : Brought) (s : Stop) : Type 0 where
+pub record StopsJudging (known : Option (List Worktree)) (files left : Option Tree) (git_dir : List ℕ) (how : Manner) (map : RefMap)
+    (b : Brought) (s : Stop) : Type 0 where
   pub judged : s.judged ≡ Some b.taken.place
   pub kept : AreFiles files left (with_keep (made git_dir b.pack))
   pub trees : List Worktree
@@ -298,9 +304,12 @@ IsStop known files left git_dir how map b s = StopsMaking files left git_dir b s
 -- the edits are committed by a pass, but in a dry run
 abbrev pub Moves : Bool → Holder → Holder → List RefEdit → Signature → Option ℕ → Type 0
 Moves dry_run before after edits committer place =
-    Commits dry_run before.number (length before.front) (entries_of before.number before.front) after.front (entries.Commit before.number edits committer) place
+    Commits dry_run before.number (length before.front) (entries_of before.number before.front) after.front
+    (entries.Commit before.number edits committer) place
 
 -- they are refused by the state that the pass has seen then, or memory ran out
-pub record IsUnmoved (dry_run : Bool) (before after : Holder) (edits : List RefEdit) (committer : Signature) (e : SharedError) : Type 0 where
+pub record IsUnmoved (dry_run : Bool) (before after : Holder) (edits : List RefEdit) (committer : Signature)
+    (e : SharedError) : Type 0 where
   pub none : entries_of before.number after.front ≡ entries_of before.number before.front
-  pub why : (e ≡ errors.NoMemory) ⊎ ((dry_run ≡ false) × IsRefusedAt before.shared.opening before.front after.front (Commit before.number edits committer) e)
+  pub why : (e ≡ errors.NoMemory) ⊎ ((dry_run ≡ false)
+      × IsRefusedAt before.shared.opening before.front after.front (Commit before.number edits committer) e)

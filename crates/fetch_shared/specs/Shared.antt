@@ -32,14 +32,24 @@ state_of v = record { repository = v.repository; journal = v.journal }
 
 -- once an event has had its effect
 abbrev pub done : SharedValue → Event → SharedValue
-done v event = record { opening = v.opening; repository = (effect (state_of v) event).repository; journal = (effect (state_of v) event).journal }
+done v event = record {
+  opening = v.opening;
+  repository = (effect (state_of v) event).repository;
+  journal = (effect (state_of v) event).journal;
+}
 
 -- what a fetch with these mappings, tags and depth is to ask with: the number of entries, and what it wants, the border,
 -- the tips and the graph as they are now
 abbrev pub plan_of : SharedValue → RefMap → Tags → Shallow → Plan
 plan_of v mappings tags shallow =
     let graph = graph_of v.repository.state.objects in
-    record { place = length v.journal; wants = wants_of mappings tags shallow graph; border = v.repository.state.border; tips = tips_of v.repository.state.refs.names graph; graph = graph }
+    record {
+      place = length v.journal;
+      wants = wants_of mappings tags shallow graph;
+      border = v.repository.state.border;
+      tips = tips_of v.repository.state.refs.names graph;
+      graph = graph;
+    }
 
 -- what a fetch is to judge by: the number of entries, the references and the graph as they are now
 abbrev pub snapshot_of : SharedValue → Taken

@@ -74,4 +74,5 @@ pub record BrokeReceiving (line : Line) (g : Given) (before after : Holder) (pla
 
 -- the conversation broke off while listing, while planning, or while receiving
 abbrev pub HasBroken : Line → Given → Holder → Holder → Option ℕ → SharedError → Type 0
-HasBroken line g before after planned e = BrokeListing line g planned e ⊎ (BrokePlanning line g planned e ⊎ BrokeReceiving line g before after planned e)
+HasBroken line g before after planned e = BrokeListing line g planned e
+    ⊎ (BrokePlanning line g planned e ⊎ BrokeReceiving line g before after planned e)

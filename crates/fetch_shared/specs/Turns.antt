@@ -71,7 +71,8 @@ abbrev pub HasTurn : List Entry → ℕ → List View → Type 0
 HasTurn journal holder views = (v : View) × (get_elem? views holder ≡ some v) × (v.stage ≡ Turn journal)
 
 -- the words and the slot. The state at home has the journal, and opened as this repository
-pub record Stands (opening : RepositoryValue) (journal : List Entry) (turn : ℕ) (words : List ℕ) (homes : List (maybe.Option (Option SharedValue))) : Type 0 where
+pub record Stands (opening : RepositoryValue) (journal : List Entry) (turn : ℕ) (words : List ℕ)
+    (homes : List (maybe.Option (Option SharedValue))) : Type 0 where
   pub words_are : words ≡ turn ∷ length journal ∷ []
   pub turns : turn < 2
   pub home : turn ≡ 0 → (a : SharedValue) × (homes ≡ some (Some a) ∷ []) × (a.journal ≡ journal) × (a.opening ≡ opening)
@@ -112,7 +113,8 @@ turning v journal = record v { front = journal; stage = Turn journal }
 
 -- the turn was free, and the state is in hand; or it was not, and nothing changed
 abbrev pub Tries : At → Seated → ℕ → Seated → Type 0
-Tries st m found m' = (found ≡ 0 → (a : SharedValue) × (m' ≡ (record m.0 { stage = Turn a.journal }, (0, Some a) ∷ m.1)) × (a.opening ≡ m.0.opening)) × (found ≢ 0 → m' ≡ m)
+Tries st m found m' = (found ≡ 0 → (a : SharedValue) × (m' ≡ (record m.0 { stage = Turn a.journal }, (0, Some a) ∷ m.1))
+    × (a.opening ≡ m.0.opening)) × (found ≢ 0 → m' ≡ m)
 
 -- the journal goes on from the front, with no entry of a number held, and each of its entries has one of the numbers
 pub record Finds (v : View) (journal : List Entry) : Type 0 where
@@ -165,7 +167,14 @@ left_part count v = record v { unused = span (v.unused.first + count) v.unused.e
 -- what a split gives to the right
 abbrev pub right_part : ℕ → View → View
 right_part count v =
-    record { opening = v.opening; number = v.unused.first; unused = span (v.unused.first + 1) (v.unused.first + count); others = []; front = v.front; stage = Resting }
+    record {
+      opening = v.opening;
+      number = v.unused.first;
+      unused = span (v.unused.first + 1) (v.unused.first + count);
+      others = [];
+      front = v.front;
+      stage = Resting;
+    }
 
 -- a view that has just taken another one in
 abbrev pub both_parts : View → View → View

@@ -13,5 +13,6 @@ IsOf edits cause = ⊤
 
 -- the name of the edit at that place, with what was found; else out of memory, which may come for this too
 abbrev pub IsTold : List RefEdit → RefError → SharedError → Type 0
-IsTold edits (causes.Expectation index found) e = (e ≡ NoMemory) ⊎ (option_map (λ edit. EditReferences edit.name found) (slice_get edits index) ≡ Some e)
+IsTold edits (causes.Expectation index found) e = (e ≡ NoMemory)
+    ⊎ (option_map (λ edit. EditReferences edit.name found) (slice_get edits index) ≡ Some e)
 IsTold edits cause e = e ≡ NoMemory

@@ -31,7 +31,9 @@ pub record HasListing (g : Given) (stream : List ℕ) : Type 0 where
 -- No mapping is refused over the state at `judged`, where that place is told, and over the list of work trees.
 abbrev pub AreJudgeableAt : Call → Option ℕ → RefMap → Type 0
 AreJudgeableAt c judged map =
-    IfSome judged (λ count. (v : SharedValue) (trees : List Worktree) → IsStateAt c.before.shared.opening c.before.front c.after.front count v → IsTold c.known trees → AreJudgeable (policy_in v.repository.state (manner_in c.given) trees) map)
+    IfSome judged (λ count. (v : SharedValue) (trees : List Worktree)
+    → IsStateAt c.before.shared.opening c.before.front c.after.front count v → IsTold c.known trees
+    → AreJudgeable (policy_in v.repository.state (manner_in c.given) trees) map)
 
 -- The bytes are replies to the requests for a plan over this state, by their grammar, and neither the settings nor what
 -- the server offers stand against it.

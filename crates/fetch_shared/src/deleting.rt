@@ -45,9 +45,12 @@ pub fn delete_shared<R: Wait, W: Worktrees>(
     ensures listing_counts { Counts (W.listing worktrees.old) (W.listing worktrees.new) }
     ensures open_repo_counts { Counts (W.open_repo worktrees.old) (W.open_repo worktrees.new) }
     ensures follow_symref_counts { Counts (W.follow_symref worktrees.old) (W.follow_symref worktrees.new) }
-    ensures listing { IfErr result (λ r. r.1 ≡ errors.Delete causes.WorktreeListing → Rose (W.listing worktrees.old) (W.listing worktrees.new)) }
-    ensures open_repo { IfErr result (λ r. r.1 ≡ errors.Delete causes.OpenWorktreeRepo → Rose (W.open_repo worktrees.old) (W.open_repo worktrees.new)) }
-    ensures follow_symref { IfErr result (λ r. r.1 ≡ errors.Delete causes.FollowSymref → Rose (W.follow_symref worktrees.old) (W.follow_symref worktrees.new)) }
+    ensures listing { IfErr result (λ r. r.1 ≡ errors.Delete causes.WorktreeListing
+        → Rose (W.listing worktrees.old) (W.listing worktrees.new)) }
+    ensures open_repo { IfErr result (λ r. r.1 ≡ errors.Delete causes.OpenWorktreeRepo
+        → Rose (W.open_repo worktrees.old) (W.open_repo worktrees.new)) }
+    ensures follow_symref { IfErr result (λ r. r.1 ≡ errors.Delete causes.FollowSymref
+        → Rose (W.follow_symref worktrees.old) (W.follow_symref worktrees.new)) }
 {
     if names.is_empty() {
         return Ok((pass, None));

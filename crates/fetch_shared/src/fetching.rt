@@ -58,19 +58,37 @@ pub fn fetch_shared<R: Threads + Wait + Sync, P: Peer, I: Interrupt, F: Files, W
     ensures back { MatchResult result (λ r. IsBack pass r.0) (λ r. IsBack pass r.0) }
     ensures receipt { MatchResult result (λ r. IsReceipt pass r.0 r.1) (λ r. IsReceipt pass r.0 r.1) }
     ensures fetched { IfOk result (λ r. IsSharedFetch (record { answers = P.answers; old = P.told peer.old; new = P.told peer.new })
-        (record { given = given_to remote.now options pass; before = pass; after = r.0; known = W.told worktrees.old; files = F.told files.old; left = F.told files.new }) r.1 r.2) }
+        (record {
+          given = given_to remote.now options pass;
+          before = pass;
+          after = r.0;
+          known = W.told worktrees.old;
+          files = F.told files.old;
+          left = F.told files.new;
+        }) r.1 r.2) }
     ensures refused { IfErr result (λ r. IsSharedRefused (record { answers = P.answers; old = P.told peer.old; new = P.told peer.new })
-        (record { given = given_to remote.now options pass; before = pass; after = r.0; known = W.told worktrees.old; files = F.told files.old; left = F.told files.new }) r.1 r.2) }
+        (record {
+          given = given_to remote.now options pass;
+          before = pass;
+          after = r.0;
+          known = W.told worktrees.old;
+          files = F.told files.old;
+          left = F.told files.new;
+        }) r.1 r.2) }
     ensures peer { BlamesPeer (P.faults peer.old) (P.faults peer.new) (is_told (λ r. is_of_peer r.2) result) }
-    ensures interrupt { BlamesInterrupt (I.yes interrupt.old) (I.yes interrupt.new) (I.will_stop interrupt.old) (I.will_stop interrupt.new) (P.told peer.old) (P.told peer.new) (last_question (λ r. is_yes r.2) result) }
+    ensures interrupt { BlamesInterrupt (I.yes interrupt.old) (I.yes interrupt.new) (I.will_stop interrupt.old) (I.will_stop interrupt.new)
+        (P.told peer.old) (P.told peer.new) (last_question (λ r. is_yes r.2) result) }
     ensures dry { options.dry_run ≡ true → files.new ≡ files.old }
     ensures unread { IfOk result (λ r. made_in shared.now.opening.setup.settings.git_dir r.2.status ≡ None → files.new ≡ files.old) }
     ensures early { IfErr result (λ r. settling.is_early r.2 ≡ true → files.new ≡ files.old) }
     ensures file_counts { Counts (F.faults files.old) (F.faults files.new) }
     ensures keep_file { IfErr result (λ r. (path : List ℕ) → r.2 ≡ settling.unmade path → Rose (F.faults files.old) (F.faults files.new)) }
-    ensures in_the_way { IfErr result (λ r. (path : List ℕ) → r.2 ≡ settling.unmade path → IsBlocked (F.may_fail files.old) (F.told files.old) (with_keep (Some path))) }
-    ensures remove_keep_file { IfErr result (λ r. (path : List ℕ) → r.2 ≡ settling.unremoved path → Rose (F.faults files.old) (F.faults files.new)) }
-    ensures removable { IfErr result (λ r. (path : List ℕ) → r.2 ≡ settling.unremoved path → F.may_fail files.old ≡ false → F.told files.old ≡ None) }
+    ensures in_the_way { IfErr result (λ r. (path : List ℕ) → r.2 ≡ settling.unmade path
+        → IsBlocked (F.may_fail files.old) (F.told files.old) (with_keep (Some path))) }
+    ensures remove_keep_file { IfErr result (λ r. (path : List ℕ) → r.2 ≡ settling.unremoved path
+        → Rose (F.faults files.old) (F.faults files.new)) }
+    ensures removable { IfErr result (λ r. (path : List ℕ) → r.2 ≡ settling.unremoved path → F.may_fail files.old ≡ false
+        → F.told files.old ≡ None) }
     ensures may_fail { F.may_fail files.new ≡ F.may_fail files.old }
     ensures told { W.told worktrees.new ≡ W.told worktrees.old }
     ensures listing_counts { Counts (W.listing worktrees.old) (W.listing worktrees.new) }
@@ -78,9 +96,17 @@ pub fn fetch_shared<R: Threads + Wait + Sync, P: Peer, I: Interrupt, F: Files, W
     ensures follow_symref_counts { Counts (W.follow_symref worktrees.old) (W.follow_symref worktrees.new) }
     ensures listing { IfErr result (λ r. r.2 ≡ settling.unlisted → Rose (W.listing worktrees.old) (W.listing worktrees.new)) }
     ensures open_repo { IfErr result (λ r. r.2 ≡ settling.unopened → Rose (W.open_repo worktrees.old) (W.open_repo worktrees.new)) }
-    ensures follow_symref { IfErr result (λ r. r.2 ≡ settling.unfollowed → Rose (W.follow_symref worktrees.old) (W.follow_symref worktrees.new)) }
+    ensures follow_symref { IfErr result (λ r. r.2 ≡ settling.unfollowed
+        → Rose (W.follow_symref worktrees.old) (W.follow_symref worktrees.new)) }
     ensures complete { IfErr result (λ r. HasValidInput (record { answers = P.answers; old = P.told peer.old; new = P.told peer.new })
-        (record { given = given_to remote.now options pass; before = pass; after = r.0; known = W.told worktrees.old; files = F.told files.old; left = F.told files.new }) r.1 → is_free r.2 ≡ true) }
+        (record {
+          given = given_to remote.now options pass;
+          before = pass;
+          after = r.0;
+          known = W.told worktrees.old;
+          files = F.told files.old;
+          left = F.told files.new;
+        }) r.1 → is_free r.2 ≡ true) }
 {
     let number = pass.number();
     let how = match manner(alloc, remote.fetch_tags(), &options) {

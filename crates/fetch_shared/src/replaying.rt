@@ -65,7 +65,8 @@ pub fn replay(
     ensures met { OnOk result (AllMet (outline opening.now) journal.now) }
     ensures fault { IfErr result (λ e. TellsFault (outline opening.now) journal.now e) }
     ensures memory { AllMet (outline opening.now) journal.now → IfErr result (λ e. e ≡ faults.NoMemory) }
-    ensures closed { (r : RepositoryValue) → IsKept (record { opening = opening.now; repository = r; journal = journal.now }) → MatchResult result (λ left. left ≡ left_by (outline r)) (λ e. e ≡ faults.NoMemory) }
+    ensures closed { (r : RepositoryValue) → IsKept (record { opening = opening.now; repository = r; journal = journal.now })
+        → MatchResult result (λ left. left ≡ left_by (outline r)) (λ e. e ≡ faults.NoMemory) }
 {
     let mut playing = Playing::of(alloc, opening)?;
     for (place, entry) in journal.iter().enumerate() {
@@ -104,7 +105,8 @@ impl Playing {
     /// Plays one entry. After an error nothing is said of the rest.
     fn play(&mut self, alloc: Global, entry: &Entry) -> Result<(), RefError>
         ensures ok { OnOk result ((v : Outline) → Shows v self.old → Shows (played v entry.now) self.new) }
-        ensures refusal { MatchOption (unmet self.old.refs.names entry.now) (IfErr result (λ e. e ≡ causes.NoMemory)) (λ e. IsErrAnd result (IsUnlessMemory e)) }
+        ensures refusal { MatchOption (unmet self.old.refs.names entry.now) (IfErr result (λ e. e ≡ causes.NoMemory))
+            (λ e. IsErrAnd result (IsUnlessMemory e)) }
     {
         match entry {
             Entry::Take {
@@ -169,7 +171,8 @@ fn change(
     logging: bool,
 ) -> Result<(), RefError>
     ensures ok { OnOk result (refs.new ≡ edited logging refs.old edits.now committer.now) }
-    ensures refusal { MatchOption (refusal_of refs.old.names edits.now) (IfErr result (λ e. e ≡ causes.NoMemory)) (λ e. IsErrAnd result (IsUnlessMemory e)) }
+    ensures refusal { MatchOption (refusal_of refs.old.names edits.now) (IfErr result (λ e. e ≡ causes.NoMemory))
+        (λ e. IsErrAnd result (IsUnlessMemory e)) }
 {
     let prepared = refs.prepare(edits, committer, logging, PackedRefs::Never)?;
     prepared.commit();

@@ -67,19 +67,32 @@ pub(crate) fn settle_in_turns<R: Wait, F: Files, W: Worktrees>(
     requires named { IfSome talked.received (λ r. AreNamed r.objects) }
     ensures back { MatchResult result (λ r. IsBack pass r.0) (λ r. IsBack pass r.0) }
     ensures settled { IfOk result (λ r. IsSettled
-        (record { setup = shared.now.opening.setup; how = how.now; wants = talked.wants; told = record { listed = shown talked.listed; received = talked.received } })
+        (record {
+          setup = shared.now.opening.setup;
+          how = how.now;
+          wants = talked.wants;
+          told = record { listed = shown talked.listed; received = talked.received };
+        })
         (course_of pass r.0 (W.told worktrees.old) (F.told files.old) (F.told files.new)) r.1 r.2 r.3) }
     ensures refused { IfErr result (λ r. IsUnsettled
-        (record { setup = shared.now.opening.setup; how = how.now; wants = talked.wants; told = record { listed = shown talked.listed; received = talked.received } })
+        (record {
+          setup = shared.now.opening.setup;
+          how = how.now;
+          wants = talked.wants;
+          told = record { listed = shown talked.listed; received = talked.received };
+        })
         (course_of pass r.0 (W.told worktrees.old) (F.told files.old) (F.told files.new)) r.1 r.2 r.3) }
     ensures dry { how.now.dry_run ≡ true → files.new ≡ files.old }
     ensures unread { IfOk result (λ r. made_in shared.now.opening.setup.settings.git_dir r.3.status ≡ None → files.new ≡ files.old) }
     ensures early { IfErr result (λ r. is_early r.3 ≡ true → files.new ≡ files.old) }
     ensures file_counts { Counts (F.faults files.old) (F.faults files.new) }
     ensures keep_file { IfErr result (λ r. (path : Items ℕ) → r.3 ≡ spec.unmade path → Rose (F.faults files.old) (F.faults files.new)) }
-    ensures in_the_way { IfErr result (λ r. (path : Items ℕ) → r.3 ≡ spec.unmade path → IsBlocked (F.may_fail files.old) (F.told files.old) (with_keep (Some path))) }
-    ensures remove_keep_file { IfErr result (λ r. (path : Items ℕ) → r.3 ≡ spec.unremoved path → Rose (F.faults files.old) (F.faults files.new)) }
-    ensures removable { IfErr result (λ r. (path : Items ℕ) → r.3 ≡ spec.unremoved path → F.may_fail files.old ≡ false → F.told files.old ≡ None) }
+    ensures in_the_way { IfErr result (λ r. (path : Items ℕ) → r.3 ≡ spec.unmade path
+        → IsBlocked (F.may_fail files.old) (F.told files.old) (with_keep (Some path))) }
+    ensures remove_keep_file { IfErr result (λ r. (path : Items ℕ) → r.3 ≡ spec.unremoved path
+        → Rose (F.faults files.old) (F.faults files.new)) }
+    ensures removable { IfErr result (λ r. (path : Items ℕ) → r.3 ≡ spec.unremoved path → F.may_fail files.old ≡ false
+        → F.told files.old ≡ None) }
     ensures may_fail { F.may_fail files.new ≡ F.may_fail files.old }
     ensures told { W.told worktrees.new ≡ W.told worktrees.old }
     ensures listing_counts { Counts (W.listing worktrees.old) (W.listing worktrees.new) }
@@ -87,7 +100,8 @@ pub(crate) fn settle_in_turns<R: Wait, F: Files, W: Worktrees>(
     ensures follow_symref_counts { Counts (W.follow_symref worktrees.old) (W.follow_symref worktrees.new) }
     ensures listing { IfErr result (λ r. r.3 ≡ spec.unlisted → Rose (W.listing worktrees.old) (W.listing worktrees.new)) }
     ensures open_repo { IfErr result (λ r. r.3 ≡ spec.unopened → Rose (W.open_repo worktrees.old) (W.open_repo worktrees.new)) }
-    ensures follow_symref { IfErr result (λ r. r.3 ≡ spec.unfollowed → Rose (W.follow_symref worktrees.old) (W.follow_symref worktrees.new)) }
+    ensures follow_symref { IfErr result (λ r. r.3 ≡ spec.unfollowed
+        → Rose (W.follow_symref worktrees.old) (W.follow_symref worktrees.new)) }
 {
     let Talked {
         listed,
@@ -141,21 +155,28 @@ fn judge_over<F: Files, W: Worktrees>(
     files: &mut F,
     worktrees: &mut W,
 ) -> Result<Verdicts, Stop>
-    ensures verdicts { IfOk result (HasVerdicts (W.told worktrees.old) (F.told files.old) (F.told files.new) settings.now.git_dir how.now ref_map.now brought) }
-    ensures stopped { IfErr result (IsStop (W.told worktrees.old) (F.told files.old) (F.told files.new) settings.now.git_dir how.now ref_map.now brought) }
+    ensures verdicts { IfOk result (HasVerdicts (W.told worktrees.old) (F.told files.old)
+        (F.told files.new) settings.now.git_dir how.now ref_map.now brought) }
+    ensures stopped { IfErr result (IsStop (W.told worktrees.old) (F.told files.old)
+        (F.told files.new) settings.now.git_dir how.now ref_map.now brought) }
     ensures only { IfErr result (λ s. spec.IsOfJudging s.cause) }
     ensures unread { brought.pack ≡ None → files.new ≡ files.old }
     ensures counts { Counts (F.faults files.old) (F.faults files.new) }
-    ensures keep_file { IfErr result (λ s. (path : Items ℕ) → s.cause ≡ causes.KeepFile path → Rose (F.faults files.old) (F.faults files.new)) }
-    ensures in_the_way { IfErr result (λ s. (path : Items ℕ) → s.cause ≡ causes.KeepFile path → IsBlocked (F.may_fail files.old) (F.told files.old) (with_keep (Some path))) }
+    ensures keep_file { IfErr result (λ s. (path : Items ℕ) → s.cause ≡ causes.KeepFile path
+        → Rose (F.faults files.old) (F.faults files.new)) }
+    ensures in_the_way { IfErr result (λ s. (path : Items ℕ) → s.cause ≡ causes.KeepFile path
+        → IsBlocked (F.may_fail files.old) (F.told files.old) (with_keep (Some path))) }
     ensures may_fail { F.may_fail files.new ≡ F.may_fail files.old }
     ensures told { W.told worktrees.new ≡ W.told worktrees.old }
     ensures listing_counts { Counts (W.listing worktrees.old) (W.listing worktrees.new) }
     ensures open_repo_counts { Counts (W.open_repo worktrees.old) (W.open_repo worktrees.new) }
     ensures follow_symref_counts { Counts (W.follow_symref worktrees.old) (W.follow_symref worktrees.new) }
-    ensures listing { IfErr result (λ s. s.cause ≡ causes.UpdateRefs update_errors.WorktreeListing → Rose (W.listing worktrees.old) (W.listing worktrees.new)) }
-    ensures open_repo { IfErr result (λ s. s.cause ≡ causes.UpdateRefs update_errors.OpenWorktreeRepo → Rose (W.open_repo worktrees.old) (W.open_repo worktrees.new)) }
-    ensures follow_symref { IfErr result (λ s. s.cause ≡ causes.UpdateRefs update_errors.FollowSymref → Rose (W.follow_symref worktrees.old) (W.follow_symref worktrees.new)) }
+    ensures listing { IfErr result (λ s. s.cause ≡ causes.UpdateRefs update_errors.WorktreeListing
+        → Rose (W.listing worktrees.old) (W.listing worktrees.new)) }
+    ensures open_repo { IfErr result (λ s. s.cause ≡ causes.UpdateRefs update_errors.OpenWorktreeRepo
+        → Rose (W.open_repo worktrees.old) (W.open_repo worktrees.new)) }
+    ensures follow_symref { IfErr result (λ s. s.cause ≡ causes.UpdateRefs update_errors.FollowSymref
+        → Rose (W.follow_symref worktrees.old) (W.follow_symref worktrees.new)) }
 {
     let Brought {
         taken: over,
@@ -256,7 +277,8 @@ fn outcome<F: Files>(
     taken: Option<Taken>,
     updates: update::Outcome,
 ) -> Result<Outcome, SharedError>
-    ensures told { IfOk result (λ outcome. outcome ≡ record { ref_map = ref_map; handshake = handshake; status = status_by dry_run taken updates }) }
+    ensures told { IfOk result (λ outcome. outcome
+        ≡ record { ref_map = ref_map; handshake = handshake; status = status_by dry_run taken updates }) }
     ensures removed { OnOk result (AreFiles (F.told files.old) (F.told files.new) (without_keep (released_of updates taken))) }
     ensures refused { IfErr result (λ e. (path : Items ℕ) × (e ≡ spec.unremoved path) × (released_of updates taken ≡ Some path)) }
     ensures stands { OnErr result (F.told files.new ≡ F.told files.old) }

@@ -53,7 +53,8 @@ impl SharedRepository {
     /// Shares a closed repository, with no entry yet, and gives the pass that holds every number. `NotClosed` comes exactly
     /// where the repository isn't closed, with its first missing link.
     pub fn new(alloc: Global, repo: Repository) -> Result<(SharedRepository, Pass), SharedError>
-        ensures closed { MatchOption (slice_get (unclosed (held repo)) 0) (IsOkUnless result errors.NoMemory) (λ link. result ≡ Err (errors.NotClosed link)) }
+        ensures closed { MatchOption (slice_get (unclosed (held repo)) 0) (IsOkUnless result errors.NoMemory)
+            (λ link. result ≡ Err (errors.NotClosed link)) }
         ensures shared { IfOk result (λ r. (r.1.shared ≡ r.0) × (r.0.opening ≡ repo)) }
         ensures numbers { IfOk result (λ r. (r.1.number ≡ 0) × (r.1.unused ≡ span 1 18446744073709551615)) }
         ensures all { IfOk result (λ r. (n : ℕ) → n < 18446744073709551615 → Holds r.1.held n) }
@@ -98,7 +99,8 @@ impl SharedRepository {
         ensures splits { IsOk result }
         ensures shared { IfOk result (λ r. (r.0.shared ≡ self.now) × (r.1.shared ≡ self.now)) }
         ensures left { IfOk result (λ r. (r.0.number ≡ pass.number) × (r.0.unused ≡ span (pass.unused.first + numbers) pass.unused.end)) }
-        ensures right { IfOk result (λ r. (r.1.number ≡ pass.unused.first) × (r.1.unused ≡ span (pass.unused.first + 1) (pass.unused.first + numbers))) }
+        ensures right { IfOk result (λ r. (r.1.number ≡ pass.unused.first)
+            × (r.1.unused ≡ span (pass.unused.first + 1) (pass.unused.first + numbers))) }
         ensures got { IfOk result (λ r. (n : ℕ) → Holds r.1.held n ↔ ((pass.unused.first ≤ n) × (n < pass.unused.first + numbers))) }
         ensures others { IfOk result (λ r. (n : ℕ) → Holds r.0.held n ↔ (Holds pass.held n × ¬ Holds r.1.held n)) }
         ensures fronts { IfOk result (λ r. (r.0.front ≡ pass.front) × (r.1.front ≡ pass.front)) }

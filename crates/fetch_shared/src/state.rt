@@ -109,9 +109,12 @@ impl SharedState {
     ) -> Result<Taken, SharedError>
         requires of_hash { AreOf self.old.repository.state.hash objects.items }
         requires named { AreNamed objects.items }
-        ensures ok { OnOk result (self.new ≡ done self.old (Take pass wants.now (record { objects = objects.items; shallow = shallow.now; unshallow = unshallow.now }))) }
+        ensures ok { OnOk result (self.new ≡ done self.old
+            (Take pass wants.now (record { objects = objects.items; shallow = shallow.now; unshallow = unshallow.now }))) }
         ensures taken { IfOk result (λ taken. taken ≡ snapshot_of self.new) }
-        ensures refusal { RefusesUnless is_memory (refusal (state_of self.old) (Take pass wants.now (record { objects = objects.items; shallow = shallow.now; unshallow = unshallow.now }))) result }
+        ensures refusal { RefusesUnless is_memory
+            (refusal (state_of self.old) (Take pass wants.now
+            (record { objects = objects.items; shallow = shallow.now; unshallow = unshallow.now }))) result }
         ensures err { OnErr result (self.new ≡ self.old) }
     {
         let take = fetch_store::Take {

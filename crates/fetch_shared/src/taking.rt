@@ -40,7 +40,8 @@ pub(crate) fn judge(
 
 /// The entry of a take.
 pub(crate) fn entry_of(alloc: Global, pass: u64, take: &Take<'_>) -> Result<Entry, NoMemory>
-    ensures { IfOk result (λ entry. entry ≡ entries.Take pass (map (λ e. e.0) take.now.objects.now) take.now.shallow.now take.now.unshallow.now) }
+    ensures { IfOk result (λ entry. entry ≡ entries.Take pass
+        (map (λ e. e.0) take.now.objects.now) take.now.shallow.now take.now.unshallow.now) }
 {
     Ok(Entry::Take {
         pass,

@@ -52,13 +52,17 @@ pub(crate) fn talk<R: Threads + Wait + Sync, P: Peer, I: Interrupt>(
 ) -> Result<(Pass, u64, Talked), (Pass, Option<u64>, SharedError)>
     requires { pass.shared ≡ shared.now }
     ensures back { MatchResult result (λ r. IsBack pass r.0) (λ r. IsBack pass r.0) }
-    ensures none { MatchResult result (λ r. entries_of pass.number r.0.front ≡ entries_of pass.number pass.front) (λ r. entries_of pass.number r.0.front ≡ entries_of pass.number pass.front) }
-    ensures talked { IfOk result (λ r. HasTalked (record { answers = P.answers; old = P.told peer.old; new = P.told peer.new }) (given_to remote.now options pass) pass r.0 r.1 r.2) }
-    ensures broken { IfErr result (λ r. HasBroken (record { answers = P.answers; old = P.told peer.old; new = P.told peer.new }) (given_to remote.now options pass) pass r.0 r.1 r.2) }
+    ensures none { MatchResult result (λ r. entries_of pass.number r.0.front ≡ entries_of pass.number pass.front)
+        (λ r. entries_of pass.number r.0.front ≡ entries_of pass.number pass.front) }
+    ensures talked { IfOk result (λ r. HasTalked (record { answers = P.answers; old = P.told peer.old; new = P.told peer.new })
+        (given_to remote.now options pass) pass r.0 r.1 r.2) }
+    ensures broken { IfErr result (λ r. HasBroken (record { answers = P.answers; old = P.told peer.old; new = P.told peer.new })
+        (given_to remote.now options pass) pass r.0 r.1 r.2) }
     ensures of_kind { IfOk result (λ r. IfSome r.2.received (λ x. AreOf pass.shared.opening.state.hash x.objects)) }
     ensures named { IfOk result (λ r. IfSome r.2.received (λ x. AreNamed x.objects)) }
     ensures peer { BlamesPeer (P.faults peer.old) (P.faults peer.new) (is_told (λ r. is_of_peer r.2) result) }
-    ensures interrupt { BlamesInterrupt (I.yes interrupt.old) (I.yes interrupt.new) (I.will_stop interrupt.old) (I.will_stop interrupt.new) (P.told peer.old) (P.told peer.new) (last_question (λ r. is_yes r.2) result) }
+    ensures interrupt { BlamesInterrupt (I.yes interrupt.old) (I.yes interrupt.new) (I.will_stop interrupt.old) (I.will_stop interrupt.new)
+        (P.told peer.old) (P.told peer.new) (last_question (λ r. is_yes r.2) result) }
 {
     let FetchOptions {
         map,
@@ -141,7 +145,8 @@ fn planned<R: Wait>(
 ) -> Result<(Pass, Plan), (Pass, SharedError)>
     requires { pass.shared ≡ shared.now }
     ensures back { MatchResult result (λ r. IsBack pass r.0) (λ r. IsBack pass r.0) }
-    ensures none { MatchResult result (λ r. entries_of pass.number r.0.front ≡ entries_of pass.number pass.front) (λ r. entries_of pass.number r.0.front ≡ entries_of pass.number pass.front) }
+    ensures none { MatchResult result (λ r. entries_of pass.number r.0.front ≡ entries_of pass.number pass.front)
+        (λ r. entries_of pass.number r.0.front ≡ entries_of pass.number pass.front) }
     ensures planned { IfOk result (λ r. HasPlanned pass r.0 (λ v. plan_of v ref_map.now tags shallow.now) r.1) }
     ensures memory { IfErr result (λ r. r.1 ≡ errors.NoMemory) }
 {

@@ -110,8 +110,10 @@ impl SharedRepository {
         requires of_hash { AreOf self.now.opening.state.hash pack.objects.items }
         requires named { AreNamed pack.objects.items }
         ensures back { IsBack pass result.0 }
-        ensures turn { let event = Take pass.number wants.now (pack_in pack.entry) in IsTurn pass result.0 event (λ v. snapshot_of (done v event)) result.1 }
-        ensures added { OnOk result.1 (entries_of pass.number result.0.front ≡ entries_of pass.number pass.front ++ entries.Take pass.number (map (λ e. e.0) pack.entry.objects.items) pack.entry.shallow.now pack.entry.unshallow.now ∷ []) }
+        ensures turn { let event = Take pass.number wants.now (pack_in pack.entry) in IsTurn pass result.0 event
+            (λ v. snapshot_of (done v event)) result.1 }
+        ensures added { OnOk result.1 (entries_of pass.number result.0.front ≡ entries_of pass.number pass.front
+            ++ entries.Take pass.number (map (λ e. e.0) pack.entry.objects.items) pack.entry.shallow.now pack.entry.unshallow.now ∷ []) }
         ensures none { OnErr result.1 (entries_of pass.number result.0.front ≡ entries_of pass.number pass.front) }
     {
         let Pass {
@@ -158,7 +160,8 @@ impl SharedRepository {
         requires { pass.shared ≡ self.now }
         ensures back { IsBack pass result.0 }
         ensures turn { IsTurn pass result.0 (Commit pass.number edits.items committer) (λ v. length v.journal) result.1 }
-        ensures added { OnOk result.1 (entries_of pass.number result.0.front ≡ entries_of pass.number pass.front ++ entries.Commit pass.number edits.items committer ∷ []) }
+        ensures added { OnOk result.1 (entries_of pass.number result.0.front ≡ entries_of pass.number pass.front
+            ++ entries.Commit pass.number edits.items committer ∷ []) }
         ensures place { IfOk result.1 (λ place. slice_get result.0.front place ≡ Some (entries.Commit pass.number edits.items committer)) }
         ensures none { OnErr result.1 (entries_of pass.number result.0.front ≡ entries_of pass.number pass.front) }
     {
@@ -202,7 +205,8 @@ impl SharedRepository {
         requires { pass.shared ≡ self.now }
         ensures back { IsBack pass result.0 }
         ensures turn { IsTurn pass result.0 (Delete pass.number names.now) (λ v. length v.journal) result.1 }
-        ensures added { OnOk result.1 (entries_of pass.number result.0.front ≡ entries_of pass.number pass.front ++ entries.Delete pass.number names.now ∷ []) }
+        ensures added { OnOk result.1 (entries_of pass.number result.0.front ≡ entries_of pass.number pass.front
+            ++ entries.Delete pass.number names.now ∷ []) }
         ensures place { IfOk result.1 (λ place. slice_get result.0.front place ≡ Some (entries.Delete pass.number names.now)) }
         ensures none { OnErr result.1 (entries_of pass.number result.0.front ≡ entries_of pass.number pass.front) }
     {

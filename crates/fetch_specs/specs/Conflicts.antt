@@ -65,7 +65,8 @@ conflict_of destination sources = if nat_lt 1 (length sources) then record { des
 -- the conflict of a match's destination, unless the matches in front have that destination
 abbrev pub conflict_at : List Match → List Match → Option (List ℕ) → List Conflict
 conflict_at ms front None = []
-conflict_at ms front (Some destination) = if has_destination front destination then [] else conflict_of destination (sources_to ms destination)
+conflict_at ms front (Some destination) = if has_destination front destination then []
+    else conflict_of destination (sources_to ms destination)
 
 -- no sources where there is no entry
 abbrev pub entered : Option (List SourceRef) → List SourceRef

@@ -7,7 +7,8 @@ use Rattle.fetch_specs.specs.Specs.{Spec}
 -- A fetch spec has a source, and of two sides both or neither have a star.
 pub record IsInOrder (spec : Spec) : Type 0 where
   pub fetched : spec.operation ≡ Fetch → IsTrue (is_some spec.source)
-  pub balanced : (source destination : List ℕ) → spec.source ≡ Some source → spec.destination ≡ Some destination → has_star source ≡ has_star destination
+  pub balanced : (source destination : List ℕ) → spec.source ≡ Some source → spec.destination ≡ Some destination
+      → has_star source ≡ has_star destination
 
 -- the destination that a spec maps a name to
 abbrev pub mapped_to : List Spec → Spec → List ℕ → Option (List ℕ)

@@ -1,5 +1,6 @@
 -- Which matches are told, match by match.
-use Rattle.std.specs.Prelude.{◌≡◌, ℕ, ◌==◌, nat_lt, Bool, true, false, not, ◌&&◌, ◌||◌, List, [], ◌∷◌, Option, Some, None, IsTrue, option_and_then, slice_get}
+use Rattle.std.specs.Prelude.{◌≡◌, ℕ, ◌==◌, nat_lt, Bool, true, false, not, ◌&&◌, ◌||◌, List, [], ◌∷◌, Option, Some, None, IsTrue}
+use Rattle.std.specs.Prelude.{option_and_then, slice_get}
 use Rattle.std.specs.List.{Contains, list_all}
 use Rattle.fetch_store.specs.declared.id.Kind.{Kind}
 use Rattle.fetch_specs.specs.declared.found.Match.{Match}
@@ -9,7 +10,8 @@ use Rattle.fetch_specs.specs.Matches.{id_match, name_match, is_same, leading, so
 -- what a spec maps of an item, or its id where there is no item
 abbrev pub mapping_at : List Spec → List (List ℕ) → Kind → ℕ → Option ℕ → Option Match
 mapping_at specs names kind i None = option_and_then (λ spec. id_match kind i spec) (slice_get specs i)
-mapping_at specs names kind i (Some j) = option_and_then (λ spec. option_and_then (λ name. name_match specs i spec j name) (slice_get names j)) (slice_get specs i)
+mapping_at specs names kind i (Some j) = option_and_then
+    (λ spec. option_and_then (λ name. name_match specs i spec j name) (slice_get names j)) (slice_get specs i)
 
 -- A match is what its spec maps of its item.
 abbrev pub IsMapping : List Spec → List (List ℕ) → Kind → Match → Type 0

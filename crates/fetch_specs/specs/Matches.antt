@@ -1,5 +1,6 @@
 -- Which names a list of refspecs maps, and where to.
-use Rattle.std.specs.Prelude.{ℕ, ◌+◌, ◌-◌, ◌==◌, nat_eq, nat_le, Bool, true, false, not, ◌&&◌, ◌||◌, if◌then◌else◌, List, [], ◌∷◌, ◌++◌, length, take, drop, map, filter, codes, Option, Some, None, is_some, option_and_then}
+use Rattle.std.specs.Prelude.{ℕ, ◌+◌, ◌-◌, ◌==◌, nat_eq, nat_le, Bool, true, false, not, ◌&&◌, ◌||◌, if◌then◌else◌, List, [], ◌∷◌, ◌++◌}
+use Rattle.std.specs.Prelude.{length, take, drop, map, filter, codes, Option, Some, None, is_some, option_and_then}
 use Rattle.std.specs.List.{list_any, filter_map, starts_with, ends_with, before_first, after_first}
 use Rattle.std.specs.Option.{option_map}
 use Rattle.std.specs.declared.cmp.Ordering.{Ordering}
@@ -144,7 +145,12 @@ abbrev pub mapping_unless : Bool → ℕ → Spec → ℕ → List ℕ → Optio
 mapping_unless excluded i spec j name None = None
 mapping_unless excluded i spec j name (Some middle) =
     if is_exclusion spec.mode || is_some (source_id spec.source) || excluded then None
-    else Some (record { lhs = sources.FullName name; rhs = option_map (expanded middle) spec.destination; item_index = Some j; spec_index = i })
+    else Some (record {
+      lhs = sources.FullName name;
+      rhs = option_map (expanded middle) spec.destination;
+      item_index = Some j;
+      spec_index = i;
+    })
 
 -- the match of a name with this middle, unless it is excluded
 abbrev pub name_mapping : List Spec → ℕ → Spec → ℕ → List ℕ → Option (List ℕ) → Option Match
@@ -160,7 +166,8 @@ forms_of name = filter (λ text. bytes_eq (completed text) name) (name ∷ drop 
 
 -- what a destination's star stands for in a text (nothing, where it has none)
 abbrev pub given : List ℕ → List ℕ → Option (List ℕ)
-given destination text = if has_star destination then between (front_of destination) (back_of destination) text else where_true (bytes_eq destination text)
+given destination text = if has_star destination then between (front_of destination) (back_of destination) text
+    else where_true (bytes_eq destination text)
 
 -- a source with its star replaced, unless a name is taken out
 abbrev pub unless_excluded : List Spec → List ℕ → Option (List ℕ)

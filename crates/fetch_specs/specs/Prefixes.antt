@@ -1,5 +1,6 @@
 -- The prefixes that a listing is asked for.
-use Rattle.std.specs.Prelude.{◌≡◌, ℕ, ◌+◌, ◌==◌, nat_eq, Bool, true, false, not, ◌&&◌, ◌⊎◌, if◌then◌else◌, List, [], ◌∷◌, ◌++◌, take, drop, Option, Some, None, is_some, IsTrue}
+use Rattle.std.specs.Prelude.{◌≡◌, ℕ, ◌+◌, ◌==◌, nat_eq, Bool, true, false, not, ◌&&◌, ◌⊎◌, if◌then◌else◌, List, [], ◌∷◌, ◌++◌, take, drop}
+use Rattle.std.specs.Prelude.{Option, Some, None, is_some, IsTrue}
 use Rattle.std.specs.List.{list_any, list_all, starts_with, flat_map, position_or_len}
 use Rattle.std.specs.Ordering.{nat_cmp, is_lt}
 use Rattle.std.specs.Cmp.Lexicographic.{slice_cmp}
@@ -39,7 +40,8 @@ abbrev pub expansions : List ℕ → List (List ℕ)
 expansions source =
     source ∷ (refs ++ source) ∷ (tags ++ source) ∷ (heads ++ source) ∷ (remotes ++ source) ∷ (remotes ++ (source ++ slash_head)) ∷ []
 
--- what a source asks for: `HEAD`, a prefix under `refs/`, or what it may stand for; an id asks for nothing, and a star elsewhere has no prefix
+-- what a source asks for: `HEAD`, a prefix under `refs/`, or what it may stand for; an id asks for nothing, and a star elsewhere has no
+-- prefix
 abbrev pub source_prefixes : List ℕ → List (List ℕ)
 source_prefixes source =
     if is_some (id_named source) then []
@@ -87,7 +89,8 @@ ascends (text ∷ texts) = list_all (λ t. is_lt (slice_cmp nat_cmp text t)) tex
 -- the texts ascend, and where no spec asks for all they have what some spec asks for and nothing else; else there are none
 pub record IsListing (specs : List Spec) (texts : List (List ℕ)) : Type 0 where
   pub sorted : IsTrue (ascends texts)
-  pub members : (text : List ℕ) → list_any (bytes_eq text) texts ≡ (not (list_any asks_for_all specs) && list_any (λ spec. list_any (bytes_eq text) (spec_prefixes spec)) specs)
+  pub members : (text : List ℕ) → list_any (bytes_eq text) texts
+      ≡ (not (list_any asks_for_all specs) && list_any (λ spec. list_any (bytes_eq text) (spec_prefixes spec)) specs)
 
 -- a name begins with one of the prefixes, or there are none
 abbrev pub IsAskedFor : List (List ℕ) → List ℕ → Type 0

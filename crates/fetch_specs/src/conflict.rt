@@ -71,7 +71,8 @@ fn add_source(
     sources: &mut BTreeMap<Text, List<SourceRef>>,
     found: &Match,
 ) -> Result<(), NoMemory>
-    ensures { OnOk result ((text : Bytes ℕ) → words.sources_at sources.new.entries text ≡ if words.is_side text found.now.rhs then words.more_sources (words.sources_at sources.old.entries text) found.now.lhs else words.sources_at sources.old.entries text) }
+    ensures { OnOk result ((text : Bytes ℕ) → words.sources_at sources.new.entries text ≡ if words.is_side text found.now.rhs
+        then words.more_sources (words.sources_at sources.old.entries text) found.now.lhs else words.sources_at sources.old.entries text) }
 {
     let Some(destination) = &found.rhs else {
         return Ok(());
@@ -90,7 +91,8 @@ fn taken_out(
     destination: &Text,
 ) -> List<SourceRef>
     ensures taken { result ≡ words.sources_at sources.old.entries destination.now }
-    ensures others { (text : Bytes ℕ) → words.sources_at sources.new.entries text ≡ if bytes_eq text destination.now then [] else words.sources_at sources.old.entries text }
+    ensures others { (text : Bytes ℕ) → words.sources_at sources.new.entries text ≡ if bytes_eq text destination.now then []
+        else words.sources_at sources.old.entries text }
 {
     match sources.remove(destination) {
         Some(list) => list,
@@ -118,7 +120,8 @@ fn take_conflict(
     destination: &Option<Text>,
 ) -> Result<(), NoMemory>
     ensures found { OnOk result (found.new.items ≡ found.old.items ++ words.conflict_in sources.old.entries destination.now) }
-    ensures others { OnOk result ((text : Bytes ℕ) → words.sources_at sources.new.entries text ≡ if words.is_side text destination.now then [] else words.sources_at sources.old.entries text) }
+    ensures others { OnOk result ((text : Bytes ℕ) → words.sources_at sources.new.entries text ≡ if words.is_side text destination.now
+        then [] else words.sources_at sources.old.entries text) }
 {
     let Some(destination) = destination else {
         return Ok(());

@@ -11,7 +11,8 @@ ghost use Rattle.fetch_specs.specs.Made.{are_ordered, IsFirst, IsLead, IsMapping
 ghost use Rattle.fetch_specs.specs.Matches.{has_star, is_exclusion, mappings_of, sources_leading, sources_of, takes};
 ghost use Rattle.fetch_specs.specs.Names.{is_full_name, is_name, full_name_place, name_place, IsLongestBeginning};
 ghost use Rattle.fetch_specs.specs.Parses.{id_named, IsSpec};
-ghost use Rattle.fetch_specs.specs.Prefixes.{asks_for_all, prefixes_of, source_prefixes, spec_prefixes, IsAskedFor, IsListing, IsPlainFront};
+ghost use Rattle.fetch_specs.specs.Prefixes.{asks_for_all, prefixes_of, source_prefixes, spec_prefixes, IsAskedFor, IsListing};
+ghost use Rattle.fetch_specs.specs.Prefixes.{IsPlainFront};
 ghost use Rattle.fetch_specs.specs.Specs.{Spec};
 ghost use Rattle.fetch_specs.specs.Tagged.{is_tag_spec, tag_spec};
 ghost use Rattle.fetch_specs.specs.declared.conflict.Conflict.{Conflict};
@@ -42,20 +43,23 @@ pub fn the_tag_refspec_alone_brings_all_tags()
 /// earlier one has its source and destination. Ids come first, then refspec by refspec and item by item.
 pub fn each_mapping_is_told_once()
     ensures ordered { (specs : List Spec) (names : List (List ℕ)) (kind : Kind) → IsTrue (are_ordered (mappings_of specs names kind)) }
-    ensures told { (specs : List Spec) (names : List (List ℕ)) (kind : Kind) (m : Match) → Contains (mappings_of specs names kind) m ↔ IsFirst (IsMapping specs names kind) true m }
+    ensures told { (specs : List Spec) (names : List (List ℕ)) (kind : Kind) (m : Match)
+        → Contains (mappings_of specs names kind) m ↔ IsFirst (IsMapping specs names kind) true m }
 {}
 
 /// A source is told exactly where its refspec leads from it to its item and no earlier one has that source. They stand
 /// refspec by refspec and item by item.
 pub fn each_source_is_told_once()
     ensures ordered { (specs : List Spec) (names : List (List ℕ)) → IsTrue (are_ordered (sources_of specs names)) }
-    ensures told { (specs : List Spec) (names : List (List ℕ)) (m : Match) → Contains (sources_of specs names) m ↔ IsFirst (IsLead specs names) false m }
+    ensures told { (specs : List Spec) (names : List (List ℕ)) (m : Match)
+        → Contains (sources_of specs names) m ↔ IsFirst (IsLead specs names) false m }
 {}
 
 /// A source is told for a name exactly where the refspec maps it there: a name that is the refspec's own
 /// source, its star replaced, and that the refspec maps to that very name.
 pub fn a_source_is_told_where_it_leads()
-    ensures { (specs : List Spec) (spec : Spec) (name : List ℕ) (source : List ℕ) → IsSpec spec → Contains (sources_leading specs spec name) source ↔ (IsOwnSource spec source × (mapped_to specs spec source ≡ Some name)) }
+    ensures { (specs : List Spec) (spec : Spec) (name : List ℕ) (source : List ℕ) → IsSpec spec
+        → Contains (sources_leading specs spec name) source ↔ (IsOwnSource spec source × (mapped_to specs spec source ≡ Some name)) }
 {}
 
 /// A destination is a conflict exactly where two matches have it whose sources differ.
@@ -71,7 +75,8 @@ pub fn prefixes_ascend_and_are_asked_for()
 
 /// Each name that a refspec takes begins with one of the prefixes, or there are none.
 pub fn each_name_taken_is_asked_for()
-    ensures { (specs : List Spec) (spec : Spec) (name : List ℕ) → Contains specs spec → IsTrue (takes spec name) → IsAskedFor (prefixes_of specs) name }
+    ensures { (specs : List Spec) (spec : Spec) (name : List ℕ) → Contains specs spec → IsTrue (takes spec name)
+        → IsAskedFor (prefixes_of specs) name }
 {}
 
 /// An exclusion and an id ask for nothing, and a source with a star asks at most for its prefix
@@ -79,5 +84,6 @@ pub fn each_name_taken_is_asked_for()
 pub fn what_a_refspec_asks_for()
     ensures exclusion { (spec : Spec) → IsTrue (is_exclusion spec.mode) → (spec_prefixes spec ≡ []) × (asks_for_all spec ≡ false) }
     ensures id { (source : List ℕ) → IsTrue (is_some (id_named source)) → source_prefixes source ≡ [] }
-    ensures star { (source : List ℕ) (text : List ℕ) → IsTrue (has_star source) → IsTrue (list_any (bytes_eq text) (source_prefixes source)) → IsPlainFront source text }
+    ensures star { (source : List ℕ) (text : List ℕ) → IsTrue (has_star source) → IsTrue (list_any (bytes_eq text) (source_prefixes source))
+        → IsPlainFront source text }
 {}

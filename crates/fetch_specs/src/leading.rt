@@ -47,7 +47,8 @@ fn source_to(
     source: &[u8],
     destination: &[u8],
 ) -> Result<Option<Text>, NoMemory>
-    ensures { IfOk result (λ found. found ≡ option_and_then (λ middle. words.unless_excluded specs.now (words.with_middle source.now middle)) (words.given destination.now text.now)) }
+    ensures { IfOk result (λ found. found ≡ option_and_then
+        (λ middle. words.unless_excluded specs.now (words.with_middle source.now middle)) (words.given destination.now text.now)) }
 {
     match given(destination, text) {
         Some(middle) => Ok(unless_excluded(specs, with_middle(alloc, source, middle)?)),
@@ -95,7 +96,8 @@ fn push_source(
     name: &[u8],
     text: &[u8],
 ) -> Result<(), NoMemory>
-    ensures { OnOk result (sources.new.items ≡ sources.old.items ++ filter_map (words.source_given specs.now spec.now) (filter (λ t. bytes_eq (words.completed t) name.now) (text.now ∷ []))) }
+    ensures { OnOk result (sources.new.items ≡ sources.old.items
+        ++ filter_map (words.source_given specs.now spec.now) (filter (λ t. bytes_eq (words.completed t) name.now) (text.now ∷ []))) }
 {
     if !is_completed(text, name) {
         return Ok(());
@@ -148,7 +150,8 @@ fn add_leading(
     name: &[u8],
     sources: &[Text],
 ) -> Result<(), NoMemory>
-    ensures added { OnOk result (found.new.matches ≡ added_all found.old.pairs found.old.matches (map (words.leading index item name.now) sources.now)) }
+    ensures added { OnOk result (found.new.matches
+        ≡ added_all found.old.pairs found.old.matches (map (words.leading index item name.now) sources.now)) }
     ensures pairs { found.new.pairs ≡ found.old.pairs }
 {
     for k in 0..sources.len() {
@@ -166,7 +169,8 @@ fn add_sources_of(
     spec: &RefSpec,
     items: &[Item],
 ) -> Result<(), NoMemory>
-    ensures added { OnOk result (found.new.matches ≡ added_all found.old.pairs found.old.matches (words.names_from (words.source_matches specs.now index spec.now) 0 (map (λ item. item.full_ref_name) items.now))) }
+    ensures added { OnOk result (found.new.matches ≡ added_all found.old.pairs found.old.matches
+        (words.names_from (words.source_matches specs.now index spec.now) 0 (map (λ item. item.full_ref_name) items.now))) }
     ensures pairs { found.new.pairs ≡ found.old.pairs }
 {
     for j in 0..items.len() {
@@ -184,7 +188,8 @@ pub(crate) fn add_sources(
     specs: &[RefSpec],
     items: &[Item],
 ) -> Result<(), NoMemory>
-    ensures added { OnOk result (found.new.matches ≡ added_all found.old.pairs found.old.matches (words.specs_from (words.source_matches specs.now) 0 specs.now (map (λ item. item.full_ref_name) items.now))) }
+    ensures added { OnOk result (found.new.matches ≡ added_all found.old.pairs found.old.matches
+        (words.specs_from (words.source_matches specs.now) 0 specs.now (map (λ item. item.full_ref_name) items.now))) }
     ensures pairs { found.new.pairs ≡ found.old.pairs }
 {
     for i in 0..specs.len() {

@@ -224,7 +224,8 @@ fn name_match(
     item: usize,
     name: &[u8],
 ) -> Result<Option<Match>, NoMemory>
-    ensures { IfOk result (λ found. found ≡ words.mapping_unless excluded index spec.now item name.now (words.source_taken spec.now.source name.now)) }
+    ensures { IfOk result (λ found. found ≡ words.mapping_unless excluded index spec.now item name.now
+        (words.source_taken spec.now.source name.now)) }
 {
     let Some(middle) = source_taken(spec.source(), name) else {
         return Ok(None);
@@ -269,7 +270,10 @@ fn add_names_of(
     index: usize,
     spec: &RefSpec,
 ) -> Result<(), NoMemory>
-    ensures added { OnOk result (found.new.matches ≡ added_all found.old.pairs found.old.matches (words.names_from (words.name_matches names.now.specs.now index spec.now) 0 (map (λ item. item.full_ref_name) names.now.items.now))) }
+    ensures added { OnOk result (found.new.matches
+        ≡ added_all found.old.pairs found.old.matches
+        (words.names_from (words.name_matches names.now.specs.now index spec.now) 0
+        (map (λ item. item.full_ref_name) names.now.items.now))) }
     ensures pairs { found.new.pairs ≡ found.old.pairs }
 {
     let items = names.items;
@@ -287,7 +291,8 @@ fn add_names(
     specs: &[RefSpec],
     items: &[Item],
 ) -> Result<(), NoMemory>
-    ensures added { OnOk result (found.new.matches ≡ added_all found.old.pairs found.old.matches (words.specs_from (words.name_matches specs.now) 0 specs.now (map (λ item. item.full_ref_name) items.now))) }
+    ensures added { OnOk result (found.new.matches ≡ added_all found.old.pairs found.old.matches
+        (words.specs_from (words.name_matches specs.now) 0 specs.now (map (λ item. item.full_ref_name) items.now))) }
     ensures pairs { found.new.pairs ≡ found.old.pairs }
 {
     let names = Names::new(alloc, specs, items)?;

@@ -50,7 +50,8 @@ impl FullName {
     /// Reads a full name. `Invalid` comes exactly where the text is none.
     pub fn new(alloc: Global, text: &[u8]) -> Result<FullName, NameError>
         ensures name { IfOk result (λ name. name ≡ text.now) }
-        ensures verdict { MatchOption (full_name_trouble text.now) (IsOkUnless result errors.NoMemory) (λ place. result ≡ Err (errors.Invalid place)) }
+        ensures verdict { MatchOption (full_name_trouble text.now) (IsOkUnless result errors.NoMemory)
+            (λ place. result ≡ Err (errors.Invalid place)) }
     {
         if let Some(place) = grammar::full_name_trouble(text) {
             return Err(NameError::Invalid { place });
@@ -118,7 +119,8 @@ impl PartialName {
     /// Reads a name, full or short. `Invalid` comes exactly where the text is none.
     pub fn new(alloc: Global, text: &[u8]) -> Result<PartialName, NameError>
         ensures name { IfOk result (λ name. name ≡ text.now) }
-        ensures verdict { MatchOption (name_trouble false text.now) (IsOkUnless result errors.NoMemory) (λ place. result ≡ Err (errors.Invalid place)) }
+        ensures verdict { MatchOption (name_trouble false text.now) (IsOkUnless result errors.NoMemory)
+            (λ place. result ≡ Err (errors.Invalid place)) }
     {
         if let Some(place) = grammar::name_trouble(false, text) {
             return Err(NameError::Invalid { place });
@@ -151,7 +153,8 @@ impl Category {
     /// that is no name, with the place in the whole text.
     pub fn to_full_name(self, alloc: Global, short: &[u8]) -> Result<FullName, NameError>
         ensures name { IfOk result (λ name. name ≡ prefix_of self ++ short.now) }
-        ensures verdict { MatchOption (full_name_trouble (prefix_of self ++ short.now)) (IsOkUnless result errors.NoMemory) (λ place. result ≡ Err (errors.Invalid place)) }
+        ensures verdict { MatchOption (full_name_trouble (prefix_of self ++ short.now)) (IsOkUnless result errors.NoMemory)
+            (λ place. result ≡ Err (errors.Invalid place)) }
     {
         if let Some(place) = trouble_behind(self, short) {
             return Err(NameError::Invalid { place });

@@ -1,6 +1,7 @@
 //! Reading a refspec.
 
-ghost use Rattle.std.specs.Prelude.{◌≡◌, ◌==◌, ◌+◌, ◌^◌, ◌<◌, ◌≤◌, None, IfSome, is_some, length, MatchResult, IfOk, IsOkUnless, Err, position};
+ghost use Rattle.std.specs.Prelude.{◌≡◌, ◌==◌, ◌+◌, ◌^◌, ◌<◌, ◌≤◌, None, IfSome, is_some, length, MatchResult, IfOk, IsOkUnless, Err};
+ghost use Rattle.std.specs.Prelude.{position};
 ghost use Rattle.std.specs.Option.{option_copied};
 ghost use Rattle.fetch_specs.specs.Parses as spec;
 ghost use Rattle.fetch_specs.specs.Parses.{parsed};

@@ -2,12 +2,13 @@
 --
 -- A clause says
 --     AnswersUnless is_memory expected result
--- where `expected` is what the call answers with ample memory, and `is_memory` tells which errors are out of memory: a function of the error's type, by its cases. So an Ok is the expected one, and so is each error but out of
--- memory, which may come in place of any answer. Where other errors are free too, the test holds of them as well, and each has a clause of its own that says when it comes.
--- Where the contract sees the value through a view, say AnswersBy view is_memory expected result.
--- Where the contract tells why it is refused, and not what an Ok is, say RefusesUnless is_memory cause result, the cause being an Option.
--- Where no error is free, since no memory is taken before it is told, say Answers view expected result.
--- Where out of memory is the only error, IfOk result (λ value. value ≡ expected) says the same.
+-- where `expected` is what the call answers with ample memory, and `is_memory` tells which errors are out of memory: a function of the
+-- error's type, by its cases. So an Ok is the expected one, and so is each error but out of memory, which may come in place of any answer.
+-- Where other errors are free too, the test holds of them as well, and each has a clause of its own that says when it comes. Where the
+-- contract sees the value through a view, say AnswersBy view is_memory expected result. Where the contract tells why it is refused, and not
+-- what an Ok is, say RefusesUnless is_memory cause result, the cause being an Option. Where no error is free, since no memory is taken
+-- before it is told, say Answers view expected result. Where out of memory is the only error, IfOk result (λ value. value ≡ expected) says
+-- the same.
 use Rattle.std.specs.Prelude.{◌≡◌, Bool, Option, Some, None, Result, Ok, Err}
 use Rattle.std.specs.Bool.{OnFalse}
 

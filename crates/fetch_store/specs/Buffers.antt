@@ -43,7 +43,8 @@ pub record IsAppended (hash : Kind) (index : Index) (before buffer : List ℕ) (
   pub same : entries_in hash buffer index ≡ entries_in hash before index
   pub lent : All (IsLent hash buffer) fresh
   pub from : All (Contains objects) (entries_in hash buffer fresh)
-  pub first : (q : ObjectId) → first_of (entries_in hash before index) (entries_in hash buffer fresh) q ≡ first_of (entries_in hash before index) objects q
+  pub first : (q : ObjectId) → first_of (entries_in hash before index) (entries_in hash buffer fresh) q
+      ≡ first_of (entries_in hash before index) objects q
 
 -- The index has what it had, and then what the list brings.
 pub record IsTaken (hash : Kind) (index : Index) (before : List ℕ) (now : Index) (buffer : List ℕ) (objects : Entries) : Type 0 where

@@ -66,7 +66,8 @@ pub record IsClosed (h : Holding) : Type 0 where
 -- each next id is a link of the one before, and no step leads from a border commit to a parent
 abbrev pub IsWalk : Holding → ObjectId → List ObjectId → ObjectId → Type 0
 IsWalk h from [] to = IsStored h.objects from × (from ≡ to)
-IsWalk h from (next ∷ rest) to = (o : Stored) × (map.get h.objects from ≡ Some o) × Contains (links_within h.border from o) next × IsWalk h next rest to
+IsWalk h from (next ∷ rest) to = (o : Stored) × (map.get h.objects from ≡ Some o) × Contains (links_within h.border from o) next
+    × IsWalk h next rest to
 
 -- a walk leads from one of the starts to the id
 pub record Reached (h : Holding) (starts : List ObjectId) (id : ObjectId) : Type 0 where

@@ -39,7 +39,8 @@ abbrev pub parent_or_author : Kind → List ℕ → List ℕ → Option Step
 parent_or_author hash line rest =
     if starts_with nat_eq line (codes "author ")
     then Some (record { part = Author; expected = expect.CommitterLine; rest = rest })
-    else option_map (λ id. record { part = Parent id; expected = expect.ParentOrAuthor; rest = rest }) (id_after hash (codes "parent ") line)
+    else option_map (λ id. record { part = Parent id; expected = expect.ParentOrAuthor; rest = rest })
+    (id_after hash (codes "parent ") line)
 
 -- the kind that has this name
 abbrev pub kind_named : List ℕ → Option ObjectKind

@@ -26,7 +26,12 @@ target_of o = if is_kind o.kind Tag then slice_get (links_of o.hash o.kind o.byt
 
 -- what a graph keeps of a stored object
 abbrev pub node_of : Stored → Node
-node_of o = record { kind = o.kind; parents = parents_of o.hash o.kind o.bytes; seconds = seconds_of o.hash o.kind o.bytes; target = target_of o }
+node_of o = record {
+  kind = o.kind;
+  parents = parents_of o.hash o.kind o.bytes;
+  seconds = seconds_of o.hash o.kind o.bytes;
+  target = target_of o;
+}
 
 -- nodes by id
 abbrev pub Graph : Type 0
@@ -43,8 +48,10 @@ graph_of m = finmap.from_sorted (map (λ e. (e.0, node_of e.1)) (finmap.entries 
 -- a node, coded
 abbrev pub coded_node : Coded Node
 coded_node =
-    code_by (ObjectKind × (List ObjectId × (Option ℕ × Option ObjectId))) (coded× coded_object_kind (coded× (coded_list coded_id) (coded× (coded_option coded_ℕ) (coded_option coded_id))))
-    (λ n. (n.kind, (n.parents, (n.seconds, n.target)))) (λ p. record { kind = p.0; parents = p.1.0; seconds = p.1.1.0; target = p.1.1.1 }) (λ _. refl)
+    code_by (ObjectKind × (List ObjectId × (Option ℕ × Option ObjectId)))
+    (coded× coded_object_kind (coded× (coded_list coded_id) (coded× (coded_option coded_ℕ) (coded_option coded_id))))
+    (λ n. (n.kind, (n.parents, (n.seconds, n.target))))
+    (λ p. record { kind = p.0; parents = p.1.0; seconds = p.1.1.0; target = p.1.1.1 }) (λ _. refl)
 
 -- a graph, coded
 abbrev pub coded_graph : Coded Graph

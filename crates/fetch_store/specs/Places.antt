@@ -1,4 +1,5 @@
--- Where a text leaves the grammar of its kind, in the words of the format: in front whole lines or entries, and then none that may stand there.
+-- Where a text leaves the grammar of its kind, in the words of the format: in front whole lines or entries, and then none that may stand
+-- there.
 use Rattle.std.specs.Prelude.{◌≡◌, ℕ, ◌^◌, ◌<◌, ◌≤◌, ◌⊎◌, List, [], ◌∷◌, ◌++◌, length, codes, IsTrue, false}
 use Rattle.std.specs.List.{flat_map}
 use Rattle.std.specs.Str.Parse.{digits_value}
@@ -54,7 +55,8 @@ IsEntryText hash piece = (e : TreeEntry) × IsEntry hash e × (piece ≡ entry_t
 -- which line or entry may stand where something is expected, and what is expected after it
 abbrev pub MayStand : Kind → Expected → List ℕ → Expected → Type 0
 MayStand hash expect.TreeLine piece next = IsIdLine hash (codes "tree ") piece × (next ≡ expect.ParentOrAuthor)
-MayStand hash expect.ParentOrAuthor piece next = (IsIdLine hash (codes "parent ") piece × (next ≡ expect.ParentOrAuthor)) ⊎ (IsAuthorLine piece × (next ≡ expect.CommitterLine))
+MayStand hash expect.ParentOrAuthor piece next = (IsIdLine hash (codes "parent ") piece × (next ≡ expect.ParentOrAuthor))
+    ⊎ (IsAuthorLine piece × (next ≡ expect.CommitterLine))
 MayStand hash expect.CommitterLine piece next = IsCommitterLine piece × (next ≡ expect.Anything)
 MayStand hash expect.TaggedLine piece next = IsIdLine hash (codes "object ") piece × (next ≡ expect.TypeLine)
 MayStand hash expect.TypeLine piece next = IsTypeLine piece × (next ≡ expect.Anything)

@@ -35,8 +35,10 @@ pub record StoreValue : Type 0 where
 -- a store, coded
 abbrev pub coded_store : Coded StoreValue
 coded_store =
-    code_by (Kind × (ObjectMap × (ℕ × ℕ))) (coded× coded_kind (coded× (map.code {R = id_cmp} coded_id coded_stored) (coded× coded_ℕ coded_ℕ)))
-    (λ s. (s.hash, (s.objects, (s.spare, s.spare_bytes)))) (λ p. record { hash = p.0; objects = p.1.0; spare = p.1.1.0; spare_bytes = p.1.1.1 }) (λ _. refl)
+    code_by (Kind × (ObjectMap × (ℕ × ℕ))) (coded× coded_kind
+    (coded× (map.code {R = id_cmp} coded_id coded_stored) (coded× coded_ℕ coded_ℕ)))
+    (λ s. (s.hash, (s.objects, (s.spare, s.spare_bytes))))
+    (λ p. record { hash = p.0; objects = p.1.0; spare = p.1.1.0; spare_bytes = p.1.1.1 }) (λ _. refl)
 
 -- objects with their ids, in order
 abbrev pub Entries : Type 0

@@ -32,5 +32,7 @@ tag_text t = line (codes "object " ++ t.object) ++ (line (codes "type " ++ name_
 pub record TagsAreTexts (hash : Kind) (bytes : List ℕ) : Type 0 where
   pub text : IsObject hash Tag bytes → (t : TagParts) × IsHexId hash t.object × (bytes ≡ tag_text t)
   pub tag : (t : TagParts) → IsHexId hash t.object → bytes ≡ tag_text t → IsObject hash Tag bytes
-  pub links : (t : TagParts) → IsHexId hash t.object → bytes ≡ tag_text t → map Some (links_of hash Tag bytes) ≡ id_in_hex hash t.object ∷ []
-  pub target : (t : TagParts) → IsHexId hash t.object → bytes ≡ tag_text t → target_of (record { hash = hash; kind = Tag; bytes = bytes }) ≡ id_in_hex hash t.object
+  pub links : (t : TagParts) → IsHexId hash t.object → bytes ≡ tag_text t
+      → map Some (links_of hash Tag bytes) ≡ id_in_hex hash t.object ∷ []
+  pub target : (t : TagParts) → IsHexId hash t.object → bytes ≡ tag_text t
+      → target_of (record { hash = hash; kind = Tag; bytes = bytes }) ≡ id_in_hex hash t.object

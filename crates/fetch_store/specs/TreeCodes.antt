@@ -33,4 +33,5 @@ coded_tree = map.code {R = path_cmp} (coded_list (coded_list coded_ℕ)) coded_n
 abbrev pub coded_memory : Coded MemoryTree
 coded_memory =
     code_by (Tree × (List ℕ × (ℕ × ℕ))) (coded× coded_tree (coded× (coded_list coded_ℕ) (coded× coded_ℕ coded_ℕ)))
-    (λ m. (m.tree, (m.calls.listed, (m.calls.next, m.failed)))) (λ p. record { tree = p.0; calls = record { listed = p.1.0; next = p.1.1.0 }; failed = p.1.1.1 }) (λ _. refl)
+    (λ m. (m.tree, (m.calls.listed, (m.calls.next, m.failed))))
+    (λ p. record { tree = p.0; calls = record { listed = p.1.0; next = p.1.1.0 }; failed = p.1.1.1 }) (λ _. refl)

@@ -41,4 +41,5 @@ link_of hash e = if bytes_eq e.mode (codes "160000") then None else Some (id_of_
 pub record TreesAreTexts (hash : Kind) (bytes : List ℕ) : Type 0 where
   pub text : IsObject hash Tree bytes → (entries : List TreeEntry) × All (IsEntry hash) entries × (bytes ≡ tree_text entries)
   pub tree : (entries : List TreeEntry) → All (IsEntry hash) entries → bytes ≡ tree_text entries → IsObject hash Tree bytes
-  pub links : (entries : List TreeEntry) → All (IsEntry hash) entries → bytes ≡ tree_text entries → links_of hash Tree bytes ≡ filter_map (link_of hash) entries
+  pub links : (entries : List TreeEntry) → All (IsEntry hash) entries → bytes ≡ tree_text entries
+      → links_of hash Tree bytes ≡ filter_map (link_of hash) entries

@@ -1,5 +1,7 @@
--- Trees of files, and what each call does to one. A call that answers None here is refused: something of the wrong kind is in its way, or nothing stands where it asks for something.
-use Rattle.std.specs.Prelude.{ℕ, Bool, true, false, ◌||◌, not, List, [], ◌∷◌, ◌++◌, Option, Some, None, if◌then◌else◌, is_none, is_some, IsSome, IsTrue}
+-- Trees of files, and what each call does to one. A call that answers None here is refused: something of the wrong kind is in its way, or
+-- nothing stands where it asks for something.
+use Rattle.std.specs.Prelude.{ℕ, Bool, true, false, ◌||◌, not, List, [], ◌∷◌, ◌++◌, Option, Some, None, if◌then◌else◌, is_none, is_some}
+use Rattle.std.specs.Prelude.{IsSome, IsTrue}
 use Rattle.std.specs.List.{list_any, filter_map}
 use Rattle.std.specs.Option.{option_map}
 use Rattle.std.specs.FinMap as map
@@ -101,7 +103,8 @@ with_directories t path = if is_blocked t path || is_file (node_at t path) then 
 
 -- the whole file, and directories above it
 abbrev pub written : Tree → Path → List ℕ → Option Tree
-written t path bytes = if is_blocked t path || is_directory (node_at t path) then None else Some (map.insert (with_each t (parents_of path)) path (File bytes))
+written t path bytes = if is_blocked t path || is_directory (node_at t path) then None
+    else Some (map.insert (with_each t (parents_of path)) path (File bytes))
 
 -- a file, if there is one to write
 abbrev pub with_file : Tree → Option (Path × List ℕ) → Tree
@@ -112,7 +115,8 @@ with_file t (Some (path, bytes)) = map.insert t path (File bytes)
 abbrev pub moved : Tree → Option (List ℕ) → Path → Path → Option Tree
 moved t None from to = None
 moved t (Some bytes) from to =
-    if is_directory (node_at t to) || not (is_directory (node_at t (parent_of to))) then None else Some (map.insert (map.remove t from) to (File bytes))
+    if is_directory (node_at t to) || not (is_directory (node_at t (parent_of to))) then None
+    else Some (map.insert (map.remove t from) to (File bytes))
 
 -- with a file moved to another path; None where there is no such file, or something is in the way
 abbrev pub renamed : Tree → Path → Path → Option Tree

@@ -43,7 +43,11 @@ pub(crate) fn payload_len(objects: &[(ObjectId, Object)]) -> Result<usize, NoMem
 fn append(buffer: &mut Vec<u8>, object: ObjectRef<'_>) -> Span
     requires { vec_len buffer.old + length (seen object).bytes ≤ vec_capacity buffer.old }
     ensures bytes { buffer.new.items ≡ buffer.old.items ++ (seen object.entry).bytes }
-    ensures span { result ≡ record { kind = (seen object.entry).kind; start = length buffer.old.items; length = length (seen object.entry).bytes } }
+    ensures span { result ≡ record {
+      kind = (seen object.entry).kind;
+      start = length buffer.old.items;
+      length = length (seen object.entry).bytes;
+    } }
     ensures capacity { vec_capacity buffer.old ≤ vec_capacity buffer.new }
 {
     let start = buffer.len();
@@ -69,10 +73,12 @@ fn append_new(
     requires empty { fresh.old.items ≡ [] }
     requires room { length objects.now ≤ vec_capacity fresh.old }
     requires room_for_bytes { vec_len buffer.old + spec.payload_len objects.now ≤ vec_capacity buffer.old }
-    ensures appended { (hash : Kind) → IsIndexed hash buffer.old.items index.now → AreOf hash objects.now → IsAppended hash index.now buffer.old.items buffer.new.items fresh.new.items objects.now }
+    ensures appended { (hash : Kind) → IsIndexed hash buffer.old.items index.now → AreOf hash objects.now
+        → IsAppended hash index.now buffer.old.items buffer.new.items fresh.new.items objects.now }
     ensures new_ids { All (λ e. map.find id_cmp e.0 index.now ≡ None) fresh.new.items }
     ensures len { vec_len fresh.new ≤ length objects.now }
-    ensures bytes_len { (vec_len buffer.old ≤ vec_len buffer.new) × (vec_len buffer.new ≤ vec_len buffer.old + spec.payload_len objects.now) }
+    ensures bytes_len { (vec_len buffer.old ≤ vec_len buffer.new)
+        × (vec_len buffer.new ≤ vec_len buffer.old + spec.payload_len objects.now) }
     ensures capacity { vec_capacity buffer.old ≤ vec_capacity buffer.new }
     ensures fresh_capacity { vec_capacity fresh.new ≡ vec_capacity fresh.old }
 {
@@ -98,9 +104,12 @@ pub(crate) fn add_new(
     requires room { vec_len index.old + length objects.now ≤ vec_capacity index.old }
     requires room_for_spans { length objects.now ≤ vec_capacity fresh.old }
     requires room_for_bytes { vec_len buffer.old + spec.payload_len objects.now ≤ vec_capacity buffer.old }
-    ensures taken { (hash : Kind) → IsIndexed hash buffer.old.items index.old.items → AreOf hash objects.now → collision (map_of (entries_in hash buffer.old.items index.old.items)) objects.now ≡ None → IsTaken hash index.old.items buffer.old.items index.new.items buffer.new.items objects.now }
+    ensures taken { (hash : Kind) → IsIndexed hash buffer.old.items index.old.items → AreOf hash objects.now
+        → collision (map_of (entries_in hash buffer.old.items index.old.items)) objects.now ≡ None
+        → IsTaken hash index.old.items buffer.old.items index.new.items buffer.new.items objects.now }
     ensures len { (vec_len index.old ≤ vec_len index.new) × (vec_len index.new ≤ vec_len index.old + length objects.now) }
-    ensures bytes_len { (vec_len buffer.old ≤ vec_len buffer.new) × (vec_len buffer.new ≤ vec_len buffer.old + spec.payload_len objects.now) }
+    ensures bytes_len { (vec_len buffer.old ≤ vec_len buffer.new)
+        × (vec_len buffer.new ≤ vec_len buffer.old + spec.payload_len objects.now) }
     ensures capacity { vec_capacity index.old ≤ vec_capacity index.new }
     ensures bytes_capacity { vec_capacity buffer.old ≤ vec_capacity buffer.new }
     ensures fresh_capacity { vec_capacity fresh.new ≡ vec_capacity fresh.old }

@@ -6,6 +6,7 @@ use std::marker::Model;
 use std::sync::ledger::{Blank, Book, Ledger, Share};
 
 /// How many steps were taken. It takes no bytes, and only `tick` changes it.
+// Not copied: its share of a ledger is the only one.
 #[derive(Drop)]
 pub struct Steps<L: Ledger> {
     book: Book<L>,

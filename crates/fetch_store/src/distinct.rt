@@ -19,6 +19,7 @@ pub trait Keyed<K>: Drop {
 
 /// The first value of each key, in the order in which they came. Contracts see it as the list of the values. To add a
 /// value takes time in the logarithm of how many there are.
+// Not copied: it is a list in the making, which its maker takes out.
 #[derive(Drop)]
 pub struct Distinct<K: Ord + Drop, V: Keyed<K>> {
     values: Vec<V>,

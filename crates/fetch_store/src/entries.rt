@@ -1,6 +1,7 @@
 //! Lists of ids, each with a value.
 
-ghost use Rattle.std.specs.Prelude.{◌≡◌, ◌<◌, ◌≤◌, ◌+◌, ◌*◌, ◌^◌, ◌++◌, [], ℕ, All, Contains, IsTrue, None, get_or, is_some, length, vec_len, vec_capacity};
+ghost use Rattle.std.specs.Prelude.{◌≡◌, ◌<◌, ◌≤◌, ◌+◌, ◌*◌, ◌^◌, ◌++◌, [], ℕ, All, Contains, IsTrue, None, get_or, is_some, length};
+ghost use Rattle.std.specs.Prelude.{vec_len, vec_capacity};
 ghost use Rattle.std.specs.FinMap as map;
 ghost use Rattle.std.specs.declared.cmp.Ordering.TheVariants.{Less, Greater};
 ghost use Rattle.std.specs.Option.{option_copied};
@@ -70,7 +71,8 @@ fn rises_to<X>(entries: &[(ObjectId, X)], place: usize, id: &ObjectId) -> bool
 /// Whether an id is less than those from a place on.
 fn rises_from<X>(entries: &[(ObjectId, X)], place: usize, id: &ObjectId) -> bool
     requires { IsInOrder entries.now }
-    ensures { IsTrue result → (k : ℕ) (d : ObjectId × X) → place ≤ k → k < length entries.now → id_cmp (get_or entries.now k d).0 id.now ≡ Greater }
+    ensures { IsTrue result → (k : ℕ) (d : ObjectId × X) → place ≤ k → k < length entries.now
+        → id_cmp (get_or entries.now k d).0 id.now ≡ Greater }
 {
     match entries.get(place) {
         Some(entry) => id.cmp(&entry.0).is_lt(),

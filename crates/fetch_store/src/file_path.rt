@@ -2,7 +2,8 @@
 
 ghost use Rattle.std.specs.Prelude.{◌≡◌, ◌≤◌, ◌<◌, ◌∷◌, ◌++◌, [], List, ℕ, IfOk, IfSome, Some, filter, length, take, refl};
 ghost use Rattle.std.specs.Cmp.{partial_equiv_from_equiv, po};
-ghost use Rattle.std.specs.Cmp.Lexicographic.{slice_cmp, pointwise, nat_list_eq_equiv, nat_list_cmp_total, lists_per, lists_equiv, lists_total, lists_ties, texts_ties};
+ghost use Rattle.std.specs.Cmp.Lexicographic.{slice_cmp, pointwise, nat_list_eq_equiv, nat_list_cmp_total, lists_per, lists_equiv};
+ghost use Rattle.std.specs.Cmp.Lexicographic.{lists_total, lists_ties, texts_ties};
 ghost use Rattle.std.specs.Option.{option_copied};
 ghost use Rattle.std.specs.Ordering.{nat_cmp};
 ghost use Rattle.std.specs.Str.{bytes_eq};

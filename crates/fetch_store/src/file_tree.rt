@@ -102,7 +102,8 @@ impl FileTree {
 
     /// Writes the file, and makes the directories above it, and says whether it did.
     pub(crate) fn write(&mut self, path: &[u8], bytes: &[u8]) -> Result<bool, NoMemory>
-        ensures written { IfOk result (λ done. (if done then Some self.new else None) ≡ spec.written self.old (parts_of path.now) bytes.now) }
+        ensures written { IfOk result (λ done. (if done then Some self.new else None)
+            ≡ spec.written self.old (parts_of path.now) bytes.now) }
         ensures not_written { result ≡ Ok false → self.new ≡ self.old }
         ensures err { OnErr result (self.new ≡ self.old) }
     {
@@ -118,7 +119,8 @@ impl FileTree {
 
     /// Moves the file, and says whether it did.
     pub(crate) fn rename(&mut self, from: &[u8], to: &[u8]) -> Result<bool, NoMemory>
-        ensures renamed { IfOk result (λ done. (if done then Some self.new else None) ≡ spec.renamed self.old (parts_of from.now) (parts_of to.now)) }
+        ensures renamed { IfOk result (λ done. (if done then Some self.new else None)
+            ≡ spec.renamed self.old (parts_of from.now) (parts_of to.now)) }
         ensures not_renamed { result ≡ Ok false → self.new ≡ self.old }
         ensures err { OnErr result (self.new ≡ self.old) }
     {
@@ -379,7 +381,8 @@ fn put(
     node: TreeNode,
 ) -> Result<(), NoMemory>
     ensures entries { OnOk result (nodes.new.entries ≡ insert_entry path_cmp nodes.old.entries path node) }
-    ensures as_map { OnOk result (map.from_entries {R = path_cmp} nodes.new.entries ≡ map.insert (map.from_entries nodes.old.entries) path node) }
+    ensures as_map { OnOk result (map.from_entries {R = path_cmp} nodes.new.entries
+        ≡ map.insert (map.from_entries nodes.old.entries) path node) }
     ensures err { OnErr result (nodes.new.entries ≡ nodes.old.entries) }
 {
     nodes.insert(path, node)?;
@@ -401,7 +404,8 @@ fn remove_told(nodes: &mut BTreeMap<FilePath, TreeNode>, path: &[u8])
 
 /// Removes what stands at the path that a text tells, and below it.
 fn remove_below(nodes: &mut BTreeMap<FilePath, TreeNode>, path: &[u8])
-    ensures { map.from_entries {R = path_cmp} nodes.new.entries ≡ map.retain_keys (map.from_entries nodes.old.entries) (λ key. is_none (after_path (parts_of path.now) key)) }
+    ensures { map.from_entries {R = path_cmp} nodes.new.entries
+        ≡ map.retain_keys (map.from_entries nodes.old.entries) (λ key. is_none (after_path (parts_of path.now) key)) }
 {
     nodes.retain(|key, _| key.after(path).is_none());
 }
@@ -412,7 +416,8 @@ fn names_behind(
     path: &[u8],
     nodes: &BTreeMap<FilePath, TreeNode>,
 ) -> Result<Vec<Text>, NoMemory>
-    ensures { IfOk result (λ names. names.items ≡ spec.names_behind (parts_of path.now) (map.keys (map.from_entries {R = path_cmp} nodes.now.entries))) }
+    ensures { IfOk result (λ names. names.items
+        ≡ spec.names_behind (parts_of path.now) (map.keys (map.from_entries {R = path_cmp} nodes.now.entries))) }
 {
     let mut names = Vec::new(alloc);
     'keys: for key in nodes.keys() {

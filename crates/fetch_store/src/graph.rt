@@ -85,7 +85,7 @@ impl Graph {
         ensures memory { IfErr result (λ e. e ≡ errors.NoMemory) }
     {
         let mut nodes = Vec::new(alloc);
-        append_stored(&mut nodes, alloc, store)?;
+        append_stored(alloc, &mut nodes, store)?;
         let starts = starts_of(alloc, nodes.as_slice());
         Ok(Graph { nodes, starts })
     }
@@ -103,8 +103,8 @@ impl Graph {
         ensures memory { IfErr result (λ e. e ≡ errors.NoMemory) }
     {
         let mut nodes = Vec::new(alloc);
-        append_stored(&mut nodes, alloc, store)?;
-        append(&mut nodes, alloc, objects)?;
+        append_stored(alloc, &mut nodes, store)?;
+        append(alloc, &mut nodes, objects)?;
         arrange(&mut nodes);
         let starts = starts_of(alloc, nodes.as_slice());
         Ok(Graph { nodes, starts })
@@ -120,7 +120,7 @@ impl Graph {
     {
         let alloc = *self.nodes.allocator();
         let mut fresh = Vec::with_capacity(alloc, objects.len())?;
-        append(&mut fresh, alloc, objects)?;
+        append(alloc, &mut fresh, objects)?;
         self.nodes.append(&mut fresh)?;
         arrange(&mut self.nodes);
         self.starts = starts_of(alloc, self.nodes.as_slice());
@@ -155,8 +155,8 @@ fn starts_of(alloc: Global, nodes: &[(ObjectId, History)]) -> Starts {
 
 /// Puts the histories of the stored objects after the others.
 fn append_stored(
-    nodes: &mut Vec<(ObjectId, History)>,
     alloc: Global,
+    nodes: &mut Vec<(ObjectId, History)>,
     store: &Store,
 ) -> Result<(), NoMemory>
     ensures nodes { OnOk result (nodes.new.items ≡ nodes.old.items ++ listed (λ e. (e.0, node_of e.1)) (map.entries store.now.objects)) }
@@ -172,8 +172,8 @@ fn append_stored(
 
 /// Puts the histories of the objects after the others.
 fn append(
-    nodes: &mut Vec<(ObjectId, History)>,
     alloc: Global,
+    nodes: &mut Vec<(ObjectId, History)>,
     objects: &[(ObjectId, Object)],
 ) -> Result<(), NoMemory>
     ensures { OnOk result (nodes.new.items ≡ nodes.old.items ++ listed (λ e. (e.0, node_of e.1)) objects.now) }

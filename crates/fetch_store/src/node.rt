@@ -12,6 +12,7 @@ pub enum Node {
 }
 
 /// What a tree of files has at a path.
+// Not copied: it is the answer of one call, given to its caller.
 #[derive(Debug, Drop)]
 pub enum TreeNode {
     /// A file with these bytes.

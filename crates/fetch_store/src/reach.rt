@@ -31,7 +31,8 @@ pub fn reached<L: Ledger>(
 ) -> Result<List<ObjectId>, NoMemory>
     ensures ids { IfOk result (λ ids. (id : ObjectId) → Contains ids id ↔ Reached (holding store.now.objects border.now) starts.now id) }
     ensures ascending { IfOk result (λ ids. IsStrictlySortedBy id_cmp ids) }
-    ensures cost { IfOk result (λ ids. steps.new ≤ steps.old + (length starts.now + sum_by (λ id. length (links_at (holding store.now.objects border.now) id)) ids)) }
+    ensures cost { IfOk result (λ ids. steps.new
+        ≤ steps.old + (length starts.now + sum_by (λ id. length (links_at (holding store.now.objects border.now) id)) ids)) }
     ensures grows { steps.old ≤ steps.new }
 {
     let links = LinksWithin { store, border };

@@ -1,6 +1,7 @@
 //! A store of objects.
 
-ghost use Rattle.std.specs.Prelude.{map as listed, ◌≡◌, ◌↔◌, ◌+◌, ◌*◌, ◌^◌, ℕ, IsTrue, ◌≤◌, length, option_map, None, MatchOption, IfSome, IfOk, IfErr, OnOk, OnErr, IsOkUnless, vec_len};
+ghost use Rattle.std.specs.Prelude.{map as listed, ◌≡◌, ◌↔◌, ◌+◌, ◌*◌, ◌^◌, ℕ, IsTrue, ◌≤◌, length, option_map, None, MatchOption, IfSome};
+ghost use Rattle.std.specs.Prelude.{IfOk, IfErr, OnOk, OnErr, IsOkUnless, vec_len};
 ghost use Rattle.std.specs.FinMap as map;
 ghost use Rattle.std.specs.List.Sorted.{IsStrictlySortedBy};
 ghost use Rattle.fetch_store.specs.Closed.{AreAllOf};
@@ -50,10 +51,16 @@ impl Model for Store {
 
     ghost coded = { coded_store };
 
-    ghost view = { λ s. record { hash = s.hash; objects = map_of (entries_in s.hash s.buffer.items s.index.items); spare = s.spare; spare_bytes = s.spare_bytes } };
+    ghost view = { λ s. record {
+      hash = s.hash;
+      objects = map_of (entries_in s.hash s.buffer.items s.index.items);
+      spare = s.spare;
+      spare_bytes = s.spare_bytes;
+    } };
 
     ghost invariant = { λ s.
-        IsIndexed s.hash s.buffer.items s.index.items × (s.fresh.items ≡ []) × (vec_len s.index + s.spare ≤ vec_capacity s.index) × (s.spare ≤ vec_capacity s.fresh) × (vec_len s.buffer + s.spare_bytes ≤ vec_capacity s.buffer) };
+        IsIndexed s.hash s.buffer.items s.index.items × (s.fresh.items ≡ []) × (vec_len s.index + s.spare ≤ vec_capacity s.index)
+        × (s.spare ≤ vec_capacity s.fresh) × (vec_len s.buffer + s.spare_bytes ≤ vec_capacity s.buffer) };
 }
 
 impl Store {
@@ -241,7 +248,8 @@ impl Store {
     pub fn add_all(&mut self, objects: Vec<(ObjectId, Object)>) -> Result<(), StoreError>
         requires { AreOf self.old.hash objects.items }
         ensures ok { OnOk result ((self.new.objects ≡ spec.add_all self.old.objects objects.items) × (self.new.hash ≡ self.old.hash)) }
-        ensures collision { MatchOption (collision self.old.objects objects.items) (IsOkUnless result errors.NoMemory) (λ id. result ≡ Err (errors.Collision id)) }
+        ensures collision { MatchOption (collision self.old.objects objects.items) (IsOkUnless result errors.NoMemory)
+            (λ id. result ≡ Err (errors.Collision id)) }
         ensures err { OnErr result (self.new ≡ self.old) }
     {
         self.check(objects.as_slice())?;

@@ -43,7 +43,8 @@ pub fn first_missing_of_take(
     border: &Border,
     take: &Take<'_>,
 ) -> Result<Option<Missing>, NoMemory>
-    ensures { IfOk result (λ missing. missing ≡ slice_get (spec.missing (holding store.now.objects border.now) take.now.wants.now (pack_of take.now)) 0) }
+    ensures { IfOk result (λ missing. missing
+        ≡ slice_get (spec.missing (holding store.now.objects border.now) take.now.wants.now (pack_of take.now)) 0) }
 {
     let held = Joined::new(alloc, store, take.objects)?;
     let border = MergedBorder::new(alloc, border, take.shallow, take.unshallow)?;

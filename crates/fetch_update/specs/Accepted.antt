@@ -23,18 +23,24 @@ pub record IsAbout (specs extra : List Spec) (mappings : List Mapping) (u : Upda
 
 -- Each update tells an accepting mode exactly where the mapping that it is about is accepted with that mode.
 pub record AcceptsExactly (p : Policy) (specs extra : List Spec) (mappings : List Mapping) (o : Outcome) : Type 0 where
-  pub told : (u : Update) (m : Mapping) (s : Spec) → Contains o.updates u → IsAbout specs extra mappings u m s → IsTrue (is_accepting u.mode) → IsAccepted p o.edits s m u.mode
-  pub holds : (u : Update) (m : Mapping) (s : Spec) (mode : Mode) → Contains o.updates u → IsAbout specs extra mappings u m s → IsAccepted p o.edits s m mode → u.mode ≡ mode
+  pub told : (u : Update) (m : Mapping) (s : Spec) → Contains o.updates u → IsAbout specs extra mappings u m s
+      → IsTrue (is_accepting u.mode) → IsAccepted p o.edits s m u.mode
+  pub holds : (u : Update) (m : Mapping) (s : Spec) (mode : Mode) → Contains o.updates u → IsAbout specs extra mappings u m s
+      → IsAccepted p o.edits s m mode → u.mode ≡ mode
 
 -- The same in a dry run, where nothing is asked of the objects.
 pub record GuessesExactly (p : Policy) (specs extra : List Spec) (mappings : List Mapping) (o : Outcome) : Type 0 where
-  pub told : (u : Update) (m : Mapping) (s : Spec) → Contains o.updates u → IsAbout specs extra mappings u m s → IsTrue (is_accepting u.mode) → IsAcceptedDry p o.edits s m u.mode
-  pub holds : (u : Update) (m : Mapping) (s : Spec) (mode : Mode) → Contains o.updates u → IsAbout specs extra mappings u m s → IsAcceptedDry p o.edits s m mode → u.mode ≡ mode
+  pub told : (u : Update) (m : Mapping) (s : Spec) → Contains o.updates u → IsAbout specs extra mappings u m s
+      → IsTrue (is_accepting u.mode) → IsAcceptedDry p o.edits s m u.mode
+  pub holds : (u : Update) (m : Mapping) (s : Spec) (mode : Mode) → Contains o.updates u → IsAbout specs extra mappings u m s
+      → IsAcceptedDry p o.edits s m mode → u.mode ≡ mode
 
 -- Each update tells a rejecting mode exactly where the mapping that it is about is rejected with that mode.
 pub record RejectsExactly (p : Policy) (specs extra : List Spec) (mappings : List Mapping) (o : Outcome) : Type 0 where
-  pub told : (u : Update) (m : Mapping) (s : Spec) → Contains o.updates u → IsAbout specs extra mappings u m s → is_accepting u.mode ≡ false → IsRejected p o.edits s m u.mode
-  pub holds : (u : Update) (m : Mapping) (s : Spec) (mode : Mode) → Contains o.updates u → IsAbout specs extra mappings u m s → IsRejected p o.edits s m mode → u.mode ≡ mode
+  pub told : (u : Update) (m : Mapping) (s : Spec) → Contains o.updates u → IsAbout specs extra mappings u m s → is_accepting u.mode ≡ false
+      → IsRejected p o.edits s m u.mode
+  pub holds : (u : Update) (m : Mapping) (s : Spec) (mode : Mode) → Contains o.updates u → IsAbout specs extra mappings u m s
+      → IsRejected p o.edits s m mode → u.mode ≡ mode
 
 -- whether there is a mapping at this index, and its refspec is found
 abbrev pub is_found : List Spec → List Spec → List Mapping → ℕ → Bool
@@ -42,7 +48,8 @@ is_found specs extra mappings i = is_some (option_and_then (λ m. spec_at m.spec
 
 -- There is one update for each mapping whose refspec is found, in order.
 abbrev pub HasOneEach : List Spec → List Spec → List Mapping → Outcome → Type 0
-HasOneEach specs extra mappings o = map (λ u. u.mapping_index) o.updates ≡ filter (is_found specs extra mappings) (range_with_len 0 (length mappings))
+HasOneEach specs extra mappings o = map (λ u. u.mapping_index) o.updates
+    ≡ filter (is_found specs extra mappings) (range_with_len 0 (length mappings))
 
 -- the edit that carries an update out, if there is one
 abbrev pub edit_for : List RefEdit → Update → Option RefEdit
@@ -59,5 +66,7 @@ pub record CarriesOut (p : Policy) (m : Mapping) (u : Update) (e : RefEdit) : Ty
 -- The edits are those that carry out the updates, in order, and each accepted update with a destination has one.
 pub record EditsCarryOut (p : Policy) (mappings : List Mapping) (o : Outcome) : Type 0 where
   pub one_each : filter_map (λ u. u.edit_index) o.updates ≡ range_with_len 0 (length o.edits)
-  pub each : (u : Update) (m : Mapping) (e : RefEdit) → Contains o.updates u → slice_get mappings u.mapping_index ≡ Some m → edit_for o.edits u ≡ Some e → CarriesOut p m u e
-  pub accepted : (u : Update) (m : Mapping) → Contains o.updates u → slice_get mappings u.mapping_index ≡ Some m → IsTrue (is_accepting u.mode) → option_map (λ e. e.name) (edit_for o.edits u) ≡ m.local
+  pub each : (u : Update) (m : Mapping) (e : RefEdit) → Contains o.updates u → slice_get mappings u.mapping_index ≡ Some m
+      → edit_for o.edits u ≡ Some e → CarriesOut p m u e
+  pub accepted : (u : Update) (m : Mapping) → Contains o.updates u → slice_get mappings u.mapping_index ≡ Some m
+      → IsTrue (is_accepting u.mode) → option_map (λ e. e.name) (edit_for o.edits u) ≡ m.local

@@ -139,7 +139,8 @@ pub record IsGuessed (p : Policy) (m : Mapping) : Type 0 where
 
 -- One of the two is no commit; or no dated path leads from the remote's to the local one, and the refspec has a plus.
 abbrev pub MayBeReplaced : Policy → Spec → ObjectId → ObjectId → Type 0
-MayBeReplaced p s local remote = ((IsCommit p.graph local → ⊥) ⊎ (IsCommit p.graph remote → ⊥)) ⊎ ((HasDatedPath p.graph remote local → ⊥) × IsTrue (is_forced s.mode))
+MayBeReplaced p s local remote = ((IsCommit p.graph local → ⊥) ⊎ (IsCommit p.graph remote → ⊥))
+    ⊎ ((HasDatedPath p.graph remote local → ⊥) × IsTrue (is_forced s.mode))
 
 -- The ids differ: the destination is no tag, and the local object is stored and may be replaced.
 pub record Replaces (p : Policy) (s : Spec) (m : Mapping) : Type 0 where

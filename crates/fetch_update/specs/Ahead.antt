@@ -15,7 +15,8 @@ is_dated g limit id = is_some (commit_at g id) && nat_le limit (seconds_at g id)
 -- whether dated commits lead from one to another in at most that many steps
 abbrev pub leads : Graph → ℕ → ℕ → ObjectId → ObjectId → Bool
 leads g limit zero from to = is_dated g limit from && eq_by_cmp id_cmp from to
-leads g limit (suc n) from to = is_dated g limit from && (eq_by_cmp id_cmp from to || list_any (λ parent. leads g limit n parent to) (parents_at g from))
+leads g limit (suc n) from to = is_dated g limit from
+    && (eq_by_cmp id_cmp from to || list_any (λ parent. leads g limit n parent to) (parents_at g from))
 
 -- Whether a dated path leads from one commit to another. One without a detour has no more steps than there are objects.
 unfoldable pub is_ahead : Graph → ObjectId → ObjectId → Bool

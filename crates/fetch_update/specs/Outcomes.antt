@@ -1,5 +1,6 @@
 -- What becomes of all mappings.
-use Rattle.std.specs.Prelude.{ℕ, ◌+◌, Bool, false, not, ◌&&◌, List, [], ◌∷◌, codes, map, Option, Some, None, is_some, Result, Ok, Err, if◌then◌else◌}
+use Rattle.std.specs.Prelude.{ℕ, ◌+◌, Bool, false, not, ◌&&◌, List, [], ◌∷◌, codes, map, Option, Some, None, is_some, Result, Ok, Err}
+use Rattle.std.specs.Prelude.{if◌then◌else◌}
 use Rattle.std.specs.FinMap as finmap
 use Rattle.std.specs.List.{filter_map, list_any}
 use Rattle.std.specs.Option.{option_map}
@@ -50,7 +51,8 @@ edits_of vs = filter_map (λ v. v.1.edit) vs
 -- whether an unborn reference keeps its target: the one that it has stands, and the one that it would get neither stands nor is written
 abbrev pub keeps_target : Names → List RefEdit → List ℕ → List ℕ → Bool
 keeps_target names edits found wanted =
-    not (bytes_eq found wanted) && finmap.contains_key names found && not (finmap.contains_key names wanted) && not (list_any (λ e. bytes_eq e.name wanted) edits)
+    not (bytes_eq found wanted) && finmap.contains_key names found && not (finmap.contains_key names wanted)
+    && not (list_any (λ e. bytes_eq e.name wanted) edits)
 
 -- what a reflog says where nothing changes
 unfoldable pub no_op : List ℕ
@@ -78,7 +80,11 @@ no_op_change (Delete expected log) = Delete expected log
 
 -- a rejection with such a change
 abbrev pub kept : RefEdit → Verdict
-kept e = record { mode = modes.RejectedToReplaceWithUnborn; type_change = None; edit = Some (record { change = no_op_change e.change; name = e.name }) }
+kept e = record {
+  mode = modes.RejectedToReplaceWithUnborn;
+  type_change = None;
+  edit = Some (record { change = no_op_change e.change; name = e.name });
+}
 
 -- a verdict, once all edits are known
 abbrev pub adjusted : Names → List RefEdit → Verdict → Option RefEdit → Verdict
@@ -89,7 +95,8 @@ adjusted names edits v (Some e) = if is_kept names edits e.change then kept e el
 abbrev pub updates_from : ℕ → Verdicts → List Update
 updates_from n [] = []
 updates_from n (v ∷ vs) =
-    record { mode = v.1.mode; type_change = v.1.type_change; edit_index = option_map (λ _. n) v.1.edit; mapping_index = v.0 } ∷ updates_from (if is_some v.1.edit then n + 1 else n) vs
+    record { mode = v.1.mode; type_change = v.1.type_change; edit_index = option_map (λ _. n) v.1.edit; mapping_index = v.0 }
+    ∷ updates_from (if is_some v.1.edit then n + 1 else n) vs
 
 -- verdicts, once those of all mappings are known
 abbrev pub settled : Names → Verdicts → Verdicts

@@ -26,7 +26,8 @@ onto specs extra edits u (Some m) rest = pair_of specs extra edits u m ∷ rest
 -- the updates in order, each beside the mapping at its index, as far as there is one
 abbrev pub pairs_of : List Mapping → List Spec → List Spec → List RefEdit → List Update → List Pair
 pairs_of mappings specs extra edits [] = []
-pairs_of mappings specs extra edits (u ∷ us) = onto specs extra edits u (slice_get mappings u.mapping_index) (pairs_of mappings specs extra edits us)
+pairs_of mappings specs extra edits (u ∷ us) =
+    onto specs extra edits u (slice_get mappings u.mapping_index) (pairs_of mappings specs extra edits us)
 
 -- the pairs that are still to come
 abbrev pub left : MappingUpdates → List Pair

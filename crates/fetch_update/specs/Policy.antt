@@ -1,5 +1,6 @@
 -- The update policy: what becomes of the destination of one mapping. The first row that holds decides.
-use Rattle.std.specs.Prelude.{ℕ, Bool, true, false, ◌&&◌, ◌||◌, List, [], ◌∷◌, ◌++◌, codes, Option, Some, None, is_some, Result, Ok, Err, if◌then◌else◌}
+use Rattle.std.specs.Prelude.{ℕ, Bool, true, false, ◌&&◌, ◌||◌, List, [], ◌∷◌, ◌++◌, codes, Option, Some, None, is_some, Result, Ok, Err}
+use Rattle.std.specs.Prelude.{if◌then◌else◌}
 use Rattle.std.specs.FinMap as finmap
 use Rattle.std.specs.Ordering.{eq_by_cmp}
 use Rattle.std.specs.Option.{option_copied}
@@ -174,7 +175,14 @@ nothing mode = record { mode = mode; type_change = None; edit = None }
 -- the edit that writes a value, with what happened
 abbrev pub edit_of : RefLogMessage → List ℕ → PreviousValue → Target → List ℕ → RefEdit
 edit_of message name expects value happened =
-    record { change = changes.Update (record { mode = logs.AndReference; force_create_reflog = false; message = message_text message happened }) expects value; name = name }
+    record {
+      change = changes.Update (record {
+        mode = logs.AndReference;
+        force_create_reflog = false;
+        message = message_text message happened;
+      }) expects value;
+      name = name;
+    }
 
 -- a symbolic reference that gets an id is told so
 abbrev pub type_change_of : Target → Target → Option TypeChange
@@ -193,7 +201,13 @@ pub record Place : Type 0 where
 
 -- the destination of a mapping, where this was found
 abbrev pub place_of : Spec → Mapping → List ℕ → Target → Place
-place_of s m name found = record { name = name; found = found; value = value_of m.remote; target = source_target m.remote; plus = is_forced s.mode }
+place_of s m name found = record {
+  name = name;
+  found = found;
+  value = value_of m.remote;
+  target = source_target m.remote;
+  plus = is_forced s.mode;
+}
 
 -- a reference that has the value found gets another, or the same again
 abbrev pub written : RefLogMessage → Place → Mode → List ℕ → Verdict
@@ -205,7 +219,11 @@ written message place mode happened = record {
 
 -- the verdict of a reference that isn't there yet
 abbrev pub created : RefLogMessage → List ℕ → Target → Verdict
-created message name value = record { mode = modes.New; type_change = None; edit = Some (edit_of message name (expected.ExistingMustMatch value) value (storing name)) }
+created message name value = record {
+  mode = modes.New;
+  type_change = None;
+  edit = Some (edit_of message name (expected.ExistingMustMatch value) value (storing name));
+}
 
 -- the value, where it may be written: a name that isn't one can't be
 abbrev pub checked : Target → Result Target Error
@@ -235,7 +253,8 @@ unfoldable pub at_id : Policy → Place → ObjectId → Target → Result Verdi
 at_id p place local (targets.Symbolic wanted) = Ok (nothing modes.RejectedToReplaceWithUnborn)
 at_id p place local (targets.Object remote) =
     if eq_by_cmp id_cmp local remote then Ok (written p.message place modes.NoChangeNeeded no_update)
-    else if is_tag place.name then Ok (if place.plus then written p.message place modes.Forced updating_tag else nothing modes.RejectedTagUpdate)
+    else if is_tag place.name then Ok (if place.plus then written p.message place modes.Forced updating_tag
+    else nothing modes.RejectedTagUpdate)
     else if p.dry_run then Ok (written p.message place modes.FastForward guessed)
     else if is_stored p.graph local then Ok (at_stored p place local remote)
     else Err (errors.FindCommit local)
@@ -249,7 +268,8 @@ unborn_mode (targets.Object found) target = modes.Forced
 -- a reference that stands, by the id that it stands for
 unfoldable pub at_local : Policy → Place → Result ObjectId RefError → Result Verdict Error
 at_local p place (Ok id) = at_id p place id place.value
-at_local p place (Err (ref_errors.Unborn at)) = if_valid place.value (written p.message place (unborn_mode place.found place.target) change_unborn)
+at_local p place (Err (ref_errors.Unborn at)) =
+    if_valid place.value (written p.message place (unborn_mode place.found place.target) change_unborn)
 at_local p place (Err cause) = Err (errors.PeelToId place.name cause)
 
 -- a reference that stands
@@ -266,7 +286,8 @@ at_name p s m name (Some found) = at_place p (place_of s m name found)
 -- the verdict of a mapping with this destination
 unfoldable pub at_destination : Policy → Spec → Mapping → Option (List ℕ) → Result Verdict Error
 at_destination p s m None = Ok (nothing modes.NoChangeNeeded)
-at_destination p s m (Some name) = if is_full_name name then at_name p s m name (finmap.get p.names name) else Err (errors.FindReference name)
+at_destination p s m (Some name) = if is_full_name name then at_name p s m name (finmap.get p.names name)
+    else Err (errors.FindReference name)
 
 -- the id that isn't stored, where objects are tested: outside a dry run
 unfoldable pub unsent : Policy → Target → Option ObjectId
@@ -275,7 +296,8 @@ unsent p (targets.Object id) = if p.dry_run || is_stored p.graph id then None el
 
 -- the mode of a source that the server didn't send
 unfoldable pub unsent_mode : Tags → Spec → ObjectId → Mode
-unsent_mode tags s id = if is_included tags && is_tag_spec s then modes.ImplicitTagNotSentByRemote else modes.RejectedSourceObjectNotFound id
+unsent_mode tags s id = if is_included tags && is_tag_spec s then modes.ImplicitTagNotSentByRemote
+    else modes.RejectedSourceObjectNotFound id
 
 -- that mode, where a source wasn't sent
 abbrev pub unless_unsent : Policy → Spec → Option ObjectId → Result Verdict Error → Result Verdict Error
@@ -293,7 +315,14 @@ is_memory _ = false
 
 -- what a judge of the code judges by
 abbrev pub policy_of : Graph → Judge → Policy
-policy_of graph j = record { names = j.refs.now.names; graph = graph; message = j.message.now; tags = j.tags; dry_run = j.dry_run; worktrees = j.worktrees.now }
+policy_of graph j = record {
+  names = j.refs.now.names;
+  graph = graph;
+  message = j.message.now;
+  tags = j.tags;
+  dry_run = j.dry_run;
+  worktrees = j.worktrees.now;
+}
 
 -- what the code asks for
 abbrev pub value_in_code : Wanted → Target
@@ -302,7 +331,13 @@ value_in_code (wanted.Name name) = targets.Symbolic name.now
 
 -- a place of the code
 abbrev pub place_in_code : PlaceInCode → Place
-place_in_code c = record { name = c.name; found = seen c.found; value = value_in_code c.wanted; target = option_copied c.target; plus = c.is_forced }
+place_in_code c = record {
+  name = c.name;
+  found = seen c.found;
+  value = value_in_code c.wanted;
+  target = option_copied c.target;
+  plus = c.is_forced;
+}
 
 -- the policy over references, objects and worktrees
 abbrev pub policy_over : Names → Graph → RefLogMessage → Tags → Bool → List Worktree → Policy

@@ -16,7 +16,8 @@ use Rattle.fetch_update.specs.declared.update.Update.{Update}
 use Rattle.fetch_update.specs.Accepted.{IsAbout, edit_for}
 use Rattle.fetch_update.specs.Accepting.{IsUnborn, IsAbsent, HasOneId, ReplacesTag, MovesForward, Replaces, IsGuessed, KeepsTarget}
 use Rattle.fetch_update.specs.Outcomes.{no_op}
-use Rattle.fetch_update.specs.Policy.{Policy, message_text, storing, change_unborn, no_update, updating_tag, guessed, fast_forward, forced_update}
+use Rattle.fetch_update.specs.Policy.{Policy, message_text, storing, change_unborn, no_update, updating_tag, guessed, fast_forward}
+use Rattle.fetch_update.specs.Policy.{forced_update}
 use Rattle.fetch_update.specs.Writes.{gives}
 
 -- ---- reflogs
@@ -42,8 +43,10 @@ pub record SaysByRow (p : Policy) (s : Spec) (m : Mapping) (e : RefEdit) : Type 
 
 -- Each edit says what its mapping's row says; one that keeps its target says `no-op`.
 pub record EditsSay (p : Policy) (specs extra : List Spec) (mappings : List Mapping) (o : Outcome) : Type 0 where
-  pub rows : (u : Update) (m : Mapping) (s : Spec) (e : RefEdit) → Contains o.updates u → IsAbout specs extra mappings u m s → edit_for o.edits u ≡ Some e → (KeepsTarget p o.edits m → ⊥) → SaysByRow p s m e
-  pub kept : (u : Update) (m : Mapping) (s : Spec) (e : RefEdit) → Contains o.updates u → IsAbout specs extra mappings u m s → edit_for o.edits u ≡ Some e → KeepsTarget p o.edits m → Says e no_op
+  pub rows : (u : Update) (m : Mapping) (s : Spec) (e : RefEdit) → Contains o.updates u → IsAbout specs extra mappings u m s
+      → edit_for o.edits u ≡ Some e → (KeepsTarget p o.edits m → ⊥) → SaysByRow p s m e
+  pub kept : (u : Update) (m : Mapping) (s : Spec) (e : RefEdit) → Contains o.updates u → IsAbout specs extra mappings u m s
+      → edit_for o.edits u ≡ Some e → KeepsTarget p o.edits m → Says e no_op
 
 -- ---- kinds
 
@@ -56,6 +59,8 @@ pub record TurnsDirect (p : Policy) (e : RefEdit) : Type 0 where
 
 -- Such an edit is told with its update, and nothing else is: no reference becomes symbolic.
 pub record TellsTypeChanges (p : Policy) (o : Outcome) : Type 0 where
-  pub told : (u : Update) → Contains o.updates u → u.type_change ≡ Some SymbolicToDirect → (e : RefEdit) × (edit_for o.edits u ≡ Some e) × TurnsDirect p e
-  pub holds : (u : Update) (e : RefEdit) → Contains o.updates u → edit_for o.edits u ≡ Some e → TurnsDirect p e → u.type_change ≡ Some SymbolicToDirect
+  pub told : (u : Update) → Contains o.updates u → u.type_change ≡ Some SymbolicToDirect → (e : RefEdit) × (edit_for o.edits u ≡ Some e)
+      × TurnsDirect p e
+  pub holds : (u : Update) (e : RefEdit) → Contains o.updates u → edit_for o.edits u ≡ Some e → TurnsDirect p e
+      → u.type_change ≡ Some SymbolicToDirect
   pub never : (u : Update) → Contains o.updates u → u.type_change ≡ Some DirectToSymbolic → ⊥

@@ -33,4 +33,5 @@ has index name directory = option_map_or (λ set. contains name_cmp set director
 -- An index has for each branch that is checked out the directories where it is, and nothing for any other.
 abbrev pub IsIndex : List Worktree → BTreeMap (List ℕ) (BTreeSet (List ℕ)) → Type 0
 IsIndex worktrees index =
-    (name : List ℕ) → (is_some (get name_cmp index name) ≡ is_checked_out worktrees name) × ((directory : List ℕ) → has index name directory ≡ list_any (eq_by_cmp name_cmp directory) (directories_in worktrees name))
+    (name : List ℕ) → (is_some (get name_cmp index name) ≡ is_checked_out worktrees name)
+    × ((directory : List ℕ) → has index name directory ≡ list_any (eq_by_cmp name_cmp directory) (directories_in worktrees name))

@@ -112,7 +112,8 @@ fn at_destination<O: Objects>(
     refspec: &RefSpec,
     mapping: &Mapping,
 ) -> Result<Verdict, Error>
-    ensures { AnswersUnless is_memory (spec.at_destination (policy_of (O.graph objects.now) judge.now) refspec.now mapping.now mapping.now.local) result }
+    ensures { AnswersUnless is_memory (spec.at_destination
+        (policy_of (O.graph objects.now) judge.now) refspec.now mapping.now mapping.now.local) result }
 {
     let Some(text) = &mapping.local else {
         return Ok(Verdict::nothing(Mode::NoChangeNeeded));
@@ -133,7 +134,8 @@ fn no_name(text: &Text) -> Result<Verdict, Error>
 
 /// The name that a text is, if it is one. Of a text that is none memory can't run out.
 pub(crate) fn full_name(alloc: Global, text: &[u8]) -> Result<Option<FullName>, NoMemory>
-    ensures found { IfOk result (λ found. MatchOption found (is_full_name text.now ≡ false) (λ name. (name ≡ text.now) × (is_full_name text.now ≡ true))) }
+    ensures found { IfOk result (λ found. MatchOption found (is_full_name text.now ≡ false) (λ name. (name ≡ text.now)
+        × (is_full_name text.now ≡ true))) }
     ensures memory { OnErr result (is_full_name text.now ≡ true) }
 {
     if !FullName::is_valid(text) {
@@ -153,7 +155,8 @@ fn at_name<O: Objects>(
     mapping: &Mapping,
     name: FullName,
 ) -> Result<Verdict, Error>
-    ensures { AnswersUnless is_memory (spec.at_name (policy_of (O.graph objects.now) judge.now) refspec.now mapping.now name (map.get judge.now.refs.now.names name)) result }
+    ensures { AnswersUnless is_memory (spec.at_name (policy_of (O.graph objects.now) judge.now) refspec.now mapping.now name
+        (map.get judge.now.refs.now.names name)) result }
 {
     let wanted = wanted_of(&mapping.remote);
     let Some(found) = judge.refs.find(&name) else {
@@ -183,7 +186,8 @@ fn at_place<O: Objects>(judge: &Judge<'_>, objects: &O, place: Place<'_>) -> Res
 
 #[tactic(auto, unfolding(crate::specs::Policy::at_local))]
 fn at_local<O: Objects>(judge: &Judge<'_>, objects: &O, place: Place<'_>) -> Result<Verdict, Error>
-    ensures { AnswersUnless is_memory (spec.at_local (policy_of (O.graph objects.now) judge.now) (place_in_code place.entry) (peeled judge.now.refs.now.names (O.graph objects.now) place.entry.name)) result }
+    ensures { AnswersUnless is_memory (spec.at_local (policy_of (O.graph objects.now) judge.now) (place_in_code place.entry)
+        (peeled judge.now.refs.now.names (O.graph objects.now) place.entry.name)) result }
 {
     match judge.refs.peel(objects, &place.name) {
         Ok(id) => at_id(judge, objects, place, id),
@@ -199,7 +203,9 @@ fn at_local<O: Objects>(judge: &Judge<'_>, objects: &O, place: Place<'_>) -> Res
 /// A symbolic reference whose way ends at an absent name.
 #[tactic(auto, unfolding(crate::specs::Policy::change_unborn))]
 fn at_unborn(judge: &Judge<'_>, place: Place<'_>) -> Result<Verdict, Error>
-    ensures { AnswersUnless is_memory (spec.if_valid (value_in_code place.entry.wanted) (spec.written judge.now.message.now (place_in_code place.entry) (spec.unborn_mode (seen place.entry.found) (option_copied place.entry.target)) spec.change_unborn)) result }
+    ensures { AnswersUnless is_memory (spec.if_valid (value_in_code place.entry.wanted)
+        (spec.written judge.now.message.now (place_in_code place.entry)
+        (spec.unborn_mode (seen place.entry.found) (option_copied place.entry.target)) spec.change_unborn)) result }
 {
     let mode = unborn_mode(place.found, place.target);
     write(judge, place, mode, b"change unborn ref")
@@ -229,7 +235,8 @@ fn at_id<O: Objects>(
     place: Place<'_>,
     local: ObjectId,
 ) -> Result<Verdict, Error>
-    ensures { AnswersUnless is_memory (spec.at_id (policy_of (O.graph objects.now) judge.now) (place_in_code place.entry) local (value_in_code place.entry.wanted)) result }
+    ensures { AnswersUnless is_memory (spec.at_id (policy_of (O.graph objects.now) judge.now) (place_in_code place.entry) local
+        (value_in_code place.entry.wanted)) result }
 {
     let Wanted::Id(remote) = place.wanted else {
         return Ok(Verdict::nothing(Mode::RejectedToReplaceWithUnborn));

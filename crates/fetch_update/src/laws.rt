@@ -56,7 +56,8 @@ pub fn update<O: Objects>(
     dry_run: bool,
     worktrees: &[Worktree],
 ) -> Result<Outcome, Error>
-    ensures { AnswersUnless is_memory (outcome_of (policy_over refs.now.names (O.graph objects.now) message.now tags dry_run worktrees.now) refspecs.now extra_refspecs.now mappings.now) result }
+    ensures { AnswersUnless is_memory (outcome_of (policy_over refs.now.names (O.graph objects.now) message.now tags dry_run worktrees.now)
+        refspecs.now extra_refspecs.now mappings.now) result }
 {
     let directories = index_of(alloc, worktrees)?;
     let judge = Judge {
@@ -82,28 +83,34 @@ pub fn dated_paths_are_found()
 /// Outside a dry run, a mapping by itself is told an accepting mode exactly where that mode's row
 /// holds. Its edit then gives its destination what the remote has.
 pub fn accepting_modes_have_their_rows()
-    ensures told { (p : Policy) (s : Spec) (m : Mapping) → p.dry_run ≡ false → IfOk (verdict_of p s m) (λ v. IsTrue (is_accepting v.mode) → Accepts p s m v.mode) }
-    ensures holds { (p : Policy) (s : Spec) (m : Mapping) (mode : Mode) → p.dry_run ≡ false → Accepts p s m mode → (v : Verdict) × (verdict_of p s m ≡ Ok v) × Tells m mode v }
+    ensures told { (p : Policy) (s : Spec) (m : Mapping) → p.dry_run ≡ false
+        → IfOk (verdict_of p s m) (λ v. IsTrue (is_accepting v.mode) → Accepts p s m v.mode) }
+    ensures holds { (p : Policy) (s : Spec) (m : Mapping) (mode : Mode) → p.dry_run ≡ false → Accepts p s m mode → (v : Verdict)
+        × (verdict_of p s m ≡ Ok v) × Tells m mode v }
 {}
 
 /// The same in a dry run, where nothing is asked of the objects: a branch that would move is told a
 /// fast-forward.
 pub fn dry_runs_have_their_rows()
-    ensures told { (p : Policy) (s : Spec) (m : Mapping) → p.dry_run ≡ true → IfOk (verdict_of p s m) (λ v. IsTrue (is_accepting v.mode) → HasDryRow p s m v.mode) }
-    ensures holds { (p : Policy) (s : Spec) (m : Mapping) (mode : Mode) → p.dry_run ≡ true → HasDryRow p s m mode → (v : Verdict) × (verdict_of p s m ≡ Ok v) × Tells m mode v }
+    ensures told { (p : Policy) (s : Spec) (m : Mapping) → p.dry_run ≡ true
+        → IfOk (verdict_of p s m) (λ v. IsTrue (is_accepting v.mode) → HasDryRow p s m v.mode) }
+    ensures holds { (p : Policy) (s : Spec) (m : Mapping) (mode : Mode) → p.dry_run ≡ true → HasDryRow p s m mode → (v : Verdict)
+        × (verdict_of p s m ≡ Ok v) × Tells m mode v }
 {}
 
 /// A mapping by itself is told a rejecting mode exactly where that mode's row holds. It then has no
 /// edit.
 pub fn rejecting_modes_have_their_rows()
-    ensures told { (p : Policy) (s : Spec) (m : Mapping) → IfOk (verdict_of p s m) (λ v. is_accepting v.mode ≡ false → Rejects p s m v.mode) }
+    ensures told { (p : Policy) (s : Spec) (m : Mapping)
+        → IfOk (verdict_of p s m) (λ v. is_accepting v.mode ≡ false → Rejects p s m v.mode) }
     ensures holds { (p : Policy) (s : Spec) (m : Mapping) (mode : Mode) → Rejects p s m mode → verdict_of p s m ≡ Ok (nothing mode) }
 {}
 
 /// A reference that is checked out is told so, whether or not anything would change, and before it is
 /// asked what the reference stands for.
 pub fn checked_out_comes_first()
-    ensures { (p : Policy) (s : Spec) (m : Mapping) (dirs : List (List ℕ)) → IsTaken p (value_of m.remote) → IsCheckedOut p m dirs → verdict_of p s m ≡ Ok (nothing (modes.RejectedCurrentlyCheckedOut dirs)) }
+    ensures { (p : Policy) (s : Spec) (m : Mapping) (dirs : List (List ℕ)) → IsTaken p (value_of m.remote) → IsCheckedOut p m dirs
+        → verdict_of p s m ≡ Ok (nothing (modes.RejectedCurrentlyCheckedOut dirs)) }
 {}
 
 /// A mapping is refused with an error exactly where that error's row holds.
@@ -122,54 +129,65 @@ pub fn edits_write_what_is_wanted()
 /// Outside a dry run, each update of an outcome tells an accepting mode exactly where its mapping is
 /// accepted with that mode, among all mappings.
 pub fn outcomes_accept_exactly()
-    ensures { (p : Policy) (specs extra : List Spec) (mappings : List Mapping) (o : Outcome) → outcome_of p specs extra mappings ≡ Ok o → p.dry_run ≡ false → AcceptsExactly p specs extra mappings o }
+    ensures { (p : Policy) (specs extra : List Spec) (mappings : List Mapping) (o : Outcome) → outcome_of p specs extra mappings ≡ Ok o
+        → p.dry_run ≡ false → AcceptsExactly p specs extra mappings o }
 {}
 
 /// The same in a dry run.
 pub fn dry_runs_guess_exactly()
-    ensures { (p : Policy) (specs extra : List Spec) (mappings : List Mapping) (o : Outcome) → outcome_of p specs extra mappings ≡ Ok o → p.dry_run ≡ true → GuessesExactly p specs extra mappings o }
+    ensures { (p : Policy) (specs extra : List Spec) (mappings : List Mapping) (o : Outcome) → outcome_of p specs extra mappings ≡ Ok o
+        → p.dry_run ≡ true → GuessesExactly p specs extra mappings o }
 {}
 
 /// Each update of an outcome tells a rejecting mode exactly where its mapping is rejected with that
 /// mode, among all mappings.
 pub fn outcomes_reject_exactly()
-    ensures { (p : Policy) (specs extra : List Spec) (mappings : List Mapping) (o : Outcome) → outcome_of p specs extra mappings ≡ Ok o → RejectsExactly p specs extra mappings o }
+    ensures { (p : Policy) (specs extra : List Spec) (mappings : List Mapping) (o : Outcome) → outcome_of p specs extra mappings ≡ Ok o
+        → RejectsExactly p specs extra mappings o }
 {}
 
 /// The whole is refused exactly where a mapping refuses, with what the first such mapping refuses with.
 pub fn the_first_refusal_stands()
-    ensures { (p : Policy) (specs extra : List Spec) (mappings : List Mapping) (e : Error) → (outcome_of p specs extra mappings ≡ Err e) ↔ IsRefusedWith p specs extra mappings e }
+    ensures { (p : Policy) (specs extra : List Spec) (mappings : List Mapping) (e : Error)
+        → (outcome_of p specs extra mappings ≡ Err e) ↔ IsRefusedWith p specs extra mappings e }
 {}
 
 /// An outcome has one update for each mapping whose refspec is found, in order.
 pub fn outcomes_have_one_update_each()
-    ensures { (p : Policy) (specs extra : List Spec) (mappings : List Mapping) (o : Outcome) → outcome_of p specs extra mappings ≡ Ok o → HasOneEach specs extra mappings o }
+    ensures { (p : Policy) (specs extra : List Spec) (mappings : List Mapping) (o : Outcome) → outcome_of p specs extra mappings ≡ Ok o
+        → HasOneEach specs extra mappings o }
 {}
 
 /// The edits of an outcome are those that carry out its updates: each expects what was found, and
 /// gives its reference what the remote has, or the value found.
 pub fn edits_carry_out_updates()
-    ensures { (p : Policy) (specs extra : List Spec) (mappings : List Mapping) (o : Outcome) → outcome_of p specs extra mappings ≡ Ok o → EditsCarryOut p mappings o }
+    ensures { (p : Policy) (specs extra : List Spec) (mappings : List Mapping) (o : Outcome) → outcome_of p specs extra mappings ≡ Ok o
+        → EditsCarryOut p mappings o }
 {}
 
 /// No edit of an outcome is refused over the references that the outcome was made over.
 pub fn edits_find_what_they_expect()
-    ensures { (p : Policy) (specs extra : List Spec) (mappings : List Mapping) (o : Outcome) → outcome_of p specs extra mappings ≡ Ok o → refusal_of p.names o.edits ≡ None }
+    ensures { (p : Policy) (specs extra : List Spec) (mappings : List Mapping) (o : Outcome) → outcome_of p specs extra mappings ≡ Ok o
+        → refusal_of p.names o.edits ≡ None }
 {}
 
 /// Outside a dry run, each id that an edit gives and that isn't the one found is stored.
 pub fn new_ids_are_stored()
-    ensures { (p : Policy) (specs extra : List Spec) (mappings : List Mapping) (o : Outcome) → outcome_of p specs extra mappings ≡ Ok o → p.dry_run ≡ false
-        → (e : RefEdit) (id : ObjectId) → Contains o.edits e → gives e ≡ Some (Object id) → get p.names e.name ≢ Some (Object id) → IsTrue (is_stored p.graph id) }
+    ensures { (p : Policy) (specs extra : List Spec) (mappings : List Mapping) (o : Outcome) → outcome_of p specs extra mappings ≡ Ok o
+        → p.dry_run ≡ false
+        → (e : RefEdit) (id : ObjectId) → Contains o.edits e → gives e ≡ Some (Object id) → get p.names e.name ≢ Some (Object id)
+        → IsTrue (is_stored p.graph id) }
 {}
 
 /// What reflogs get to say of each edit, by the row of its mapping.
 pub fn edits_say_their_rows()
-    ensures { (p : Policy) (specs extra : List Spec) (mappings : List Mapping) (o : Outcome) → outcome_of p specs extra mappings ≡ Ok o → EditsSay p specs extra mappings o }
+    ensures { (p : Policy) (specs extra : List Spec) (mappings : List Mapping) (o : Outcome) → outcome_of p specs extra mappings ≡ Ok o
+        → EditsSay p specs extra mappings o }
 {}
 
 /// The change from symbolic to direct is told exactly with an edit that gives an id to a reference that
 /// was symbolic, and the other change never.
 pub fn type_changes_are_told()
-    ensures { (p : Policy) (specs extra : List Spec) (mappings : List Mapping) (o : Outcome) → outcome_of p specs extra mappings ≡ Ok o → TellsTypeChanges p o }
+    ensures { (p : Policy) (specs extra : List Spec) (mappings : List Mapping) (o : Outcome) → outcome_of p specs extra mappings ≡ Ok o
+        → TellsTypeChanges p o }
 {}

@@ -40,12 +40,22 @@ impl Model for ScriptedWorktrees {
 impl ScriptedWorktrees {
     /// This list, of which the calls with these numbers fail.
     pub fn new(list: Vec<Worktree>, failing: Vec<(u64, WorktreeFault)>) -> ScriptedWorktrees
-        ensures script { result ≡ record { list = list.items; failing = failing.items; next = 0; listing = 0; open_repo = 0; follow_symref = 0 } }
+        ensures script { result ≡ record {
+          list = list.items;
+          failing = failing.items;
+          next = 0;
+          listing = 0;
+          open_repo = 0;
+          follow_symref = 0;
+        } }
         ensures asked { ⟦<ScriptedWorktrees as Worktrees>⟧.asked result ≡ 0 }
         ensures told { ⟦<ScriptedWorktrees as Worktrees>⟧.told result ≡ Some list.items }
-        ensures listing { ⟦<ScriptedWorktrees as Worktrees>⟧.listing result ≡ record { count = 0; possible = nat_lt 0 (length failing.items) } }
-        ensures open_repo { ⟦<ScriptedWorktrees as Worktrees>⟧.open_repo result ≡ record { count = 0; possible = nat_lt 0 (length failing.items) } }
-        ensures follow_symref { ⟦<ScriptedWorktrees as Worktrees>⟧.follow_symref result ≡ record { count = 0; possible = nat_lt 0 (length failing.items) } }
+        ensures listing { ⟦<ScriptedWorktrees as Worktrees>⟧.listing result
+            ≡ record { count = 0; possible = nat_lt 0 (length failing.items) } }
+        ensures open_repo { ⟦<ScriptedWorktrees as Worktrees>⟧.open_repo result
+            ≡ record { count = 0; possible = nat_lt 0 (length failing.items) } }
+        ensures follow_symref { ⟦<ScriptedWorktrees as Worktrees>⟧.follow_symref result
+            ≡ record { count = 0; possible = nat_lt 0 (length failing.items) } }
     {
         ScriptedWorktrees {
             list: List::from(list),
@@ -93,9 +103,12 @@ impl Worktrees for ScriptedWorktrees {
         ensures listing_counts { Counts (faults_of self.old self.old.listing) (faults_of self.new self.new.listing) }
         ensures open_repo_counts { Counts (faults_of self.old self.old.open_repo) (faults_of self.new self.new.open_repo) }
         ensures follow_symref_counts { Counts (faults_of self.old self.old.follow_symref) (faults_of self.new self.new.follow_symref) }
-        ensures listing_cause { IsErrOf result WorktreeFault.Listing → Rose (faults_of self.old self.old.listing) (faults_of self.new self.new.listing) }
-        ensures open_repo_cause { IsErrOf result WorktreeFault.OpenRepo → Rose (faults_of self.old self.old.open_repo) (faults_of self.new self.new.open_repo) }
-        ensures follow_symref_cause { IsErrOf result WorktreeFault.FollowSymref → Rose (faults_of self.old self.old.follow_symref) (faults_of self.new self.new.follow_symref) }
+        ensures listing_cause { IsErrOf result WorktreeFault.Listing
+            → Rose (faults_of self.old self.old.listing) (faults_of self.new self.new.listing) }
+        ensures open_repo_cause { IsErrOf result WorktreeFault.OpenRepo
+            → Rose (faults_of self.old self.old.open_repo) (faults_of self.new self.new.open_repo) }
+        ensures follow_symref_cause { IsErrOf result WorktreeFault.FollowSymref
+            → Rose (faults_of self.old self.old.follow_symref) (faults_of self.new self.new.follow_symref) }
     {
         let fault = listed_for(&self.failing, self.next);
         self.next = self.next.saturating_add(1);

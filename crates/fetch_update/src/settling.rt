@@ -1,6 +1,7 @@
 //! The edits and updates that verdicts give together.
 
-ghost use Rattle.std.specs.Prelude.{◌≡◌, ◌+◌, ◌++◌, ℕ, List as Items, map, IfOk, OnOk, vec_len, option_map, option_to_list, is_some, if◌then◌else◌};
+ghost use Rattle.std.specs.Prelude.{◌≡◌, ◌+◌, ◌++◌, ℕ, List as Items, map, IfOk, OnOk, vec_len, option_map, option_to_list, is_some};
+ghost use Rattle.std.specs.Prelude.{if◌then◌else◌};
 ghost use Rattle.std.specs.List.{list_any};
 ghost use Rattle.std.specs.Str.{bytes_eq};
 ghost use Rattle.std.specs.BTreeSet.{contains};
@@ -32,7 +33,8 @@ pub(crate) fn settled_outcome(
 
 /// The names of the edits.
 fn names_of(alloc: Global, verdicts: &[(usize, Verdict)]) -> Result<BTreeSet<FullName>, NoMemory>
-    ensures { IfOk result (λ names. (name : Items ℕ) → contains name_cmp names name ≡ list_any (λ e. bytes_eq e.name name) (edits_of verdicts.now)) }
+    ensures { IfOk result (λ names. (name : Items ℕ)
+        → contains name_cmp names name ≡ list_any (λ e. bytes_eq e.name name) (edits_of verdicts.now)) }
 {
     let mut names = BTreeSet::new(alloc);
     'verdicts: for (_, verdict) in verdicts {
@@ -49,7 +51,8 @@ fn adjust_all(
     names: &BTreeSet<FullName>,
     verdicts: Vec<(usize, Verdict)>,
 ) -> Result<Vec<(usize, Verdict)>, NoMemory>
-    ensures { IfOk result (λ out. (edits : Items RefEdit) → ((name : Items ℕ) → contains name_cmp names.now name ≡ list_any (λ e. bytes_eq e.name name) edits)
+    ensures { IfOk result (λ out. (edits : Items RefEdit)
+        → ((name : Items ℕ) → contains name_cmp names.now name ≡ list_any (λ e. bytes_eq e.name name) edits)
         → out.items ≡ map (λ v. (v.0, spec.adjusted refs.now.names edits v.1 v.1.edit)) verdicts.items) }
 {
     let mut out = Vec::with_capacity(alloc, verdicts.len())?;
@@ -108,7 +111,8 @@ fn adjust(
     names: &BTreeSet<FullName>,
     verdict: Verdict,
 ) -> Result<Verdict, NoMemory>
-    ensures { IfOk result (λ out. (edits : Items RefEdit) → ((name : Items ℕ) → contains name_cmp names.now name ≡ list_any (λ e. bytes_eq e.name name) edits)
+    ensures { IfOk result (λ out. (edits : Items RefEdit)
+        → ((name : Items ℕ) → contains name_cmp names.now name ≡ list_any (λ e. bytes_eq e.name name) edits)
         → out ≡ spec.adjusted refs.now.names edits verdict verdict.edit) }
 {
     let Verdict {
@@ -135,7 +139,8 @@ fn adjust(
 
 /// Whether a change is of an unborn reference that keeps its target.
 fn is_kept(refs: &Refs, names: &BTreeSet<FullName>, change: &Change) -> bool
-    ensures { (edits : Items RefEdit) → ((name : Items ℕ) → contains name_cmp names.now name ≡ list_any (λ e. bytes_eq e.name name) edits) → result ≡ spec.is_kept refs.now.names edits change.now }
+    ensures { (edits : Items RefEdit) → ((name : Items ℕ) → contains name_cmp names.now name ≡ list_any (λ e. bytes_eq e.name name) edits)
+        → result ≡ spec.is_kept refs.now.names edits change.now }
 {
     match change {
         Change::Update {
@@ -154,7 +159,8 @@ fn keeps_target(
     found: &FullName,
     wanted: &FullName,
 ) -> bool
-    ensures { (edits : Items RefEdit) → ((name : Items ℕ) → contains name_cmp names.now name ≡ list_any (λ e. bytes_eq e.name name) edits) → result ≡ spec.keeps_target refs.now.names edits found.now wanted.now }
+    ensures { (edits : Items RefEdit) → ((name : Items ℕ) → contains name_cmp names.now name ≡ list_any (λ e. bytes_eq e.name name) edits)
+        → result ≡ spec.keeps_target refs.now.names edits found.now wanted.now }
 {
     if *found == *wanted {
         return false;

@@ -50,7 +50,8 @@ fn with_directory(
     others: Option<BTreeSet<Text>>,
     directory: Text,
 ) -> Result<BTreeSet<Text>, NoMemory>
-    ensures { (q : Items ℕ) → IfOk result (λ set. contains name_cmp set q ≡ cond (is_at (name_cmp directory) q) true (option_map_or (λ other. contains name_cmp other q) others false)) }
+    ensures { (q : Items ℕ) → IfOk result (λ set. contains name_cmp set q
+        ≡ cond (is_at (name_cmp directory) q) true (option_map_or (λ other. contains name_cmp other q) others false)) }
 {
     let mut directories = match others {
         Some(others) => others,
@@ -69,7 +70,8 @@ pub fn directories_at(
     name: &FullName,
 ) -> Result<Option<List<Text>>, NoMemory>
     requires { IsIndex worktrees.now index.now }
-    ensures { IfOk result (λ found. MatchOption found (spec.is_checked_out worktrees.now name.now ≡ false) (λ list. (spec.is_checked_out worktrees.now name.now ≡ true) × (list ≡ spec.directories_of worktrees.now name.now))) }
+    ensures { IfOk result (λ found. MatchOption found (spec.is_checked_out worktrees.now name.now ≡ false)
+        (λ list. (spec.is_checked_out worktrees.now name.now ≡ true) × (list ≡ spec.directories_of worktrees.now name.now))) }
 {
     match index.get(name) {
         Some(directories) => Ok(Some(copies(alloc, directories)?)),

@@ -22,7 +22,8 @@ pub(crate) fn verdicts<O: Objects>(
     refspecs: &[RefSpec],
     extra_refspecs: &[RefSpec],
 ) -> Result<Vec<(usize, Verdict)>, Error>
-    ensures { AnswersBy (λ v. v.items) is_memory (verdicts_from (policy_of (O.graph objects.now) judge.now) refspecs.now extra_refspecs.now 0 mappings.now) result }
+    ensures { AnswersBy (λ v. v.items) is_memory
+        (verdicts_from (policy_of (O.graph objects.now) judge.now) refspecs.now extra_refspecs.now 0 mappings.now) result }
 {
     let mut verdicts = Vec::new(judge.alloc);
     'mappings: for (index, mapping) in mappings.iter().enumerate() {

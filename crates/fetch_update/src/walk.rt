@@ -95,8 +95,10 @@ impl Walk {
         ensures limit { self.new.limit ≡ self.old.limit }
         ensures found { IfOk result (λ found. IsTrue found → Contains (parents_at (O.graph objects.now) id.now) to.now) }
         ensures done { IfOk result (λ found. found ≡ false → IsDone (O.graph objects.now) to.now (state self.new) id.now) }
-        ensures grows { OnOk result (Grows (O.graph objects.now) self.old.limit (parents_at (O.graph objects.now) id.now) (state self.old) (state self.new)) }
-        ensures cost { steps.new + room (O.graph objects.now) (state self.new) ≤ steps.old + room (O.graph objects.now) (state self.old) + length (parents_at (O.graph objects.now) id.now) }
+        ensures grows { OnOk result (Grows (O.graph objects.now) self.old.limit (parents_at (O.graph objects.now) id.now) (state self.old)
+            (state self.new)) }
+        ensures cost { steps.new + room (O.graph objects.now) (state self.new)
+            ≤ steps.old + room (O.graph objects.now) (state self.old) + length (parents_at (O.graph objects.now) id.now) }
         ensures work { OnOk result (work (O.graph objects.now) (state self.new) ≤ work (O.graph objects.now) (state self.old)) }
         ensures rises { steps.old ≤ steps.new }
     {

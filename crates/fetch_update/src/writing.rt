@@ -23,7 +23,8 @@ pub(crate) fn create(
     wanted: Wanted<'_>,
     name: FullName,
 ) -> Result<Verdict, Error>
-    ensures { AnswersUnless is_memory (spec.if_valid (value_in_code wanted.entry) (spec.created judge.now.message.now name (value_in_code wanted.entry))) result }
+    ensures { AnswersUnless is_memory (spec.if_valid (value_in_code wanted.entry)
+        (spec.created judge.now.message.now name (value_in_code wanted.entry))) result }
 {
     let value = target_of(judge.alloc, wanted)?;
     let happened = storing(&name);
@@ -43,7 +44,8 @@ pub(crate) fn write(
     mode: Mode,
     happened: &[u8],
 ) -> Result<Verdict, Error>
-    ensures { AnswersUnless is_memory (spec.if_valid (value_in_code place.entry.wanted) (spec.written judge.now.message.now (place_in_code place.entry) mode happened.now)) result }
+    ensures { AnswersUnless is_memory (spec.if_valid (value_in_code place.entry.wanted)
+        (spec.written judge.now.message.now (place_in_code place.entry) mode happened.now)) result }
 {
     let value = target_of(judge.alloc, place.wanted)?;
     let type_change = type_change_of(place.found, &value);

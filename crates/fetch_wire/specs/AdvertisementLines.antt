@@ -36,7 +36,8 @@ advertised_texts r = named_text (id_in r) (name_in r) ∷ peel_texts (name_in r)
 abbrev pub first_texts : ObjectId → List Capability → List Ref → List (List ℕ)
 first_texts null capabilities [] = (named_text (Some null) (codes "capabilities^{}") ++ 0 ∷ joined (map capability_text capabilities)) ∷ []
 first_texts null capabilities (r ∷ refs) =
-    (named_text (id_in r) (name_in r) ++ 0 ∷ joined (map capability_text capabilities)) ∷ peel_texts (name_in r) (peeled_in r) ++ flat_map advertised_texts refs
+    (named_text (id_in r) (name_in r) ++ 0 ∷ joined (map capability_text capabilities)) ∷ peel_texts (name_in r) (peeled_in r)
+    ++ flat_map advertised_texts refs
 
 -- `version 1`, the references, the server's border, and the flush
 abbrev pub advertisement_lines : ObjectId → List Capability → List Ref → List ObjectId → List Line

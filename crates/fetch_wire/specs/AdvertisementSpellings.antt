@@ -54,17 +54,20 @@ abbrev pub AreAdvertised : Handshake → List Ref → List (List ℕ) → Type 0
 AreAdvertised handshake [] said = said ≡ []
 AreAdvertised handshake (r ∷ refs) [] = ⊥
 AreAdvertised handshake (r ∷ refs) (own ∷ said) =
-    (behind : List (List ℕ)) × (others : List (List ℕ)) × (said ≡ behind ++ others) × IsAdvertised handshake r own behind × AreAdvertised handshake refs others
+    (behind : List (List ℕ)) × (others : List (List ℕ)) × (said ≡ behind ++ others) × IsAdvertised handshake r own behind
+    × AreAdvertised handshake refs others
 
 -- The first text without its capabilities, and the texts after it: the references, or a name that is none with the null id.
 abbrev pub AreReferences : Handshake → List Ref → List ℕ → List (List ℕ) → Type 0
-AreReferences handshake [] first others = ((id : ObjectId) × (is_null id ≡ true) × IsNamed handshake.object_hash id (codes "capabilities^{}") first) × (others ≡ [])
+AreReferences handshake [] first others = ((id : ObjectId) × (is_null id ≡ true)
+    × IsNamed handshake.object_hash id (codes "capabilities^{}") first) × (others ≡ [])
 AreReferences handshake (r ∷ refs) first others = AreAdvertised handshake (r ∷ refs) (first ∷ others)
 
 -- texts of commits of the border
 abbrev pub AreShallow : Kind → List (List ℕ) → Type 0
 AreShallow kind [] = ⊤
-AreShallow kind (text ∷ texts) = ((digits : List ℕ) × (id : ObjectId) × (text ≡ codes "shallow " ++ digits) × Spells kind digits id) × AreShallow kind texts
+AreShallow kind (text ∷ texts) = ((digits : List ℕ) × (id : ObjectId) × (text ≡ codes "shallow " ++ digits) × Spells kind digits id)
+    × AreShallow kind texts
 
 -- `version 1`, which may be missing, the references, of which the first text tells the capabilities after a NUL, commits of
 -- the border, and the flush. No name stands twice.
@@ -74,7 +77,8 @@ pub record IsAdvertisement (handshake : Handshake) (refs : List Ref) (lines : Li
   pub capabilities : List ℕ
   pub others : List (List ℕ)
   pub border : List (List ℕ)
-  pub lines_are : AreFlushed ((first ++ 0 ∷ capabilities) ∷ others ++ border) lines ⊎ AreFlushed (codes "version 1" ∷ (first ++ 0 ∷ capabilities) ∷ others ++ border) lines
+  pub lines_are : AreFlushed ((first ++ 0 ∷ capabilities) ∷ others ++ border) lines
+      ⊎ AreFlushed (codes "version 1" ∷ (first ++ 0 ∷ capabilities) ∷ others ++ border) lines
   pub whole : IsWithout 0 first
   pub words : AreWords (map capability_text handshake.capabilities) capabilities
   pub tellable : All IsTellable handshake.capabilities

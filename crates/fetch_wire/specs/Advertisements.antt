@@ -86,7 +86,8 @@ is_null id = list_all (λ b. b == 0) (bytes_of id)
 abbrev pub advertised : Handshake → List Ref → ObjectId → List ℕ → Option Ref
 advertised handshake before id [] = None
 advertised handshake before id (c ∷ cs) =
-    option_and_then (λ r. if is_listed before r then None else Some r) (ref_with (c ∷ cs) (Some id) (target_among (c ∷ cs) handshake.capabilities, None))
+    option_and_then (λ r. if is_listed before r then None else Some r)
+    (ref_with (c ∷ cs) (Some id) (target_among (c ∷ cs) handshake.capabilities, None))
 
 -- a reference whose id is that of a tag, which peels to this id
 abbrev pub peeled_to : ObjectId → Ref → Ref
@@ -103,9 +104,12 @@ with_peel id name (r ∷ s ∷ others) = option_map (λ more. r ∷ more) (with_
 
 -- a line `<id> <name>`, or `<id> <name>^{}` after the line of that name
 abbrev pub at_name : Handshake → List Ref → Advertised → ObjectId → List ℕ → Option (List ℕ) → Option Reading
-at_name handshake before next.Reference id name None = option_map (λ r. reading.Advertisement handshake (before ++ r ∷ []) next.Reference) (advertised handshake before id name)
-at_name handshake before next.Reference id name (Some short) = option_map (λ refs. reading.Advertisement handshake refs next.Peeled) (with_peel id short before)
-at_name handshake before next.Peeled id name None = option_map (λ r. reading.Advertisement handshake (before ++ r ∷ []) next.Reference) (advertised handshake before id name)
+at_name handshake before next.Reference id name None =
+    option_map (λ r. reading.Advertisement handshake (before ++ r ∷ []) next.Reference) (advertised handshake before id name)
+at_name handshake before next.Reference id name (Some short) =
+    option_map (λ refs. reading.Advertisement handshake refs next.Peeled) (with_peel id short before)
+at_name handshake before next.Peeled id name None =
+    option_map (λ r. reading.Advertisement handshake (before ++ r ∷ []) next.Reference) (advertised handshake before id name)
 at_name handshake before next.Peeled id name (Some short) = None
 at_name handshake before next.Shallow id name short = None
 
@@ -117,14 +121,18 @@ at_reference handshake before allowed text =
 -- `shallow <id>`, or a reference
 abbrev pub at_advertised : Handshake → List Ref → Advertised → List ℕ → Step Reading Told
 at_advertised handshake before allowed text =
-    or_breaks (option_or (option_map (λ id. reading.Advertisement handshake before next.Shallow) (shallow_in handshake.object_hash text)) (at_reference handshake before allowed text)) (λ s. goes s)
+    or_breaks (option_or (option_map (λ id. reading.Advertisement handshake before next.Shallow) (shallow_in handshake.object_hash text))
+    (at_reference handshake before allowed text)) (λ s. goes s)
 
 -- The first reference. The null id of `capabilities^{}` stands where there is none.
 abbrev pub first_named : Handshake → ObjectId × List ℕ → Option Reading
 first_named handshake (id, name) =
-    if is_no_name name then (if is_null id then Some (reading.Advertisement handshake [] next.Shallow) else None) else at_name handshake [] next.Peeled id name (before_peel name)
+    if is_no_name name then (if is_null id then Some (reading.Advertisement handshake [] next.Shallow) else None)
+    else at_name handshake [] next.Peeled id name (before_peel name)
 
 -- `<id> <name>`, NUL, and the capabilities, which spaces divide
 abbrev pub at_first : List ℕ → Option Reading
 at_first text =
-    option_and_then (λ parts. option_and_then (λ capabilities. option_and_then (first_named (handshake_1 capabilities)) (id_and_name (handshake_1 capabilities).object_hash parts.0)) (with_words [] (words parts.1))) (split_first 0 text)
+    option_and_then (λ parts. option_and_then
+    (λ capabilities. option_and_then (first_named (handshake_1 capabilities))
+    (id_and_name (handshake_1 capabilities).object_hash parts.0)) (with_words [] (words parts.1))) (split_first 0 text)

@@ -32,7 +32,8 @@ at_capability before text = or_breaks (option_and_then if_known (capability_in t
 
 -- the reading after a line of a listing
 abbrev pub at_listed : Kind → List Ref → List ℕ → Step Reading Told
-at_listed kind before text = or_breaks (option_and_then (if_new before) (ref_in kind text)) (λ r. goes (reading.Listing kind (before ++ r ∷ [])))
+at_listed kind before text = or_breaks (option_and_then (if_new before) (ref_in kind text))
+    (λ r. goes (reading.Listing kind (before ++ r ∷ [])))
 
 -- what is told before the first line of a reply that is awaited
 abbrev pub start_of : Await → Reading
@@ -54,7 +55,8 @@ unfoldable pub step_of : Reading → Line → Step Reading Told
 step_of reading.Greeting line = by_text at_greeting line
 step_of (reading.Capabilities before) line = by_line (ends (told.Greeting (handshake_of before))) breaks (at_capability before) line
 step_of reading.Version line = by_text (λ text. or_breaks (at_first text) (λ s. goes s)) line
-step_of (reading.Advertisement handshake before next) line = by_line (ends (told.Advertisement handshake before)) breaks (at_advertised handshake before next) line
+step_of (reading.Advertisement handshake before next) line =
+    by_line (ends (told.Advertisement handshake before)) breaks (at_advertised handshake before next) line
 step_of (reading.Listing kind before) line = by_line (ends (told.Listing before)) breaks (at_listed kind before) line
 step_of (reading.Reply asked part reply) line = reply_step asked part reply line
 

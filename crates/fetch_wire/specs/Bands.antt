@@ -47,7 +47,8 @@ pack_lines bands = Payload (codes "packfile" ++ 10 ∷ []) ∷ (map band_line ba
 abbrev pub packed : List Band → FetchReply
 packed bands = record no_reply { pack = Some (concat (pieces_of bands)); progress = texts_of bands }
 
-first_tells : {S T : Type 0} (step : S → Line → Step S T) (s t : S) (line : Line) (lines : List Line) (x : T) → step s line ≡ goes t → Tells step t lines x → Tells step s (line ∷ lines) x
+first_tells : {S T : Type 0} (step : S → Line → Step S T) (s t : S) (line : Line) (lines : List Line) (x : T) → step s line ≡ goes t
+    → Tells step t lines x → Tells step s (line ∷ lines) x
 first_tells step s t line [] x goes_on tells = absurd tells
 first_tells step s t line (next ∷ lines) x goes_on tells = (t, goes_on, tells)
 
@@ -57,24 +58,30 @@ behind reply pack progress = record reply { pack = Some pack; progress = progres
 
 -- Bands tell the pack and the progress texts that they have, after those that were read.
 pub bands_tell : (asked : AskedReply) (reply : FetchReply) (pack : List ℕ) (progress : List (List ℕ)) (bands : List Band)
-    → Tells step_of (reading.Reply asked Bands (behind reply pack progress)) (map band_line bands ++ Flush ∷ []) (told.Reply (behind reply (pack ++ concat (pieces_of bands)) (progress ++ texts_of bands)))
+    → Tells step_of (reading.Reply asked Bands (behind reply pack progress)) (map band_line bands ++ Flush ∷ [])
+    (told.Reply (behind reply (pack ++ concat (pieces_of bands)) (progress ++ texts_of bands)))
 unfolding step_of
 bands_tell asked reply pack progress [] = rw (append-nil pack, append-nil progress) refl
 bands_tell asked reply pack progress (Piece bytes ∷ bands) =
-    first_tells step_of (reading.Reply asked Bands (behind reply pack progress)) (reading.Reply asked Bands (behind reply (pack ++ bytes) progress)) (Payload (1 ∷ bytes)) (map band_line bands ++ Flush ∷ [])
+    first_tells step_of (reading.Reply asked Bands (behind reply pack progress))
+    (reading.Reply asked Bands (behind reply (pack ++ bytes) progress)) (Payload (1 ∷ bytes)) (map band_line bands ++ Flush ∷ [])
     (told.Reply (behind reply (pack ++ (bytes ++ concat (pieces_of bands))) (progress ++ texts_of bands))) refl
     (rw (← append_assoc pack bytes (concat (pieces_of bands))) (bands_tell asked reply (pack ++ bytes) progress bands))
 bands_tell asked reply pack progress (Progress text ∷ bands) =
-    first_tells step_of (reading.Reply asked Bands (behind reply pack progress)) (reading.Reply asked Bands (behind reply pack (progress ++ text ∷ []))) (Payload (2 ∷ text)) (map band_line bands ++ Flush ∷ [])
+    first_tells step_of (reading.Reply asked Bands (behind reply pack progress))
+    (reading.Reply asked Bands (behind reply pack (progress ++ text ∷ []))) (Payload (2 ∷ text)) (map band_line bands ++ Flush ∷ [])
     (told.Reply (behind reply (pack ++ concat (pieces_of bands)) (progress ++ text ∷ texts_of bands))) refl
     (rw (← append_assoc progress (text ∷ []) (texts_of bands)) (bands_tell asked reply pack (progress ++ text ∷ []) bands))
 
-opens : (asked : AskedReply) → asked.done ≡ true → asked.read_pack ≡ true → step_of (start_of (Reply asked)) (Payload (codes "packfile" ++ 10 ∷ [])) ≡ goes (reading.Reply asked Bands (behind no_reply [] []))
+opens : (asked : AskedReply) → asked.done ≡ true → asked.read_pack ≡ true
+    → step_of (start_of (Reply asked)) (Payload (codes "packfile" ++ 10 ∷ [])) ≡ goes (reading.Reply asked Bands (behind no_reply [] []))
 unfolding step_of is_error without_lf is_packfile is_shallow_info
 opens asked done reads = rw (done, reads) refl
 
 -- A pack is read from its bands, however it is cut.
-pub pack_tells : (asked : AskedReply) (bands : List Band) → asked.done ≡ true → asked.read_pack ≡ true → Tells step_of (start_of (Reply asked)) (pack_lines bands) (told.Reply (packed bands))
+pub pack_tells : (asked : AskedReply) (bands : List Band) → asked.done ≡ true → asked.read_pack ≡ true
+    → Tells step_of (start_of (Reply asked)) (pack_lines bands) (told.Reply (packed bands))
 pack_tells asked bands done reads =
-    first_tells step_of (start_of (Reply asked)) (reading.Reply asked Bands (behind no_reply [] [])) (Payload (codes "packfile" ++ 10 ∷ [])) (map band_line bands ++ Flush ∷ []) (told.Reply (packed bands)) (opens asked done reads)
+    first_tells step_of (start_of (Reply asked)) (reading.Reply asked Bands (behind no_reply [] [])) (Payload (codes "packfile" ++ 10 ∷ []))
+    (map band_line bands ++ Flush ∷ []) (told.Reply (packed bands)) (opens asked done reads)
     (bands_tell asked no_reply [] [] bands)

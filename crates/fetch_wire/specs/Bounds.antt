@@ -26,4 +26,5 @@ pub record PassesBound (bound place : ℕ) (bytes : List ℕ) : Type 0 where
 -- Lines move a reading on, and the digits of the line after them pass the bound.
 abbrev pub IsTooLong : {S T : Type 0} → (S → Line → Step S T) → ℕ → S → List ℕ → Type 0
 IsTooLong {S} step bound s bytes =
-    (lines : List Line) × (behind : List ℕ) × (t : S) × Writes bound 0 lines behind bytes × Moves step s lines t × PassesBound bound (sum_by line_len lines) behind
+    (lines : List Line) × (behind : List ℕ) × (t : S) × Writes bound 0 lines behind bytes × Moves step s lines t
+    × PassesBound bound (sum_by line_len lines) behind

@@ -6,7 +6,8 @@ use Rattle.fetch_wire.specs.declared.lines.section.Trouble.TheVariants.{Short, B
 use Rattle.fetch_wire.specs.SectionLaws.{IsSettled, with_more, line_at-more}
 use Rattle.fetch_wire.specs.Feeding.{Feeding, fed, need_in, left_by, found_in, next_in, behind_next}
 
-stays_by : (feeding : Feeding) (more : List ℕ) (first longer : Result (Line × List ℕ) Trouble) → (IsSettled first → longer ≡ with_more first more) → IsSettled first
+stays_by : (feeding : Feeding) (more : List ℕ) (first longer : Result (Line × List ℕ) Trouble)
+    → (IsSettled first → longer ≡ with_more first more) → IsSettled first
     → (need_in longer ≡ need_in first) × (left_by (fed feeding more) longer ≡ fed (left_by feeding first) more)
 stays_by feeding more (Ok x) longer h settled = rw (h settled) (refl, refl)
 stays_by feeding more (Err (Short place)) longer h settled = absurd (settled place refl)
@@ -16,4 +17,5 @@ stays_by feeding more (Err TooLong) longer h settled = rw (h settled) (refl, ref
 -- What is given before more bytes are fed is what is given after, and the same is left.
 pub next_stays : (feeding : Feeding) (more : List ℕ) → IsSettled (found_in feeding)
     → (next_in (fed feeding more) ≡ next_in feeding) × (behind_next (fed feeding more) ≡ fed (behind_next feeding) more)
-next_stays feeding more settled = stays_by feeding more (found_in feeding) (found_in (fed feeding more)) (line_at-more feeding.bound feeding.place feeding.pending more) settled
+next_stays feeding more settled = stays_by feeding more (found_in feeding) (found_in (fed feeding more))
+    (line_at-more feeding.bound feeding.place feeding.pending more) settled

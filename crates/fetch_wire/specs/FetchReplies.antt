@@ -12,7 +12,8 @@ use Rattle.fetch_wire.specs.declared.replies.awaited.Told.TheVariants as told
 use Rattle.fetch_wire.specs.declared.lines.line.Line.{Line}
 use Rattle.fetch_wire.specs.declared.lines.line.Line.TheVariants.{Payload, Flush, Delim, End}
 use Rattle.fetch_wire.specs.declared.replies.reading.Part.{Part}
-use Rattle.fetch_wire.specs.declared.replies.reading.Part.TheVariants.{Beginning, Acknowledgments, Ready, Rest, ShallowInfo, Packfile, Bands}
+use Rattle.fetch_wire.specs.declared.replies.reading.Part.TheVariants.{Beginning, Acknowledgments, Ready, Rest, ShallowInfo, Packfile}
+use Rattle.fetch_wire.specs.declared.replies.reading.Part.TheVariants.{Bands}
 use Rattle.fetch_wire.specs.declared.replies.reading.Reading.{Reading}
 use Rattle.fetch_wire.specs.declared.replies.reading.Reading.TheVariants as reading
 use Rattle.fetch_wire.specs.declared.requests.records.FetchReply.{FetchReply}
@@ -50,7 +51,8 @@ if_have haves id = if has_id id haves then Some id else None
 
 -- the have that `ACK <id>` acknowledges
 unfoldable pub acknowledged_in : AskedReply → List ℕ → Option ObjectId
-acknowledged_in asked text = option_and_then (λ hex. option_and_then (if_have asked.haves) (id_in_hex asked.kind hex)) (after (codes "ACK ") text)
+acknowledged_in asked text = option_and_then (λ hex. option_and_then (if_have asked.haves) (id_in_hex asked.kind hex))
+    (after (codes "ACK ") text)
 
 -- the id of `shallow <id>`
 unfoldable pub shallow_in : Kind → List ℕ → Option ObjectId
@@ -63,7 +65,8 @@ unshallow_in kind text = option_and_then (id_in_hex kind) (after (codes "unshall
 -- `packfile`: the bands follow, or the reply ends where the pack isn't read
 abbrev pub at_packfile : AskedReply → FetchReply → List ℕ → Step Reading Told
 at_packfile asked reply text =
-    if is_packfile text then (if asked.read_pack then goes (reading.Reply asked Bands (record reply { pack = Some [] })) else ends (told.Reply reply)) else breaks
+    if is_packfile text then (if asked.read_pack then goes (reading.Reply asked Bands (record reply { pack = Some [] }))
+    else ends (told.Reply reply)) else breaks
 
 -- `shallow-info` or `packfile`
 abbrev pub at_rest : AskedReply → FetchReply → List ℕ → Step Reading Told
@@ -72,7 +75,8 @@ at_rest asked reply text = if is_shallow_info text then goes (reading.Reply aske
 -- The first line: `acknowledgments` in a round that doesn't end them.
 abbrev pub at_beginning : AskedReply → FetchReply → List ℕ → Step Reading Told
 at_beginning asked reply text =
-    if asked.done then at_rest asked reply text else (if is_acknowledgments text then goes (reading.Reply asked Acknowledgments reply) else breaks)
+    if asked.done then at_rest asked reply text
+    else (if is_acknowledgments text then goes (reading.Reply asked Acknowledgments reply) else breaks)
 
 -- `NAK`, `ready`, or `ACK <id>`
 abbrev pub at_acknowledgment : AskedReply → FetchReply → List ℕ → Step Reading Told
@@ -120,9 +124,12 @@ at_band asked reply End = breaks
 -- first was.
 abbrev pub reply_step : AskedReply → Part → FetchReply → Line → Step Reading Told
 reply_step asked Beginning reply line = by_text (at_beginning asked reply) line
-reply_step asked Acknowledgments reply line = by_line (ends (told.Reply (record reply { acknowledged = each_once reply.acknowledged; last = false }))) breaks (at_acknowledgment asked reply) line
+reply_step asked Acknowledgments reply line =
+    by_line (ends (told.Reply (record reply { acknowledged = each_once reply.acknowledged; last = false }))) breaks
+    (at_acknowledgment asked reply) line
 reply_step asked Ready reply line = behind_ready asked reply line
 reply_step asked Rest reply line = by_text (at_rest asked reply) line
-reply_step asked ShallowInfo reply line = by_line breaks (goes (reading.Reply asked Packfile reply)) (λ text. at_change asked reply (shallow_in asked.kind text) (unshallow_in asked.kind text)) line
+reply_step asked ShallowInfo reply line = by_line breaks (goes (reading.Reply asked Packfile reply))
+    (λ text. at_change asked reply (shallow_in asked.kind text) (unshallow_in asked.kind text)) line
 reply_step asked Packfile reply line = by_text (at_packfile asked reply) line
 reply_step asked Bands reply line = at_band asked reply line

@@ -1,5 +1,6 @@
 -- A line that was read is four digits of either case that write its number, and its payload.
-use Rattle.std.specs.Prelude.{◌≡◌, ◌≢◌, ℕ, zero, suc, ◌+◌, ◌≤◌, ◌<◌, max, Bool, true, false, if◌then◌else◌, List, [], ◌∷◌, ◌++◌, length, take, drop, Option, Some, None, Result, Ok, Err, nat_lt, ◌==◌, ◌||◌, refl}
+use Rattle.std.specs.Prelude.{◌≡◌, ◌≢◌, ℕ, zero, suc, ◌+◌, ◌≤◌, ◌<◌, max, Bool, true, false, if◌then◌else◌, List, [], ◌∷◌, ◌++◌, length}
+use Rattle.std.specs.Prelude.{take, drop, Option, Some, None, Result, Ok, Err, nat_lt, ◌==◌, ◌||◌, refl}
 use Rattle.std.proofs.Common.{sym, ap, ◌∙◌, arith, length-append, take-append-drop}
 use Rattle.std.specs.List.{list_all}
 use Rattle.std.proofs.lemmas.List.{length-take-le}
@@ -48,7 +49,8 @@ short_of place = Err (Short place)
 ok_parts : (a c : Line) (b d : List ℕ) → ok_of a b ≡ ok_of c d → (a ≡ c) × (b ≡ d)
 ok_parts a c b d e = let p = ap (from_ok (a, b)) e in (ap (λ (x : Line × List ℕ). x.0) p, ap (λ (x : Line × List ℕ). x.1) p)
 
-payload_counted : (n place : ℕ) (bytes rest : List ℕ) (line : Line) (b : Bool) → nat_lt (length bytes) n ≡ b → line_counted (suc (suc (suc (suc n)))) place bytes ≡ Ok (line, rest) → IsCounted (suc (suc (suc (suc n)))) line rest bytes
+payload_counted : (n place : ℕ) (bytes rest : List ℕ) (line : Line) (b : Bool) → nat_lt (length bytes) n ≡ b
+    → line_counted (suc (suc (suc (suc n)))) place bytes ≡ Ok (line, rest) → IsCounted (suc (suc (suc (suc n)))) line rest bytes
 payload_counted n place bytes rest line true lt is = let e = rw lt at is in cc
 payload_counted n place bytes rest line false ge is =
     let fits : n ≤ length bytes = grind (arith, nat_tests) in
@@ -63,7 +65,8 @@ payload_counted n place bytes rest line false ge is =
       proper = λ p. cc;
     })
 
-counted-is : (count place : ℕ) (bytes rest : List ℕ) (line : Line) → line_counted count place bytes ≡ Ok (line, rest) → IsCounted count line rest bytes
+counted-is : (count place : ℕ) (bytes rest : List ℕ) (line : Line) → line_counted count place bytes ≡ Ok (line, rest)
+    → IsCounted count line rest bytes
 counted-is zero place bytes rest line is =
     let p = ok_parts Flush line bytes rest is in
     rw (← p.0, ← p.1) (record { is = refl; number = refl; len = refl; small = omega arith; proper = λ p. cc })
@@ -77,8 +80,10 @@ counted-is (suc (suc (suc (suc n)))) place bytes rest line is = payload_counted 
 no_long_digits : (count : ℕ) → is_no_line count ≡ false → count ≤ 65520
 no_long_digits count none = let t = or_false (count == 3) (nat_lt 65520 count) none in grind (arith, nat_tests)
 
-tested-is : (bound place count : ℕ) (no long : Bool) (bytes rest digits : List ℕ) (line : Line) → is_no_line count ≡ no → nat_lt bound (place + max count 4) ≡ long → length digits ≡ 4 → number_in digits ≡ Some count
-    → (if no then Err (Broken place) else (if long then Err TooLong else line_counted count place bytes)) ≡ Ok (line, rest) → IsLine bound place line rest (digits ++ bytes)
+tested-is : (bound place count : ℕ) (no long : Bool) (bytes rest digits : List ℕ) (line : Line) → is_no_line count ≡ no
+    → nat_lt bound (place + max count 4) ≡ long → length digits ≡ 4 → number_in digits ≡ Some count
+    → (if no then Err (Broken place) else (if long then Err TooLong else line_counted count place bytes)) ≡ Ok (line, rest)
+    → IsLine bound place line rest (digits ++ bytes)
 tested-is bound place count true long bytes rest digits line none far four number is = cc
 tested-is bound place count false true bytes rest digits line none far four number is = cc
 tested-is bound place count false false bytes rest digits line none far four number is =
@@ -94,7 +99,8 @@ tested-is bound place count false false bytes rest digits line none far four num
       proper = c.proper;
     }
 
-announced-is : (bound place : ℕ) (found : Option ℕ) (bytes rest digits : List ℕ) (line : Line) → length digits ≡ 4 → number_in digits ≡ found → announced bound place found bytes ≡ Ok (line, rest) → IsLine bound place line rest (digits ++ bytes)
+announced-is : (bound place : ℕ) (found : Option ℕ) (bytes rest digits : List ℕ) (line : Line) → length digits ≡ 4
+    → number_in digits ≡ found → announced bound place found bytes ≡ Ok (line, rest) → IsLine bound place line rest (digits ++ bytes)
 unfolding announced
 announced-is bound place None bytes rest digits line four number is = cc
 announced-is bound place (Some count) bytes rest digits line four number is =
@@ -105,9 +111,11 @@ not_chosen place true x is = cc
 not_chosen place false x is = cc
 
 -- What is read as a line is one.
-pub line_at-is : (bound place : ℕ) (bytes rest : List ℕ) (line : Line) → line_at bound place bytes ≡ Ok (line, rest) → IsLine bound place line rest bytes
+pub line_at-is : (bound place : ℕ) (bytes rest : List ℕ) (line : Line) → line_at bound place bytes ≡ Ok (line, rest)
+    → IsLine bound place line rest bytes
 unfolding line_at
-line_at-is bound place (a ∷ b ∷ c ∷ d ∷ bytes) rest line is = announced-is bound place (number_in (a ∷ b ∷ c ∷ d ∷ [])) bytes rest (a ∷ b ∷ c ∷ d ∷ []) line refl refl is
+line_at-is bound place (a ∷ b ∷ c ∷ d ∷ bytes) rest line is =
+    announced-is bound place (number_in (a ∷ b ∷ c ∷ d ∷ [])) bytes rest (a ∷ b ∷ c ∷ d ∷ []) line refl refl is
 line_at-is bound place [] rest line is = cc
 line_at-is bound place (a ∷ []) rest line is = absurd (not_chosen place (list_all is_hex_digit (a ∷ [])) (line, rest) is)
 line_at-is bound place (a ∷ b ∷ []) rest line is = absurd (not_chosen place (list_all is_hex_digit (a ∷ b ∷ [])) (line, rest) is)
@@ -127,10 +135,18 @@ least Delim = omega arith
 least End = omega arith
 
 -- a line's bytes
-pub line_at-len : (bound place : ℕ) (bytes rest : List ℕ) (line : Line) → line_at bound place bytes ≡ Ok (line, rest) → length bytes ≡ line_len line + length rest
+pub line_at-len : (bound place : ℕ) (bytes rest : List ℕ) (line : Line) → line_at bound place bytes ≡ Ok (line, rest)
+    → length bytes ≡ line_len line + length rest
 line_at-len bound place bytes rest line is =
     let l = line_at-is bound place bytes rest line is in
-    omega (arith, ap length l.is, l.four, line_len-is line, length-append l.digits (payload_of line ++ rest), length-append (payload_of line) rest)
+    omega (
+      arith,
+      ap length l.is,
+      l.four,
+      line_len-is line,
+      length-append l.digits (payload_of line ++ rest),
+      length-append (payload_of line) rest,
+    )
 
 abbrev IsShortOf : ℕ → ℕ → ℕ → ℕ → Type 0
 IsShortOf bound place at len = (at ≡ place) × (place + len < bound + 4)
@@ -147,7 +163,8 @@ place_in TooLong = 0
 short_parts : (a b : ℕ) → short_of a ≡ short_of b → a ≡ b
 short_parts a b e = ap place_in (ap (from_err TooLong) e)
 
-short_payload : (n bound place at : ℕ) (bytes : List ℕ) (b : Bool) → nat_lt (length bytes) n ≡ b → place + max (suc (suc (suc (suc n)))) 4 ≤ bound
+short_payload : (n bound place at : ℕ) (bytes : List ℕ) (b : Bool) → nat_lt (length bytes) n ≡ b
+    → place + max (suc (suc (suc (suc n)))) 4 ≤ bound
     → line_counted (suc (suc (suc (suc n)))) place bytes ≡ Err (Short at) → IsShortOf bound place at (length bytes + 4)
 short_payload n bound place at bytes true lt within is =
     let few : length bytes < n = grind (arith, nat_tests) in
@@ -155,35 +172,43 @@ short_payload n bound place at bytes true lt within is =
     (sym (short_parts place at e), omega arith)
 short_payload n bound place at bytes false ge within is = let e = rw ge at is in cc
 
-counted-short : (count bound place at : ℕ) (bytes : List ℕ) → place + max count 4 ≤ bound → line_counted count place bytes ≡ Err (Short at) → IsShortOf bound place at (length bytes + 4)
+counted-short : (count bound place at : ℕ) (bytes : List ℕ) → place + max count 4 ≤ bound → line_counted count place bytes ≡ Err (Short at)
+    → IsShortOf bound place at (length bytes + 4)
 counted-short zero bound place at bytes within is = cc
 counted-short (suc zero) bound place at bytes within is = cc
 counted-short (suc (suc zero)) bound place at bytes within is = cc
 counted-short (suc (suc (suc zero))) bound place at bytes within is = cc
-counted-short (suc (suc (suc (suc n)))) bound place at bytes within is = short_payload n bound place at bytes (nat_lt (length bytes) n) refl within is
+counted-short (suc (suc (suc (suc n)))) bound place at bytes within is =
+    short_payload n bound place at bytes (nat_lt (length bytes) n) refl within is
 
 tested-short : (bound place count at : ℕ) (no long : Bool) (bytes : List ℕ) → nat_lt bound (place + max count 4) ≡ long
-    → (if no then Err (Broken place) else (if long then Err TooLong else line_counted count place bytes)) ≡ Err (Short at) → IsShortOf bound place at (length bytes + 4)
+    → (if no then Err (Broken place) else (if long then Err TooLong else line_counted count place bytes)) ≡ Err (Short at)
+    → IsShortOf bound place at (length bytes + 4)
 tested-short bound place count at true long bytes far is = cc
 tested-short bound place count at false true bytes far is = cc
 tested-short bound place count at false false bytes far is =
     let w : place + max count 4 ≤ bound = grind (arith, nat_tests) in counted-short count bound place at bytes w is
 
-announced-short : (bound place at : ℕ) (found : Option ℕ) (bytes : List ℕ) → announced bound place found bytes ≡ Err (Short at) → IsShortOf bound place at (length bytes + 4)
+announced-short : (bound place at : ℕ) (found : Option ℕ) (bytes : List ℕ) → announced bound place found bytes ≡ Err (Short at)
+    → IsShortOf bound place at (length bytes + 4)
 unfolding announced
 announced-short bound place at None bytes is = cc
 announced-short bound place at (Some count) bytes is =
     tested-short bound place count at (is_no_line count) (nat_lt bound (place + max count 4)) bytes refl is
 
-few_short : (bound place at len : ℕ) (b : Bool) → place ≤ bound → len < 4 → short_or_broken place b ≡ Err (Short at) → IsShortOf bound place at len
+few_short : (bound place at len : ℕ) (b : Bool) → place ≤ bound → len < 4 → short_or_broken place b ≡ Err (Short at)
+    → IsShortOf bound place at len
 few_short bound place at len true le few is = (sym (short_parts place at is), omega arith)
 few_short bound place at len false le few is = cc
 
 -- A line that isn't whole is short of a bounded length.
-pub line_at-short : (bound place at : ℕ) (bytes : List ℕ) → place ≤ bound → line_at bound place bytes ≡ Err (Short at) → (at ≡ place) × (place + length bytes < bound + 4)
+pub line_at-short : (bound place at : ℕ) (bytes : List ℕ) → place ≤ bound → line_at bound place bytes ≡ Err (Short at) → (at ≡ place)
+    × (place + length bytes < bound + 4)
 unfolding line_at
-line_at-short bound place at (a ∷ b ∷ c ∷ d ∷ bytes) le is = let s = announced-short bound place at (number_in (a ∷ b ∷ c ∷ d ∷ [])) bytes is in (s.0, omega (arith, s.1))
+line_at-short bound place at (a ∷ b ∷ c ∷ d ∷ bytes) le is = let s =
+    announced-short bound place at (number_in (a ∷ b ∷ c ∷ d ∷ [])) bytes is in (s.0, omega (arith, s.1))
 line_at-short bound place at [] le is = few_short bound place at 0 true le (omega arith) is
 line_at-short bound place at (a ∷ []) le is = few_short bound place at 1 (list_all is_hex_digit (a ∷ [])) le (omega arith) is
 line_at-short bound place at (a ∷ b ∷ []) le is = few_short bound place at 2 (list_all is_hex_digit (a ∷ b ∷ [])) le (omega arith) is
-line_at-short bound place at (a ∷ b ∷ c ∷ []) le is = few_short bound place at 3 (list_all is_hex_digit (a ∷ b ∷ c ∷ [])) le (omega arith) is
+line_at-short bound place at (a ∷ b ∷ c ∷ []) le is =
+    few_short bound place at 3 (list_all is_hex_digit (a ∷ b ∷ c ∷ [])) le (omega arith) is

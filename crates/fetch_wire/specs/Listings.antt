@@ -68,7 +68,8 @@ named_by kind id ((c ∷ cs) ∷ attributes) = option_and_then (ref_with (c ∷ 
 
 -- an id or `unborn`, a space, and a name with attributes, which spaces divide
 abbrev pub ref_in : Kind → List ℕ → Option Ref
-ref_in kind text = option_and_then (λ parts. option_and_then (λ id. named_by kind id (words parts.1)) (id_or_unborn kind parts.0)) (split_first 32 text)
+ref_in kind text = option_and_then (λ parts. option_and_then (λ id. named_by kind id (words parts.1)) (id_or_unborn kind parts.0))
+    (split_first 32 text)
 
 -- whether a reference of this name was listed before
 abbrev pub is_listed : List Ref → Ref → Bool
@@ -80,4 +81,5 @@ if_new before reference = if is_listed before reference then None else Some refe
 
 -- a set has the digest of the name of each of these references
 abbrev pub HasDigests : List Ref → BTreeSet ObjectId → Type 0
-HasDigests refs digests = (name : List ℕ) → list_any (λ r. bytes_eq (name_in r) name) refs ≡ true → contains id_cmp digests (digest Sha256 name) ≡ true
+HasDigests refs digests = (name : List ℕ) → list_any (λ r. bytes_eq (name_in r) name) refs ≡ true
+    → contains id_cmp digests (digest Sha256 name) ≡ true

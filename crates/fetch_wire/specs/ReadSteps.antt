@@ -3,7 +3,8 @@ use Rattle.std.specs.Prelude.{List, ℕ}
 use Rattle.fetch_wire.specs.declared.replies.awaited.AskedReply.{AskedReply}
 use Rattle.fetch_wire.specs.declared.replies.awaited.Told.{Told}
 use Rattle.fetch_wire.specs.declared.replies.reading.Part.{Part}
-use Rattle.fetch_wire.specs.declared.replies.reading.Part.TheVariants.{Beginning, Acknowledgments, Ready, Rest, ShallowInfo, Packfile, Bands}
+use Rattle.fetch_wire.specs.declared.replies.reading.Part.TheVariants.{Beginning, Acknowledgments, Ready, Rest, ShallowInfo, Packfile}
+use Rattle.fetch_wire.specs.declared.replies.reading.Part.TheVariants.{Bands}
 use Rattle.fetch_wire.specs.declared.replies.reading.Read.{Read}
 use Rattle.fetch_wire.specs.declared.replies.reading.Read.TheVariants.{On, Whole, Broken, Said}
 use Rattle.fetch_wire.specs.declared.replies.reading.Reading.{Reading}

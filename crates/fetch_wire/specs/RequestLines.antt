@@ -26,4 +26,5 @@ pack_place lines = unwrap_or (position is_plain_pack lines) (length lines)
 unfoldable pub request_lines : Request → List Line
 request_lines r =
     let place = pack_place r.lines in
-    sent (take place r.lines) ++ Delim ∷ [] ++ sent (drop place r.lines ++ id_lines have_word r.haves ++ when r.done done_word) ++ Flush ∷ []
+    sent (take place r.lines) ++ Delim ∷ [] ++ sent (drop place r.lines ++ id_lines have_word r.haves ++ when r.done done_word)
+    ++ Flush ∷ []

@@ -24,7 +24,8 @@ parameters_text parameters = flat_map parameter_text parameters
 
 -- The first line of a conversation names the repository and tells the version and the parameters.
 unfoldable pub first_line : List ℕ → List (List ℕ × Option (List ℕ)) → Line
-first_line address parameters = Payload (codes "git-upload-pack " ++ address ++ (0 ∷ 0 ∷ codes "version=2" ++ 0 ∷ []) ++ parameters_text parameters)
+first_line address parameters = Payload (codes "git-upload-pack " ++ address ++ (0 ∷ 0 ∷ codes "version=2" ++ 0 ∷ [])
+    ++ parameters_text parameters)
 
 -- the agent begins with `git/`
 unfoldable pub agent_text : List ℕ → List ℕ
@@ -65,4 +66,5 @@ prefix_text prefix = codes "ref-prefix " ++ prefix
 -- the request for the references, of these prefixes alone where there are some
 abbrev pub listing_lines : Handshake → List ℕ → List (List ℕ) → List Line
 listing_lines handshake agent prefixes =
-    sent (listing_word ∷ head_texts handshake agent) ++ Delim ∷ [] ++ sent (detail_texts handshake ++ map prefix_text prefixes) ++ Flush ∷ []
+    sent (listing_word ∷ head_texts handshake agent) ++ Delim ∷ [] ++ sent (detail_texts handshake ++ map prefix_text prefixes)
+    ++ Flush ∷ []

@@ -142,7 +142,8 @@ at_last change bands = with_change change (packed bands)
 
 -- a reply that ends the rounds by itself
 abbrev pub ready_lines : List ObjectId → Option BorderChange → List Band → List Line
-ready_lines ids change bands = sent (codes "acknowledgments" ∷ acknowledged_texts ids ++ codes "ready" ∷ []) ++ Delim ∷ last_lines change bands
+ready_lines ids change bands = sent (codes "acknowledgments" ∷ acknowledged_texts ids ++ codes "ready" ∷ [])
+    ++ Delim ∷ last_lines change bands
 
 -- a pack in bands of 65,515 bytes, the last of which may be shorter
 abbrev pub bands_of : List ℕ → List Band

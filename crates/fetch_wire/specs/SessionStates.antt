@@ -1,5 +1,6 @@
 -- A session: what it sends, what it takes in, and what it was told.
-use Rattle.std.specs.Prelude.{◌≡◌, ◌⊎◌, ℕ, Bool, true, false, List, [], ◌∷◌, ◌++◌, Option, Some, None, Result, Ok, Err, codes, is_some, length, ◌==◌, ◌||◌, ⊤}
+use Rattle.std.specs.Prelude.{◌≡◌, ◌⊎◌, ℕ, Bool, true, false, List, [], ◌∷◌, ◌++◌, Option, Some, None, Result, Ok, Err, codes, is_some}
+use Rattle.std.specs.Prelude.{length, ◌==◌, ◌||◌, ⊤}
 use Rattle.fetch_store.specs.declared.id.Kind.{Kind}
 use Rattle.fetch_store.specs.declared.id.Kind.TheVariants.{Sha1}
 use Rattle.fetch_wire.specs.declared.replies.awaited.AskedReply.{AskedReply}
@@ -83,7 +84,11 @@ listing_feature = codes "ls-refs"
 abbrev pub listing_by : Option ℕ → Bool → Handshake → List Line → SessionState → SessionState
 listing_by (Some n) offered h lines s = failing (errors.LineTooLong n) s
 listing_by None false h lines s = failing (errors.MissingFeature listing_feature) s
-listing_by None true h lines s = record s { intake = awaiting (awaits.Listing h.object_hash) s.intake; outgoing = s.outgoing ++ lines_text lines }
+listing_by None true h lines s = record s {
+  intake = awaiting (awaits.Listing h.object_hash) s.intake;
+  outgoing = s.outgoing
+      ++ lines_text lines;
+}
 
 -- The references are asked for. A line of that request that is too long comes first, and then a server that doesn't list.
 abbrev pub asks_listing : Handshake → SessionState → SessionState
@@ -209,7 +214,11 @@ asked_by s r read_pack = record { kind = kind_of s.handshake; haves = r.haves; d
 -- The request's lines are to be sent, and its reply is awaited. What was fed ahead may be that reply.
 abbrev pub requested : SessionState → Request → Bool → SessionState
 requested s r read_pack =
-    read_one rests (record s { intake = awaiting (awaits.Reply (asked_by s r read_pack)) s.intake; outgoing = lines_text (request_lines r); reply = None })
+    read_one rests (record s {
+      intake = awaiting (awaits.Reply (asked_by s r read_pack)) s.intake;
+      outgoing = lines_text (request_lines r);
+      reply = None;
+    })
 
 -- ---- how the code goes
 

@@ -1,5 +1,7 @@
--- What a server says, line by line, in any spelling: digits of either case, texts with their line feed or without it, and words that tell nothing.
-use Rattle.std.specs.Prelude.{◌≡◌, ◌⊎◌, ℕ, true, false, ⊤, List, [], ◌∷◌, ◌++◌, map, Bool, Option, Some, None, IfSome, All, codes, if◌then◌else◌}
+-- What a server says, line by line, in any spelling: digits of either case, texts with their line feed or without it, and words that tell
+-- nothing.
+use Rattle.std.specs.Prelude.{◌≡◌, ◌⊎◌, ℕ, true, false, ⊤, List, [], ◌∷◌, ◌++◌, map, Bool, Option, Some, None, IfSome, All, codes}
+use Rattle.std.specs.Prelude.{if◌then◌else◌}
 use Rattle.std.specs.List.{concat}
 use Rattle.std.specs.Option.{option_or}
 use Rattle.fetch_store.specs.Id.{id_in_hex}
@@ -183,7 +185,8 @@ IsPack asked bands (line ∷ lines) = IsText (codes "packfile") line × AreBands
 abbrev pub AreMoves : Kind → Option (List Move) → List Line → Type 0
 AreMoves kind None lines = lines ≡ []
 AreMoves kind (Some moves) lines =
-    (front : List Line) × (lines ≡ front ++ Delim ∷ []) × AreTexts (codes "shallow-info" ∷ map move_text moves) front × All (IsMove kind) moves
+    (front : List Line) × (lines ≡ front ++ Delim ∷ []) × AreTexts (codes "shallow-info" ∷ map move_text moves) front
+    × All (IsMove kind) moves
 
 -- the moves that are told, if any are
 abbrev pub all_moves : Option (List Move) → List Move
@@ -215,7 +218,8 @@ pub record IsRest (asked : AskedReply) (acknowledged : List ObjectId) (reply : F
 -- `acknowledgments` with these words after it
 abbrev pub AreAcknowledged : AskedReply → List Acknowledgment → List (List ℕ) → List Line → Type 0
 AreAcknowledged asked acknowledgments more lines =
-    AreTexts (codes "acknowledgments" ∷ map acknowledgment_text acknowledgments ++ more) lines × All (IsAcknowledgment asked) acknowledgments
+    AreTexts (codes "acknowledgments" ∷ map acknowledgment_text acknowledgments ++ more) lines
+    × All (IsAcknowledgment asked) acknowledgments
 
 -- A reply to a request without `done` that ends with its acknowledgments: more haves may come.
 pub record IsRound (asked : AskedReply) (reply : FetchReply) (lines : List Line) : Type 0 where

@@ -42,7 +42,8 @@ after_line (Ok x) f = f x.0 x.1
 unfoldable pub read_within : {S T : Type 0} → ℕ → (S → Line → Step S T) → ℕ → S → ℕ → List ℕ → Result (T × List ℕ) Fault
 read_within zero step bound s place bytes = Err (Short place)
 read_within (suc n) step bound s place bytes =
-    after_line (line_at bound place bytes) (λ line rest. after_step place rest (λ t. read_within n step bound t (place + line_len line) rest) (step s line))
+    after_line (line_at bound place bytes) (λ line rest.
+    after_step place rest (λ t. read_within n step bound t (place + line_len line) rest) (step s line))
 
 -- What bytes at this place of a reply of bounded length tell, read line by line from this state, and what follows.
 -- At each line come its digits, then the bound, then the grammar, and the first line in order decides. Each line has a

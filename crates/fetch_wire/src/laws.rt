@@ -27,7 +27,9 @@ ghost use Rattle.fetch_wire.specs.declared.session.turn.Turn.TheVariants as turn
 ghost use Rattle.std.specs.Prelude.{Bool, length, drop};
 ghost use Rattle.fetch_wire.specs.LinesTold.{Writes, Tells};
 ghost use Rattle.fetch_wire.specs.NamesTold.{NamesOnce, AreNamedOnce};
-ghost use Rattle.fetch_wire.specs.ServerLines.{greeting_lines, IsTellable, listing_lines_of, IsListable, IsIdOf, round_lines, in_round, BorderChange, IsChangeOf, change_lines, last_lines, at_last, with_change, ready_lines, bands_of};
+ghost use Rattle.fetch_wire.specs.ServerLines.{greeting_lines, IsTellable, listing_lines_of, IsListable, IsIdOf, round_lines, in_round};
+ghost use Rattle.fetch_wire.specs.ServerLines.{BorderChange, IsChangeOf, change_lines, last_lines, at_last, with_change, ready_lines};
+ghost use Rattle.fetch_wire.specs.ServerLines.{bands_of};
 ghost use Rattle.fetch_wire.specs.AdvertisementLines.{advertisement_lines, IsOneWord, IsAdvertisable};
 ghost use Rattle.fetch_wire.specs.Advertisements.{handshake_1, is_null};
 ghost use Rattle.fetch_wire.specs.Greetings.{handshake_of};
@@ -144,7 +146,8 @@ pub fn sessions_end_alike()
 
 /// It is the same turn in both of such sessions. Where nothing is awaited they are one, and so they are after a request.
 pub fn sessions_take_turns_alike()
-    ensures { (a b : SessionState) → session.IsAlike a b → (session.turn_of a ≡ session.turn_of b) × (session.turn_of a ≡ turns.Idle → a ≡ b) }
+    ensures { (a b : SessionState) → session.IsAlike a b → (session.turn_of a ≡ session.turn_of b)
+        × (session.turn_of a ≡ turns.Idle → a ≡ b) }
 {}
 
 /// A request to either of such sessions makes them alike again.
@@ -190,19 +193,22 @@ pub fn advertisements_are_read_back()
         → All IsOneWord capabilities → IsIdOf (handshake_1 capabilities).object_hash null → is_null null ≡ true
         → All (IsAdvertisable (handshake_1 capabilities).object_hash capabilities) refs → AreNamedOnce refs
         → All (IsIdOf (handshake_1 capabilities).object_hash) border
-        → Tells step_of (start_of await.Greeting) (advertisement_lines null capabilities refs border) (told.Advertisement (handshake_1 capabilities) refs) }
+        → Tells step_of (start_of await.Greeting) (advertisement_lines null capabilities refs border)
+        (told.Advertisement (handshake_1 capabilities) refs) }
 {}
 
 /// Acknowledgments of haves are read back, where the request doesn't end the rounds.
 pub fn rounds_are_read_back()
     ensures { (asked : AskedReply) (ids : List ObjectId) → asked.done ≡ false → All (IsIdOf asked.kind) ids
-        → All (λ id. has_id id asked.haves ≡ true) ids → Tells step_of (start_of (Reply asked)) (round_lines ids) (told.Reply (in_round ids)) }
+        → All (λ id. has_id id asked.haves ≡ true) ids
+        → Tells step_of (start_of (Reply asked)) (round_lines ids) (told.Reply (in_round ids)) }
 {}
 
 /// The reply to `done` is read back: the border's change, where it is told, and the pack, however it is cut into bands.
 pub fn last_replies_are_read_back()
     ensures { (asked : AskedReply) (change : Option BorderChange) (bands : List Band) → asked.done ≡ true → asked.read_pack ≡ true
-        → IfSome change (IsChangeOf asked.kind) → Tells step_of (start_of (Reply asked)) (last_lines change bands) (told.Reply (at_last change bands)) }
+        → IfSome change (IsChangeOf asked.kind)
+        → Tells step_of (start_of (Reply asked)) (last_lines change bands) (told.Reply (at_last change bands)) }
 {}
 
 /// Bands of a pack hold it, and no progress.
@@ -212,15 +218,19 @@ pub fn bands_hold_the_pack()
 
 /// Where the pack isn't read, the reply is whole with the line `packfile`.
 pub fn unread_replies_end_at_the_pack()
-    ensures { (asked : AskedReply) (change : Option BorderChange) → asked.done ≡ true → asked.read_pack ≡ false → IfSome change (IsChangeOf asked.kind)
-        → Tells step_of (start_of (Reply asked)) (change_lines change ++ text_line (codes "packfile") ∷ []) (told.Reply (with_change change no_reply)) }
+    ensures { (asked : AskedReply) (change : Option BorderChange) → asked.done ≡ true → asked.read_pack ≡ false
+        → IfSome change (IsChangeOf asked.kind)
+        → Tells step_of (start_of (Reply asked)) (change_lines change ++ text_line (codes "packfile") ∷ [])
+        (told.Reply (with_change change no_reply)) }
 {}
 
 /// A reply that ends the rounds by `ready` is read back: its acknowledgments, and all that a reply to `done` tells.
 pub fn ready_replies_are_read_back()
-    ensures { (asked : AskedReply) (ids : List ObjectId) (change : Option BorderChange) (bands : List Band) → asked.done ≡ false → asked.read_pack ≡ true
+    ensures { (asked : AskedReply) (ids : List ObjectId) (change : Option BorderChange) (bands : List Band) → asked.done ≡ false
+        → asked.read_pack ≡ true
         → All (IsIdOf asked.kind) ids → All (λ id. has_id id asked.haves ≡ true) ids → IfSome change (IsChangeOf asked.kind)
-        → Tells step_of (start_of (Reply asked)) (ready_lines ids change bands) (told.Reply (record (at_last change bands) { acknowledged = each_once ids })) }
+        → Tells step_of (start_of (Reply asked)) (ready_lines ids change bands)
+        (told.Reply (record (at_last change bands) { acknowledged = each_once ids })) }
 {}
 
 /// What bytes tell of a reply is told by lines, which they write with digits of either case before what follows them.
@@ -231,29 +241,34 @@ pub fn replies_that_are_read_are_lines()
 
 /// A reply is too long exactly where its first lines go on, and the digits of the line after them pass the bound.
 pub fn replies_that_are_too_long()
-    ensures { (bound : ℕ) (awaited : Await) (bytes : List ℕ) → (told_at bound awaited bytes ≡ Err fault.TooLong) ↔ IsTooLong step_of bound (start_of awaited) bytes }
+    ensures { (bound : ℕ) (awaited : Await) (bytes : List ℕ)
+        → (told_at bound awaited bytes ≡ Err fault.TooLong) ↔ IsTooLong step_of bound (start_of awaited) bytes }
 {}
 
 /// A greeting of version 2 that was read is one, as its grammar writes it.
 pub fn greetings_that_are_read_are_greetings()
-    ensures { (bound : ℕ) (bytes rest : List ℕ) (handshake : Handshake) → told_at bound await.Greeting bytes ≡ Ok (told.Greeting handshake, rest)
+    ensures { (bound : ℕ) (bytes rest : List ℕ) (handshake : Handshake)
+        → told_at bound await.Greeting bytes ≡ Ok (told.Greeting handshake, rest)
         → (lines : List Line) × Writes bound 0 lines rest bytes × IsGreeting handshake lines }
 {}
 
 /// An advertisement of version 1 that was read is one, as its grammar writes it.
 pub fn advertisements_that_are_read_are_advertisements()
-    ensures { (bound : ℕ) (bytes rest : List ℕ) (handshake : Handshake) (refs : List Ref) → told_at bound await.Greeting bytes ≡ Ok (told.Advertisement handshake refs, rest)
+    ensures { (bound : ℕ) (bytes rest : List ℕ) (handshake : Handshake) (refs : List Ref)
+        → told_at bound await.Greeting bytes ≡ Ok (told.Advertisement handshake refs, rest)
         → (lines : List Line) × Writes bound 0 lines rest bytes × IsAdvertisement handshake refs lines }
 {}
 
 /// A listing that was read is one, as its grammar writes it.
 pub fn listings_that_are_read_are_listings()
-    ensures { (bound : ℕ) (kind : Kind) (bytes rest : List ℕ) (refs : List Ref) → told_at bound (await.Listing kind) bytes ≡ Ok (told.Listing refs, rest)
+    ensures { (bound : ℕ) (kind : Kind) (bytes rest : List ℕ) (refs : List Ref)
+        → told_at bound (await.Listing kind) bytes ≡ Ok (told.Listing refs, rest)
         → (lines : List Line) × Writes bound 0 lines rest bytes × IsListing kind refs lines }
 {}
 
 /// A reply to a fetch request that was read is one, as its grammar writes it.
 pub fn replies_that_are_read_are_replies()
-    ensures { (bound : ℕ) (asked : AskedReply) (bytes rest : List ℕ) (reply : FetchReply) → told_at bound (Reply asked) bytes ≡ Ok (told.Reply reply, rest)
+    ensures { (bound : ℕ) (asked : AskedReply) (bytes rest : List ℕ) (reply : FetchReply)
+        → told_at bound (Reply asked) bytes ≡ Ok (told.Reply reply, rest)
         → (lines : List Line) × Writes bound 0 lines rest bytes × IsReply asked reply lines }
 {}

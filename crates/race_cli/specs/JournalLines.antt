@@ -23,7 +23,8 @@ taken_line word id = word ++ codes " " ++ hex_of id ++ codes "\n"
 
 -- the lines of a pack that was taken: its ids, and what it says of the border
 unfoldable pub taken_lines : List ObjectId → List ObjectId → List ObjectId → List ℕ
-taken_lines ids shallow unshallow = flat_map (taken_line (codes "has")) ids ++ flat_map (taken_line (codes "shallow")) shallow ++ flat_map (taken_line (codes "unshallow")) unshallow
+taken_lines ids shallow unshallow = flat_map (taken_line (codes "has")) ids ++ flat_map (taken_line (codes "shallow")) shallow
+    ++ flat_map (taken_line (codes "unshallow")) unshallow
 
 -- a reference that was moved, and where to
 unfoldable pub set_line : List ℕ → Target → List ℕ

@@ -20,5 +20,7 @@ pub fn a_scene_is_a_race_of_one_job()
 /// Where a race left what its journal makes of the scene's repository, its report is a function of the scene, the journal and
 /// what the jobs were answered.
 pub fn a_race_is_told_by_its_journal()
-    ensures { (scene : RaceScene) (journal : List Entry) (left : RepositoryValue) (answers : List Answer) (status : ℕ) (text : List ℕ) → outline left ≡ replay (outline (opening_of scene)) journal → IsRaceReport journal (outline left) answers status text → race_of scene journal answers ≡ (status, text) }
+    ensures { (scene : RaceScene) (journal : List Entry) (left : RepositoryValue) (answers : List Answer) (status : ℕ) (text : List ℕ)
+        → outline left ≡ replay (outline (opening_of scene)) journal → IsRaceReport journal (outline left) answers status text
+        → race_of scene journal answers ≡ (status, text) }
 {}

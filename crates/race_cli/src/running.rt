@@ -165,9 +165,12 @@ pub fn run_race<R: Threads + Wait + Sync, S: Source, K: Sink>(
     ensures quiet_source { result ≢ 2 → (S.faults source.new).count ≡ (S.faults source.old).count }
     ensures quiet_sink { result ≢ 3 → (K.faults sink.new).count ≡ (K.faults sink.old).count }
     ensures write { result ≡ 3 → Rose (K.faults sink.old) (K.faults sink.new) }
-    ensures front { result ≡ 3 → WritesFront (map (λ word. word.items) words.now) (S.left source.old) (K.taken sink.old) (K.taken sink.new) }
-    ensures malformed { result ≡ 4 → Writes (map (λ word. word.items) words.now) (S.left source.old) (K.taken sink.old) (K.taken sink.new) 4 }
-    ensures memory { result ≡ 5 → (sink.new ≡ sink.old) ⊎ WritesFront (map (λ word. word.items) words.now) (S.left source.old) (K.taken sink.old) (K.taken sink.new) }
+    ensures front { result ≡ 3 → WritesFront (map (λ word. word.items) words.now) (S.left source.old) (K.taken sink.old)
+        (K.taken sink.new) }
+    ensures malformed { result ≡ 4 → Writes (map (λ word. word.items) words.now) (S.left source.old) (K.taken sink.old)
+        (K.taken sink.new) 4 }
+    ensures memory { result ≡ 5 → (sink.new ≡ sink.old)
+        ⊎ WritesFront (map (λ word. word.items) words.now) (S.left source.old) (K.taken sink.old) (K.taken sink.new) }
     // Where the jobs were raced, the source was read to its end.
     ensures end { result ≤ 1 → IsAtEnd (S.left source.new) }
     // Words are tested before the source is read.

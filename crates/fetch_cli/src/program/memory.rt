@@ -1,6 +1,7 @@
 //! A source and a sink in memory.
 
-ghost use Rattle.std.specs.Prelude.{◌≡◌, ◌≤◌, ◌<◌, ◌+◌, ◌↔◌, ℕ, [], min, nat_lt, length, Some, drop, IfSome, IfOk, OnOk, OnErr, IsErr, IsErrOf, Contains};
+ghost use Rattle.std.specs.Prelude.{◌≡◌, ◌≤◌, ◌<◌, ◌+◌, ◌↔◌, ℕ, [], min, nat_lt, length, Some, drop, IfSome, IfOk, OnOk, OnErr, IsErr};
+ghost use Rattle.std.specs.Prelude.{IsErrOf, Contains};
 ghost use Rattle.std.specs.Io.KnownBytes.{ReadConsumes};
 ghost use Rattle.fetch_store.specs.Calls.{one_more, faults_of};
 ghost use Rattle.fetch_store.specs.Faults.{Faults, Rose, Counts};
@@ -125,8 +126,10 @@ impl Sink for MemorySink {
     fn write_all(&mut self, bytes: &[u8]) -> Result<(), SendFault>
         ensures bytes { Takes (Some self.old.taken) (Some self.new.taken) result bytes.now }
         ensures counts { Counts (faults_of self.old.calls self.old.failed) (faults_of self.new.calls self.new.failed) }
-        ensures cause { IsErrOf result SendFault.Failed → Rose (faults_of self.old.calls self.old.failed) (faults_of self.new.calls self.new.failed) }
-        ensures quiet { ¬ IsErrOf result SendFault.Failed → (faults_of self.new.calls self.new.failed).count ≡ (faults_of self.old.calls self.old.failed).count }
+        ensures cause { IsErrOf result SendFault.Failed
+            → Rose (faults_of self.old.calls self.old.failed) (faults_of self.new.calls self.new.failed) }
+        ensures quiet { ¬ IsErrOf result SendFault.Failed
+            → (faults_of self.new.calls self.new.failed).count ≡ (faults_of self.old.calls self.old.failed).count }
         ensures failed { IsErrOf result SendFault.Failed → self.new.failed ≡ one_more self.old.failed }
         ensures fails { IsErrOf result SendFault.Failed ↔ Contains self.old.calls.listed self.old.calls.next }
         ensures next { self.new.calls.next ≡ one_more self.old.calls.next }

@@ -235,18 +235,23 @@ pub fn run<R: Threads + Sync, S: Source, K: Sink>(
     ensures quiet_source { result ≢ 2 → (S.faults source.new).count ≡ (S.faults source.old).count }
     ensures quiet_sink { result ≢ 3 → (K.faults sink.new).count ≡ (K.faults sink.old).count }
     ensures write { result ≡ 3 → Rose (K.faults sink.old) (K.faults sink.new) }
-    ensures front { result ≡ 3 → WritesFront (map (λ word. word.items) words.now) (S.left source.old) (K.taken sink.old) (K.taken sink.new) }
-    ensures malformed { result ≡ 4 → Writes (map (λ word. word.items) words.now) (S.left source.old) (K.taken sink.old) (K.taken sink.new) 4 }
-    ensures memory { result ≡ 5 → (sink.new ≡ sink.old) ⊎ WritesFront (map (λ word. word.items) words.now) (S.left source.old) (K.taken sink.old) (K.taken sink.new) }
+    ensures front { result ≡ 3 → WritesFront (map (λ word. word.items) words.now) (S.left source.old) (K.taken sink.old)
+        (K.taken sink.new) }
+    ensures malformed { result ≡ 4 → Writes (map (λ word. word.items) words.now) (S.left source.old) (K.taken sink.old)
+        (K.taken sink.new) 4 }
+    ensures memory { result ≡ 5 → (sink.new ≡ sink.old)
+        ⊎ WritesFront (map (λ word. word.items) words.now) (S.left source.old) (K.taken sink.old) (K.taken sink.new) }
     // Where a fetch was done or refused, or a repository was checked, the source was read to its end.
     ensures end { asks_input (map (λ word. word.items) words.now) ≡ true → result ≤ 1 → IsAtEnd (S.left source.new) }
     // Words are tested before the source is read.
     ensures words { asks_input (map (λ word. word.items) words.now) ≡ false → source.new ≡ source.old }
     ensures known { result ≤ 5 }
     // Where the source tells what is in it, the status is that of the one answer.
-    ensures exact { (bytes : List ℕ) (status : ℕ) (text : List ℕ) → S.left source.old ≡ Some bytes → IsAnswer (map (λ word. word.items) words.now) (Some bytes) status text → IsUnlessFailed result status }
+    ensures exact { (bytes : List ℕ) (status : ℕ) (text : List ℕ) → S.left source.old ≡ Some bytes
+        → IsAnswer (map (λ word. word.items) words.now) (Some bytes) status text → IsUnlessFailed result status }
     // A bench writes the summary of its scene, with its status.
-    ensures bench { (count : ℕ) → AsksBench (map (λ word. word.items) words.now) count → result ≤ 1 → WritesSummary count (K.taken sink.old) (K.taken sink.new) result }
+    ensures bench { (count : ℕ) → AsksBench (map (λ word. word.items) words.now) count → result ≤ 1
+        → WritesSummary count (K.taken sink.old) (K.taken sink.new) result }
     ensures bench_exact { (count : ℕ) → AsksBench (map (λ word. word.items) words.now) count → IsUnlessFailed result (bench_status count) }
     // A check writes all that is found in the repository of its scene, with its status.
     ensures check { (findings : Findings) → HasFindings (map (λ word. word.items) words.now) (S.left source.old) findings

@@ -96,7 +96,12 @@ fn refs_of(
     references: &[Reference],
     committer: &Signature,
 ) -> Result<Refs, NoMemory>
-    ensures { IfOk result (λ refs. refs ≡ record { hash = hash; names = spec.with_references finmap.empty references.now; logs = finmap.empty; packed = finmap.empty }) }
+    ensures { IfOk result (λ refs. refs ≡ record {
+      hash = hash;
+      names = spec.with_references finmap.empty references.now;
+      logs = finmap.empty;
+      packed = finmap.empty;
+    }) }
 {
     let edits = edits_of(alloc, references)?;
     let mut refs = Refs::new(alloc, hash);
@@ -178,7 +183,8 @@ fn open(
     requires refs { store.hash ≡ refs.hash }
     requires hash { store.hash ≡ local.head.hash }
     requires committer { committer ≡ spec.committer }
-    ensures state { IfOk result (λ x. state_of x.0 ≡ record { hash = store.hash; objects = store.objects; border = local.border; refs = refs }) }
+    ensures state { IfOk result (λ x. state_of x.0
+        ≡ record { hash = store.hash; objects = store.objects; border = local.border; refs = refs }) }
     ensures setup { IfOk result (λ x. setup_of x.0 ≡ spec.setup_in local.head local.config) }
     ensures worktrees { IfOk result (λ x. x.1 ≡ local.worktrees) }
 {

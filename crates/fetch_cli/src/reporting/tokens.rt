@@ -133,7 +133,8 @@ fn append_expectation(
     index: usize,
     found: &Option<Target>,
 ) -> Result<(), NoMemory>
-    ensures { OnOk result (out.new.items ≡ out.old.items ++ spec.keeping (spec.keeping word.now (decimal index)) (spec.found_text found.now)) }
+    ensures { OnOk result (out.new.items ≡ out.old.items
+        ++ spec.keeping (spec.keeping word.now (decimal index)) (spec.found_text found.now)) }
 {
     append_count(out, word, index)?;
     out.extend_from_slice(b" ")?;
@@ -231,7 +232,8 @@ fn append_kind(out: &mut Vec<u8>, kind: Kind) -> Result<(), NoMemory>
 
 #[tactic(auto, unfolding(crate::specs::Tokens::keeping))]
 fn append_kinds(out: &mut Vec<u8>, word: &[u8], local: Kind, remote: Kind) -> Result<(), NoMemory>
-    ensures { OnOk result (out.new.items ≡ out.old.items ++ spec.keeping (spec.keeping word.now (spec.hash_text local)) (spec.hash_text remote)) }
+    ensures { OnOk result (out.new.items ≡ out.old.items
+        ++ spec.keeping (spec.keeping word.now (spec.hash_text local)) (spec.hash_text remote)) }
 {
     out.extend_from_slice(word)?;
     out.extend_from_slice(b" ")?;

@@ -50,10 +50,24 @@ pub(crate) fn completed<
     worktrees: &mut W,
 ) -> Result<Outcome, Error>
     requires { G.IsAlwaysCallable configure.old }
-    ensures completed { IfOk result (IsCompleted (I.will_stop interrupt.old) (I.will_stop interrupt.new) (ways (CalledAtMut G.FnMut) C.Peer.told C.Peer.answers) (line (C.left maker.old) (C.taken maker.old) (C.addresses maker.old) configure.old) (line (C.left maker.new) (C.taken maker.new) (C.addresses maker.new) configure.new) (W.told worktrees.old) (F.told files.old) (F.told files.new) draft.now saved.now repo.old repo.new) }
-    ensures refused { IfErr result (IsUncompleted (ways (CalledAtMut G.FnMut) C.Peer.told C.Peer.answers) (C.faults maker.old) (C.faults maker.new) (line (C.left maker.old) (C.taken maker.old) (C.addresses maker.old) configure.old) (line (C.left maker.new) (C.taken maker.new) (C.addresses maker.new) configure.new) (W.told worktrees.old) (F.may_fail files.old) (F.told files.old) (F.told files.new) draft.now saved.now repo.old repo.new) }
-    ensures counted { IfErr result (IsCounted (meters (C.faults maker.old) (C.lost maker.old) (I.yes interrupt.old) (F.faults files.old) (tree_meters (W.listing worktrees.old) (W.open_repo worktrees.old) (W.follow_symref worktrees.old))) (meters (C.faults maker.new) (C.lost maker.new) (I.yes interrupt.new) (F.faults files.new) (tree_meters (W.listing worktrees.new) (W.open_repo worktrees.new) (W.follow_symref worktrees.new)))) }
-    ensures later { Later (meters (C.faults maker.old) (C.lost maker.old) (I.yes interrupt.old) (F.faults files.old) (tree_meters (W.listing worktrees.old) (W.open_repo worktrees.old) (W.follow_symref worktrees.old))) (meters (C.faults maker.new) (C.lost maker.new) (I.yes interrupt.new) (F.faults files.new) (tree_meters (W.listing worktrees.new) (W.open_repo worktrees.new) (W.follow_symref worktrees.new))) }
+    ensures completed { IfOk result (IsCompleted (I.will_stop interrupt.old) (I.will_stop interrupt.new)
+        (ways (CalledAtMut G.FnMut) C.Peer.told C.Peer.answers)
+        (line (C.left maker.old) (C.taken maker.old) (C.addresses maker.old) configure.old)
+        (line (C.left maker.new) (C.taken maker.new) (C.addresses maker.new) configure.new) (W.told worktrees.old) (F.told files.old)
+        (F.told files.new) draft.now saved.now repo.old repo.new) }
+    ensures refused { IfErr result (IsUncompleted (ways (CalledAtMut G.FnMut) C.Peer.told C.Peer.answers) (C.faults maker.old)
+        (C.faults maker.new) (line (C.left maker.old) (C.taken maker.old) (C.addresses maker.old) configure.old)
+        (line (C.left maker.new) (C.taken maker.new) (C.addresses maker.new) configure.new) (W.told worktrees.old) (F.may_fail files.old)
+        (F.told files.old) (F.told files.new) draft.now saved.now repo.old repo.new) }
+    ensures counted { IfErr result (IsCounted
+        (meters (C.faults maker.old) (C.lost maker.old) (I.yes interrupt.old) (F.faults files.old)
+        (tree_meters (W.listing worktrees.old) (W.open_repo worktrees.old) (W.follow_symref worktrees.old)))
+        (meters (C.faults maker.new) (C.lost maker.new) (I.yes interrupt.new) (F.faults files.new)
+        (tree_meters (W.listing worktrees.new) (W.open_repo worktrees.new) (W.follow_symref worktrees.new)))) }
+    ensures later { Later (meters (C.faults maker.old) (C.lost maker.old) (I.yes interrupt.old) (F.faults files.old)
+        (tree_meters (W.listing worktrees.old) (W.open_repo worktrees.old) (W.follow_symref worktrees.old)))
+        (meters (C.faults maker.new) (C.lost maker.new) (I.yes interrupt.new) (F.faults files.new)
+        (tree_meters (W.listing worktrees.new) (W.open_repo worktrees.new) (W.follow_symref worktrees.new))) }
     ensures told { W.told worktrees.new ≡ W.told worktrees.old }
     ensures uninterrupted { OnOk result ((I.yes interrupt.new).count ≡ (I.yes interrupt.old).count) }
     ensures out { C.out maker.new ≡ C.out maker.old }

@@ -45,12 +45,33 @@ where
         requires remote { R.IsAlwaysCallable self.old.configure_remote }
         requires connection { G.IsAlwaysCallable self.old.configure_connection }
         ensures consumed { self.old.draft.repo ≡ None → (result ≡ Err errors.Consumed) × (self.new ≡ self.old) }
-        ensures cloned { IfOk result (λ done. (found : RepositoryValue) × (self.old.draft.repo ≡ Some found) × IsCloned (I.will_stop interrupt.old) (I.will_stop interrupt.new) (λ remote answer. R.step self.old.configure_remote remote answer self.new.configure_remote) (ways (CalledAtMut G.FnMut) C.Peer.told C.Peer.answers) (line (C.left self.old.maker) (C.taken self.old.maker) (C.addresses self.old.maker) self.old.configure_connection) (line (C.left self.new.maker) (C.taken self.new.maker) (C.addresses self.new.maker) self.new.configure_connection) (W.told worktrees.old) (F.told self.old.files) (F.told self.new.files) (without_repo self.old.draft) found done.0 done.1) }
+        ensures cloned { IfOk result (λ done. (found : RepositoryValue) × (self.old.draft.repo ≡ Some found)
+            × IsCloned (I.will_stop interrupt.old) (I.will_stop interrupt.new)
+            (λ remote answer. R.step self.old.configure_remote remote answer self.new.configure_remote)
+            (ways (CalledAtMut G.FnMut) C.Peer.told C.Peer.answers)
+            (line (C.left self.old.maker) (C.taken self.old.maker) (C.addresses self.old.maker) self.old.configure_connection)
+            (line (C.left self.new.maker) (C.taken self.new.maker) (C.addresses self.new.maker) self.new.configure_connection)
+            (W.told worktrees.old) (F.told self.old.files) (F.told self.new.files) (without_repo self.old.draft) found done.0 done.1) }
         ensures spent { OnOk result (self.new.draft ≡ without_repo self.old.draft) }
         // Before success the repository stays as the refusal leaves it.
-        ensures refused { IfErr result (λ e. IfSome self.old.draft.repo (λ found. (repo : RepositoryValue) × (self.new.draft ≡ record self.old.draft { repo = Some repo }) × IsUncloned (λ remote answer. R.step self.old.configure_remote remote answer self.new.configure_remote) (self.new.configure_remote ≡ self.old.configure_remote) (ways (CalledAtMut G.FnMut) C.Peer.told C.Peer.answers) (C.faults self.old.maker) (C.faults self.new.maker) (line (C.left self.old.maker) (C.taken self.old.maker) (C.addresses self.old.maker) self.old.configure_connection) (line (C.left self.new.maker) (C.taken self.new.maker) (C.addresses self.new.maker) self.new.configure_connection) (W.told worktrees.old) (F.may_fail self.old.files) (F.told self.old.files) (F.told self.new.files) (without_repo self.old.draft) found repo e)) }
-        ensures counted { IfErr result (IsCounted (meters (C.faults self.old.maker) (C.lost self.old.maker) (I.yes interrupt.old) (F.faults self.old.files) (tree_meters (W.listing worktrees.old) (W.open_repo worktrees.old) (W.follow_symref worktrees.old))) (meters (C.faults self.new.maker) (C.lost self.new.maker) (I.yes interrupt.new) (F.faults self.new.files) (tree_meters (W.listing worktrees.new) (W.open_repo worktrees.new) (W.follow_symref worktrees.new)))) }
-        ensures later { Later (meters (C.faults self.old.maker) (C.lost self.old.maker) (I.yes interrupt.old) (F.faults self.old.files) (tree_meters (W.listing worktrees.old) (W.open_repo worktrees.old) (W.follow_symref worktrees.old))) (meters (C.faults self.new.maker) (C.lost self.new.maker) (I.yes interrupt.new) (F.faults self.new.files) (tree_meters (W.listing worktrees.new) (W.open_repo worktrees.new) (W.follow_symref worktrees.new))) }
+        ensures refused { IfErr result (λ e. IfSome self.old.draft.repo (λ found. (repo : RepositoryValue)
+            × (self.new.draft ≡ record self.old.draft { repo = Some repo })
+            × IsUncloned (λ remote answer. R.step self.old.configure_remote remote answer self.new.configure_remote)
+            (self.new.configure_remote ≡ self.old.configure_remote) (ways (CalledAtMut G.FnMut) C.Peer.told C.Peer.answers)
+            (C.faults self.old.maker) (C.faults self.new.maker)
+            (line (C.left self.old.maker) (C.taken self.old.maker) (C.addresses self.old.maker) self.old.configure_connection)
+            (line (C.left self.new.maker) (C.taken self.new.maker) (C.addresses self.new.maker) self.new.configure_connection)
+            (W.told worktrees.old) (F.may_fail self.old.files) (F.told self.old.files) (F.told self.new.files)
+            (without_repo self.old.draft) found repo e)) }
+        ensures counted { IfErr result (IsCounted
+            (meters (C.faults self.old.maker) (C.lost self.old.maker) (I.yes interrupt.old) (F.faults self.old.files)
+            (tree_meters (W.listing worktrees.old) (W.open_repo worktrees.old) (W.follow_symref worktrees.old)))
+            (meters (C.faults self.new.maker) (C.lost self.new.maker) (I.yes interrupt.new) (F.faults self.new.files)
+            (tree_meters (W.listing worktrees.new) (W.open_repo worktrees.new) (W.follow_symref worktrees.new)))) }
+        ensures later { Later (meters (C.faults self.old.maker) (C.lost self.old.maker) (I.yes interrupt.old) (F.faults self.old.files)
+            (tree_meters (W.listing worktrees.old) (W.open_repo worktrees.old) (W.follow_symref worktrees.old)))
+            (meters (C.faults self.new.maker) (C.lost self.new.maker) (I.yes interrupt.new) (F.faults self.new.files)
+            (tree_meters (W.listing worktrees.new) (W.open_repo worktrees.new) (W.follow_symref worktrees.new))) }
         ensures told { W.told worktrees.new ≡ W.told worktrees.old }
         ensures uninterrupted { OnOk result ((I.yes interrupt.new).count ≡ (I.yes interrupt.old).count) }
         // Each peer that was made was taken back.
@@ -113,10 +134,26 @@ fn fetched_into<
 ) -> Result<Outcome, Error>
     requires remote { R.IsAlwaysCallable configure_remote.old }
     requires connection { G.IsAlwaysCallable configure_connection.old }
-    ensures cloned { IfOk result (IsCloned (I.will_stop interrupt.old) (I.will_stop interrupt.new) (λ remote answer. R.step configure_remote.old remote answer configure_remote.new) (ways (CalledAtMut G.FnMut) C.Peer.told C.Peer.answers) (line (C.left maker.old) (C.taken maker.old) (C.addresses maker.old) configure_connection.old) (line (C.left maker.new) (C.taken maker.new) (C.addresses maker.new) configure_connection.new) (W.told worktrees.old) (F.told files.old) (F.told files.new) draft.now repo.old repo.new) }
-    ensures refused { IfErr result (IsUncloned (λ remote answer. R.step configure_remote.old remote answer configure_remote.new) (configure_remote.new ≡ configure_remote.old) (ways (CalledAtMut G.FnMut) C.Peer.told C.Peer.answers) (C.faults maker.old) (C.faults maker.new) (line (C.left maker.old) (C.taken maker.old) (C.addresses maker.old) configure_connection.old) (line (C.left maker.new) (C.taken maker.new) (C.addresses maker.new) configure_connection.new) (W.told worktrees.old) (F.may_fail files.old) (F.told files.old) (F.told files.new) draft.now repo.old repo.new) }
-    ensures counted { IfErr result (IsCounted (meters (C.faults maker.old) (C.lost maker.old) (I.yes interrupt.old) (F.faults files.old) (tree_meters (W.listing worktrees.old) (W.open_repo worktrees.old) (W.follow_symref worktrees.old))) (meters (C.faults maker.new) (C.lost maker.new) (I.yes interrupt.new) (F.faults files.new) (tree_meters (W.listing worktrees.new) (W.open_repo worktrees.new) (W.follow_symref worktrees.new)))) }
-    ensures later { Later (meters (C.faults maker.old) (C.lost maker.old) (I.yes interrupt.old) (F.faults files.old) (tree_meters (W.listing worktrees.old) (W.open_repo worktrees.old) (W.follow_symref worktrees.old))) (meters (C.faults maker.new) (C.lost maker.new) (I.yes interrupt.new) (F.faults files.new) (tree_meters (W.listing worktrees.new) (W.open_repo worktrees.new) (W.follow_symref worktrees.new))) }
+    ensures cloned { IfOk result (IsCloned (I.will_stop interrupt.old) (I.will_stop interrupt.new)
+        (λ remote answer. R.step configure_remote.old remote answer configure_remote.new)
+        (ways (CalledAtMut G.FnMut) C.Peer.told C.Peer.answers)
+        (line (C.left maker.old) (C.taken maker.old) (C.addresses maker.old) configure_connection.old)
+        (line (C.left maker.new) (C.taken maker.new) (C.addresses maker.new) configure_connection.new) (W.told worktrees.old)
+        (F.told files.old) (F.told files.new) draft.now repo.old repo.new) }
+    ensures refused { IfErr result (IsUncloned (λ remote answer. R.step configure_remote.old remote answer configure_remote.new)
+        (configure_remote.new ≡ configure_remote.old) (ways (CalledAtMut G.FnMut) C.Peer.told C.Peer.answers) (C.faults maker.old)
+        (C.faults maker.new) (line (C.left maker.old) (C.taken maker.old) (C.addresses maker.old) configure_connection.old)
+        (line (C.left maker.new) (C.taken maker.new) (C.addresses maker.new) configure_connection.new) (W.told worktrees.old)
+        (F.may_fail files.old) (F.told files.old) (F.told files.new) draft.now repo.old repo.new) }
+    ensures counted { IfErr result (IsCounted
+        (meters (C.faults maker.old) (C.lost maker.old) (I.yes interrupt.old) (F.faults files.old)
+        (tree_meters (W.listing worktrees.old) (W.open_repo worktrees.old) (W.follow_symref worktrees.old)))
+        (meters (C.faults maker.new) (C.lost maker.new) (I.yes interrupt.new) (F.faults files.new)
+        (tree_meters (W.listing worktrees.new) (W.open_repo worktrees.new) (W.follow_symref worktrees.new)))) }
+    ensures later { Later (meters (C.faults maker.old) (C.lost maker.old) (I.yes interrupt.old) (F.faults files.old)
+        (tree_meters (W.listing worktrees.old) (W.open_repo worktrees.old) (W.follow_symref worktrees.old)))
+        (meters (C.faults maker.new) (C.lost maker.new) (I.yes interrupt.new) (F.faults files.new)
+        (tree_meters (W.listing worktrees.new) (W.open_repo worktrees.new) (W.follow_symref worktrees.new))) }
     ensures told { W.told worktrees.new ≡ W.told worktrees.old }
     ensures uninterrupted { OnOk result ((I.yes interrupt.new).count ≡ (I.yes interrupt.old).count) }
     ensures out { C.out maker.new ≡ C.out maker.old }

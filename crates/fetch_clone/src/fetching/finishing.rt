@@ -30,8 +30,10 @@ pub(crate) fn finished<F: Files>(
     repo: &mut Repository,
     files: &mut F,
 ) -> Result<(), Error>
-    ensures ok { OnOk result (IsFinished (F.told files.old) (F.told files.new) draft.now name.now (option_copied section.entry) map.now repo.old repo.new) }
-    ensures refused { IfErr result (IsUnfinished (F.may_fail files.old) (F.told files.old) (F.told files.new) draft.now name.now (option_copied section.entry) map.now repo.old repo.new) }
+    ensures ok { OnOk result (IsFinished (F.told files.old) (F.told files.new) draft.now name.now
+        (option_copied section.entry) map.now repo.old repo.new) }
+    ensures refused { IfErr result (IsUnfinished (F.may_fail files.old) (F.told files.old) (F.told files.new) draft.now name.now
+        (option_copied section.entry) map.now repo.old repo.new) }
     ensures io { IsErrOf result errors.SaveConfigIo → Rose (F.faults files.old) (F.faults files.new) }
     ensures counts { Counts (F.faults files.old) (F.faults files.new) }
     ensures may_fail { F.may_fail files.new ≡ F.may_fail files.old }

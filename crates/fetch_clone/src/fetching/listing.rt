@@ -53,14 +53,23 @@ pub(crate) fn listed<
     interrupt: &mut I,
 ) -> Result<(C::Peer, Prepared), Error>
     requires { G.IsAlwaysCallable configure.old }
-    ensures listed { IfOk result (λ found. (l : IsListed (ways (CalledAtMut G.FnMut) C.Peer.told C.Peer.answers) (line (C.left maker.old) (C.taken maker.old) (C.addresses maker.old) configure.old) (line (C.left maker.new) (C.taken maker.new) (C.addresses maker.new) configure.new) (query name.now choices.now remote.now (setup_of repo.now)) found.0 found.1) × IsHeededOver (I.will_stop interrupt.old) (I.will_stop interrupt.new) (C.Peer.told l.first) (C.Peer.told found.0)) }
-    ensures refused { IfErr result (IsUnprepared (ways (CalledAtMut G.FnMut) C.Peer.told C.Peer.answers) (C.faults maker.old) (C.faults maker.new) (line (C.left maker.old) (C.taken maker.old) (C.addresses maker.old) configure.old) (line (C.left maker.new) (C.taken maker.new) (C.addresses maker.new) configure.new) (query name.now choices.now remote.now (setup_of repo.now))) }
+    ensures listed { IfOk result (λ found. (l : IsListed (ways (CalledAtMut G.FnMut) C.Peer.told C.Peer.answers)
+        (line (C.left maker.old) (C.taken maker.old) (C.addresses maker.old) configure.old)
+        (line (C.left maker.new) (C.taken maker.new) (C.addresses maker.new) configure.new)
+        (query name.now choices.now remote.now (setup_of repo.now)) found.0 found.1)
+        × IsHeededOver (I.will_stop interrupt.old) (I.will_stop interrupt.new) (C.Peer.told l.first) (C.Peer.told found.0)) }
+    ensures refused { IfErr result (IsUnprepared (ways (CalledAtMut G.FnMut) C.Peer.told C.Peer.answers) (C.faults maker.old)
+        (C.faults maker.new) (line (C.left maker.old) (C.taken maker.old) (C.addresses maker.old) configure.old)
+        (line (C.left maker.new) (C.taken maker.new) (C.addresses maker.new) configure.new)
+        (query name.now choices.now remote.now (setup_of repo.now))) }
     ensures counts { Counts (C.faults maker.old) (C.faults maker.new) }
     ensures out { C.out maker.new ≡ out_after result (C.out maker.old) }
     ensures lost { (C.lost maker.old).count ≤ (C.lost maker.new).count }
-    ensures transport { IsErrOf result (errors.PrepareFetch (prepare_errors.RefMap ref_map_errors.Transport)) → Rose (C.lost maker.old) (C.lost maker.new) }
+    ensures transport { IsErrOf result (errors.PrepareFetch (prepare_errors.RefMap ref_map_errors.Transport))
+        → Rose (C.lost maker.old) (C.lost maker.new) }
     ensures asked { Counts (I.yes interrupt.old) (I.yes interrupt.new) }
-    ensures interrupted { IsErrOf result (errors.PrepareFetch (prepare_errors.RefMap ref_map_errors.Interrupted)) → Rose (I.yes interrupt.old) (I.yes interrupt.new) }
+    ensures interrupted { IsErrOf result (errors.PrepareFetch (prepare_errors.RefMap ref_map_errors.Interrupted))
+        → Rose (I.yes interrupt.old) (I.yes interrupt.new) }
     ensures uninterrupted { OnOk result ((I.yes interrupt.new).count ≡ (I.yes interrupt.old).count) }
     ensures again { G.IsAlwaysCallable configure.new }
 {
@@ -89,14 +98,21 @@ fn listed_again<C: Connect, I: Interrupt>(
     maker: &mut C,
     interrupt: &mut I,
 ) -> Result<(C::Peer, Prepared), Error>
-    ensures listed { IfOk result (λ found. (l : spec.IsListedAgain C.Peer.told C.Peer.answers (C.left maker.old) (C.left maker.new) (C.taken maker.old) (C.taken maker.new) (C.addresses maker.old) (C.addresses maker.new) (query name.now choices.now remote.now (setup_of repo.now)) found.0 found.1) × IsHeededOver (I.will_stop interrupt.old) (I.will_stop interrupt.new) (C.Peer.told l.first) (C.Peer.told found.0)) }
-    ensures refused { IfErr result (spec.IsUnpreparedAgain C.Peer.told C.Peer.answers (C.faults maker.old) (C.faults maker.new) (C.left maker.old) (C.left maker.new) (C.taken maker.old) (C.taken maker.new) (C.addresses maker.old) (C.addresses maker.new) (query name.now choices.now remote.now (setup_of repo.now))) }
+    ensures listed { IfOk result (λ found. (l : spec.IsListedAgain C.Peer.told C.Peer.answers (C.left maker.old) (C.left maker.new)
+        (C.taken maker.old) (C.taken maker.new) (C.addresses maker.old) (C.addresses maker.new)
+        (query name.now choices.now remote.now (setup_of repo.now)) found.0 found.1)
+        × IsHeededOver (I.will_stop interrupt.old) (I.will_stop interrupt.new) (C.Peer.told l.first) (C.Peer.told found.0)) }
+    ensures refused { IfErr result (spec.IsUnpreparedAgain C.Peer.told C.Peer.answers (C.faults maker.old) (C.faults maker.new)
+        (C.left maker.old) (C.left maker.new) (C.taken maker.old) (C.taken maker.new) (C.addresses maker.old) (C.addresses maker.new)
+        (query name.now choices.now remote.now (setup_of repo.now))) }
     ensures counts { Counts (C.faults maker.old) (C.faults maker.new) }
     ensures out { C.out maker.new ≡ out_after result (C.out maker.old) }
     ensures lost { (C.lost maker.old).count ≤ (C.lost maker.new).count }
-    ensures transport { IsErrOf result (errors.PrepareFetch (prepare_errors.RefMap ref_map_errors.Transport)) → Rose (C.lost maker.old) (C.lost maker.new) }
+    ensures transport { IsErrOf result (errors.PrepareFetch (prepare_errors.RefMap ref_map_errors.Transport))
+        → Rose (C.lost maker.old) (C.lost maker.new) }
     ensures asked { Counts (I.yes interrupt.old) (I.yes interrupt.new) }
-    ensures interrupted { IsErrOf result (errors.PrepareFetch (prepare_errors.RefMap ref_map_errors.Interrupted)) → Rose (I.yes interrupt.old) (I.yes interrupt.new) }
+    ensures interrupted { IsErrOf result (errors.PrepareFetch (prepare_errors.RefMap ref_map_errors.Interrupted))
+        → Rose (I.yes interrupt.old) (I.yes interrupt.new) }
     ensures uninterrupted { OnOk result ((I.yes interrupt.new).count ≡ (I.yes interrupt.old).count) }
 {
     let place = head_place(alloc, name)?;
@@ -121,10 +137,13 @@ fn listed_by<C: Connect, I: Interrupt>(
     options: ref_map::Options,
 ) -> Result<(C::Peer, Prepared), prepare::Error>
     requires { 0 < C.out maker.old }
-    ensures listed { IfOk result (λ found. HasListed C.Peer.answers (C.Peer.told peer) (C.Peer.told found.0) (spec.asked remote.now (setup_of repo.now) options) found.1.listed) }
+    ensures listed { IfOk result (λ found. HasListed C.Peer.answers (C.Peer.told peer) (C.Peer.told found.0)
+        (spec.asked remote.now (setup_of repo.now) options) found.1.listed) }
     ensures usual { IfOk result (λ found. found.1.options ≡ options_with options) }
     ensures kept { OnOk result (maker.new ≡ maker.old) }
-    ensures broke { IfErr result (λ e. (last : C.Peer) × BreaksOff C.Peer.answers (C.Peer.told peer) (C.Peer.told last) (spec.asked remote.now (setup_of repo.now) options) e × TakesBack (C.taken maker.old) (C.taken maker.new) last) }
+    ensures broke { IfErr result (λ e. (last : C.Peer)
+        × BreaksOff C.Peer.answers (C.Peer.told peer) (C.Peer.told last) (spec.asked remote.now (setup_of repo.now) options) e
+        × TakesBack (C.taken maker.old) (C.taken maker.new) last) }
     ensures left { C.left maker.new ≡ C.left maker.old }
     ensures addresses { C.addresses maker.new ≡ C.addresses maker.old }
     ensures faults { C.faults maker.new ≡ C.faults maker.old }
@@ -132,10 +151,12 @@ fn listed_by<C: Connect, I: Interrupt>(
     ensures lost { (C.lost maker.old).count ≤ (C.lost maker.new).count }
     ensures transport { IsErrOf result (prepare_errors.RefMap ref_map_errors.Transport) → Rose (C.lost maker.old) (C.lost maker.new) }
     ensures asked { Counts (I.yes interrupt.old) (I.yes interrupt.new) }
-    ensures interrupted { IsErrOf result (prepare_errors.RefMap ref_map_errors.Interrupted) → Rose (I.yes interrupt.old) (I.yes interrupt.new) }
+    ensures interrupted { IsErrOf result (prepare_errors.RefMap ref_map_errors.Interrupted)
+        → Rose (I.yes interrupt.old) (I.yes interrupt.new) }
     ensures quiet { last_question is_interrupted result ≡ 0 → (I.yes interrupt.new).count ≡ (I.yes interrupt.old).count }
     ensures noes { last_question is_interrupted result ≡ 0 → SaysNo (I.will_stop interrupt.old) (I.will_stop interrupt.new) }
-    ensures heeded { IfOk result (λ found. IsHeededOver (I.will_stop interrupt.old) (I.will_stop interrupt.new) (C.Peer.told peer) (C.Peer.told found.0)) }
+    ensures heeded { IfOk result (λ found. IsHeededOver (I.will_stop interrupt.old) (I.will_stop interrupt.new) (C.Peer.told peer)
+        (C.Peer.told found.0)) }
 {
     let mut peer = peer;
     match prepared_by(alloc, remote, repo, &mut peer, interrupt, options) {
@@ -156,15 +177,19 @@ fn prepared_by<P: Peer, I: Interrupt>(
     interrupt: &mut I,
     options: ref_map::Options,
 ) -> Result<Prepared, prepare::Error>
-    ensures listed { IfOk result (λ p. HasListed P.answers (P.told peer.old) (P.told peer.new) (spec.asked remote.now (setup_of repo.now) options) p.listed) }
+    ensures listed { IfOk result (λ p. HasListed P.answers (P.told peer.old) (P.told peer.new)
+        (spec.asked remote.now (setup_of repo.now) options) p.listed) }
     ensures usual { IfOk result (λ p. p.options ≡ options_with options) }
-    ensures refused { IfErr result (λ e. BreaksOff P.answers (P.told peer.old) (P.told peer.new) (spec.asked remote.now (setup_of repo.now) options) e) }
+    ensures refused { IfErr result (λ e. BreaksOff P.answers (P.told peer.old) (P.told peer.new)
+        (spec.asked remote.now (setup_of repo.now) options) e) }
     ensures counts { Counts (P.faults peer.old) (P.faults peer.new) }
     ensures transport { IsErrOf result (prepare_errors.RefMap ref_map_errors.Transport) → Rose (P.faults peer.old) (P.faults peer.new) }
     ensures asked { Counts (I.yes interrupt.old) (I.yes interrupt.new) }
-    ensures interrupted { IsErrOf result (prepare_errors.RefMap ref_map_errors.Interrupted) → Rose (I.yes interrupt.old) (I.yes interrupt.new) }
+    ensures interrupted { IsErrOf result (prepare_errors.RefMap ref_map_errors.Interrupted)
+        → Rose (I.yes interrupt.old) (I.yes interrupt.new) }
     ensures quiet { last_question is_interrupted result ≡ 0 → (I.yes interrupt.new).count ≡ (I.yes interrupt.old).count }
-    ensures questions { IsHeeded is_interrupted (I.will_stop interrupt.old) (I.will_stop interrupt.new) (P.told peer.old) (P.told peer.new) result }
+    ensures questions { IsHeeded is_interrupted (I.will_stop interrupt.old) (I.will_stop interrupt.new) (P.told peer.old)
+        (P.told peer.new) result }
 {
     let map = options.try_clone()?;
     let listed = list(alloc, remote, repo.settings(), peer, interrupt, options)?;

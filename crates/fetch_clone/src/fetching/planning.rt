@@ -42,8 +42,13 @@ pub(crate) fn named<C: Connect, G: FnMut(&mut C::Peer) -> Result<(), ConfigureFa
     interrupt: &mut I,
 ) -> Result<(Text, Option<FullName>), Error>
     requires { G.IsAlwaysCallable configure.old }
-    ensures named { IfOk result (λ found. (n : IsNamed (ways (CalledAtMut G.FnMut) C.Peer.told C.Peer.answers) (line (C.left maker.old) (C.taken maker.old) (C.addresses maker.old) configure.old) (line (C.left maker.new) (C.taken maker.new) (C.addresses maker.new) configure.new) draft.now repo.old repo.new found.0 found.1) × HeedsFirst (I.will_stop interrupt.old) (I.will_stop interrupt.new) n.targeted) }
-    ensures refused { IfErr result (IsNotNamed (ways (CalledAtMut G.FnMut) C.Peer.told C.Peer.answers) (C.faults maker.old) (C.faults maker.new) (line (C.left maker.old) (C.taken maker.old) (C.addresses maker.old) configure.old) (line (C.left maker.new) (C.taken maker.new) (C.addresses maker.new) configure.new) draft.now repo.old repo.new) }
+    ensures named { IfOk result (λ found. (n : IsNamed (ways (CalledAtMut G.FnMut) C.Peer.told C.Peer.answers)
+        (line (C.left maker.old) (C.taken maker.old) (C.addresses maker.old) configure.old)
+        (line (C.left maker.new) (C.taken maker.new) (C.addresses maker.new) configure.new) draft.now repo.old repo.new found.0 found.1)
+        × HeedsFirst (I.will_stop interrupt.old) (I.will_stop interrupt.new) n.targeted) }
+    ensures refused { IfErr result (IsNotNamed (ways (CalledAtMut G.FnMut) C.Peer.told C.Peer.answers) (C.faults maker.old)
+        (C.faults maker.new) (line (C.left maker.old) (C.taken maker.old) (C.addresses maker.old) configure.old)
+        (line (C.left maker.new) (C.taken maker.new) (C.addresses maker.new) configure.new) draft.now repo.old repo.new) }
     ensures counts { Counts (C.faults maker.old) (C.faults maker.new) }
     ensures out { C.out maker.new ≡ C.out maker.old }
     ensures lost { (C.lost maker.old).count ≤ (C.lost maker.new).count }
@@ -69,8 +74,10 @@ pub(crate) fn chosen<R: FnMut(Remote) -> Result<Remote, ConfigureFault>>(
     configure: &mut R,
 ) -> Result<Remote, Error>
     requires { R.IsAlwaysCallable configure.old }
-    ensures chosen { IfOk result (spec.IsChosen (λ remote answer. R.step configure.old remote answer configure.new) draft.now name.now (option_copied target.entry)) }
-    ensures refused { IfErr result (spec.IsUnchosen (λ remote answer. R.step configure.old remote answer configure.new) draft.now name.now (option_copied target.entry)) }
+    ensures chosen { IfOk result (spec.IsChosen (λ remote answer. R.step configure.old remote answer configure.new) draft.now name.now
+        (option_copied target.entry)) }
+    ensures refused { IfErr result (spec.IsUnchosen (λ remote answer. R.step configure.old remote answer configure.new) draft.now name.now
+        (option_copied target.entry)) }
     ensures again { R.IsAlwaysCallable configure.new }
 {
     let remote = proposed(alloc, draft, name, target)?;

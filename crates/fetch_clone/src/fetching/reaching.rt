@@ -20,8 +20,15 @@ pub(crate) fn reached<C: Connect, G: FnMut(&mut C::Peer) -> Result<(), Configure
     configure: &mut G,
 ) -> Result<C::Peer, Error>
     requires { G.IsAlwaysCallable configure.old }
-    ensures reached { IfOk result (IsReached (ways (CalledAtMut G.FnMut) C.Peer.told C.Peer.answers) (slice_get remote.now.urls 0) (line (C.left maker.old) (C.taken maker.old) (C.addresses maker.old) configure.old) (line (C.left maker.new) (C.taken maker.new) (C.addresses maker.new) configure.new)) }
-    ensures refused { IfErr result (IsUnreached (IsTurnedAway (ways (CalledAtMut G.FnMut) C.Peer.told C.Peer.answers) (slice_get remote.now.urls 0) (line (C.left maker.old) (C.taken maker.old) (C.addresses maker.old) configure.old) (line (C.left maker.new) (C.taken maker.new) (C.addresses maker.new) configure.new)) (line (C.left maker.new) (C.taken maker.new) (C.addresses maker.new) configure.new ≡ line (C.left maker.old) (C.taken maker.old) (C.addresses maker.old) configure.old) (C.faults maker.old) (C.faults maker.new) (slice_get remote.now.urls 0)) }
+    ensures reached { IfOk result (IsReached (ways (CalledAtMut G.FnMut) C.Peer.told C.Peer.answers) (slice_get remote.now.urls 0)
+        (line (C.left maker.old) (C.taken maker.old) (C.addresses maker.old) configure.old)
+        (line (C.left maker.new) (C.taken maker.new) (C.addresses maker.new) configure.new)) }
+    ensures refused { IfErr result (IsUnreached
+        (IsTurnedAway (ways (CalledAtMut G.FnMut) C.Peer.told C.Peer.answers) (slice_get remote.now.urls 0)
+        (line (C.left maker.old) (C.taken maker.old) (C.addresses maker.old) configure.old)
+        (line (C.left maker.new) (C.taken maker.new) (C.addresses maker.new) configure.new))
+        (line (C.left maker.new) (C.taken maker.new) (C.addresses maker.new) configure.new ≡ line (C.left maker.old) (C.taken maker.old)
+        (C.addresses maker.old) configure.old) (C.faults maker.old) (C.faults maker.new) (slice_get remote.now.urls 0)) }
     ensures counts { Counts (C.faults maker.old) (C.faults maker.new) }
     ensures out { C.out maker.new ≡ out_after result (C.out maker.old) }
     ensures lost { (C.lost maker.old).count ≤ (C.lost maker.new).count }

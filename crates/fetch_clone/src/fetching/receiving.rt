@@ -53,29 +53,39 @@ pub(crate) fn received<
     files: &mut F,
     worktrees: &mut W,
 ) -> Result<Outcome, Error>
-    ensures received { IfOk result (λ outcome. (begun : Option Talk) → WasListed P.answers begun (P.told peer.old) remote.now (setup_of repo.old) prepared
-        → IsReceived P.answers begun (P.told peer.new) (W.told worktrees.old) (F.told files.old) (F.told files.new) draft.now remote.now prepared repo.old repo.new outcome) }
-    ensures refused { IfErr result (λ e. (begun : Option Talk) → WasListed P.answers begun (P.told peer.old) remote.now (setup_of repo.old) prepared
-        → IsUnreceived P.answers begun (P.told peer.new) (W.told worktrees.old) (F.may_fail files.old) (F.told files.old) (F.told files.new) draft.now remote.now prepared repo.old repo.new e) }
+    ensures received { IfOk result (λ outcome. (begun : Option Talk)
+        → WasListed P.answers begun (P.told peer.old) remote.now (setup_of repo.old) prepared
+        → IsReceived P.answers begun (P.told peer.new) (W.told worktrees.old) (F.told files.old)
+        (F.told files.new) draft.now remote.now prepared repo.old repo.new outcome) }
+    ensures refused { IfErr result (λ e. (begun : Option Talk)
+        → WasListed P.answers begun (P.told peer.old) remote.now (setup_of repo.old) prepared
+        → IsUnreceived P.answers begun (P.told peer.new) (W.told worktrees.old) (F.may_fail files.old) (F.told files.old)
+        (F.told files.new) draft.now remote.now prepared repo.old repo.new e) }
     ensures kind { IfErr result (spec.IsOfReceiving draft.now.choices.wanted prepared.listed.ref_map) }
     ensures counts { Counts (P.faults peer.old) (P.faults peer.new) }
     ensures client { IsErrOf result (errors.Fetch receive_errors.Client) → Rose (P.faults peer.old) (P.faults peer.new) }
     ensures asked { Counts (I.yes interrupt.old) (I.yes interrupt.new) }
     ensures stopped { IsErrOf result (errors.Fetch receive_errors.Interrupted) → Rose (I.yes interrupt.old) (I.yes interrupt.new) }
     ensures uninterrupted { OnOk result ((I.yes interrupt.new).count ≡ (I.yes interrupt.old).count) }
-    ensures questions { OnOk result (IsHeededOver (I.will_stop interrupt.old) (I.will_stop interrupt.new) (P.told peer.old) (P.told peer.new)) }
+    ensures questions { OnOk result (IsHeededOver (I.will_stop interrupt.old) (I.will_stop interrupt.new) (P.told peer.old)
+        (P.told peer.new)) }
     ensures file_counts { Counts (F.faults files.old) (F.faults files.new) }
     ensures reopened { IsErrOf result (errors.ReopenWithObjectHash opening.Io) → Rose (F.faults files.old) (F.faults files.new) }
-    ensures keep_file { (path : List ℕ) → IsErrOf result (errors.Fetch (receive_errors.KeepFile path)) → Rose (F.faults files.old) (F.faults files.new) }
-    ensures remove_keep_file { (path : List ℕ) → IsErrOf result (errors.Fetch (receive_errors.RemovePackKeepFile path)) → Rose (F.faults files.old) (F.faults files.new) }
+    ensures keep_file { (path : List ℕ) → IsErrOf result (errors.Fetch (receive_errors.KeepFile path))
+        → Rose (F.faults files.old) (F.faults files.new) }
+    ensures remove_keep_file { (path : List ℕ) → IsErrOf result (errors.Fetch (receive_errors.RemovePackKeepFile path))
+        → Rose (F.faults files.old) (F.faults files.new) }
     ensures may_fail { F.may_fail files.new ≡ F.may_fail files.old }
     ensures told { W.told worktrees.new ≡ W.told worktrees.old }
     ensures listing_counts { Counts (W.listing worktrees.old) (W.listing worktrees.new) }
     ensures open_repo_counts { Counts (W.open_repo worktrees.old) (W.open_repo worktrees.new) }
     ensures follow_symref_counts { Counts (W.follow_symref worktrees.old) (W.follow_symref worktrees.new) }
-    ensures listing { IsErrOf result (errors.Fetch (receive_errors.UpdateRefs update_errors.WorktreeListing)) → Rose (W.listing worktrees.old) (W.listing worktrees.new) }
-    ensures open_repo { IsErrOf result (errors.Fetch (receive_errors.UpdateRefs update_errors.OpenWorktreeRepo)) → Rose (W.open_repo worktrees.old) (W.open_repo worktrees.new) }
-    ensures follow_symref { IsErrOf result (errors.Fetch (receive_errors.UpdateRefs update_errors.FollowSymref)) → Rose (W.follow_symref worktrees.old) (W.follow_symref worktrees.new) }
+    ensures listing { IsErrOf result (errors.Fetch (receive_errors.UpdateRefs update_errors.WorktreeListing))
+        → Rose (W.listing worktrees.old) (W.listing worktrees.new) }
+    ensures open_repo { IsErrOf result (errors.Fetch (receive_errors.UpdateRefs update_errors.OpenWorktreeRepo))
+        → Rose (W.open_repo worktrees.old) (W.open_repo worktrees.new) }
+    ensures follow_symref { IsErrOf result (errors.Fetch (receive_errors.UpdateRefs update_errors.FollowSymref))
+        → Rose (W.follow_symref worktrees.old) (W.follow_symref worktrees.new) }
 {
     check_mapped(alloc, &draft.choices.wanted, &prepared.listed.ref_map)?;
     // The order takes memory before anything is changed.

@@ -58,11 +58,23 @@ pub(crate) fn save<
 ) -> Result<Saved, Error>
     requires remote { R.IsAlwaysCallable configure_remote.old }
     requires connection { G.IsAlwaysCallable configure_connection.old }
-    ensures saved { IfOk result (λ saved. (s : IsSaved (λ remote answer. R.step configure_remote.old remote answer configure_remote.new) (ways (CalledAtMut G.FnMut) C.Peer.told C.Peer.answers) (line (C.left maker.old) (C.taken maker.old) (C.addresses maker.old) configure_connection.old) (line (C.left maker.new) (C.taken maker.new) (C.addresses maker.new) configure_connection.new) (F.told files.old) (F.told files.new) draft.now repo.old repo.new saved) × HeedsFirst (I.will_stop interrupt.old) (I.will_stop interrupt.new) s.named.targeted) }
-    ensures refused { IfErr result (IsNotSaved (λ remote answer. R.step configure_remote.old remote answer configure_remote.new) (configure_remote.new ≡ configure_remote.old) (ways (CalledAtMut G.FnMut) C.Peer.told C.Peer.answers) (C.faults maker.old) (C.faults maker.new) (line (C.left maker.old) (C.taken maker.old) (C.addresses maker.old) configure_connection.old) (line (C.left maker.new) (C.taken maker.new) (C.addresses maker.new) configure_connection.new) (F.may_fail files.old) (F.told files.old) (F.told files.new) draft.now repo.old repo.new) }
+    ensures saved { IfOk result (λ saved. (s : IsSaved (λ remote answer. R.step configure_remote.old remote answer configure_remote.new)
+        (ways (CalledAtMut G.FnMut) C.Peer.told C.Peer.answers)
+        (line (C.left maker.old) (C.taken maker.old) (C.addresses maker.old) configure_connection.old)
+        (line (C.left maker.new) (C.taken maker.new) (C.addresses maker.new) configure_connection.new) (F.told files.old) (F.told files.new)
+        draft.now repo.old repo.new saved) × HeedsFirst (I.will_stop interrupt.old) (I.will_stop interrupt.new) s.named.targeted) }
+    ensures refused { IfErr result (IsNotSaved (λ remote answer. R.step configure_remote.old remote answer configure_remote.new)
+        (configure_remote.new ≡ configure_remote.old) (ways (CalledAtMut G.FnMut) C.Peer.told C.Peer.answers) (C.faults maker.old)
+        (C.faults maker.new) (line (C.left maker.old) (C.taken maker.old) (C.addresses maker.old) configure_connection.old)
+        (line (C.left maker.new) (C.taken maker.new) (C.addresses maker.new) configure_connection.new) (F.may_fail files.old)
+        (F.told files.old) (F.told files.new) draft.now repo.old repo.new) }
     // It asks nothing of the work trees.
-    ensures counted { (trees : TreeMeters) → IfErr result (IsCounted (meters (C.faults maker.old) (C.lost maker.old) (I.yes interrupt.old) (F.faults files.old) trees) (meters (C.faults maker.new) (C.lost maker.new) (I.yes interrupt.new) (F.faults files.new) trees)) }
-    ensures later { (trees : TreeMeters) → Later (meters (C.faults maker.old) (C.lost maker.old) (I.yes interrupt.old) (F.faults files.old) trees) (meters (C.faults maker.new) (C.lost maker.new) (I.yes interrupt.new) (F.faults files.new) trees) }
+    ensures counted { (trees : TreeMeters) → IfErr result
+        (IsCounted (meters (C.faults maker.old) (C.lost maker.old) (I.yes interrupt.old) (F.faults files.old) trees)
+        (meters (C.faults maker.new) (C.lost maker.new) (I.yes interrupt.new) (F.faults files.new) trees)) }
+    ensures later { (trees : TreeMeters) → Later
+        (meters (C.faults maker.old) (C.lost maker.old) (I.yes interrupt.old) (F.faults files.old) trees)
+        (meters (C.faults maker.new) (C.lost maker.new) (I.yes interrupt.new) (F.faults files.new) trees) }
     ensures uninterrupted { OnOk result ((I.yes interrupt.new).count ≡ (I.yes interrupt.old).count) }
     ensures questions { OnOk result (SaysNo (I.will_stop interrupt.old) (I.will_stop interrupt.new)) }
     ensures out { C.out maker.new ≡ C.out maker.old }
@@ -93,8 +105,10 @@ fn save_as<F: Files, R: FnMut(Remote) -> Result<Remote, ConfigureFault>>(
     target: Option<&FullName>,
 ) -> Result<Saved, Error>
     requires { R.IsAlwaysCallable configure.old }
-    ensures saved { IfOk result (spec.IsSavedAs (λ remote answer. R.step configure.old remote answer configure.new) (F.told files.old) (F.told files.new) draft.now (setup_of repo.now) name (option_copied target.entry)) }
-    ensures refused { IfErr result (spec.IsNotSavedAs (λ remote answer. R.step configure.old remote answer configure.new) (F.may_fail files.old) (F.told files.old) (F.told files.new) draft.now (setup_of repo.now) name (option_copied target.entry)) }
+    ensures saved { IfOk result (spec.IsSavedAs (λ remote answer. R.step configure.old remote answer configure.new) (F.told files.old)
+        (F.told files.new) draft.now (setup_of repo.now) name (option_copied target.entry)) }
+    ensures refused { IfErr result (spec.IsNotSavedAs (λ remote answer. R.step configure.old remote answer configure.new)
+        (F.may_fail files.old) (F.told files.old) (F.told files.new) draft.now (setup_of repo.now) name (option_copied target.entry)) }
     ensures load { IsErrOf result (errors.LoadConfig opening.Io) → Rose (F.faults files.old) (F.faults files.new) }
     ensures io { IsErrOf result errors.SaveConfigIo → Rose (F.faults files.old) (F.faults files.new) }
     ensures counts { Counts (F.faults files.old) (F.faults files.new) }

@@ -44,12 +44,24 @@ pub(crate) fn taken<
     worktrees: &mut W,
 ) -> Result<Outcome, Error>
     requires { 0 < C.out maker.old }
-    ensures taken { IfOk result (λ outcome. (begun : Option Talk) → WasListed C.Peer.answers begun (C.Peer.told peer) remote.now (setup_of repo.old) prepared
-        → (t : IsTaken C.Peer.told C.Peer.answers begun (C.taken maker.old) (C.taken maker.new) (W.told worktrees.old) (F.told files.old) (F.told files.new) draft.now remote.now prepared repo.old repo.new outcome) × IsHeededOver (I.will_stop interrupt.old) (I.will_stop interrupt.new) (C.Peer.told peer) (C.Peer.told t.last)) }
-    ensures refused { IfErr result (λ e. (begun : Option Talk) → WasListed C.Peer.answers begun (C.Peer.told peer) remote.now (setup_of repo.old) prepared
-        → IsNotTaken C.Peer.told C.Peer.answers begun (C.taken maker.old) (C.taken maker.new) (W.told worktrees.old) (F.may_fail files.old) (F.told files.old) (F.told files.new) draft.now remote.now prepared repo.old repo.new e) }
-    ensures counted { IfErr result (IsCounted (meters (C.faults maker.old) (C.lost maker.old) (I.yes interrupt.old) (F.faults files.old) (tree_meters (W.listing worktrees.old) (W.open_repo worktrees.old) (W.follow_symref worktrees.old))) (meters (C.faults maker.new) (C.lost maker.new) (I.yes interrupt.new) (F.faults files.new) (tree_meters (W.listing worktrees.new) (W.open_repo worktrees.new) (W.follow_symref worktrees.new)))) }
-    ensures later { Later (meters (C.faults maker.old) (C.lost maker.old) (I.yes interrupt.old) (F.faults files.old) (tree_meters (W.listing worktrees.old) (W.open_repo worktrees.old) (W.follow_symref worktrees.old))) (meters (C.faults maker.new) (C.lost maker.new) (I.yes interrupt.new) (F.faults files.new) (tree_meters (W.listing worktrees.new) (W.open_repo worktrees.new) (W.follow_symref worktrees.new))) }
+    ensures taken { IfOk result (λ outcome. (begun : Option Talk)
+        → WasListed C.Peer.answers begun (C.Peer.told peer) remote.now (setup_of repo.old) prepared
+        → (t : IsTaken C.Peer.told C.Peer.answers begun (C.taken maker.old) (C.taken maker.new) (W.told worktrees.old) (F.told files.old)
+        (F.told files.new) draft.now remote.now prepared repo.old repo.new outcome)
+        × IsHeededOver (I.will_stop interrupt.old) (I.will_stop interrupt.new) (C.Peer.told peer) (C.Peer.told t.last)) }
+    ensures refused { IfErr result (λ e. (begun : Option Talk)
+        → WasListed C.Peer.answers begun (C.Peer.told peer) remote.now (setup_of repo.old) prepared
+        → IsNotTaken C.Peer.told C.Peer.answers begun (C.taken maker.old) (C.taken maker.new) (W.told worktrees.old) (F.may_fail files.old)
+        (F.told files.old) (F.told files.new) draft.now remote.now prepared repo.old repo.new e) }
+    ensures counted { IfErr result (IsCounted
+        (meters (C.faults maker.old) (C.lost maker.old) (I.yes interrupt.old) (F.faults files.old)
+        (tree_meters (W.listing worktrees.old) (W.open_repo worktrees.old) (W.follow_symref worktrees.old)))
+        (meters (C.faults maker.new) (C.lost maker.new) (I.yes interrupt.new) (F.faults files.new)
+        (tree_meters (W.listing worktrees.new) (W.open_repo worktrees.new) (W.follow_symref worktrees.new)))) }
+    ensures later { Later (meters (C.faults maker.old) (C.lost maker.old) (I.yes interrupt.old) (F.faults files.old)
+        (tree_meters (W.listing worktrees.old) (W.open_repo worktrees.old) (W.follow_symref worktrees.old)))
+        (meters (C.faults maker.new) (C.lost maker.new) (I.yes interrupt.new) (F.faults files.new)
+        (tree_meters (W.listing worktrees.new) (W.open_repo worktrees.new) (W.follow_symref worktrees.new))) }
     ensures told { W.told worktrees.new ≡ W.told worktrees.old }
     ensures uninterrupted { OnOk result ((I.yes interrupt.new).count ≡ (I.yes interrupt.old).count) }
     ensures out { C.out maker.new + 1 ≡ C.out maker.old }

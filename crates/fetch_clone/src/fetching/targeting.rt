@@ -47,8 +47,13 @@ pub(crate) fn target<
     interrupt: &mut I,
 ) -> Result<Option<FullName>, Error>
     requires { G.IsAlwaysCallable configure.old }
-    ensures target { IfOk result (λ target. (t : HasTarget (ways (CalledAtMut G.FnMut) C.Peer.told C.Peer.answers) (line (C.left maker.old) (C.taken maker.old) (C.addresses maker.old) configure.old) (line (C.left maker.new) (C.taken maker.new) (C.addresses maker.new) configure.new) draft.now repo.now target) × spec.HeedsFirst (I.will_stop interrupt.old) (I.will_stop interrupt.new) t) }
-    ensures refused { IfErr result (HasNoTarget (ways (CalledAtMut G.FnMut) C.Peer.told C.Peer.answers) (C.faults maker.old) (C.faults maker.new) (line (C.left maker.old) (C.taken maker.old) (C.addresses maker.old) configure.old) (line (C.left maker.new) (C.taken maker.new) (C.addresses maker.new) configure.new) draft.now repo.now) }
+    ensures target { IfOk result (λ target. (t : HasTarget (ways (CalledAtMut G.FnMut) C.Peer.told C.Peer.answers)
+        (line (C.left maker.old) (C.taken maker.old) (C.addresses maker.old) configure.old)
+        (line (C.left maker.new) (C.taken maker.new) (C.addresses maker.new) configure.new) draft.now repo.now target)
+        × spec.HeedsFirst (I.will_stop interrupt.old) (I.will_stop interrupt.new) t) }
+    ensures refused { IfErr result (HasNoTarget (ways (CalledAtMut G.FnMut) C.Peer.told C.Peer.answers) (C.faults maker.old)
+        (C.faults maker.new) (line (C.left maker.old) (C.taken maker.old) (C.addresses maker.old) configure.old)
+        (line (C.left maker.new) (C.taken maker.new) (C.addresses maker.new) configure.new) draft.now repo.now) }
     ensures counts { Counts (C.faults maker.old) (C.faults maker.new) }
     ensures out { C.out maker.new ≡ C.out maker.old }
     ensures lost { (C.lost maker.old).count ≤ (C.lost maker.new).count }
@@ -77,8 +82,14 @@ fn target_of<C: Connect, G: FnMut(&mut C::Peer) -> Result<(), ConfigureFault>, I
     interrupt: &mut I,
 ) -> Result<Option<FullName>, Error>
     requires { G.IsAlwaysCallable configure.old }
-    ensures target { IfOk result (λ target. (t : spec.IsAimedAt (ways (CalledAtMut G.FnMut) C.Peer.told C.Peer.answers) (line (C.left maker.old) (C.taken maker.old) (C.addresses maker.old) configure.old) (line (C.left maker.new) (C.taken maker.new) (C.addresses maker.new) configure.new) draft.now repo.now target) × IsHeededOver (I.will_stop interrupt.old) (I.will_stop interrupt.new) (C.Peer.told t.heard.asked.peer) (C.Peer.told t.heard.asked.last)) }
-    ensures refused { IfErr result (spec.IsUntargeted (ways (CalledAtMut G.FnMut) C.Peer.told C.Peer.answers) (C.faults maker.old) (C.faults maker.new) (line (C.left maker.old) (C.taken maker.old) (C.addresses maker.old) configure.old) (line (C.left maker.new) (C.taken maker.new) (C.addresses maker.new) configure.new) draft.now repo.now) }
+    ensures target { IfOk result (λ target. (t : spec.IsAimedAt (ways (CalledAtMut G.FnMut) C.Peer.told C.Peer.answers)
+        (line (C.left maker.old) (C.taken maker.old) (C.addresses maker.old) configure.old)
+        (line (C.left maker.new) (C.taken maker.new) (C.addresses maker.new) configure.new) draft.now repo.now target)
+        × IsHeededOver (I.will_stop interrupt.old) (I.will_stop interrupt.new) (C.Peer.told t.heard.asked.peer)
+        (C.Peer.told t.heard.asked.last)) }
+    ensures refused { IfErr result (spec.IsUntargeted (ways (CalledAtMut G.FnMut) C.Peer.told C.Peer.answers) (C.faults maker.old)
+        (C.faults maker.new) (line (C.left maker.old) (C.taken maker.old) (C.addresses maker.old) configure.old)
+        (line (C.left maker.new) (C.taken maker.new) (C.addresses maker.new) configure.new) draft.now repo.now) }
     ensures counts { Counts (C.faults maker.old) (C.faults maker.new) }
     ensures out { C.out maker.new ≡ C.out maker.old }
     ensures lost { (C.lost maker.old).count ≤ (C.lost maker.new).count }

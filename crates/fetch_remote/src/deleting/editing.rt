@@ -21,8 +21,10 @@ impl Repository {
         committer: &Signature,
         packed: PackedRefs,
     ) -> Result<(), RefError>
-        ensures ok { OnOk result (state_of self.new ≡ with_refs (state_of self.old) (after committer.now (setup_of self.old).logging packed (state_of self.old).refs edits.now)) }
-        ensures refusal { MatchOption (refusal_of (state_of self.old).refs.names edits.now) (IfErr result (λ e. e ≡ errors.NoMemory)) (λ e. IsErrAnd result (IsUnlessMemory e)) }
+        ensures ok { OnOk result (state_of self.new
+            ≡ with_refs (state_of self.old) (after committer.now (setup_of self.old).logging packed (state_of self.old).refs edits.now)) }
+        ensures refusal { MatchOption (refusal_of (state_of self.old).refs.names edits.now) (IfErr result (λ e. e ≡ errors.NoMemory))
+            (λ e. IsErrAnd result (IsUnlessMemory e)) }
         ensures err { OnErr result (state_of self.new ≡ state_of self.old) }
         ensures setup { setup_of self.new ≡ setup_of self.old }
     {
@@ -38,7 +40,8 @@ impl Repository {
         packed: PackedRefs,
     ) -> Result<(), NoMemory>
         requires found { refusal_of (state_of self.old).refs.names edits.now ≡ None }
-        ensures ok { OnOk result (state_of self.new ≡ with_refs (state_of self.old) (after (setup_of self.old).settings.committer (setup_of self.old).logging packed (state_of self.old).refs edits.now)) }
+        ensures ok { OnOk result (state_of self.new ≡ with_refs (state_of self.old)
+            (after (setup_of self.old).settings.committer (setup_of self.old).logging packed (state_of self.old).refs edits.now)) }
         ensures err { OnErr result (state_of self.new ≡ state_of self.old) }
         ensures setup { setup_of self.new ≡ setup_of self.old }
     {
@@ -64,7 +67,8 @@ fn edit(
     packed: PackedRefs,
 ) -> Result<(), RefError>
     ensures ok { OnOk result (refs.new ≡ after committer.now logging packed refs.old edits.now) }
-    ensures refusal { MatchOption (refusal_of refs.old.names edits.now) (IfErr result (λ e. e ≡ errors.NoMemory)) (λ e. IsErrAnd result (IsUnlessMemory e)) }
+    ensures refusal { MatchOption (refusal_of refs.old.names edits.now) (IfErr result (λ e. e ≡ errors.NoMemory))
+        (λ e. IsErrAnd result (IsUnlessMemory e)) }
     ensures err { OnErr result (refs.new ≡ refs.old) }
     ensures hash { refs.new.hash ≡ refs.old.hash }
 {

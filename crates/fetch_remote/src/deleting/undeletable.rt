@@ -105,7 +105,8 @@ fn branches_of(alloc: Global, trees: &[Worktree]) -> Result<BTreeSet<FullName>, 
 }
 
 fn add_branch(branches: &mut BTreeSet<FullName>, branch: FullName) -> Result<(), NoMemory>
-    ensures { (name : Items ℕ) → OnOk result (contains name_cmp branches.new name ≡ cond (is_at (name_cmp branch) name) true (contains name_cmp branches.old name)) }
+    ensures { (name : Items ℕ) → OnOk result (contains name_cmp branches.new name
+        ≡ cond (is_at (name_cmp branch) name) true (contains name_cmp branches.old name)) }
 {
     branches.insert(branch)?;
     Ok(())

@@ -10,7 +10,8 @@ ghost use Rattle.fetch_conversation.specs.declared.ref_map.Error.TheVariants as 
 ghost use Rattle.fetch_remote.specs.Repositories.{setup_of};
 ghost use Rattle.fetch_remote.specs.Stages.{inquiry_of};
 ghost use Rattle.fetch_remote.specs.Steps as spec;
-ghost use Rattle.fetch_remote.specs.Steps.{LendsPeer, peer_of, remote_of, lent, prepared_of, options_with, HasListed, BreaksOff, IsUnlisted, HasInquired, IsUninquired, is_missing};
+ghost use Rattle.fetch_remote.specs.Steps.{LendsPeer, peer_of, remote_of, lent, prepared_of, options_with, HasListed, BreaksOff};
+ghost use Rattle.fetch_remote.specs.Steps.{IsUnlisted, HasInquired, IsUninquired, is_missing};
 
 use crate::fetching::options::FetchOptions;
 use crate::fetching::prepared::Prepared;
@@ -73,11 +74,13 @@ impl<'a, P: Peer> Connection<'a, P> {
         ensures refused { IfErr result (λ e. IsUninquired P.answers (P.told (peer_of self.entry).now) (P.told self.exit.1.0.now)
             (inquiry_of (remote_of self.entry) (setup_of repo.now).settings options) e) }
         ensures counts { Counts (P.faults (peer_of self.entry).now) (P.faults self.exit.1.0.now) }
-        ensures transport { IsErrOf result ref_map_errors.Transport → Rose (P.faults (peer_of self.entry).now) (P.faults self.exit.1.0.now) }
+        ensures transport { IsErrOf result ref_map_errors.Transport
+            → Rose (P.faults (peer_of self.entry).now) (P.faults self.exit.1.0.now) }
         ensures asked { Counts (I.yes interrupt.old) (I.yes interrupt.new) }
         ensures interrupted { IsErrOf result ref_map_errors.Interrupted → Rose (I.yes interrupt.old) (I.yes interrupt.new) }
         ensures uninterrupted { OnOk result ((I.yes interrupt.new).count ≡ (I.yes interrupt.old).count) }
-        ensures questions { IsHeeded is_interrupted_map (I.will_stop interrupt.old) (I.will_stop interrupt.new) (P.told (peer_of self.entry).now) (P.told self.exit.1.0.now) result }
+        ensures questions { IsHeeded is_interrupted_map (I.will_stop interrupt.old) (I.will_stop interrupt.new)
+            (P.told (peer_of self.entry).now) (P.told self.exit.1.0.now) result }
     {
         let Connection { remote, peer } = self;
         inquired(alloc, remote, repo, peer, interrupt, options)
@@ -93,7 +96,8 @@ impl<'a, P: Peer> Connection<'a, P> {
         interrupt: &mut I,
         options: ref_map::Options,
     ) -> Result<Prepare<'a, P>, prepare::Error>
-        ensures refused { IfErr result (λ e. (last : P) × IsUnlisted P.told P.faults P.answers (I.will_stop interrupt.old) (I.will_stop interrupt.new)
+        ensures refused { IfErr result (λ e. (last : P)
+            × IsUnlisted P.told P.faults P.answers (I.will_stop interrupt.old) (I.will_stop interrupt.new)
             (inquiry_of (remote_of self.entry) (setup_of repo.now).settings options) (peer_of self.entry).now last e) }
         ensures same_reference { IfOk result (λ p. (lent p).ghost_name ≡ (peer_of self.entry).ghost_name) }
         ensures remote { IfOk result (λ p. (prepared_of p).remote ≡ remote_of self.entry) }
@@ -102,9 +106,11 @@ impl<'a, P: Peer> Connection<'a, P> {
             (inquiry_of (remote_of self.entry) (setup_of repo.now).settings options) (prepared_of p).listed) }
         ensures counts { IfOk result (λ p. Counts (P.faults (peer_of self.entry).now) (P.faults (lent p).now)) }
         ensures asked { Counts (I.yes interrupt.old) (I.yes interrupt.new) }
-        ensures interrupted { IsErrOf result (prepare_errors.RefMap ref_map_errors.Interrupted) → Rose (I.yes interrupt.old) (I.yes interrupt.new) }
+        ensures interrupted { IsErrOf result (prepare_errors.RefMap ref_map_errors.Interrupted)
+            → Rose (I.yes interrupt.old) (I.yes interrupt.new) }
         ensures uninterrupted { OnOk result ((I.yes interrupt.new).count ≡ (I.yes interrupt.old).count) }
-        ensures questions { IfOk result (λ p. IsHeeded is_interrupted (I.will_stop interrupt.old) (I.will_stop interrupt.new) (P.told (peer_of self.entry).now) (P.told (lent p).now) result) }
+        ensures questions { IfOk result (λ p. IsHeeded is_interrupted (I.will_stop interrupt.old) (I.will_stop interrupt.new)
+            (P.told (peer_of self.entry).now) (P.told (lent p).now) result) }
     {
         let Connection { remote, peer } = self;
         match listed_for(alloc, remote, repo, peer, interrupt, options) {
@@ -128,14 +134,17 @@ pub fn inquired<P: Peer, I: Interrupt>(
     interrupt: &mut I,
     options: ref_map::Options,
 ) -> Result<(RefMap, Handshake), ref_map::Error>
-    ensures listed { IfOk result (λ found. HasInquired P.answers (P.told peer.old) (P.told peer.new) (inquiry_of remote.now (setup_of repo.now).settings options) (record { ref_map = found.0; handshake = found.1 })) }
-    ensures refused { IfErr result (λ e. IsUninquired P.answers (P.told peer.old) (P.told peer.new) (inquiry_of remote.now (setup_of repo.now).settings options) e) }
+    ensures listed { IfOk result (λ found. HasInquired P.answers (P.told peer.old) (P.told peer.new)
+        (inquiry_of remote.now (setup_of repo.now).settings options) (record { ref_map = found.0; handshake = found.1 })) }
+    ensures refused { IfErr result (λ e. IsUninquired P.answers (P.told peer.old) (P.told peer.new)
+        (inquiry_of remote.now (setup_of repo.now).settings options) e) }
     ensures counts { Counts (P.faults peer.old) (P.faults peer.new) }
     ensures transport { IsErrOf result ref_map_errors.Transport → Rose (P.faults peer.old) (P.faults peer.new) }
     ensures asked { Counts (I.yes interrupt.old) (I.yes interrupt.new) }
     ensures interrupted { IsErrOf result ref_map_errors.Interrupted → Rose (I.yes interrupt.old) (I.yes interrupt.new) }
     ensures uninterrupted { OnOk result ((I.yes interrupt.new).count ≡ (I.yes interrupt.old).count) }
-    ensures questions { IsHeeded is_interrupted_map (I.will_stop interrupt.old) (I.will_stop interrupt.new) (P.told peer.old) (P.told peer.new) result }
+    ensures questions { IsHeeded is_interrupted_map (I.will_stop interrupt.old) (I.will_stop interrupt.new) (P.told peer.old)
+        (P.told peer.new) result }
 {
     let inquiry = Inquiry {
         address: remote.address(),
@@ -172,14 +181,18 @@ pub fn listed_for<P: Peer, I: Interrupt>(
     options: ref_map::Options,
 ) -> Result<Prepared, prepare::Error>
     ensures options { IfOk result (λ p. p.options ≡ options_with options) }
-    ensures listed { IfOk result (λ p. HasListed P.answers (P.told peer.old) (P.told peer.new) (inquiry_of remote.now (setup_of repo.now).settings options) p.listed) }
-    ensures refused { IfErr result (λ e. BreaksOff P.answers (P.told peer.old) (P.told peer.new) (inquiry_of remote.now (setup_of repo.now).settings options) e) }
+    ensures listed { IfOk result (λ p. HasListed P.answers (P.told peer.old) (P.told peer.new)
+        (inquiry_of remote.now (setup_of repo.now).settings options) p.listed) }
+    ensures refused { IfErr result (λ e. BreaksOff P.answers (P.told peer.old) (P.told peer.new)
+        (inquiry_of remote.now (setup_of repo.now).settings options) e) }
     ensures counts { Counts (P.faults peer.old) (P.faults peer.new) }
     ensures transport { IsErrOf result (prepare_errors.RefMap ref_map_errors.Transport) → Rose (P.faults peer.old) (P.faults peer.new) }
     ensures asked { Counts (I.yes interrupt.old) (I.yes interrupt.new) }
-    ensures interrupted { IsErrOf result (prepare_errors.RefMap ref_map_errors.Interrupted) → Rose (I.yes interrupt.old) (I.yes interrupt.new) }
+    ensures interrupted { IsErrOf result (prepare_errors.RefMap ref_map_errors.Interrupted)
+        → Rose (I.yes interrupt.old) (I.yes interrupt.new) }
     ensures uninterrupted { OnOk result ((I.yes interrupt.new).count ≡ (I.yes interrupt.old).count) }
-    ensures questions { IsHeeded is_interrupted (I.will_stop interrupt.old) (I.will_stop interrupt.new) (P.told peer.old) (P.told peer.new) result }
+    ensures questions { IsHeeded is_interrupted (I.will_stop interrupt.old) (I.will_stop interrupt.new) (P.told peer.old)
+        (P.told peer.new) result }
 {
     let map = options.try_clone()?;
     let listed = list(alloc, remote, repo.settings(), peer, interrupt, options)?;

@@ -28,15 +28,19 @@ pub fn judge<O: Objects, W: Worktrees>(
     dry_run: bool,
     worktrees: &mut W,
 ) -> Result<update::Outcome, fetch::Error>
-    ensures judged { Judges (W.told worktrees.old) (λ trees. policy_over refs.now.names (O.graph objects.now) message.now tags dry_run trees) ref_map.now result }
+    ensures judged { Judges (W.told worktrees.old)
+        (λ trees. policy_over refs.now.names (O.graph objects.now) message.now tags dry_run trees) ref_map.now result }
     ensures told { W.told worktrees.new ≡ W.told worktrees.old }
     ensures asked_once { IsOnce (W.asked worktrees.old) (W.asked worktrees.new) }
     ensures listing_counts { Counts (W.listing worktrees.old) (W.listing worktrees.new) }
     ensures open_repo_counts { Counts (W.open_repo worktrees.old) (W.open_repo worktrees.new) }
     ensures follow_symref_counts { Counts (W.follow_symref worktrees.old) (W.follow_symref worktrees.new) }
-    ensures listing { IsErrOf result (errors.UpdateRefs update_errors.WorktreeListing) → Rose (W.listing worktrees.old) (W.listing worktrees.new) }
-    ensures open_repo { IsErrOf result (errors.UpdateRefs update_errors.OpenWorktreeRepo) → Rose (W.open_repo worktrees.old) (W.open_repo worktrees.new) }
-    ensures follow_symref { IsErrOf result (errors.UpdateRefs update_errors.FollowSymref) → Rose (W.follow_symref worktrees.old) (W.follow_symref worktrees.new) }
+    ensures listing { IsErrOf result (errors.UpdateRefs update_errors.WorktreeListing)
+        → Rose (W.listing worktrees.old) (W.listing worktrees.new) }
+    ensures open_repo { IsErrOf result (errors.UpdateRefs update_errors.OpenWorktreeRepo)
+        → Rose (W.open_repo worktrees.old) (W.open_repo worktrees.new) }
+    ensures follow_symref { IsErrOf result (errors.UpdateRefs update_errors.FollowSymref)
+        → Rose (W.follow_symref worktrees.old) (W.follow_symref worktrees.new) }
 {
     let trees = listed(worktrees)?;
     let outcome = laws::update(
@@ -63,9 +67,12 @@ fn listed<W: Worktrees>(worktrees: &mut W) -> Result<Vec<Worktree>, fetch::Error
     ensures listing_counts { Counts (W.listing worktrees.old) (W.listing worktrees.new) }
     ensures open_repo_counts { Counts (W.open_repo worktrees.old) (W.open_repo worktrees.new) }
     ensures follow_symref_counts { Counts (W.follow_symref worktrees.old) (W.follow_symref worktrees.new) }
-    ensures listing { IsErrOf result (errors.UpdateRefs update_errors.WorktreeListing) → Rose (W.listing worktrees.old) (W.listing worktrees.new) }
-    ensures open_repo { IsErrOf result (errors.UpdateRefs update_errors.OpenWorktreeRepo) → Rose (W.open_repo worktrees.old) (W.open_repo worktrees.new) }
-    ensures follow_symref { IsErrOf result (errors.UpdateRefs update_errors.FollowSymref) → Rose (W.follow_symref worktrees.old) (W.follow_symref worktrees.new) }
+    ensures listing { IsErrOf result (errors.UpdateRefs update_errors.WorktreeListing)
+        → Rose (W.listing worktrees.old) (W.listing worktrees.new) }
+    ensures open_repo { IsErrOf result (errors.UpdateRefs update_errors.OpenWorktreeRepo)
+        → Rose (W.open_repo worktrees.old) (W.open_repo worktrees.new) }
+    ensures follow_symref { IsErrOf result (errors.UpdateRefs update_errors.FollowSymref)
+        → Rose (W.follow_symref worktrees.old) (W.follow_symref worktrees.new) }
 {
     match worktrees.list() {
         Ok(trees) => Ok(trees),

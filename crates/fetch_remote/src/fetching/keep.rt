@@ -43,8 +43,10 @@ pub fn make_keep<F: Files>(
     ensures refused { IfErr result (λ e. (e ≡ errors.KeepFile (keep_path settings.now.git_dir digest.now)) ⊎ (e ≡ errors.NoMemory)) }
     ensures counts { Counts (F.faults files.old) (F.faults files.new) }
     ensures cause { (path : List ℕ) → IsErrOf result (errors.KeepFile path) → Rose (F.faults files.old) (F.faults files.new) }
-    ensures tree { Changes (F.told files.old) (F.told files.new) (λ t. written t (parts_of (keep_path settings.now.git_dir digest.now)) []) result }
-    ensures in_the_way { (path : List ℕ) → IsErrOf result (errors.KeepFile path) → IsRefused (F.may_fail files.old) (F.told files.old) (λ t. written t (parts_of path) []) }
+    ensures tree { Changes (F.told files.old) (F.told files.new)
+        (λ t. written t (parts_of (keep_path settings.now.git_dir digest.now)) []) result }
+    ensures in_the_way { (path : List ℕ) → IsErrOf result (errors.KeepFile path)
+        → IsRefused (F.may_fail files.old) (F.told files.old) (λ t. written t (parts_of path) []) }
     ensures may_fail { F.may_fail files.new ≡ F.may_fail files.old }
 {
     let path = keep_file(alloc, settings.git_dir.as_bytes(), digest)?;
@@ -84,7 +86,8 @@ pub fn keep<F: Files>(
     ensures unread { pack ≡ None → files.new ≡ files.old }
     ensures counts { Counts (F.faults files.old) (F.faults files.new) }
     ensures cause { (path : List ℕ) → IsErrOf result (errors.KeepFile path) → Rose (F.faults files.old) (F.faults files.new) }
-    ensures in_the_way { (path : List ℕ) → IsErrOf result (errors.KeepFile path) → IsRefused (F.may_fail files.old) (F.told files.old) (with_keep (Some path)) }
+    ensures in_the_way { (path : List ℕ) → IsErrOf result (errors.KeepFile path)
+        → IsRefused (F.may_fail files.old) (F.told files.old) (with_keep (Some path)) }
     ensures may_fail { F.may_fail files.new ≡ F.may_fail files.old }
 {
     let Some((num_objects, digest)) = pack else {

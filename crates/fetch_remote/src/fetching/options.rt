@@ -28,7 +28,12 @@ impl FetchOptions {
     /// No dry run, loose references, the usual message, and no change of depth.
     pub fn new(alloc: Global) -> FetchOptions
         ensures { result ≡ record {
-          map = record { prefix_from_spec_as_filter_on_remote = true; handshake_parameters = []; extra_refspecs = []; max_reply_bytes = 268435456 };
+          map = record {
+            prefix_from_spec_as_filter_on_remote = true;
+            handshake_parameters = [];
+            extra_refspecs = [];
+            max_reply_bytes = 268435456;
+          };
           dry_run = false;
           write_packed_refs_only = false;
           reflog_message = None;

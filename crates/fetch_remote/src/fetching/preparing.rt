@@ -54,7 +54,9 @@ impl<'a, P: Peer> Prepare<'a, P> {
     pub fn with_dry_run(self, enabled: bool) -> Self
         ensures same_reference { (lent result).ghost_name ≡ (lent self.entry).ghost_name }
         ensures peer { (lent result).now ≡ (lent self.entry).now }
-        ensures chosen { prepared_of result ≡ record (prepared_of self.entry) { options = record (prepared_of self.entry).options { dry_run = enabled } } }
+        ensures chosen { prepared_of result ≡ record (prepared_of self.entry) {
+          options = record (prepared_of self.entry).options { dry_run = enabled };
+        } }
     {
         let mut prepare = self;
         prepare.prepared.options.dry_run = enabled;
@@ -65,7 +67,9 @@ impl<'a, P: Peer> Prepare<'a, P> {
     pub fn with_write_packed_refs_only(self, enabled: bool) -> Self
         ensures same_reference { (lent result).ghost_name ≡ (lent self.entry).ghost_name }
         ensures peer { (lent result).now ≡ (lent self.entry).now }
-        ensures chosen { prepared_of result ≡ record (prepared_of self.entry) { options = record (prepared_of self.entry).options { write_packed_refs_only = enabled } } }
+        ensures chosen { prepared_of result ≡ record (prepared_of self.entry) {
+          options = record (prepared_of self.entry).options { write_packed_refs_only = enabled };
+        } }
     {
         let mut prepare = self;
         prepare.prepared.options.write_packed_refs_only = enabled;
@@ -76,7 +80,9 @@ impl<'a, P: Peer> Prepare<'a, P> {
     pub fn with_reflog_message(self, message: RefLogMessage) -> Self
         ensures same_reference { (lent result).ghost_name ≡ (lent self.entry).ghost_name }
         ensures peer { (lent result).now ≡ (lent self.entry).now }
-        ensures chosen { prepared_of result ≡ record (prepared_of self.entry) { options = record (prepared_of self.entry).options { reflog_message = Some message } } }
+        ensures chosen { prepared_of result ≡ record (prepared_of self.entry) {
+          options = record (prepared_of self.entry).options { reflog_message = Some message };
+        } }
     {
         let Prepare {
             remote,
@@ -95,7 +101,9 @@ impl<'a, P: Peer> Prepare<'a, P> {
     pub fn with_shallow(self, shallow: Shallow) -> Self
         ensures same_reference { (lent result).ghost_name ≡ (lent self.entry).ghost_name }
         ensures peer { (lent result).now ≡ (lent self.entry).now }
-        ensures chosen { prepared_of result ≡ record (prepared_of self.entry) { options = record (prepared_of self.entry).options { shallow = shallow } } }
+        ensures chosen { prepared_of result ≡ record (prepared_of self.entry) {
+          options = record (prepared_of self.entry).options { shallow = shallow };
+        } }
     {
         let Prepare {
             remote,
@@ -126,43 +134,63 @@ impl<'a, P: Peer> Prepare<'a, P> {
         worktrees: &mut W,
     ) -> Result<Outcome, fetch::Error>
         // `self.exit.1.0` is the reference to the peer.
-        ensures received { IfOk result (λ outcome. IsReceived P.answers (P.told (lent self.entry).now) (P.told self.exit.1.0.now) (W.told worktrees.old) (F.told files.old) (F.told files.new)
-            (given_by (prepared_of self.entry) (setup_of repo.old)) (state_of repo.old) (state_of repo.new) (prepared_of self.entry).listed outcome) }
-        ensures unreceived { IfErr result (λ e. IsUnreceived P.answers (P.told (lent self.entry).now) (P.told self.exit.1.0.now) (W.told worktrees.old) (F.told files.old) (F.told files.new)
-            (given_by (prepared_of self.entry) (setup_of repo.old)) (state_of repo.old) (state_of repo.new) (prepared_of self.entry).listed e) }
+        ensures received { IfOk result (λ outcome. IsReceived P.answers (P.told (lent self.entry).now) (P.told self.exit.1.0.now)
+            (W.told worktrees.old) (F.told files.old) (F.told files.new)
+            (given_by (prepared_of self.entry) (setup_of repo.old)) (state_of repo.old) (state_of repo.new)
+            (prepared_of self.entry).listed outcome) }
+        ensures unreceived { IfErr result (λ e. IsUnreceived P.answers (P.told (lent self.entry).now) (P.told self.exit.1.0.now)
+            (W.told worktrees.old) (F.told files.old) (F.told files.new)
+            (given_by (prepared_of self.entry) (setup_of repo.old)) (state_of repo.old) (state_of repo.new)
+            (prepared_of self.entry).listed e) }
         // Whatever conversation listed the references, that one and this call together are the fetch.
-        ensures fetched { IfOk result (λ outcome. (begun : Option Talk) → HasListed P.answers begun (P.told (lent self.entry).now) (asked_by (prepared_of self.entry) (setup_of repo.old)) (prepared_of self.entry).listed
+        ensures fetched { IfOk result (λ outcome. (begun : Option Talk)
+            → HasListed P.answers begun (P.told (lent self.entry).now) (asked_by (prepared_of self.entry) (setup_of repo.old))
+            (prepared_of self.entry).listed
             → IsFetched P.answers begun (P.told self.exit.1.0.now) (W.told worktrees.old) (F.told files.old) (F.told files.new)
             (given_by (prepared_of self.entry) (setup_of repo.old)) (state_of repo.old) (state_of repo.new) outcome) }
-        ensures refused { IfErr result (λ e. (begun : Option Talk) → HasListed P.answers begun (P.told (lent self.entry).now) (asked_by (prepared_of self.entry) (setup_of repo.old)) (prepared_of self.entry).listed
+        ensures refused { IfErr result (λ e. (begun : Option Talk)
+            → HasListed P.answers begun (P.told (lent self.entry).now) (asked_by (prepared_of self.entry) (setup_of repo.old))
+            (prepared_of self.entry).listed
             → IsRefused P.answers begun (P.told self.exit.1.0.now) (W.told worktrees.old) (F.told files.old) (F.told files.new)
             (given_by (prepared_of self.entry) (setup_of repo.old)) (state_of repo.old) (state_of repo.new) (receiving e)) }
-        ensures complete { IfErr result (λ e. (begun : Option Talk) → HasListed P.answers begun (P.told (lent self.entry).now) (asked_by (prepared_of self.entry) (setup_of repo.old)) (prepared_of self.entry).listed
-            → HasValidInput begun (P.told self.exit.1.0.now) (W.told worktrees.old) (given_by (prepared_of self.entry) (setup_of repo.old)) (state_of repo.old) → is_free (receiving e) ≡ true) }
+        ensures complete { IfErr result (λ e. (begun : Option Talk)
+            → HasListed P.answers begun (P.told (lent self.entry).now) (asked_by (prepared_of self.entry) (setup_of repo.old))
+            (prepared_of self.entry).listed
+            → HasValidInput begun (P.told self.exit.1.0.now) (W.told worktrees.old) (given_by (prepared_of self.entry) (setup_of repo.old))
+            (state_of repo.old) → is_free (receiving e) ≡ true) }
         ensures setup { setup_of repo.new ≡ setup_of repo.old }
         ensures counts { Counts (P.faults (lent self.entry).now) (P.faults self.exit.1.0.now) }
         ensures client { IsErrOf result receive_errors.Client → Rose (P.faults (lent self.entry).now) (P.faults self.exit.1.0.now) }
         ensures asked { Counts (I.yes interrupt.old) (I.yes interrupt.new) }
         ensures stopped { IsErrOf result receive_errors.Interrupted → Rose (I.yes interrupt.old) (I.yes interrupt.new) }
         ensures uninterrupted { OnOk result ((I.yes interrupt.new).count ≡ (I.yes interrupt.old).count) }
-        ensures questions { IsHeeded is_stopped (I.will_stop interrupt.old) (I.will_stop interrupt.new) (P.told (lent self.entry).now) (P.told self.exit.1.0.now) result }
+        ensures questions { IsHeeded is_stopped (I.will_stop interrupt.old) (I.will_stop interrupt.new) (P.told (lent self.entry).now)
+            (P.told self.exit.1.0.now) result }
         ensures dry { (prepared_of self.entry).options.dry_run ≡ true → files.new ≡ files.old }
-        ensures unread { IfOk result (λ outcome. made_in (setup_of repo.old).settings.git_dir outcome.status ≡ None → files.new ≡ files.old) }
+        ensures unread { IfOk result (λ outcome. made_in (setup_of repo.old).settings.git_dir outcome.status ≡ None
+            → files.new ≡ files.old) }
         ensures early { IfErr result (λ e. is_early e ≡ true → files.new ≡ files.old) }
         ensures file_counts { Counts (F.faults files.old) (F.faults files.new) }
-        ensures keep_file { (path : List ℕ) → IsErrOf result (receive_errors.KeepFile path) → Rose (F.faults files.old) (F.faults files.new) }
-        ensures in_the_way { (path : List ℕ) → IsErrOf result (receive_errors.KeepFile path) → IsBlocked (F.may_fail files.old) (F.told files.old) (with_keep (Some path)) }
-        ensures remove_keep_file { (path : List ℕ) → IsErrOf result (receive_errors.RemovePackKeepFile path) → Rose (F.faults files.old) (F.faults files.new) }
-        ensures removable { (path : List ℕ) → IsErrOf result (receive_errors.RemovePackKeepFile path) → F.may_fail files.old ≡ false → F.told files.old ≡ None }
+        ensures keep_file { (path : List ℕ) → IsErrOf result (receive_errors.KeepFile path)
+            → Rose (F.faults files.old) (F.faults files.new) }
+        ensures in_the_way { (path : List ℕ) → IsErrOf result (receive_errors.KeepFile path)
+            → IsBlocked (F.may_fail files.old) (F.told files.old) (with_keep (Some path)) }
+        ensures remove_keep_file { (path : List ℕ) → IsErrOf result (receive_errors.RemovePackKeepFile path)
+            → Rose (F.faults files.old) (F.faults files.new) }
+        ensures removable { (path : List ℕ) → IsErrOf result (receive_errors.RemovePackKeepFile path) → F.may_fail files.old ≡ false
+            → F.told files.old ≡ None }
         ensures may_fail { F.may_fail files.new ≡ F.may_fail files.old }
         ensures told { W.told worktrees.new ≡ W.told worktrees.old }
         ensures asked_once { IsOnce (W.asked worktrees.old) (W.asked worktrees.new) }
         ensures listing_counts { Counts (W.listing worktrees.old) (W.listing worktrees.new) }
         ensures open_repo_counts { Counts (W.open_repo worktrees.old) (W.open_repo worktrees.new) }
         ensures follow_symref_counts { Counts (W.follow_symref worktrees.old) (W.follow_symref worktrees.new) }
-        ensures listing { IsErrOf result (receive_errors.UpdateRefs update_errors.WorktreeListing) → Rose (W.listing worktrees.old) (W.listing worktrees.new) }
-        ensures open_repo { IsErrOf result (receive_errors.UpdateRefs update_errors.OpenWorktreeRepo) → Rose (W.open_repo worktrees.old) (W.open_repo worktrees.new) }
-        ensures follow_symref { IsErrOf result (receive_errors.UpdateRefs update_errors.FollowSymref) → Rose (W.follow_symref worktrees.old) (W.follow_symref worktrees.new) }
+        ensures listing { IsErrOf result (receive_errors.UpdateRefs update_errors.WorktreeListing)
+            → Rose (W.listing worktrees.old) (W.listing worktrees.new) }
+        ensures open_repo { IsErrOf result (receive_errors.UpdateRefs update_errors.OpenWorktreeRepo)
+            → Rose (W.open_repo worktrees.old) (W.open_repo worktrees.new) }
+        ensures follow_symref { IsErrOf result (receive_errors.UpdateRefs update_errors.FollowSymref)
+            → Rose (W.follow_symref worktrees.old) (W.follow_symref worktrees.new) }
     {
         let Prepare {
             remote,
@@ -191,42 +219,66 @@ pub fn fetch_on<R: Threads + Sync, P: Peer, Q: Progress, I: Interrupt, F: Files,
     files: &mut F,
     worktrees: &mut W,
 ) -> Result<Outcome, fetch::Error>
-    ensures received { IfOk result (λ outcome. IsReceived P.answers (P.told peer.old) (P.told peer.new) (W.told worktrees.old) (F.told files.old) (F.told files.new)
-        (given_by (record { remote = remote.now; listed = prepared.listed; options = prepared.options }) (setup_of repo.old)) (state_of repo.old) (state_of repo.new) prepared.listed outcome) }
-    ensures unreceived { IfErr result (λ e. IsUnreceived P.answers (P.told peer.old) (P.told peer.new) (W.told worktrees.old) (F.told files.old) (F.told files.new)
-        (given_by (record { remote = remote.now; listed = prepared.listed; options = prepared.options }) (setup_of repo.old)) (state_of repo.old) (state_of repo.new) prepared.listed e) }
-    ensures fetched { IfOk result (λ outcome. (begun : Option Talk) → HasListed P.answers begun (P.told peer.old) (asked_by (record { remote = remote.now; listed = prepared.listed; options = prepared.options }) (setup_of repo.old)) prepared.listed
+    ensures received { IfOk result (λ outcome.
+        IsReceived P.answers (P.told peer.old) (P.told peer.new) (W.told worktrees.old) (F.told files.old) (F.told files.new)
+        (given_by (record { remote = remote.now; listed = prepared.listed; options = prepared.options }) (setup_of repo.old))
+        (state_of repo.old) (state_of repo.new) prepared.listed outcome) }
+    ensures unreceived { IfErr result (λ e. IsUnreceived P.answers (P.told peer.old) (P.told peer.new) (W.told worktrees.old)
+        (F.told files.old) (F.told files.new)
+        (given_by (record { remote = remote.now; listed = prepared.listed; options = prepared.options }) (setup_of repo.old))
+        (state_of repo.old) (state_of repo.new) prepared.listed e) }
+    ensures fetched { IfOk result (λ outcome. (begun : Option Talk)
+        → HasListed P.answers begun (P.told peer.old)
+        (asked_by (record { remote = remote.now; listed = prepared.listed; options = prepared.options }) (setup_of repo.old))
+        prepared.listed
         → IsFetched P.answers begun (P.told peer.new) (W.told worktrees.old) (F.told files.old) (F.told files.new)
-        (given_by (record { remote = remote.now; listed = prepared.listed; options = prepared.options }) (setup_of repo.old)) (state_of repo.old) (state_of repo.new) outcome) }
-    ensures refused { IfErr result (λ e. (begun : Option Talk) → HasListed P.answers begun (P.told peer.old) (asked_by (record { remote = remote.now; listed = prepared.listed; options = prepared.options }) (setup_of repo.old)) prepared.listed
+        (given_by (record { remote = remote.now; listed = prepared.listed; options = prepared.options }) (setup_of repo.old))
+        (state_of repo.old) (state_of repo.new) outcome) }
+    ensures refused { IfErr result (λ e. (begun : Option Talk)
+        → HasListed P.answers begun (P.told peer.old)
+        (asked_by (record { remote = remote.now; listed = prepared.listed; options = prepared.options }) (setup_of repo.old))
+        prepared.listed
         → IsRefused P.answers begun (P.told peer.new) (W.told worktrees.old) (F.told files.old) (F.told files.new)
-        (given_by (record { remote = remote.now; listed = prepared.listed; options = prepared.options }) (setup_of repo.old)) (state_of repo.old) (state_of repo.new) (receiving e)) }
-    ensures complete { IfErr result (λ e. (begun : Option Talk) → HasListed P.answers begun (P.told peer.old) (asked_by (record { remote = remote.now; listed = prepared.listed; options = prepared.options }) (setup_of repo.old)) prepared.listed
-        → HasValidInput begun (P.told peer.new) (W.told worktrees.old) (given_by (record { remote = remote.now; listed = prepared.listed; options = prepared.options }) (setup_of repo.old)) (state_of repo.old) → is_free (receiving e) ≡ true) }
+        (given_by (record { remote = remote.now; listed = prepared.listed; options = prepared.options }) (setup_of repo.old))
+        (state_of repo.old) (state_of repo.new) (receiving e)) }
+    ensures complete { IfErr result (λ e. (begun : Option Talk)
+        → HasListed P.answers begun (P.told peer.old)
+        (asked_by (record { remote = remote.now; listed = prepared.listed; options = prepared.options }) (setup_of repo.old))
+        prepared.listed
+        → HasValidInput begun (P.told peer.new) (W.told worktrees.old)
+        (given_by (record { remote = remote.now; listed = prepared.listed; options = prepared.options }) (setup_of repo.old))
+        (state_of repo.old) → is_free (receiving e) ≡ true) }
     ensures setup { setup_of repo.new ≡ setup_of repo.old }
     ensures counts { Counts (P.faults peer.old) (P.faults peer.new) }
     ensures client { IsErrOf result receive_errors.Client → Rose (P.faults peer.old) (P.faults peer.new) }
     ensures asked { Counts (I.yes interrupt.old) (I.yes interrupt.new) }
     ensures stopped { IsErrOf result receive_errors.Interrupted → Rose (I.yes interrupt.old) (I.yes interrupt.new) }
     ensures uninterrupted { OnOk result ((I.yes interrupt.new).count ≡ (I.yes interrupt.old).count) }
-    ensures questions { IsHeeded is_stopped (I.will_stop interrupt.old) (I.will_stop interrupt.new) (P.told peer.old) (P.told peer.new) result }
+    ensures questions { IsHeeded is_stopped (I.will_stop interrupt.old) (I.will_stop interrupt.new) (P.told peer.old)
+        (P.told peer.new) result }
     ensures dry { prepared.options.dry_run ≡ true → files.new ≡ files.old }
     ensures unread { IfOk result (λ outcome. made_in (setup_of repo.old).settings.git_dir outcome.status ≡ None → files.new ≡ files.old) }
     ensures early { IfErr result (λ e. is_early e ≡ true → files.new ≡ files.old) }
     ensures file_counts { Counts (F.faults files.old) (F.faults files.new) }
     ensures keep_file { (path : List ℕ) → IsErrOf result (receive_errors.KeepFile path) → Rose (F.faults files.old) (F.faults files.new) }
-    ensures in_the_way { (path : List ℕ) → IsErrOf result (receive_errors.KeepFile path) → IsBlocked (F.may_fail files.old) (F.told files.old) (with_keep (Some path)) }
-    ensures remove_keep_file { (path : List ℕ) → IsErrOf result (receive_errors.RemovePackKeepFile path) → Rose (F.faults files.old) (F.faults files.new) }
-    ensures removable { (path : List ℕ) → IsErrOf result (receive_errors.RemovePackKeepFile path) → F.may_fail files.old ≡ false → F.told files.old ≡ None }
+    ensures in_the_way { (path : List ℕ) → IsErrOf result (receive_errors.KeepFile path)
+        → IsBlocked (F.may_fail files.old) (F.told files.old) (with_keep (Some path)) }
+    ensures remove_keep_file { (path : List ℕ) → IsErrOf result (receive_errors.RemovePackKeepFile path)
+        → Rose (F.faults files.old) (F.faults files.new) }
+    ensures removable { (path : List ℕ) → IsErrOf result (receive_errors.RemovePackKeepFile path) → F.may_fail files.old ≡ false
+        → F.told files.old ≡ None }
     ensures may_fail { F.may_fail files.new ≡ F.may_fail files.old }
     ensures told { W.told worktrees.new ≡ W.told worktrees.old }
     ensures asked_once { IsOnce (W.asked worktrees.old) (W.asked worktrees.new) }
     ensures listing_counts { Counts (W.listing worktrees.old) (W.listing worktrees.new) }
     ensures open_repo_counts { Counts (W.open_repo worktrees.old) (W.open_repo worktrees.new) }
     ensures follow_symref_counts { Counts (W.follow_symref worktrees.old) (W.follow_symref worktrees.new) }
-    ensures listing { IsErrOf result (receive_errors.UpdateRefs update_errors.WorktreeListing) → Rose (W.listing worktrees.old) (W.listing worktrees.new) }
-    ensures open_repo { IsErrOf result (receive_errors.UpdateRefs update_errors.OpenWorktreeRepo) → Rose (W.open_repo worktrees.old) (W.open_repo worktrees.new) }
-    ensures follow_symref { IsErrOf result (receive_errors.UpdateRefs update_errors.FollowSymref) → Rose (W.follow_symref worktrees.old) (W.follow_symref worktrees.new) }
+    ensures listing { IsErrOf result (receive_errors.UpdateRefs update_errors.WorktreeListing)
+        → Rose (W.listing worktrees.old) (W.listing worktrees.new) }
+    ensures open_repo { IsErrOf result (receive_errors.UpdateRefs update_errors.OpenWorktreeRepo)
+        → Rose (W.open_repo worktrees.old) (W.open_repo worktrees.new) }
+    ensures follow_symref { IsErrOf result (receive_errors.UpdateRefs update_errors.FollowSymref)
+        → Rose (W.follow_symref worktrees.old) (W.follow_symref worktrees.new) }
 {
     let Prepared { listed, options } = prepared;
     let how = manner(alloc, remote.fetch_tags(), &options)?;

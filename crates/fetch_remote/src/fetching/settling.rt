@@ -16,7 +16,8 @@ ghost use Rattle.fetch_remote.specs.Judging.{IsOnce, Judges};
 ghost use Rattle.fetch_remote.specs.Keeping.{AreFiles, made, made_in, with_keep, without_keep, left_tree};
 ghost use Rattle.fetch_remote.specs.Repositories.{state_of, setup_of};
 ghost use Rattle.fetch_remote.specs.Settling as spec;
-ghost use Rattle.fetch_remote.specs.Settling.{taken, brought, pack_read, policy_in, is_early, IsOfJudging, IsSettled, IsUnsettled, IsUntaken};
+ghost use Rattle.fetch_remote.specs.Settling.{taken, brought, pack_read, policy_in, is_early, IsOfJudging, IsSettled, IsUnsettled};
+ghost use Rattle.fetch_remote.specs.Settling.{IsUntaken};
 
 use crate::fetch;
 use crate::fetching::judging::judge;
@@ -66,27 +67,36 @@ pub(crate) fn settle<F: Files, W: Worktrees>(
 ) -> Result<Outcome, fetch::Error>
     requires of_kind { IfSome talked.received (λ r. AreOf (state_of repo.old).hash r.objects) }
     requires distinct { IfSome talked.received (λ r. HasDistinctIds r.objects) }
-    ensures settled { IfOk result (λ outcome. IsSettled (W.told worktrees.old) (setup_of repo.old) how.now (state_of repo.old) talked.wants (shown talked.listed) talked.received outcome (state_of repo.new)) }
-    ensures kept { IfOk result (λ outcome. AreFiles (F.told files.old) (F.told files.new) (left_tree (setup_of repo.old).settings.git_dir outcome.status)) }
-    ensures refused { IfErr result (λ e. IsUnsettled (W.told worktrees.old) (F.told files.old) (F.told files.new) (setup_of repo.old) how.now (state_of repo.old) talked.wants (shown talked.listed) talked.received (state_of repo.new) e) }
+    ensures settled { IfOk result (λ outcome. IsSettled (W.told worktrees.old) (setup_of repo.old) how.now (state_of repo.old) talked.wants
+        (shown talked.listed) talked.received outcome (state_of repo.new)) }
+    ensures kept { IfOk result (λ outcome. AreFiles (F.told files.old) (F.told files.new)
+        (left_tree (setup_of repo.old).settings.git_dir outcome.status)) }
+    ensures refused { IfErr result (λ e. IsUnsettled (W.told worktrees.old) (F.told files.old) (F.told files.new)
+        (setup_of repo.old) how.now (state_of repo.old) talked.wants (shown talked.listed) talked.received (state_of repo.new) e) }
     ensures setup { setup_of repo.new ≡ setup_of repo.old }
     ensures dry { how.now.dry_run ≡ true → files.new ≡ files.old }
     ensures unread { IfOk result (λ outcome. made_in (setup_of repo.old).settings.git_dir outcome.status ≡ None → files.new ≡ files.old) }
     ensures early { IfErr result (λ e. is_early e ≡ true → files.new ≡ files.old) }
     ensures file_counts { Counts (F.faults files.old) (F.faults files.new) }
     ensures keep_file { (path : List ℕ) → IsErrOf result (errors.KeepFile path) → Rose (F.faults files.old) (F.faults files.new) }
-    ensures in_the_way { (path : List ℕ) → IsErrOf result (errors.KeepFile path) → IsRefused (F.may_fail files.old) (F.told files.old) (with_keep (Some path)) }
-    ensures remove_keep_file { (path : List ℕ) → IsErrOf result (errors.RemovePackKeepFile path) → Rose (F.faults files.old) (F.faults files.new) }
-    ensures removable { (path : List ℕ) → IsErrOf result (errors.RemovePackKeepFile path) → F.may_fail files.old ≡ false → F.told files.old ≡ None }
+    ensures in_the_way { (path : List ℕ) → IsErrOf result (errors.KeepFile path)
+        → IsRefused (F.may_fail files.old) (F.told files.old) (with_keep (Some path)) }
+    ensures remove_keep_file { (path : List ℕ) → IsErrOf result (errors.RemovePackKeepFile path)
+        → Rose (F.faults files.old) (F.faults files.new) }
+    ensures removable { (path : List ℕ) → IsErrOf result (errors.RemovePackKeepFile path) → F.may_fail files.old ≡ false
+        → F.told files.old ≡ None }
     ensures may_fail { F.may_fail files.new ≡ F.may_fail files.old }
     ensures told { W.told worktrees.new ≡ W.told worktrees.old }
     ensures asked_once { IsOnce (W.asked worktrees.old) (W.asked worktrees.new) }
     ensures listing_counts { Counts (W.listing worktrees.old) (W.listing worktrees.new) }
     ensures open_repo_counts { Counts (W.open_repo worktrees.old) (W.open_repo worktrees.new) }
     ensures follow_symref_counts { Counts (W.follow_symref worktrees.old) (W.follow_symref worktrees.new) }
-    ensures listing { IsErrOf result (errors.UpdateRefs update_errors.WorktreeListing) → Rose (W.listing worktrees.old) (W.listing worktrees.new) }
-    ensures open_repo { IsErrOf result (errors.UpdateRefs update_errors.OpenWorktreeRepo) → Rose (W.open_repo worktrees.old) (W.open_repo worktrees.new) }
-    ensures follow_symref { IsErrOf result (errors.UpdateRefs update_errors.FollowSymref) → Rose (W.follow_symref worktrees.old) (W.follow_symref worktrees.new) }
+    ensures listing { IsErrOf result (errors.UpdateRefs update_errors.WorktreeListing)
+        → Rose (W.listing worktrees.old) (W.listing worktrees.new) }
+    ensures open_repo { IsErrOf result (errors.UpdateRefs update_errors.OpenWorktreeRepo)
+        → Rose (W.open_repo worktrees.old) (W.open_repo worktrees.new) }
+    ensures follow_symref { IsErrOf result (errors.UpdateRefs update_errors.FollowSymref)
+        → Rose (W.follow_symref worktrees.old) (W.follow_symref worktrees.new) }
 {
     let Talked {
         listed,
@@ -125,15 +135,18 @@ fn bring<F: Files>(
     requires distinct { IfSome received (λ r. HasDistinctIds r.objects) }
     ensures state { OnOk result (taken (state_of repo.old) wants.now (brought dry_run received) ≡ Ok (state_of repo.new)) }
     ensures told { IfOk result (λ t. t ≡ spec.told_of (setup_of repo.old).settings.git_dir dry_run received) }
-    ensures made { OnOk result (AreFiles (F.told files.old) (F.told files.new) (with_keep (made (setup_of repo.old).settings.git_dir (pack_read dry_run received)))) }
-    ensures refused { IfErr result (λ e. IsUntaken (taken (state_of repo.old) wants.now (brought dry_run received)) (made (setup_of repo.old).settings.git_dir (pack_read dry_run received)) (F.told files.old) (F.told files.new) e) }
+    ensures made { OnOk result (AreFiles (F.told files.old) (F.told files.new)
+        (with_keep (made (setup_of repo.old).settings.git_dir (pack_read dry_run received)))) }
+    ensures refused { IfErr result (λ e. IsUntaken (taken (state_of repo.old) wants.now (brought dry_run received))
+        (made (setup_of repo.old).settings.git_dir (pack_read dry_run received)) (F.told files.old) (F.told files.new) e) }
     ensures err { OnErr result (state_of repo.new ≡ state_of repo.old) }
     ensures setup { setup_of repo.new ≡ setup_of repo.old }
     ensures unread { pack_read dry_run received ≡ None → files.new ≡ files.old }
     ensures early { IfErr result (λ e. is_early e ≡ true → files.new ≡ files.old) }
     ensures counts { Counts (F.faults files.old) (F.faults files.new) }
     ensures cause { (path : List ℕ) → IsErrOf result (errors.KeepFile path) → Rose (F.faults files.old) (F.faults files.new) }
-    ensures in_the_way { (path : List ℕ) → IsErrOf result (errors.KeepFile path) → IsRefused (F.may_fail files.old) (F.told files.old) (with_keep (Some path)) }
+    ensures in_the_way { (path : List ℕ) → IsErrOf result (errors.KeepFile path)
+        → IsRefused (F.may_fail files.old) (F.told files.old) (with_keep (Some path)) }
     ensures may_fail { F.may_fail files.new ≡ F.may_fail files.old }
 {
     let Some(received) = received else {
@@ -161,16 +174,22 @@ fn take<F: Files>(
     requires of_kind { AreOf (state_of repo.old).hash received.objects }
     requires distinct { HasDistinctIds received.objects }
     ensures state { OnOk result (taken (state_of repo.old) wants.now (Some received) ≡ Ok (state_of repo.new)) }
-    ensures told { IfOk result (λ t. t ≡ record { negotiate = received.negotiate; pack = option_map (spec.pack_kept (setup_of repo.old).settings.git_dir) received.pack }) }
-    ensures made { OnOk result (AreFiles (F.told files.old) (F.told files.new) (with_keep (made (setup_of repo.old).settings.git_dir received.pack))) }
-    ensures refused { IfErr result (λ e. IsUntaken (taken (state_of repo.old) wants.now (Some received)) (made (setup_of repo.old).settings.git_dir received.pack) (F.told files.old) (F.told files.new) e) }
+    ensures told { IfOk result (λ t. t ≡ record {
+      negotiate = received.negotiate;
+      pack = option_map (spec.pack_kept (setup_of repo.old).settings.git_dir) received.pack;
+    }) }
+    ensures made { OnOk result (AreFiles (F.told files.old) (F.told files.new)
+        (with_keep (made (setup_of repo.old).settings.git_dir received.pack))) }
+    ensures refused { IfErr result (λ e. IsUntaken (taken (state_of repo.old) wants.now (Some received))
+        (made (setup_of repo.old).settings.git_dir received.pack) (F.told files.old) (F.told files.new) e) }
     ensures err { OnErr result (state_of repo.new ≡ state_of repo.old) }
     ensures setup { setup_of repo.new ≡ setup_of repo.old }
     ensures unread { received.pack ≡ None → files.new ≡ files.old }
     ensures early { IfErr result (λ e. is_early e ≡ true → files.new ≡ files.old) }
     ensures counts { Counts (F.faults files.old) (F.faults files.new) }
     ensures cause { (path : List ℕ) → IsErrOf result (errors.KeepFile path) → Rose (F.faults files.old) (F.faults files.new) }
-    ensures in_the_way { (path : List ℕ) → IsErrOf result (errors.KeepFile path) → IsRefused (F.may_fail files.old) (F.told files.old) (with_keep (Some path)) }
+    ensures in_the_way { (path : List ℕ) → IsErrOf result (errors.KeepFile path)
+        → IsRefused (F.may_fail files.old) (F.told files.old) (with_keep (Some path)) }
     ensures may_fail { F.may_fail files.new ≡ F.may_fail files.old }
 {
     may_take(alloc, repo, wants, &received)?;
@@ -187,7 +206,8 @@ fn may_take(
     received: &Received,
 ) -> Result<(), fetch::Error>
     requires { HasDistinctIds received.now.objects }
-    ensures answer { AnswersBy (λ _. spec.after_take (state_of repo.now) (spec.pack_of received.now)) is_memory (taken (state_of repo.now) wants.now (Some received.now)) result }
+    ensures answer { AnswersBy (λ _. spec.after_take (state_of repo.now) (spec.pack_of received.now)) is_memory
+        (taken (state_of repo.now) wants.now (Some received.now)) result }
     ensures checked { OnOk result (spec.checked (state_of repo.now) (spec.pack_of received.now) ≡ Ok tt) }
 {
     check(repo, received)?;
@@ -272,9 +292,12 @@ fn judged<W: Worktrees>(
     ensures listing_counts { Counts (W.listing worktrees.old) (W.listing worktrees.new) }
     ensures open_repo_counts { Counts (W.open_repo worktrees.old) (W.open_repo worktrees.new) }
     ensures follow_symref_counts { Counts (W.follow_symref worktrees.old) (W.follow_symref worktrees.new) }
-    ensures listing { IsErrOf result (errors.UpdateRefs update_errors.WorktreeListing) → Rose (W.listing worktrees.old) (W.listing worktrees.new) }
-    ensures open_repo { IsErrOf result (errors.UpdateRefs update_errors.OpenWorktreeRepo) → Rose (W.open_repo worktrees.old) (W.open_repo worktrees.new) }
-    ensures follow_symref { IsErrOf result (errors.UpdateRefs update_errors.FollowSymref) → Rose (W.follow_symref worktrees.old) (W.follow_symref worktrees.new) }
+    ensures listing { IsErrOf result (errors.UpdateRefs update_errors.WorktreeListing)
+        → Rose (W.listing worktrees.old) (W.listing worktrees.new) }
+    ensures open_repo { IsErrOf result (errors.UpdateRefs update_errors.OpenWorktreeRepo)
+        → Rose (W.open_repo worktrees.old) (W.open_repo worktrees.new) }
+    ensures follow_symref { IsErrOf result (errors.UpdateRefs update_errors.FollowSymref)
+        → Rose (W.follow_symref worktrees.old) (W.follow_symref worktrees.new) }
 {
     judge(
         alloc,
@@ -291,7 +314,8 @@ fn judged<W: Worktrees>(
 /// Moves the references, but in a dry run. The edits find what they expect, so that memory alone may refuse them.
 fn move_refs(repo: &mut Repository, how: &Manner, edits: &[RefEdit]) -> Result<(), NoMemory>
     requires found { refusal_of (state_of repo.old).refs.names edits.now ≡ None }
-    ensures ok { OnOk result (state_of repo.new ≡ spec.moved how.now.dry_run how.now.packed (setup_of repo.old) (state_of repo.old) edits.now) }
+    ensures ok { OnOk result (state_of repo.new
+        ≡ spec.moved how.now.dry_run how.now.packed (setup_of repo.old) (state_of repo.old) edits.now) }
     ensures err { OnErr result (state_of repo.new ≡ state_of repo.old) }
     ensures setup { setup_of repo.new ≡ setup_of repo.old }
 {
@@ -315,7 +339,8 @@ pub fn status<F: Files>(
     ensures unread { spec.kept_of taken ≡ None → files.new ≡ files.old }
     ensures counts { Counts (F.faults files.old) (F.faults files.new) }
     ensures cause { OnErr result (Rose (F.faults files.old) (F.faults files.new)) }
-    ensures in_the_way { OnErr result (IsRefused (F.may_fail files.old) (F.told files.old) (without_keep (spec.released_of updates taken))) }
+    ensures in_the_way { OnErr result (IsRefused (F.may_fail files.old) (F.told files.old)
+        (without_keep (spec.released_of updates taken))) }
     ensures may_fail { F.may_fail files.new ≡ F.may_fail files.old }
 {
     match taken {
@@ -341,7 +366,8 @@ fn status_with<F: Files>(
     ensures unread { taken.pack ≡ None → files.new ≡ files.old }
     ensures counts { Counts (F.faults files.old) (F.faults files.new) }
     ensures cause { OnErr result (Rose (F.faults files.old) (F.faults files.new)) }
-    ensures in_the_way { OnErr result (IsRefused (F.may_fail files.old) (F.told files.old) (without_keep (spec.released updates taken.pack))) }
+    ensures in_the_way { OnErr result (IsRefused (F.may_fail files.old) (F.told files.old)
+        (without_keep (spec.released updates taken.pack))) }
     ensures may_fail { F.may_fail files.new ≡ F.may_fail files.old }
 {
     let Taken { negotiate, pack } = taken;

@@ -50,11 +50,13 @@ pub(crate) fn talk_on<R: Threads + Sync, P: Peer, Q: Progress, I: Interrupt>(
 ) -> Result<Talked, fetch::Error>
     requires ready { IsReady listed }
     requires bound { listed.session.intake.bound ≡ options.now.map.max_reply_bytes }
-    ensures held { TalksOn P.answers (P.told peer.old) (P.told peer.new) (record { remote = remote.now; options = options.now; setup = setup_of repo.now }) (state_of repo.now) listed result }
+    ensures held { TalksOn P.answers (P.told peer.old) (P.told peer.new)
+        (record { remote = remote.now; options = options.now; setup = setup_of repo.now }) (state_of repo.now) listed result }
     ensures of_kind { IfOk result (λ t. IfSome t.received (λ r. AreOf (state_of repo.now).hash r.objects)) }
     ensures distinct { IfOk result (λ t. IfSome t.received (λ r. HasDistinctIds r.objects)) }
     ensures peer { BlamesPeer (P.faults peer.old) (P.faults peer.new) (is_told is_client result) }
-    ensures interrupt { BlamesInterrupt (I.yes interrupt.old) (I.yes interrupt.new) (I.will_stop interrupt.old) (I.will_stop interrupt.new) (P.told peer.old) (P.told peer.new) (last_question is_stopped result) }
+    ensures interrupt { BlamesInterrupt (I.yes interrupt.old) (I.yes interrupt.new) (I.will_stop interrupt.old) (I.will_stop interrupt.new)
+        (P.told peer.old) (P.told peer.new) (last_question is_stopped result) }
 {
     let mut listed = listed;
     let tags = remote.fetch_tags();
@@ -101,7 +103,8 @@ fn view(
 
 /// The tips, computed only where they are asked for.
 fn tips_for(alloc: Global, repo: &Repository, wants: &[ObjectId]) -> Result<Vec<ObjectId>, NoMemory>
-    ensures { showing.needs_tips (algorithm_in (setup_of repo.now).settings) wants.now ≡ true → IfOk result (λ tips. tips.items ≡ tips_of (state_of repo.now).refs.names (graph_of (state_of repo.now).objects)) }
+    ensures { showing.needs_tips (algorithm_in (setup_of repo.now).settings) wants.now ≡ true
+        → IfOk result (λ tips. tips.items ≡ tips_of (state_of repo.now).refs.names (graph_of (state_of repo.now).objects)) }
 {
     if needs_tips(repo.settings(), wants) {
         tips(alloc, repo.refs(), repo.store())

@@ -29,7 +29,8 @@ impl Remote {
         specs: &[Text],
         direction: Direction,
     ) -> Result<(), SpecError>
-        ensures answer { AnswersBy (λ _. specs_for self.new direction) is_spec_memory (all_of (parsed (operation_of direction)) specs.now) result }
+        ensures answer { AnswersBy (λ _. specs_for self.new direction) is_spec_memory
+            (all_of (parsed (operation_of direction)) specs.now) result }
         ensures rest { self.new ≡ with_specs self.old direction (specs_for self.new direction) }
         ensures err { OnErr result (self.new ≡ self.old) }
     {
@@ -57,8 +58,10 @@ impl Remote {
         specs: &[Text],
         direction: Direction,
     ) -> Result<Remote, (Remote, SpecError)>
-        ensures ok { IfOk result (λ remote. (with_all (specs_for self direction) (all_of (parsed (operation_of direction)) specs.now) ≡ Ok (specs_for remote direction)) × (remote ≡ with_specs self direction (specs_for remote direction))) }
-        ensures refused { IfErr result (λ refusal. (refusal.0 ≡ self) × OnFalse (is_spec_memory refusal.1) (all_of (parsed (operation_of direction)) specs.now ≡ Err refusal.1)) }
+        ensures ok { IfOk result (λ remote. (with_all (specs_for self direction) (all_of (parsed (operation_of direction)) specs.now)
+            ≡ Ok (specs_for remote direction)) × (remote ≡ with_specs self direction (specs_for remote direction))) }
+        ensures refused { IfErr result (λ refusal. (refusal.0 ≡ self)
+            × OnFalse (is_spec_memory refusal.1) (all_of (parsed (operation_of direction)) specs.now ≡ Err refusal.1)) }
     {
         let mut remote = self;
         match remote.add_refspecs(alloc, specs, direction) {
@@ -73,7 +76,8 @@ impl Remote {
         specs: &[Text],
         direction: Direction,
     ) -> Result<(), SpecError>
-        ensures answer { AnswersBy (λ _. specs_for self.new direction) is_spec_memory (with_all (specs_for self.old direction) (all_of (parsed (operation_of direction)) specs.now)) result }
+        ensures answer { AnswersBy (λ _. specs_for self.new direction) is_spec_memory
+            (with_all (specs_for self.old direction) (all_of (parsed (operation_of direction)) specs.now)) result }
         ensures rest { self.new ≡ with_specs self.old direction (specs_for self.new direction) }
         ensures err { OnErr result (self.new ≡ self.old) }
     {
@@ -100,7 +104,8 @@ impl Remote {
     /// where a configuration can't keep one of the texts.
     pub fn save_to(&self, alloc: Global, config: &mut File) -> Result<(), Error>
         ensures answer { AnswersUnless saving.is_memory (saving.save_verdict self.now.name (parts_of self.now)) result }
-        ensures saved { OnOk result (IfSome self.now.name (λ name. config.new ≡ saving.saved config.old (text_of name) (parts_of self.now))) }
+        ensures saved { OnOk result (IfSome self.now.name
+            (λ name. config.new ≡ saving.saved config.old (text_of name) (parts_of self.now))) }
         ensures err { OnErr result (config.new ≡ config.old) }
     {
         fetch_lookup::save_to(alloc, &self.parts, config)

@@ -122,7 +122,8 @@ impl Repository {
     /// The remote of the branch that `HEAD` names, or else the default one.
     #[tactic(auto, unfolding(crate::specs::Finding::head_branch))]
     fn meant_to_fetch(&self, alloc: Global) -> Result<Remote, for_fetch::Error>
-        ensures { AnswersUnless spec.is_fetch_memory (spec.or_refused (spec.meant_in (spec.head_branch self.now.state) (sections_of self.now))) result }
+        ensures { AnswersUnless spec.is_fetch_memory
+            (spec.or_refused (spec.meant_in (spec.head_branch self.now.state) (sections_of self.now))) result }
     {
         let Ok(head) = head_name(alloc) else {
             return Err(for_fetch::Error::NoMemory);
@@ -316,7 +317,8 @@ fn or_default(
     file: &File,
     remote: Option<Result<Remote, existing::Error>>,
 ) -> Option<Result<Remote, existing::Error>>
-    ensures { (expected : Option (Result RemoteValue ExistingError)) → AnswersMaybe spec.is_existing_memory expected remote → AnswersMaybe spec.is_existing_memory (option_or expected (spec.default_in file.now.sections Direction.Fetch)) result }
+    ensures { (expected : Option (Result RemoteValue ExistingError)) → AnswersMaybe spec.is_existing_memory expected remote
+        → AnswersMaybe spec.is_existing_memory (option_or expected (spec.default_in file.now.sections Direction.Fetch)) result }
 {
     match remote {
         Some(answer) => Some(answer),
@@ -326,7 +328,8 @@ fn or_default(
 
 /// A remote that has to be there to fetch from.
 fn or_refused(remote: Option<Result<Remote, existing::Error>>) -> Result<Remote, for_fetch::Error>
-    ensures { (expected : Option (Result RemoteValue ExistingError)) → AnswersMaybe spec.is_existing_memory expected remote → AnswersUnless spec.is_fetch_memory (spec.or_refused expected) result }
+    ensures { (expected : Option (Result RemoteValue ExistingError)) → AnswersMaybe spec.is_existing_memory expected remote
+        → AnswersUnless spec.is_fetch_memory (spec.or_refused expected) result }
 {
     match remote {
         Some(Ok(remote)) => Ok(remote),

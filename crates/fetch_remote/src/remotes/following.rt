@@ -35,7 +35,8 @@ impl Repository {
         name: &FullName,
         direction: Direction,
     ) -> Option<Result<FullName, Error>>
-        ensures { AnswersMaybe spec.is_memory (spec.remote_name_in (sections_of self.now) name.now direction self.now.setup.settings.lenient) result }
+        ensures { AnswersMaybe spec.is_memory
+            (spec.remote_name_in (sections_of self.now) name.now direction self.now.setup.settings.lenient) result }
     {
         let lenient = self.settings().lenient;
         match direction {
@@ -56,7 +57,8 @@ impl Repository {
         name: &FullName,
         direction: Direction,
     ) -> Option<Result<FullName, Error>>
-        ensures { AnswersMaybe spec.is_memory (spec.tracked_in (sections_of self.now) name.now direction self.now.setup.settings.lenient) result }
+        ensures { AnswersMaybe spec.is_memory
+            (spec.tracked_in (sections_of self.now) name.now direction self.now.setup.settings.lenient) result }
     {
         let there = self.branch_remote_ref_name(alloc, name, direction);
         self.tracked_where(alloc, name, direction, there)
@@ -90,7 +92,8 @@ impl Repository {
         direction: Direction,
         there: Option<Result<FullName, Error>>,
     ) -> Option<Result<FullName, Error>>
-        ensures { (expected : Option (Result (List ℕ) Refusal)) → AnswersMaybe spec.is_memory expected there → AnswersMaybe spec.is_memory (spec.with_name expected (spec.tracked_there (sections_of self.now) name.now direction)) result }
+        ensures { (expected : Option (Result (List ℕ) Refusal)) → AnswersMaybe spec.is_memory expected there
+            → AnswersMaybe spec.is_memory (spec.with_name expected (spec.tracked_there (sections_of self.now) name.now direction)) result }
     {
         match there {
             Some(Ok(there)) => self.tracked_there(alloc, name, direction, &there),
@@ -121,7 +124,8 @@ impl Repository {
 fn told(
     answer: Option<Result<FullName, fetch_lookup::branch::Error>>,
 ) -> Option<Result<FullName, Error>>
-    ensures { (expected : Option (Result (List ℕ) LookupError)) → AnswersMaybe pushed.is_memory expected answer → AnswersMaybe spec.is_memory (spec.named expected) result }
+    ensures { (expected : Option (Result (List ℕ) LookupError)) → AnswersMaybe pushed.is_memory expected answer
+        → AnswersMaybe spec.is_memory (spec.named expected) result }
 {
     match answer {
         Some(Ok(name)) => Some(Ok(name)),
@@ -136,7 +140,8 @@ fn fetched(
     name: &FullName,
     lenient: bool,
 ) -> Option<Result<FullName, Error>>
-    ensures { AnswersMaybe spec.is_memory (spec.named (pushed.remote_name_in file.now.sections None name.now Direction.Fetch lenient)) result }
+    ensures { AnswersMaybe spec.is_memory (spec.named
+        (pushed.remote_name_in file.now.sections None name.now Direction.Fetch lenient)) result }
 {
     told(fetch_lookup::branch_remote_ref_name(alloc, file, None, name, Direction::Fetch, lenient))
 }
@@ -149,7 +154,8 @@ fn pushed_where(
     name: &FullName,
     lenient: bool,
 ) -> Option<Result<FullName, Error>>
-    ensures { (expected : Option (Result RemoteValue ExistingError)) → AnswersMaybe is_existing_memory expected remote → AnswersMaybe spec.is_memory (spec.with_remote expected (spec.pushed_by file.now.sections name.now lenient)) result }
+    ensures { (expected : Option (Result RemoteValue ExistingError)) → AnswersMaybe is_existing_memory expected remote
+        → AnswersMaybe spec.is_memory (spec.with_remote expected (spec.pushed_by file.now.sections name.now lenient)) result }
 {
     match remote {
         Some(Ok(remote)) => pushed(alloc, file, &remote, name, lenient),
@@ -184,7 +190,8 @@ fn tracked_by_any(
     remote: Option<Result<Remote, existing::Error>>,
     there: &FullName,
 ) -> Option<Result<FullName, Error>>
-    ensures { (expected : Option (Result RemoteValue ExistingError)) → AnswersMaybe is_existing_memory expected remote → AnswersMaybe spec.is_memory (spec.with_remote expected (λ r. spec.tracked_by r there.now)) result }
+    ensures { (expected : Option (Result RemoteValue ExistingError)) → AnswersMaybe is_existing_memory expected remote
+        → AnswersMaybe spec.is_memory (spec.with_remote expected (λ r. spec.tracked_by r there.now)) result }
 {
     match remote {
         Some(Ok(remote)) => tracked_by(alloc, &remote, there),

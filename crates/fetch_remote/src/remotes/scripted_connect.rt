@@ -34,7 +34,14 @@ impl Model for ScriptedConnect {
 
     ghost Value = { Making };
 
-    ghost view = { λ c. record { left = c.left.items; taken = c.taken.items; addresses = c.addresses.items; out = c.out; calls = c.calls; failed = c.failed } };
+    ghost view = { λ c. record {
+      left = c.left.items;
+      taken = c.taken.items;
+      addresses = c.addresses.items;
+      out = c.out;
+      calls = c.calls;
+      failed = c.failed;
+    } };
 
     ghost invariant = { λ c. (vec_len c.taken + c.out ≤ vec_capacity c.taken) × (list_all is_fresh c.left.items ≡ true) };
 }
@@ -81,7 +88,8 @@ impl Connect for ScriptedConnect {
     /// Hands out the next peer, or one without pieces, or fails where this call is listed.
     fn make(&mut self, address: &[u8]) -> Result<ScriptedPeer, SendFault>
         ensures counts { Counts (faults_of self.old.calls self.old.failed) (faults_of self.new.calls self.new.failed) }
-        ensures cause { IsErrOf result SendFault.Failed → Rose (faults_of self.old.calls self.old.failed) (faults_of self.new.calls self.new.failed) }
+        ensures cause { IsErrOf result SendFault.Failed
+            → Rose (faults_of self.old.calls self.old.failed) (faults_of self.new.calls self.new.failed) }
         ensures fresh { IfOk result (λ peer. peer.failed ≡ 0) }
         ensures out { self.new.out ≡ out_after result self.old.out }
         ensures left { Makes (Some self.old.left) (Some self.new.left) result }

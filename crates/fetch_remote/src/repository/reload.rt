@@ -29,7 +29,9 @@ impl Repository {
         ensures refused { IfErr result (IsReloadRefusal (F.told files.old) (setup_of self.old)) }
         ensures err { OnErr result (setup_of self.new ≡ setup_of self.old) }
         ensures io { IsErrOf result errors.Io → Rose (F.faults files.old) (F.faults files.new) }
-        ensures in_the_way { IsErrOf result errors.Io → IsRefused (F.may_fail files.old) (F.told files.old) (λ t. read_in t (parts_of (config_path (setup_of self.old).settings.git_dir))) }
+        ensures in_the_way { IsErrOf result errors.Io
+            → IsRefused (F.may_fail files.old) (F.told files.old)
+            (λ t. read_in t (parts_of (config_path (setup_of self.old).settings.git_dir))) }
         ensures counts { Counts (F.faults files.old) (F.faults files.new) }
         ensures tree { F.told files.new ≡ F.told files.old }
         ensures may_fail { F.may_fail files.new ≡ F.may_fail files.old }

@@ -12,6 +12,8 @@ ghost use Rattle.fetch_store.specs.Stores.{ObjectMap, id_cmp};
 /// Distinct ids that are stored are no more than the objects there are, in a store and in a graph. So a walk that
 /// visits each id once makes no more steps than that.
 pub fn distinct_stored_ids_are_no_more_than_objects()
-    ensures store { (objects : ObjectMap) (ids : List ObjectId) → IsDistinct (eq_by_cmp id_cmp) ids → All (IsStored objects) ids → length ids ≤ map.len objects }
-    ensures graph { (graph : Graph) (ids : List ObjectId) → IsDistinct (eq_by_cmp id_cmp) ids → All (λ id. IsSome (map.get graph id)) ids → length ids ≤ map.len graph }
+    ensures store { (objects : ObjectMap) (ids : List ObjectId) → IsDistinct (eq_by_cmp id_cmp) ids → All (IsStored objects) ids
+        → length ids ≤ map.len objects }
+    ensures graph { (graph : Graph) (ids : List ObjectId) → IsDistinct (eq_by_cmp id_cmp) ids → All (λ id. IsSome (map.get graph id)) ids
+        → length ids ≤ map.len graph }
 {}

@@ -10,8 +10,10 @@ ghost use Rattle.fetch_store.specs.Stores.{id_cmp, Entries, ObjectMap, add_all, 
 /// What stands at an id once a list is added is what stood there, or else the list's first object of the id. Nothing
 /// else comes in.
 pub fn what_stands_comes_from_the_store_or_the_list()
-    ensures stands { (m : ObjectMap) (es : Entries) (id : ObjectId) → map.get (add_all m es) id ≡ first_some (map.get m id) (map.find id_cmp id es) }
-    ensures comes_from { (m : ObjectMap) (es : Entries) (id : ObjectId) (o : Stored) → map.get (add_all m es) id ≡ Some o → (map.get m id ≡ Some o) ⊎ (map.find id_cmp id es ≡ Some o) }
+    ensures stands { (m : ObjectMap) (es : Entries) (id : ObjectId)
+        → map.get (add_all m es) id ≡ first_some (map.get m id) (map.find id_cmp id es) }
+    ensures comes_from { (m : ObjectMap) (es : Entries) (id : ObjectId) (o : Stored) → map.get (add_all m es) id ≡ Some o
+        → (map.get m id ≡ Some o) ⊎ (map.find id_cmp id es ≡ Some o) }
 {}
 
 /// An id collides exactly where it is that of the first entry of the list with another kind or other bytes than an

@@ -20,7 +20,8 @@ pub fn trees_are_texts()
     ensures { (hash : Kind) (bytes : List ℕ) → TreesAreTexts hash bytes }
 {}
 
-/// A commit is `tree <hex>`, `parent <hex>` for each parent, `author <text>` and `committer <text> SP <seconds> SP <offset>`, each with a line feed, and then any bytes.
+/// A commit is `tree <hex>`, `parent <hex>` for each parent, `author <text>` and `committer <text> SP <seconds> SP <offset>`, each with a
+/// line feed, and then any bytes.
 pub fn commits_are_texts()
     ensures { (hash : Kind) (bytes : List ℕ) → CommitsAreTexts hash bytes }
 {}
@@ -33,5 +34,6 @@ pub fn links_are_no_more_than_bytes()
 /// A text that is no object of its kind is whole lines or entries up to the place that a refusal tells, each of which
 /// may stand after the one before, and what follows begins none that may stand there; nor may the text end there.
 pub fn a_place_is_where_the_grammar_breaks()
-    ensures { (hash : Kind) (kind : ObjectKind) (bytes : List ℕ) → is_object hash kind bytes ≡ false → BreaksAt hash kind bytes (place_of hash kind bytes) }
+    ensures { (hash : Kind) (kind : ObjectKind) (bytes : List ℕ) → is_object hash kind bytes ≡ false
+        → BreaksAt hash kind bytes (place_of hash kind bytes) }
 {}

@@ -2,7 +2,9 @@
 
 ghost use Rattle.std.specs.Prelude.{◌≡◌, ◌∷◌, ◌++◌, [], if◌then◌else◌, Some, None, IfOk, option_and_then};
 ghost use Rattle.std.specs.Option.{option_copied, option_map};
-ghost use Rattle.fetch_wire.specs.Advertisements.{with_word, with_words, handshake_1, is_symref, target_if, target_in, target_among, id_and_name, before_peel, is_no_name, is_null, advertised, peeled_to, at_name, at_reference, at_advertised, first_named, at_first};
+ghost use Rattle.fetch_wire.specs.Advertisements.{with_word, with_words, handshake_1, is_symref, target_if, target_in, target_among};
+ghost use Rattle.fetch_wire.specs.Advertisements.{id_and_name, before_peel, is_no_name, is_null, advertised, peeled_to, at_name};
+ghost use Rattle.fetch_wire.specs.Advertisements.{at_reference, at_advertised, first_named, at_first};
 ghost use Rattle.fetch_wire.specs.ReadSteps.{step_in, by_saying};
 ghost use Rattle.fetch_wire.specs.Stepping.{ends, breaks, goes, or_breaks};
 ghost use Rattle.fetch_wire.specs.Words.{words, words_in};
@@ -144,7 +146,8 @@ fn add_named(
     id: ObjectId,
     name: &[u8],
 ) -> Result<bool, NoMemory>
-    ensures { IfOk result (λ is_new. (if is_new then Some listed.new else None) ≡ option_map (λ reference. listed.old ++ reference ∷ []) (advertised handshake.now listed.old id name.now)) }
+    ensures { IfOk result (λ is_new. (if is_new then Some listed.new else None)
+        ≡ option_map (λ reference. listed.old ++ reference ∷ []) (advertised handshake.now listed.old id name.now)) }
 {
     if name.is_empty() {
         return Ok(false);
@@ -268,7 +271,8 @@ pub(crate) fn read_advertised(
     allowed: Advertised,
     saying: Saying<'_>,
 ) -> Result<Read, NoMemory>
-    ensures { IfOk result (λ read. step_in read ≡ by_saying (ends (told.Advertisement handshake before)) breaks (at_advertised handshake before allowed) saying.entry) }
+    ensures { IfOk result (λ read. step_in read
+        ≡ by_saying (ends (told.Advertisement handshake before)) breaks (at_advertised handshake before allowed) saying.entry) }
 {
     match saying {
         Saying::Text(text) => read_reference(alloc, handshake, before, allowed, text),

@@ -81,7 +81,8 @@ pub(crate) fn read_capability(
     before: List<Capability>,
     saying: Saying<'_>,
 ) -> Result<Read, NoMemory>
-    ensures { IfOk result (λ read. step_in read ≡ by_saying (ends (told.Greeting (handshake_of before))) breaks (at_capability before) saying.entry) }
+    ensures { IfOk result (λ read. step_in read
+        ≡ by_saying (ends (told.Greeting (handshake_of before))) breaks (at_capability before) saying.entry) }
 {
     match saying {
         Saying::Text(text) => add_capability(alloc, before, text),

@@ -143,7 +143,8 @@ impl LineReader {
 /// How many bytes the next line takes: none where more are needed.
 fn count_next(bound: ReplyBound, place: usize, bytes: &[u8]) -> Result<usize, Trouble>
     requires { place ≤ bound }
-    ensures left { IfOk result (λ count. left_by (record { bound = bound; place = place; pending = bytes.now }) (line_at bound place bytes.now) ≡ record { bound = bound; place = place + count; pending = drop count bytes.now }) }
+    ensures left { IfOk result (λ count. left_by (record { bound = bound; place = place; pending = bytes.now })
+        (line_at bound place bytes.now) ≡ record { bound = bound; place = place + count; pending = drop count bytes.now }) }
     ensures within { IfOk result (λ count. count ≤ length bytes.now) }
     ensures bounded { IfOk result (λ count. place + count ≤ bound) }
     ensures refused { IfErr result (λ e. need_in (line_at bound place bytes.now) ≡ Err e) }

@@ -2,7 +2,8 @@
 
 ghost use Rattle.std.specs.Prelude.{◌≡◌, ◌<◌, ◌≤◌, ◌++◌, None, IfOk, OnOk, OnErr, IfErr, length};
 ghost use Rattle.fetch_wire.specs.LineViews.{line_of};
-ghost use Rattle.fetch_wire.specs.Written.{four_digits, count_of, payload_of, line_text, lines_text, too_long_in, first_too_long, TellsTooLong};
+ghost use Rattle.fetch_wire.specs.Written.{four_digits, count_of, payload_of, line_text, lines_text, too_long_in, first_too_long};
+ghost use Rattle.fetch_wire.specs.Written.{TellsTooLong};
 
 use crate::error::WireError;
 use crate::lines::line::{Line, LineRef};

@@ -1,10 +1,12 @@
 //! The references that a server lists.
 
-ghost use Rattle.std.specs.Prelude.{◌≡◌, ◌<◌, ◌++◌, ◌∷◌, ◌||◌, [], if◌then◌else◌, not, Some, None, IfOk, OnOk, option_and_then, vec_len, vec_capacity};
+ghost use Rattle.std.specs.Prelude.{◌≡◌, ◌<◌, ◌++◌, ◌∷◌, ◌||◌, [], if◌then◌else◌, not, Some, None, IfOk, OnOk, option_and_then, vec_len};
+ghost use Rattle.std.specs.Prelude.{vec_capacity};
 ghost use Rattle.std.specs.Option.{option_copied, option_map};
 ghost use Rattle.fetch_wire.specs.Words.{words, words_in};
 ghost use Rattle.fetch_wire.specs.Advertisements.{with_peel, peeled_to};
-ghost use Rattle.fetch_wire.specs.Listings.{no_attributes, with_attribute, with_attributes, ref_with, id_or_unborn, named_by, ref_in, if_new, is_listed};
+ghost use Rattle.fetch_wire.specs.Listings.{no_attributes, with_attribute, with_attributes, ref_with, id_or_unborn, named_by, ref_in};
+ghost use Rattle.fetch_wire.specs.Listings.{if_new, is_listed};
 
 use crate::cloning::copy_slice;
 use crate::greetings::advertisement::peeled_to;
@@ -21,7 +23,8 @@ type Attributes<'a> = (Option<&'a [u8]>, Option<ObjectId>);
 /// One more attribute. The last of a kind counts.
 #[tactic(auto, unfolding(crate::specs::Listings::with_attribute))]
 fn with_attribute<'a>(kind: Kind, found: Attributes<'a>, word: &'a [u8]) -> Option<Attributes<'a>>
-    ensures { option_map (λ x. (option_copied x.0, x.1)) result ≡ with_attribute kind (option_copied found.entry.0, found.entry.1) word.now }
+    ensures { option_map (λ x. (option_copied x.0, x.1)) result
+        ≡ with_attribute kind (option_copied found.entry.0, found.entry.1) word.now }
 {
     if let Some(target) = after(b"symref-target:", word) {
         if target.is_empty() {
@@ -264,7 +267,8 @@ pub(crate) fn add_text(
     listed: &mut PartialListing,
     text: &[u8],
 ) -> Result<bool, NoMemory>
-    ensures { IfOk result (λ is_new. (if is_new then Some listed.new else None) ≡ option_map (λ reference. listed.old ++ reference ∷ []) (option_and_then (if_new listed.old) (ref_in kind text.now))) }
+    ensures { IfOk result (λ is_new. (if is_new then Some listed.new else None)
+        ≡ option_map (λ reference. listed.old ++ reference ∷ []) (option_and_then (if_new listed.old) (ref_in kind text.now))) }
 {
     match read_ref(alloc, kind, text)? {
         Some(reference) => listed.add(reference),

@@ -2,7 +2,9 @@
 
 ghost use Rattle.std.specs.Prelude.{◌≡◌, Some, IfOk, false};
 ghost use Rattle.std.specs.Option.{option_copied};
-ghost use Rattle.fetch_wire.specs.FetchReplies.{is_acknowledgments, is_nak, is_ready, acknowledged_in, shallow_in, unshallow_in, at_beginning, at_rest, at_packfile, at_acknowledgment, behind_ready, at_change, with_bytes, by_band, at_band, reply_step, is_packfile, is_shallow_info};
+ghost use Rattle.fetch_wire.specs.FetchReplies.{is_acknowledgments, is_nak, is_ready, acknowledged_in, shallow_in, unshallow_in};
+ghost use Rattle.fetch_wire.specs.FetchReplies.{at_beginning, at_rest, at_packfile, at_acknowledgment, behind_ready, at_change, with_bytes};
+ghost use Rattle.fetch_wire.specs.FetchReplies.{by_band, at_band, reply_step, is_packfile, is_shallow_info};
 ghost use Rattle.fetch_wire.specs.KnownIds.{each_once};
 ghost use Rattle.fetch_wire.specs.LineViews.{line_of};
 ghost use Rattle.fetch_wire.specs.ReadSteps.{step_in, by_saying, at_text};
@@ -164,7 +166,8 @@ fn acknowledgment(asked: AskedReply, reply: FetchReply, text: &[u8]) -> Result<R
 
 /// Reads a change of the border.
 fn change(asked: AskedReply, reply: FetchReply, text: &[u8]) -> Result<Read, NoMemory>
-    ensures { IfOk result (λ read. step_in read ≡ at_change asked reply (shallow_in asked.kind text.now) (unshallow_in asked.kind text.now)) }
+    ensures { IfOk result (λ read. step_in read
+        ≡ at_change asked reply (shallow_in asked.kind text.now) (unshallow_in asked.kind text.now)) }
 {
     let mut reply = reply;
     match (shallow(asked.kind, text), unshallow(asked.kind, text)) {
@@ -232,7 +235,9 @@ fn read_acknowledgment(
     reply: FetchReply,
     saying: Saying<'_>,
 ) -> Result<Read, NoMemory>
-    ensures { IfOk result (λ read. step_in read ≡ by_saying (ends (told.Reply (record reply { acknowledged = each_once reply.acknowledged; last = false }))) breaks (at_acknowledgment asked reply) saying.entry) }
+    ensures { IfOk result (λ read. step_in read
+        ≡ by_saying (ends (told.Reply (record reply { acknowledged = each_once reply.acknowledged; last = false }))) breaks
+        (at_acknowledgment asked reply) saying.entry) }
 {
     match saying {
         Saying::Text(text) => acknowledgment(asked, reply, text),
@@ -253,7 +258,8 @@ fn read_change(
     reply: FetchReply,
     saying: Saying<'_>,
 ) -> Result<Read, NoMemory>
-    ensures { IfOk result (λ read. step_in read ≡ by_saying breaks (goes (reading.Reply asked parts.Packfile reply)) (λ text. at_change asked reply (shallow_in asked.kind text) (unshallow_in asked.kind text)) saying.entry) }
+    ensures { IfOk result (λ read. step_in read ≡ by_saying breaks (goes (reading.Reply asked parts.Packfile reply))
+        (λ text. at_change asked reply (shallow_in asked.kind text) (unshallow_in asked.kind text)) saying.entry) }
 {
     match saying {
         Saying::Text(text) => change(asked, reply, text),

@@ -3,7 +3,8 @@
 ghost use Rattle.std.specs.Prelude.{◌≡◌, ◌∷◌, ◌++◌, map, IfOk, OnOk};
 ghost use Rattle.fetch_wire.specs.Greetings.{offers};
 ghost use Rattle.fetch_wire.specs.RequestWords.{agent_word, agent_is, format_word, format_is};
-ghost use Rattle.fetch_wire.specs.Requests.{parameter_text, parameters_text, first_line, agent_text, text_line, sent, when, kind_text, head_texts, listing_word, detail_texts, prefix_text, listing_lines};
+ghost use Rattle.fetch_wire.specs.Requests.{parameter_text, parameters_text, first_line, agent_text, text_line, sent, when, kind_text};
+ghost use Rattle.fetch_wire.specs.Requests.{head_texts, listing_word, detail_texts, prefix_text, listing_lines};
 
 use crate::greetings::handshake::Handshake;
 use crate::lines::line::Line;
@@ -115,7 +116,8 @@ fn append_agent(
     handshake: &Handshake,
     agent: &[u8],
 ) -> Result<(), NoMemory>
-    ensures { OnOk result (texts.new.items ≡ texts.old.items ++ when (offers agent_word handshake.now.capabilities) (agent_is ++ agent_text agent.now)) }
+    ensures { OnOk result (texts.new.items ≡ texts.old.items
+        ++ when (offers agent_word handshake.now.capabilities) (agent_is ++ agent_text agent.now)) }
 {
     let agent = agent_text(alloc, agent)?;
     append_when(
@@ -133,7 +135,8 @@ fn append_format(
     texts: &mut Vec<Text>,
     handshake: &Handshake,
 ) -> Result<(), NoMemory>
-    ensures { OnOk result (texts.new.items ≡ texts.old.items ++ when (offers format_word handshake.now.capabilities) (format_is ++ kind_text handshake.now.object_hash)) }
+    ensures { OnOk result (texts.new.items ≡ texts.old.items
+        ++ when (offers format_word handshake.now.capabilities) (format_is ++ kind_text handshake.now.object_hash)) }
 {
     let offered = handshake.offers(b"object-format");
     append_when(

@@ -52,7 +52,8 @@ fn first_text(
     name: &[u8],
     capabilities: &[Capability],
 ) -> Result<Text, NoMemory>
-    ensures { IfOk result (λ text. text ≡ named_text (option_copied id.entry) name.now ++ 0 ∷ joined (map capability_text capabilities.now)) }
+    ensures { IfOk result (λ text. text ≡ named_text (option_copied id.entry) name.now
+        ++ 0 ∷ joined (map capability_text capabilities.now)) }
 {
     let mut words = Vec::new(alloc);
     append_capabilities(alloc, &mut words, capabilities)?;

@@ -25,7 +25,8 @@ fn append_moves(
     shallow: &[ObjectId],
     unshallow: &[ObjectId],
 ) -> Result<(), NoMemory>
-    ensures { OnOk result (lines.new.items ≡ lines.old.items ++ change_lines (Some (record { shallow = shallow.now; unshallow = unshallow.now }))) }
+    ensures { OnOk result (lines.new.items ≡ lines.old.items
+        ++ change_lines (Some (record { shallow = shallow.now; unshallow = unshallow.now }))) }
 {
     let mut texts = Vec::new(alloc);
     texts.push(Text::new(alloc, b"shallow-info")?)?;
@@ -42,7 +43,8 @@ fn append_change(
     lines: &mut Vec<Line>,
     change: Option<Change<'_>>,
 ) -> Result<(), NoMemory>
-    ensures { OnOk result (lines.new.items ≡ lines.old.items ++ change_lines (change_of (option_map (λ x. (x.0.now, x.1.now)) change.entry))) }
+    ensures { OnOk result (lines.new.items ≡ lines.old.items
+        ++ change_lines (change_of (option_map (λ x. (x.0.now, x.1.now)) change.entry))) }
 {
     match change {
         Some((shallow, unshallow)) => append_moves(alloc, lines, shallow, unshallow),
@@ -87,7 +89,8 @@ pub fn last_lines(
     change: Option<(&[ObjectId], &[ObjectId])>,
     pack: &[u8],
 ) -> Result<Vec<Line>, NoMemory>
-    ensures { IfOk result (λ found. found.items ≡ last_lines (change_of (option_map (λ x. (x.0.now, x.1.now)) change.entry)) (bands_of pack.now)) }
+    ensures { IfOk result (λ found. found.items
+        ≡ last_lines (change_of (option_map (λ x. (x.0.now, x.1.now)) change.entry)) (bands_of pack.now)) }
 {
     let mut lines = Vec::new(alloc);
     append_change(alloc, &mut lines, change)?;
@@ -103,7 +106,8 @@ pub fn ready_lines(
     change: Option<(&[ObjectId], &[ObjectId])>,
     pack: &[u8],
 ) -> Result<Vec<Line>, NoMemory>
-    ensures { IfOk result (λ found. found.items ≡ ready_lines ids.now (change_of (option_map (λ x. (x.0.now, x.1.now)) change.entry)) (bands_of pack.now)) }
+    ensures { IfOk result (λ found. found.items
+        ≡ ready_lines ids.now (change_of (option_map (λ x. (x.0.now, x.1.now)) change.entry)) (bands_of pack.now)) }
 {
     let mut texts = Vec::new(alloc);
     texts.push(Text::new(alloc, b"acknowledgments")?)?;

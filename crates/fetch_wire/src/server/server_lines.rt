@@ -7,7 +7,8 @@ ghost use Rattle.fetch_store.specs.Id.{bytes_of};
 ghost use Rattle.fetch_wire.specs.References.{name_in, id_in, peeled_in, target_in};
 ghost use Rattle.fetch_wire.specs.RequestLines.{id_lines};
 ghost use Rattle.fetch_wire.specs.Requests.{sent};
-ghost use Rattle.fetch_wire.specs.ServerLines.{capability_text, greeting_lines, id_text, target_words, peeled_words, spaced, ref_text, listing_lines_of, acknowledged_texts, round_lines};
+ghost use Rattle.fetch_wire.specs.ServerLines.{capability_text, greeting_lines, id_text, target_words, peeled_words, spaced, ref_text};
+ghost use Rattle.fetch_wire.specs.ServerLines.{listing_lines_of, acknowledged_texts, round_lines};
 ghost use Rattle.fetch_wire.specs.declared.lines.line.Line.TheVariants as lines;
 
 use crate::greetings::handshake::Capability;

@@ -54,7 +54,8 @@ impl Model for Session {
 }
 
 impl Session {
-    ghost use Rattle.std.specs.Prelude.{◌≡◌, ◌≢◌, ◌≤◌, ◌⊎◌, ◌∷◌, [], true, None, Some, is_some, Ok, Err, length, drop, IfOk, IfErr, IfSome, OnOk, OnErr, IsErr};
+    ghost use Rattle.std.specs.Prelude.{◌≡◌, ◌≢◌, ◌≤◌, ◌⊎◌, ◌∷◌, [], true, None, Some, is_some, Ok, Err, length, drop, IfOk, IfErr, IfSome};
+    ghost use Rattle.std.specs.Prelude.{OnOk, OnErr, IsErr};
     ghost use Rattle.std.specs.Option.{option_copied};
     ghost use Rattle.fetch_store.specs.Answers.{RefusesUnless};
     ghost use Rattle.fetch_wire.specs.declared.replies.awaited.Await.TheVariants as awaits;
@@ -83,7 +84,8 @@ impl Session {
         ensures opened { IfOk result (λ s. s ≡ spec.opened bound agent.now prefixes.now (first_line address.now parameters.now)) }
         ensures parameters { OnOk result (first_bad (texts_told address.now parameters.now agent.now) ≡ None) }
         ensures fits { OnOk result (first_too_long (first_line address.now parameters.now ∷ []) ≡ None) }
-        ensures refused { IfErr result (λ e. TellsUnsent (first_bad (texts_told address.now parameters.now agent.now)) (first_too_long (first_line address.now parameters.now ∷ [])) e) }
+        ensures refused { IfErr result (λ e. TellsUnsent (first_bad (texts_told address.now parameters.now agent.now))
+            (first_too_long (first_line address.now parameters.now ∷ [])) e) }
     {
         if let Some((text, place)) = first_bad(alloc, address, parameters, agent)? {
             return Err(WireError::BadParameter { text, place });
@@ -272,7 +274,9 @@ impl Session {
         ensures text { IfOk result (λ text. text.items ≡ lines_text (listing_lines handshake.now self.now.agent self.now.prefixes)) }
         ensures fits { OnOk result (first_too_long (listing_lines handshake.now self.now.agent self.now.prefixes) ≡ None) }
         ensures offered { OnOk result (offers spec.listing_feature handshake.now.capabilities ≡ true) }
-        ensures refused { IfErr result (λ e. spec.TellsUnlisted (first_too_long (listing_lines handshake.now self.now.agent self.now.prefixes)) (offers spec.listing_feature handshake.now.capabilities) e) }
+        ensures refused { IfErr result (λ e. spec.TellsUnlisted
+            (first_too_long (listing_lines handshake.now self.now.agent self.now.prefixes))
+            (offers spec.listing_feature handshake.now.capabilities) e) }
     {
         let alloc = self.prefixes.allocator();
         let lines = listing_request(
@@ -291,7 +295,8 @@ impl Session {
 
     /// Asks for the references, and reads them as far as they are there.
     fn ask_listing(&mut self, handshake: Handshake) -> Result<(), NoMemory>
-        ensures asked { OnOk result (spec.IsAlike self.new (spec.read_one spec.rests (spec.asks_listing handshake (spec.keeps (told.Greeting handshake) self.old)))) }
+        ensures asked { OnOk result (spec.IsAlike self.new
+            (spec.read_one spec.rests (spec.asks_listing handshake (spec.keeps (told.Greeting handshake) self.old)))) }
         ensures kept { OnErr result (spec.IsKept self.old self.new) }
     {
         match self.listing_text(&handshake) {
@@ -444,7 +449,8 @@ impl Session {
         ensures requested { OnOk result (spec.IsAlike self.new (spec.requested self.old request.now read_pack)) }
         ensures fits { OnOk result (first_too_long (request_lines request.now) ≡ None) }
         ensures again { IfSome (spec.refusal_of self.old) (λ e. RefusesUnless spec.is_memory (Some e) result) }
-        ensures too_long { spec.refusal_of self.old ≡ None → IfErr result (λ e. TellsTooLong (first_too_long (request_lines request.now)) e) }
+        ensures too_long { spec.refusal_of self.old ≡ None
+            → IfErr result (λ e. TellsTooLong (first_too_long (request_lines request.now)) e) }
         ensures unchanged { IsErr result → self.new ≡ self.old }
     {
         self.answer()?;

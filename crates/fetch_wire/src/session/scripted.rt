@@ -1,12 +1,14 @@
 //! A peer and an interrupt that follow a script.
 
-ghost use Rattle.std.specs.Prelude.{◌≡◌, ◌≤◌, ◌↔◌, ◌+◌, ◌-◌, ◌∷◌, ℕ, suc, [], nat_lt, min, length, Some, None, IsErr, IsOk, IsErrOf, IsTrue, OnErr, IfOk, Contains, false, slice_index_or};
+ghost use Rattle.std.specs.Prelude.{◌≡◌, ◌≤◌, ◌↔◌, ◌+◌, ◌-◌, ◌∷◌, ℕ, suc, [], nat_lt, min, length, Some, None, IsErr, IsOk, IsErrOf};
+ghost use Rattle.std.specs.Prelude.{IsTrue, OnErr, IfOk, Contains, false, slice_index_or};
 ghost use Rattle.std.specs.List.{concat};
 ghost use Rattle.fetch_store.specs.Faults.{Faults, Rose, Counts};
 ghost use Rattle.fetch_wire.specs.Talks.{Talk, Sends, Receives, Makes, at_once};
 ghost use Rattle.fetch_store.specs.Calls.{one_more, faults_of};
 ghost use Rattle.fetch_store.specs.FileCalls.{risen_after};
-ghost use Rattle.fetch_wire.specs.Scripts.{given_of, pieces_from, from_first, first_of, without, talk_of, sends_failed, said_after, IsListed};
+ghost use Rattle.fetch_wire.specs.Scripts.{given_of, pieces_from, from_first, first_of, without, talk_of, sends_failed, said_after};
+ghost use Rattle.fetch_wire.specs.Scripts.{IsListed};
 
 use crate::cloning::copy_slice;
 use crate::session::peer::{Interrupt, Peer, SendFault};
@@ -51,13 +53,15 @@ impl Model for ScriptedPeer {
       failed = p.failed;
     } };
 
-    ghost invariant = { λ p. (p.said.piece ≤ length p.said.pieces.items) × (p.said.offset ≤ length (slice_index_or p.said.pieces.items p.said.piece [])) };
+    ghost invariant = { λ p. (p.said.piece ≤ length p.said.pieces.items)
+        × (p.said.offset ≤ length (slice_index_or p.said.pieces.items p.said.piece [])) };
 }
 
 impl ScriptedPeer {
     /// A peer that gives these pieces in order and fails at the calls with these numbers, in any order.
     pub fn new(alloc: Global, pieces: Vec<Text>, failing: Vec<u64>) -> ScriptedPeer
-        ensures told { ⟦<ScriptedPeer as Peer>⟧.told result ≡ Some (record { heard = []; given = []; to_come = concat pieces.items; receives = []; rule = None }) }
+        ensures told { ⟦<ScriptedPeer as Peer>⟧.told result
+            ≡ Some (record { heard = []; given = []; to_come = concat pieces.items; receives = []; rule = None }) }
         ensures faults { ⟦<ScriptedPeer as Peer>⟧.faults result ≡ record { count = 0; possible = nat_lt 0 (length failing.items) } }
         ensures pieces { result.pieces ≡ pieces.items }
         ensures failing { (n : ℕ) → Contains result.calls.listed n ↔ Contains failing.items n }
@@ -133,7 +137,8 @@ impl Peer for ScriptedPeer {
         ensures talk { Sends false (Some (talk_of self.old)) (Some (talk_of self.new)) result bytes.now }
         ensures receives { Makes (Some (talk_of self.old)) (Some (talk_of self.new)) [] }
         ensures counts { Counts (faults_of self.old.calls self.old.failed) (faults_of self.new.calls self.new.failed) }
-        ensures cause { IsErrOf result SendFault.Failed → Rose (faults_of self.old.calls self.old.failed) (faults_of self.new.calls self.new.failed) }
+        ensures cause { IsErrOf result SendFault.Failed
+            → Rose (faults_of self.old.calls self.old.failed) (faults_of self.new.calls self.new.failed) }
         ensures fails { IsErrOf result SendFault.Failed ↔ Contains self.old.calls.listed self.old.calls.next }
         ensures failed { self.new.failed ≡ sends_failed self.old.failed result }
         ensures unheard { OnErr result (self.new.heard ≡ self.old.heard) }
