@@ -19,6 +19,7 @@ use std::alloc::Global;
 const PIECE: usize = 65_000;
 
 /// What a client has, and what a server says to it.
+// Not copied: it is made anew from its number.
 #[derive(Debug, Drop)]
 pub struct Generated {
     /// The empty tree and the first half of the line, each under its id.

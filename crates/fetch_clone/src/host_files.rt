@@ -13,6 +13,7 @@ use std::str;
 
 /// The files of the host. They tell no tree, and any call may fail. A path that isn't UTF-8, and a directory with a name
 /// that isn't, is a fault.
+// Not copied: it tells what happened in one caller's calls.
 #[derive(Drop)]
 pub struct HostFiles<R> {
     rt: R,

@@ -11,6 +11,7 @@ use fetch_store::{NoMemory, Text};
 use std::alloc::Global;
 
 /// What a line says.
+// Not copied: a line is read, and taken apart at once.
 #[derive(Debug, Drop)]
 pub enum Line {
     /// Blanks or a comment.

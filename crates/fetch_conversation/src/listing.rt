@@ -37,6 +37,7 @@ pub struct Inquiry<'a> {
 }
 
 /// A remote whose references are listed and mapped, with the conversation that goes on.
+// Not copied: its conversation goes on with one peer.
 #[derive(Drop)]
 pub struct Listed {
     /// The conversation, with no request under way.

@@ -25,6 +25,7 @@ pub trait Dial {
 /// A maker of peers over the connections that `Dial` opens. It keeps the kind of the last error: of opening one, or of a peer
 /// that was taken back. A peer that is taken back is dropped, and its ends with it. Contracts are told how many peers are out
 /// and how many were lost, and nothing of the peers.
+// Not copied: it owns its caller's way to connect.
 #[derive(Drop)]
 pub struct StreamConnect<D> {
     dial: D,

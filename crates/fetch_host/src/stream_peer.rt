@@ -15,6 +15,7 @@ use std::marker::Model;
 ///
 /// What is read or written again after a signal is no fault. The end of what can be read is one, of the kind
 /// `UnexpectedEof`: a fetch receives only where a reply is due. Contracts are told nothing of the bytes that passed.
+// Not copied: it owns its caller's streams.
 #[derive(Drop)]
 pub struct StreamPeer<R, W> {
     reader: R,

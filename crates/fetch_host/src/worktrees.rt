@@ -11,6 +11,7 @@ use fetch_update::{Worktree, WorktreeFault, Worktrees};
 use std::alloc::Global;
 
 /// No work tree, as a bare repository without further ones has. It counts how often it was asked.
+// Not copied: it counts one caller's questions.
 #[derive(Debug, Drop)]
 pub struct NoWorktrees {
     alloc: Global,
@@ -45,6 +46,7 @@ impl Worktrees for NoWorktrees {
 
 /// The main work tree of a repository, with the name that its `HEAD` led to when it was looked at. It knows of no further
 /// ones, and counts how often it was asked.
+// Not copied: it counts one caller's questions.
 #[derive(Debug, Drop)]
 pub struct MainWorktree {
     list: List<Worktree>,

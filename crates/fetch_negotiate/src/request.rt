@@ -70,22 +70,22 @@ fn text_lines(
         ++ spec.asked_of (spec.pack_word handshake.now) tags shallow.now border.now wants.now) }
 {
     let mut lines = Vec::new(alloc);
-    push_head(&mut lines, alloc, handshake, agent)?;
-    push_word(&mut lines, alloc, pack_word(handshake))?;
-    push_details(&mut lines, alloc, tags, shallow, border, wants)?;
+    push_head(alloc, &mut lines, handshake, agent)?;
+    push_word(alloc, &mut lines, pack_word(handshake))?;
+    push_details(alloc, &mut lines, tags, shallow, border, wants)?;
     Ok(lines)
 }
 
 #[tactic(auto, unfolding(fetch_wire::specs::RequestWords::command_word))]
 fn push_head(
-    lines: &mut Vec<Text>,
     alloc: Global,
+    lines: &mut Vec<Text>,
     handshake: &Handshake,
     agent: &[u8],
 ) -> Result<(), NoMemory>
     ensures { OnOk result (lines.new.items ≡ lines.old.items ++ spec.head_of handshake.now agent.now) }
 {
-    push_word(lines, alloc, b"command=fetch")?;
+    push_word(alloc, lines, b"command=fetch")?;
     append_head(alloc, lines, handshake, agent)?;
     Ok(())
 }
@@ -104,8 +104,8 @@ fn pack_word(handshake: &Handshake) -> &'static [u8]
 
 #[tactic(auto, unfolding(fetch_wire::specs::RequestWords::include_tag, fetch_wire::specs::RequestWords::shallow_word, fetch_wire::specs::RequestWords::want_word))]
 fn push_details(
-    lines: &mut Vec<Text>,
     alloc: Global,
+    lines: &mut Vec<Text>,
     tags: Tags,
     shallow: &Shallow,
     border: &Border,
@@ -114,9 +114,9 @@ fn push_details(
     ensures { OnOk result (lines.new.items ≡ lines.old.items ++ spec.details_of tags shallow.now border.now wants.now) }
 {
     append_when(alloc, lines, is_included(tags), b"include-tag", b"")?;
-    push_ids(lines, alloc, b"shallow ", border.commits())?;
-    push_depth(lines, alloc, shallow)?;
-    push_ids(lines, alloc, b"want ", wants)?;
+    push_ids(alloc, lines, b"shallow ", border.commits())?;
+    push_depth(alloc, lines, shallow)?;
+    push_ids(alloc, lines, b"want ", wants)?;
     Ok(())
 }
 
@@ -130,46 +130,46 @@ pub(crate) fn is_included(tags: Tags) -> bool
 }
 
 #[tactic(auto, unfolding(fetch_wire::specs::RequestWords::deepen_word, fetch_wire::specs::RequestWords::since_word))]
-fn push_depth(lines: &mut Vec<Text>, alloc: Global, shallow: &Shallow) -> Result<(), NoMemory>
+fn push_depth(alloc: Global, lines: &mut Vec<Text>, shallow: &Shallow) -> Result<(), NoMemory>
     ensures { OnOk result (lines.new.items ≡ lines.old.items ++ spec.depth_lines shallow.now) }
 {
     match shallow {
         Shallow::NoChange => Ok(()),
         Shallow::DepthAtRemote(depth) => {
-            push_number(lines, alloc, b"deepen ", u64::from(depth.get()))
+            push_number(alloc, lines, b"deepen ", u64::from(depth.get()))
         }
-        Shallow::Deepen(depth) => push_relative(lines, alloc, *depth),
-        Shallow::Since { cutoff } => push_number(lines, alloc, b"deepen-since ", *cutoff),
+        Shallow::Deepen(depth) => push_relative(alloc, lines, *depth),
+        Shallow::Since { cutoff } => push_number(alloc, lines, b"deepen-since ", *cutoff),
         Shallow::Exclude {
             remote_refs,
             since_cutoff,
         } => {
-            push_since(lines, alloc, *since_cutoff)?;
-            push_names(lines, alloc, remote_refs.as_slice())
+            push_since(alloc, lines, *since_cutoff)?;
+            push_names(alloc, lines, remote_refs.as_slice())
         }
     }
 }
 
 #[tactic(auto, unfolding(fetch_wire::specs::RequestWords::deepen_word, fetch_wire::specs::RequestWords::relative_word))]
-fn push_relative(lines: &mut Vec<Text>, alloc: Global, depth: u32) -> Result<(), NoMemory>
+fn push_relative(alloc: Global, lines: &mut Vec<Text>, depth: u32) -> Result<(), NoMemory>
     ensures { OnOk result (lines.new.items ≡ lines.old.items ++ (deepen_word ++ decimal depth) ∷ relative_word ∷ []) }
 {
-    push_number(lines, alloc, b"deepen ", u64::from(depth))?;
-    push_word(lines, alloc, b"deepen-relative")
+    push_number(alloc, lines, b"deepen ", u64::from(depth))?;
+    push_word(alloc, lines, b"deepen-relative")
 }
 
 #[tactic(auto, unfolding(fetch_wire::specs::RequestWords::since_word))]
-fn push_since(lines: &mut Vec<Text>, alloc: Global, cutoff: Option<u64>) -> Result<(), NoMemory>
+fn push_since(alloc: Global, lines: &mut Vec<Text>, cutoff: Option<u64>) -> Result<(), NoMemory>
     ensures { OnOk result (lines.new.items ≡ lines.old.items ++ spec.since_lines cutoff) }
 {
     match cutoff {
-        Some(cutoff) => push_number(lines, alloc, b"deepen-since ", cutoff),
+        Some(cutoff) => push_number(alloc, lines, b"deepen-since ", cutoff),
         None => Ok(()),
     }
 }
 
 #[tactic(auto, unfolding(fetch_wire::specs::RequestWords::not_word))]
-fn push_names(lines: &mut Vec<Text>, alloc: Global, names: &[PartialName]) -> Result<(), NoMemory>
+fn push_names(alloc: Global, lines: &mut Vec<Text>, names: &[PartialName]) -> Result<(), NoMemory>
     ensures { OnOk result (lines.new.items ≡ lines.old.items ++ map (λ name. not_word ++ name) names.now) }
 {
     for name in names {
@@ -179,8 +179,8 @@ fn push_names(lines: &mut Vec<Text>, alloc: Global, names: &[PartialName]) -> Re
 }
 
 fn push_number(
-    lines: &mut Vec<Text>,
     alloc: Global,
+    lines: &mut Vec<Text>,
     word: &[u8],
     number: u64,
 ) -> Result<(), NoMemory>
@@ -193,8 +193,8 @@ fn push_number(
 
 /// A line for each id.
 fn push_ids(
-    lines: &mut Vec<Text>,
     alloc: Global,
+    lines: &mut Vec<Text>,
     word: &[u8],
     ids: &[ObjectId],
 ) -> Result<(), NoMemory>
@@ -213,7 +213,7 @@ fn id_line(alloc: Global, word: &[u8], id: &ObjectId) -> Result<Text, NoMemory>
     joined(alloc, word, digits.as_bytes())
 }
 
-fn push_word(lines: &mut Vec<Text>, alloc: Global, word: &[u8]) -> Result<(), NoMemory>
+fn push_word(alloc: Global, lines: &mut Vec<Text>, word: &[u8]) -> Result<(), NoMemory>
     ensures { OnOk result (lines.new.items ≡ lines.old.items ++ word.now ∷ []) }
 {
     lines.push(Text::new(alloc, word)?)?;

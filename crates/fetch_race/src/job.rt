@@ -5,6 +5,7 @@ use fetch_shared::{Entry, Pass, Receipt, SharedError};
 use fetch_store::List;
 
 /// What is fetched, from whom, and how.
+// Not copied: it owns its caller's peer.
 #[derive(Drop)]
 pub struct Job<P> {
     /// The remote.
@@ -16,6 +17,7 @@ pub struct Job<P> {
 }
 
 /// A job with the pass by which it is done.
+// Not copied: it owns its caller's peer.
 #[derive(Drop)]
 pub struct Racer<P> {
     /// The job.
@@ -27,6 +29,7 @@ pub struct Racer<P> {
 }
 
 /// What became of a race.
+// Not copied: it gives its caller's peers back.
 #[derive(Drop)]
 pub struct Raced<P> {
     /// The repository that the journal leaves.

@@ -115,6 +115,7 @@ fn racers_of<P: Drop>(alloc: Global, jobs: Vec<Job<P>>) -> Result<Vec<Racer<P>>,
 }
 
 /// Does the jobs, closes the repository, and tells what became of them.
+// Many arguments: the shared repository with its pass, and all that the race has.
 fn raced<R: Threads + Wait + Sync, P: Peer + Drop + Send>(
     rt: &R,
     alloc: Global,

@@ -30,6 +30,7 @@ pub trait Restore {
 
 /// References in which edits are made, and what takes these back. Contracts see it as the
 /// references without the edits and with them.
+// Not copied: what is pending is kept or taken back, once.
 #[derive(Drop)]
 pub struct Pending {
     journal: Journal,

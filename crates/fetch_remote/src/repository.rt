@@ -167,6 +167,7 @@ impl Model for Repository {
 }
 
 /// A local file, and the configuration that it is in force with.
+// Not copied: it goes into the repository that is made.
 #[derive(Drop)]
 pub struct Resolved {
     /// The local file.

@@ -12,6 +12,7 @@ use fetch_store::{Kind, NoMemory, Text};
 use std::alloc::Global;
 
 /// What the head of a scene says.
+// Not copied: it is read from a text, which can be read again.
 #[derive(Drop)]
 pub struct Head {
     /// The hash of its ids.

@@ -19,6 +19,7 @@ use fetch_update::Worktree;
 use std::alloc::Global;
 
 /// The repository of a scene, without its objects.
+// Not copied: it is read from a text, which can be read again.
 #[derive(Drop)]
 pub struct Local {
     /// Its hash, its directories, and whether it is lenient.

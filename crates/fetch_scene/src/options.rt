@@ -31,6 +31,7 @@ pub(crate) enum SceneOption {
 }
 
 /// The options of a scene.
+// Not copied: it is read from a text, which can be read again.
 #[derive(Debug, Drop)]
 pub struct SceneOptions {
     /// Whether nothing is to be changed.

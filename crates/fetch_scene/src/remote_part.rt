@@ -15,6 +15,7 @@ use fetch_store::{List, Text};
 use std::alloc::Global;
 
 /// The remote of a scene, and how to fetch from it.
+// Not copied: it is read from a text, which can be read again.
 #[derive(Drop)]
 pub struct RemotePart {
     /// Its one address.

@@ -26,6 +26,7 @@ use std::thread::Threads;
 pub const MAX_SCENE: usize = 1 << 30;
 
 /// A scene: a repository, a remote, how to fetch from it, and what the peer says.
+// Not copied: it is read from a text, which can be read again.
 #[derive(Drop)]
 pub struct Scene {
     /// The hash of the repository's ids.

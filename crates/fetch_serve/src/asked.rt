@@ -7,6 +7,7 @@ use fetch_specs::PartialName;
 use fetch_store::{List, NoMemory, ObjectId, Text};
 
 /// One request, as it was read. Each is answered by one reply.
+// Not copied: it is read from a request, whose lines can be read again.
 #[derive(Debug, Drop)]
 pub enum Asked {
     /// The first line of a conversation. The greeting answers it.
@@ -19,6 +20,7 @@ pub enum Asked {
 }
 
 /// What a fetch request asks.
+// Not copied: it is read from a request, whose lines can be read again.
 #[derive(Debug, Drop)]
 pub struct FetchAsked {
     /// The version of the pack.
@@ -38,6 +40,7 @@ pub struct FetchAsked {
 }
 
 /// How deep the history is to be.
+// Not copied: it is read from a request, whose lines can be read again.
 #[derive(Debug, Drop)]
 pub enum DepthAsked {
     /// That many commits from each want on, or, where it is relative, that many more than the border has.

@@ -7,7 +7,10 @@ use std::alloc::Global;
 /// The objects and the references of a repository, lent.
 #[derive(Clone, Copy)]
 pub(crate) struct Parts<'a> {
+    /// Where copies of what it gives are made.
     pub alloc: Global,
+    /// Its objects.
     pub store: &'a Store,
+    /// Its references.
     pub refs: &'a Refs,
 }

@@ -29,6 +29,7 @@ pub(crate) struct Brought {
 }
 
 /// Takes what was received in a turn; in a dry run, and where nothing was asked for, a turn tells what stands.
+// Many arguments: the shared repository with its pass, and what a turn takes.
 pub(crate) fn bring<R: Wait>(
     rt: &R,
     alloc: Global,

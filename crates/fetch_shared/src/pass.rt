@@ -9,6 +9,7 @@ use std::marker::Model;
 /// The right to use a shared repository, and to enter into its journal under one number. It has unused numbers for
 /// further passes, and a front: the beginning of the journal that its holder has seen. It takes no memory, and goes from
 /// thread to thread.
+// Not copied: a pass is the right of one holder.
 #[derive(Drop)]
 pub struct Pass {
     pub(crate) number: u64,

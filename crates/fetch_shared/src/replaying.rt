@@ -24,6 +24,7 @@ use std::alloc::Global;
 use thiserror::Error;
 
 /// What a journal leaves.
+// Not copied: it is made anew from its journal.
 #[derive(Drop)]
 pub struct Replayed {
     /// The references, with their reflogs.
@@ -35,6 +36,7 @@ pub struct Replayed {
 }
 
 /// Why a journal doesn't replay.
+// Not copied: it is told once, of one journal.
 #[derive(Debug, Drop, Error)]
 pub enum ReplayFault {
     /// An edit expects something else than what stands at its name.

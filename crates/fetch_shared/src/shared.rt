@@ -29,6 +29,7 @@ use std::sync::Wait;
 ///
 /// Objects can't be read while it is shared: close it, or keep a copy. A plan, a take and a snapshot make a graph of all
 /// stored objects while they have the turn.
+// Not copied: it is one lock, which all that share it lend.
 #[derive(Drop)]
 pub struct SharedRepository {
     pub(crate) table: Desk,

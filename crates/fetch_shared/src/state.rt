@@ -29,6 +29,7 @@ use std::marker::Model;
 
 /// A repository that several use, and the journal of what became of it. It is closed, and what the journal leaves of the
 /// repository that it opened as.
+// Not copied: it stands behind one lock; its repository can be copied.
 #[derive(Drop)]
 pub struct SharedState {
     opening: Opening<Repository>,

@@ -17,6 +17,7 @@ use std::alloc::Global;
 use std::thread::Threads;
 
 /// The scene of a race: a repository, and the jobs that fetch into it.
+// Not copied: it is read from a text, which can be read again.
 #[derive(Drop)]
 pub struct RaceScene {
     /// The repository, without its objects.

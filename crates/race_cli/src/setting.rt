@@ -14,6 +14,7 @@ use fetch_update::Worktree;
 use std::alloc::Global;
 
 /// A job that is set up: a remote, how to fetch from it, and what its peer says.
+// Not copied: it is set up of a scene, for one race.
 #[derive(Drop)]
 pub struct JobSetting {
     /// The remote, with its one address.
@@ -25,6 +26,7 @@ pub struct JobSetting {
 }
 
 /// A race that is set up: a repository, what is checked out of it, and the jobs.
+// Not copied: it is set up of a scene, for one race.
 #[derive(Drop)]
 pub struct RaceSetting {
     /// The repository.

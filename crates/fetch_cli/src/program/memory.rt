@@ -14,6 +14,7 @@ use std::alloc::Global;
 use std::marker::Model;
 
 /// Bytes in memory. The calls whose numbers are listed fail, counted from 0.
+// Not copied: a source is read once.
 #[derive(Debug, Drop)]
 pub struct MemorySource {
     bytes: Text,
@@ -79,6 +80,7 @@ impl Source for MemorySource {
 }
 
 /// A sink that keeps what it takes. The calls whose numbers are listed fail, counted from 0.
+// Not copied: a sink has what one program wrote.
 #[derive(Debug, Drop)]
 pub struct MemorySink {
     bytes: Vec<u8>,

@@ -13,6 +13,7 @@ use std::alloc::Global;
 use std::thread::Threads;
 
 /// The scene of a server: a repository.
+// Not copied: it is read from a text, which can be read again.
 #[derive(Drop)]
 pub struct ServerScene {
     /// The repository, without its objects.

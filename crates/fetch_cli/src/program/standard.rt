@@ -10,6 +10,7 @@ use fetch_wire::SendFault;
 use std::io::{Read, Write};
 
 /// A source over a reader, as standard input is.
+// Not copied: it owns its caller's reader.
 #[derive(Drop)]
 pub struct StdSource<R> {
     reader: R,
@@ -43,6 +44,7 @@ impl<R: Read> Source for StdSource<R> {
 }
 
 /// A sink over a writer, as standard output is.
+// Not copied: it owns its caller's writer.
 #[derive(Drop)]
 pub struct StdSink<W> {
     writer: W,

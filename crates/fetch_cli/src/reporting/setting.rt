@@ -20,6 +20,7 @@ use fetch_update::Worktree;
 use std::alloc::Global;
 
 /// A repository and a remote, as a scene says; and how it is to be fetched, what is checked out, and what the peer says.
+// Not copied: it is set up of a scene, for one fetch.
 #[derive(Drop)]
 pub struct Setting {
     /// The repository that fetches.

@@ -38,6 +38,7 @@ use std::alloc::Global;
 
 /// Lists the references that the clone fetches, by a peer that the closure agreed to. Where the only conflict is on the
 /// remote's `HEAD`, another peer lists them, without that and without the closure.
+// Many arguments: what is listed by, and each of what is lent.
 pub(crate) fn listed<
     C: Connect,
     G: FnMut(&mut C::Peer) -> Result<(), ConfigureFault>,

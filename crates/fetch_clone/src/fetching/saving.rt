@@ -95,6 +95,7 @@ pub(crate) fn save<
 }
 
 /// Lets the closure choose the remote, and writes its section into the file `config`.
+// Many arguments: what is saved by, each of what is lent, and the two names.
 fn save_as<F: Files, R: FnMut(Remote) -> Result<Remote, ConfigureFault>>(
     alloc: Global,
     draft: &Draft,

@@ -21,6 +21,7 @@ use fetch_update::update;
 use std::alloc::Global;
 
 /// A pack whose keep file was made.
+// Not copied: it is told in the outcome, of which it becomes a part.
 #[derive(Drop)]
 pub struct Kept {
     /// How many objects it has, each as often as it comes.

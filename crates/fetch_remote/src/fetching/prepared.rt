@@ -7,6 +7,7 @@ use crate::fetching::options::FetchOptions;
 use fetch_conversation::Listed;
 
 /// What a fetch is prepared with: what was listed, with the conversation that goes on, and how the fetch is to be done.
+// Not copied: its conversation goes on with one peer.
 #[derive(Drop)]
 pub struct Prepared {
     /// What was listed, with the conversation that goes on.

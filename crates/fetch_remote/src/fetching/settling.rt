@@ -34,6 +34,7 @@ use fetch_wire::{Handshake, RefMap};
 use std::alloc::Global;
 
 /// How a fetch is to be settled.
+// Not copied: it is taken out of the options of one fetch.
 #[derive(Debug, Drop)]
 pub struct Manner {
     /// What is done with tags.
@@ -47,6 +48,7 @@ pub struct Manner {
 }
 
 /// What the outcome tells of what was received.
+// Not copied: it becomes a part of one outcome.
 #[derive(Drop)]
 pub struct Taken {
     /// The rounds that were held, one for each request.

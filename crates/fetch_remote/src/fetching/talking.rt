@@ -37,6 +37,7 @@ pub(crate) struct Talked {
 }
 
 /// Holds the second stage of a fetch whose references were listed.
+// Many arguments: what is talked by, and each of what is lent.
 pub(crate) fn talk_on<R: Threads + Sync, P: Peer, Q: Progress, I: Interrupt>(
     rt: &R,
     alloc: Global,

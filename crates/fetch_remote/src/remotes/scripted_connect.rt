@@ -16,6 +16,7 @@ use std::marker::Model;
 
 /// A maker that hands out these peers in order, and peers without pieces after the last one. The calls whose numbers
 /// are listed fail, where numbers count the calls of `make` from 0.
+// Not copied: its peers are handed out, each once.
 #[derive(Drop)]
 pub struct ScriptedConnect {
     alloc: Global,

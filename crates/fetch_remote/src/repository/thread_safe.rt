@@ -7,6 +7,7 @@ use std::marker::Model;
 
 /// A repository as it is handed from thread to thread: it has one owner. A repository that several threads use at once is a
 /// `SharedRepository` of `fetch_shared`. Contracts see it as the repository.
+// Not copied: it has one owner; the repository in it can be copied.
 #[derive(Drop)]
 pub struct ThreadSafeRepository {
     repo: Repository,

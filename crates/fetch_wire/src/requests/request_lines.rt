@@ -28,7 +28,7 @@ impl Request {
         append_texts(alloc, &mut lines, &texts[place..])?;
         let haves = have_texts(alloc, self.haves.as_slice())?;
         append_texts(alloc, &mut lines, &haves)?;
-        append_done(&mut lines, alloc, self.done)?;
+        append_done(alloc, &mut lines, self.done)?;
         lines.push(Line::Flush)?;
         Ok(lines)
     }
@@ -79,7 +79,7 @@ fn have_text(alloc: Global, id: &ObjectId) -> Result<Text, NoMemory>
 }
 
 #[tactic(auto, unfolding(crate::specs::RequestWords::done_word))]
-fn append_done(lines: &mut Vec<Line>, alloc: Global, done: bool) -> Result<(), NoMemory>
+fn append_done(alloc: Global, lines: &mut Vec<Line>, done: bool) -> Result<(), NoMemory>
     ensures { OnOk result (lines.new.items ≡ lines.old.items ++ sent (when done done_word)) }
 {
     if done {

@@ -96,8 +96,8 @@ fn append_target(out: &mut Vec<u8>, target: Option<&[u8]>) -> Result<(), NoMemor
 }
 
 fn append_peeled(
-    out: &mut Vec<u8>,
     alloc: Global,
+    out: &mut Vec<u8>,
     peeled: Option<&ObjectId>,
 ) -> Result<(), NoMemory>
     ensures { OnOk result (out.new.items ≡ out.old.items ++ spaced (peeled_words (option_copied peeled.entry))) }
@@ -117,7 +117,7 @@ fn ref_text(alloc: Global, reference: &Ref) -> Result<Text, NoMemory>
     let mut out = id_text(alloc, id)?.into_bytes();
     append_word(&mut out, b"", name)?;
     append_target(&mut out, reference.target())?;
-    append_peeled(&mut out, alloc, peeled)?;
+    append_peeled(alloc, &mut out, peeled)?;
     Ok(Text::from(out))
 }
 

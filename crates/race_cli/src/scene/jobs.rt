@@ -13,6 +13,7 @@ use std::alloc::Global;
 pub const MAX_JOBS: usize = 8;
 
 /// A job of a race: a fetch from a remote.
+// Not copied: it is read from a text, which can be read again.
 #[derive(Drop)]
 pub struct RaceJob {
     /// The remote, and how to fetch from it.
