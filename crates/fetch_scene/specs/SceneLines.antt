@@ -1,12 +1,13 @@
 -- A scene is a list of lines, each with its place in the text.
-use Rattle.std.specs.Prelude.{ℕ, zero, suc, ◌+◌, ◌^◌, ◌==◌, ◌&&◌, nat_lt, ◌-◌, List, [], ◌∷◌, length, take, drop, Option, Some, None}
-use Rattle.std.specs.Prelude.{Result, Ok, Err, option_and_then, slice_index, if◌then◌else◌}
+use Rattle.std.specs.Prelude.{ℕ, zero, suc, ◌+◌, ◌^◌, ◌-◌, List, [], ◌∷◌, length, take, drop, Option, Some, None}
+use Rattle.std.specs.Prelude.{Result, Ok, Err, option_and_then, if◌then◌else◌}
 use Rattle.std.specs.List.{prefix_len}
 use Rattle.std.specs.Option.{option_map, ok_or, is_some}
 use Rattle.std.specs.Str.{bytes_eq}
 use Rattle.std.specs.Result.{result_ok}
 use Rattle.fetch_store.specs.Scan.{after}
 use Rattle.fetch_wire.specs.Lines.{line_at, line_len}
+use Rattle.fetch_wire.specs.Texts.{without_lf}
 use Rattle.fetch_wire.specs.declared.lines.line.Line.{Line}
 use Rattle.fetch_wire.specs.declared.lines.line.Line.TheVariants.{Payload, Flush, Delim, End}
 use Rattle.fetch_scene.specs.Gives.{◌>>=◌}
@@ -21,11 +22,7 @@ pub record Lines : Type 0 where
   pub lines : List Placed
   pub last : ℕ
 
--- a text line is a payload without its last line feed
-abbrev pub without_lf : List ℕ → List ℕ
-without_lf bytes = if nat_lt 0 (length bytes) && slice_index bytes (length bytes - 1) == 10 then take (length bytes - 1) bytes else bytes
-
--- the text of a text line
+-- the text of a text line, which is its payload without a last line feed
 unfoldable pub text_of : Line → Option (List ℕ)
 text_of (Payload payload) = Some (without_lf payload)
 text_of Flush = None

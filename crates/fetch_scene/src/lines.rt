@@ -7,7 +7,7 @@ ghost use Rattle.fetch_scene.specs.SceneLines as spec;
 ghost use Rattle.fetch_scene.specs.Gives.{GivesBy};
 
 use crate::fault::SceneFault;
-use fetch_wire::LineRef;
+use fetch_wire::{LineRef, without_line_feed};
 use std::marker::Model;
 
 /// A line and the place where it begins.
@@ -98,16 +98,6 @@ impl<'a> Placed<'a> {
             LineRef::Flush => Some(()),
             LineRef::Payload(_) | LineRef::Delim | LineRef::End => None,
         }
-    }
-}
-
-fn without_line_feed(text: &[u8]) -> &[u8]
-    ensures { result.now ≡ spec.without_lf text.now }
-{
-    if !text.is_empty() && text[text.len() - 1] == b'\n' {
-        &text[..text.len() - 1]
-    } else {
-        text
     }
 }
 

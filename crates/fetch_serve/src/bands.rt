@@ -3,24 +3,13 @@
 ghost use Rattle.std.specs.Prelude.{◌≡◌, ◌++◌, ◌≤◌, ◌<◌, map, length, OnOk};
 ghost use Rattle.fetch_wire.specs.Bands.{Piece, band_line};
 ghost use Rattle.fetch_wire.specs.ServerLines.{bands_of};
-ghost use Rattle.fetch_wire.specs.Written.{four_digits, line_text, lines_text};
+ghost use Rattle.fetch_wire.specs.Written.{line_text, lines_text};
 
 use fetch_store::NoMemory;
+use fetch_wire::length_digits;
 
 /// How many bytes of a pack a band holds at most.
 const BAND: usize = 65_515;
-
-/// A number as four hex digits.
-#[tactic(auto, unfolding(fetch_wire::specs::Written::four_digits))]
-fn digits(count: usize) -> [u8; 4]
-    requires { count < 65536 }
-    ensures { result ≡ four_digits count }
-{
-    let mut digits = [0; 4];
-    let bytes = [(count / 256) as u8, (count % 256) as u8];
-    hex::encode_to_slice(bytes.as_slice(), &mut digits).unwrap();
-    digits
-}
 
 /// Appends one band.
 #[tactic(auto, unfolding(fetch_wire::specs::Written::line_text))]
@@ -28,7 +17,7 @@ fn append_band(out: &mut Vec<u8>, piece: &[u8]) -> Result<(), NoMemory>
     requires { length piece.now ≤ 65515 }
     ensures { OnOk result (out.new.items ≡ out.old.items ++ line_text (band_line (Piece piece.now))) }
 {
-    out.extend_from_slice(&digits(piece.len() + 5))?;
+    out.extend_from_slice(&length_digits(piece.len() + 5))?;
     out.push(1)?;
     out.extend_from_slice(piece)?;
     Ok(())

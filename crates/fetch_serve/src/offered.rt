@@ -14,13 +14,12 @@ ghost use Rattle.fetch_serve.specs.Requests.{has_id};
 ghost use Rattle.fetch_store.specs.Borders.{set_of};
 ghost use Rattle.fetch_store.specs.Graph.{graph_of};
 ghost use Rattle.fetch_store.specs.Stores.{id_cmp};
-ghost use Rattle.fetch_wire.specs.Listings.{ref_with};
 
 use crate::parts::Parts;
 use fetch_refs::{RefError, TargetRef, peel_tags};
 use fetch_specs::FullName;
-use fetch_store::{NoMemory, ObjectId, Objects, Store, Text, ascending};
-use fetch_wire::Ref;
+use fetch_store::{NoMemory, ObjectId, Objects, Store, ascending};
+use fetch_wire::{Ref, make_ref};
 use std::alloc::Global;
 
 /// What a tag at this id leads to; nothing of another object.
@@ -60,52 +59,6 @@ fn target_of(target: TargetRef<'_>) -> Option<&[u8]>
     }
 }
 
-/// The reference with this name and id, what it names, and what its tag leads to.
-// Long: one arm for each kind of reference, a field a line.
-fn made(
-    alloc: Global,
-    name: &[u8],
-    id: Option<ObjectId>,
-    target: Option<&[u8]>,
-    peeled: Option<ObjectId>,
-) -> Result<Option<Ref>, NoMemory>
-    ensures { IfOk result (λ found. found ≡ ref_with name.now id (option_copied target.entry, peeled)) }
-{
-    let full_ref_name = Text::new(alloc, name)?;
-    let target = match target {
-        Some(target) => Some(Text::new(alloc, target)?),
-        None => None,
-    };
-    Ok(match (id, target, peeled) {
-        (None, Some(target), _) => Some(Ref::Unborn {
-            full_ref_name,
-            target,
-        }),
-        (None, None, _) => None,
-        (Some(id), Some(target), Some(object)) => Some(Ref::Symbolic {
-            full_ref_name,
-            target,
-            tag: Some(id),
-            object,
-        }),
-        (Some(object), Some(target), None) => Some(Ref::Symbolic {
-            full_ref_name,
-            target,
-            tag: None,
-            object,
-        }),
-        (Some(tag), None, Some(object)) => Some(Ref::Peeled {
-            full_ref_name,
-            tag,
-            object,
-        }),
-        (Some(object), None, None) => Some(Ref::Direct {
-            full_ref_name,
-            object,
-        }),
-    })
-}
-
 /// What a tag at the id leads to, where there is an id.
 fn peeled_if(store: &Store, id: Option<ObjectId>) -> Option<ObjectId>
     ensures { result ≡ spec.peeled_behind (graph_of store.now.objects) id }
@@ -122,7 +75,7 @@ fn listed(parts: Parts<'_>, name: &[u8], target: TargetRef<'_>) -> Result<Option
 {
     let id = resolved(parts, name, target)?;
     let peeled = peeled_if(parts.store, id);
-    made(parts.alloc, name, id, target_of(target), peeled)
+    make_ref(parts.alloc, name, id, (target_of(target), peeled))
 }
 
 #[tactic(auto, unfolding(crate::specs::Offered::head_name))]

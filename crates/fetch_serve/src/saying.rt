@@ -9,7 +9,7 @@ ghost use Rattle.fetch_wire.specs.LineViews.{line_of};
 ghost use Rattle.fetch_wire.specs.Stepping.{Step};
 ghost use Rattle.fetch_wire.specs.Texts.{without_lf};
 
-use fetch_wire::LineRef;
+use fetch_wire::{LineRef, without_line_feed};
 
 /// What a line says.
 #[derive(Clone, Copy)]
@@ -19,17 +19,6 @@ pub(crate) enum Saying<'a> {
     Flush,
     Delim,
     End,
-}
-
-#[tactic(auto, unfolding(fetch_wire::specs::Texts::without_lf))]
-fn without_line_feed(text: &[u8]) -> &[u8]
-    ensures { result.now ≡ without_lf text.now }
-{
-    if !text.is_empty() && text[text.len() - 1] == b'\n' {
-        &text[..text.len() - 1]
-    } else {
-        text
-    }
 }
 
 /// What the line says.

@@ -18,13 +18,15 @@ pub use lines::cutting::in_pieces;
 pub use lines::line::{Line, LineRef};
 pub use lines::reader::{LineReader, Need};
 pub use lines::section::{Trouble, line_in};
-pub use lines::write::{write_line, write_lines};
+pub use lines::write::{length_digits, write_line, write_lines};
+pub use listings::listing::make_ref;
 pub use listings::mapping::{Mapping, RefMap, SpecIndex};
 pub use listings::reference::{Ref, Source};
 pub use replies::awaited::{AskedReply, Await, Fault, Told};
 pub use replies::bound::ReplyBound;
 pub use replies::haves::{Haves, each_once};
 pub use replies::reply_reader::ReplyReader;
+pub use replies::saying::without_line_feed;
 pub use requests::records::{FetchReply, Request};
 pub use requests::request_parts::{
     agent_text, append_head, append_when, first_line, joined, listing_request,

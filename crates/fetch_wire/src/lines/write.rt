@@ -12,9 +12,9 @@ use std::alloc::Global;
 /// The longest payload.
 const MAX_PAYLOAD: usize = 65_516;
 
-/// A number as four hex digits.
+/// The four hex digits that a line of this length begins with.
 #[tactic(auto, unfolding(crate::specs::Written::four_digits))]
-fn digits(count: usize) -> [u8; 4]
+pub fn length_digits(count: usize) -> [u8; 4]
     requires { count < 65536 }
     ensures { result ≡ four_digits count }
 {
@@ -63,7 +63,7 @@ pub fn write_line(out: &mut Vec<u8>, line: LineRef<'_>) -> Result<(), WireError>
     }
     let (count, payload) = parts(line);
     out.reserve(4 + payload.len())?;
-    out.extend_from_slice(&digits(count)).unwrap();
+    out.extend_from_slice(&length_digits(count)).unwrap();
     out.extend_from_slice(payload).unwrap();
     Ok(())
 }

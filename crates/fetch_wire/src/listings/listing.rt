@@ -58,13 +58,14 @@ fn attributes(kind: Kind, text: Option<&[u8]>) -> Option<Attributes<'_>>
     Some(found)
 }
 
-/// The reference with this name, id and attributes. An unborn one has a target.
+/// The reference with this name, id and attributes: what it is symbolic for, and what its tag leads to. None without an id and
+/// without a name that it is symbolic for; an unborn one has such a name.
 // Long: one arm for each kind of reference, a field a line.
-pub(crate) fn make_ref(
+pub fn make_ref(
     alloc: Global,
     name: &[u8],
     id: Option<ObjectId>,
-    attributes: Attributes<'_>,
+    attributes: (Option<&[u8]>, Option<ObjectId>),
 ) -> Result<Option<Ref>, NoMemory>
     ensures { IfOk result (λ found. found ≡ ref_with name.now id (option_copied attributes.entry.0, attributes.entry.1)) }
 {

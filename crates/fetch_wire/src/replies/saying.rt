@@ -23,8 +23,9 @@ pub(crate) enum Saying<'a> {
     End,
 }
 
+/// A text without its last byte, where that is a line feed.
 #[tactic(auto, unfolding(crate::specs::Texts::without_lf))]
-fn without_line_feed(text: &[u8]) -> &[u8]
+pub fn without_line_feed(text: &[u8]) -> &[u8]
     ensures { result.now ≡ without_lf text.now }
 {
     if !text.is_empty() && text[text.len() - 1] == b'\n' {
