@@ -18,7 +18,7 @@ ghost use Rattle.fetch_store.specs.Stores.{id_cmp};
 use crate::parts::Parts;
 use fetch_refs::{RefError, TargetRef, peel_tags};
 use fetch_specs::FullName;
-use fetch_store::{NoMemory, ObjectId, Objects, Store, ascending};
+use fetch_store::{NoMemory, ObjectId, Objects, Store, Text, ascending};
 use fetch_wire::{Ref, make_ref};
 use std::alloc::Global;
 
