@@ -77,6 +77,13 @@ line_some line =
     let len = length-append (four_digits (count_of line)) (payload_of line) in
     let digits = four (count_of line) in omega arith
 
+-- a line has its digits and its payload
+pub line_size : (line : Line) → length (line_text line) ≡ 4 + length (payload_of line)
+line_size line =
+    let is = ap (length {A = ℕ}) (line_parts line) in
+    let len = length-append (four_digits (count_of line)) (payload_of line) in
+    let digits = four (count_of line) in omega arith
+
 -- a line that fits is no longer than the longest one
 pub within_longest : (line : Line) → too_long_in line ≡ None → 0 + line_len line ≤ 65520
 within_longest line fits = let le = short_line line (nat_lt 65516 (length (payload_of line))) refl fits in omega (arith, len_of line, le)

@@ -4,6 +4,7 @@ pub mod Told
 pub mod Lines
 pub mod Bundling
 pub mod Digits
+pub mod Cut
 pub mod Spaces
 pub mod Shapes
 pub mod Ordered

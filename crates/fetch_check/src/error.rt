@@ -1,12 +1,12 @@
 //! Why a bundle isn't written or read.
 
-ghost use Rattle.std.specs.Prelude.{◌≡◌};
+ghost use Rattle.std.specs.Prelude.{◌≡◌, IfOk};
 ghost use Rattle.fetch_check.specs.declared.error.BundleError.TheVariants as errors;
 
 use crate::findings::Broken;
 use fetch_pack::PackError;
 use fetch_specs::FullName;
-use fetch_store::{Missing, NoMemory};
+use fetch_store::{Missing, NoMemory, TryClone};
 use std::alloc::{AllocError, AllocFailed};
 use thiserror::Error;
 
@@ -45,6 +45,26 @@ pub enum BundleError {
     /// Memory ran out.
     #[error("out of memory")]
     NoMemory,
+}
+
+impl BundleError {
+    /// An equal error.
+    pub fn try_clone(&self) -> Result<BundleError, NoMemory>
+        ensures { IfOk result (λ copy. copy ≡ self.now) }
+    {
+        match self {
+            BundleError::Missing { link } => Ok(BundleError::Missing { link: *link }),
+            BundleError::Broken { broken } => Ok(BundleError::Broken {
+                broken: broken.try_clone()?,
+            }),
+            BundleError::NameTooLong { name } => Ok(BundleError::NameTooLong {
+                name: name.try_clone()?,
+            }),
+            BundleError::Malformed { place } => Ok(BundleError::Malformed { place: *place }),
+            BundleError::Pack(e) => Ok(BundleError::Pack(*e)),
+            BundleError::NoMemory => Ok(BundleError::NoMemory),
+        }
+    }
 }
 
 impl From<NoMemory> for BundleError {

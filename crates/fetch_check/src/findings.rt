@@ -1,7 +1,9 @@
 //! What is found in a repository.
 
+ghost use Rattle.std.specs.Prelude.{◌≡◌, IfOk};
+
 use fetch_specs::FullName;
-use fetch_store::{List, Missing, ObjectId};
+use fetch_store::{List, Missing, NoMemory, ObjectId, TryClone};
 
 /// Why a reference leads to no stored object.
 #[derive(Clone, Copy, Debug, PartialEq, Eq)]
@@ -31,6 +33,15 @@ pub struct Broken {
     pub cause: BrokenCause,
 }
 
+impl TryClone for Broken {
+    fn try_clone(&self) -> Result<Broken, NoMemory> {
+        Ok(Broken {
+            name: self.name.try_clone()?,
+            cause: self.cause,
+        })
+    }
+}
+
 /// What is found in a repository. Nothing is where it is whole.
 #[derive(Debug, Drop)]
 pub struct Findings {
@@ -42,4 +53,17 @@ pub struct Findings {
     pub broken: List<Broken>,
     /// The stored ids that aren't reached from the direct references, parents of border commits aside, ascending.
     pub unreached: List<ObjectId>,
+}
+
+impl Findings {
+    /// Equal findings.
+    pub fn try_clone(&self) -> Result<Findings, NoMemory>
+        ensures { IfOk result (λ copy. copy ≡ self.now) }
+    {
+        Ok(Findings {
+            missing: self.missing.try_clone_with(|link| Ok(*link))?,
+            broken: self.broken.try_clone()?,
+            unreached: self.unreached.try_clone()?,
+        })
+    }
 }

@@ -1,8 +1,9 @@
 //! Why a bundle isn't saved or loaded.
 
-ghost use Rattle.std.specs.Prelude.{◌≡◌};
+ghost use Rattle.std.specs.Prelude.{◌≡◌, IfOk};
 
 use crate::error::BundleError;
+use fetch_store::NoMemory;
 use thiserror::Error;
 
 /// Why a bundle isn't saved or loaded.
@@ -17,6 +18,19 @@ pub enum KeepError {
     /// Memory ran out.
     #[error("out of memory")]
     NoMemory,
+}
+
+impl KeepError {
+    /// An equal error.
+    pub fn try_clone(&self) -> Result<KeepError, NoMemory>
+        ensures { IfOk result (λ copy. copy ≡ self.now) }
+    {
+        match self {
+            KeepError::Bundle(e) => Ok(KeepError::Bundle(e.try_clone()?)),
+            KeepError::Failed => Ok(KeepError::Failed),
+            KeepError::NoMemory => Ok(KeepError::NoMemory),
+        }
+    }
 }
 
 impl From<BundleError> for KeepError {

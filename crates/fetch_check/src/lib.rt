@@ -3,6 +3,7 @@
 
 mod breaking;
 mod checking;
+mod cutting;
 mod error;
 mod findings;
 mod header;

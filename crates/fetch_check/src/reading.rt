@@ -19,7 +19,7 @@ use crate::scanning::end_of;
 use crate::whole::{ascends, is_whole, objects_of};
 use fetch_pack::{Pack, PackError, read_pack};
 use fetch_refs::Refs;
-use fetch_store::{Border, Kind, List, NoMemory, Object, ObjectId, Store};
+use fetch_store::{Border, Kind, List, NoMemory, Object, ObjectId, Store, TryClone};
 use std::alloc::Global;
 use std::thread::Threads;
 
@@ -36,13 +36,28 @@ pub struct Bundle {
     pub objects: List<(ObjectId, Object)>,
 }
 
+impl Bundle {
+    /// An equal bundle.
+    pub fn try_clone(&self) -> Result<Bundle, NoMemory>
+        ensures { IfOk result (λ copy. copy ≡ self.now) }
+    {
+        Ok(Bundle {
+            hash: self.hash,
+            refs: self.refs.try_clone()?,
+            border: self.border.try_clone()?,
+            objects: self.objects.try_clone()?,
+        })
+    }
+}
+
 /// Reads the text of a bundle, all of the bytes. `Malformed` tells the start of the first line that breaks the grammar or
 /// may not stand there, or the length where a line is missing. Where the lines hold, `Pack` tells why the pack isn't read;
 /// a pack of version 1 is `Malformed` at its place 4. Where it is read, `Malformed` tells the start of its first line if
 /// its ids don't ascend, aren't those that the direct references reach, or aren't closed under the border, or a reference
 /// is broken. Besides these only out of memory refuses.
 ///
-/// Beside the text it takes at most about twice as much memory as the text has bytes.
+/// Beside the text it takes memory for the joined pack and its objects, and then for these in a list and a store: about
+/// twice the text's bytes where objects are large, and 2.8 times where they are commits of 150 bytes.
 pub fn read_bundle<R: Threads + Sync>(
     rt: &R,
     alloc: Global,

@@ -10,6 +10,7 @@ use fetch_store::{Border, NoMemory, Store};
 use std::alloc::Global;
 
 /// Objects, references and a border, as a repository is made of them.
+// Not copied: a repository is made of it, which can be copied.
 #[derive(Drop)]
 pub struct State {
     /// The objects.

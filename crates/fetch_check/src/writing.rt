@@ -26,13 +26,16 @@ ghost use Rattle.fetch_check.specs.Refusals.{AreReached, is_memory, write_troubl
 ghost use Rattle.fetch_check.specs.declared.error.BundleError.TheVariants.{NameTooLong};
 
 use crate::breaking::first_broken;
+use crate::cutting::{count_of, cut_from};
 use crate::error::BundleError;
 use crate::leaving::reached_from_refs;
 use fetch_pack::PackVersion;
 use fetch_reach::write_stored;
 use fetch_refs::{Refs, TargetRef};
 use fetch_specs::{FullName, NameError};
-use fetch_store::{Border, Kind, Missing, NoMemory, ObjectId, Store, append_hex, first_missing};
+use fetch_store::{
+    Border, Kind, Missing, NoMemory, ObjectId, Store, append_hex, first_missing, same_id,
+};
 use fetch_wire::{LineRef, WireError, write_line};
 use std::alloc::Global;
 
@@ -42,6 +45,9 @@ pub(crate) const PIECE: usize = 65_000;
 /// Puts the bundle of a repository at the end: its references, the objects that the direct ones reach, and the border's
 /// commits among these. It keeps no reflogs, and no objects that aren't reached. `Missing`, `Broken` and `NameTooLong`
 /// come in that order. A refusal leaves the output as before.
+///
+/// Room for the pack is made at once, and it is written there: beside the text it takes memory for the ids of what is
+/// reached, and for one line.
 pub fn write_bundle(
     alloc: Global,
     store: &Store,
@@ -110,7 +116,7 @@ fn append_bundle(
 }
 
 /// A line that isn't too long.
-fn append_line(out: &mut Vec<u8>, line: LineRef<'_>) -> Result<(), NoMemory>
+pub(crate) fn append_line(out: &mut Vec<u8>, line: LineRef<'_>) -> Result<(), NoMemory>
     requires { too_long_in (line_of line) ≡ None }
     ensures line { OnOk result (out.new.items ≡ out.old.items ++ line_text (line_of line.entry)) }
     ensures err { OnErr result (out.new.items ≡ out.old.items) }
@@ -255,7 +261,8 @@ fn append_commit(alloc: Global, id: &ObjectId, out: &mut Vec<u8>) -> Result<(), 
     append_line(out, LineRef::Payload(text.as_slice()))
 }
 
-/// The pack of the objects at these ids, in lines.
+/// The pack of the objects at these ids, in lines. There is room for all of it before it is written, and it is cut where
+/// it stands.
 fn append_pack(
     alloc: Global,
     store: &Store,
@@ -268,21 +275,25 @@ fn append_pack(
         ++ lines_text (spec.piece_lines (pack_text V2 store.now.hash (payloads_of (objects_at store.now.objects ids.now))))) }
     ensures keeps { OnErr result (Keeps out.old.items out.new.items) }
 {
-    let mut pack = Vec::new(alloc);
-    write_stored(PackVersion::V2, store, ids, &mut pack)?;
-    append_pieces(pack.as_slice(), out)
+    let start = out.len();
+    out.reserve_exact(room_of(store, ids))?;
+    write_stored(PackVersion::V2, store, ids, out)?;
+    cut_from(alloc, out, start)
 }
 
-/// The bytes in lines of `PIECE` bytes, of which the last may be shorter.
-fn append_pieces(bytes: &[u8], out: &mut Vec<u8>) -> Result<(), NoMemory>
-    ensures lines { OnOk result (out.new.items ≡ out.old.items ++ lines_text (spec.piece_lines bytes.now)) }
-    ensures keeps { OnErr result (Keeps out.old.items out.new.items) }
-{
-    let mut rest = bytes;
-    'pieces: while rest.len() > 0 {
-        let (piece, behind) = rest.split_at(rest.len().min(PIECE));
-        append_line(out, LineRef::Payload(piece))?;
-        rest = behind;
+/// How many bytes the lines of a pack and the line after them have, where the ids ascend. Nothing but memory rests on it.
+fn room_of(store: &Store, ids: &[ObjectId]) -> usize {
+    let id_len = store.kind().len_in_bytes();
+    let mut len: usize = 12 + id_len;
+    let mut left = ids;
+    let mut objects = store.iter();
+    'objects: while let Some((id, object)) = objects.next() {
+        if let [next, rest @ ..] = left {
+            if same_id(next, &id) {
+                left = rest;
+                len = len.saturating_add(9 + id_len).saturating_add(object.bytes().len());
+            }
+        }
     }
-    Ok(())
+    len.saturating_add(count_of(len).saturating_mul(4)).saturating_add(4)
 }
