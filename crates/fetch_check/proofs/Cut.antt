@@ -1,7 +1,7 @@
 -- A text whose first bytes are put into lines, from the last one on.
-use Rattle.std.proofs.Common.{◌≡◌, ℕ, ◌+◌, ◌*◌, ◌-◌, ◌≤◌, ◌<◌, ◌⊎◌, inl, inr, List, [], ◌++◌, length, take, drop, min, append_assoc, refl, sym, ap, ap₂, subst, ◌∙◌, arith}
+use Rattle.std.proofs.Common.{◌≡◌, ℕ, ◌+◌, ◌*◌, ◌-◌, ◌≤◌, ◌<◌, inl, inr, List, [], ◌++◌, length, take, drop, min, append_assoc, refl, sym, ap, ap₂, ◌∙◌, arith}
 use Rattle.std.proofs.lemmas.Bool.{cases_lt}
-use Rattle.std.proofs.lemmas.List.{append-nil, length-append, length-drop, length-take, length-take-le, take_all, take-take, take_at, take-append-le, drop_all, drop_at, drop-drop, drop-take}
+use Rattle.std.proofs.lemmas.List.{length-append, length-drop, length-take, length-take-le, take-take, take-append-le, drop_all, drop_at, drop-drop}
 use Rattle.std.proofs.lemmas.Slice.{between_is}
 use Rattle.fetch_wire.specs.Written.{line_text, lines_text}
 use Rattle.fetch_wire.specs.declared.lines.line.Line.TheVariants.{Payload}

@@ -291,9 +291,12 @@ fn room_of(store: &Store, ids: &[ObjectId]) -> usize {
         if let [next, rest @ ..] = left {
             if same_id(next, &id) {
                 left = rest;
-                len = len.saturating_add(9 + id_len).saturating_add(object.bytes().len());
+                len = len
+                    .saturating_add(9 + id_len)
+                    .saturating_add(object.bytes().len());
             }
         }
     }
-    len.saturating_add(count_of(len).saturating_mul(4)).saturating_add(4)
+    len.saturating_add(count_of(len).saturating_mul(4))
+        .saturating_add(4)
 }
