@@ -43,21 +43,29 @@ class OtherId(Exception):
     """A pack before one of whose objects an id stands that isn't its own. Its argument is that id."""
 
 
+REASONS = {
+    "MalformedLine": "malformed at {}",
+    "NotWhole": "malformed at {}: its pack holds no whole repository",
+    "OtherDigest": "the digest of its pack isn't that of its bytes",
+    "MalformedPack": "its pack is malformed at {}",
+    "OtherId": "an object of its pack has another id than {}, which is written",
+}
+
+
 def read_bundle(data):
     """The bundle that the bytes are."""
+    bundle, *why = judged(data)
+    if bundle is None:
+        raise Trouble(BAD_INPUT, f"no bundle: {REASONS[why[0]].format(why[1])}")
+    return bundle
+
+
+def judged(data):
+    """The bundle that the bytes are and two times None; or None, the name of why they are none, and its detail."""
     try:
-        return _bundle(data)
-    except MalformedLine as error:
-        why = f"malformed at {error}"
-    except NotWhole as error:
-        why = f"malformed at {error}: its pack holds no whole repository"
-    except OtherDigest:
-        why = "the digest of its pack isn't that of its bytes"
-    except MalformedPack as error:
-        why = f"its pack is malformed at {error}"
-    except OtherId as error:
-        why = f"an object of its pack has another id than {error}, which is written"
-    raise Trouble(BAD_INPUT, f"no bundle: {why}")
+        return _bundle(data), None, None
+    except (MalformedLine, NotWhole, MalformedPack, OtherId) as error:
+        return None, type(error).__name__, error.args[0]
 
 
 def _bundle(data):

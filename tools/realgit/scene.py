@@ -83,8 +83,18 @@ def _joined(parts):
 
 def read_scene(data):
     """The scene that the bytes are."""
+    return _read(data, 4)
+
+
+def read_server_scene(data):
+    """The scene of a server that the bytes are. It has no remote."""
+    return _read(data, 2)
+
+
+def _read(data, count):
+    """The scene of so many parts that the bytes are."""
     try:
-        return _scene(*_parts(data))
+        return _scene(*_parts(data, count))
     except MalformedLine as error:
         raise Trouble(BAD_INPUT, f"no scene: malformed at {error}") from None
     except MalformedPack as error:
@@ -93,11 +103,11 @@ def read_scene(data):
         raise Trouble(BAD_INPUT, "no scene: a line has too few words") from None
 
 
-def _parts(data):
-    """The lines of the four parts of a scene."""
+def _parts(data, count):
+    """The lines of so many parts of a scene."""
     parts = [[]]
     for place, line in placed_lines(data):
-        if len(parts) > 4:
+        if len(parts) > count or parts[-1] is None:
             raise MalformedLine(place)
         if line is Mark.DELIMITER:
             parts.append([])
@@ -105,12 +115,12 @@ def _parts(data):
             parts.append(None)
         else:
             parts[-1].append(line)
-    if len(parts) != 5 or parts.pop() is not None or None in parts:
+    if len(parts) != count + 1 or parts.pop() is not None or None in parts:
         raise MalformedLine(len(data))
     return parts
 
 
-def _scene(local, pack, remote, server):
+def _scene(local, pack, remote=(), server=()):
     local, remote = ([text_of(line).partition(" ")[::2] for line in part] for part in (local, remote))
     if local[:1] != [("scene", "1")] or not _values(local, "hash"):
         raise MalformedLine(0)
@@ -132,7 +142,7 @@ def _scene(local, pack, remote, server):
         tags="".join(_values(remote, "tags")),
         extra=_values(remote, "extra"),
         options=_values(remote, "option"),
-        server=server,
+        server=list(server),
     )
 
 

@@ -8,6 +8,7 @@ from realgit.gitpack import store
 from realgit.lines import Mark, text_line
 from realgit.linking import links_of, reached, tags_from
 from realgit.plainpack import Object, object_id
+from realgit.plainserver import State
 from realgit.repository import Repository, git
 
 PERSON = "A <a@x>"
@@ -135,10 +136,10 @@ class Client:
 
 
 class Maker:
-    """Makes a repository at a path, and what its client asks. The seed decides all of it."""
+    """Makes a repository of at most so many commits at a path, and what its client asks. The seed decides all of it."""
 
-    def __init__(self, path, seed):
-        self.random, self.path = Random(seed), path
+    def __init__(self, path, seed, most=25):
+        self.random, self.path, self.most = Random(seed), path, most
         self.hash_name = "sha256" if self._chance(0.1) else "sha1"
         self.growth = Growth(self.random, self.hash_name)
         self.references, self.symbolic = {}, {}
@@ -148,10 +149,14 @@ class Maker:
 
     # The repository.
 
-    def make(self):
-        """Makes the repository."""
+    def plan(self):
+        """Decides what the repository has, and makes nothing of it yet."""
         self._commit_all()
         self._name_all()
+
+    def make(self):
+        """Makes the repository."""
+        self.plan()
         git(["init", "-q", "--bare", "--template=", "-b", "main", f"--object-format={self.hash_name}", self.path])
         made = Repository(self.path)
         store(made, list(self.growth.objects.values()))
@@ -163,9 +168,13 @@ class Maker:
             made.git("update-ref", "--no-deref", "HEAD", self.growth.some("commit"))
         return made
 
+    def state(self):
+        """What was decided: objects by their ids, and references, each an id, or `@` and a name."""
+        return State(self.hash_name, dict(self.growth.objects), self.references | {name: f"@{to}" for name, to in self.symbolic.items()})
+
     def _commit_all(self):
         """Commits, of which most follow the newest ones."""
-        for _ in range(self.random.randint(1, 25)):
+        for _ in range(self.random.randint(1, self.most)):
             commits = self.growth.commits
             near = commits[-self.random.choice([1, 1, 3, 8]) :]
             parents = self.random.sample(near, min(len(near), self.random.choice([1, 1, 1, 2, 3])))

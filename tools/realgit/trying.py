@@ -1,41 +1,17 @@
-"""The program, run on scenes that may be anything, within bounds of time and memory, and scenes made as short as may be."""
+"""The program, run on input that may be anything, within bounds of time and memory, and input made as short as may be."""
 
 import os
-import re
 import resource
 import signal
 from dataclasses import dataclass
 
+from realgit.stated import MALFORMED, STATED
 from realgit.trouble import ENGINE_FAILED, Trouble
 
 MEBIBYTE = 1 << 20
 NO_MEMORY = 5
-MALFORMED = 4
-LINE = rb'> (?:0000|0001|"(?:[ !#-\[\]-~]|\\[n"\\]|\\x[0-9a-f]{2})*")\n'
-ANY_ID = rb"(?:[0-9a-f]{40}|[0-9a-f]{64})"
-# Texts that the caller gives, or that a refusal keeps, stand as they are, line feeds too.
-TEXT = rb"(?s:.*?)"
-STATE = (rb"(?:ref (?:@[^\n]+|%(id)s) [^\n]+\n)*(?:log [^\n]+ %(id)s %(id)s %(text)s\n)*(?:border %(id)s\n)*"
-         rb"(?:id %(id)s\n)*(?:keep %(text)s\n)?") % {b"id": ANY_ID, b"text": TEXT}
-# What may be written with each status.
-REPORTS = {
-    0: re.compile(rb"(?:%s)+(?:map \d+ [^\n]+ -> [^\n]+: %s\n)*%sok\n" % (LINE, TEXT, STATE)),
-    1: re.compile(rb"(?:%s)*refused ([A-Za-z]+)(?: %s)?\n%s" % (LINE, TEXT, STATE)),
-    MALFORMED: re.compile(rb"malformed (\d+)\n"),
-}
-JOURNAL = (rb"(?:take \d+ \d+\n(?:has %(id)s\n)*(?:shallow %(id)s\n)*(?:unshallow %(id)s\n)*"
-           rb"|commit \d+ \d+\n(?:set [^\n]+ (?:@[^\n]+|%(id)s)\n|gone [^\n]+\n)*)*"
-           rb"(?:ref (?:@[^\n]+|%(id)s) [^\n]+\n)*(?:border %(id)s\n)*(?:id %(id)s\n)*") % {b"id": ANY_ID}
-# The same for a race.
-RACE_REPORTS = {
-    0: re.compile(JOURNAL + rb"ok\n"),
-    1: re.compile(rb"refused (NotClosed) %(id)s %(id)s\n|%(journal)s(?:refused \d+ ([A-Za-z]+)(?: %(text)s)?\n)+"
-                  % {b"id": ANY_ID, b"journal": JOURNAL, b"text": TEXT}),
-    MALFORMED: REPORTS[MALFORMED],
-}
-FORMS = {"fetch": REPORTS, "race": RACE_REPORTS}
-# A race has a thread for each of its eight jobs at most, each with a stack of so many bytes.
-STACKS = {"fetch": 0, "race": 8 * 8 * MEBIBYTE}
+# A race or a mirror has eight threads at most, each with a stack of so many bytes.
+STACKS = {"race": 8 * 8 * MEBIBYTE, "mirror": 8 * 8 * MEBIBYTE}
 
 
 @dataclass
@@ -52,39 +28,50 @@ class Ended:
     is_late: bool
     asked: str = "fetch"
 
-    def fault(self, scene):
-        """What is wrong about it, in a word or two, or None."""
+    def fault(self, given, answer=None):
+        """What is wrong about it, in a word or two, or None. Where the status and the text that are to come are known, they
+        have to be these.
+        """
         if self.is_late:
             return "late"
         if self.status < 0:
             return f"signal {-self.status}"
         if self.status == NO_MEMORY:
             return "out of memory"
-        if self.status not in FORMS[self.asked]:
+        forms = STATED[self.asked].forms
+        if self.status not in forms:
             return f"status {self.status}"
-        match = FORMS[self.asked][self.status].fullmatch(self.written)
+        match = forms[self.status].fullmatch(self.written)
         if match is None:
             return f"lines with status {self.status}"
-        return "place" if self.status == MALFORMED and int(match[1]) > len(scene) else None
+        if self.status == MALFORMED:
+            return "place" if int(match[1]) > len(given) else None
+        return "another answer" if answer not in (None, (self.status, self.written)) else None
 
     def word(self):
         """The status, and with a refusal its name; of a race the last one's."""
-        match = FORMS[self.asked][1].fullmatch(self.written) if self.status == 1 else None
+        if self.asked not in ("fetch", "race"):
+            return f"status {self.status}"
+        match = STATED[self.asked].forms[1].fullmatch(self.written) if self.status == 1 else None
         return f"status {self.status}" if match is None else f"status 1, {match[match.lastindex].decode()}"
+
+    def names(self):
+        """The names of refusals, or of what is found, that are told."""
+        return STATED[self.asked].names_in(self.written) if self.status >= 0 else set()
 
 
 class Runner:
-    """Runs the program on scenes, one at a time. Its process has to be its own, with one thread: it sets bounds of memory,
-    that of data for as long as the program is started, so that what makes scenes has more.
+    """Runs the program on input, one run at a time. Its process has to be its own, with one thread: it sets bounds of
+    memory, that of data for as long as the program is started, so that what makes input has more.
     """
 
     def __init__(self, program, seconds, mebibytes, asked="fetch"):
         self.program, self.seconds, self.asked, self.running, self.is_late = program, seconds, asked, None, False
-        self.given, self.taken = os.memfd_create("scene"), os.memfd_create("report")
+        self.given, self.taken = os.memfd_create("given"), os.memfd_create("report")
         self.files = [(os.POSIX_SPAWN_DUP2, self.given, 0), (os.POSIX_SPAWN_DUP2, self.taken, 1),
                       (os.POSIX_SPAWN_OPEN, 2, os.devnull, os.O_WRONLY, 0)]
         self.own = resource.getrlimit(resource.RLIMIT_DATA)
-        self.bound = mebibytes * MEBIBYTE + STACKS[asked], self.own[1]
+        self.bound = mebibytes * MEBIBYTE + STACKS.get(asked, 0), self.own[1]
         resource.setrlimit(resource.RLIMIT_CORE, (0, 0))
         signal.signal(signal.SIGALRM, self._stop)
 
@@ -92,17 +79,17 @@ class Runner:
         self.is_late = True
         os.kill(self.running, signal.SIGKILL)
 
-    def run(self, scene):
-        """How the program ends on a scene."""
+    def run(self, given, words):
+        """How the program ends on an input, with these words."""
         self.is_late = False
         os.ftruncate(self.taken, 0)
         os.ftruncate(self.given, 0)
-        os.pwrite(self.given, scene, 0)
+        os.pwrite(self.given, given, 0)
         os.lseek(self.given, 0, os.SEEK_SET)
         os.lseek(self.taken, 0, os.SEEK_SET)
         resource.setrlimit(resource.RLIMIT_DATA, self.bound)
         try:
-            self.running = os.posix_spawn(self.program, [self.program, self.asked], {}, file_actions=self.files)
+            self.running = os.posix_spawn(self.program, [self.program, *words], {}, file_actions=self.files)
         except OSError as error:
             raise Trouble(ENGINE_FAILED, f"can't run {self.program}: {error.strerror}") from None
         finally:

@@ -1,11 +1,20 @@
-"""Scenes that are made at random, what is said of how a fetch of them ends, and how they are cut down."""
+"""Input that is made at random, what is said of how a run of it ends and what has to come, and how it is cut down."""
 
 import os
+import re
 import tempfile
 import unittest
 
+from realgit.attacking import OF_A_SIZE, announced
+from realgit.expecting import answer_of
+from realgit.feeding import Repositories, scene_of
+from realgit.finding import findings, mirrored, state_in
 from realgit.mutating import Mutator, raced, split_lines
+from realgit.plainpack import object_id
+from realgit.plainserver import State
+from realgit.racing import TREE, commit
 from realgit.rows import CRATES, rows, scenes
+from realgit.stated import STATED
 from realgit.trouble import read_file
 from realgit.trying import Ended, minimised
 from test_tools import DOUBLE, run
@@ -45,6 +54,48 @@ class Made(unittest.TestCase):
         self.assertEqual(split_lines(b"0006ab0001" b"0003cd"), [b"0006ab", b"0001", b"0003cd"])
 
 
+    def test_repositories_are_always_the_same(self):
+        one, other = Repositories(), Repositories()
+        for make, again in zip((one.server, one.bundle, one.scene, one.mirror), (other.server, other.bundle, other.scene, other.mirror)):
+            made = [make("1", number) for number in range(20)]
+            self.assertEqual(made, [again("1", number) for number in range(20)])
+            self.assertEqual(len(set(made)), 20)
+
+    def test_attacks_are_input_that_is_read(self):
+        for about, words, given in [*announced(), *((make.__doc__, *make(20)) for make in OF_A_SIZE)]:
+            if words is None:
+                self.assertIsNotNone(answer_of(given), about)
+            elif words == ["check"]:
+                self.assertIsNotNone(state_in(given), about)
+
+
+class Expected(unittest.TestCase):
+    """What has to come is worked out as it stands in the rows, which scripts of vectors wrote."""
+
+    def test_rows_of_servers_and_bundles(self):
+        inputs, answers = (re.split(rb"(?m)^(?== )", read_file(os.path.join(CRATES, "serve_rows", name)))[1:]
+                           for name in ("stdin", "stdout"))
+        worked_out = [(answer_of(row), answer) for row, answer in zip(inputs, answers)]
+        self.assertEqual([wanted for told, wanted in worked_out if told not in (None, wanted)], [])
+        self.assertGreater(sum(told is not None for told, _ in worked_out), 85)
+
+    def test_what_is_no_row(self):
+        for row in (b"", b"= serve a\n? no\n", b"= other a\n", b"= serve a\nobject commit a\n", b"= bundle a\nunder 11 blob a\n"):
+            self.assertIsNone(answer_of(row), row)
+
+    def test_a_check_and_a_mirror(self):
+        root = commit(1, None)
+        state = State("sha1", {root.id: root}, {"refs/heads/a": root.id, "HEAD": "@refs/heads/a"})
+        self.assertEqual(findings(state), (b"missing %s %s\nfound 1\n" % (root.id.encode(), TREE.id.encode()), 1))
+        self.assertEqual(mirrored(state, 1), (b"refused NotClosed %s %s\n" % (root.id.encode(), TREE.id.encode()), 1))
+        state = State("sha1", {each.id: each for each in (root, TREE)}, state.references)
+        ids = "".join(f"id {digits}\n" for digits in sorted(state.objects))
+        self.assertEqual(mirrored(state, 8), (f"ref {root.id} refs/heads/a\n{ids}ok\n".encode(), 0))
+        self.assertEqual(mirrored(state, 9), (b"refused Workers 9\n", 1))
+        self.assertEqual(state_in(scene_of(state)), state)
+        self.assertEqual(object_id("sha1", "tree", b""), TREE.id)
+
+
 class Faults(unittest.TestCase):
     def test_reports_that_are_stated(self):
         self.assertIsNone(ended(0, REPORT).fault(b""))
@@ -73,6 +124,20 @@ class Faults(unittest.TestCase):
         for each, fault in cases:
             self.assertEqual(each.fault(b"0" * 12), fault)
 
+    def test_another_answer(self):
+        self.assertEqual(ended(0, b"ok\n", asked="check").fault(b"", (1, b"found 1\n")), "another answer")
+        self.assertIsNone(ended(0, b"ok\n", asked="check").fault(b"", (0, b"ok\n")))
+        self.assertIsNone(ended(4, b"malformed 0\n", asked="check").fault(b"", (0, b"ok\n")))
+        self.assertEqual(ended(1, b"refused Workers 9\nok\n", asked="mirror").fault(b""), "lines with status 1")
+
+    def test_names_that_are_told(self):
+        self.assertEqual(ended(1, b"refused Malformed 5\n").names(), {"Malformed"})
+        told = b"missing %(id)s %(id)s\nbroken a b Depth\nfound 2\n" % {b"id": b"0" * 40}
+        self.assertEqual(ended(1, told.replace(b"a b", b"a/b"), asked="check").names(), {"missing", "Depth"})
+        text = b"= serve a\nrefused malformed line at byte 3 of the request\ngives 9 0042ERR want 00 not offered%0A\n"
+        self.assertEqual(ended(0, text, asked="server").names(), {"Malformed", "want not offered"})
+        self.assertEqual({name for stated in STATED.values() for name in stated.names if not name}, set())
+
     def test_what_is_counted(self):
         self.assertEqual(ended(1, b"refused Malformed 5\n").word(), "status 1, Malformed")
         self.assertEqual(ended(0, REPORT).word(), "status 0")
@@ -89,8 +154,8 @@ class Fuzzed(unittest.TestCase):
             status, told, _ = run("measure/fuzz", *words)
             saved = os.listdir(folder)
         self.assertEqual(status, 1)
-        self.assertIn(f"6 scenes, {len(saved)} ended otherwise\n", told.decode())
-        self.assertRegex(told, rb"scene \d+: lines with status 1, by \d+ bytes in ")
+        self.assertIn(f"6 inputs, {len(saved)} ended otherwise\n", told.decode())
+        self.assertRegex(told, rb"input \d+: lines with status 1, by \d+ bytes in ")
 
     def test_words(self):
         self.assertEqual(run("measure/fuzz", "1", "1", "--engine", "/no/program")[0], 5)

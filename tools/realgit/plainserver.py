@@ -1,0 +1,165 @@
+"""What the engine's server gives, by docs/FORMATS.md: which repositories it takes, and its replies."""
+
+from dataclasses import dataclass, field
+
+from realgit.asking import FetchAsked, FirstLine, ListingAsked, Refused, Short, request_at
+from realgit.bundle import NAMES
+from realgit.grammar import links_in
+from realgit.lines import Mark, encoded, encoded_text, pieces
+from realgit.plainpack import Object, object_id, write_pack
+
+BAND = 65_515
+LONGEST_NAME = 30_000
+GREETING = "version 2", "ls-refs=unborn", "fetch=shallow plain-pack plain-pack-2"
+
+
+def said(*texts, last=(Mark.FLUSH,)):
+    """Text lines, and what is behind them."""
+    return b"".join(map(encoded, [*(encoded_text(text) + b"\n" for text in texts), *last]))
+
+
+@dataclass
+class State:
+    """A repository. Its objects stand by their ids; a reference is an id, or `@` and a name."""
+
+    hash_name: str = "sha1"
+    objects: dict[str, Object] = field(default_factory=dict)
+    references: dict[str, str] = field(default_factory=dict)
+    border: list[str] = field(default_factory=list)
+
+    def __post_init__(self):
+        self._links = {digits: links_in(each, self.hash_name) for digits, each in self.objects.items()}
+
+    def links(self, digits, border):
+        """The ids that a stored object links to, parents of border commits aside."""
+        found = self._links[digits]
+        return found.others if digits in border else found.others + found.parents
+
+    def reached(self, starts, border):
+        """The stored ones of these ids, with all that they lead to and is stored."""
+        found, rest = set(), list(starts)
+        while rest:
+            digits = rest.pop()
+            if digits in self.objects and digits not in found:
+                found.add(digits)
+                rest += self.links(digits, border)
+        return found
+
+    def tags_from(self, digits):
+        """The ids of the tags from an id on, and of what the last one leads to."""
+        way = [digits]
+        while way[-1] in self.objects and self.objects[way[-1]].kind == "tag":
+            way += self.links(way[-1], ())
+        return way
+
+    def names(self):
+        """The names, ascending."""
+        return sorted(self.references, key=encoded_text)
+
+    def end_of(self, name):
+        """Where a reference leads to by names: an id; None at an absent name; `Cycle` or `Depth` where it leads nowhere."""
+        met = []
+        while len(met) < NAMES and name not in met:
+            met.append(name)
+            target = self.references.get(name)
+            if target is None or target[0] != "@":
+                return target
+            name = target[1:]
+        return "Cycle" if name in met else "Depth"
+
+    def missing(self):
+        """Each link to what isn't stored, once; of the border each id at which no commit is."""
+        found = {}
+        for digits in sorted(self.objects):
+            found |= {(digits, link): None for link in self.links(digits, self.border) if link not in self.objects}
+        absent = [digits for digits in sorted(self.border) if digits not in self.objects or self.objects[digits].kind != "commit"]
+        return [*found, *((digits, digits) for digits in absent)]
+
+    def misnamed(self):
+        """The ids that aren't their objects' hashes, ascending."""
+        return sorted(digits for digits, each in self.objects.items() if object_id(self.hash_name, each.kind, each.data) != digits)
+
+    def trouble(self):
+        """The name and the detail of what keeps it from being served, or None."""
+        if self.border:
+            return "ShallowServer", ()
+        wrong = self.misnamed()
+        if wrong:
+            return "WrongId", (wrong[0],)
+        missing = self.missing()
+        if missing:
+            return "NotClosed", missing[0]
+        names = [name for name in self.names() if not self._is_servable(name)]
+        return ("NotServable", (names[0],)) if names else None
+
+    def _is_servable(self, name):
+        target, end = self.references[name], self.end_of(name)
+        if any(len(encoded_text(each)) > LONGEST_NAME for each in (name, target.removeprefix("@"))):
+            return False
+        return end is None or end in self.objects
+
+    def offered(self):
+        """Each name that is offered with its id, and what its tag leads to; None, where it leads to an absent name."""
+        for name in self.names():
+            if name == "HEAD" or name.startswith("refs/"):
+                end = self.end_of(name)
+                way = [] if end is None else self.tags_from(end)
+                yield name, end, way
+
+
+class Plainserver:
+    """A server of a repository that can be served. It has heard nothing."""
+
+    def __init__(self, state):
+        self.state, self.pending, self.begun, self.refusal = state, b"", False, None
+
+    def feed(self, piece):
+        """What is given for a piece. A refusal stays."""
+        if self.refusal is not None:
+            return b""
+        self.pending, given = self.pending + piece, []
+        try:
+            while True:
+                asked, self.pending = request_at(self.pending, self.state.hash_name, self.begun)
+                self.begun = True
+                given.append(self.reply(asked))
+        except Short:
+            pass
+        except Refused as refused:
+            self.refusal = refused.args
+        return b"".join(given)
+
+    def reply(self, asked):
+        """The reply to a request."""
+        if isinstance(asked, FirstLine):
+            return said(*GREETING, f"object-format={self.state.hash_name}")
+        return self._listing(asked) if isinstance(asked, ListingAsked) else self._fetch(asked)
+
+    def _listing(self, asked):
+        lines = []
+        for name, end, way in self.state.offered():
+            is_under = not asked.prefixes or encoded_text(name).startswith(tuple(asked.prefixes))
+            target = self.state.references[name]
+            if is_under and (end is not None or asked.unborn and name == "HEAD"):
+                symbolic = f" symref-target:{target[1:]}" if target[0] == "@" else ""
+                lines.append(f"{end or 'unborn'} {name}{symbolic}" + (f" peeled:{way[-1]}" if len(way) > 1 else ""))
+        return said(*lines)
+
+    def _fetch(self, asked):
+        offered = {digits for _, _, way in self.state.offered() for digits in (way[:1] + way[-1:])}
+        for want in asked.wants:
+            if want not in offered:
+                return said(f"ERR want {want} not offered", last=())
+        if not asked.done:
+            known = [f"ACK {digits}" for digits in asked.haves if digits in self.state.objects]
+            return said("acknowledgments", *(known or ["NAK"]))
+        pack = write_pack([self.state.objects[digits] for digits in self.served(asked)], asked.version, self.state.hash_name)
+        return said("packfile", last=[*(b"\1" + piece for piece in pieces(pack, BAND)), Mark.FLUSH])
+
+    def served(self, asked: FetchAsked):
+        """The ids of the objects in a pack, ascending."""
+        border = set(asked.border)
+        needed = self.state.reached(asked.wants, border) - self.state.reached(asked.haves, border)
+        tags = [way for name, _, way in self.state.offered() if name.startswith("refs/tags/") and len(way) > 1]
+        along = [digits for way in tags if asked.include_tag and way[-1] in needed for digits in way[:-1]]
+        return sorted(needed | set(along))
