@@ -1,10 +1,13 @@
 //! Fetches from a server that answers in memory, beside the same fetches from a script.
 
+ghost use Rattle.std.specs.Prelude.{IfOk, IfSome};
+ghost use Rattle.fetch_store.specs.Stores.{AreOf};
+
 mod telling;
 
 use self::telling::append_fetch;
 use fetch_cli::{
-    Scene, SceneFault, Setting, read_scene, read_server_scene, report, set_up, set_up_local,
+    Scene, SceneFault, read_scene, read_server_scene, report, set_up, set_up_local,
 };
 use fetch_remote::Repository;
 use fetch_serve::{Server, ServerPeer};
@@ -34,14 +37,16 @@ fn served_of(
     }
 }
 
-/// What a scene sets up. None where the bytes are no scene.
-fn setting_of(
+/// The scene that the bytes are. None where they are none.
+fn scene_of(
     rt: &(impl Threads + Sync),
     alloc: Global,
     bytes: &[u8],
-) -> Result<Option<Setting>, NoMemory> {
+) -> Result<Option<Scene>, NoMemory>
+    ensures { IfOk result (λ found. IfSome found (λ scene. AreOf scene.hash scene.objects)) }
+{
     match read_scene(rt, alloc, bytes) {
-        Ok(scene) => Ok(Some(set_up(alloc, scene)?)),
+        Ok(scene) => Ok(Some(scene)),
         Err(SceneFault::Malformed { .. }) => Ok(None),
         Err(SceneFault::NoMemory) => Err(NoMemory),
     }
@@ -68,10 +73,8 @@ fn scripted(
     alloc: Global,
     bytes: &[u8],
 ) -> Result<Option<Vec<u8>>, NoMemory> {
-    let scene: Scene = match read_scene(rt, alloc, bytes) {
-        Ok(scene) => scene,
-        Err(SceneFault::Malformed { .. }) => return Ok(None),
-        Err(SceneFault::NoMemory) => return Err(NoMemory),
+    let Some(scene) = scene_of(rt, alloc, bytes)? else {
+        return Ok(None);
     };
     let mut told = Vec::new(alloc);
     report(rt, alloc, scene, &mut told)?;
@@ -84,12 +87,13 @@ fn scripted(
 fn served(
     rt: &(impl Threads + Sync),
     alloc: Global,
-    scene: &[u8],
+    bytes: &[u8],
     repo: &Repository,
 ) -> Result<Option<Vec<u8>>, NoMemory> {
-    let Some(setting) = setting_of(rt, alloc, scene)? else {
+    let Some(scene) = scene_of(rt, alloc, bytes)? else {
         return Ok(None);
     };
+    let setting = set_up(alloc, scene)?;
     let Ok(server) = Server::new(alloc, repo.store(), repo.refs(), repo.border()) else {
         return Ok(None);
     };
