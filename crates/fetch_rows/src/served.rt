@@ -6,9 +6,7 @@ ghost use Rattle.fetch_store.specs.Stores.{AreOf};
 mod telling;
 
 use self::telling::append_fetch;
-use fetch_cli::{
-    Scene, SceneFault, read_scene, read_server_scene, report, set_up, set_up_local,
-};
+use fetch_cli::{Scene, SceneFault, read_scene, read_server_scene, report, set_up, set_up_local};
 use fetch_remote::Repository;
 use fetch_serve::{Server, ServerPeer};
 use fetch_store::{NoMemory, after, split_first};

@@ -1,12 +1,11 @@
 //! A fetch from any peer, and what is told of it.
 
-use fetch_cli::{
-    Setting, append_keep, append_map, append_refused, append_state, append_token,
-};
-use fetch_remote::{FetchError, Outcome, Status};
-use fetch_store::{MemoryFiles, NoMemory};
+use fetch_cli::{Setting, append_keep, append_map, append_refused, append_state, append_token};
+use fetch_remote::{FetchError, Outcome, Repository, Status};
+use fetch_store::{MemoryFiles, NoMemory, Text};
 use fetch_update::{ScriptedWorktrees, Update};
 use fetch_wire::{Peer, ScriptedInterrupt};
+use rows::say;
 use std::alloc::Global;
 use std::thread::Threads;
 
@@ -27,17 +26,25 @@ fn append_maps(out: &mut Vec<u8>, outcome: &Outcome) -> Result<(), NoMemory> {
     Ok(())
 }
 
-/// The keep file that stays, where one does.
-fn append_kept(out: &mut Vec<u8>, status: &Status) -> Result<(), NoMemory> {
-    if let Status::Change {
-        write_pack_bundle, ..
-    } = status
-    {
-        if let Some(path) = &write_pack_bundle.keep_path {
-            append_keep(out, path.as_bytes())?;
-        }
+/// The path of the keep file that stays, where one does.
+fn kept(status: &Status) -> Option<&Text> {
+    match status {
+        Status::NoPackReceived { .. } => None,
+        Status::Change {
+            write_pack_bundle,
+            ..
+        } => write_pack_bundle.keep_path.as_ref(),
     }
-    Ok(())
+}
+
+/// What a report tells of a fetch that was done, but what was sent.
+fn append_done(out: &mut Vec<u8>, outcome: &Outcome, repo: &Repository) -> Result<(), NoMemory> {
+    append_maps(out, outcome)?;
+    append_state(out, repo)?;
+    if let Some(path) = kept(&outcome.status) {
+        append_keep(out, path.as_bytes())?;
+    }
+    say(out, &[b"ok"])
 }
 
 fn append_refusal(out: &mut Vec<u8>, refusal: &FetchError) -> Result<(), NoMemory> {
@@ -76,16 +83,10 @@ pub(crate) fn append_fetch<P: Peer>(
         options,
     );
     match answer {
-        Ok(outcome) => {
-            append_maps(out, &outcome)?;
-            append_state(out, &repo)?;
-            append_kept(out, &outcome.status)?;
-            out.extend_from_slice(b"ok\n")?;
-        }
+        Ok(outcome) => append_done(out, &outcome, &repo),
         Err(refusal) => {
             append_refusal(out, &refusal)?;
-            append_state(out, &repo)?;
+            append_state(out, &repo)
         }
     }
-    Ok(())
 }
