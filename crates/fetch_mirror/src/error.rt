@@ -8,6 +8,7 @@ use std::alloc::AllocError;
 use thiserror::Error;
 
 /// Why a server isn't mirrored.
+// Not copied: it is told once, of one mirror.
 #[derive(Debug, Drop, Error)]
 pub enum MirrorError {
     /// There are fewer workers than one, or more than eight.

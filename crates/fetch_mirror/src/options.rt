@@ -7,6 +7,7 @@ use fetch_store::List;
 use fetch_wire::ReplyBound;
 
 /// How a mirror is made.
+// Not copied: its parts are copied for each worker.
 #[derive(Debug, Drop)]
 pub struct MirrorOptions {
     /// How many fetch at once: 1 to 8.
@@ -18,6 +19,7 @@ pub struct MirrorOptions {
 }
 
 /// A mirror, and how it came to be.
+// Not copied: the repository in it can be copied.
 #[derive(Drop)]
 pub struct Mirrored {
     /// The mirror.
