@@ -1,9 +1,10 @@
-//! Fetches what a scene says, or races its jobs, and writes a report.
+//! Fetches what a scene says, races its jobs or mirrors its repository, and writes a report.
 #![tactic(auto)]
 
 use fetch_cli::{Sink, StdSink, StdSource, run};
 use fetch_store::NoMemory;
 use fetch_wire::SendFault;
+use mirror_cli::run_mirror_scene;
 use race_cli::run_race;
 use std::env::{Env, FillError};
 use std::process::ExitCode;
@@ -12,11 +13,14 @@ use std::process::ExitCode;
 const ROOM: usize = 256;
 
 /// What `--help` writes after the help of `run`, which reads all other words.
-const RACE_HELP: &[u8] = b"\
-\nusage: bagjulen race < SCENE\n\n\
+const OTHER_HELP: &[u8] = b"\
+\nusage: bagjulen race < SCENE\n\
+\x20      bagjulen mirror N < SERVER-SCENE\n\n\
 race reads a scene with one to eight remotes, fetches from all of them side by side,\n\
-and writes what each entered, in its order, and the repository as it then stands.\n\
-Its statuses are those above: 0 where all jobs were done, and 1 where one was refused.\n";
+and writes what each entered, in its order, and the repository as it then stands.\n\n\
+mirror reads a repository in the form of a scene without a remote, mirrors it by N workers\n\
+side by side, from 1 to 8, and writes the references and the objects of the mirror.\n\n\
+Their statuses are those above: 0 where all was done, and 1 where something was refused.\n";
 
 /// The word of this number, whatever its bytes, if there is one. Room is doubled until it fits.
 fn word(rt: &HostRuntime, number: usize) -> Result<Option<Vec<u8>>, NoMemory> {
@@ -55,9 +59,9 @@ fn begins_with(words: &[Vec<u8>], wanted: &[u8]) -> bool {
     }
 }
 
-/// The help of a race, after that of `run`, and the status.
+/// The help of the words that start threads, after that of `run`, and the status.
 fn help_on<K: Sink>(sink: &mut K) -> u8 {
-    match sink.write_all(RACE_HELP) {
+    match sink.write_all(OTHER_HELP) {
         Ok(()) => 0,
         Err(SendFault::Failed) => 3,
         Err(SendFault::NoMemory) => 5,
@@ -70,9 +74,12 @@ fn main(rt: HostRuntime) -> ExitCode {
     };
     let mut source = StdSource::new(rt.stdin());
     let mut sink = StdSink::new(rt.stdout());
-    // A race starts threads of its own.
+    // A race and a mirror start threads of their own.
     if begins_with(&words, b"race") {
         return ExitCode::from(run_race(&rt, rt.alloc(), &words, &mut source, &mut sink));
+    }
+    if begins_with(&words, b"mirror") {
+        return ExitCode::from(run_mirror_scene(&rt, rt.alloc(), &words, &mut source, &mut sink));
     }
     let status = run(&rt, rt.alloc(), &words, &mut source, &mut sink);
     if status == 0 && begins_with(&words, b"--help") {

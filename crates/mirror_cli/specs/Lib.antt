@@ -1,0 +1,4 @@
+pub mod MirrorWords
+pub mod MirrorTokens
+pub mod MirrorReports
+pub mod MirrorRun

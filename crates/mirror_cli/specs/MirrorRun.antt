@@ -1,0 +1,85 @@
+-- What the program writes of a mirror, and its status.
+use Rattle.std.specs.Prelude.{◌≡◌, ◌≢◌, ◌⊎◌, ℕ, Bool, true, false, List, Option, Result, Ok, Err}
+use Rattle.std.specs.Io.KnownBytes.{Appends}
+use Rattle.fetch_remote.specs.RepositoryValues.{RepositoryValue}
+use Rattle.fetch_cli.specs.Checks.{repository_of}
+use Rattle.fetch_cli.specs.Ends.{IsFront, IsAll}
+use Rattle.fetch_cli.specs.Report.{committer}
+use Rattle.fetch_cli.specs.ReportLines.{malformed_line, malformed_word_line, refused_line}
+use Rattle.fetch_cli.specs.Run.{Are}
+use Rattle.fetch_cli.specs.ServerScenes.{server_scene_of}
+use Rattle.fetch_cli.specs.declared.program.server_scene.ServerScene.{ServerScene}
+use Rattle.fetch_serve.specs.Served.{Data}
+use Rattle.fetch_shared.specs.declared.entry.Entry.{Entry}
+use Rattle.fetch_mirror.specs.Copying.{IsCopied, IsUncopied}
+use Rattle.fetch_mirror.specs.declared.error.MirrorError.{MirrorError}
+use Rattle.fetch_mirror.specs.declared.error.MirrorError.TheVariants as errors
+use Rattle.mirror_cli.specs.MirrorReports.{mirror_text}
+use Rattle.mirror_cli.specs.MirrorTokens.{mirror_token}
+use Rattle.mirror_cli.specs.MirrorWords.{mirror_asked}
+
+-- what the repository of a server scene serves
+abbrev pub data_in : ServerScene → Data
+data_in s = record { hash = (repository_of s).hash; objects = (repository_of s).objects; names = (repository_of s).refs.names }
+
+-- the most bytes of a reply
+abbrev pub reply_bound : ℕ
+reply_bound = 268435456
+
+-- The repository was mirrored, and the report tells what the mirror holds.
+pub record IsMirrored (workers : ℕ) (s : ServerScene) (status : ℕ) (text : List ℕ) : Type 0 where
+  pub repo : RepositoryValue
+  pub journal : List Entry
+  pub copied : IsCopied (data_in s) committer workers reply_bound repo journal
+  pub report : Are 0 (mirror_text repo.state) status text
+
+-- It wasn't, and the report tells why.
+pub record IsRefused (workers : ℕ) (s : ServerScene) (status : ℕ) (text : List ℕ) : Type 0 where
+  pub cause : MirrorError
+  pub uncopied : IsUncopied (data_in s) (repository_of s).border committer workers reply_bound cause
+  pub known : cause ≢ errors.NoMemory
+  pub report : Are 1 (refused_line (mirror_token cause)) status text
+
+-- what is told of the mirror of a scene by so many workers
+pub record IsMirrorOf (workers : ℕ) (s : ServerScene) (status : ℕ) (text : List ℕ) : Type 0 where
+  pub is : IsMirrored workers s status text ⊎ IsRefused workers s status text
+
+-- the mirror of a scene; or where the bytes are none
+abbrev pub IsSceneAnswer : ℕ → Result ServerScene ℕ → ℕ → List ℕ → Type 0
+IsSceneAnswer workers (Ok s) status text = IsMirrorOf workers s status text
+IsSceneAnswer workers (Err place) status text = Are 4 (malformed_line place) status text
+
+-- The answer to all that is in the input, where the source tells it.
+pub record IsInputAnswer (workers : ℕ) (input : Option (List ℕ)) (status : ℕ) (text : List ℕ) : Type 0 where
+  pub bytes : List ℕ
+  pub read : IsAll input bytes
+  pub answer : IsSceneAnswer workers (server_scene_of bytes) status text
+
+-- the answer to the words
+abbrev pub IsAnswerTo : Result ℕ ℕ → Option (List ℕ) → ℕ → List ℕ → Type 0
+IsAnswerTo (Err number) input status text = Are 4 (malformed_word_line number) status text
+IsAnswerTo (Ok workers) input status text = IsInputAnswer workers input status text
+
+-- what these words are answered, with this input
+pub record IsMirrorAnswer (words : List (List ℕ)) (input : Option (List ℕ)) (status : ℕ) (text : List ℕ) : Type 0 where
+  pub is : IsAnswerTo (mirror_asked words) input status text
+
+-- whether the words ask for a mirror
+abbrev pub asks : Result ℕ ℕ → Bool
+asks (Ok workers) = true
+asks (Err number) = false
+
+-- The answer, with this status, was written whole.
+pub record Writes (words : List (List ℕ)) (input old new : Option (List ℕ)) (status : ℕ) : Type 0 where
+  pub text : List ℕ
+  pub answer : IsMirrorAnswer words input status text
+  pub wrote : Appends old new text
+
+-- A prefix of the answer was written.
+pub record WritesFront (words : List (List ℕ)) (input old new : Option (List ℕ)) : Type 0 where
+  pub status : ℕ
+  pub text : List ℕ
+  pub answer : IsMirrorAnswer words input status text
+  pub front : List ℕ
+  pub is_front : IsFront front text
+  pub wrote : Appends old new front

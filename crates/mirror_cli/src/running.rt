@@ -1,0 +1,186 @@
+//! The program's word `mirror`: it reads a repository, mirrors it, and writes a report.
+
+ghost use Rattle.std.specs.Prelude.{◌≡◌, ◌≢◌, ◌≤◌, ◌⊎◌, map, false, IfOk, IsErrOf};
+ghost use Rattle.std.specs.Io.KnownBytes.{IsAtEnd};
+ghost use Rattle.fetch_store.specs.Faults.{Rose, Counts};
+ghost use Rattle.fetch_store.specs.Stores.{AreOf};
+ghost use Rattle.fetch_cli.specs.ReportLines.{malformed_line, malformed_word_line};
+ghost use Rattle.fetch_cli.specs.Run.{Are};
+ghost use Rattle.fetch_cli.specs.ServerScenes.{server_scene_of};
+ghost use Rattle.mirror_cli.specs.MirrorRun.{IsInputAnswer, IsMirrorAnswer, IsMirrorOf, IsSceneAnswer, Writes, WritesFront, asks};
+ghost use Rattle.mirror_cli.specs.MirrorWords.{mirror_asked};
+
+use crate::reporting::{mirror_report, refused_report};
+use crate::words::read_mirror_words;
+use fetch_cli::{
+    MAX_SCENE, ReadError, SceneFault, ServerScene, Sink, Source, append_malformed,
+    append_malformed_word, read_all, read_server_scene, set_up_local,
+};
+use fetch_mirror::{MirrorError, MirrorOptions, run_mirror};
+use fetch_store::NoMemory;
+use fetch_wire::{ReplyBound, SendFault};
+use std::alloc::Global;
+use std::sync::Wait;
+use std::thread::Threads;
+
+/// Why there is nothing to write.
+#[derive(Clone, Copy, Debug, PartialEq, Eq)]
+enum Silence {
+    /// The source failed.
+    Unread,
+    NoMemory,
+}
+
+impl From<NoMemory> for Silence {
+    ghost use Rattle.std.specs.Prelude.{◌≡◌};
+    ghost use Rattle.mirror_cli.specs.declared.running.Silence.TheVariants as silences;
+
+    ghost from_gives = { λ _ e. e ≡ silences.NoMemory };
+
+    fn from(_e: NoMemory) -> Silence {
+        Silence::NoMemory
+    }
+}
+
+/// A status, and the text that is to be written.
+type Answer = (u8, Vec<u8>);
+
+fn malformed_word(alloc: Global, number: usize) -> Result<Answer, NoMemory>
+    ensures { IfOk result (λ x. Are 4 (malformed_word_line number) x.0 x.1.items) }
+{
+    let mut text = Vec::new(alloc);
+    append_malformed_word(&mut text, number)?;
+    Ok((4, text))
+}
+
+fn malformed(alloc: Global, place: usize) -> Result<Answer, NoMemory>
+    ensures { IfOk result (λ x. Are 4 (malformed_line place) x.0 x.1.items) }
+{
+    let mut text = Vec::new(alloc);
+    append_malformed(&mut text, place)?;
+    Ok((4, text))
+}
+
+/// Mirrors the repository of a server scene by so many workers, and tells what became of it.
+fn mirrored<R: Threads + Wait + Sync>(
+    rt: &R,
+    alloc: Global,
+    workers: u32,
+    scene: ServerScene,
+) -> Result<Answer, NoMemory>
+    requires { AreOf scene.local.head.hash scene.objects }
+    ensures { IfOk result (λ x. IsMirrorOf workers scene x.0 x.1.items) }
+{
+    let (repo, _) = set_up_local(alloc, scene.local, scene.objects)?;
+    let options = MirrorOptions {
+        workers,
+        committer: repo.settings().committer.try_clone()?,
+        max_reply_bytes: ReplyBound::default(),
+    };
+    match run_mirror(rt, alloc, repo.store(), repo.refs(), repo.border(), options) {
+        Ok(mirror) => Ok((0, mirror_report(alloc, &mirror.repo)?)),
+        Err(MirrorError::NoMemory) => Err(NoMemory),
+        Err(refusal) => Ok((1, refused_report(alloc, refusal)?)),
+    }
+}
+
+/// What is answered to bytes.
+fn answer_to_bytes<R: Threads + Wait + Sync>(
+    rt: &R,
+    alloc: Global,
+    workers: u32,
+    bytes: &[u8],
+) -> Result<Answer, NoMemory>
+    ensures { IfOk result (λ x. IsSceneAnswer workers (server_scene_of bytes.now) x.0 x.1.items) }
+{
+    match read_server_scene(rt, alloc, bytes) {
+        Ok(scene) => mirrored(rt, alloc, workers, scene),
+        Err(SceneFault::Malformed { place }) => malformed(alloc, place),
+        Err(SceneFault::NoMemory) => Err(NoMemory),
+    }
+}
+
+/// What is answered to the source's bytes.
+fn answer_to_input<R: Threads + Wait + Sync, S: Source>(
+    rt: &R,
+    alloc: Global,
+    workers: u32,
+    source: &mut S,
+) -> Result<Answer, Silence>
+    ensures answer { IfOk result (λ x. IsInputAnswer workers (S.left source.old) x.0 x.1.items) }
+    ensures end { IfOk result (λ x. x.0 ≢ 4 → IsAtEnd (S.left source.new)) }
+    ensures unread { IsErrOf result Silence.Unread → Rose (S.faults source.old) (S.faults source.new) }
+    ensures counts { Counts (S.faults source.old) (S.faults source.new) }
+    ensures quiet { ¬ IsErrOf result Silence.Unread → (S.faults source.new).count ≡ (S.faults source.old).count }
+{
+    match read_all(alloc, source) {
+        Ok(bytes) => Ok(answer_to_bytes(rt, alloc, workers, &bytes)?),
+        Err(ReadError::Failed) => Err(Silence::Unread),
+        Err(ReadError::TooLong) => Ok(malformed(alloc, MAX_SCENE)?),
+        Err(ReadError::NoMemory) => Err(Silence::NoMemory),
+    }
+}
+
+/// What is answered to the words. The source is read where they ask for a mirror.
+fn answer<R: Threads + Wait + Sync, S: Source>(
+    rt: &R,
+    alloc: Global,
+    words: &[Vec<u8>],
+    source: &mut S,
+) -> Result<Answer, Silence>
+    ensures answer { IfOk result (λ x. IsMirrorAnswer (map (λ word. word.items) words.now) (S.left source.old) x.0 x.1.items) }
+    ensures end { IfOk result (λ x. x.0 ≢ 4 → IsAtEnd (S.left source.new)) }
+    ensures unread { IsErrOf result Silence.Unread → Rose (S.faults source.old) (S.faults source.new) }
+    ensures counts { Counts (S.faults source.old) (S.faults source.new) }
+    ensures quiet { ¬ IsErrOf result Silence.Unread → (S.faults source.new).count ≡ (S.faults source.old).count }
+    ensures untouched { asks (mirror_asked (map (λ word. word.items) words.now)) ≡ false → source.new ≡ source.old }
+{
+    match read_mirror_words(words) {
+        Ok(workers) => answer_to_input(rt, alloc, workers, source),
+        Err(number) => Ok(malformed_word(alloc, number)?),
+    }
+}
+
+/// Mirrors the repository that the source tells, with the words after the program's name, of which the first is `mirror` and
+/// the second the count of workers, and answers the status: 0 where it was mirrored, and 1 where not, with the report; 2
+/// where the source failed, and 3 where the sink did; 4 where the words or the scene are malformed, whatever the count of
+/// workers; 5 where memory ran out.
+pub fn run_mirror_scene<R: Threads + Wait + Sync, S: Source, K: Sink>(
+    rt: &R,
+    alloc: Global,
+    words: &[Vec<u8>],
+    source: &mut S,
+    sink: &mut K,
+) -> u8
+    ensures done { result ≡ 0 → Writes (map (λ word. word.items) words.now) (S.left source.old) (K.taken sink.old) (K.taken sink.new) 0 }
+    ensures refused { result ≡ 1 → Writes (map (λ word. word.items) words.now) (S.left source.old) (K.taken sink.old) (K.taken sink.new) 1 }
+    ensures reads { Counts (S.faults source.old) (S.faults source.new) }
+    ensures writes { Counts (K.faults sink.old) (K.faults sink.new) }
+    ensures read { result ≡ 2 → Rose (S.faults source.old) (S.faults source.new) }
+    ensures unread { result ≡ 2 → sink.new ≡ sink.old }
+    // A source that failed is told by 2 alone, and a sink that failed by 3.
+    ensures quiet_source { result ≢ 2 → (S.faults source.new).count ≡ (S.faults source.old).count }
+    ensures quiet_sink { result ≢ 3 → (K.faults sink.new).count ≡ (K.faults sink.old).count }
+    ensures write { result ≡ 3 → Rose (K.faults sink.old) (K.faults sink.new) }
+    ensures front { result ≡ 3 → WritesFront (map (λ word. word.items) words.now) (S.left source.old)
+        (K.taken sink.old) (K.taken sink.new) }
+    ensures malformed { result ≡ 4 → Writes (map (λ word. word.items) words.now) (S.left source.old)
+        (K.taken sink.old) (K.taken sink.new) 4 }
+    ensures memory { result ≡ 5 → (sink.new ≡ sink.old)
+        ⊎ WritesFront (map (λ word. word.items) words.now) (S.left source.old) (K.taken sink.old) (K.taken sink.new) }
+    // Where the repository was mirrored or refused, the source was read to its end.
+    ensures end { result ≤ 1 → IsAtEnd (S.left source.new) }
+    // Words are tested before the source is read.
+    ensures words { asks (mirror_asked (map (λ word. word.items) words.now)) ≡ false → source.new ≡ source.old }
+    ensures known { result ≤ 5 }
+{
+    match answer(rt, alloc, words, source) {
+        Ok((status, text)) => match sink.write_all(&text) {
+            Ok(()) => status,
+            Err(SendFault::Failed) => 3,
+            Err(SendFault::NoMemory) => 5,
+        },
+        Err(Silence::Unread) => 2,
+        Err(Silence::NoMemory) => 5,
+    }
+}
