@@ -18,14 +18,25 @@ GIVEN = ("remote ", "fetch ", "extra ", "option ")
 
 
 class Engine:
-    """The program that fetches and checks what scenes say."""
+    """The program that fetches, checks and mirrors what scenes say."""
 
     def __init__(self, program):
         self.program = program
 
     def fetch(self, scene):
         """The report of a scene."""
-        status, written = self._ended("fetch", scene)
+        return self._report(["fetch"], scene)
+
+    def mirror(self, scene, workers):
+        """The report of a mirror of the scene of a server, by so many workers."""
+        return self._report(["mirror", str(workers)], scene)
+
+    def check(self, scene):
+        """The status of a check of the scene of a server, 0, 1 or that of a scene that isn't read, and what is written."""
+        return self._ended(["check"], scene)
+
+    def _report(self, words, scene):
+        status, written = self._ended(words, scene)
         if status == MALFORMED:
             raise malformed(scene, decoded_text(written).strip())
         try:
@@ -33,13 +44,9 @@ class Engine:
         except Trouble as trouble:
             raise Trouble(ENGINE_FAILED, f"the engine wrote {trouble}") from None
 
-    def check(self, scene):
-        """The status of a check of the scene of a server, 0, 1 or that of a scene that isn't read, and what is written."""
-        return self._ended("check", scene)
-
-    def _ended(self, word, scene):
+    def _ended(self, words, scene):
         try:
-            ended = subprocess.run([self.program, word], input=scene, capture_output=True)
+            ended = subprocess.run([self.program, *words], input=scene, capture_output=True)
         except OSError as error:
             raise Trouble(ENGINE_FAILED, f"can't run {self.program}: {error.strerror}") from None
         if ended.returncode not in (0, 1, MALFORMED):

@@ -1,10 +1,9 @@
 #!/usr/bin/env python3
 """Stands in for the engine in the checks of the tools.
 
-It fetches by one refspec without a star into a name that is absent or up to date, and finds nothing in a repository that it
-checks. BEHAVIOUR in the environment makes it
-answer `malformed`, report a refusal, leave the reference out of its report, tell what it has first, or
-want what nobody has.
+It fetches by one refspec without a star into a name that is absent or up to date, finds nothing in a repository that it
+checks, and mirrors all that stands in one. BEHAVIOUR in the environment makes it answer `malformed`, report a refusal, leave
+the references out of its report, tell what it has first, or want what nobody has.
 """
 
 import os
@@ -13,6 +12,7 @@ import sys
 sys.path.insert(0, os.path.join(os.path.dirname(__file__), ".."))
 
 from realgit.lines import Mark, placed_lines, text_of
+from realgit.plainpack import read_pack
 from realgit.scene import packs_in, read_scene
 
 BEHAVIOUR = os.environ.get("BEHAVIOUR", "")
@@ -77,6 +77,23 @@ def fetch(scene):
     return 0
 
 
+def mirror(data):
+    """Writes the report of a mirror of all that the scene of a server has, and answers the status."""
+    if BEHAVIOUR == "refused":
+        say("refused ShallowServer")
+        return 1
+    parts = [[]]
+    for _, line in placed_lines(data):
+        if line is Mark.DELIMITER:
+            parts.append([])
+        elif line is not Mark.FLUSH:
+            parts[-1].append(line)
+    words = [text_of(line).split(" ") for line in parts[0]]
+    references = {word[2]: word[1] for word in words if word[0] == "ref" and word[2].startswith("refs/")}
+    say(*state({} if BEHAVIOUR == "forgets" else references, read_pack(b"".join(parts[1]), words[1][1])), "ok")
+    return 0
+
+
 def main():
     text, status = ALONE.get(BEHAVIOUR, (None, None))
     if text is not None:
@@ -85,7 +102,8 @@ def main():
     if sys.argv[1:] == ["check"]:
         say("ok")
         return 0
-    return fetch(read_scene(sys.stdin.buffer.read()))
+    given = sys.stdin.buffer.read()
+    return mirror(given) if sys.argv[1] == "mirror" else fetch(read_scene(given))
 
 
 if __name__ == "__main__":

@@ -8,7 +8,7 @@ use Rattle.fetch_cli.specs.ReportLines.{malformed_line}
 use Rattle.fetch_cli.specs.Run.{Are}
 use Rattle.fetch_cli.specs.ServerScenes.{server_scene_of}
 use Rattle.fetch_cli.specs.declared.program.server_scene.ServerScene.{ServerScene}
-use Rattle.mirror_cli.specs.MirrorRun.{IsMirrored, IsRefused, IsSceneAnswer, IsInputAnswer, IsAnswerTo, IsMirrorAnswer}
+use Rattle.mirror_cli.specs.MirrorRun.{TellsMirror, TellsRefusal, IsSceneAnswer, IsInputAnswer, IsAnswerTo, IsMirrorAnswer}
 use Rattle.mirror_cli.specs.MirrorWords.{mirror_asked}
 
 -- ---- a text that is longer than a scene may be
@@ -37,7 +37,7 @@ answers_too_long workers (Some bytes) status text h is = record { bytes = bytes;
 
 -- ---- the statuses of answers
 
-of_mirror : (workers : ℕ) (scene : ServerScene) (status : ℕ) (text : List ℕ) → IsMirrored workers scene status text ⊎ IsRefused workers scene status text → status ≤ 1
+of_mirror : (workers : ℕ) (scene : ServerScene) (status : ℕ) (text : List ℕ) → TellsMirror workers scene status text ⊎ TellsRefusal workers scene status text → status ≤ 1
 of_mirror workers scene status text (inl told) = let zero : status ≡ 0 = told.report.0 in omega (arith, zero)
 of_mirror workers scene status text (inr told) = let one : status ≡ 1 = told.report.0 in omega (arith, one)
 

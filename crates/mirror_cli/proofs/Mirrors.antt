@@ -1,44 +1,89 @@
 -- What is told of the mirror of a scene.
-use Rattle.std.proofs.Common.{◌≡◌, ℕ, List, ap, ◌∙◌, subst, inl, inr}
-use Rattle.std.specs.Prelude.{◌≢◌}
+use Rattle.std.proofs.Common.{◌≡◌, ◌⊎◌, ℕ, List, Result, Ok, Err, ap, ◌∙◌, subst, inl, inr}
+use Rattle.std.specs.Prelude.{IfErr, IfOk}
 use Rattle.fetch_store.specs.Borders.{IdSet}
 use Rattle.fetch_store.specs.Stores.{StoreValue}
 use Rattle.fetch_refs.specs.Names.{RefsValue}
 use Rattle.fetch_refs.specs.declared.log.Signature.{Signature}
-use Rattle.fetch_remote.specs.Repositories.{State}
+use Rattle.fetch_remote.specs.Repositories.{Setup, State}
 use Rattle.fetch_remote.specs.RepositoryValues.{RepositoryValue}
 use Rattle.fetch_serve.specs.Served.{Data, data_of}
-use Rattle.fetch_shared.specs.declared.entry.Entry.{Entry}
 use Rattle.fetch_mirror.specs.Copying.{IsCopied, IsUncopied}
+use Rattle.fetch_mirror.specs.Mirroring.{IsFew}
 use Rattle.fetch_mirror.specs.declared.error.MirrorError.{MirrorError}
 use Rattle.fetch_mirror.specs.declared.error.MirrorError.TheVariants as errors
+use Rattle.fetch_mirror.specs.declared.options.MirrorOptions.{MirrorOptions}
+use Rattle.fetch_mirror.specs.declared.options.Mirrored.{Mirrored}
 use Rattle.fetch_cli.specs.Checks.{repository_of}
-use Rattle.fetch_cli.specs.Report.{committer}
+use Rattle.fetch_cli.specs.Report.{committer, setup_in}
 use Rattle.fetch_cli.specs.ReportLines.{refused_line}
 use Rattle.fetch_cli.specs.Run.{Are}
 use Rattle.fetch_cli.specs.declared.program.server_scene.ServerScene.{ServerScene}
-use Rattle.mirror_cli.specs.MirrorReports.{mirror_text}
-use Rattle.mirror_cli.specs.MirrorRun.{IsMirrored, IsMirrorOf, IsRefused, data_in, reply_bound}
+use Rattle.mirror_cli.specs.MirrorRun.{IsMirrorOf, IsTold, TellsMirror, TellsRefusal, data_in, mirror_options, reply_bound, served_in}
 use Rattle.mirror_cli.specs.MirrorTokens.{mirror_token}
 
--- what is mirrored is what the repository of the scene holds
-pub data_so : (s : ServerScene) (state : State) (store : StoreValue) (refs : RefsValue) → state ≡ repository_of s → store.hash ≡ state.hash → store.objects ≡ state.objects → refs ≡ state.refs → data_of store refs ≡ data_in s
-data_so s state store refs is hash objects references =
-    let hash_is = hash ∙ ap (λ (x : State). x.hash) is in
-    let objects_are = objects ∙ ap (λ (x : State). x.objects) is in
-    let names_are = ap (λ (x : RefsValue). x.names) (references ∙ ap (λ (x : State). x.refs) is) in
-    λ i. record { hash = hash_is i; objects = objects_are i; names = names_are i }
+-- ---- the same mirror, by what is served
 
-module _ (workers : ℕ) (s : ServerScene) (d : Data) (border : IdSet) (who : Signature) (bound : ℕ)
-    (data_is : d ≡ data_in s) (border_is : border ≡ (repository_of s).border) (who_is : who ≡ committer) (bound_is : bound ≡ reply_bound) where
-  pub mirrored_told : (repo : RepositoryValue) (journal : List Entry) (status : ℕ) (text : List ℕ) → IsCopied d who workers bound repo journal → Are 0 (mirror_text repo.state) status text → IsMirrorOf workers s status text
-  mirrored_told repo journal status text copied report =
-      let here : IsCopied (data_in s) committer workers reply_bound repo journal = subst (λ (x : Data × Signature × ℕ). IsCopied x.0 x.1 workers x.2 repo journal) (λ i. (data_is i, who_is i, bound_is i)) copied in
-      let told : IsMirrored workers s status text = record { repo = repo; journal = journal; copied = here; report = report } in
-      record { is = inl told }
+-- what a store and references hold is what is served of their repository
+pub served_so : (state : State) (store : StoreValue) (refs : RefsValue) → store.hash ≡ state.hash → store.objects ≡ state.objects → refs ≡ state.refs → data_of store refs ≡ served_in state
+served_so state store refs hash objects refs_are = λ i. record { hash = hash i; objects = objects i; names = (refs_are i).names }
 
-  pub refused_told : (cause : MirrorError) (status : ℕ) (text : List ℕ) → IsUncopied d border who workers bound cause → cause ≢ errors.NoMemory → Are 1 (refused_line (mirror_token cause)) status text → IsMirrorOf workers s status text
-  refused_told cause status text uncopied known report =
-      let here : IsUncopied (data_in s) (repository_of s).border committer workers reply_bound cause = subst (λ (x : Data × IdSet × Signature × ℕ). IsUncopied x.0 x.1 x.2 workers x.3 cause) (λ i. (data_is i, border_is i, who_is i, bound_is i)) uncopied in
-      let told : IsRefused workers s status text = record { cause = cause; uncopied = here; known = known; report = report } in
-      record { is = inr told }
+pub copied_so : (d e : Data) (who : Signature) (workers bound : ℕ) (result : Result Mirrored MirrorError) → d ≡ e
+    → IfOk result (λ m. IsCopied d who workers bound m.repo m.journal) → IfOk result (λ m. IsCopied e who workers bound m.repo m.journal)
+copied_so d e who workers bound result is h = subst (λ (x : Data). IfOk result (λ m. IsCopied x who workers bound m.repo m.journal)) is h
+
+pub uncopied_so : (d e : Data) (border other : IdSet) (who : Signature) (workers bound : ℕ) (result : Result Mirrored MirrorError) → d ≡ e → border ≡ other
+    → IfErr result (λ c. IsUncopied d border who workers bound c) → IfErr result (λ c. IsUncopied e other who workers bound c)
+uncopied_so d e border other who workers bound result is same h =
+    subst (λ (x : Data × IdSet). IfErr result (λ c. IsUncopied x.0 x.1 who workers bound c)) (λ i. (is i, same i)) h
+
+-- ---- what is told
+
+-- by how it was made
+abbrev IsCopiedBy : Data → MirrorOptions → Result Mirrored MirrorError → Type 0
+IsCopiedBy d options result = IfOk result (λ m. IsCopied d options.committer options.workers options.max_reply_bytes m.repo m.journal)
+
+abbrev IsUncopiedBy : Data → IdSet → MirrorOptions → Result Mirrored MirrorError → Type 0
+IsUncopiedBy d border options result = IfErr result (λ e. IsUncopied d border options.committer options.workers options.max_reply_bytes e)
+
+module _ (workers : ℕ) (s : ServerScene) where
+  here : MirrorOptions
+  here = mirror_options workers committer
+
+  told_so : (result : Result Mirrored MirrorError) → IsCopiedBy (data_in s) here result → IsUncopiedBy (data_in s) (repository_of s).border here result
+      → (status : ℕ) (text : List ℕ) → IsTold result status text → IsMirrorOf workers s status text
+  told_so (Ok m) copied uncopied status text told =
+      let mirror : TellsMirror workers s status text = record { repo = m.repo; journal = m.journal; copied = copied; report = told } in
+      record { is = inl mirror }
+  told_so (Err e) copied uncopied status text told =
+      let refusal : TellsRefusal workers s status text = record { cause = e; uncopied = uncopied; known = told.0; report = told.1 } in
+      record { is = inr refusal }
+
+  -- a repository that was set up by the scene, mirrored by its own committer
+  pub mirror_told : (repo : RepositoryValue) (options : MirrorOptions) (result : Result Mirrored MirrorError)
+      → repo.state ≡ repository_of s → repo.setup ≡ setup_in s.local.head s.local.config → options ≡ mirror_options workers repo.setup.settings.committer
+      → IsCopiedBy (served_in repo.state) options result → IsUncopiedBy (served_in repo.state) repo.state.border options result
+      → (status : ℕ) (text : List ℕ) → IsTold result status text → IsMirrorOf workers s status text
+  mirror_told repo options result state_is setup_is options_are copied uncopied status text told =
+      let who_is : repo.setup.settings.committer ≡ committer = ap (λ (x : Setup). x.settings.committer) setup_is in
+      let options_so : options ≡ here = options_are ∙ ap (λ (who : Signature). mirror_options workers who) who_is in
+      told_so result
+      (subst (λ (x : State × MirrorOptions). IsCopiedBy (served_in x.0) x.1 result) (λ i. (state_is i, options_so i)) copied)
+      (subst (λ (x : State × MirrorOptions). IsUncopiedBy (served_in x.0) x.0.border x.1 result) (λ i. (state_is i, options_so i)) uncopied)
+      status text told
+
+  -- ---- the count of workers
+
+  pub workers_told : (status : ℕ) (text : List ℕ) → (IsFew workers → ⊥) → IsMirrorOf workers s status text → Are 1 (refused_line (mirror_token (errors.Workers workers))) status text
+  workers_told status text many told = by_either told.is
+    where
+      by_cause : (e : MirrorError) → IsUncopied (data_in s) (repository_of s).border committer workers reply_bound e → Are 1 (refused_line (mirror_token e)) status text → Are 1 (refused_line (mirror_token (errors.Workers workers))) status text
+      by_cause (errors.Workers count) is report = subst (λ (n : ℕ). Are 1 (refused_line (mirror_token (errors.Workers n))) status text) is.1 report
+      by_cause (errors.Server e) is report = absurd (many is.0)
+      by_cause (errors.List e) is report = absurd (many is.refused.0)
+      by_cause (errors.Worker index e) is report = absurd (many is.refused.0)
+      by_cause errors.NoMemory is report = absurd (many is)
+
+      by_either : TellsMirror workers s status text ⊎ TellsRefusal workers s status text → Are 1 (refused_line (mirror_token (errors.Workers workers))) status text
+      by_either (inl mirror) = absurd (many mirror.copied.few)
+      by_either (inr refusal) = by_cause refusal.cause refusal.uncopied refusal.report

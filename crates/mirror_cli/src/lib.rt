@@ -1,6 +1,8 @@
 //! The program's word `mirror`: a repository is read, mirrored by several workers, and the mirror is reported.
 #![tactic(auto)]
 
+pub mod laws;
+mod mirroring;
 mod reporting;
 mod running;
 mod tokens;

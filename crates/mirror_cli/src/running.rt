@@ -3,22 +3,20 @@
 ghost use Rattle.std.specs.Prelude.{◌≡◌, ◌≢◌, ◌≤◌, ◌⊎◌, map, false, IfOk, IsErrOf};
 ghost use Rattle.std.specs.Io.KnownBytes.{IsAtEnd};
 ghost use Rattle.fetch_store.specs.Faults.{Rose, Counts};
-ghost use Rattle.fetch_store.specs.Stores.{AreOf};
 ghost use Rattle.fetch_cli.specs.ReportLines.{malformed_line, malformed_word_line};
 ghost use Rattle.fetch_cli.specs.Run.{Are};
 ghost use Rattle.fetch_cli.specs.ServerScenes.{server_scene_of};
-ghost use Rattle.mirror_cli.specs.MirrorRun.{IsInputAnswer, IsMirrorAnswer, IsMirrorOf, IsSceneAnswer, Writes, WritesFront, asks};
+ghost use Rattle.mirror_cli.specs.MirrorRun.{IsInputAnswer, IsMirrorAnswer, IsSceneAnswer, Writes, WritesFront, asks};
 ghost use Rattle.mirror_cli.specs.MirrorWords.{mirror_asked};
 
-use crate::reporting::{mirror_report, refused_report};
+use crate::mirroring::{Answer, mirrored};
 use crate::words::read_mirror_words;
 use fetch_cli::{
-    MAX_SCENE, ReadError, SceneFault, ServerScene, Sink, Source, append_malformed,
-    append_malformed_word, read_all, read_server_scene, set_up_local,
+    MAX_SCENE, ReadError, SceneFault, Sink, Source, append_malformed, append_malformed_word,
+    read_all, read_server_scene,
 };
-use fetch_mirror::{MirrorError, MirrorOptions, run_mirror};
 use fetch_store::NoMemory;
-use fetch_wire::{ReplyBound, SendFault};
+use fetch_wire::SendFault;
 use std::alloc::Global;
 use std::sync::Wait;
 use std::thread::Threads;
@@ -42,9 +40,6 @@ impl From<NoMemory> for Silence {
     }
 }
 
-/// A status, and the text that is to be written.
-type Answer = (u8, Vec<u8>);
-
 fn malformed_word(alloc: Global, number: usize) -> Result<Answer, NoMemory>
     ensures { IfOk result (λ x. Are 4 (malformed_word_line number) x.0 x.1.items) }
 {
@@ -59,29 +54,6 @@ fn malformed(alloc: Global, place: usize) -> Result<Answer, NoMemory>
     let mut text = Vec::new(alloc);
     append_malformed(&mut text, place)?;
     Ok((4, text))
-}
-
-/// Mirrors the repository of a server scene by so many workers, and tells what became of it.
-fn mirrored<R: Threads + Wait + Sync>(
-    rt: &R,
-    alloc: Global,
-    workers: u32,
-    scene: ServerScene,
-) -> Result<Answer, NoMemory>
-    requires { AreOf scene.local.head.hash scene.objects }
-    ensures { IfOk result (λ x. IsMirrorOf workers scene x.0 x.1.items) }
-{
-    let (repo, _) = set_up_local(alloc, scene.local, scene.objects)?;
-    let options = MirrorOptions {
-        workers,
-        committer: repo.settings().committer.try_clone()?,
-        max_reply_bytes: ReplyBound::default(),
-    };
-    match run_mirror(rt, alloc, repo.store(), repo.refs(), repo.border(), options) {
-        Ok(mirror) => Ok((0, mirror_report(alloc, &mirror.repo)?)),
-        Err(MirrorError::NoMemory) => Err(NoMemory),
-        Err(refusal) => Ok((1, refused_report(alloc, refusal)?)),
-    }
 }
 
 /// What is answered to bytes.
