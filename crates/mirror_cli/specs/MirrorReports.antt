@@ -1,5 +1,5 @@
 -- The report of a mirror: what it holds, whatever the order in which its workers brought it.
-use Rattle.std.specs.Prelude.{◌≡◌, ◌↔◌, ℕ, List, ◌++◌, codes, map, Contains}
+use Rattle.std.specs.Prelude.{◌≡◌, ◌↔◌, ℕ, List, ◌++◌, codes, map, Contains, Some}
 use Rattle.std.specs.FinMap as finmap
 use Rattle.std.specs.FinSet as set
 use Rattle.std.specs.List.{flat_map}
@@ -7,13 +7,14 @@ use Rattle.std.specs.List.Sorted.{IsStrictlySortedBy}
 use Rattle.fetch_store.specs.Closed.{IsStored, Reached, holding}
 use Rattle.fetch_store.specs.Stores.{id_cmp}
 use Rattle.fetch_store.specs.declared.id.ObjectId.{ObjectId}
+use Rattle.fetch_refs.specs.Names.{Names}
 use Rattle.fetch_refs.specs.declared.target.Target.{Target}
 use Rattle.fetch_refs.specs.declared.target.Target.TheVariants.{Object}
 use Rattle.fetch_remote.specs.Repositories.{State}
 use Rattle.fetch_serve.specs.Served.{Data}
 use Rattle.fetch_mirror.specs.Born.{born_of}
 use Rattle.fetch_cli.specs.Report.{ref_lines}
-use Rattle.fetch_cli.specs.ReportLines.{id_line, ref_line}
+use Rattle.fetch_cli.specs.ReportLines.{id_line}
 
 -- the references and the ids, each in ascending order, and the end
 unfoldable pub mirror_text : State → List ℕ
@@ -21,30 +22,36 @@ mirror_text s = ref_lines s.refs.names ++ flat_map id_line (finmap.keys s.object
 
 -- ---- what a whole mirror is told as
 
--- the line of a reference that is born, as its id
-abbrev pub born_line : List ℕ × ObjectId → List ℕ
-born_line e = ref_line e.0 (Object e.1)
+-- the born references under `refs/`, each as its id
+abbrev pub born_targets : Data → List (List ℕ × Target)
+born_targets d = map (λ e. (e.0, Object e.1)) (born_of d)
 
--- a reference that is an id
-abbrev pub direct : List ℕ × ObjectId → List ℕ × Target
-direct e = (e.0, Object e.1)
-
--- the ids of the references that are born
+-- their ids
 abbrev pub born_ids : Data → List ObjectId
 born_ids d = map (λ e. e.1) (born_of d)
 
--- These ids, ascending, are what the born references of a repository reach.
+-- These are the born references of a repository, each as its id.
+abbrev pub AreBorn : Data → Names → Type 0
+AreBorn d names = (name : List ℕ) (target : Target) → (finmap.get names name ≡ Some target) ↔ Contains (born_targets d) (name, target)
+
+-- The born references of a repository reach this id.
+abbrev pub IsReached : Data → ObjectId → Type 0
+IsReached d id = Reached (holding d.objects set.empty) (born_ids d) id
+
+-- These ids, ascending, are what they reach.
 pub record AreReached (d : Data) (ids : List ObjectId) : Type 0 where
-  pub each : (id : ObjectId) → Contains ids id ↔ Reached (holding d.objects set.empty) (born_ids d) id
+  pub each : (id : ObjectId) → Contains ids id ↔ IsReached d id
   pub ascending : IsStrictlySortedBy id_cmp ids
 
--- The report of a repository's mirror: the born references under `refs/`, each as its id, and all that they reach.
+-- The report of a repository's mirror: the born references, each as its id, and all that they reach.
 pub record IsReportOf (d : Data) (text : List ℕ) : Type 0 where
+  pub names : Names
+  pub born : AreBorn d names
   pub ids : List ObjectId
   pub reached : AreReached d ids
-  pub text_is : text ≡ flat_map born_line (born_of d) ++ flat_map id_line ids ++ codes "ok\n"
+  pub text_is : text ≡ ref_lines names ++ flat_map id_line ids ++ codes "ok\n"
 
 -- A repository has the born references of another one, each as its id, and stores what they reach.
 pub record HasBorn (d : Data) (s : State) : Type 0 where
-  pub names : finmap.entries s.refs.names ≡ map direct (born_of d)
-  pub ids : (id : ObjectId) → IsStored s.objects id ↔ Reached (holding d.objects set.empty) (born_ids d) id
+  pub names : AreBorn d s.refs.names
+  pub ids : (id : ObjectId) → IsStored s.objects id ↔ IsReached d id
