@@ -52,6 +52,7 @@ module _ (workers : ℕ) (s : ServerScene) where
 
   told_so : (result : Result Mirrored MirrorError) → IsCopiedBy (data_in s) here result → IsUncopiedBy (data_in s) (repository_of s).border here result
       → (status : ℕ) (text : List ℕ) → IsTold result status text → IsMirrorOf workers s status text
+  unfolding committer here
   told_so (Ok m) copied uncopied status text told =
       let mirror : TellsMirror workers s status text = record { repo = m.repo; journal = m.journal; copied = copied; report = told } in
       record { is = inl mirror }
@@ -64,6 +65,7 @@ module _ (workers : ℕ) (s : ServerScene) where
       → repo.state ≡ repository_of s → repo.setup ≡ setup_in s.local.head s.local.config → options ≡ mirror_options workers repo.setup.settings.committer
       → IsCopiedBy (served_in repo.state) options result → IsUncopiedBy (served_in repo.state) repo.state.border options result
       → (status : ℕ) (text : List ℕ) → IsTold result status text → IsMirrorOf workers s status text
+  unfolding committer here
   mirror_told repo options result state_is setup_is options_are copied uncopied status text told =
       let who_is : repo.setup.settings.committer ≡ committer = ap (λ (x : Setup). x.settings.committer) setup_is in
       let options_so : options ≡ here = options_are ∙ ap (λ (who : Signature). mirror_options workers who) who_is in
