@@ -5,9 +5,10 @@ import tempfile
 import unittest
 
 from common import tool
+from realgit.trouble import Trouble
 
 CRATE_MAP, CALL_INDEX, DEFINITIONS = tool("dev/crate-map"), tool("dev/call-index"), tool("dev/definitions")
-DEAD_NAMES, DOC_SIZES = tool("dev/dead-names"), tool("dev/doc-sizes")
+DEAD_NAMES, DOC_SIZES, QUOTES = tool("dev/dead-names"), tool("dev/doc-sizes"), tool("dev/quotes")
 
 ROOT = """\
 mod line;
@@ -99,6 +100,29 @@ class Links(InAFolder):
         self.assertEqual(dead, [None, "no heading b.md#none", None, "no name lost in b.md", "no file c.md"])
 
 
+class Quotations(InAFolder):
+    def test_a_quotation_is_written_anew(self):
+        write("crates/a/src/b.rt", "fn other() {}\n\n/// Adds.\n#[inline]\npub(crate) fn add<T>(\n    t: T,\n) {\n    one();\n}\n\nfn add_all() {}\n")
+        write("crates/a/stdout", "= one\nx\ny\n= one more\nz\n")
+        page = "a\n\n<!-- quoted: crates/a/{} -->\n```{}\n{}```\n\nb\n"
+        for what, kind, text in (
+                ("src/b.rt add", "rust", "/// Adds.\n#[inline]\npub(crate) fn add<T>(\n    t: T,\n) {\n    one();\n}\n"),
+                ("src/b.rt other", "rust", "fn other() {}\n"), ("stdout one", "text", "x\ny\n"), ("stdout one more", "text", "z\n")):
+            self.assertEqual(QUOTES.renewed(page.format(what, kind, "old\n")), page.format(what, kind, text))
+        write("./README.md", page.format("stdout one", "text", "x\n"))
+        self.assertEqual(list(QUOTES.differing()), [("README.md", page.format("stdout one", "text", "x\ny\n"))])
+
+    def test_what_is_quoted_has_to_be_there(self):
+        write("crates/a/stdout", "= one\nx\n")
+        for what in ("stdout two", "src/b.rt add"):
+            with self.assertRaises(Trouble):
+                QUOTES.renewed(f"<!-- quoted: crates/a/{what} -->\n```\n```\n")
+
+    def test_the_documents_quote_what_stands_there(self):
+        os.chdir(QUOTES.TOP)
+        self.assertEqual([page for page, _ in QUOTES.differing()], [])
+
+
 class Sizes(unittest.TestCase):
     def test_what_is_too_long(self):
         promise, words = " ".join(["x"] * 26), " ".join(["x"] * 901)
@@ -109,6 +133,11 @@ class Sizes(unittest.TestCase):
                 ("crates/a_rows/README.md", f"| a | {promise} |\n", []),
                 ("crates/a_rows/README.md", words, ["crates/a_rows/README.md: 901 words, where 900 may be"])):
             self.assertEqual(list(DOC_SIZES.too_long(path, text)), found)
+
+    def test_what_is_quoted_isnt_counted(self):
+        quoted = "<!-- quoted: crates/a/stdout one -->\n```text\n" + "x\n" * 1_000 + "```"
+        self.assertEqual(DOC_SIZES.count(f"a\n\n{quoted}\n\nb\n"), 2)
+        self.assertEqual(list(DOC_SIZES.too_long("README.md", f"a\n\n{quoted}\n\nb\n")), [])
 
 
 if __name__ == "__main__":
