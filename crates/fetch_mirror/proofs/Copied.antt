@@ -18,7 +18,9 @@ use Rattle.fetch_mirror.specs.declared.error.MirrorError.TheVariants as errors
 use Rattle.fetch_mirror.specs.declared.options.Mirrored.{Mirrored}
 use Rattle.fetch_mirror.specs.Copying.{IsCopied, IsUncopied, fresh, given_by}
 use Rattle.fetch_mirror.specs.Mirroring.{Given, HasMirrored, IsFew, IsUnmirrored}
+use Rattle.fetch_mirror.specs.Mirrors.{IsMirrored}
 use Rattle.fetch_mirror.proofs.ListerAlong.{follows_rule, fresh_peer, names_so}
+use Rattle.fetch_mirror.proofs.WholeMirror.{is_mirrored}
 
 pub copied_names : (d : Data) → IsServable d → (committer : Signature) (workers bound : ℕ) (lister : ServedPeer) (peers : List ServedPeer) (repo : RepositoryValue) (journal : List Entry)
     → (h : HasMirrored (given_by d committer workers bound lister peers) repo journal) → h.names ≡ born_names d
@@ -62,3 +64,9 @@ module _ (d : Data) (servable : IsServable d) (border : IdSet) (committer : Sign
   pub uncopied_so : (result : Result Mirrored MirrorError) → IfErr result (λ e. IsUnmirrored (given_so lister peers kind) e) → IfErr result (λ e. IsUncopied d border committer workers bound e)
   uncopied_so (Ok m) h = tt
   uncopied_so (Err e) h = uncopied_told e (refused_as e h)
+
+-- the mirror as a whole
+pub whole_told : (d : Data) (committer : Signature) (workers bound : ℕ) (result : Result Mirrored MirrorError) → IfOk result (λ m. IsCopied d committer workers bound m.repo m.journal)
+    → IfOk result (λ m. IsMirrored d workers committer m.journal m.repo)
+whole_told d committer workers bound (Err e) h = tt
+whole_told d committer workers bound (Ok m) h = is_mirrored d h.servable committer workers bound h.few h.lister h.peers m.repo m.journal h.mirrored h.born

@@ -39,4 +39,14 @@ pub mod Quiet
 pub mod NeverEdits
 pub mod BornSo
 pub mod ListerAlong
+pub mod Journaled
+pub mod MappedOwn
+pub mod OfferedOwn
+pub mod WantedOwn
+pub mod WorkerTold
+pub mod NewEdits
+pub mod Numbered
+pub mod WorkerSo
+pub mod PackIds
+pub mod WholeMirror
 pub mod Copied

@@ -42,7 +42,7 @@ no_prefixes : prefixes_of (everything ∷ []) ≡ []
 unfolding prefixes_of refs
 no_prefixes = refl
 
-sendable : (bound : ℕ) → unsendable (inquiry_by bound) ≡ None
+pub sendable : (bound : ℕ) → unsendable (inquiry_by bound) ≡ None
 unfolding agent_text agent_is
 sendable bound = refl
 

@@ -1,5 +1,5 @@
 -- The listing of a server's references, along what the server gives.
-use Rattle.std.proofs.Common.{◌≡◌, ℕ, ◌<◌, ◌≤◌, true, false, List, [], ◌∷◌, ◌++◌, Option, None, Ok, Err, refl, sym, ap, subst, ◌∙◌, codes, sum_by, arith}
+use Rattle.std.proofs.Common.{◌≡◌, ℕ, ◌<◌, ◌≤◌, true, false, List, [], ◌∷◌, ◌++◌, Option, Some, None, Result, Ok, Err, refl, sym, ap, subst, ◌∙◌, codes, sum_by, arith}
 use Rattle.fetch_store.specs.declared.id.Kind.{Kind}
 use Rattle.fetch_store.specs.declared.id.Kind.TheVariants.{Sha1, Sha256}
 use Rattle.fetch_wire.specs.Greetings.{format_in, is_format}
@@ -7,11 +7,12 @@ use Rattle.fetch_wire.specs.Lines.{line_len}
 use Rattle.fetch_wire.specs.Requests.{first_line, kind_text, listing_lines}
 use Rattle.fetch_wire.specs.SessionStates.{listing_feature}
 use Rattle.fetch_wire.specs.Written.{first_too_long, lines_text}
+use Rattle.fetch_wire.specs.declared.lines.line.Line.{Line}
 use Rattle.fetch_wire.specs.declared.replies.awaited.Await.TheVariants as await
-use Rattle.fetch_wire.specs.declared.replies.awaited.Fault.TheVariants.{TooLong}
+use Rattle.fetch_wire.specs.declared.replies.awaited.Fault.TheVariants.{Short, TooLong}
 use Rattle.fetch_wire.specs.declared.replies.awaited.Told.{Told}
 use Rattle.fetch_wire.specs.declared.replies.awaited.Told.TheVariants as told
-use Rattle.fetch_conversation.specs.Conversation.{Conversation, asks, asks_unless}
+use Rattle.fetch_conversation.specs.Conversation.{Conversation, ends, asks, asks_unless}
 use Rattle.fetch_conversation.specs.ListStage.{InquiryValue, ListedValue, failed, greeted, inquiry_stage, listed, listing, mapped, prefixes_asked, too_long, unless, unlisted}
 use Rattle.fetch_conversation.specs.declared.prepare.Error.{Error}
 use Rattle.fetch_serve.specs.declared.asked.Asked.TheVariants.{First, Listing}
@@ -24,8 +25,8 @@ use Rattle.fetch_serve.proofs.Fitting.{greeting_fits, listing_fits}
 use Rattle.fetch_mirror.specs.GoingAlong.{GoesAlong, GoesTo}
 use Rattle.fetch_mirror.specs.Listings.{AreRising, AreTold, IsHeard, IsInquiry, asked_lines, greeting_of}
 use Rattle.fetch_mirror.proofs.GoingAlong.{goes_end}
-use Rattle.fetch_mirror.proofs.RequestsRead.{asked_whole, first_read, listing_read}
-use Rattle.fetch_mirror.proofs.ServedAlong.{AreWhole, IsServed, served_on, served_to, served_too_long, whole_more, whole_none}
+use Rattle.fetch_mirror.proofs.RequestsRead.{asked_too_long, asked_whole, first_read, listing_read}
+use Rattle.fetch_mirror.proofs.ServedAlong.{AreWhole, IsServed, served_on, served_to, served_too_long, unserved, whole_more, whole_none}
 use Rattle.fetch_mirror.proofs.StagesAlong.{to_end}
 
 -- ---- the tree
@@ -52,7 +53,7 @@ unfolding capabilities_of kind_text listing_feature
 lists Sha1 = refl
 lists Sha256 = refl
 
-same_hash : (hash : Kind) → (greeting_of hash).object_hash ≡ hash
+pub same_hash : (hash : Kind) → (greeting_of hash).object_hash ≡ hash
 unfolding capabilities_of kind_text is_format format_in
 same_hash Sha1 = refl
 same_hash Sha256 = refl
@@ -151,3 +152,50 @@ module _ (d : Data) (bound : ℕ) (q : InquiryValue) (h : IsHeard d q) where
   -- All that was heard with the listing request are whole requests.
   pub listed_whole : AreWhole d.hash true (first_text ++ lines_text (listing_lines (greeting_of d.hash) q.agent (prefixes_asked q)))
   listed_whole = whole_more d.hash true first_text (lines_text (listing_lines (greeting_of d.hash) q.agent (prefixes_asked q))) (Listing true (prefixes_asked q)) second.whole second.read
+
+-- ---- a listing request that isn't sent, or isn't read
+
+-- An inquiry whose prefixes rise, of a server that can be served.
+pub record IsAskable (d : Data) (q : InquiryValue) : Type 0 where
+  pub servable : IsServable d
+  pub told : AreTold d (prefixes_asked q)
+  pub inquiry : IsInquiry q
+  pub rising : AreRising [] (prefixes_asked q)
+
+module _ (d : Data) (bound : ℕ) (q : InquiryValue) (h : IsAskable d q) where
+  abbrev lines : List Line
+  lines = listing_lines (greeting_of d.hash) q.agent (prefixes_asked q)
+
+  after_greeting : (others : List Line) (answer : Result ListedValue Error) → sum_by line_len (reply_lines d First) ≤ bound → GoesAlong bound (replies_of d) first_text (greeted bound q (told.Greeting (greeting_of d.hash))) others answer
+      → GoesAlong bound (replies_of d) [] (inquiry_stage bound q) ((first_line (codes ".") [] ∷ []) ++ others) answer
+  after_greeting others answer within more =
+      subst (λ (c : Conversation ListedValue Error). GoesAlong bound (replies_of d) [] c ((first_line (codes ".") [] ∷ []) ++ others) answer) (sym (asks_first bound q h.inquiry))
+      (served_on d bound false [] (first_line (codes ".") [] ∷ []) await.Greeting (failed bound) (λ t. greeted bound q t) First (told.Greeting (greeting_of d.hash)) others answer (first_served d (prefixes_asked q) h.told) within more)
+
+  -- The greeting passes the bound.
+  pub ungreeted : bound < sum_by line_len (reply_lines d First) → GoesAlong bound (replies_of d) [] (inquiry_stage bound q) ((first_line (codes ".") [] ∷ []) ++ []) (Err (failed bound TooLong))
+  ungreeted far =
+      subst (λ (c : Conversation ListedValue Error). GoesAlong bound (replies_of d) [] c ((first_line (codes ".") [] ∷ []) ++ []) (Err (failed bound TooLong))) (sym (asks_first bound q h.inquiry))
+      (served_too_long d bound false [] (first_line (codes ".") [] ∷ []) await.Greeting (failed bound) (λ t. greeted bound q t) First (told.Greeting (greeting_of d.hash)) (first_served d (prefixes_asked q) h.told) far)
+
+  ends_unfit : (n : ℕ) → first_too_long lines ≡ Some n → greeted bound q (told.Greeting (greeting_of d.hash)) ≡ ends (Err (too_long n))
+  unfolding listing
+  ends_unfit n is = ap (λ (o : Option ℕ). asks_unless o too_long (unless (unlisted (greeting_of d.hash)) (asks lines (await.Listing (greeting_of d.hash).object_hash) (failed bound) (λ t. listed q (greeting_of d.hash) t)))) is
+
+  -- A line of the request is too long.
+  pub request_unfit : (n : ℕ) → first_too_long lines ≡ Some n → sum_by line_len (reply_lines d First) ≤ bound
+      → GoesAlong bound (replies_of d) [] (inquiry_stage bound q) ((first_line (codes ".") [] ∷ []) ++ []) (Err (too_long n))
+  request_unfit n is within =
+      after_greeting [] (Err (too_long n)) within
+      (subst (λ (c : Conversation ListedValue Error). GoesAlong bound (replies_of d) first_text c [] (Err (too_long n))) (sym (ends_unfit n is)) (goes_end bound (replies_of d) first_text (Err (too_long n))))
+
+  -- The request is longer than a server reads: it is dead.
+  pub request_unread : first_too_long lines ≡ None → request_bound < sum_by line_len lines → sum_by line_len (reply_lines d First) ≤ bound
+      → GoesAlong bound (replies_of d) [] (inquiry_stage bound q) ((first_line (codes ".") [] ∷ []) ++ (lines ++ [])) (Err (failed bound (Short 0)))
+  request_unread fits long within =
+      let next : Told → Conversation ListedValue Error = λ t. listed q (greeting_of d.hash) t in
+      let whole : AreWhole d.hash true first_text = whole_more d.hash false [] first_text First (whole_none d.hash) (asked_whole d.hash false (first_line (codes ".") [] ∷ []) First (first_read d.hash) first_fits first_short) in
+      after_greeting (lines ++ []) (Err (failed bound (Short 0))) within
+      (subst (λ (c : Conversation ListedValue Error). GoesAlong bound (replies_of d) first_text c (lines ++ []) (Err (failed bound (Short 0)))) (sym (asks_next bound q d.hash fits))
+      (unserved d bound true first_text lines (await.Listing d.hash) (failed bound) next whole
+      (asked_too_long d.hash true lines (Listing true (prefixes_asked q)) (listing_read d.hash q.agent (prefixes_asked q) h.rising) fits long)))

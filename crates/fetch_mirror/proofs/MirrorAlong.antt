@@ -14,10 +14,11 @@ use Rattle.fetch_conversation.specs.ConverseStage.{lacking, no_mapping, other_ha
 use Rattle.fetch_conversation.specs.Exchange.{asked_by, failed}
 use Rattle.fetch_conversation.specs.ListStage.{InquiryValue, ListedValue, inquiry_stage, prefixes_asked}
 use Rattle.fetch_conversation.specs.declared.conversing.Received.{Received}
+use Rattle.fetch_conversation.specs.declared.fetch.Error.{Error as ReceiveError}
 use Rattle.fetch_remote.specs.Errors.{receiving}
 use Rattle.fetch_remote.specs.Form.{Given}
 use Rattle.fetch_remote.specs.Repositories.{State}
-use Rattle.fetch_remote.specs.Stages.{bound_of, conversation, inquiry_in, terms_in}
+use Rattle.fetch_remote.specs.Stages.{bound_of, conversation, inquiry_in, pack_stage, terms_in}
 use Rattle.fetch_serve.specs.declared.asked.Asked.TheVariants.{Fetch}
 use Rattle.fetch_serve.specs.Replies.{replies_of, reply_lines}
 use Rattle.fetch_serve.specs.Served.{Data}
@@ -72,3 +73,11 @@ pub worker_long_request : (d : Data) (g : Given) (s : State) (l : ListedValue) (
 worker_long_request d g s l id wants reply h k long =
     unreceived_along (replies_of d) g s (heard_by d (inquiry_in g)) (asked_lines d (inquiry_in g)) (request g s l ++ []) l (failed (bound_of g) (Short 0)) h.named (listed_to d g l h)
     (pack_unserved d (bound_of g) (graph_of s.objects) (terms_in g s l) id wants reply k (heard_by d (inquiry_in g)) (whole d g l h) long)
+
+-- Behind the listing, the pack isn't had: so it is of the whole.
+pub worker_broken : (d : Data) (g : Given) (s : State) (l : ListedValue) (others : List Line) → IsListed d g l
+    → ((heard : List ℕ) → AreWhole d.hash true heard → (e : ReceiveError) × GoesAlong (bound_of g) (replies_of d) heard (pack_stage g s l) others (Err e))
+    → (e : ReceiveError) × GoesAlong (bound_of g) (replies_of d) [] (conversation g s) (asked_lines d (inquiry_in g) ++ others) (Err (receiving e))
+worker_broken d g s l others h k =
+    let broke = k (heard_by d (inquiry_in g)) (whole d g l h) in
+    (broke.0, unreceived_along (replies_of d) g s (heard_by d (inquiry_in g)) (asked_lines d (inquiry_in g)) others l broke.0 h.named (listed_to d g l h) broke.1)

@@ -38,7 +38,7 @@ use Rattle.fetch_mirror.proofs.Quiet.{IsOff, replay_then, replays, still_met}
 -- ---- places
 
 -- an element that passes stands among those that do
-in_filter : {X : Type 0} (test : X → Bool) (xs : List X) (k : ℕ) (x : X) → slice_get xs k ≡ Some x → test x ≡ true → (j : ℕ) × (slice_get (filter test xs) j ≡ Some x)
+pub in_filter : {X : Type 0} (test : X → Bool) (xs : List X) (k : ℕ) (x : X) → slice_get xs k ≡ Some x → test x ≡ true → (j : ℕ) × (slice_get (filter test xs) j ≡ Some x)
 in_filter test [] k x at passes = absurd cc
 in_filter {X} test (z ∷ xs) zero x at passes =
     let same : z ≡ x = cc in
@@ -53,12 +53,12 @@ behind_all : {X : Type 0} (xs ys : List X) (k : ℕ) (x : X) → slice_get ys k 
 behind_all [] ys k x at = ap (slice_get ys) (omega arith) ∙ at
 behind_all (z ∷ xs) ys k x at = let place : length (z ∷ xs) + k ≡ suc (length xs + k) = omega arith in ap (slice_get (z ∷ (xs ++ ys))) place ∙ behind_all xs ys k x at
 
-before_more : {X : Type 0} (xs ys : List X) (k : ℕ) (x : X) → slice_get xs k ≡ Some x → slice_get (xs ++ ys) k ≡ Some x
+pub before_more : {X : Type 0} (xs ys : List X) (k : ℕ) (x : X) → slice_get xs k ≡ Some x → slice_get (xs ++ ys) k ≡ Some x
 before_more [] ys k x at = absurd cc
 before_more (z ∷ xs) ys zero x at = at
 before_more (z ∷ xs) ys (suc k) x at = before_more xs ys k x at
 
-entries_then : (n : ℕ) (xs ys : List Entry) → entries_of n (xs ++ ys) ≡ entries_of n xs ++ entries_of n ys
+pub entries_then : (n : ℕ) (xs ys : List Entry) → entries_of n (xs ++ ys) ≡ entries_of n xs ++ entries_of n ys
 entries_then n [] ys = refl
 entries_then n (x ∷ xs) ys = by (pass_of x == n) (entries_then n xs ys)
   where
@@ -70,10 +70,10 @@ nothing_more : {X : Type 0} (xs ys : List X) → xs ++ ys ≡ xs → ys ≡ []
 nothing_more [] ys is = is
 nothing_more (x ∷ xs) ys is = nothing_more xs ys cc
 
-own_number : (n : ℕ) → (n == n) ≡ true
+pub own_number : (n : ℕ) → (n == n) ≡ true
 own_number n = eq-eqb n n refl
 
-number_passes : (n : ℕ) (e : Entry) → pass_of e ≡ n → (pass_of e == n) ≡ true
+pub number_passes : (n : ℕ) (e : Entry) → pass_of e ≡ n → (pass_of e == n) ≡ true
 number_passes n e is = ap (λ (m : ℕ). m == n) is ∙ own_number n
 
 -- names of two shares are apart
@@ -94,7 +94,7 @@ module _ {P : Type 0} (race : Race P) (workers bound : ℕ) (names : List (List 
   share_own n = (divided workers names).own n own
 
   -- the entries of each worker
-  each_own : (n : ℕ) → n < length jobs → AreOwnEntries (share n) (entries_of n journal)
+  pub each_own : (n : ℕ) → n < length jobs → AreOwnEntries (share n) (entries_of n journal)
   each_own n low =
       let job = there jobs n low in
       let answer = there answers n (subst (λ (k : ℕ). n < k) (sym raced.answered) low) in
@@ -103,7 +103,7 @@ module _ {P : Type 0} (race : Race P) (workers bound : ℕ) (names : List (List 
       raced_own race journal n bound (share n) job.0 j.0 answer.0 peer.0 (share_own n) j.2 (raced.each n job.0 answer.0 peer.0 job.1 answer.1 peer.1)
 
   -- each entry is its worker's
-  entry_own : (k : ℕ) (e : Entry) → slice_get journal k ≡ Some e → IsOwnEntry (share (pass_of e)) e
+  pub entry_own : (k : ℕ) (e : Entry) → slice_get journal k ≡ Some e → IsOwnEntry (share (pass_of e)) e
   entry_own k e at =
       let n = pass_of e in
       let placed = in_filter (λ (x : Entry). pass_of x == n) journal k e at (own_number n) in
@@ -117,7 +117,7 @@ module _ {P : Type 0} (race : Race P) (workers bound : ℕ) (names : List (List 
       nowhere (y ∷ entries) j x is at = absurd cc
 
   -- an entry of another worker isn't on a name of this one's share
-  others_off : (i : ℕ) (name : List ℕ) → IsIn (share i) name → (e : Entry) → pass_of e ≢ i → IsOwnEntry (share (pass_of e)) e → IsOff name e
+  pub others_off : (i : ℕ) (name : List ℕ) → IsIn (share i) name → (e : Entry) → pass_of e ≢ i → IsOwnEntry (share (pass_of e)) e → IsOff name e
   others_off i name mine (Take pass ids shallow unshallow) apart o = tt
   others_off i name mine (Commit pass edits committer) apart o = λ k x at. shares_apart workers names own i pass name x.name mine (o k x at) (λ same. apart (sym same))
   others_off i name mine (Delete pass others) apart o = absurd o

@@ -55,7 +55,7 @@ full_one name u = ap is_full u.is ∙ or_true (bytes_eq (refs ++ u.rest) head)
     or_true true = refl
     or_true false = refl
 
-takes_itself : (own name : List ℕ) → IsUnderRefs own → taken own name ≡ where_true (bytes_eq own name)
+pub takes_itself : (own name : List ℕ) → IsUnderRefs own → taken own name ≡ where_true (bytes_eq own name)
 takes_itself own name u =
     ap (λ (t : Bool). cond t (between (front_of own) (back_of own) name) (where_true (cond (is_full own) (bytes_eq own name) (is_expansion own name)))) (full_is_plain own u.full).no_star
     ∙ ap (λ (t : Bool). where_true (cond t (bytes_eq own name) (is_expansion own name))) (full_one own u)

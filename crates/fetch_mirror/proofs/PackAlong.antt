@@ -1,11 +1,16 @@
 -- The fetch of a pack, along what a server gives.
-use Rattle.std.proofs.Common.{◌≡◌, ℕ, suc, ◌<◌, ◌≤◌, true, List, [], ◌∷◌, ◌++◌, Option, None, Ok, Err, refl, sym, ap, subst, ◌∙◌, sum_by}
+use Rattle.std.proofs.Common.{◌≡◌, ℕ, suc, ◌<◌, ◌≤◌, true, List, [], ◌∷◌, ◌++◌, Option, Some, None, Ok, Err, refl, sym, ap, subst, ◌∙◌, sum_by, codes}
 use Rattle.std.specs.Option.{option_or}
 use Rattle.std.specs.FinMap as map
 use Rattle.fetch_store.specs.Graph.{Graph}
 use Rattle.fetch_store.specs.declared.id.ObjectId.{ObjectId}
+use Rattle.fetch_wire.specs.Awaited.{start_of, step_of}
 use Rattle.fetch_wire.specs.Lines.{line_len}
-use Rattle.fetch_wire.specs.Written.{lines_text}
+use Rattle.fetch_wire.specs.Requests.{text_line}
+use Rattle.fetch_wire.specs.Stepping.{says}
+use Rattle.fetch_wire.specs.Steps.{error_text}
+use Rattle.fetch_wire.specs.Texts.{is_error}
+use Rattle.fetch_wire.specs.Written.{first_too_long, lines_text, too_long_in}
 use Rattle.fetch_wire.specs.declared.lines.line.Line.{Line}
 use Rattle.fetch_wire.specs.declared.replies.awaited.Await.TheVariants as await
 use Rattle.fetch_wire.specs.declared.replies.awaited.Fault.TheVariants.{Short, TooLong}
@@ -17,22 +22,22 @@ use Rattle.fetch_negotiate.specs.Windows.{window_of}
 use Rattle.fetch_negotiate.specs.declared.algorithm.Algorithm.{Algorithm}
 use Rattle.fetch_negotiate.specs.declared.algorithm.Algorithm.TheVariants as algorithms
 use Rattle.fetch_conversation.specs.Conversation.{Conversation, ends, asks, asks_unless, and_then}
-use Rattle.fetch_conversation.specs.ConverseStage.{converse_stage, fetching, lacking, no_mapping, other_hash, received, unfit, wanting}
+use Rattle.fetch_conversation.specs.ConverseStage.{algorithm_in, converse_stage, fetching, lacking, no_mapping, other_hash, received, unfit, wanting}
 use Rattle.fetch_conversation.specs.Exchange.{TermsValue, asked_by, exchange, failed, replied, reply_to, too_long}
 use Rattle.fetch_conversation.specs.ListStage.{unless}
 use Rattle.fetch_conversation.specs.Rounds.{Negotiated, first_course, negotiating}
 use Rattle.fetch_conversation.specs.declared.conversing.Received.{Received}
 use Rattle.fetch_conversation.specs.declared.fetch.Error.{Error}
 use Rattle.fetch_serve.specs.declared.asked.Asked.TheVariants.{Fetch}
-use Rattle.fetch_serve.specs.Replies.{replies_of, reply_lines}
+use Rattle.fetch_serve.specs.Replies.{error_lines, replies_of, reply_lines}
 use Rattle.fetch_serve.specs.Served.{Data}
 use Rattle.fetch_serve.specs.Texts.{request_bound}
-use Rattle.fetch_mirror.specs.Fetches.{IsFetching, one_round, wanting_all}
+use Rattle.fetch_mirror.specs.Fetches.{AreNew, IsFetching, IsWanting, one_round, wanting_all}
 use Rattle.fetch_mirror.specs.GoingAlong.{GoesAlong, GoesTo}
 use Rattle.fetch_mirror.proofs.FetchRead.{fetch_read}
 use Rattle.fetch_mirror.proofs.GoingAlong.{goes_end}
 use Rattle.fetch_mirror.proofs.RequestsRead.{asked_too_long, asked_whole}
-use Rattle.fetch_mirror.proofs.ServedAlong.{AreWhole, IsServed, served_on, served_to, served_too_long, unserved}
+use Rattle.fetch_mirror.proofs.ServedAlong.{AreWhole, IsServed, served_on, served_refused, served_to, served_too_long, unserved}
 use Rattle.fetch_mirror.proofs.StagesAlong.{to_end}
 
 -- ---- the tree
@@ -127,3 +132,83 @@ pub nothing_to : (d : Data) (bound : ℕ) (g : Graph) (t : TermsValue) (heard : 
     → GoesTo bound (replies_of d) heard heard (converse_stage bound g t) [] None
 nothing_to d bound g t heard accepted none =
     subst (λ (c : Conversation (Option Received) Error). GoesTo bound (replies_of d) heard heard c [] None) (sym (no_request bound g t accepted none)) (to_end bound (replies_of d) heard (Ok None) None refl)
+
+-- ---- a pack that is too large
+
+-- What is asked stands but for the pack: nothing is refused before the request, which the server reads.
+pub record IsRequesting (d : Data) (t : TermsValue) (id : ObjectId) (wants : List ObjectId) : Type 0 where
+  pub accepted : option_or (no_mapping t) (option_or (other_hash t) (option_or (unfit t.settings) (lacking t))) ≡ None
+  pub wanted : t.view.wants ≡ id ∷ wants
+  pub noop : algorithm_in t.settings ≡ algorithms.Noop
+  pub asked : IsWanting d.hash (asked_by t) id wants
+  pub new : AreNew d.hash [] (id ∷ wants)
+
+module _ (d : Data) (bound : ℕ) (g : Graph) (t : TermsValue) (id : ObjectId) (wants : List ObjectId) (h : IsRequesting d t id wants) where
+  -- what follows a reply
+  abbrev behind : Told → Conversation (Option Received) Error
+  behind = λ x. and_then (and_then (replied x) (λ reply. ends (Ok (one_round reply)))) (λ n. ends (received t n))
+
+  once_asked : (more : ℕ) → negotiating (suc more) bound t g algorithms.Noop (first_course algorithms.Noop t.view) ≡ and_then (exchange bound t [] true) (λ reply. ends (Ok (one_round reply)))
+  unfolding negotiating window_of
+  once_asked more = refl
+
+  exchanges : converse_stage bound g t ≡ and_then (and_then (exchange bound t [] true) (λ reply. ends (Ok (one_round reply)))) (λ n. ends (received t n))
+  unfolding converse_stage fetching
+  exchanges =
+      ap (λ (o : Option Error). unless o (wanting bound g t t.view.wants)) h.accepted
+      ∙ ap (wanting bound g t) h.wanted
+      ∙ ap (λ (a : Algorithm). and_then (negotiating (suc (map.len g)) bound t g a (first_course a t.view)) (λ n. ends (received t n))) h.noop
+      ∙ ap (λ (c : Conversation Negotiated Error). and_then c (λ n. ends (received t n))) (once_asked (map.len g))
+
+  -- by whether a line of the request is too long
+  unsent_by : (long : Option ℕ) → first_too_long (fetch_request (asked_by t) [] true) ≡ long → and_then (and_then (exchange bound t [] true) (λ reply. ends (Ok (one_round reply)))) (λ n. ends (received t n))
+      ≡ and_then (and_then (asks_unless long too_long (asks (fetch_request (asked_by t) [] true) (await.Reply (reply_to t [] true)) (failed bound) (λ x. replied x))) (λ reply. ends (Ok (one_round reply)))) (λ n. ends (received t n))
+  unfolding exchange
+  unsent_by long is = ap (λ (o : Option ℕ). and_then (and_then (asks_unless o too_long (asks (fetch_request (asked_by t) [] true) (await.Reply (reply_to t [] true)) (failed bound) (λ x. replied x))) (λ reply. ends (Ok (one_round reply)))) (λ n. ends (received t n))) is
+
+  ends_unsent : (n : ℕ) → and_then (and_then (asks_unless (Some n) too_long (asks (fetch_request (asked_by t) [] true) (await.Reply (reply_to t [] true)) (failed bound) (λ x. replied x))) (λ reply. ends (Ok (one_round reply)))) (λ n. ends (received t n)) ≡ ends (Err (too_long n))
+  unfolding and_then
+  ends_unsent n = refl
+
+  asks_sent : and_then (and_then (asks_unless None too_long (asks (fetch_request (asked_by t) [] true) (await.Reply (reply_to t [] true)) (failed bound) (λ x. replied x))) (λ reply. ends (Ok (one_round reply)))) (λ n. ends (received t n)) ≡ asks (fetch_request (asked_by t) [] true) (await.Reply (reply_to t [] true)) (failed bound) behind
+  unfolding and_then
+  asks_sent = refl
+
+  sends : first_too_long (fetch_request (asked_by t) [] true) ≡ None → converse_stage bound g t ≡ asks (fetch_request (asked_by t) [] true) (await.Reply (reply_to t [] true)) (failed bound) behind
+  sends fits = exchanges ∙ unsent_by None fits ∙ asks_sent
+
+  -- A line of the request is too long: it isn't sent.
+  pub pack_unsent : (heard : List ℕ) (n : ℕ) → first_too_long (fetch_request (asked_by t) [] true) ≡ Some n → GoesAlong bound (replies_of d) heard (converse_stage bound g t) [] (Err (too_long n))
+  pack_unsent heard n is =
+      subst (λ (c : Conversation (Option Received) Error). GoesAlong bound (replies_of d) heard c [] (Err (too_long n))) (sym (exchanges ∙ unsent_by (Some n) is ∙ ends_unsent n))
+      (goes_end bound (replies_of d) heard (Err (too_long n)))
+
+  -- a line that says why the server fails
+  says_so : (text : List ℕ) → step_of (start_of (await.Reply (reply_to t [] true))) (text_line (codes "ERR " ++ text)) ≡ says (error_text ((codes "ERR " ++ text) ++ 10 ∷ []))
+  unfolding step_of is_error
+  says_so text = refl
+
+  -- The request is longer than a server reads: it is dead.
+  pub pack_unread : (heard : List ℕ) → AreWhole d.hash true heard → first_too_long (fetch_request (asked_by t) [] true) ≡ None → request_bound < sum_by line_len (fetch_request (asked_by t) [] true)
+      → GoesAlong bound (replies_of d) heard (converse_stage bound g t) (fetch_request (asked_by t) [] true ++ []) (Err (failed bound (Short 0)))
+  pack_unread heard whole fits long =
+      subst (λ (c : Conversation (Option Received) Error). GoesAlong bound (replies_of d) heard c (fetch_request (asked_by t) [] true ++ []) (Err (failed bound (Short 0)))) (sym (sends fits))
+      (unserved d bound true heard (fetch_request (asked_by t) [] true) (await.Reply (reply_to t [] true)) (failed bound) behind whole
+      (asked_too_long d.hash true (fetch_request (asked_by t) [] true) (Fetch (wanting_all (id ∷ wants))) (fetch_read d.hash (asked_by t) id wants h.asked h.new) fits long))
+
+  -- The server answers by a line that says why it fails.
+  pub pack_refused : (heard text : List ℕ) → AreWhole d.hash true heard → first_too_long (fetch_request (asked_by t) [] true) ≡ None → sum_by line_len (fetch_request (asked_by t) [] true) ≤ request_bound
+      → reply_lines d (Fetch (wanting_all (id ∷ wants))) ≡ error_lines text → first_too_long (error_lines text) ≡ None
+      → (e : Error) × GoesAlong bound (replies_of d) heard (converse_stage bound g t) (fetch_request (asked_by t) [] true ++ []) (Err e)
+  pack_refused heard text whole fits short is line_fits =
+      let line = text_line (codes "ERR " ++ text) in
+      let asked = Fetch (wanting_all (id ∷ wants)) in
+      let r = served_refused d bound true heard (fetch_request (asked_by t) [] true) (await.Reply (reply_to t [] true)) (failed bound) behind asked line (error_text ((codes "ERR " ++ text) ++ 10 ∷ [])) whole
+      (asked_whole d.hash true (fetch_request (asked_by t) [] true) asked (fetch_read d.hash (asked_by t) id wants h.asked h.new) fits short) is (says_so text) (fit_first (too_long_in line) None line_fits) in (
+        failed bound r.0,
+        subst (λ (c : Conversation (Option Received) Error). GoesAlong bound (replies_of d) heard c (fetch_request (asked_by t) [] true ++ []) (Err (failed bound r.0))) (sym (sends fits)) r.1,
+      )
+    where
+      fit_first : (a b : Option ℕ) → option_or a b ≡ None → a ≡ None
+      fit_first None b e = refl
+      fit_first (Some n) b e = absurd cc

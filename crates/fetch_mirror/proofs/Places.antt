@@ -32,3 +32,9 @@ from_cons f z xs (Some w) is h (suc i) y at = next f z xs y (h i y at)
 pub from : {X Y : Type 0} (f : X → Option Y) (xs : List X) (i : ℕ) (y : Y) → slice_get (filter_map f xs) i ≡ Some y → IsFrom f xs y
 from f [] i y at = absurd cc
 from f (z ∷ xs) i y at = from_cons f z xs (f z) refl (from f xs) i y at
+
+-- what a value at a place of a mapped list comes from
+pub unmapped : {X Y : Type 0} (f : X → Y) (xs : List X) (i : ℕ) (y : Y) → slice_get (map f xs) i ≡ Some y → (x : X) × (slice_get xs i ≡ Some x) × (f x ≡ y)
+unmapped f [] i y is = absurd cc
+unmapped f (x ∷ xs) zero y is = (x, refl, cc)
+unmapped f (x ∷ xs) (suc i) y is = unmapped f xs i y is

@@ -5,7 +5,8 @@ use Rattle.fetch_store.specs.declared.id.Kind.{Kind}
 use Rattle.fetch_wire.specs.Awaited.{step_of, start_of, told_at}
 use Rattle.fetch_wire.specs.Lines.{line_len}
 use Rattle.fetch_wire.specs.LinesTold.{Tells}
-use Rattle.fetch_wire.specs.Written.{lines_text, first_too_long}
+use Rattle.fetch_wire.specs.Stepping.{says}
+use Rattle.fetch_wire.specs.Written.{lines_text, first_too_long, too_long_in}
 use Rattle.fetch_wire.specs.declared.lines.line.Line.{Line}
 use Rattle.fetch_wire.specs.declared.replies.awaited.Await.{Await}
 use Rattle.fetch_wire.specs.declared.replies.awaited.Fault.{Fault}
@@ -24,7 +25,7 @@ use Rattle.fetch_mirror.specs.GoingAlong.{GoesAlong, GoesTo}
 use Rattle.fetch_mirror.proofs.GoingAlong.{goes_on, goes_broken, goes_dead}
 use Rattle.fetch_mirror.proofs.Replies.{no_end}
 use Rattle.fetch_mirror.proofs.StagesAlong.{to_on}
-use Rattle.fetch_mirror.proofs.Written.{text_tells, text_too_long}
+use Rattle.fetch_mirror.proofs.Written.{text_says, text_tells, text_too_long}
 
 -- a server takes nothing back
 pub grows : (d : Data) → Grows (replies_of d)
@@ -124,3 +125,14 @@ pub unserved : {X E : Type 0} (d : Data) (bound : ℕ) (begun : Bool) (heard : L
     → request_at d.hash begun (lines_text lines) ≡ Err TooLong → GoesAlong bound (replies_of d) heard (asks lines awaited failed next) (lines ++ []) (Err (failed (Short 0)))
 unserved d bound begun heard lines awaited failed next whole read =
     let dead = is_dead d begun heard (lines_text lines) whole read in goes_dead bound (replies_of d) heard lines awaited failed next dead.0 dead.1
+
+-- a request that is answered by the line of a server that fails
+pub served_refused : {X E : Type 0} (d : Data) (bound : ℕ) (begun : Bool) (heard : List ℕ) (lines : List Line) (awaited : Await) (failed : Fault → E) (next : Told → Conversation X E) (asked : Asked) (line : Line) (text : List ℕ)
+    → AreWhole d.hash begun heard → request_at d.hash begun (lines_text lines) ≡ Ok (asked, []) → reply_lines d asked ≡ line ∷ [] → step_of (start_of awaited) line ≡ says text → too_long_in line ≡ None
+    → (fault : Fault) × GoesAlong bound (replies_of d) heard (asks lines awaited failed next) (lines ++ []) (Err (failed fault))
+served_refused d bound begun heard lines awaited failed next asked line text whole read is says_so fits =
+    let t = text_says step_of no_end bound (start_of awaited) line [] text says_so fits in (
+      t.0,
+      goes_broken bound (replies_of d) heard lines awaited failed next (reply_text d asked) t.0 (adds d begun heard (lines_text lines) asked whole read)
+          (ap (λ (l : List Line). told_at bound awaited (lines_text l)) is ∙ ap (told_at bound awaited) (sym (append-nil (lines_text (line ∷ [])))) ∙ t.1) t.2,
+    )

@@ -5,14 +5,16 @@ use Rattle.std.proofs.lemmas.Bool.{cases_lt}
 use Rattle.std.proofs.lemmas.List.Sums.{sum_by-cons}
 use Rattle.fetch_wire.specs.declared.lines.line.Line.{Line}
 use Rattle.fetch_wire.specs.declared.lines.line.Line.TheVariants.{Payload, Flush, Delim, End}
-use Rattle.fetch_wire.specs.declared.replies.awaited.Fault.TheVariants.{TooLong}
+use Rattle.fetch_wire.specs.declared.replies.awaited.Fault.{Fault}
+use Rattle.fetch_wire.specs.declared.replies.awaited.Fault.TheVariants.{Said, Short, TooLong}
 use Rattle.fetch_wire.specs.Bounds.{Moves, PassesBound, IsTooLong}
 use Rattle.fetch_wire.specs.Lines.{line_len}
 use Rattle.fetch_wire.specs.LineLaws.{IsLine}
 use Rattle.fetch_wire.specs.LinesTold.{Writes, Tells, lines_tell}
-use Rattle.fetch_wire.specs.Stepping.{Step, goes, ends, breaks, read_by}
+use Rattle.fetch_wire.specs.StepLaws.{line_then, read_by-step}
+use Rattle.fetch_wire.specs.Stepping.{Step, goes, ends, breaks, says, after_line, after_step, read_by}
 use Rattle.fetch_wire.specs.Written.{count_of, payload_of, line_text, lines_text, too_long_in, first_too_long}
-use Rattle.fetch_wire.specs.WrittenLaws.{written-is}
+use Rattle.fetch_wire.specs.WrittenLaws.{is-line_at, written-is}
 use Rattle.fetch_wire.proofs.ReadBack.{too_long}
 
 -- No line of a response end is read.
@@ -144,3 +146,19 @@ moving_too_long step h bound s t lines rest moves fits far = too_long step bound
   where
     from_first : {S T : Type 0} (step : S → Line → Step S T) (bound : ℕ) (s : S) (bytes : List ℕ) → Goes step bound 0 s bytes → IsTooLong step bound s bytes
     from_first step bound s bytes (lines, behind, t, writes, moves, far) = (lines, behind, t, writes, moves, subst (λ (n : ℕ). PassesBound bound n behind) (omega arith) far)
+
+-- A line that says that the server fails says so as it is written, or it passes the bound, whatever comes after.
+pub text_says : {S T : Type 0} (step : S → Line → Step S T) → HasNoEnd step → (bound : ℕ) (s : S) (line : Line) (rest text : List ℕ) → step s line ≡ says text → too_long_in line ≡ None
+    → (fault : Fault) × (read_by step bound s 0 (lines_text (line ∷ []) ++ rest) ≡ Err fault) × ((place : ℕ) → fault ≢ Short place)
+text_says {S} {T} step h bound s line rest text is fits =
+    let proper = no_end step h s line (says text) is (λ e. cc) in
+    ⊎_elim
+    (λ (far : bound < 0 + line_len line). (TooLong, too_long step bound s (lines_text (line ∷ []) ++ rest) ([], lines_text (line ∷ []) ++ rest, s, refl, refl, subst (λ (n : ℕ). PassesBound bound n (lines_text (line ∷ []) ++ rest)) (omega arith) (passes bound 0 line [] rest proper fits far)), λ place e. cc))
+    (λ (within : 0 + line_len line ≤ bound). (
+      Said text,
+      read_by-step step bound 0 s (lines_text (line ∷ []) ++ rest)
+          ∙ ap (λ x. after_line x (line_then step bound s 0)) (is-line_at bound 0 (lines_text (line ∷ []) ++ rest) rest line (written_first bound 0 line [] rest proper fits within))
+          ∙ ap (λ (x : Step S T). after_step 0 rest (λ t. read_by step bound t (0 + line_len line) rest) x) is,
+      λ place e. cc,
+    ))
+    (cases_lt bound (0 + line_len line))

@@ -12,3 +12,4 @@ pub mod Naming
 pub mod Mirroring
 pub mod Born
 pub mod Copying
+pub mod Mirrors

@@ -2,6 +2,7 @@
 
 ghost use Rattle.std.specs.Prelude.{◌≡◌, ◌≢◌, replicate, IfOk, IfErr, OnOk};
 ghost use Rattle.fetch_mirror.specs.Copying.{IsCopied, IsUncopied, fresh};
+ghost use Rattle.fetch_mirror.specs.Mirrors.{IsMirrored};
 ghost use Rattle.fetch_mirror.specs.declared.error.MirrorError.TheVariants as errors;
 ghost use Rattle.fetch_serve.specs.Servable.{IsServable, IsTrouble};
 ghost use Rattle.fetch_serve.specs.Served.{data_of};
@@ -18,7 +19,8 @@ use std::sync::Wait;
 use std::thread::Threads;
 
 /// Mirrors a repository: makes servers of these parts, and lets the workers fetch from them, as `mirror_from` does. The
-/// mirror's hash is the store's.
+/// mirror has the references under `refs/` that aren't unborn, each as its id, and all that they reach, and nothing else,
+/// however the workers' steps lie. Its hash is the store's.
 ///
 /// `Workers` comes first, exactly where there are fewer workers than one or more than eight; then `Server`, exactly where
 /// `Server::new` refuses, and then `List` and `Worker`.
@@ -30,6 +32,8 @@ pub fn run_mirror<R: Threads + Wait + Sync>(
     border: &Border,
     options: MirrorOptions,
 ) -> Result<Mirrored, MirrorError>
+    ensures mirrored { IfOk result (λ m. IsMirrored
+        (data_of store.now refs.now) options.workers options.committer m.journal m.repo) }
     ensures copied { IfOk result (λ m. IsCopied
         (data_of store.now refs.now) options.committer options.workers options.max_reply_bytes m.repo m.journal) }
     ensures refused { IfErr result (λ e. IsUncopied
