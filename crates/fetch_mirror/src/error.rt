@@ -1,5 +1,7 @@
 //! Why a server isn't mirrored.
 
+ghost use Rattle.std.specs.Prelude.{◌≡◌, IfOk};
+
 use fetch_conversation::ref_map;
 use fetch_serve::ServeError;
 use fetch_shared::SharedError;
@@ -8,7 +10,6 @@ use std::alloc::AllocError;
 use thiserror::Error;
 
 /// Why a server isn't mirrored.
-// Not copied: it is told once, of one mirror.
 #[derive(Debug, Drop, Error)]
 pub enum MirrorError {
     /// There are fewer workers than one, or more than eight.
@@ -34,6 +35,24 @@ pub enum MirrorError {
     /// Memory ran out.
     #[error("out of memory")]
     NoMemory,
+}
+
+impl MirrorError {
+    /// A copy of the error.
+    pub fn try_clone(&self) -> Result<MirrorError, NoMemory>
+        ensures { IfOk result (λ copy. copy ≡ self.now) }
+    {
+        match self {
+            MirrorError::Workers { count } => Ok(MirrorError::Workers { count: *count }),
+            MirrorError::Server(cause) => Ok(MirrorError::Server(cause.try_clone()?)),
+            MirrorError::List(cause) => Ok(MirrorError::List(cause.try_clone()?)),
+            MirrorError::Worker { index, error } => Ok(MirrorError::Worker {
+                index: *index,
+                error: error.try_clone()?,
+            }),
+            MirrorError::NoMemory => Ok(MirrorError::NoMemory),
+        }
+    }
 }
 
 impl From<NoMemory> for MirrorError {

@@ -1,13 +1,14 @@
 //! How a mirror is made, and what it is.
 
+ghost use Rattle.std.specs.Prelude.{◌≡◌, IfOk};
+
 use fetch_refs::Signature;
 use fetch_remote::Repository;
 use fetch_shared::Entry;
-use fetch_store::List;
+use fetch_store::{List, NoMemory};
 use fetch_wire::ReplyBound;
 
 /// How a mirror is made.
-// Not copied: its parts are copied for each worker.
 #[derive(Debug, Drop)]
 pub struct MirrorOptions {
     /// How many fetch at once: 1 to 8.
@@ -16,6 +17,19 @@ pub struct MirrorOptions {
     pub committer: Signature,
     /// The most bytes of one reply.
     pub max_reply_bytes: ReplyBound,
+}
+
+impl MirrorOptions {
+    /// A copy of the options.
+    pub fn try_clone(&self) -> Result<MirrorOptions, NoMemory>
+        ensures { IfOk result (λ copy. copy ≡ self.now) }
+    {
+        Ok(MirrorOptions {
+            workers: self.workers,
+            committer: self.committer.try_clone()?,
+            max_reply_bytes: self.max_reply_bytes,
+        })
+    }
 }
 
 /// A mirror, and how it came to be.
