@@ -23,6 +23,7 @@ pub mod PackAlong
 pub mod MirrorAlong
 pub mod AcceptedTerms
 pub mod ListedSo
+pub mod Specified
 pub mod Lent
 pub mod Manned
 pub mod MirroredSo

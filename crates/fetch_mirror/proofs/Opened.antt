@@ -1,8 +1,12 @@
 -- The empty mirror is what its parts make.
-use Rattle.std.proofs.Common.{◌≡◌, Bool, false, List, [], Some, None, ◌∷◌, refl, ap, ◌∙◌, codes}
+use Rattle.std.proofs.Common.{◌≡◌, Option, Bool, false, List, [], Some, None, ◌∷◌, refl, ap, ◌∙◌, codes}
 use Rattle.std.specs.FinMap as map
 use Rattle.std.specs.FinSet as set
+use Rattle.fetch_store.specs.Closed.{IsClosed}
+use Rattle.fetch_store.specs.Missing.{unclosed}
+use Rattle.fetch_store.specs.Stores.{id_cmp}
 use Rattle.fetch_store.specs.declared.id.Kind.{Kind}
+use Rattle.fetch_store.proofs.Unclosed.{closed_none}
 use Rattle.fetch_config.specs.Lines.{line_of, sections_of}
 use Rattle.fetch_config.specs.Lookups.{boolean_of, explicit, last_or, values_of}
 use Rattle.fetch_config.specs.Values.{before_comment, subsection_of, unquoted, value_of}
@@ -11,6 +15,7 @@ use Rattle.fetch_refs.specs.declared.log.Signature.{Signature}
 use Rattle.fetch_remote.specs.Repositories.{setup_in, setup_of, state_in, state_of}
 use Rattle.fetch_remote.specs.RepositoryValues.{RepositoryValue, logging_of}
 use Rattle.fetch_remote.specs.declared.repository.Parts.{Parts}
+use Rattle.fetch_shared.specs.Machine.{held}
 use Rattle.fetch_mirror.specs.Opening.{bare_setup, empty_mirror, empty_state}
 use Rattle.fetch_mirror.specs.Settings.{config_from, config_text, own_meta}
 use Rattle.fetch_mirror.proofs.NoopRead.{one_section, section}
@@ -50,3 +55,16 @@ opened_so kind committer repo state setup =
     let same : repo.setup ≡ bare_setup kind committer = cc (setup, set_up kind committer) in
     let there : repo.state ≡ empty_state kind = state in
     λ i. record { state = there i; setup = same i }
+
+-- the empty mirror is closed
+nothing_there : {X : Type 0} (o : Option X) (x : X) → o ≡ None → o ≡ Some x → ⊥
+nothing_there o x none some = absurd (cc (none, some))
+
+empty_closed : (kind : Kind) (committer : Signature) → IsClosed (held (empty_mirror kind committer))
+empty_closed kind committer = record {
+  linked = λ id o is. absurd (nothing_there _ o (map.get-empty id_cmp id) is);
+  bordered = λ id is. let none = set.contains-empty id_cmp id in absurd cc;
+}
+
+pub none_unclosed : (kind : Kind) (committer : Signature) (repo : RepositoryValue) → repo ≡ empty_mirror kind committer → unclosed (held repo) ≡ []
+none_unclosed kind committer repo is = ap (λ (r : RepositoryValue). unclosed (held r)) is ∙ closed_none (held (empty_mirror kind committer)) (empty_closed kind committer)

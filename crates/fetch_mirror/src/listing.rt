@@ -1,12 +1,13 @@
 //! The names that a server lists.
 
-ghost use Rattle.std.specs.Prelude.{◌≡◌, ◌∷◌, ◌++◌, [], false, is_some, IfOk, IfErr, OnOk};
+ghost use Rattle.std.specs.Prelude.{◌≡◌, ◌≢◌, ◌∷◌, ◌++◌, [], false, is_some, IfOk, IfErr, OnOk};
 ghost use Rattle.fetch_wire.specs.References.{id_in};
 ghost use Rattle.std.specs.List.{filter_map};
 ghost use Rattle.fetch_conversation.specs.Blame.{BlamesPeer, is_told};
 ghost use Rattle.fetch_conversation.specs.Errors.{is_free_listing, is_interrupted, is_transport};
 ghost use Rattle.fetch_conversation.specs.Conversation.{Converses};
 ghost use Rattle.fetch_conversation.specs.ListStage.{answer_shown, inquiry_stage, left_by};
+ghost use Rattle.fetch_conversation.specs.declared.prepare.Error.TheVariants as refusals;
 ghost use Rattle.fetch_mirror.specs.Naming as spec;
 ghost use Rattle.fetch_mirror.specs.Naming.{everything, inquiry_by, own_name};
 
@@ -28,7 +29,7 @@ pub(crate) fn map_options(alloc: Global, bound: ReplyBound) -> ref_map::Options
     options
 }
 
-/// What a server lists, asked for all that is under `refs/`. Nothing interrupts it.
+/// What a server lists, asked for all that is under `refs/`. Nothing interrupts it, and a refspec is given.
 pub(crate) fn list<P: Peer>(
     alloc: Global,
     lister: &mut P,
@@ -38,6 +39,7 @@ pub(crate) fn list<P: Peer>(
         (inquiry_stage bound (inquiry_by bound)) (answer_shown result) }
     ensures peer { BlamesPeer (P.faults lister.old) (P.faults lister.new) (is_told is_transport result) }
     ensures never { IfErr result (λ e. is_interrupted e ≡ false) }
+    ensures specified { IfErr result (λ e. e ≢ refusals.MissingRefSpecs) }
 {
     let specs = [everything(alloc)?];
     let inquiry = Inquiry {

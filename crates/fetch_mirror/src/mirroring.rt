@@ -1,6 +1,9 @@
 //! A mirror of what any peers tell.
 
-ghost use Rattle.std.specs.Prelude.{◌≡◌, ◌↔◌, ◌≤◌, None, length, IfOk, IfErr, IfSome, IsTrue, OnOk};
+ghost use Rattle.std.specs.Prelude.{◌≡◌, ◌↔◌, ◌≤◌, [], None, length, IfOk, IfErr, IfSome, IsTrue, OnOk};
+ghost use Rattle.fetch_race.specs.Seats.{IsRest};
+ghost use Rattle.fetch_shared.specs.Machine.{held};
+ghost use Rattle.fetch_store.specs.Missing.{unclosed};
 ghost use Rattle.fetch_mirror.specs.Mirroring.{AreUnrefused, HasListed, HasMirrored, IsFew, IsRefusalOf, IsToldOf, IsUnmirrored, IsUnnamed};
 ghost use Rattle.fetch_mirror.specs.Mirroring.{IsUnrefused, TellsFirst};
 ghost use Rattle.fetch_race.specs.Seats.{answer_in};
@@ -13,7 +16,7 @@ use crate::working::{fetch_in, workers_for};
 use fetch_conversation::prepare;
 use fetch_race::{Racer, opened};
 use fetch_remote::Repository;
-use fetch_shared::{Entry, SharedError};
+use fetch_shared::{Entry, Pass, SharedError, SharedRepository};
 use fetch_specs::FullName;
 use fetch_store::{Kind, List, NoMemory};
 use fetch_wire::{Peer, ReplyBound};
@@ -81,14 +84,24 @@ pub fn mirror_from<R: Threads + Wait + Sync, P: Peer + Send>(
     let names = listed_names(alloc, lister, max_reply_bytes)?;
     let repo = empty_mirror(alloc, kind, committer)?;
     let mut racers = workers_for(alloc, &names, workers, max_reply_bytes)?;
-    // The empty repository is closed, so that memory alone may refuse it.
-    let (shared, pass) = match opened(alloc, repo) {
-        Ok(parts) => parts,
-        Err(_) => return Err(MirrorError::NoMemory),
-    };
+    let (shared, pass) = share_closed(alloc, repo)?;
     let (asked, _) = peers.split_at_mut(racers.len());
     let (repo, journal) = fetch_in(rt, alloc, shared, pass, racers.as_mut_slice(), asked);
     told(repo, List::from(journal), racers.as_slice())
+}
+
+/// Shares a closed repository, and gives the pass that holds every number. Memory alone may refuse it.
+fn share_closed(alloc: Global, repo: Repository) -> Result<(SharedRepository, Pass), NoMemory>
+    requires closed { unclosed (held repo) ≡ [] }
+    ensures opening { IfOk result (λ r. r.0.opening ≡ repo) }
+    ensures all { IfOk result (λ r. IsRest r.0 0 r.1) }
+{
+    match opened(alloc, repo) {
+        Ok(parts) => Ok(parts),
+        Err(SharedError::NoMemory) => Err(NoMemory),
+        // A closed repository is shared.
+        Err(_) => unreachable!(),
+    }
 }
 
 /// Whether there are one to eight workers.
@@ -113,9 +126,9 @@ fn listed_names<P: Peer>(
     match list(alloc, lister, bound) {
         Ok(listed) => Ok(names_of(alloc, listed.ref_map.remote_refs.as_slice())?),
         Err(prepare::Error::RefMap(e)) => Err(MirrorError::List(e)),
-        Err(prepare::Error::MissingRefSpecs | prepare::Error::NoMemory) => {
-            Err(MirrorError::NoMemory)
-        }
+        Err(prepare::Error::NoMemory) => Err(MirrorError::NoMemory),
+        // A refspec is given.
+        Err(prepare::Error::MissingRefSpecs) => unreachable!(),
     }
 }
 
