@@ -14,9 +14,10 @@ ghost use Rattle.fetch_conversation.specs.declared.prepare.Error.TheVariants as 
 ghost use Rattle.fetch_conversation.specs.declared.ref_map.Error.TheVariants as ref_map_errors;
 
 use crate::asking::{copied_specs, joined_specs, prefixes_for, specs_with_tags};
-use crate::drive::drive;
+use crate::drive::{drive, receive_buffer};
 use crate::mapped::map_refs;
 use crate::prepare;
+use crate::progress::NoProgress;
 use crate::ref_map::Options;
 use fetch_specs::{RefSpec, Tags};
 use fetch_store::List;
@@ -189,7 +190,8 @@ pub fn inquire<P: Peer, I: Interrupt>(
     let extra = specs_with_tags(alloc, inquiry.tags, options.extra_refspecs.as_slice())?;
     let specs = joined_specs(alloc, inquiry.specs, &extra)?;
     let mut session = open(alloc, inquiry, &options, &specs)?;
-    drive(alloc, &mut session, peer, interrupt)?;
+    let mut buffer = receive_buffer(alloc)?;
+    drive(&mut session, peer, interrupt, &mut NoProgress, &mut buffer)?;
     map_listed(alloc, inquiry, &options, session, extra, &specs)
 }
 

@@ -27,3 +27,5 @@ pub mod SpelledPack
 pub mod SpelledReply
 pub mod SpelledNames
 pub mod SpelledAdvertisement
+pub mod RepliesFed
+pub mod InWords

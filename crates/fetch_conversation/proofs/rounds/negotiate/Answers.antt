@@ -43,6 +43,14 @@ returns-in_err-course-clause-held g c =
     let p = err_from_is_err_and c.from_residual-in_err-course.result c.from_residual-in_err-course.ensures.1 in
     rw (p.1, p.2) (goes_nowhere c.args.listed.now.session.intake.bound t graph algorithm g.P.Peer.answers (g.P.Peer.told c.args.peer.now) (pending_of c.args.listed.now) (pending_of c.args.listed.now) (suc (map.len graph)) (first_course algorithm c.args.terms.now.view.now) errors.NoMemory refl refl)
 
+pub returns-in_err-bytes-clause-held : goal.returns-in_err-bytes-clause-held
+returns-in_err-bytes-clause-held g c =
+    let t : TermsValue = terms_told (shown c.args.listed.now) c.args.terms.now in
+    let graph = g.O.Objects.graph c.args.objects.now in
+    let algorithm = algorithm_in c.args.terms.now.settings.now in
+    let p = err_from_is_err_and c.from_residual-in_err-bytes.result c.from_residual-in_err-bytes.ensures.1 in
+    rw (p.1, p.2) (goes_nowhere c.args.listed.now.session.intake.bound t graph algorithm g.P.Peer.answers (g.P.Peer.told c.args.peer.now) (pending_of c.args.listed.now) (pending_of c.args.listed.now) (suc (map.len graph)) (first_course algorithm c.args.terms.now.view.now) errors.NoMemory refl refl)
+
 pub returns-in_err-hold_round-clause-held : goal.returns-in_err-hold_round-clause-held
 returns-in_err-hold_round-clause-held g c =
     let bound = c.args.listed.now.session.intake.bound in
