@@ -1,10 +1,11 @@
-//! Fetches or checks what scenes of its input say, runs the program over them, and asks repositories of their remotes and
-//! branches, and writes what came of it.
+//! Fetches or checks what scenes of its input say, runs the program over them, fetches from servers in memory, and asks
+//! repositories of their remotes and branches, and writes what came of it.
 #![tactic(auto)]
 
 mod faults;
 mod remotes;
 mod scenes;
+mod served;
 
 use fetch_store::NoMemory;
 use rows::{Row, end, read_input, rows_of, say};
@@ -26,6 +27,8 @@ fn tell_row(
         scenes::tell_words(rt, alloc, row.about, out)
     } else if row.whose == b"fault".as_slice() {
         faults::tell(rt, alloc, row, out)
+    } else if row.whose == b"served".as_slice() {
+        served::tell(rt, alloc, row, out)
     } else if row.whose == b"remote".as_slice() {
         remotes::tell(alloc, row.lines, out)
     } else {
