@@ -56,10 +56,7 @@ class Repositories:
     def scene(self, seed, number):
         """The scene of a server."""
         random = Random(f"scene {seed} {number}")
-        state = self._maker(random).state()
-        if random.random() < 0.7:
-            state = harmed(random, state)
-        scene = scene_of(state)
+        scene = self._served(random, harm=0.7)
         for _ in range(random.choice((0, 0, 0, 1, 1, 2))):
             scene = random.choice((in_bytes, in_lines, in_lines, in_own_pack))(random, scene, scene)
         return scene
@@ -67,13 +64,15 @@ class Repositories:
     def mirror(self, seed, number):
         """How many workers there are, and the scene of a server."""
         random = Random(f"mirror {seed} {number}")
-        state = self._maker(random).state()
-        if random.random() < 0.3:
-            state = harmed(random, state)
-        scene = scene_of(state)
+        scene = self._served(random, harm=0.3)
         if random.random() < 0.2:
             scene = random.choice((in_bytes, in_lines, in_own_pack))(random, scene, scene)
         return random.choice(WORKERS), scene
+
+    def _served(self, random, harm):
+        """The scene of a server, which is harmed as often as that."""
+        state = self._maker(random).state()
+        return scene_of(harmed(random, state) if random.random() < harm else state)
 
     def _maker(self, random):
         maker = Maker("", str(random.random()), most=8)
