@@ -1,5 +1,5 @@
 -- The report of a mirror: what it holds, whatever the order in which its workers brought it.
-use Rattle.std.specs.Prelude.{◌≡◌, ◌↔◌, ℕ, List, ◌++◌, codes, map, Contains, Some}
+use Rattle.std.specs.Prelude.{◌≡◌, ◌↔◌, ℕ, List, ◌++◌, codes, Contains, Some}
 use Rattle.std.specs.FinMap as finmap
 use Rattle.std.specs.FinSet as set
 use Rattle.std.specs.List.{flat_map}
@@ -9,10 +9,9 @@ use Rattle.fetch_store.specs.Stores.{id_cmp}
 use Rattle.fetch_store.specs.declared.id.ObjectId.{ObjectId}
 use Rattle.fetch_refs.specs.Names.{Names}
 use Rattle.fetch_refs.specs.declared.target.Target.{Target}
-use Rattle.fetch_refs.specs.declared.target.Target.TheVariants.{Object}
 use Rattle.fetch_remote.specs.Repositories.{State}
 use Rattle.fetch_serve.specs.Served.{Data}
-use Rattle.fetch_mirror.specs.Born.{born_of}
+use Rattle.fetch_mirror.specs.Mirrors.{born_ids, mirrored_of}
 use Rattle.fetch_cli.specs.Report.{ref_lines}
 use Rattle.fetch_cli.specs.ReportLines.{id_line}
 
@@ -22,17 +21,9 @@ mirror_text s = ref_lines s.refs.names ++ flat_map id_line (finmap.keys s.object
 
 -- ---- what a whole mirror is told as
 
--- the born references under `refs/`, each as its id
-abbrev pub born_targets : Data → List (List ℕ × Target)
-born_targets d = map (λ e. (e.0, Object e.1)) (born_of d)
-
--- their ids
-abbrev pub born_ids : Data → List ObjectId
-born_ids d = map (λ e. e.1) (born_of d)
-
 -- These are the born references of a repository, each as its id.
 abbrev pub AreBorn : Data → Names → Type 0
-AreBorn d names = (name : List ℕ) (target : Target) → (finmap.get names name ≡ Some target) ↔ Contains (born_targets d) (name, target)
+AreBorn d names = (name : List ℕ) (target : Target) → (finmap.get names name ≡ Some target) ↔ Contains (mirrored_of d) (name, target)
 
 -- The born references of a repository reach this id.
 abbrev pub IsReached : Data → ObjectId → Type 0

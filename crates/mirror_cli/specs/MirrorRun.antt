@@ -14,11 +14,12 @@ use Rattle.fetch_cli.specs.declared.program.server_scene.ServerScene.{ServerScen
 use Rattle.fetch_serve.specs.Served.{Data}
 use Rattle.fetch_shared.specs.declared.entry.Entry.{Entry}
 use Rattle.fetch_mirror.specs.Copying.{IsCopied, IsUncopied}
+use Rattle.fetch_mirror.specs.Mirrors.{IsMirrored}
 use Rattle.fetch_mirror.specs.declared.error.MirrorError.{MirrorError}
 use Rattle.fetch_mirror.specs.declared.error.MirrorError.TheVariants as errors
 use Rattle.fetch_mirror.specs.declared.options.MirrorOptions.{MirrorOptions}
 use Rattle.fetch_mirror.specs.declared.options.Mirrored.{Mirrored}
-use Rattle.mirror_cli.specs.MirrorReports.{mirror_text}
+use Rattle.mirror_cli.specs.MirrorReports.{IsReportOf, mirror_text}
 use Rattle.mirror_cli.specs.MirrorTokens.{mirror_token}
 use Rattle.mirror_cli.specs.MirrorWords.{mirror_asked}
 
@@ -43,12 +44,14 @@ abbrev pub IsTold : Result Mirrored MirrorError → ℕ → List ℕ → Type 0
 IsTold (Ok m) status text = Are 0 (mirror_text m.repo.state) status text
 IsTold (Err e) status text = (e ≢ errors.NoMemory) × Are 1 (refused_line (mirror_token e)) status text
 
--- The repository was mirrored, and the report tells what the mirror holds.
+-- The repository was mirrored, and the report tells what the mirror holds: the one report of its repository's mirror.
 pub record TellsMirror (workers : ℕ) (s : ServerScene) (status : ℕ) (text : List ℕ) : Type 0 where
   pub repo : RepositoryValue
   pub journal : List Entry
   pub copied : IsCopied (data_in s) committer workers reply_bound repo journal
+  pub mirrored : IsMirrored (data_in s) workers committer journal repo
   pub report : Are 0 (mirror_text repo.state) status text
+  pub exact : IsReportOf (data_in s) text
 
 -- It wasn't, and the report tells why.
 pub record TellsRefusal (workers : ℕ) (s : ServerScene) (status : ℕ) (text : List ℕ) : Type 0 where

@@ -3,6 +3,7 @@
 ghost use Rattle.std.specs.Prelude.{◌≡◌, IfOk, IfErr};
 ghost use Rattle.fetch_store.specs.Stores.{AreOf};
 ghost use Rattle.fetch_mirror.specs.Copying.{IsCopied, IsUncopied};
+ghost use Rattle.fetch_mirror.specs.Mirrors.{IsMirrored};
 ghost use Rattle.fetch_remote.specs.Repositories.{setup_of, state_of};
 ghost use Rattle.mirror_cli.specs.MirrorRun.{IsMirrorOf, IsTold, served_in, mirror_options};
 
@@ -37,6 +38,8 @@ fn copied<R: Threads + Wait + Sync>(
     repo: &Repository,
     options: MirrorOptions,
 ) -> Result<Mirrored, MirrorError>
+    ensures mirrored { IfOk result (λ m. IsMirrored
+        (served_in (state_of repo.now)) options.workers options.committer m.journal m.repo) }
     ensures copied { IfOk result (λ m. IsCopied
         (served_in (state_of repo.now)) options.committer options.workers options.max_reply_bytes m.repo m.journal) }
     ensures refused { IfErr result (λ e. IsUncopied (served_in (state_of repo.now)) (state_of repo.now).border

@@ -1,6 +1,12 @@
 use Rattle.fetch_remote.specs.Repositories.{state_of}
-use Rattle.mirror_cli.proofs.Mirrors.{copied_so, served_so, uncopied_so}
+use Rattle.mirror_cli.proofs.Mirrors.{copied_so, mirrored_so, served_so, uncopied_so}
 use Rattle.mirror_cli.proofs.mirroring.copied.Goals as goal
+
+pub returns-clause-mirrored : goal.returns-clause-mirrored
+returns-clause-mirrored g c =
+    let options = c.args.options in
+    let served = served_so (state_of c.args.repo.now) c.store.result.now c.refs.result.now c.store.ensures.hash c.store.ensures.objects c.refs.ensures in
+    mirrored_so _ _ options.committer options.workers c.run_mirror.result served c.run_mirror.ensures.mirrored
 
 pub returns-clause-copied : goal.returns-clause-copied
 returns-clause-copied g c =

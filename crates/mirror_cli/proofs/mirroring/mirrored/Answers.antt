@@ -10,5 +10,5 @@ returns g c =
     IfOk-weaker c.told.result (λ x. IsTold c.copied-mirror.result x.0 x.1.items) (λ x. IsMirrorOf workers scene x.0 x.1.items)
     (λ x told. mirror_told workers scene c.in_ok-repo.repo c.in_ok-options.options c.copied-mirror.result
     c.in_ok-repo.ensures.state c.in_ok-repo.ensures.setup c.in_ok-options.ensures
-    c.copied-mirror.ensures.copied c.copied-mirror.ensures.refused x.0 x.1.items told)
+    c.copied-mirror.ensures.mirrored c.copied-mirror.ensures.copied c.copied-mirror.ensures.refused x.0 x.1.items told)
     c.told.ensures
