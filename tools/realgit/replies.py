@@ -5,6 +5,7 @@ Each reason is named by its title in docs/DIFFERENCES.md.
 
 from dataclasses import dataclass, field
 
+from realgit.depths import History, named
 from realgit.linking import links_of, reached, tags_from
 from realgit.lines import MalformedLine, Mark, placed_lines, text_of
 from realgit.plainpack import MalformedPack, Object, read_pack, write_pack
@@ -16,7 +17,13 @@ READY = "An end of the rounds"
 NO_HAVES = "A request without haves"
 EMPTY_INFO = "An empty `shallow-info`"
 AGAIN = "Objects that come again"
-REASONS = (CHAIN, NOT_OFFERED, READY, NO_HAVES, EMPTY_INFO, AGAIN)
+END = "A commit at the depth"
+FAR = "A border that the wants don't lead to"
+OUTSIDE = "A want outside the limits"
+NO_DEPTH = "A depth that Git refuses"
+REASONS = (CHAIN, NOT_OFFERED, READY, NO_HAVES, EMPTY_INFO, AGAIN, END, FAR, OUTSIDE, NO_DEPTH)
+# What Git says of depth lines that it refuses.
+REFUSED_DEPTHS = ("Invalid deepen", "ambiguous deepen-not", "no commits selected for shallow requests")
 ACKNOWLEDGED, SHALLOW, PACK, LAST = "acknowledgments", "shallow-info", "packfile", "ready"
 NONE = "NAK"
 PACK_WORDS = (b"plain-pack", b"plain-pack-2")
@@ -39,12 +46,13 @@ class Reply:
 
 @dataclass
 class Asked:
-    """A fetch request with the repository's objects, the ids that it offers, and the client's objects."""
+    """A fetch request with the repository's objects, the ids that it offers, the client's objects, and the ids of references."""
 
     request: Fetch
     stored: dict[str, Object]
     offered: set[str]
     client: dict[str, Object] = field(default_factory=dict)
+    references: dict[str, list[str]] = field(default_factory=dict)
 
     def known(self):
         """The haves that are stored, in the order of the request."""
@@ -53,6 +61,24 @@ class Asked:
     def held(self):
         """What the client has by what it told."""
         return reached(self.stored, self.known(), self.request.border)
+
+    def kept(self, history):
+        """The commits that depth lines keep."""
+        return history.kept(self.request.depth, self.request.wants, self.request.border, self._ids)
+
+    def kept_by_git(self, history):
+        """The same within limits, as Git has it."""
+        return history.kept_by_git(self.request.depth, self.request.wants, self._ids)
+
+    def _ids(self, name):
+        """The ids of the references that a name stands for."""
+        return [digits for full in named(name, self.references) for digits in self.references[full]]
+
+    def border(self, lines):
+        """The border that the client has behind these lines."""
+        moved = [line.split(" ") for line in lines or []]
+        come, left = ({digits for word, digits in moved if word == kind} for kind in ("shallow", "unshallow"))
+        return (set(self.request.border) | come) - left
 
 
 def read_reply(said):
@@ -136,6 +162,10 @@ def fetches(real, ours, asked):
     except MalformedLine as error:
         yield f"a line at {error} that is none", None
         return
+    if reply.error is None and _is_refused_depth(theirs, asked):
+        yield f"a depth: Git has {theirs.error}", NO_DEPTH
+        yield from _own_parts(reply, asked)
+        return
     if reply.error is not None or theirs.error is not None:
         yield from _errors(theirs, reply, asked)
         return
@@ -155,13 +185,54 @@ def _errors(theirs, reply, asked):
     yield f"a want: Git has {theirs.error or 'a reply'}, the server {reply.error}", NOT_OFFERED if is_told else None
 
 
+def _is_refused_depth(theirs, asked):
+    """Whether Git refuses the depth lines of a request."""
+    return asked.request.depth is not None and theirs.error is not None and any(each in theirs.error for each in REFUSED_DEPTHS)
+
+
+def _own_parts(reply, asked):
+    """What isn't right in the shallow-info of the engine's server."""
+    if asked.request.depth is None or not asked.request.done:
+        return
+    history = History(asked.stored)
+    moves = history.moves(asked.kept(history), asked.request.border)
+    if reply.border != moves:
+        yield f"shallow-info: the server has {reply.border} in place of {moves}", None
+
+
+def _moves(theirs, reply, asked):
+    """Where the lines of shallow-info differ. Git's come in no order."""
+    if theirs.border == [] and reply.border is None and asked.request.border:
+        yield "Git writes an empty shallow-info", EMPTY_INFO
+        return
+    if not asked.request.done:
+        return
+    if asked.request.depth is None or theirs.border is None or reply.border is None:
+        if theirs.border != reply.border:
+            yield f"shallow-info: Git has {theirs.border}, the server {reply.border}", None
+        return
+    yield from _own_parts(reply, asked)
+    history, told = History(asked.stored), set(theirs.border)
+    kept = asked.kept(history)
+    for line in sorted(told ^ set(reply.border)):
+        whose = "Git" if line in told else "the server"
+        yield f"shallow-info: {line} is told by {whose} alone", _why_moved(line, asked, history, kept, told)
+
+
+def _why_moved(line, asked, history, kept, told):
+    """The reason why one of the two moves a commit and the other doesn't."""
+    digits, depth, border = line.split(" ")[1], asked.request.depth, asked.request.border
+    if depth.deepen is None:
+        return OUTSIDE if told == set(history.moves(asked.kept_by_git(history), border)) else None
+    if depth.relative and not kept.issuperset(set(border) & history.parents.keys()):
+        return FAR
+    return END if digits in kept and kept.issuperset(history.parents[digits]) else None
+
+
 def _parts(theirs, reply, asked):
     """Where the parts before the packs differ."""
     request = asked.request
-    if theirs.border == [] and reply.border is None and request.border:
-        yield "Git writes an empty shallow-info", EMPTY_INFO
-    elif theirs.border != reply.border:
-        yield f"shallow-info: Git has {theirs.border}, the server {reply.border}", None
+    yield from _moves(theirs, reply, asked)
     if reply.is_ready or (reply.pack is None) == request.done or (reply.acknowledged is None) != request.done:
         yield f"parts that weren't asked for: {reply}", None
     if theirs.acknowledged is None and not request.done and not request.haves:
@@ -184,7 +255,7 @@ def _packs(theirs, reply, asked):
     if write_pack([sent[digits] for digits in sorted(sent)], version, hash_name) != reply.pack:
         yield "a pack that isn't its objects, each once, by ascending id", None
     stored = asked.client | sent
-    lacking = reached(stored, [*asked.request.wants, *sent], asked.request.border) - stored.keys()
+    lacking = reached(stored, [*asked.request.wants, *sent], asked.border(reply.border)) - stored.keys()
     if lacking:
         yield f"the client lacks {sorted(lacking)}", None
     if sent.keys() - real:

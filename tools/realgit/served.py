@@ -4,6 +4,7 @@ import os
 from dataclasses import dataclass, field
 from random import Random
 
+from realgit.depths import Depth
 from realgit.gitpack import store
 from realgit.lines import Mark, text_line
 from realgit.linking import links_of, reached, tags_from
@@ -112,12 +113,13 @@ class Fetch:
     wants: list[str]
     haves: list[str]
     done: bool
+    depth: Depth | None = None
 
     def lines(self):
         """The lines of the request without its flush."""
         words = [self.version, *(["include-tag"] if self.include_tag else []), *(f"shallow {each}" for each in self.border),
-                 *(f"want {each}" for each in self.wants), *(f"have {each}" for each in self.haves),
-                 *(["done"] if self.done else [])]
+                 *(self.depth.words() if self.depth else []), *(f"want {each}" for each in self.wants),
+                 *(f"have {each}" for each in self.haves), *(["done"] if self.done else [])]
         return [*front("fetch", self.hash_name), *map(text_line, words)]
 
 
@@ -227,7 +229,19 @@ class Maker:
         same = self.hash_name, self.random.choice(VERSIONS), self._chance(0.6), client.border, wants
         rounds = self.random.randint(0, 2) if client.haves else self._chance(0.1)
         ends = sorted(self.random.randint(0, len(client.haves)) for _ in range(rounds))
-        return [*(Fetch(*same, client.haves[:end], False) for end in ends), Fetch(*same, client.haves, True)]
+        depth = self._depth(client) if self._chance(1 / 3) else None
+        return [*(Fetch(*same, client.haves[:end], False, depth) for end in ends), Fetch(*same, client.haves, True, depth)]
+
+    def _depth(self, client):
+        """How deep the history is to be."""
+        if client.border and self._chance(0.5):
+            return Depth(deepen=self.random.choice([0, 1, 1, 2, 3, 100]), relative=True)
+        if self._chance(0.5):
+            return Depth(deepen=self.random.choice([1, 1, 2, 2, 3, 5, 100]))
+        limit = self.random.choice(["since", "since", "not", "not", "both"])
+        since = 1_600_000_000 + 60 * self.random.randint(0, len(self.growth.commits)) if limit != "not" else None
+        names = [*self.references, *(name.split("/", 2)[2] for name in self.references), "none"]
+        return Depth(since=since, excluded=self.random.sample(names, self.random.randint(1, 2)) if limit != "since" else [])
 
     def _wants(self):
         """Ids of references, what tags lead to among them, and rarely one that no reference has."""

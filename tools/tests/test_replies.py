@@ -6,10 +6,11 @@ import unittest
 from random import Random
 
 from common import TOOLS
+from realgit.depths import Depth, History, named
 from realgit.lines import Mark, encoded
 from realgit.linking import links_of, reached
 from realgit.plainpack import write_pack
-from realgit.replies import AGAIN, CHAIN, NO_HAVES, NOT_OFFERED, READY, REASONS, Asked, fetches, greetings, listings
+from realgit.replies import AGAIN, CHAIN, END, FAR, NO_DEPTH, NO_HAVES, NOT_OFFERED, READY, REASONS, Asked, fetches, greetings, listings
 from realgit.rowserver import escaped, row_of
 from realgit.served import Fetch, Growth, Maker
 from realgit.trouble import read_file
@@ -78,10 +79,68 @@ class Replies(unittest.TestCase):
         more, less = said(b"version 2\n", b"agent=git\n", b"fetch=shallow filter\n"), said(b"version 2\n", b"fetch=shallow\n")
         self.assertEqual((list(greetings(more, less)), [reason for _, reason in greetings(less, more)]), ([], [None]))
 
+    def test_moves_of_the_border(self):
+        stored, pack = self.growth.objects, self.pack(self.growth.objects.keys() - {self.other}).removesuffix(b"0000")
+        moved = {word: said(b"shallow-info\n", *(f"{line}\n".encode() for line in lines)).removesuffix(b"0000") + b"0001" + pack + b"0000"
+                 for word, lines in (("none", []), ("first", [f"shallow {self.first}"]), ("second", [f"shallow {self.second}"]))}
+        asked = Asked(Fetch("sha1", "plain-pack-2", False, [], [self.second], [], True, Depth(deepen=2)), stored, {self.second})
+        self.assertEqual(self.reasons(moved["none"], moved["none"], asked), [])
+        self.assertEqual(self.reasons(moved["first"], moved["none"], asked), [END])
+        self.assertIn(None, self.reasons(moved["none"], moved["first"], asked))
+        self.assertIn(None, self.reasons(moved["second"], moved["second"], asked))
+        asked.request.depth, asked.request.border = Depth(deepen=1, relative=True), [self.second]
+        asked.request.wants = [self.first]
+        self.assertEqual(self.reasons(moved["second"], moved["none"], asked), [FAR])
+        self.assertEqual(self.reasons(said(b"ERR upload-pack: Invalid deepen: 0\n"), moved["none"], asked), [NO_DEPTH])
+
     def test_reasons_are_titles_of_the_documents(self):
         text = read_file(os.path.join(TOOLS, "..", "docs", "DIFFERENCES.md")).decode()
         for title in REASONS:
             self.assertIn(f"**{title}**", text)
+
+
+class Depths(unittest.TestCase):
+    """A line of four commits, with another on the second."""
+
+    def setUp(self):
+        growth = Growth(Random("depths"), "sha1")
+        self.one = growth.commit([])
+        self.two = growth.commit([self.one])
+        self.three = growth.commit([self.two])
+        self.four = growth.commit([self.three])
+        self.side = growth.commit([self.two])
+        self.tag = growth.tag("v1", self.four)
+        self.history = History(growth.objects)
+
+    def kept(self, depth, wants=None, border=(), ids=None):
+        return self.history.kept(depth, wants or [self.four], border, lambda name: (ids or {}).get(name, []))
+
+    def test_counts(self):
+        self.assertEqual(self.kept(Depth(deepen=1), [self.tag]), {self.four})
+        self.assertEqual(self.kept(Depth(deepen=2)), {self.four, self.three})
+        self.assertEqual(self.kept(Depth(deepen=1, relative=True), border=[self.three]), {self.four, self.three, self.two})
+        self.assertEqual(self.kept(Depth(deepen=0, relative=True), border=[self.three]), {self.four, self.three})
+
+    def test_limits(self):
+        since = self.history.seconds[self.three]
+        self.history.seconds |= {self.one: since - 2, self.two: since - 1, self.four: since + 1}
+        self.assertEqual(self.kept(Depth(since=since)), {self.four, self.three})
+        self.assertEqual(self.kept(Depth(since=since + 9)), {self.four})
+        self.assertEqual(self.kept(Depth(excluded=["side", "none"]), ids={"side": [self.side]}), {self.four, self.three})
+
+    def test_moves(self):
+        kept = {self.four, self.three}
+        self.assertEqual(self.history.moves(kept, [self.four]), [f"shallow {self.three}", f"unshallow {self.four}"])
+        self.assertEqual(self.history.moves({self.one}, []), [])
+
+    def test_names(self):
+        names = {"refs/heads/a": "", "refs/tags/a": "", "refs/remotes/a/HEAD": "", "HEAD": ""}
+        self.assertEqual(named("a", names), ["refs/tags/a", "refs/heads/a", "refs/remotes/a/HEAD"])
+        self.assertEqual((named("HEAD", names), named("refs/heads/b", names)), (["HEAD"], []))
+
+    def test_lines(self):
+        self.assertEqual(Depth(deepen=0, relative=True).words(), ["deepen 0", "deepen-relative"])
+        self.assertEqual(Depth(since=1, excluded=["a", "b"]).words(), ["deepen-since 1", "deepen-not a", "deepen-not b"])
 
 
 class Made(unittest.TestCase):

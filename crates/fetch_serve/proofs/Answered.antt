@@ -18,6 +18,8 @@ use Rattle.fetch_store.specs.declared.id.Kind.{Kind}
 use Rattle.fetch_store.specs.declared.id.Kind.TheVariants.{Sha1, Sha256}
 use Rattle.fetch_store.specs.declared.id.ObjectId.{ObjectId}
 use Rattle.fetch_store.proofs.Borders.{named-Contains}
+use Rattle.fetch_store.proofs.Honesty.{commit_at}
+use Rattle.fetch_wire.specs.Bands as bands
 use Rattle.fetch_wire.specs.Awaited.{start_of, step_of}
 use Rattle.fetch_wire.specs.FetchReplies.{no_reply}
 use Rattle.fetch_wire.specs.Greetings.{format_in, is_format}
@@ -25,7 +27,7 @@ use Rattle.fetch_wire.specs.KnownIds.{has_id}
 use Rattle.fetch_wire.specs.LinesTold.{Tells}
 use Rattle.fetch_wire.specs.NamesTold.{AreNamedOnce}
 use Rattle.fetch_wire.specs.Requests.{kind_text}
-use Rattle.fetch_wire.specs.ServerLines.{IsChangeOf, IsIdOf, IsListable, IsTellable, IsWord, bands_of, in_round, last_lines, round_lines, with_change}
+use Rattle.fetch_wire.specs.ServerLines.{IsChangeOf, IsIdOf, IsListable, IsTellable, IsWord, bands_of, change_lines, in_round, last_lines, round_lines, with_change}
 use Rattle.fetch_wire.specs.Texts.{is_error}
 use Rattle.fetch_wire.specs.Written.{first_too_long}
 use Rattle.fetch_wire.specs.declared.listings.reference.Ref.{Ref}
@@ -41,14 +43,16 @@ use Rattle.fetch_serve.specs.declared.asked.Asked.TheVariants.{First, Listing, F
 use Rattle.fetch_serve.specs.declared.asked.DepthAsked.{DepthAsked}
 use Rattle.fetch_serve.specs.declared.asked.FetchAsked.{FetchAsked}
 use Rattle.fetch_serve.specs.Offered.{capabilities_of, capability, offer, offered_ids, offered_of, peeled_behind, target_of}
-use Rattle.fetch_serve.specs.Packs.{depth_of, known_haves, pack_of, served_of}
+use Rattle.fetch_serve.specs.Depths.{border_of, depth_of, kept_of, moved_of, shallow_of, unshallow_of}
+use Rattle.fetch_serve.specs.Packs.{known_haves, pack_of, served_of}
 use Rattle.fetch_serve.specs.Replies.{change_in, error_lines, fetch_lines, first_unoffered, is_too_large, is_too_long, not_offered, objects_of, pack_lines, reply_lines, too_large}
 use Rattle.fetch_serve.specs.Servable.{IsServable, end_of, is_long, is_refused as is_lost, is_unlistable}
 use Rattle.fetch_serve.specs.Served.{Data, history_of, references_of}
 use Rattle.fetch_serve.specs.Texts.{request_at}
 use Rattle.fetch_serve.proofs.Ids.{short_id, stored_is}
 use Rattle.fetch_serve.proofs.Fitting.{greeting_fits, listing_fits}
-use Rattle.fetch_serve.proofs.Lines.{large_fits, pack_fits, refusal_fits, round_fits}
+use Rattle.fetch_serve.proofs.Kept.{kept_commit, moved_kept}
+use Rattle.fetch_serve.proofs.Lines.{AreShort, both_fit, change_fits, large_fits, pack_fits, refusal_fits, round_fits}
 use Rattle.fetch_serve.proofs.Names.{full_word, named_once, names_apart, some_apart}
 use Rattle.fetch_serve.proofs.Needed.{served_own, served_rise}
 use Rattle.fetch_serve.proofs.Reached.{filtered}
@@ -130,9 +134,17 @@ asked_of d r = record { kind = d.hash; haves = r.haves; done = r.done; read_pack
 
 -- ---- a pack
 
-no_moves : (d : Data) (r : FetchAsked) (depth : Option DepthAsked) → IfSome (change_in d r depth) (IsChangeOf d.hash)
-no_moves d r None = tt
-no_moves d r (Some depth) = record { shallow = All-nil (IsIdOf d.hash); unshallow = All-nil (IsIdOf d.hash) }
+-- commits that come or leave are of the hash
+moved_are : (d : Data) (r : FetchAsked) (leaves : Bool) → IsServable d → All (IsIdOf d.hash) (moved_of (history_of d) (border_of r) (kept_of d r) leaves)
+moved_are d r leaves s = λ k e lt.
+    let id = get_or (moved_of (history_of d) (border_of r) (kept_of d r) leaves) k e in
+    let kept = moved_kept d r leaves id (Contains-get_or (moved_of (history_of d) (border_of r) (kept_of d r) leaves) k e lt) in
+    let o = commit_at d.objects id (kept_commit d r id kept) in
+    stored_is d id s (ap is_some o.1)
+
+moves_are : (d : Data) (r : FetchAsked) (depth : Option DepthAsked) → IsServable d → IfSome (change_in d r depth) (IsChangeOf d.hash)
+moves_are d r None s = tt
+moves_are d r (Some depth) s = record { shallow = moved_are d r false s; unshallow = moved_are d r true s }
 
 -- ---- a fetch request
 
@@ -152,7 +164,7 @@ fetched_tells d r true s is fits =
     let lines = ap (λ b. cond b (error_lines too_large) (last_lines (change_in d r r.depth) (bands_of (pack_bytes d r)))) fits in
     subst (λ l. Tells step_of (start_of (await.Reply (asked_of d r))) l (told.Reply (with_change (change_in d r r.depth) (record no_reply { pack = Some (pack_bytes d r) })))) (sym lines)
     (subst (λ p. Tells step_of (start_of (await.Reply (asked_of d r))) (last_lines (change_in d r r.depth) (bands_of (pack_bytes d r))) (told.Reply (with_change (change_in d r r.depth) p)))
-    (bands_hold (pack_bytes d r)) (last_tells (asked_of d r) (change_in d r r.depth) (bands_of (pack_bytes d r)) is refl (no_moves d r r.depth)))
+    (bands_hold (pack_bytes d r)) (last_tells (asked_of d r) (change_in d r r.depth) (bands_of (pack_bytes d r)) is refl (moves_are d r r.depth s)))
 
 -- what is answered tells what it should
 pub answered : (d : Data) (asked : Asked) → IsServable d → fails d asked ≡ false → Tells step_of (start_of (awaits d asked)) (reply_lines d asked) (told_of d asked)
@@ -182,9 +194,14 @@ fetched_fits : (d : Data) (r : FetchAsked) (done : Bool) → IsServable d → fi
 fetched_fits d r false s = round_fits (known_haves d r) (λ k e lt. short_id d.hash (get_or (known_haves d r) k e) (known_are d r s k e lt))
 fetched_fits d r true s = by_size (is_too_large r.version (objects_of d r))
   where
+    short_moves : (leaves : Bool) → AreShort (moved_of (history_of d) (border_of r) (kept_of d r) leaves)
+    short_moves leaves = λ k e lt. short_id d.hash (get_or (moved_of (history_of d) (border_of r) (kept_of d r) leaves) k e) (moved_are d r leaves s k e lt)
+
     by_depth : (depth : Option DepthAsked) → first_too_long (last_lines (change_in d r depth) (bands_of (pack_bytes d r))) ≡ None
     by_depth None = pack_fits (pack_bytes d r)
-    by_depth (Some depth) = pack_fits (pack_bytes d r)
+    by_depth (Some depth) =
+        both_fit (change_lines (change_in d r (Some depth))) (bands.pack_lines (bands_of (pack_bytes d r)))
+        (change_fits (shallow_of d r) (unshallow_of d r) (short_moves false) (short_moves true)) (pack_fits (pack_bytes d r))
 
     by_size : (b : Bool) → first_too_long (cond b (error_lines too_large) (last_lines (change_in d r r.depth) (bands_of (pack_bytes d r)))) ≡ None
     by_size true = large_fits

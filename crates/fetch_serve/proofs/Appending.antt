@@ -19,16 +19,18 @@ use Rattle.fetch_wire.specs.ServerLines.{bands_of, change_lines, last_lines, rou
 use Rattle.fetch_wire.specs.Written.{first_too_long, line_text, lines_text, too_long_in}
 use Rattle.fetch_wire.specs.declared.lines.line.Line.{Line}
 use Rattle.fetch_wire.specs.declared.lines.line.Line.TheVariants.{Payload, Flush, Delim}
-use Rattle.fetch_wire.specs.Requests.{text_line}
+use Rattle.fetch_wire.specs.RequestLines.{id_lines}
+use Rattle.fetch_wire.specs.Requests.{sent, text_line}
 use Rattle.fetch_serve.specs.declared.asked.DepthAsked.{DepthAsked}
 use Rattle.fetch_serve.specs.declared.asked.FetchAsked.{FetchAsked}
+use Rattle.fetch_serve.specs.Depths.{shallow_of, unshallow_of}
 use Rattle.fetch_serve.specs.Packs.{known_haves, served_of, stored_in}
 use Rattle.fetch_serve.specs.Replies.{change_in, error_lines, fetch_lines, fetched_lines, first_unoffered, is_too_large, is_too_long, not_offered, objects_of, pack_lines, pack_with, too_large}
 use Rattle.fetch_serve.specs.Servable.{IsServable}
 use Rattle.fetch_serve.specs.Served.{Data}
 use Rattle.fetch_serve.proofs.Answered.{each_short, either, few_of}
 use Rattle.fetch_serve.proofs.Ids.{short_digits, short_id, stored_is}
-use Rattle.fetch_serve.proofs.Lines.{band_more, band_none, bands_text, lines_more, one_line, pack_text_is, payload_fits, round_fits}
+use Rattle.fetch_serve.proofs.Lines.{band_more, band_none, bands_text, lines_more, one_line, pack_text_is, payload_fits, round_fits, sent_more}
 use Rattle.fetch_serve.proofs.Reached.{filtered}
 
 -- ---- bands
@@ -98,17 +100,44 @@ refusal_short id text is len =
     let front = length-append (codes "ERR want ") (hex_of id) in
     payload_fits text (omega arith)
 
--- the change of the border, which is told where there are depth lines
-pub change_is : (d : Data) (r : FetchAsked) (depth : Option DepthAsked) (out now : List ℕ) → now ≡ cond (is_some depth) ((out ++ line_text (Payload (codes "shallow-info" ++ 10 ∷ []))) ++ line_text Delim) out
-    → now ≡ out ++ lines_text (change_lines (change_in d r depth))
-change_is d r None out now is = is ∙ sym (append-nil out)
-change_is d r (Some depth) out now is =
-    is ∙ append_assoc out (line_text (Payload (codes "shallow-info" ++ 10 ∷ []))) (line_text Delim)
-    ∙ ap (λ (l : List ℕ). out ++ (line_text (Payload (codes "shallow-info" ++ 10 ∷ [])) ++ l)) (sym (one_line Delim))
+-- one more line of an id
+pub ids_on : (word out now : List ℕ) (id : ObjectId) (ids : List ObjectId) (all : List ℕ) → out ++ lines_text (sent (id_lines word (id ∷ ids))) ≡ all → now ≡ out ++ line_text (text_line (word ++ hex_of id)) → now ++ lines_text (sent (id_lines word ids)) ≡ all
+ids_on word out now id ids all is more =
+    ap (λ (l : List ℕ). l ++ lines_text (sent (id_lines word ids))) more ∙ append_assoc out (line_text (text_line (word ++ hex_of id))) (lines_text (sent (id_lines word ids))) ∙ is
 
-pub change_at : (d : Data) (r : FetchAsked) (o : Option DepthAsked) (out now : List ℕ) → r.depth ≡ o → now ≡ cond (is_some o) ((out ++ line_text (Payload (codes "shallow-info" ++ 10 ∷ []))) ++ line_text Delim) out
-    → now ≡ out ++ lines_text (change_lines (change_in d r r.depth))
-change_at d r o out now at is = change_is d r o out now is ∙ ap (λ depth. out ++ lines_text (change_lines (change_in d r depth))) (sym at)
+-- a line of an id is short
+pub id_short : (word : List ℕ) (id : ObjectId) (text : List ℕ) → length word ≤ 100 → text ≡ (word ++ hex_of id) ++ 10 ∷ [] → length (bytes_of id) ≡ byte_len (kind_of id) → too_long_in (Payload text) ≡ None
+id_short word id text few is len =
+    let short = short_digits id len in
+    let whole = ap (length {A = ℕ}) is ∙ length-append (word ++ hex_of id) (10 ∷ []) in
+    let front = length-append word (hex_of id) in
+    payload_fits text (omega arith)
+
+abbrev info_line : Line
+info_line = text_line (codes "shallow-info")
+
+-- without depth lines nothing is told
+pub change_none : (d : Data) (r : FetchAsked) (out : List ℕ) → r.depth ≡ None → out ≡ out ++ lines_text (change_lines (change_in d r r.depth))
+change_none d r out at = sym (append-nil out) ∙ ap (λ depth. out ++ lines_text (change_lines (change_in d r depth))) (sym at)
+
+-- the change of the border, where there are depth lines
+pub change_is : (d : Data) (r : FetchAsked) (depth : DepthAsked) (shallow unshallow : List ObjectId) (out first second third now : List ℕ) → r.depth ≡ Some depth → shallow ≡ shallow_of d r → unshallow ≡ unshallow_of d r
+    → first ≡ out ++ line_text (Payload (codes "shallow-info" ++ 10 ∷ [])) → second ≡ first ++ lines_text (sent (id_lines (codes "shallow ") shallow)) → third ≡ second ++ lines_text (sent (id_lines (codes "unshallow ") unshallow))
+    → now ≡ third ++ line_text Delim → now ≡ out ++ lines_text (change_lines (change_in d r r.depth))
+change_is d r depth shallow unshallow out first second third now at s u a b c e =
+    let come = sent (id_lines (codes "shallow ") shallow) in
+    let go = sent (id_lines (codes "unshallow ") unshallow) in
+    let all : now ≡ ((out ++ line_text info_line) ++ (lines_text come ++ lines_text go)) ++ line_text Delim =
+    e ∙ ap (λ (l : List ℕ). l ++ line_text Delim) (c ∙ ap (λ (l : List ℕ). l ++ lines_text go) (b ∙ ap (λ (l : List ℕ). l ++ lines_text come) a) ∙ append_assoc (out ++ line_text info_line) (lines_text come) (lines_text go)) in
+    let told : ((out ++ line_text info_line) ++ (lines_text come ++ lines_text go)) ++ line_text Delim ≡ out ++ lines_text ((info_line ∷ (come ++ go)) ++ (Delim ∷ [])) =
+    append_assoc (out ++ line_text info_line) (lines_text come ++ lines_text go) (line_text Delim) ∙ append_assoc out (line_text info_line) ((lines_text come ++ lines_text go) ++ line_text Delim)
+    ∙ ap (λ (l : List ℕ). out ++ (line_text info_line ++ l)) (ap (λ (l : List ℕ). l ++ line_text Delim) (sym (lines_more come go)) ∙ ap (λ (l : List ℕ). lines_text (come ++ go) ++ l) (sym (one_line Delim)) ∙ sym (lines_more (come ++ go) (Delim ∷ []))) in
+    let texts : (info_line ∷ (come ++ go)) ++ (Delim ∷ []) ≡ change_lines (Some (record { shallow = shallow; unshallow = unshallow })) =
+    ap (λ (l : List Line). (info_line ∷ l) ++ (Delim ∷ [])) (sym (sent_more (id_lines (codes "shallow ") shallow) (id_lines (codes "unshallow ") unshallow))) in
+    all ∙ told ∙ ap (λ (l : List Line). out ++ lines_text l) texts
+    ∙ ap (λ (ids : List ObjectId). out ++ lines_text (change_lines (Some (record { shallow = ids; unshallow = unshallow })))) s
+    ∙ ap (λ (ids : List ObjectId). out ++ lines_text (change_lines (Some (record { shallow = shallow_of d r; unshallow = ids })))) u
+    ∙ ap (λ o. out ++ lines_text (change_lines (change_in d r o))) (sym at)
 
 -- ---- the whole reply
 

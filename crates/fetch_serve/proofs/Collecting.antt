@@ -8,9 +8,10 @@ use Rattle.std.specs.List.Sorted.{IsStrictlySortedBy}
 use Rattle.std.specs.Option.{option_map_or}
 use Rattle.std.proofs.Math.Seq.{drop-cons}
 use Rattle.std.proofs.lemmas.List.Elements.{filter_agree}
-use Rattle.fetch_store.specs.Borders.{IdSet, set_of}
+use Rattle.fetch_store.specs.Borders.{IdSet, merged, set_of}
 use Rattle.fetch_store.specs.Closed.{Reached}
 use Rattle.fetch_store.specs.Graph.{Graph}
+use Rattle.fetch_store.specs.Missing.{parents_at}
 use Rattle.fetch_store.specs.Objects.{Stored}
 use Rattle.fetch_store.specs.Stores.{ObjectMap, id_cmp}
 use Rattle.fetch_store.specs.declared.id.ObjectId.{ObjectId}
@@ -22,12 +23,15 @@ use Rattle.fetch_wire.specs.References.{id_in, name_in, peeled_in}
 use Rattle.fetch_wire.specs.declared.listings.reference.Ref.{Ref}
 use Rattle.fetch_serve.specs.declared.asked.FetchAsked.{FetchAsked}
 use Rattle.fetch_serve.specs.Offered.{offered_of}
-use Rattle.fetch_serve.specs.Packs.{Depth, IsNeeded, border_of, depth_of, is_needed, is_some_of, known_haves, seen_by, served_at, served_of, tags_along, tags_at, tags_from, tags_of, tags_prefix}
+use Rattle.fetch_serve.specs.declared.depth.Depth.{Depth}
+use Rattle.fetch_serve.specs.Depths.{border_of, parents_in}
+use Rattle.fetch_serve.specs.Packs.{IsNeeded, is_needed, is_some_of, known_haves, seen_by, served_at, starts_of, tags_along, tags_at, tags_from, tags_of, tags_prefix}
 use Rattle.fetch_serve.specs.Requests.{has_id}
 use Rattle.fetch_serve.specs.Servable.{IsServable}
 use Rattle.fetch_serve.specs.Served.{Data, history_of}
 use Rattle.fetch_serve.proofs.Lists.{each_same}
-use Rattle.fetch_serve.proofs.Needed.{needed_none, served_list}
+use Rattle.fetch_serve.proofs.Kept.{parents_are}
+use Rattle.fetch_serve.proofs.Needed.{needed_by, served_list}
 use Rattle.fetch_serve.proofs.Reached.{needed_test}
 
 -- ---- one more of a list
@@ -106,37 +110,47 @@ none_in : {X : Type 0} (x : X) → Contains [] x → ⊥
 none_in x h = absurd (omega (arith, h.1))
 
 -- without tags what is needed is served
-pub served_plain : (d : Data) (r : FetchAsked) (needed : List ObjectId) → IsServable d → ((id : ObjectId) → Contains needed id ↔ IsNeeded d r (depth_of d r) id) → IsStrictlySortedBy id_cmp needed → r.include_tag ≡ false → needed ≡ served_of d r
-served_plain d r needed s each rise plain =
-    list_by d r (depth_of d r) needed each [] needed s (along_by d r (depth_of d r) needed each false plain [] refl) rise (λ id. (λ here. inl here, λ there. elim there [ inl n ↦ n | inr t ↦ absurd (none_in id t) ]))
+pub served_plain : (d : Data) (r : FetchAsked) (x : Depth) (needed : List ObjectId) → IsServable d → ((id : ObjectId) → Contains needed id ↔ IsNeeded d r x id) → IsStrictlySortedBy id_cmp needed → r.include_tag ≡ false → needed ≡ served_at d r x
+served_plain d r x needed s each rise plain =
+    list_by d r x needed each [] needed s (along_by d r x needed each false plain [] refl) rise (λ id. (λ here. inl here, λ there. elim there [ inl n ↦ n | inr t ↦ absurd (none_in id t) ]))
 
 -- and else the tags come along
-pub served_with : (d : Data) (r : FetchAsked) (needed tags ids : List ObjectId) → IsServable d → ((id : ObjectId) → Contains needed id ↔ IsNeeded d r (depth_of d r) id) → r.include_tag ≡ true
-    → tags ≡ flat_map (tags_of (history_of d) (λ id. has_id id needed)) (offered_of d false []) → IsStrictlySortedBy id_cmp ids → ((id : ObjectId) → Contains ids id ↔ (Contains needed id ⊎ Contains tags id)) → ids ≡ served_of d r
-served_with d r needed tags ids s each asked tags_are rise both =
-    list_by d r (depth_of d r) needed each tags ids s (along_by d r (depth_of d r) needed each true asked tags tags_are) rise both
+pub served_with : (d : Data) (r : FetchAsked) (x : Depth) (needed tags ids : List ObjectId) → IsServable d → ((id : ObjectId) → Contains needed id ↔ IsNeeded d r x id) → r.include_tag ≡ true
+    → tags ≡ flat_map (tags_of (history_of d) (λ id. has_id id needed)) (offered_of d false []) → IsStrictlySortedBy id_cmp ids → ((id : ObjectId) → Contains ids id ↔ (Contains needed id ⊎ Contains tags id)) → ids ≡ served_at d r x
+served_with d r x needed tags ids s each asked tags_are rise both =
+    list_by d r x needed each tags ids s (along_by d r x needed each true asked tags tags_are) rise both
 
-pub served_ok : {E : Type 0} (d : Data) (r : FetchAsked) (needed tags : List ObjectId) (result : Result (List ObjectId) E) → IsServable d → ((id : ObjectId) → Contains needed id ↔ IsNeeded d r (depth_of d r) id) → r.include_tag ≡ true
+pub served_ok : {E : Type 0} (d : Data) (r : FetchAsked) (x : Depth) (needed tags : List ObjectId) (result : Result (List ObjectId) E) → IsServable d → ((id : ObjectId) → Contains needed id ↔ IsNeeded d r x id) → r.include_tag ≡ true
     → tags ≡ flat_map (tags_of (history_of d) (λ id. has_id id needed)) (offered_of d false []) → IfOk result (λ ids. IsStrictlySortedBy id_cmp ids) → IfOk result (λ ids. (id : ObjectId) → Contains ids id ↔ (Contains needed id ⊎ Contains tags id))
-    → IfOk result (λ ids. ids ≡ served_of d r)
-served_ok d r needed tags (Ok ids) s each asked tags_are rise both = served_with d r needed tags ids s each asked tags_are rise both
-served_ok d r needed tags (Err e) s each asked tags_are rise both = tt
+    → IfOk result (λ ids. ids ≡ served_at d r x)
+served_ok d r x needed tags (Ok ids) s each asked tags_are rise both = served_with d r x needed tags ids s each asked tags_are rise both
+served_ok d r x needed tags (Err e) s each asked tags_are rise both = tt
 
 -- ---- what is needed
 
-needed_from : (d : Data) (r : FetchAsked) (border : IdSet) (all held haves left : List ObjectId) → border ≡ border_of r → haves ≡ known_haves d r → ((id : ObjectId) → Contains all id ↔ Reached (seen_by d border) r.wants id)
-    → ((id : ObjectId) → Contains held id ↔ Reached (seen_by d border) haves id) → ((id : ObjectId) → Contains left id ↔ (Contains all id × (Contains held id → ⊥))) → (id : ObjectId) → Contains left id ↔ IsNeeded d r (depth_of d r) id
-needed_from d r border all held haves left b h reached had each id =
-    let n = needed_none d r border r.wants haves b refl h id in (
-      λ here. (let p = (each id).0 here in n.0 ((reached id).0 p.0, λ x. p.1 ((had id).1 x))),
-      λ is. (let p = n.1 is in (each id).1 ((reached id).1 p.0, λ x. p.1 ((had id).0 x))),
+needed_from : (d : Data) (r : FetchAsked) (x : Depth) (after border : IdSet) (starts all held haves left : List ObjectId) → after ≡ merged (border_of r) x.shallow x.unshallow → border ≡ border_of r → starts ≡ starts_of d r x → haves ≡ known_haves d r
+    → ((id : ObjectId) → Contains all id ↔ Reached (seen_by d after) starts id) → ((id : ObjectId) → Contains held id ↔ Reached (seen_by d border) haves id)
+    → ((id : ObjectId) → Contains left id ↔ (Contains all id × (Contains held id → ⊥))) → (id : ObjectId) → Contains left id ↔ IsNeeded d r x id
+needed_from d r x after border starts all held haves left a b s h reached had each id =
+    let n = needed_by d r x after border starts haves a b s h id in (
+      λ here. (let p = (each id).0 here in n.0 ((reached id).0 p.0, λ y. p.1 ((had id).1 y))),
+      λ is. (let p = n.1 is in (each id).1 ((reached id).1 p.0, λ y. p.1 ((had id).0 y))),
     )
 
-pub needed_ok : {E : Type 0} (d : Data) (r : FetchAsked) (border : IdSet) (all held haves : List ObjectId) (result : Result (List ObjectId) E) → border ≡ border_of r → haves ≡ known_haves d r
-    → ((id : ObjectId) → Contains all id ↔ Reached (seen_by d border) r.wants id) → ((id : ObjectId) → Contains held id ↔ Reached (seen_by d border) haves id)
-    → IfOk result (λ left. (id : ObjectId) → Contains left id ↔ (Contains all id × (Contains held id → ⊥))) → IfOk result (λ ids. (id : ObjectId) → Contains ids id ↔ IsNeeded d r (depth_of d r) id)
-needed_ok d r border all held haves (Ok left) b h reached had each = needed_from d r border all held haves left b h reached had each
-needed_ok d r border all held haves (Err e) b h reached had each = tt
+pub needed_ok : {E : Type 0} (d : Data) (r : FetchAsked) (x : Depth) (after border : IdSet) (starts all held haves : List ObjectId) (result : Result (List ObjectId) E) → after ≡ merged (border_of r) x.shallow x.unshallow → border ≡ border_of r → starts ≡ starts_of d r x
+    → haves ≡ known_haves d r → ((id : ObjectId) → Contains all id ↔ Reached (seen_by d after) starts id) → ((id : ObjectId) → Contains held id ↔ Reached (seen_by d border) haves id)
+    → IfOk result (λ left. (id : ObjectId) → Contains left id ↔ (Contains all id × (Contains held id → ⊥))) → IfOk result (λ ids. (id : ObjectId) → Contains ids id ↔ IsNeeded d r x id)
+needed_ok d r x after border starts all held haves (Ok left) a b s h reached had each = needed_from d r x after border starts all held haves left a b s h reached had each
+needed_ok d r x after border starts all held haves (Err e) a b s h reached had each = tt
+
+-- where the pack begins
+pub starts_are : (d : Data) (r : FetchAsked) (x : Depth) (wants kept unshallow first second third : List ObjectId) → wants ≡ r.wants → kept ≡ x.kept → unshallow ≡ x.unshallow → first ≡ wants → second ≡ first ++ kept
+    → third ≡ second ++ flat_map (parents_in (history_of d)) unshallow → third ≡ starts_of d r x
+starts_are d r x wants kept unshallow first second third w k u a b c =
+    let behind = flat_map (parents_in (history_of d)) in
+    c ∙ ap (λ l. l ++ behind unshallow) (b ∙ ap (λ l. l ++ kept) (a ∙ w)) ∙ append_assoc r.wants kept (behind unshallow)
+    ∙ ap (λ l. r.wants ++ (l ++ behind unshallow)) k ∙ ap (λ l. r.wants ++ (x.kept ++ behind l)) u
+    ∙ ap (λ l. r.wants ++ (x.kept ++ l)) (each_same (parents_in (history_of d)) (parents_at d.objects) x.unshallow (parents_are d.objects))
 
 -- ---- ids that are offered
 

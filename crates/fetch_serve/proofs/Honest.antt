@@ -27,7 +27,9 @@ use Rattle.fetch_reach.specs.Whole.{with_haves}
 use Rattle.fetch_reach.proofs.Leaving.{still_honest}
 use Rattle.fetch_serve.specs.declared.asked.FetchAsked.{FetchAsked}
 use Rattle.fetch_serve.specs.Offered.{offered_ids}
-use Rattle.fetch_serve.specs.Packs.{Depth, IsClient, IsDepth, IsNeeded, IsTagOnTheWay, border_of, depth_of, is_reached, known_haves, pack_at, seen_after, seen_by, served_at, starts_of}
+use Rattle.fetch_serve.specs.declared.depth.Depth.{Depth}
+use Rattle.fetch_serve.specs.Depths.{IsDepth, border_of}
+use Rattle.fetch_serve.specs.Packs.{IsClient, IsNeeded, IsTagOnTheWay, is_reached, known_haves, pack_at, seen_after, seen_by, served_at, starts_of}
 use Rattle.fetch_serve.specs.Replies.{first_unoffered}
 use Rattle.fetch_serve.specs.Requests.{has_id}
 use Rattle.fetch_serve.specs.Servable.{IsServable}
@@ -271,12 +273,3 @@ module _ (d : Data) (s : IsServable d) where
       -- also where more haves were told
       pub honest_with : (haves : List ObjectId) → All (Contains haves) r.haves → IsHonest (with_haves request haves) pack
       honest_with haves more = still_honest request haves pack more honest
-
--- what the depth lines of a request decide is so; there are none
-pub depth_is : (d : Data) (r : FetchAsked) → IsDepth d r (depth_of d r)
-depth_is d r = record {
-  kept = λ j f lt. absurd (omega arith);
-  comes = λ j f lt. absurd (omega arith);
-  leaves = λ j f lt. absurd (omega arith);
-  stored = λ j f lt. absurd (omega arith);
-}

@@ -1,3 +1,4 @@
+pub mod Digits
 pub mod Consumed
 pub mod Asking
 pub mod Intakes
@@ -11,6 +12,8 @@ pub mod Reached
 pub mod Lists
 pub mod References
 pub mod Tags
+pub mod Within
+pub mod Kept
 pub mod Needed
 pub mod Honest
 pub mod Ids

@@ -13,10 +13,10 @@ use Rattle.fetch_wire.specs.Bands.{Piece, band_line, pack_lines}
 use Rattle.fetch_wire.specs.Cutting.{pieces_within}
 use Rattle.fetch_wire.specs.RequestLines.{id_lines}
 use Rattle.fetch_wire.specs.Requests.{sent, text_line}
-use Rattle.fetch_wire.specs.ServerLines.{acknowledged_texts, bands_of, round_lines}
+use Rattle.fetch_wire.specs.ServerLines.{acknowledged_texts, bands_of, change_lines, round_lines}
 use Rattle.fetch_wire.specs.Written.{first_too_long, line_text, lines_text, too_long_in}
 use Rattle.fetch_wire.specs.declared.lines.line.Line.{Line}
-use Rattle.fetch_wire.specs.declared.lines.line.Line.TheVariants.{Payload, Flush}
+use Rattle.fetch_wire.specs.declared.lines.line.Line.TheVariants.{Payload, Flush, Delim}
 use Rattle.fetch_wire.proofs.Cut.{cut_more, cut_none}
 use Rattle.fetch_serve.specs.Replies.{error_lines, not_offered, too_large}
 use Rattle.fetch_serve.proofs.Fitting.{text_fits}
@@ -72,21 +72,34 @@ texts_fit (t ∷ texts) all =
 abbrev pub AreShort : List ObjectId → Type 0
 AreShort ids = All (λ id. length (encode_lower (bytes_of id)) ≤ 64) ids
 
-ids_fit : (ids : List ObjectId) → AreShort ids → first_too_long (sent (id_lines (codes "ACK ") ids)) ≡ None
-ids_fit [] all = refl
-ids_fit (id ∷ ids) all =
+-- a word and an id, for each id
+pub ids_fit : (word : List ℕ) (ids : List ObjectId) → length word ≤ 100 → AreShort ids → first_too_long (sent (id_lines word ids)) ≡ None
+ids_fit word [] few all = refl
+ids_fit word (id ∷ ids) few all =
     let short = All-head (λ id. length (encode_lower (bytes_of id)) ≤ 64) id ids all in
-    none_or (too_long_in (text_line (codes "ACK " ++ encode_lower (bytes_of id)))) (first_too_long (sent (id_lines (codes "ACK ") ids)))
-    (text_fits (codes "ACK " ++ encode_lower (bytes_of id)) (omega (arith, length-append (codes "ACK ") (encode_lower (bytes_of id)))))
-    (ids_fit ids (All-tail (λ id. length (encode_lower (bytes_of id)) ≤ 64) id ids all))
+    none_or (too_long_in (text_line (word ++ encode_lower (bytes_of id)))) (first_too_long (sent (id_lines word ids)))
+    (text_fits (word ++ encode_lower (bytes_of id)) (omega (arith, length-append word (encode_lower (bytes_of id)))))
+    (ids_fit word ids few (All-tail (λ id. length (encode_lower (bytes_of id)) ≤ 64) id ids all))
 
 acknowledged_fit : (ids : List ObjectId) → AreShort ids → first_too_long (sent (acknowledged_texts ids)) ≡ None
 acknowledged_fit [] all = refl
-acknowledged_fit (id ∷ ids) all = ids_fit (id ∷ ids) all
+acknowledged_fit (id ∷ ids) all = ids_fit (codes "ACK ") (id ∷ ids) (omega arith) all
 
 -- acknowledgments
 pub round_fits : (ids : List ObjectId) → AreShort ids → first_too_long (round_lines ids) ≡ None
 round_fits ids all = both_fit (sent (codes "acknowledgments" ∷ acknowledged_texts ids)) (Flush ∷ []) (acknowledged_fit ids all) refl
+
+pub sent_more : (xs ys : List (List ℕ)) → sent (xs ++ ys) ≡ sent xs ++ sent ys
+sent_more [] ys = refl
+sent_more (x ∷ xs) ys = ap (λ l. text_line x ∷ l) (sent_more xs ys)
+
+-- the change of a border
+pub change_fits : (shallow unshallow : List ObjectId) → AreShort shallow → AreShort unshallow → first_too_long (change_lines (Some (record { shallow = shallow; unshallow = unshallow }))) ≡ None
+change_fits shallow unshallow all others =
+    both_fit (sent (codes "shallow-info" ∷ id_lines (codes "shallow ") shallow ++ id_lines (codes "unshallow ") unshallow)) (Delim ∷ [])
+    (ap first_too_long (sent_more (codes "shallow-info" ∷ id_lines (codes "shallow ") shallow) (id_lines (codes "unshallow ") unshallow))
+    ∙ both_fit (sent (codes "shallow-info" ∷ id_lines (codes "shallow ") shallow)) (sent (id_lines (codes "unshallow ") unshallow))
+    (ids_fit (codes "shallow ") shallow (omega arith) all) (ids_fit (codes "unshallow ") unshallow (omega arith) others)) refl
 
 bands_fit : (n : ℕ) (bytes : List ℕ) → first_too_long (map band_line (map (λ x. Piece x) (pieces_within n 65515 bytes))) ≡ None
 unfolding pieces_within

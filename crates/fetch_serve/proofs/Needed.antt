@@ -19,7 +19,9 @@ use Rattle.fetch_store.proofs.Keys.{keys-rise}
 use Rattle.fetch_store.proofs.Merges.{contains-merged}
 use Rattle.fetch_reach.specs.Named.{AreOwnIds, IsOwnId}
 use Rattle.fetch_serve.specs.declared.asked.FetchAsked.{FetchAsked}
-use Rattle.fetch_serve.specs.Packs.{Depth, IsNeeded, IsServedAt, IsTagOnTheWay, border_of, depth_of, is_needed, known_haves, seen_after, seen_by, served_at, starts_of, tags_along}
+use Rattle.fetch_serve.specs.declared.depth.Depth.{Depth}
+use Rattle.fetch_serve.specs.Depths.{border_of, depth_of}
+use Rattle.fetch_serve.specs.Packs.{IsNeeded, IsServedAt, IsTagOnTheWay, is_needed, known_haves, seen_after, seen_by, served_at, starts_of, tags_along}
 use Rattle.fetch_serve.specs.Requests.{has_id}
 use Rattle.fetch_serve.specs.Servable.{IsServable}
 use Rattle.fetch_serve.specs.Served.{Data, history_of}
@@ -108,34 +110,18 @@ module _ (d : Data) (r : FetchAsked) (x : Depth) where
       (λ id here. elim ((each id).0 here) [ inl n ↦ needed_served id n | inr tag ↦ (let a = along_way d r x id tag in tag_served id s a.0 a.1) ])
       (λ id here. (each id).1 (elim (served_is id here) [ inl n ↦ inl n | inr t ↦ inr (way_along d r x id t.0 t.1) ]))
 
--- ---- without depth
+-- ---- what is needed
 
-unmoved : (b : IdSet) (id : ObjectId) → set.contains (merged b [] []) id ≡ set.contains b id
-unmoved b id = contains-merged b (record { objects = []; shallow = []; unshallow = [] }) id ∙ still (set.contains b id)
-  where
-    still : (t : Bool) → ((t || false) && true) ≡ t
-    still true = refl
-    still false = refl
-
--- no line moves no border
-pub merged_none : (b : IdSet) → merged b [] [] ≡ b
-merged_none b = set.same_set id_cmp_total id_cmp_exact (merged b [] []) b (unmoved b)
-
-pub starts_none : (d : Data) (r : FetchAsked) → starts_of d r (depth_of d r) ≡ r.wants
-starts_none d r = append-nil r.wants
-
--- what is reached from the wants, and not from the haves, is needed
-pub needed_none : (d : Data) (r : FetchAsked) (border : IdSet) (starts haves : List ObjectId) → border ≡ border_of r → starts ≡ r.wants → haves ≡ known_haves d r → (id : ObjectId)
-    → (Reached (seen_by d border) starts id × (Reached (seen_by d border) haves id → ⊥)) ↔ IsNeeded d r (depth_of d r) id
-needed_none d r border starts haves b s h id =
-    let after : seen_by d border ≡ seen_after d r (depth_of d r) = ap (seen_by d) (b ∙ sym (merged_none (border_of r))) in
-    let begins : starts ≡ starts_of d r (depth_of d r) = s ∙ sym (starts_none d r) in (
-      λ p. record {
-        reached = subst (λ st. Reached (seen_after d r (depth_of d r)) st id) begins (subst (λ h. Reached h starts id) after p.0);
-        lacking = λ held. p.1 (subst (λ st. Reached (seen_by d border) st id) (sym h) (subst (λ bb. Reached (seen_by d bb) (known_haves d r) id) (sym b) held));
-      },
-      λ n. (
-        subst (λ h. Reached h starts id) (sym after) (subst (λ st. Reached (seen_after d r (depth_of d r)) st id) (sym begins) n.reached),
-        λ held. n.lacking (subst (λ st. Reached (seen_by d (border_of r)) st id) h (subst (λ bb. Reached (seen_by d bb) haves id) b held)),
-      ),
-    )
+-- what is reached from where the pack begins, and not from the haves, is needed
+pub needed_by : (d : Data) (r : FetchAsked) (x : Depth) (after border : IdSet) (starts haves : List ObjectId) → after ≡ merged (border_of r) x.shallow x.unshallow → border ≡ border_of r → starts ≡ starts_of d r x → haves ≡ known_haves d r
+    → (id : ObjectId) → (Reached (seen_by d after) starts id × (Reached (seen_by d border) haves id → ⊥)) ↔ IsNeeded d r x id
+needed_by d r x after border starts haves a b s h id = (
+  λ p. record {
+    reached = subst (λ st. Reached (seen_after d r x) st id) s (subst (λ bb. Reached (seen_by d bb) starts id) a p.0);
+    lacking = λ held. p.1 (subst (λ st. Reached (seen_by d border) st id) (sym h) (subst (λ bb. Reached (seen_by d bb) (known_haves d r) id) (sym b) held));
+  },
+  λ n. (
+    subst (λ st. Reached (seen_by d after) st id) (sym s) (subst (λ bb. Reached (seen_by d bb) (starts_of d r x) id) (sym a) n.reached),
+    λ held. n.lacking (subst (λ st. Reached (seen_by d (border_of r)) st id) h (subst (λ bb. Reached (seen_by d bb) haves id) b held)),
+  ),
+)

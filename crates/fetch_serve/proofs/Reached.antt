@@ -15,7 +15,9 @@ use Rattle.fetch_store.proofs.Members.{first_in, later_in, cases_in, none_in}
 use Rattle.fetch_store.proofs.Pigeons.{AreDistinct, AreStored, no_more}
 use Rattle.fetch_store.proofs.Reaching.{reached_next, reached_start}
 use Rattle.fetch_serve.specs.declared.asked.FetchAsked.{FetchAsked}
-use Rattle.fetch_serve.specs.Packs.{Depth, IsNeeded, border_of, is_needed, is_reached, known_haves, reached_within, seen_after, seen_by, starts_of, stored_in}
+use Rattle.fetch_serve.specs.declared.depth.Depth.{Depth}
+use Rattle.fetch_serve.specs.Depths.{border_of}
+use Rattle.fetch_serve.specs.Packs.{IsNeeded, is_needed, is_reached, known_haves, reached_within, seen_after, seen_by, starts_of, stored_in}
 use Rattle.fetch_serve.specs.Served.{Data}
 
 -- ---- members
@@ -146,7 +148,7 @@ met_by : (x y : ObjectId) (ys : List ObjectId) (b : Bool) → eq_by_cmp id_cmp y
 met_by x y ys true is others = inl (subst (λ z. Contains (z ∷ ys) x) (sym (id_cmp_exact y x (is_equal (id_cmp y x) is))) (first_in x ys))
 met_by x y ys false is others = elim others [ inl later ↦ inl (later_in x y ys later) | inr apart ↦ inr (is, apart) ]
 
-met : (x : ObjectId) (ys : List ObjectId) → Contains ys x ⊎ AllByRecursion (λ q. eq_by_cmp id_cmp q x ≡ false) ys
+pub met : (x : ObjectId) (ys : List ObjectId) → Contains ys x ⊎ AllByRecursion (λ q. eq_by_cmp id_cmp q x ≡ false) ys
 met x [] = inr tt
 met x (y ∷ ys) = met_by x y ys (eq_by_cmp id_cmp y x) refl (met x ys)
 

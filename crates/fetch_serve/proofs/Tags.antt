@@ -21,7 +21,8 @@ use Rattle.fetch_reach.specs.Named.{AreObjects}
 use Rattle.fetch_wire.specs.References.{id_in, name_in, peeled_in}
 use Rattle.fetch_serve.specs.declared.asked.FetchAsked.{FetchAsked}
 use Rattle.fetch_serve.specs.Offered.{offered_of}
-use Rattle.fetch_serve.specs.Packs.{Depth, IsTagOnTheWay, is_needed, is_some_of, is_tag_to, tags_along, tags_at, tags_from, tags_of, tags_prefix}
+use Rattle.fetch_serve.specs.declared.depth.Depth.{Depth}
+use Rattle.fetch_serve.specs.Packs.{IsTagOnTheWay, is_needed, is_some_of, is_tag_to, tags_along, tags_at, tags_from, tags_of, tags_prefix}
 use Rattle.fetch_serve.specs.Servable.{behind_tags}
 use Rattle.fetch_serve.specs.Served.{Data, history_of}
 use Rattle.fetch_serve.proofs.Reached.{both, needed_test, of_one, one_of}

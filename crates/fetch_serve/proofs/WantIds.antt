@@ -15,7 +15,7 @@ use Rattle.fetch_store.specs.declared.id.Kind.{Kind}
 use Rattle.fetch_store.specs.declared.id.Kind.TheVariants.{Sha1, Sha256}
 use Rattle.fetch_store.specs.declared.id.ObjectId.{ObjectId}
 use Rattle.fetch_wire.specs.LinesTold.{Tells}
-use Rattle.fetch_wire.specs.RequestWords.{command_word, have_word, plain_pack, plain_pack_2, shallow_word, want_word}
+use Rattle.fetch_wire.specs.RequestWords.{command_word, deepen_word, not_word, relative_word, since_word, have_word, plain_pack, plain_pack_2, shallow_word, want_word}
 use Rattle.fetch_wire.specs.Requests.{listing_word}
 use Rattle.fetch_wire.specs.ServerLines.{IsIdOf}
 use Rattle.fetch_wire.specs.Stepping.{Step, breaks, ends, goes, or_breaks, says}
@@ -25,6 +25,7 @@ use Rattle.fetch_wire.specs.declared.lines.line.Line.TheVariants.{Payload, Flush
 use Rattle.fetch_wire.proofs.ReadBack.{told_were}
 use Rattle.fetch_serve.specs.declared.asked.Asked.{Asked}
 use Rattle.fetch_serve.specs.declared.asked.Asked.TheVariants as asking
+use Rattle.fetch_serve.specs.declared.asked.DepthAsked.TheVariants as depths
 use Rattle.fetch_serve.specs.declared.asked.FetchAsked.{FetchAsked}
 use Rattle.fetch_serve.specs.declared.fetch_reading.Detail.{Detail}
 use Rattle.fetch_serve.specs.declared.fetch_reading.Detail.TheVariants as details
@@ -34,8 +35,8 @@ use Rattle.fetch_serve.specs.declared.reading.FetchPart.TheVariants as parts
 use Rattle.fetch_serve.specs.declared.reading.ListingPart.TheVariants as listing
 use Rattle.fetch_serve.specs.declared.reading.Reading.{Reading}
 use Rattle.fetch_serve.specs.declared.reading.Reading.TheVariants as reading
-use Rattle.fetch_serve.specs.RequestTexts.{is_first_line, peel_word, prefix_word, symrefs_word, unborn_word}
-use Rattle.fetch_serve.specs.Requests.{asked_step, at_command, at_detail, at_prefix, at_unborn, at_version, by_request_line, detail_in, either, expects, fixed_in, format_text, if_greater, if_new, if_rising, may_end, nothing_asked, part_after, start_of, with_detail, worded}
+use Rattle.fetch_serve.specs.RequestTexts.{if_name, number_in, small_number_in, is_first_line, peel_word, prefix_word, symrefs_word, unborn_word}
+use Rattle.fetch_serve.specs.Requests.{asked_step, at_command, at_detail, at_prefix, at_unborn, at_version, by_request_line, depth_in, detail_in, made_relative, with_name, either, expects, fixed_in, format_text, if_greater, if_new, if_rising, may_end, nothing_asked, part_after, start_of, with_detail, worded}
 use Rattle.fetch_serve.specs.Texts.{request_at, request_bound}
 
 -- The ids that a request wants are of this hash.
@@ -73,6 +74,10 @@ worded_by hash id (Some text) e = in_hex hash text id e
 abbrev IsWanted : Kind → Detail → Type 0
 IsWanted hash details.IncludeTag = ⊤
 IsWanted hash (details.Shallow id) = ⊤
+IsWanted hash (details.Deepen depth) = ⊤
+IsWanted hash details.Relative = ⊤
+IsWanted hash (details.Since cutoff) = ⊤
+IsWanted hash (details.Not name) = ⊤
 IsWanted hash (details.Want id) = IsIdOf hash id
 IsWanted hash (details.Have id) = ⊤
 IsWanted hash details.Done = ⊤
@@ -92,18 +97,33 @@ fixed_by hash true b detail e = is_it hash details.IncludeTag detail tt e
 fixed_by hash false true detail e = is_it hash details.Done detail tt e
 fixed_by hash false false detail e = absurd (cc)
 
-mapped_by : (hash : Kind) (made : ObjectId → Detail) (o : Option ObjectId) → ((id : ObjectId) → o ≡ Some id → IsWanted hash (made id)) → IfWanted hash (option_map made o)
+mapped_by : {X : Type 0} (hash : Kind) (made : X → Detail) (o : Option X) → ((id : X) → o ≡ Some id → IsWanted hash (made id)) → IfWanted hash (option_map made o)
 mapped_by hash made None f detail e = absurd (cc)
 mapped_by hash made (Some id) f detail e = is_it hash (made id) detail (f id refl) e
+
+relative_by : (hash : Kind) (a : Bool) (o : Option Detail) → IfWanted hash o → IfWanted hash (cond a (Some details.Relative) o)
+relative_by hash true o f detail e = is_it hash details.Relative detail tt e
+relative_by hash false o f = f
+
+depth_wanted : (hash : Kind) (text : List ℕ) → IfWanted hash (depth_in text)
+unfolding depth_in
+depth_wanted hash text =
+    let deepen = option_and_then small_number_in (after deepen_word text) in
+    let since = option_and_then number_in (after since_word text) in
+    let name = option_and_then if_name (after not_word text) in
+    relative_by hash (bytes_eq text relative_word) _
+    (in_either hash (option_map (λ n. details.Deepen n) deepen) _ (mapped_by hash (λ n. details.Deepen n) deepen (λ n e. tt))
+    (in_either hash (option_map (λ n. details.Since n) since) (option_map (λ n. details.Not n) name) (mapped_by hash (λ n. details.Since n) since (λ n e. tt)) (mapped_by hash (λ n. details.Not n) name (λ n e. tt))))
 
 detail_wanted : (hash : Kind) (text : List ℕ) → IfWanted hash (detail_in hash text)
 unfolding detail_in
 detail_wanted hash text =
     in_either hash (fixed_in text) _ (fixed_by hash _ _)
     (in_either hash (option_map (λ id. details.Shallow id) (worded hash shallow_word text)) _ (mapped_by hash (λ id. details.Shallow id) (worded hash shallow_word text) (λ id e. tt))
-    (in_either hash (option_map (λ id. details.Want id) (worded hash want_word text)) (option_map (λ id. details.Have id) (worded hash have_word text))
+    (in_either hash (option_map (λ id. details.Want id) (worded hash want_word text)) _
     (mapped_by hash (λ id. details.Want id) (worded hash want_word text) (λ id e. worded_by hash id (after want_word text) e))
-    (mapped_by hash (λ id. details.Have id) (worded hash have_word text) (λ id e. tt))))
+    (in_either hash (option_map (λ id. details.Have id) (worded hash have_word text)) (depth_in text)
+    (mapped_by hash (λ id. details.Have id) (worded hash have_word text) (λ id e. tt)) (depth_wanted hash text))))
 
 -- ---- readings
 
@@ -151,6 +171,10 @@ new_by hash before ids id false e all one =
 more_wants : (hash : Kind) (r more : FetchAsked) (detail : Detail) → All (IsIdOf hash) r.wants → IsWanted hash detail → with_detail r detail ≡ Some more → All (IsIdOf hash) more.wants
 more_wants hash r more details.IncludeTag all w e = let same : record r { include_tag = true } ≡ more = cc in subst (λ (q : FetchAsked). All (IsIdOf hash) q.wants) same all
 more_wants hash r more (details.Shallow id) all w e = wants_by hash r more (λ ids. record r { border = ids }) (if_greater r.border id) (λ ids is. all) e
+more_wants hash r more (details.Deepen depth) all w e = let same : record r { depth = Some (depths.Deepen depth false) } ≡ more = cc in subst (λ (q : FetchAsked). All (IsIdOf hash) q.wants) same all
+more_wants hash r more details.Relative all w e = let same : record r { depth = made_relative r.depth } ≡ more = cc in subst (λ (q : FetchAsked). All (IsIdOf hash) q.wants) same all
+more_wants hash r more (details.Since cutoff) all w e = let same : record r { depth = Some (depths.Limits (Some cutoff) []) } ≡ more = cc in subst (λ (q : FetchAsked). All (IsIdOf hash) q.wants) same all
+more_wants hash r more (details.Not name) all w e = let same : record r { depth = Some (with_name r.depth name) } ≡ more = cc in subst (λ (q : FetchAsked). All (IsIdOf hash) q.wants) same all
 more_wants hash r more (details.Want id) all w e = wants_by hash r more (λ ids. record r { wants = ids }) (if_new r.wants id) (λ ids is. new_by hash r.wants ids id _ is all w) e
 more_wants hash r more (details.Have id) all w e = wants_by hash r more (λ ids. record r { haves = ids }) (if_new r.haves id) (λ ids is. all) e
 more_wants hash r more details.Done all w e = let same : record r { done = true } ≡ more = cc in subst (λ (q : FetchAsked). All (IsIdOf hash) q.wants) same all

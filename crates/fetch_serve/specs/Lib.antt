@@ -6,6 +6,8 @@ pub mod Reads
 pub mod Texts
 pub mod Servable
 pub mod Offered
+pub mod Depths
+pub mod Ways
 pub mod Packs
 pub mod Intakes
 pub mod Replies

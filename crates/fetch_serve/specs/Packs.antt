@@ -5,7 +5,7 @@ use Rattle.std.specs.FinSet as set
 use Rattle.std.specs.FinMap as finmap
 use Rattle.std.specs.List.{flat_map, starts_with}
 use Rattle.std.specs.Option.{option_map_or}
-use Rattle.fetch_store.specs.Borders.{IdSet, merged, set_of}
+use Rattle.fetch_store.specs.Borders.{IdSet, merged}
 use Rattle.fetch_store.specs.Closed.{Holding, IsClosed, IsCommit, Reached, holding, links_at}
 use Rattle.fetch_store.specs.Graph.{Graph}
 use Rattle.fetch_store.specs.Honest.{Pack}
@@ -18,6 +18,8 @@ use Rattle.fetch_reach.specs.Stored.{entries_at}
 use Rattle.fetch_wire.specs.References.{id_in, name_in, peeled_in}
 use Rattle.fetch_wire.specs.declared.listings.reference.Ref.{Ref}
 use Rattle.fetch_serve.specs.declared.asked.FetchAsked.{FetchAsked}
+use Rattle.fetch_serve.specs.declared.depth.Depth.{Depth}
+use Rattle.fetch_serve.specs.Depths.{border_of, depth_of}
 use Rattle.fetch_serve.specs.Offered.{offered_of}
 use Rattle.fetch_serve.specs.Requests.{has_id}
 use Rattle.fetch_serve.specs.Served.{Data, history_of}
@@ -36,43 +38,6 @@ reached_within h starts (suc n) = reached_within h starts n ++ stored_in h.objec
 -- Whether an id is reached from the starts. As many steps as there are objects suffice.
 unfoldable pub is_reached : Holding → List ObjectId → ObjectId → Bool
 is_reached h starts id = has_id id (reached_within h starts (finmap.len h.objects))
-
--- ---- depth
-
--- the border that the client sent
-abbrev pub border_of : FetchAsked → IdSet
-border_of r = set_of r.border
-
--- What depth lines decide: the commits that they keep, and those that come to the client's border and leave it, each
--- ascending.
-pub record Depth : Type 0 where
-  pub kept : List ObjectId
-  pub shallow : List ObjectId
-  pub unshallow : List ObjectId
-
--- the commits that the depth lines keep: none, where there are no such lines
-abbrev pub kept_of : Data → FetchAsked → List ObjectId
-kept_of d r = []
-
--- the commits that come to the client's border
-abbrev pub shallow_of : Data → FetchAsked → List ObjectId
-shallow_of d r = []
-
--- the commits that leave the client's border
-abbrev pub unshallow_of : Data → FetchAsked → List ObjectId
-unshallow_of d r = []
-
--- what the depth lines of a request decide
-abbrev pub depth_of : Data → FetchAsked → Depth
-depth_of d r = record { kept = kept_of d r; shallow = shallow_of d r; unshallow = unshallow_of d r }
-
--- What depth lines may decide, whatever they are: stored commits are kept, those that come to the border are among them, and
--- those that leave it are stored commits of the border that was sent.
-pub record IsDepth (d : Data) (r : FetchAsked) (x : Depth) : Type 0 where
-  pub kept : All (IsCommit d.objects) x.kept
-  pub comes : All (Contains x.kept) x.shallow
-  pub leaves : All (Contains r.border) x.unshallow
-  pub stored : All (IsCommit d.objects) x.unshallow
 
 -- ---- the objects
 

@@ -18,7 +18,8 @@ use Rattle.fetch_serve.specs.declared.asked.Asked.TheVariants.{First, Listing, F
 use Rattle.fetch_serve.specs.declared.asked.FetchAsked.{FetchAsked}
 use Rattle.fetch_serve.specs.declared.asked.DepthAsked.{DepthAsked}
 use Rattle.fetch_serve.specs.Offered.{capabilities_of, offered_ids, offered_of}
-use Rattle.fetch_serve.specs.Packs.{known_haves, served_of, shallow_of, unshallow_of}
+use Rattle.fetch_serve.specs.Depths.{shallow_of, unshallow_of}
+use Rattle.fetch_serve.specs.Packs.{known_haves, served_of}
 use Rattle.fetch_serve.specs.Requests.{has_id}
 use Rattle.fetch_serve.specs.Served.{Data}
 use Rattle.fetch_serve.specs.Texts.{asked_in}

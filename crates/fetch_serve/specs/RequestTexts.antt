@@ -1,7 +1,11 @@
 -- The words of requests, as a server reads them.
-use Rattle.std.specs.Prelude.{ℕ, Bool, true, false, not, ◌&&◌, ◌==◌, List, [], ◌∷◌, ◌++◌, length, slice_index_or, codes}
+use Rattle.std.specs.Prelude.{ℕ, ◌^◌, Bool, true, false, not, ◌&&◌, ◌==◌, nat_lt, List, [], ◌∷◌, ◌++◌, length, slice_index_or, codes}
+use Rattle.std.specs.Prelude.{Option, Some, None, if◌then◌else◌}
 use Rattle.std.specs.List.{list_any}
-use Rattle.std.specs.Option.{option_map_or}
+use Rattle.std.specs.Option.{option_and_then, option_map_or}
+use Rattle.std.specs.Str.{all_ascii_digits}
+use Rattle.std.specs.Str.Parse.{digits_value}
+use Rattle.fetch_specs.specs.Names.{is_name}
 use Rattle.fetch_store.specs.Scan.{after, split_first}
 
 -- what a conversation begins with
@@ -48,3 +52,27 @@ unborn_word = codes "unborn"
 -- what stands before a prefix
 unfoldable pub prefix_word : List ℕ
 prefix_word = codes "ref-prefix "
+
+-- ---- numbers and names
+
+-- one decimal digit or more, with no zero before others
+abbrev pub is_number : List ℕ → Bool
+is_number [] = false
+is_number (c ∷ []) = all_ascii_digits (c ∷ [])
+is_number (c ∷ d ∷ cs) = not (c == 48) && all_ascii_digits (c ∷ d ∷ cs)
+
+-- a number, where it is below this bound
+abbrev pub if_below : ℕ → ℕ → Option ℕ
+if_below bound n = if nat_lt n bound then Some n else None
+
+-- the number that a text writes, where it has no more than 64 bits
+unfoldable pub number_in : List ℕ → Option ℕ
+number_in text = if is_number text then if_below (2 ^ 64) (digits_value 10 text) else None
+
+-- and where it has no more than 32
+unfoldable pub small_number_in : List ℕ → Option ℕ
+small_number_in text = option_and_then (if_below (2 ^ 32)) (number_in text)
+
+-- a text, where it is a name, whole or short
+abbrev pub if_name : List ℕ → Option (List ℕ)
+if_name text = if is_name false text then Some text else None

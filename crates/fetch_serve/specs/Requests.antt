@@ -1,5 +1,5 @@
 -- What a server is asked, read line by line.
-use Rattle.std.specs.Prelude.{ℕ, Bool, true, false, List, [], ◌∷◌, ◌++◌, length, slice_index_or, slice_get, ◌-◌, Option, Some, None}
+use Rattle.std.specs.Prelude.{ℕ, ◌==◌, Bool, true, false, List, [], ◌∷◌, ◌++◌, length, slice_index_or, slice_get, ◌-◌, Option, Some, None}
 use Rattle.std.specs.Prelude.{if◌then◌else◌}
 use Rattle.std.specs.List.{list_any}
 use Rattle.std.specs.Option.{option_and_then, option_map}
@@ -17,12 +17,14 @@ use Rattle.fetch_wire.specs.declared.lines.line.Line.{Line}
 use Rattle.fetch_wire.specs.declared.lines.line.Line.TheVariants.{Payload, Flush, Delim, End}
 use Rattle.fetch_wire.specs.LinesTold.{Tells}
 use Rattle.fetch_wire.specs.RequestWords.{command_word, format_is, plain_pack, plain_pack_2, include_tag, shallow_word, want_word}
-use Rattle.fetch_wire.specs.RequestWords.{have_word, done_word}
+use Rattle.fetch_wire.specs.RequestWords.{have_word, done_word, deepen_word, relative_word, since_word, not_word}
 use Rattle.fetch_wire.specs.Requests.{listing_word, kind_text}
 use Rattle.fetch_wire.specs.Stepping.{Step, goes, ends, breaks, or_breaks}
 use Rattle.fetch_wire.specs.Texts.{without_lf}
 use Rattle.fetch_serve.specs.declared.asked.Asked.{Asked}
 use Rattle.fetch_serve.specs.declared.asked.Asked.TheVariants as asking
+use Rattle.fetch_serve.specs.declared.asked.DepthAsked.{DepthAsked}
+use Rattle.fetch_serve.specs.declared.asked.DepthAsked.TheVariants as depths
 use Rattle.fetch_serve.specs.declared.asked.FetchAsked.{FetchAsked}
 use Rattle.fetch_serve.specs.declared.fetch_reading.Detail.{Detail}
 use Rattle.fetch_serve.specs.declared.fetch_reading.Detail.TheVariants as details
@@ -32,7 +34,8 @@ use Rattle.fetch_serve.specs.declared.reading.FetchPart.TheVariants as parts
 use Rattle.fetch_serve.specs.declared.reading.ListingPart.TheVariants as listing
 use Rattle.fetch_serve.specs.declared.reading.Reading.{Reading}
 use Rattle.fetch_serve.specs.declared.reading.Reading.TheVariants as reading
-use Rattle.fetch_serve.specs.RequestTexts.{is_first_line, symrefs_word, peel_word, unborn_word, prefix_word}
+use Rattle.fetch_serve.specs.RequestTexts.{if_name, is_first_line, number_in, peel_word, prefix_word, small_number_in, symrefs_word}
+use Rattle.fetch_serve.specs.RequestTexts.{unborn_word}
 
 -- ---- one line
 
@@ -115,20 +118,46 @@ fixed_in text =
     if bytes_eq text include_tag then Some details.IncludeTag else (
     if bytes_eq text done_word then Some details.Done else None)
 
--- what a line says: a fixed word, or a word and an id
+-- a line of a depth: a word alone, or a word and a number or a name
+unfoldable pub depth_in : List ℕ → Option Detail
+depth_in text =
+    if bytes_eq text relative_word then Some details.Relative else (
+    either (option_map details.Deepen (option_and_then small_number_in (after deepen_word text))) (
+    either (option_map details.Since (option_and_then number_in (after since_word text)))
+    (option_map details.Not (option_and_then if_name (after not_word text)))))
+
+-- what a line says: a fixed word, a word and an id, or a depth
 unfoldable pub detail_in : Kind → List ℕ → Option Detail
 detail_in hash text =
     either (fixed_in text) (
     either (option_map details.Shallow (worded hash shallow_word text)) (
-    either (option_map details.Want (worded hash want_word text)) (option_map details.Have (worded hash have_word text))))
+    either (option_map details.Want (worded hash want_word text)) (
+    either (option_map details.Have (worded hash have_word text)) (depth_in text))))
 
--- The lines of each kind stand together: `include-tag`, then `shallow`, `want`, `have` and `done`. One want must stand.
+-- behind `deepen`: a depth of 0 is one that is relative
+abbrev pub part_deepened : ℕ → FetchPart
+part_deepened depth = if depth == 0 then parts.DepthZero else parts.Depth
+
+-- The lines of each kind stand together: `include-tag`, then `shallow`, depth lines, `want`, `have` and `done`. One want must
+-- stand. Depth lines are none, `deepen`, `deepen` and `deepen-relative`, or `deepen-since` and any `deepen-not`.
 abbrev pub part_after : FetchPart → Detail → Option FetchPart
 part_after parts.Beginning details.IncludeTag = Some parts.Border
 part_after parts.Beginning (details.Shallow id) = Some parts.Border
+part_after parts.Beginning (details.Deepen depth) = Some (part_deepened depth)
+part_after parts.Beginning (details.Since cutoff) = Some parts.Limits
+part_after parts.Beginning (details.Not name) = Some parts.Limits
 part_after parts.Beginning (details.Want id) = Some parts.Wants
 part_after parts.Border (details.Shallow id) = Some parts.Border
+part_after parts.Border (details.Deepen depth) = Some (part_deepened depth)
+part_after parts.Border (details.Since cutoff) = Some parts.Limits
+part_after parts.Border (details.Not name) = Some parts.Limits
 part_after parts.Border (details.Want id) = Some parts.Wants
+part_after parts.DepthZero details.Relative = Some parts.Relative
+part_after parts.Depth details.Relative = Some parts.Relative
+part_after parts.Depth (details.Want id) = Some parts.Wants
+part_after parts.Relative (details.Want id) = Some parts.Wants
+part_after parts.Limits (details.Not name) = Some parts.Limits
+part_after parts.Limits (details.Want id) = Some parts.Wants
 part_after parts.Wants (details.Want id) = Some parts.Wants
 part_after parts.Wants (details.Have id) = Some parts.Haves
 part_after parts.Wants details.Done = Some parts.Done
@@ -140,6 +169,10 @@ part_after _ _ = None
 abbrev pub may_end : FetchPart → Bool
 may_end parts.Beginning = false
 may_end parts.Border = false
+may_end parts.DepthZero = false
+may_end parts.Depth = false
+may_end parts.Relative = false
+may_end parts.Limits = false
 may_end parts.Wants = true
 may_end parts.Haves = true
 may_end parts.Done = true
@@ -161,10 +194,24 @@ is_greater (Some other) id = is_lt (id_cmp other id)
 abbrev pub if_greater : List ObjectId → ObjectId → Option (List ObjectId)
 if_greater before id = if is_greater (slice_get before (length before - 1)) id then Some (before ++ id ∷ []) else None
 
+-- a depth that is relative
+abbrev pub made_relative : Option DepthAsked → Option DepthAsked
+made_relative (Some (depths.Deepen depth relative)) = Some (depths.Deepen depth true)
+made_relative other = other
+
+-- limits with one more name
+abbrev pub with_name : Option DepthAsked → List ℕ → DepthAsked
+with_name (Some (depths.Limits cutoff names)) name = depths.Limits cutoff (names ++ name ∷ [])
+with_name other name = depths.Limits None (name ∷ [])
+
 -- a request with one more line
 abbrev pub with_detail : FetchAsked → Detail → Option FetchAsked
 with_detail r details.IncludeTag = Some (record r { include_tag = true })
 with_detail r (details.Shallow id) = option_map (λ ids. record r { border = ids }) (if_greater r.border id)
+with_detail r (details.Deepen depth) = Some (record r { depth = Some (depths.Deepen depth false) })
+with_detail r details.Relative = Some (record r { depth = made_relative r.depth })
+with_detail r (details.Since cutoff) = Some (record r { depth = Some (depths.Limits (Some cutoff) []) })
+with_detail r (details.Not name) = Some (record r { depth = Some (with_name r.depth name) })
 with_detail r (details.Want id) = option_map (λ ids. record r { wants = ids }) (if_new r.wants id)
 with_detail r (details.Have id) = option_map (λ ids. record r { haves = ids }) (if_new r.haves id)
 with_detail r details.Done = Some (record r { done = true })

@@ -7,21 +7,31 @@ ghost use Rattle.fetch_serve.specs.Requests.{nothing_asked};
 ghost use Rattle.fetch_serve.specs.declared.asked.Asked.TheVariants as asking;
 ghost use Rattle.fetch_wire.specs.Stepping.{breaks, ends};
 
-use crate::asked::{Asked, FetchAsked};
+use crate::asked::{Asked, DepthAsked, FetchAsked};
+use crate::depth_reading::depth_in;
 use crate::reading::{FetchPart, Read, Reading};
 use crate::saying::Saying;
 use fetch_pack::PackVersion;
+use fetch_specs::PartialName;
 use fetch_store::{Distinct, Kind, List, NoMemory, ObjectId, after};
 use std::alloc::Global;
 use std::marker::Model;
 
 /// A line of a fetch request.
-#[derive(Clone, Copy, Debug, PartialEq, Eq)]
+#[derive(Debug, Drop)]
 pub(crate) enum Detail {
     /// Tags come along.
     IncludeTag,
     /// A commit of the border.
     Shallow(ObjectId),
+    /// A depth.
+    Deepen(u32),
+    /// The depth is counted from the border.
+    Relative,
+    /// No commit before that many seconds is to come.
+    Since(u64),
+    /// No commit that is reached from a reference of this name is to come.
+    Not(PartialName),
     /// A want.
     Want(ObjectId),
     /// A have.
@@ -36,13 +46,13 @@ pub(crate) struct FetchReading {
     version: PackVersion,
     include_tag: bool,
     border: List<ObjectId>,
+    depth: Option<DepthAsked>,
     wants: Distinct<ObjectId, ObjectId>,
     haves: Distinct<ObjectId, ObjectId>,
     done: bool,
 }
 
 impl Model for FetchReading {
-    ghost use Rattle.std.specs.Prelude.{None};
     ghost use Rattle.fetch_serve.specs.declared.asked.FetchAsked.{FetchAsked};
 
     ghost Value = { FetchAsked };
@@ -51,7 +61,7 @@ impl Model for FetchReading {
       version = r.version;
       include_tag = r.include_tag;
       border = r.border;
-      depth = None;
+      depth = r.depth;
       wants = r.wants;
       haves = r.haves;
       done = r.done;
@@ -67,6 +77,7 @@ impl FetchReading {
             version,
             include_tag: false,
             border: List::new(alloc),
+            depth: None,
             wants: Distinct::new(alloc),
             haves: Distinct::new(alloc),
             done: false,
@@ -74,7 +85,7 @@ impl FetchReading {
     }
 
     /// Adds a line, where it may stand behind those before it, and says whether it may.
-    fn add(&mut self, detail: Detail) -> Result<bool, NoMemory>
+    fn add(&mut self, alloc: Global, detail: Detail) -> Result<bool, NoMemory>
         ensures { IfOk result (λ added. (if added then Some self.new else None) ≡ spec.with_detail self.old detail) }
     {
         match detail {
@@ -83,6 +94,22 @@ impl FetchReading {
                 Ok(true)
             }
             Detail::Shallow(id) => add_greater(&mut self.border, id),
+            Detail::Deepen(depth) => {
+                self.depth = Some(DepthAsked::Deepen(depth, false));
+                Ok(true)
+            }
+            Detail::Relative => {
+                self.depth = made_relative(self.depth.take());
+                Ok(true)
+            }
+            Detail::Since(cutoff) => {
+                self.depth = Some(DepthAsked::Limits(Some(cutoff), List::new(alloc)));
+                Ok(true)
+            }
+            Detail::Not(name) => {
+                self.depth = Some(with_name(alloc, self.depth.take(), name)?);
+                Ok(true)
+            }
             Detail::Want(id) => add_new(&mut self.wants, id),
             Detail::Have(id) => add_new(&mut self.haves, id),
             Detail::Done => {
@@ -100,12 +127,38 @@ impl FetchReading {
             version: self.version,
             include_tag: self.include_tag,
             border: self.border,
-            depth: None,
+            depth: self.depth,
             wants: List::from(self.wants.into_vec()),
             haves: List::from(self.haves.into_vec()),
             done: self.done,
         }
     }
+}
+
+/// The depth, where there is one, as one that is relative.
+fn made_relative(depth: Option<DepthAsked>) -> Option<DepthAsked>
+    ensures { result ≡ spec.made_relative depth }
+{
+    match depth {
+        Some(DepthAsked::Deepen(depth, _)) => Some(DepthAsked::Deepen(depth, true)),
+        other => other,
+    }
+}
+
+/// Limits with one more name.
+fn with_name(
+    alloc: Global,
+    depth: Option<DepthAsked>,
+    name: PartialName,
+) -> Result<DepthAsked, NoMemory>
+    ensures { IfOk result (λ limits. limits ≡ spec.with_name depth name) }
+{
+    let (cutoff, mut names) = match depth {
+        Some(DepthAsked::Limits(cutoff, names)) => (cutoff, names),
+        Some(DepthAsked::Deepen(_, _)) | None => (None, List::new(alloc)),
+    };
+    names.push(name)?;
+    Ok(DepthAsked::Limits(cutoff, names))
 }
 
 /// Adds an id, unless it came before, and says whether it was added.
@@ -145,37 +198,63 @@ fn worded(hash: Kind, word: &[u8], text: &[u8]) -> Option<ObjectId>
 
 /// What a line says.
 #[tactic(auto, unfolding(crate::specs::Requests::detail_in, fetch_wire::specs::RequestWords::include_tag, fetch_wire::specs::RequestWords::done_word, fetch_wire::specs::RequestWords::shallow_word, fetch_wire::specs::RequestWords::want_word, fetch_wire::specs::RequestWords::have_word))]
-fn detail_in(hash: Kind, text: &[u8]) -> Option<Detail>
-    ensures { result ≡ spec.detail_in hash text.now }
+fn detail_in(alloc: Global, hash: Kind, text: &[u8]) -> Result<Option<Detail>, NoMemory>
+    ensures { IfOk result (λ detail. detail ≡ spec.detail_in hash text.now) }
 {
     if text == b"include-tag".as_slice() {
-        return Some(Detail::IncludeTag);
+        return Ok(Some(Detail::IncludeTag));
     }
     if text == b"done".as_slice() {
-        return Some(Detail::Done);
+        return Ok(Some(Detail::Done));
     }
     if let Some(id) = worded(hash, b"shallow ", text) {
-        return Some(Detail::Shallow(id));
+        return Ok(Some(Detail::Shallow(id)));
     }
     if let Some(id) = worded(hash, b"want ", text) {
-        return Some(Detail::Want(id));
+        return Ok(Some(Detail::Want(id)));
     }
-    match worded(hash, b"have ", text) {
-        Some(id) => Some(Detail::Have(id)),
-        None => None,
+    if let Some(id) = worded(hash, b"have ", text) {
+        return Ok(Some(Detail::Have(id)));
+    }
+    depth_in(alloc, text)
+}
+
+/// How far a request is read behind `deepen`.
+fn part_deepened(depth: u32) -> FetchPart
+    ensures { result ≡ spec.part_deepened depth }
+{
+    if depth == 0 {
+        FetchPart::DepthZero
+    } else {
+        FetchPart::Depth
     }
 }
 
 /// Where a line may stand, how far the request is read with it.
-fn part_after(part: FetchPart, detail: Detail) -> Option<FetchPart>
-    ensures { result ≡ spec.part_after part detail }
+// Long: one arm for each kind of line.
+fn part_after(part: FetchPart, detail: &Detail) -> Option<FetchPart>
+    ensures { result ≡ spec.part_after part detail.now }
 {
     match (part, detail) {
         (FetchPart::Beginning, Detail::IncludeTag) => Some(FetchPart::Border),
         (FetchPart::Beginning | FetchPart::Border, Detail::Shallow(_)) => Some(FetchPart::Border),
-        (FetchPart::Beginning | FetchPart::Border | FetchPart::Wants, Detail::Want(_)) => {
-            Some(FetchPart::Wants)
+        (FetchPart::Beginning | FetchPart::Border, Detail::Deepen(depth)) => {
+            Some(part_deepened(*depth))
         }
+        (FetchPart::Beginning | FetchPart::Border, Detail::Since(_)) => Some(FetchPart::Limits),
+        (FetchPart::Beginning | FetchPart::Border | FetchPart::Limits, Detail::Not(_)) => {
+            Some(FetchPart::Limits)
+        }
+        (FetchPart::DepthZero | FetchPart::Depth, Detail::Relative) => Some(FetchPart::Relative),
+        (
+            FetchPart::Beginning
+            | FetchPart::Border
+            | FetchPart::Depth
+            | FetchPart::Relative
+            | FetchPart::Limits
+            | FetchPart::Wants,
+            Detail::Want(_),
+        ) => Some(FetchPart::Wants),
         (FetchPart::Wants | FetchPart::Haves, Detail::Have(_)) => Some(FetchPart::Haves),
         (FetchPart::Wants | FetchPart::Haves, Detail::Done) => Some(FetchPart::Done),
         _ => None,
@@ -187,13 +266,19 @@ fn may_end(part: FetchPart) -> bool
     ensures { result ≡ spec.may_end part }
 {
     match part {
-        FetchPart::Beginning | FetchPart::Border => false,
+        FetchPart::Beginning
+        | FetchPart::Border
+        | FetchPart::DepthZero
+        | FetchPart::Depth
+        | FetchPart::Relative
+        | FetchPart::Limits => false,
         FetchPart::Wants | FetchPart::Haves | FetchPart::Done => true,
     }
 }
 
 /// Adds what a text says.
 fn add_text(
+    alloc: Global,
     hash: Kind,
     part: FetchPart,
     before: FetchReading,
@@ -202,13 +287,13 @@ fn add_text(
     ensures { IfOk result (λ read. step_in read ≡ spec.at_detail hash part before text.now) }
 {
     let mut details = before;
-    let Some(detail) = detail_in(hash, text) else {
+    let Some(detail) = detail_in(alloc, hash, text)? else {
         return Ok(Read::Broken);
     };
-    let Some(next) = part_after(part, detail) else {
+    let Some(next) = part_after(part, &detail) else {
         return Ok(Read::Broken);
     };
-    if details.add(detail)? {
+    if details.add(alloc, detail)? {
         Ok(Read::On(Reading::Details(next, details)))
     } else {
         Ok(Read::Broken)
@@ -217,6 +302,7 @@ fn add_text(
 
 /// Reads a detail or the flush.
 pub(crate) fn read_detail(
+    alloc: Global,
     hash: Kind,
     part: FetchPart,
     before: FetchReading,
@@ -226,7 +312,7 @@ pub(crate) fn read_detail(
         (spec.at_detail hash part before) saying.entry) }
 {
     match saying {
-        Saying::Text(text) => add_text(hash, part, before, text),
+        Saying::Text(text) => add_text(alloc, hash, part, before, text),
         Saying::Flush if may_end(part) => Ok(Read::Whole(Asked::Fetch(before.into_asked()))),
         Saying::Flush | Saying::Delim | Saying::End => Ok(Read::Broken),
     }

@@ -1,24 +1,29 @@
 //! The replies to fetch requests.
 
-ghost use Rattle.std.specs.Prelude.{◌≡◌, ◌++◌, [], false, All, None, OnOk};
+ghost use Rattle.std.specs.Prelude.{◌≡◌, ◌≤◌, ◌++◌, [], false, length, All, None, OnOk};
 ghost use Rattle.fetch_reach.specs.Named.{IsOwnId};
 ghost use Rattle.fetch_reach.specs.Stored.{objects_at};
+ghost use Rattle.fetch_serve.specs.Depths.{depth_of};
 ghost use Rattle.fetch_serve.specs.Offered.{offered_of};
 ghost use Rattle.fetch_serve.specs.Packs.{stored_in};
 ghost use Rattle.fetch_serve.specs.Parts.{held_by};
 ghost use Rattle.fetch_serve.specs.Replies as spec;
 ghost use Rattle.fetch_serve.specs.Servable.{IsServable};
+ghost use Rattle.fetch_store.specs.Digits.{hex_of};
 ghost use Rattle.fetch_wire.specs.ServerLines.{bands_of, change_lines, round_lines};
 ghost use Rattle.fetch_wire.specs.Bands.{pack_lines};
-ghost use Rattle.fetch_wire.specs.Written.{lines_text};
+ghost use Rattle.fetch_wire.specs.RequestLines.{id_lines};
+ghost use Rattle.fetch_wire.specs.Requests.{sent, text_line};
+ghost use Rattle.fetch_wire.specs.Written.{line_text, lines_text};
 
 use crate::asked::FetchAsked;
 use crate::bands::append_bands;
+use crate::depth::{Depth, decided};
 use crate::limits::is_too_large;
 use crate::offered::{Wanted, first_unoffered, offered};
 use crate::parts::Parts;
 use crate::replying::{append_line, append_lines};
-use crate::served::{known, served};
+use crate::served::{border_of, known, served};
 use fetch_reach::write_stored;
 use fetch_store::{NoMemory, ObjectId, append_hex};
 use fetch_wire::{LineRef, Ref, round_lines};
@@ -44,8 +49,48 @@ fn append_too_large(out: &mut Vec<u8>) -> Result<(), NoMemory>
     append_line(out, LineRef::Payload(b"ERR pack too large\n"))
 }
 
-/// Appends the change of the border, which is none yet, where the request has depth lines.
-fn append_change(parts: Parts<'_>, asked: &FetchAsked, out: &mut Vec<u8>) -> Result<(), NoMemory>
+/// Appends the line of a word and an id.
+fn append_id(
+    alloc: Global,
+    word: &[u8],
+    id: &ObjectId,
+    out: &mut Vec<u8>,
+) -> Result<(), NoMemory>
+    requires { length word.now ≤ 100 }
+    ensures { OnOk result (out.new.items ≡ out.old.items ++ line_text (text_line (word.now ++ hex_of id.now))) }
+{
+    // An id has few bytes.
+    let _bytes = id.as_bytes();
+    let mut text = Vec::from_slice(alloc, word)?;
+    append_hex(&mut text, id)?;
+    text.push(b'\n')?;
+    append_line(out, LineRef::Payload(text.as_slice()))
+}
+
+/// Appends a line for each of the ids.
+fn append_ids(
+    alloc: Global,
+    word: &[u8],
+    ids: &[ObjectId],
+    out: &mut Vec<u8>,
+) -> Result<(), NoMemory>
+    requires { length word.now ≤ 100 }
+    ensures { OnOk result (out.new.items ≡ out.old.items ++ lines_text (sent (id_lines word.now ids.now))) }
+{
+    for id in ids {
+        append_id(alloc, word, id, out)?;
+    }
+    Ok(())
+}
+
+/// Appends the change of the border, where the request has depth lines.
+fn append_change(
+    parts: Parts<'_>,
+    asked: &FetchAsked,
+    depth: &Depth,
+    out: &mut Vec<u8>,
+) -> Result<(), NoMemory>
+    requires { depth.now ≡ depth_of (held_by parts) asked.now }
     ensures { OnOk result (out.new.items ≡ out.old.items ++ lines_text
         (change_lines (spec.change_in (held_by parts.entry) asked.now asked.now.depth))) }
 {
@@ -53,6 +98,8 @@ fn append_change(parts: Parts<'_>, asked: &FetchAsked, out: &mut Vec<u8>) -> Res
         None => Ok(()),
         Some(_) => {
             append_line(out, LineRef::Payload(b"shallow-info\n"))?;
+            append_ids(parts.alloc, b"shallow ", depth.shallow.as_slice(), out)?;
+            append_ids(parts.alloc, b"unshallow ", depth.unshallow.as_slice(), out)?;
             append_line(out, LineRef::Delim)
         }
     }
@@ -71,10 +118,12 @@ fn append_bytes(pack: &[u8], out: &mut Vec<u8>) -> Result<(), NoMemory>
 fn append_pack(
     parts: Parts<'_>,
     asked: &FetchAsked,
+    depth: &Depth,
     ids: &[ObjectId],
     out: &mut Vec<u8>,
 ) -> Result<(), NoMemory>
-    requires { All (IsOwnId (held_by parts).objects) ids.now }
+    requires depth { depth.now ≡ depth_of (held_by parts) asked.now }
+    requires own { All (IsOwnId (held_by parts).objects) ids.now }
     ensures { OnOk result (out.new.items ≡ out.old.items ++ lines_text
         (spec.pack_lines (held_by parts.entry) asked.now (objects_at (held_by parts.entry).objects ids.now))) }
 {
@@ -83,7 +132,7 @@ fn append_pack(
     }
     let mut pack = Vec::new(parts.alloc);
     write_stored(asked.version, parts.store, ids, &mut pack)?;
-    append_change(parts, asked, out)?;
+    append_change(parts, asked, depth, out)?;
     append_bytes(pack.as_slice(), out)
 }
 
@@ -109,8 +158,10 @@ fn append_fetched(
     ensures { OnOk result (out.new.items ≡ out.old.items ++ lines_text (spec.fetched_lines (held_by parts.entry) asked.now)) }
 {
     if asked.done {
-        let ids = served(parts, asked, references)?;
-        return append_pack(parts, asked, ids.as_slice(), out);
+        let border = border_of(parts.alloc, asked)?;
+        let depth = decided(parts, asked, &border, references)?;
+        let ids = served(parts, asked, &border, &depth, references)?;
+        return append_pack(parts, asked, &depth, ids.as_slice(), out);
     }
     append_round(parts, asked.haves.as_slice(), out)
 }

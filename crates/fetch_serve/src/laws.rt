@@ -1,12 +1,15 @@
 //! What the definitions of a server say, in other words. Each law is the contract of a function without a body.
 
-ghost use Rattle.std.specs.Prelude.{◌≡◌, ◌↔◌, ◌++◌, Bool, true, false, List, [], ℕ, Ok, Some, None, All, Contains, length};
+ghost use Rattle.std.specs.Prelude.{◌≡◌, ◌↔◌, ◌++◌, Bool, true, false, List, [], ℕ, Ok, Option, Some, None, IsSome};
+ghost use Rattle.std.specs.Prelude.{All, Contains, length};
+ghost use Rattle.std.specs.FinMap as finmap;
 ghost use Rattle.std.specs.List.Sorted.{IsStrictlySortedBy};
 ghost use Rattle.fetch_pack.specs.Reading.{read};
 ghost use Rattle.fetch_pack.specs.Records.{body, payloads_of};
 ghost use Rattle.fetch_serve.specs.Acts.{Act, DoesAll, fed_by};
 ghost use Rattle.fetch_serve.specs.Answers.{awaits, fails, pack_bytes, told_of};
-ghost use Rattle.fetch_serve.specs.Packs.{Depth, IsClient, IsDepth, IsNeeded, IsServed, is_needed, is_reached, pack_at, pack_of, served_of};
+ghost use Rattle.fetch_serve.specs.Depths.{IsDepth, IsKept, depth_of, kept_of, led_to};
+ghost use Rattle.fetch_serve.specs.Packs.{IsClient, IsNeeded, IsServed, is_needed, is_reached, pack_at, pack_of, served_of};
 ghost use Rattle.fetch_serve.specs.Replies.{error_lines, first_unoffered, is_too_large, objects_of, replies_of, replies_to, reply_lines};
 ghost use Rattle.fetch_serve.specs.Replies.{reply_text};
 ghost use Rattle.fetch_serve.specs.Servable.{IsServable};
@@ -15,10 +18,13 @@ ghost use Rattle.fetch_serve.specs.Servings.{Serving, Takes, unfed};
 ghost use Rattle.fetch_serve.specs.Texts.{IsBegun, and_more, asked_in, ends_at, request_at, with_first};
 ghost use Rattle.fetch_serve.specs.declared.asked.Asked.{Asked};
 ghost use Rattle.fetch_serve.specs.declared.asked.FetchAsked.{FetchAsked};
+ghost use Rattle.fetch_serve.specs.declared.depth.Depth.{Depth};
 ghost use Rattle.fetch_serve.specs.declared.error.ServeError.{ServeError};
 ghost use Rattle.fetch_store.specs.Closed.{Holding, Reached};
+ghost use Rattle.fetch_store.specs.Graph.{Graph};
 ghost use Rattle.fetch_store.specs.Hashing as hashing;
 ghost use Rattle.fetch_store.specs.Honest.{IsHonest};
+ghost use Rattle.fetch_store.specs.Spread.{IsWithin, Nexts};
 ghost use Rattle.fetch_store.specs.Stores.{id_cmp};
 ghost use Rattle.fetch_store.specs.declared.id.Kind.{Kind};
 ghost use Rattle.fetch_store.specs.declared.id.ObjectId.{ObjectId as Id};
@@ -74,6 +80,17 @@ pub fn every_list_of_pieces_gives_the_replies()
 pub fn what_is_needed_is_tested()
     ensures reached { (h : Holding) (starts : List Id) (id : Id) → (is_reached h starts id ≡ true) ↔ Reached h starts id }
     ensures needed { (d : Data) (r : FetchAsked) (x : Depth) (id : Id) → (is_needed d r x id ≡ true) ↔ IsNeeded d r x id }
+{}
+
+/// The list of where steps lead has each commit to which they do, and so the list of kept commits has each that is kept; in
+/// ascending order. The commits that come to the border, and those that leave it, are taken from that list.
+pub fn what_is_kept_is_listed()
+    ensures led { (history : Graph) (nexts : Nexts) (starts : List Id) (limit : Option ℕ) (id : Id)
+        → ((id : Id) → IsSome (nexts id) → IsSome (finmap.get history id))
+        → Contains (led_to history nexts starts limit) id ↔ IsWithin nexts starts limit id }
+    ensures each { (d : Data) (r : FetchAsked) (id : Id) → Contains (kept_of d r) id ↔ IsKept d r id }
+    ensures ascending { (d : Data) (r : FetchAsked) → IsStrictlySortedBy id_cmp (kept_of d r) }
+    ensures decided { (d : Data) (r : FetchAsked) → IsDepth d r (depth_of d r) }
 {}
 
 /// The pack has what is served and nothing else: each object that is needed, and, where tags are asked for, each tag on the way

@@ -3,6 +3,8 @@
 
 mod asked;
 mod bands;
+mod depth;
+mod depth_reading;
 mod error;
 mod fetch_reading;
 mod fetching;

@@ -23,7 +23,7 @@ use fetch_wire::{Ref, make_ref};
 use std::alloc::Global;
 
 /// What a tag at this id leads to; nothing of another object.
-fn peeled_from(store: &Store, id: ObjectId) -> Option<ObjectId>
+pub(crate) fn peeled_from(store: &Store, id: ObjectId) -> Option<ObjectId>
     ensures { result ≡ spec.peeled_from (graph_of store.now.objects) id }
 {
     if store.tag_target(&id).is_none() {
@@ -177,11 +177,18 @@ fn offered_ids(alloc: Global, references: &[Ref]) -> Result<Vec<ObjectId>, NoMem
 {
     let mut ids = Vec::new(alloc);
     for reference in references {
-        let (_, id, peeled) = reference.unpack();
-        append_some(&mut ids, id)?;
-        append_some(&mut ids, peeled)?;
+        append_ids_in(&mut ids, reference)?;
     }
     Ok(ascending(ids))
+}
+
+/// Appends the ids of a reference.
+pub(crate) fn append_ids_in(ids: &mut Vec<ObjectId>, reference: &Ref) -> Result<(), NoMemory>
+    ensures { OnOk result (ids.new.items ≡ ids.old.items ++ spec.ids_in reference.now) }
+{
+    let (_, id, peeled) = reference.unpack();
+    append_some(ids, id)?;
+    append_some(ids, peeled)
 }
 
 /// Appends the id, if there is one.

@@ -47,6 +47,14 @@ pub(crate) enum FetchPart {
     Beginning,
     /// `include-tag`, or commits of the border.
     Border,
+    /// `deepen 0`, behind which `deepen-relative` has to stand.
+    DepthZero,
+    /// `deepen` of one or more.
+    Depth,
+    /// `deepen-relative`.
+    Relative,
+    /// `deepen-since`, or names of `deepen-not`.
+    Limits,
     /// Wants.
     Wants,
     /// Haves.
@@ -110,7 +118,9 @@ impl Reading {
             }
             Reading::Fetch(FetchHead::Version) => Ok(read_version(alloc, said_by(line))),
             Reading::Fetch(part) => Ok(read_fetch(hash, part, line)),
-            Reading::Details(part, details) => read_detail(hash, part, details, said_by(line)),
+            Reading::Details(part, details) => {
+                read_detail(alloc, hash, part, details, said_by(line))
+            }
         }
     }
 }

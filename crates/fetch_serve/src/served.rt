@@ -8,16 +8,19 @@ ghost use Rattle.std.specs.Option.{option_copied};
 ghost use Rattle.fetch_reach.specs.Named.{IsOwnId};
 ghost use Rattle.fetch_serve.specs.Offered.{offered_of};
 ghost use Rattle.fetch_serve.specs.Packs as spec;
-ghost use Rattle.fetch_serve.specs.Packs.{IsNeeded, depth_of, served_of};
+ghost use Rattle.fetch_serve.specs.Depths as depths;
+ghost use Rattle.fetch_serve.specs.Packs.{IsNeeded, served_at};
 ghost use Rattle.fetch_serve.specs.Parts.{held_by};
 ghost use Rattle.fetch_serve.specs.Requests.{has_id};
 ghost use Rattle.fetch_serve.specs.Servable.{IsServable};
+ghost use Rattle.fetch_store.specs.Borders.{merged};
 ghost use Rattle.fetch_store.specs.Closed.{Reached, holding};
 ghost use Rattle.fetch_store.specs.Graph.{graph_of};
 ghost use Rattle.fetch_store.specs.Stores.{id_cmp};
 ghost use Rattle.fetch_store.specs.declared.id.ObjectId.{ObjectId as Id};
 
 use crate::asked::FetchAsked;
+use crate::depth::{Depth, append_all};
 use crate::offered::stands_among;
 use crate::parts::Parts;
 use fetch_reach::{difference, union};
@@ -76,8 +79,8 @@ pub(crate) fn known(
 }
 
 /// The border that a request was sent with.
-fn border_of(alloc: Global, asked: &FetchAsked) -> Result<Border, NoMemory>
-    ensures { IfOk result (λ border. border ≡ spec.border_of asked.now) }
+pub(crate) fn border_of(alloc: Global, asked: &FetchAsked) -> Result<Border, NoMemory>
+    ensures { IfOk result (λ border. border ≡ depths.border_of asked.now) }
 {
     match Border::from_ids(alloc, asked.border.as_slice()) {
         Ok(border) => Ok(border),
@@ -85,17 +88,58 @@ fn border_of(alloc: Global, asked: &FetchAsked) -> Result<Border, NoMemory>
     }
 }
 
+/// The border that the client will have.
+fn border_after(alloc: Global, border: &Border, depth: &Depth) -> Result<Border, NoMemory>
+    ensures { IfOk result (λ after. after ≡ merged border.now depth.now.shallow depth.now.unshallow) }
+{
+    let (shallow, unshallow) = (depth.shallow.as_slice(), depth.unshallow.as_slice());
+    match border.merged(alloc, shallow, unshallow) {
+        Ok(after) => Ok(after),
+        Err(_) => Err(NoMemory),
+    }
+}
+
+/// Appends the parents of these commits.
+fn append_parents_of(
+    store: &Store,
+    ids: &[ObjectId],
+    into: &mut Vec<ObjectId>,
+) -> Result<(), NoMemory>
+    ensures { OnOk result (into.new.items ≡ into.old.items ++ flat_map (depths.parents_in (graph_of store.now.objects)) ids.now) }
+{
+    for id in ids {
+        append_all(into, store.parents(id))?;
+    }
+    Ok(())
+}
+
+/// Where the pack begins.
+fn starts(parts: Parts<'_>, asked: &FetchAsked, depth: &Depth) -> Result<Vec<ObjectId>, NoMemory>
+    ensures { IfOk result (λ ids. ids.items ≡ spec.starts_of (held_by parts.entry) asked.now depth.now) }
+{
+    let mut ids = Vec::from_slice(parts.alloc, asked.wants.as_slice())?;
+    ids.extend_from_slice(depth.kept.as_slice())?;
+    append_parents_of(parts.store, depth.unshallow.as_slice(), &mut ids)?;
+    Ok(ids)
+}
+
 /// What is needed, ascending.
-fn needed(parts: Parts<'_>, asked: &FetchAsked) -> Result<List<ObjectId>, NoMemory>
-    ensures each { IfOk result (λ ids. (id : Id) → Contains ids id ↔
-        IsNeeded (held_by parts.entry) asked.now (depth_of (held_by parts.entry) asked.now) id) }
+fn needed(
+    parts: Parts<'_>,
+    asked: &FetchAsked,
+    border: &Border,
+    depth: &Depth,
+) -> Result<List<ObjectId>, NoMemory>
+    requires { border.now ≡ depths.border_of asked.now }
+    ensures each { IfOk result (λ ids. (id : Id) → Contains ids id ↔ IsNeeded (held_by parts.entry) asked.now depth.now id) }
     ensures ascending { IfOk result (λ ids. IsStrictlySortedBy id_cmp ids) }
 {
     let (alloc, store) = (parts.alloc, parts.store);
-    let border = border_of(alloc, asked)?;
-    let all = reached_from(alloc, store, &border, asked.wants.as_slice())?;
+    let after = border_after(alloc, border, depth)?;
+    let starts = starts(parts, asked, depth)?;
+    let all = reached_from(alloc, store, &after, &starts)?;
     let haves = known(alloc, store, asked.haves.as_slice())?;
-    let held = reached_from(alloc, store, &border, haves.as_slice())?;
+    let held = reached_from(alloc, store, border, haves.as_slice())?;
     difference(alloc, all.as_slice(), held.as_slice())
 }
 
@@ -190,13 +234,16 @@ fn tags_along(
 pub(crate) fn served(
     parts: Parts<'_>,
     asked: &FetchAsked,
+    border: &Border,
+    depth: &Depth,
     references: &[Ref],
 ) -> Result<List<ObjectId>, NoMemory>
     requires servable { IsServable (held_by parts) }
+    requires border { border.now ≡ depths.border_of asked.now }
     requires offered { references.now ≡ offered_of (held_by parts) false [] }
-    ensures { IfOk result (λ ids. ids ≡ served_of (held_by parts.entry) asked.now) }
+    ensures { IfOk result (λ ids. ids ≡ served_at (held_by parts.entry) asked.now depth.now) }
 {
-    let needed = needed(parts, asked)?;
+    let needed = needed(parts, asked, border, depth)?;
     if !asked.include_tag {
         return Ok(needed);
     }

@@ -1,5 +1,6 @@
-use Rattle.fetch_serve.specs.Packs.{depth_of}
-use Rattle.fetch_serve.proofs.Honest.{depth_is, honest_with}
+use Rattle.fetch_serve.specs.Depths.{depth_of}
+use Rattle.fetch_serve.proofs.Honest.{honest_with}
+use Rattle.fetch_serve.proofs.Kept.{depth_is}
 use Rattle.fetch_serve.proofs.laws.served_packs_are_honest.Goals as goal
 
 pub returns-clause-pack : goal.returns-clause-pack

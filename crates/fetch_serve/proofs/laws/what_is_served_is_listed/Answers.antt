@@ -1,4 +1,4 @@
-use Rattle.fetch_serve.specs.Packs.{depth_of}
+use Rattle.fetch_serve.specs.Depths.{depth_of}
 use Rattle.fetch_serve.proofs.Needed.{is_served, served_is, served_rise}
 use Rattle.fetch_serve.proofs.laws.what_is_served_is_listed.Goals as goal
 

@@ -16,13 +16,13 @@ tags_along-requires c = subst (IsStrictlySortedBy id_cmp) (sym c.as_slice.ensure
 
 pub returns-then-not-asked : goal.returns-then-not-asked
 returns-then-not-asked c =
-    served_plain (held_by c.args.parts) c.args.asked.now c.in_ok-needed.needed c.requires.servable c.in_ok-needed.ensures.each c.in_ok-needed.ensures.ascending c.if-not-asked.true
+    served_plain (held_by c.args.parts) c.args.asked.now c.args.depth.now c.in_ok-needed.needed c.requires.servable c.in_ok-needed.ensures.each c.in_ok-needed.ensures.ascending c.if-not-asked.true
 
 pub returns : goal.returns
 returns c =
     let d = held_by c.args.parts in
     let needed = c.in_ok-needed.needed in
-    served_ok d c.args.asked.now needed c.as_slice-3.result.now c.union.result c.requires.servable c.in_ok-needed.ensures.each c.if-not-asked.false
+    served_ok d c.args.asked.now c.args.depth.now needed c.as_slice-3.result.now c.union.result c.requires.servable c.in_ok-needed.ensures.each c.if-not-asked.false
     (c.as_slice-3.ensures.value ∙ c.in_ok-tags.ensures ∙ ap (λ ids. flat_map (tags_of (history_of d) (λ id. has_id id ids)) c.args.references.now) c.as_slice.ensures
     ∙ ap (flat_map (tags_of (history_of d) (λ id. has_id id needed))) c.requires.offered) c.union.ensures.ascending
     (subst (λ ids. IfOk c.union.result (λ all. (id : ObjectId) → Contains all id ↔ (Contains ids id ⊎ Contains c.as_slice-3.result.now id))) c.as_slice-2.ensures c.union.ensures.each)
