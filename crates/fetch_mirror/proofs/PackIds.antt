@@ -18,7 +18,8 @@ use Rattle.fetch_shared.specs.declared.entry.Entry.{Entry}
 use Rattle.fetch_shared.specs.declared.entry.Entry.TheVariants.{Take, Commit}
 use Rattle.fetch_shared.specs.Bringing.{take_entries}
 use Rattle.fetch_serve.specs.declared.asked.FetchAsked.{FetchAsked}
-use Rattle.fetch_serve.specs.Packs.{IsNeeded, IsTagOnTheWay, depth_of, pack_of, served_of}
+use Rattle.fetch_serve.specs.Depths.{depth_of}
+use Rattle.fetch_serve.specs.Packs.{IsNeeded, IsTagOnTheWay, pack_of, served_of}
 use Rattle.fetch_serve.specs.Servable.{IsServable}
 use Rattle.fetch_serve.specs.Served.{Data}
 use Rattle.fetch_serve.proofs.Lists.{from_one}

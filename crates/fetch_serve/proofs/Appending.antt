@@ -1,6 +1,6 @@
 -- What a server writes for a fetch request.
 use Rattle.std.proofs.Common.{◌≡◌, ℕ, ◌≤◌, ◌<◌, ◌^◌, Bool, true, false, ◌||◌, cond, List, [], ◌∷◌, ◌++◌, length, take, drop, min, get_or, Option, Some, None, Result, Ok, Err, sym, ap, ◌∙◌, subst, arith, append_assoc, length-append, Contains}
-use Rattle.std.specs.Prelude.{OnOk, codes, is_some, nat_le}
+use Rattle.std.specs.Prelude.{OnOk, codes, nat_le}
 use Rattle.std.specs.List.{list_any}
 use Rattle.std.specs.FinMap as finmap
 use Rattle.std.proofs.lemmas.List.{append-nil}
@@ -23,7 +23,8 @@ use Rattle.fetch_wire.specs.RequestLines.{id_lines}
 use Rattle.fetch_wire.specs.Requests.{sent, text_line}
 use Rattle.fetch_serve.specs.declared.asked.DepthAsked.{DepthAsked}
 use Rattle.fetch_serve.specs.declared.asked.FetchAsked.{FetchAsked}
-use Rattle.fetch_serve.specs.Depths.{shallow_of, unshallow_of}
+use Rattle.fetch_serve.specs.declared.depth.Depth.{Depth}
+use Rattle.fetch_serve.specs.Depths.{depth_of}
 use Rattle.fetch_serve.specs.Packs.{known_haves, served_of, stored_in}
 use Rattle.fetch_serve.specs.Replies.{change_in, error_lines, fetch_lines, fetched_lines, first_unoffered, is_too_large, is_too_long, not_offered, objects_of, pack_lines, pack_with, too_large}
 use Rattle.fetch_serve.specs.Servable.{IsServable}
@@ -120,24 +121,29 @@ info_line = text_line (codes "shallow-info")
 pub change_none : (d : Data) (r : FetchAsked) (out : List ℕ) → r.depth ≡ None → out ≡ out ++ lines_text (change_lines (change_in d r r.depth))
 change_none d r out at = sym (append-nil out) ∙ ap (λ depth. out ++ lines_text (change_lines (change_in d r depth))) (sym at)
 
--- the change of the border, where there are depth lines
-pub change_is : (d : Data) (r : FetchAsked) (depth : DepthAsked) (shallow unshallow : List ObjectId) (out first second third now : List ℕ) → r.depth ≡ Some depth → shallow ≡ shallow_of d r → unshallow ≡ unshallow_of d r
-    → first ≡ out ++ line_text (Payload (codes "shallow-info" ++ 10 ∷ [])) → second ≡ first ++ lines_text (sent (id_lines (codes "shallow ") shallow)) → third ≡ second ++ lines_text (sent (id_lines (codes "unshallow ") unshallow))
-    → now ≡ third ++ line_text Delim → now ≡ out ++ lines_text (change_lines (change_in d r r.depth))
-change_is d r depth shallow unshallow out first second third now at s u a b c e =
-    let come = sent (id_lines (codes "shallow ") shallow) in
-    let go = sent (id_lines (codes "unshallow ") unshallow) in
+-- how the border changes
+pub moves_are : (shallow unshallow xs ys : List ObjectId) (out first second third now : List ℕ) → xs ≡ shallow → ys ≡ unshallow → first ≡ out ++ line_text (Payload (codes "shallow-info" ++ 10 ∷ []))
+    → second ≡ first ++ lines_text (sent (id_lines (codes "shallow ") xs)) → third ≡ second ++ lines_text (sent (id_lines (codes "unshallow ") ys)) → now ≡ third ++ line_text Delim
+    → now ≡ out ++ lines_text (change_lines (Some (record { shallow = shallow; unshallow = unshallow })))
+moves_are shallow unshallow xs ys out first second third now s u a b c e =
+    let come = sent (id_lines (codes "shallow ") xs) in
+    let go = sent (id_lines (codes "unshallow ") ys) in
     let all : now ≡ ((out ++ line_text info_line) ++ (lines_text come ++ lines_text go)) ++ line_text Delim =
     e ∙ ap (λ (l : List ℕ). l ++ line_text Delim) (c ∙ ap (λ (l : List ℕ). l ++ lines_text go) (b ∙ ap (λ (l : List ℕ). l ++ lines_text come) a) ∙ append_assoc (out ++ line_text info_line) (lines_text come) (lines_text go)) in
     let told : ((out ++ line_text info_line) ++ (lines_text come ++ lines_text go)) ++ line_text Delim ≡ out ++ lines_text ((info_line ∷ (come ++ go)) ++ (Delim ∷ [])) =
     append_assoc (out ++ line_text info_line) (lines_text come ++ lines_text go) (line_text Delim) ∙ append_assoc out (line_text info_line) ((lines_text come ++ lines_text go) ++ line_text Delim)
     ∙ ap (λ (l : List ℕ). out ++ (line_text info_line ++ l)) (ap (λ (l : List ℕ). l ++ line_text Delim) (sym (lines_more come go)) ∙ ap (λ (l : List ℕ). lines_text (come ++ go) ++ l) (sym (one_line Delim)) ∙ sym (lines_more (come ++ go) (Delim ∷ []))) in
-    let texts : (info_line ∷ (come ++ go)) ++ (Delim ∷ []) ≡ change_lines (Some (record { shallow = shallow; unshallow = unshallow })) =
-    ap (λ (l : List Line). (info_line ∷ l) ++ (Delim ∷ [])) (sym (sent_more (id_lines (codes "shallow ") shallow) (id_lines (codes "unshallow ") unshallow))) in
+    let texts : (info_line ∷ (come ++ go)) ++ (Delim ∷ []) ≡ change_lines (Some (record { shallow = xs; unshallow = ys })) =
+    ap (λ (l : List Line). (info_line ∷ l) ++ (Delim ∷ [])) (sym (sent_more (id_lines (codes "shallow ") xs) (id_lines (codes "unshallow ") ys))) in
     all ∙ told ∙ ap (λ (l : List Line). out ++ lines_text l) texts
-    ∙ ap (λ (ids : List ObjectId). out ++ lines_text (change_lines (Some (record { shallow = ids; unshallow = unshallow })))) s
-    ∙ ap (λ (ids : List ObjectId). out ++ lines_text (change_lines (Some (record { shallow = shallow_of d r; unshallow = ids })))) u
-    ∙ ap (λ o. out ++ lines_text (change_lines (change_in d r o))) (sym at)
+    ∙ ap (λ (ids : List ObjectId). out ++ lines_text (change_lines (Some (record { shallow = ids; unshallow = ys })))) s
+    ∙ ap (λ (ids : List ObjectId). out ++ lines_text (change_lines (Some (record { shallow = shallow; unshallow = ids })))) u
+
+-- it is told where there are depth lines
+pub change_is : (d : Data) (r : FetchAsked) (x : Depth) (depth : DepthAsked) (out now : List ℕ) → r.depth ≡ Some depth → x ≡ depth_of d r
+    → now ≡ out ++ lines_text (change_lines (Some (record { shallow = x.shallow; unshallow = x.unshallow }))) → now ≡ out ++ lines_text (change_lines (change_in d r r.depth))
+change_is d r x depth out now at is more =
+    more ∙ ap (λ (y : Depth). out ++ lines_text (change_lines (Some (record { shallow = y.shallow; unshallow = y.unshallow })))) is ∙ ap (λ o. out ++ lines_text (change_lines (change_in d r o))) (sym at)
 
 -- ---- the whole reply
 

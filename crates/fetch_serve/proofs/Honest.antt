@@ -1,5 +1,5 @@
 -- A pack that is served is honest.
-use Rattle.std.proofs.Common.{◌≡◌, Bool, true, false, not, List, [], ◌∷◌, ◌++◌, filter, get_or, Option, Some, None, cond, refl, sym, ap, ◌∙◌, subst, arith, inl, inr, All, Contains}
+use Rattle.std.proofs.Common.{◌≡◌, Bool, true, false, not, List, [], ◌∷◌, ◌++◌, filter, get_or, Option, Some, None, cond, refl, sym, ap, ◌∙◌, subst, inl, inr, All, Contains}
 use Rattle.std.specs.Prelude.{◌⊎◌, IsTrue, is_some, if◌then◌else◌, option_map}
 use Rattle.std.specs.FinMap as finmap
 use Rattle.std.specs.FinSet as set

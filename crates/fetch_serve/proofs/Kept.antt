@@ -1,9 +1,8 @@
 -- The commits that depth lines keep.
-use Rattle.std.proofs.Common.{◌≡◌, ℕ, ◌-◌, Bool, true, false, not, ◌||◌, ◌&&◌, cond, List, [], ◌∷◌, filter, get_or, Option, Some, None, Result, Ok, Err, refl, sym, ap, ◌∙◌, subst, inl, inr, All, Contains}
-use Rattle.std.specs.Prelude.{◌⊎◌, ◌↔◌, IfOk, IsSome, is_some, option_map}
+use Rattle.std.proofs.Common.{◌≡◌, ℕ, ◌-◌, Bool, true, false, ◌||◌, cond, List, [], filter, get_or, Option, Some, None, Result, Ok, Err, refl, sym, ap, ◌∙◌, subst, inl, inr, Contains}
+use Rattle.std.specs.Prelude.{◌⊎◌, ◌↔◌, IfOk, IsSome, option_map}
 use Rattle.std.specs.FinMap as finmap
 use Rattle.std.specs.FinSet as set
-use Rattle.std.specs.List.{list_all}
 use Rattle.std.specs.List.Sorted.{IsStrictlySortedBy}
 use Rattle.std.specs.Option.{option_map_or}
 use Rattle.std.proofs.lemmas.List.Elements.{Contains-get_or}
@@ -13,7 +12,7 @@ use Rattle.fetch_store.specs.Closed.{IsCommit, is_commit, parents}
 use Rattle.fetch_store.specs.Graph.{Graph, Node, graph_of, is_commit_at, node_of}
 use Rattle.fetch_store.specs.Missing.{parents_at}
 use Rattle.fetch_store.specs.Objects.{Stored, is_kind}
-use Rattle.fetch_store.specs.Spread.{Nexts, IsWithin}
+use Rattle.fetch_store.specs.Spread.{IsWithin}
 use Rattle.fetch_store.specs.Stores.{ObjectMap, id_cmp}
 use Rattle.fetch_store.specs.declared.id.ObjectId.{ObjectId}
 use Rattle.fetch_store.specs.declared.object_kind.ObjectKind.TheVariants.{Commit}
@@ -27,7 +26,7 @@ use Rattle.fetch_serve.specs.declared.asked.DepthAsked.TheVariants.{Deepen, Limi
 use Rattle.fetch_serve.specs.declared.asked.FetchAsked.{FetchAsked}
 use Rattle.fetch_serve.specs.declared.depth.Way.{Way}
 use Rattle.fetch_serve.specs.declared.depth.Way.TheVariants as ways
-use Rattle.fetch_serve.specs.Depths.{IsDepth, IsKept, IsKeptBy, are_parents_among, border_of, depth_of, either_of, excluded_by, is_moved, kept_by, kept_of, led_to, limited_steps, may_be_kept, met_of, moved_of, near_of, parent_steps, parents_in, roots_of, shallow_of, steps_to, steps_within, unshallow_of}
+use Rattle.fetch_serve.specs.Depths.{IsDepth, IsKeptBy, are_parents_among, border_of, depth_of, either_of, excluded_by, is_moved, kept_by, kept_of, led_to, limited_steps, may_be_kept, met_of, moved_of, near_of, parent_steps, parents_in, roots_of, shallow_of, steps_to, steps_within, unshallow_of}
 use Rattle.fetch_serve.specs.Requests.{has_id}
 use Rattle.fetch_serve.specs.Served.{Data, history_of}
 use Rattle.fetch_serve.specs.Ways.{steps_by}

@@ -20,7 +20,7 @@ use Rattle.fetch_store.proofs.Merges.{contains-merged}
 use Rattle.fetch_reach.specs.Named.{AreOwnIds, IsOwnId}
 use Rattle.fetch_serve.specs.declared.asked.FetchAsked.{FetchAsked}
 use Rattle.fetch_serve.specs.declared.depth.Depth.{Depth}
-use Rattle.fetch_serve.specs.Depths.{border_of, depth_of}
+use Rattle.fetch_serve.specs.Depths.{border_of}
 use Rattle.fetch_serve.specs.Packs.{IsNeeded, IsServedAt, IsTagOnTheWay, is_needed, known_haves, seen_after, seen_by, served_at, starts_of, tags_along}
 use Rattle.fetch_serve.specs.Requests.{has_id}
 use Rattle.fetch_serve.specs.Servable.{IsServable}
@@ -125,3 +125,22 @@ needed_by d r x after border starts haves a b s h id = (
     λ held. n.lacking (subst (λ st. Reached (seen_by d (border_of r)) st id) h (subst (λ bb. Reached (seen_by d bb) haves id) b held)),
   ),
 )
+
+-- ---- without depth
+
+unmoved : (b : IdSet) (id : ObjectId) → set.contains (merged b [] []) id ≡ set.contains b id
+unmoved b id = contains-merged b (record { objects = []; shallow = []; unshallow = [] }) id ∙ still (set.contains b id)
+  where
+    still : (t : Bool) → ((t || false) && true) ≡ t
+    still true = refl
+    still false = refl
+
+-- no line moves no border
+pub merged_none : (b : IdSet) → merged b [] [] ≡ b
+merged_none b = set.same_set id_cmp_total id_cmp_exact (merged b [] []) b (unmoved b)
+
+-- where nothing is decided, what is reached from the wants, and not from the haves, is needed
+pub needed_none : (d : Data) (r : FetchAsked) (border : IdSet) (starts haves : List ObjectId) → border ≡ border_of r → starts ≡ r.wants → haves ≡ known_haves d r → (id : ObjectId)
+    → (Reached (seen_by d border) starts id × (Reached (seen_by d border) haves id → ⊥)) ↔ IsNeeded d r (record { kept = []; shallow = []; unshallow = [] }) id
+needed_none d r border starts haves b s h id =
+    needed_by d r (record { kept = []; shallow = []; unshallow = [] }) border border starts haves (b ∙ sym (merged_none (border_of r))) b (s ∙ sym (append-nil r.wants)) h id

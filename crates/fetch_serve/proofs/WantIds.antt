@@ -103,7 +103,7 @@ mapped_by hash made (Some id) f detail e = is_it hash (made id) detail (f id ref
 
 relative_by : (hash : Kind) (a : Bool) (o : Option Detail) → IfWanted hash o → IfWanted hash (cond a (Some details.Relative) o)
 relative_by hash true o f detail e = is_it hash details.Relative detail tt e
-relative_by hash false o f = f
+relative_by hash false o f detail e = f detail e
 
 depth_wanted : (hash : Kind) (text : List ℕ) → IfWanted hash (depth_in text)
 unfolding depth_in

@@ -38,7 +38,8 @@ parent_steps history id = if is_commit_at history id then Some (parents_in histo
 
 -- to each parent of a commit, but none from a commit of this border
 abbrev pub steps_within : Graph → IdSet → Nexts
-steps_within history border id = if is_commit_at history id then Some (if set.contains border id then [] else parents_in history id) else None
+steps_within history border id =
+    if is_commit_at history id then Some (if set.contains border id then [] else parents_in history id) else None
 
 -- to those parents of a commit that pass
 abbrev pub steps_to : Graph → (ObjectId → Bool) → Nexts

@@ -28,12 +28,14 @@ use std::alloc::Global;
 use std::marker::Brand;
 use std::sync::ledger::{Blank, Ledger};
 
-/// What depth lines decide: the commits that they keep, and those that come to the client's border and leave it, each
-/// ascending.
+/// What depth lines decide.
 #[derive(Debug, Drop)]
 pub(crate) struct Depth {
+    /// The commits that are kept, ascending.
     pub kept: List<ObjectId>,
+    /// Those of them that come to the client's border, ascending.
     pub shallow: List<ObjectId>,
+    /// Those of them that leave it, ascending.
     pub unshallow: List<ObjectId>,
 }
 
@@ -129,8 +131,8 @@ fn append_passing(
     into: &mut Vec<ObjectId>,
     parents: Parents<'_>,
 ) -> Result<(), NoMemory>
-    ensures { OnOk result (into.new.items ≡ into.old.items
-        ++ filter (spec.may_be_kept (graph_of store.now.objects) limits.entry.cutoff limits.entry.excluded.now) (parents_left parents.entry)) }
+    ensures { let passes = spec.may_be_kept (graph_of store.now.objects) limits.entry.cutoff limits.entry.excluded.now in
+        OnOk result (into.new.items ≡ into.old.items ++ filter passes (parents_left parents.entry)) }
 {
     let mut parents = parents;
     while let Some(parent) = parents.next() {
@@ -369,13 +371,7 @@ fn are_among(ids: &[ObjectId], parents: Parents<'_>) -> bool
 }
 
 /// Whether a kept commit comes to the border, or leaves it.
-fn is_moved(
-    store: &Store,
-    border: &Border,
-    kept: &[ObjectId],
-    leaves: bool,
-    id: &ObjectId,
-) -> bool
+fn is_moved(store: &Store, border: &Border, kept: &[ObjectId], leaves: bool, id: &ObjectId) -> bool
     requires { IsStrictlySortedBy id_cmp kept.now }
     ensures { result ≡ spec.is_moved (graph_of store.now.objects) border.now kept.now leaves id.now }
 {

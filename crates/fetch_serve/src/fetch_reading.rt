@@ -1,10 +1,11 @@
 //! The details of a fetch request.
 
-ghost use Rattle.std.specs.Prelude.{◌≡◌, if◌then◌else◌, Some, None, option_map, option_and_then, IfOk, IsTrue};
+ghost use Rattle.std.specs.Prelude.{◌≡◌, ◌++◌, ◌∷◌, [], if◌then◌else◌, Some, None, option_map, IfOk};
 ghost use Rattle.fetch_serve.specs.Reads.{by_saying, step_in};
 ghost use Rattle.fetch_serve.specs.Requests as spec;
 ghost use Rattle.fetch_serve.specs.Requests.{nothing_asked};
 ghost use Rattle.fetch_serve.specs.declared.asked.Asked.TheVariants as asking;
+ghost use Rattle.fetch_serve.specs.declared.asked.DepthAsked.TheVariants as depths;
 ghost use Rattle.fetch_wire.specs.Stepping.{breaks, ends};
 
 use crate::asked::{Asked, DepthAsked, FetchAsked};
@@ -153,10 +154,21 @@ fn with_name(
 ) -> Result<DepthAsked, NoMemory>
     ensures { IfOk result (λ limits. limits ≡ spec.with_name depth name) }
 {
-    let (cutoff, mut names) = match depth {
-        Some(DepthAsked::Limits(cutoff, names)) => (cutoff, names),
-        Some(DepthAsked::Deepen(_, _)) | None => (None, List::new(alloc)),
-    };
+    match depth {
+        Some(DepthAsked::Limits(cutoff, names)) => limits(cutoff, names, name),
+        Some(DepthAsked::Deepen(_, _)) | None => limits(None, List::new(alloc), name),
+    }
+}
+
+/// Limits of these names, and of one more.
+fn limits(
+    cutoff: Option<u64>,
+    names: List<PartialName>,
+    name: PartialName,
+) -> Result<DepthAsked, NoMemory>
+    ensures { IfOk result (λ limits. limits ≡ depths.Limits cutoff (names ++ name ∷ [])) }
+{
+    let mut names = names;
     names.push(name)?;
     Ok(DepthAsked::Limits(cutoff, names))
 }

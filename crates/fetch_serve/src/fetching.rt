@@ -1,6 +1,6 @@
 //! The replies to fetch requests.
 
-ghost use Rattle.std.specs.Prelude.{◌≡◌, ◌≤◌, ◌++◌, [], false, length, All, None, OnOk};
+ghost use Rattle.std.specs.Prelude.{◌≡◌, ◌≤◌, ◌++◌, [], false, length, All, None, Some, OnOk};
 ghost use Rattle.fetch_reach.specs.Named.{IsOwnId};
 ghost use Rattle.fetch_reach.specs.Stored.{objects_at};
 ghost use Rattle.fetch_serve.specs.Depths.{depth_of};
@@ -50,12 +50,7 @@ fn append_too_large(out: &mut Vec<u8>) -> Result<(), NoMemory>
 }
 
 /// Appends the line of a word and an id.
-fn append_id(
-    alloc: Global,
-    word: &[u8],
-    id: &ObjectId,
-    out: &mut Vec<u8>,
-) -> Result<(), NoMemory>
+fn append_id(alloc: Global, word: &[u8], id: &ObjectId, out: &mut Vec<u8>) -> Result<(), NoMemory>
     requires { length word.now ≤ 100 }
     ensures { OnOk result (out.new.items ≡ out.old.items ++ line_text (text_line (word.now ++ hex_of id.now))) }
 {
@@ -83,6 +78,17 @@ fn append_ids(
     Ok(())
 }
 
+/// Appends how the border changes.
+fn append_moves(alloc: Global, depth: &Depth, out: &mut Vec<u8>) -> Result<(), NoMemory>
+    ensures { OnOk result (out.new.items ≡ out.old.items ++ lines_text
+        (change_lines (Some (record { shallow = depth.now.shallow; unshallow = depth.now.unshallow })))) }
+{
+    append_line(out, LineRef::Payload(b"shallow-info\n"))?;
+    append_ids(alloc, b"shallow ", depth.shallow.as_slice(), out)?;
+    append_ids(alloc, b"unshallow ", depth.unshallow.as_slice(), out)?;
+    append_line(out, LineRef::Delim)
+}
+
 /// Appends the change of the border, where the request has depth lines.
 fn append_change(
     parts: Parts<'_>,
@@ -96,12 +102,7 @@ fn append_change(
 {
     match asked.depth {
         None => Ok(()),
-        Some(_) => {
-            append_line(out, LineRef::Payload(b"shallow-info\n"))?;
-            append_ids(parts.alloc, b"shallow ", depth.shallow.as_slice(), out)?;
-            append_ids(parts.alloc, b"unshallow ", depth.unshallow.as_slice(), out)?;
-            append_line(out, LineRef::Delim)
-        }
+        Some(_) => append_moves(parts.alloc, depth, out),
     }
 }
 

@@ -114,6 +114,7 @@ fn check_objects(store: &Store, border: &Border) -> Result<(), ServeError>
 
 /// Refuses what can't be served, for its first cause.
 pub(crate) fn check(parts: Parts<'_>, border: &Border) -> Result<(), ServeError>
+    ensures whole { OnOk result (border.now ≡ set.empty) }
     ensures servable { OnOk result (IsServable (held_by parts.entry)) }
     ensures refused { IfErr result (IsTrouble (held_by parts.entry) border.now) }
 {

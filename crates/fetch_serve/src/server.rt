@@ -64,6 +64,7 @@ impl<'a> Model for Server<'a> {
 
 impl<'a> Server<'a> {
     ghost use Rattle.std.specs.Prelude.{◌≡◌, ◌≤◌, drop, length, IfOk, IfErr, OnOk};
+    ghost use Rattle.std.specs.FinSet as set;
     ghost use Rattle.fetch_serve.specs.Parts.{held_by};
     ghost use Rattle.fetch_serve.specs.Servable.{IsServable, IsTrouble};
     ghost use Rattle.fetch_serve.specs.Served.{data_of};
@@ -80,6 +81,7 @@ impl<'a> Server<'a> {
         border: &Border,
     ) -> Result<Server<'a>, ServeError>
         ensures server { IfOk result (λ server. server ≡ unfed (data_of store.now refs.now)) }
+        ensures whole { OnOk result (border.now ≡ set.empty) }
         ensures servable { OnOk result (IsServable (data_of store.now refs.now)) }
         ensures refused { IfErr result (IsTrouble (data_of store.now refs.now) border.now) }
     {

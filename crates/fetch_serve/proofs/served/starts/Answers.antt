@@ -1,4 +1,3 @@
-use Rattle.std.proofs.Common.{refl}
 use Rattle.fetch_serve.specs.Parts.{held_by}
 use Rattle.fetch_serve.proofs.Collecting.{starts_are}
 use Rattle.fetch_serve.proofs.served.starts.Goals as goal

@@ -1,4 +1,4 @@
-use Rattle.std.proofs.Common.{◌≡◌, ◌∷◌, [], cond, sym, ap, ◌∙◌}
+use Rattle.std.proofs.Common.{◌∷◌, [], cond, sym, ap, ◌∙◌}
 use Rattle.std.specs.FinMap.{get}
 use Rattle.fetch_store.specs.Closed.{links_within}
 use Rattle.fetch_store.specs.Found.{with_each}
