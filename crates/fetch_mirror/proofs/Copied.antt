@@ -1,6 +1,6 @@
 -- A mirror of a repository has the names that are born there.
 use Rattle.std.proofs.Common.{◌≡◌, ℕ, ◌+◌, true, List, [], ◌∷◌, ◌++◌, replicate, Result, Ok, Err, refl, ◌∙◌, subst}
-use Rattle.std.specs.Prelude.{IfErr, IfOk}
+use Rattle.std.specs.Prelude.{IfErr, IfOk, OnOk}
 use Rattle.std.proofs.lemmas.List.{replicate_more}
 use Rattle.fetch_store.specs.Borders.{IdSet}
 use Rattle.fetch_store.specs.declared.id.Kind.{Kind}
@@ -70,3 +70,8 @@ pub whole_told : (d : Data) (committer : Signature) (workers bound : ℕ) (resul
     → IfOk result (λ m. IsMirrored d workers committer m.journal m.repo)
 whole_told d committer workers bound (Err e) h = tt
 whole_told d committer workers bound (Ok m) h = is_mirrored d h.servable committer workers bound h.few h.lister h.peers m.repo m.journal h.mirrored h.born
+
+-- what holds anyway holds at Ok
+pub always : {X E : Type 0} (result : Result X E) (P : Type 0) → P → OnOk result P
+always (Ok x) P h = h
+always (Err e) P h = tt

@@ -1,6 +1,7 @@
 //! A mirror of a repository, from servers of it.
 
 ghost use Rattle.std.specs.Prelude.{◌≡◌, ◌≢◌, replicate, IfOk, IfErr, OnOk};
+ghost use Rattle.std.specs.FinSet as set;
 ghost use Rattle.fetch_mirror.specs.Copying.{IsCopied, IsUncopied, fresh};
 ghost use Rattle.fetch_mirror.specs.Mirrors.{IsMirrored};
 ghost use Rattle.fetch_mirror.specs.declared.error.MirrorError.TheVariants as errors;
@@ -32,6 +33,7 @@ pub fn run_mirror<R: Threads + Wait + Sync>(
     border: &Border,
     options: MirrorOptions,
 ) -> Result<Mirrored, MirrorError>
+    ensures whole { OnOk result (border.now ≡ set.empty) }
     ensures mirrored { IfOk result (λ m. IsMirrored
         (data_of store.now refs.now) options.workers options.committer m.journal m.repo) }
     ensures copied { IfOk result (λ m. IsCopied

@@ -3,7 +3,7 @@ use Rattle.fetch_serve.specs.Servings.{Serving, unfed}
 use Rattle.fetch_serve.specs.Served.{Data, data_of}
 use Rattle.fetch_mirror.specs.Copying.{fresh}
 use Rattle.fetch_mirror.specs.Mirroring.{IsFew}
-use Rattle.fetch_mirror.proofs.Copied.{copied_told, uncopied_so, whole_told}
+use Rattle.fetch_mirror.proofs.Copied.{always, copied_told, uncopied_so, whole_told}
 use Rattle.fetch_mirror.proofs.copying.run_mirror.Goals as goal
 
 pub returns-clause-copied : goal.returns-clause-copied
@@ -33,3 +33,6 @@ returns-clause-refused g c =
     let peers_are = c.as_mut_slice.ensures.value ∙ c.in_ok-peers.ensures ∙ ap (λ (s : Serving). replicate c.args.options.workers (fresh s.served)) c.in-Ok.ensures.server in
     uncopied_so d c.in-Ok.ensures.servable c.args.border.now c.args.options.committer c.args.options.workers c.args.options.max_reply_bytes few c.new-lister.result c.mirror_from.new.lister c.as_mut_slice.result.now c.mirror_from.new.peers c.kind.result
     lister_is peers_are c.kind.ensures.kind c.mirror_from.result c.mirror_from.ensures.refused
+
+pub returns-clause-whole : goal.returns-clause-whole
+returns-clause-whole g c = always c.mirror_from.result _ c.in-Ok.ensures.whole
