@@ -95,7 +95,9 @@ class Repository:
     def references(self):
         """Each reference under `refs/`, and `HEAD`: an id in hex, or `@` and the name that it stands for."""
         direct = self.direct_references()
-        return direct | self._symbolic_references(direct) | self.head()
+        target = symbolic_target(self.place("HEAD"))
+        head = self.head() if target is None else {"HEAD": f"@{target}"}
+        return direct | self._symbolic_references(direct) | head
 
     def direct_references(self):
         """The references under `refs/` that are ids."""
@@ -116,7 +118,7 @@ class Repository:
         return found
 
     def head(self):
-        """`HEAD` with its value."""
+        """`HEAD` with `@` and the name at the end of its names, or with its id."""
         status, out, _ = run_git(["-C", self.path, "symbolic-ref", "-q", "HEAD"])
         if status == 0:
             return {"HEAD": f"@{decoded_text(out).strip()}"}

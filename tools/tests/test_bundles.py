@@ -273,6 +273,15 @@ class Applied(WithBundles):
         self.assertEqual(self.apply(Bundle("sha1"))[0], 0)
         self.assert_holds(bundle)
 
+    def test_a_head_that_leads_to_a_symbolic_reference(self):
+        """Of names that lead on, each has its own target."""
+        for target in (LAST, "refs/heads/through"):
+            self.init("--bare")
+            bundle = self.small.bundle(HEAD=f"@{target}", **{"refs/heads/through": f"@{SIDE}"})
+            self.assertEqual(self.apply(bundle)[:2], (0, b"6 objects stored, 6 references moved\n"))
+            self.assert_holds(bundle)
+            self.assertEqual(self.apply(bundle)[:2], (0, b"0 objects stored, 0 references moved\n"))
+
     def test_into_a_repository_with_references(self):
         """Its own stay, and those of the bundle may stand already."""
         bundle = self.small.bundle(HEAD=f"@{MAIN}")
