@@ -201,7 +201,7 @@ class BundleRow(QuestionsOf):
         return bundle_of(state.hash_name, state.references, state.border, list(state.objects.values())).to_bytes()
 
     def _read(self, data):
-        return self._told(data, [b"same"])
+        return self._told(data, [b"ok", b"same"])
 
     def _told(self, data, after=()):
         bundle, name, *details = judged(data)

@@ -3,7 +3,10 @@
 ghost use Rattle.fetch_check.specs.Reading.{IsBundle, bundle_of};
 
 use crate::bundle_questions::is_writable;
-use fetch_check::{BrokenCause, Bundle, BundleError, KeepError, State, read_bundle, write_bundle};
+use fetch_check::{
+    BrokenCause, Bundle, BundleError, KeepError, State, append_findings, check, read_bundle,
+    write_bundle,
+};
 use fetch_refs::{Refs, TargetRef};
 use fetch_store::{Kind, NoMemory, ObjectId, ObjectRef, append_hex, append_number};
 use rows::{refuse, say, say_id, say_printed};
@@ -89,13 +92,21 @@ pub(crate) fn say_bundle(out: &mut Vec<u8>, bundle: &Bundle) -> Result<(), NoMem
     Ok(())
 }
 
-/// Writes what was read, and tells whether it is the text again. Whether it may be written.
+/// Tells what is found in what was read.
+fn say_checked(alloc: Global, state: &State, out: &mut Vec<u8>) -> Result<(), NoMemory> {
+    let findings = check(alloc, &state.store, &state.refs, &state.border)?;
+    append_findings(out, &findings)?;
+    Ok(())
+}
+
+/// Checks what was read, writes it, and tells whether it is the text again. Whether it may be written.
 fn say_again(
     alloc: Global,
     state: &State,
     bytes: &[u8],
     out: &mut Vec<u8>,
 ) -> Result<bool, NoMemory> {
+    say_checked(alloc, state, out)?;
     if !is_writable(&state.store) {
         return Ok(false);
     }
