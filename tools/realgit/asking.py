@@ -3,8 +3,9 @@
 import re
 from dataclasses import dataclass, field
 
-from realgit.grammar import DIGITS
-from realgit.lines import Mark
+from realgit.depths import Depth
+from realgit.grammar import DIGITS, is_name
+from realgit.lines import Mark, decoded_text
 
 BOUND = 1 << 28
 PACKS = {b"plain-pack": 1, b"plain-pack-2": 2}
@@ -40,6 +41,7 @@ class FetchAsked:
     version: int = 1
     include_tag: bool = False
     border: list[str] = field(default_factory=list)
+    depth: Depth | None = None
     wants: list[str] = field(default_factory=list)
     haves: list[str] = field(default_factory=list)
     done: bool = False
@@ -126,44 +128,66 @@ def _listing(lines):
     return asked
 
 
-# The words of a fetch request in their order, and whether the request may end behind each.
-PARTS = {b"include-tag": False, b"shallow": False, b"want": True, b"have": True, b"done": True}
+FRONT = b"", b"include-tag", b"shallow"
+LIMITS = b"deepen-since", b"deepen-not"
+NONE = b"deepen 0"
+# The words of a fetch request, and behind which of them each may stand. A depth of 0 has to be relative.
+BEHIND = {
+    b"include-tag": FRONT[:1], b"shallow": FRONT,
+    b"deepen": FRONT, NONE: FRONT, b"deepen-relative": (b"deepen", NONE), b"deepen-since": FRONT, b"deepen-not": (*FRONT, *LIMITS),
+    b"want": (*FRONT, b"deepen", b"deepen-relative", *LIMITS, b"want"),
+    b"have": (b"want", b"have"), b"done": (b"want", b"have"),
+}
+# Behind which of them a request may end.
+ENDS = b"want", b"have", b"done"
 
 
 def _fetch(lines, count):
-    """The lines of each kind stand together, in this order, and one want has to stand."""
+    """The lines of each kind stand together, in their order, and one want has to stand."""
     word = lines.text_or()
     if word not in PACKS:
         raise lines.broken()
-    asked, parts, last = FetchAsked(PACKS[word]), list(PARTS), None
+    asked, last = FetchAsked(PACKS[word]), b""
     while (line := lines.text_or(Mark.FLUSH)) is not Mark.FLUSH:
-        word, _, digits = line.partition(b" ")
-        if word not in PARTS or not _may_follow(parts.index(word), last, parts) or not _take(asked, word, line, digits, count):
+        word, _, value = (line, b"", line[7:]) if line == NONE else line.partition(b" ")
+        if last not in BEHIND.get(word, ()) or not _take(asked, word, line, value, count):
             raise lines.broken()
-        last = parts.index(word)
-    if last is None or not PARTS[parts[last]]:
+        last = word
+    if last not in ENDS:
         raise lines.broken()
     return asked
 
 
-def _may_follow(part, last, parts):
-    """Whether a line of one part may stand behind one of another. Haves and `done` need a want."""
-    if parts[part] in (b"have", b"done") and (last is None or last < parts.index(b"want")):
-        return False
-    repeats = parts[part] not in (b"include-tag", b"done")
-    return last is None or part > last or part == last and repeats
-
-
-def _take(asked, word, line, digits, count):
+def _take(asked, word, line, value, count):
     """Takes what a line says. Whether it may say so."""
     if word in (b"include-tag", b"done"):
         asked.include_tag, asked.done = asked.include_tag or word == b"include-tag", word == b"done"
         return line == word
-    if not re.fullmatch(rb"[0-9a-fA-F]{%d}" % count, digits):
+    if word.startswith(b"deepen"):
+        return _take_depth(asked, word, line, value)
+    if not re.fullmatch(rb"[0-9a-fA-F]{%d}" % count, value):
         return False
-    digits = digits.decode().lower()
+    digits = value.decode().lower()
     ids = {b"shallow": asked.border, b"want": asked.wants, b"have": asked.haves}[word]
     if word == b"shallow" and ids and digits <= ids[-1] or digits in ids:
         return False
     ids.append(digits)
     return True
+
+
+def _take_depth(asked, word, line, value):
+    """Takes what a line of a depth says. Whether it may say so."""
+    depth = asked.depth = asked.depth or Depth()
+    if word == b"deepen-relative":
+        depth.relative = True
+        return line == word
+    if word == b"deepen-not":
+        depth.excluded.append(decoded_text(value))
+        return is_name(value)
+    if not re.fullmatch(rb"0|[1-9][0-9]*", value):
+        return False
+    if word == b"deepen-since":
+        depth.since = int(value)
+        return depth.since < 1 << 64
+    depth.deepen = int(value)
+    return depth.deepen < 1 << 32

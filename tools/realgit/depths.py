@@ -2,9 +2,10 @@
 
 from dataclasses import dataclass, field
 
-from realgit.lines import decoded_text
+from realgit.grammar import DIGITS, links_in
 from realgit.linking import tags_from
 
+HASHES = {count: name for name, count in DIGITS.items()}
 # What a short name stands for.
 RULES = ("{}", "refs/{}", "refs/tags/{}", "refs/heads/{}", "refs/remotes/{}", "refs/remotes/{}/HEAD")
 
@@ -39,9 +40,8 @@ class History:
         self.objects, self.parents, self.seconds = objects, {}, {}
         for digits, each in objects.items():
             if each.kind == "commit":
-                lines = decoded_text(each.data).partition("\n\n")[0].split("\n")
-                self.parents[digits] = [line[7:] for line in lines if line.startswith("parent ")]
-                self.seconds[digits] = next(int(line.split(" ")[-2]) for line in lines if line.startswith("committer "))
+                links = links_in(each, HASHES[len(digits)])
+                self.parents[digits], self.seconds[digits] = links.parents, links.seconds
 
     def peeled(self, digits):
         """What a tag leads to, and else the id itself."""

@@ -22,7 +22,14 @@ WORKERS = (*range(10), 1, 2, 3, 8, 4294967295)
 FIRST_LINES = (b"git-upload-pack /srv/a.git\0\0version=2\0", b"git-upload-pack  \0\0version=2\0a=b\0c\0",
                b"git-upload-pack /srv/a.git\0\0version=1\0", b"git-upload-pack /srv/a.git\0host=a\0\0version=2\0",
                b"git-upload-pack /srv/a.git\0\0version=2\0a\nb\0", b"git-upload-pack /srv/a.git\0\0version=2\0a")
-DEPTHS = ("deepen 1", "deepen 2147483647", "deepen-since 1600000000", "deepen-not refs/heads/main", "deepen-relative")
+DEPTHS = (
+    ["deepen 1"], ["deepen 2147483647"], ["deepen 4294967295"], ["deepen 4294967296"], ["deepen 0"], ["deepen 01"], ["deepen "],
+    ["deepen 1", "deepen-relative"], ["deepen 0", "deepen-relative"], ["deepen-relative"], ["deepen-relative", "deepen 1"],
+    ["deepen 1", "deepen 1"], ["deepen 1", "deepen-since 1"], ["deepen-since 0"], ["deepen-since 1600000000"],
+    ["deepen-since 18446744073709551615"], ["deepen-since 18446744073709551616"], ["deepen-since -1"],
+    ["deepen-since 1600000000", "deepen-not main"], ["deepen-not main", "deepen-since 1"], ["deepen-not HEAD"], ["deepen-not v1"],
+    ["deepen-not refs/heads/main"], ["deepen-not main", "deepen-not main"], ["deepen-not @"], ["deepen-not "], ["deepen-not a..b"],
+)
 
 
 class Repositories:
@@ -87,7 +94,7 @@ def asked(random, maker):
     """A text of requests, most of them whole ones, some of it changed."""
     client = maker.client(random.random() < 0.6)
     requests = [each.lines() for each in maker.requests(client)]
-    if random.random() < 0.08:
+    if random.random() < 0.12:
         requests = [with_depth(random, each) for each in requests]
     first = FIRST_LINES[0] if random.random() < 0.9 else random.choice(FIRST_LINES)
     text = encoded(first) + b"".join(encoded(line) for request in requests for line in [*request, Mark.FLUSH])
@@ -98,9 +105,10 @@ def asked(random, maker):
 
 
 def with_depth(random, request):
-    """A request with a line of depth before its wants, if it has some."""
-    at = next((at for at, line in enumerate(request) if line != Mark.DELIMITER and line.startswith(b"want ")), None)
-    return request if at is None else [*request[:at], text_line(random.choice(DEPTHS)), *request[at:]]
+    """A request whose depth lines are others, if it has wants."""
+    rest = [line for line in request if line == Mark.DELIMITER or not line.startswith(b"deepen")]
+    at = next((at for at, line in enumerate(rest) if line != Mark.DELIMITER and line.startswith(b"want ")), None)
+    return request if at is None else [*rest[:at], *map(text_line, random.choice(DEPTHS)), *rest[at:]]
 
 
 def questions_of(random, text):

@@ -16,10 +16,11 @@ class MalformedObject(Exception):
 
 @dataclass
 class Links:
-    """The ids that an object names: a commit's parents, and all others."""
+    """The ids that an object names: a commit's parents, and all others; and the time of a commit."""
 
     parents: list[str] = field(default_factory=list)
     others: list[str] = field(default_factory=list)
+    seconds: int | None = None
 
 
 def links_in(each, hash_name):
@@ -34,7 +35,7 @@ def _in_commit(data, count):
     if match is None or int(match[3]) >= SECONDS:
         raise MalformedObject
     parents = [line.removeprefix(b"parent ") for line in match[2].splitlines()]
-    return Links([_id(parent) for parent in parents], [_id(match[1])])
+    return Links([_id(parent) for parent in parents], [_id(match[1])], int(match[3]))
 
 
 def _in_tree(data, count):
@@ -65,9 +66,12 @@ READERS = {"commit": _in_commit, "tree": _in_tree, "blob": lambda data, count: L
 
 def is_full_name(name):
     """Whether bytes are a full name: one that begins with `refs/`, or one of capitals."""
-    if not (name.startswith(b"refs/") or CAPITALS.fullmatch(name)) or name.endswith(b"."):
-        return False
-    return all(map(_is_component, name.split(b"/")))
+    return is_name(name) and (name.startswith(b"refs/") or CAPITALS.fullmatch(name) is not None)
+
+
+def is_name(name):
+    """Whether bytes are a name, whole or short."""
+    return all(map(_is_component, name.split(b"/"))) and not name.endswith(b".") and name != b"@"
 
 
 def _is_component(part):

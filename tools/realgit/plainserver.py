@@ -1,9 +1,11 @@
 """What the engine's server gives, by docs/FORMATS.md: which repositories it takes, and its replies."""
 
 from dataclasses import dataclass, field
+from functools import cached_property
 
-from realgit.asking import FetchAsked, FirstLine, ListingAsked, Refused, Short, request_at
+from realgit.asking import FirstLine, ListingAsked, Refused, Short, request_at
 from realgit.bundle import NAMES
+from realgit.depths import History, named
 from realgit.grammar import links_in
 from realgit.lines import Mark, encoded, encoded_text, pieces
 from realgit.plainpack import Object, object_id, write_pack
@@ -51,6 +53,11 @@ class State:
         while way[-1] in self.objects and self.objects[way[-1]].kind == "tag":
             way += self.links(way[-1], ())
         return way
+
+    @cached_property
+    def history(self):
+        """The commits with their parents."""
+        return History(self.objects)
 
     def names(self):
         """The names, ascending."""
@@ -146,20 +153,40 @@ class Plainserver:
         return said(*lines)
 
     def _fetch(self, asked):
-        offered = {digits for _, _, way in self.state.offered() for digits in (way[:1] + way[-1:])}
+        offered = self._offered()
+        ids = {digits for found in offered.values() for digits in found}
         for want in asked.wants:
-            if want not in offered:
+            if want not in ids:
                 return said(f"ERR want {want} not offered", last=())
         if not asked.done:
             known = [f"ACK {digits}" for digits in asked.haves if digits in self.state.objects]
             return said("acknowledgments", *(known or ["NAK"]))
-        pack = write_pack([self.state.objects[digits] for digits in self.served(asked)], asked.version, self.state.hash_name)
-        return said("packfile", last=[*(b"\1" + piece for piece in pieces(pack, BAND)), Mark.FLUSH])
+        kept = self._kept(asked, offered)
+        moves = self.state.history.moves(kept, asked.border)
+        info = b"" if asked.depth is None else said("shallow-info", *moves, last=[Mark.DELIMITER])
+        pack = write_pack([self.state.objects[digits] for digits in self._served(asked, kept, moves)], asked.version, self.state.hash_name)
+        return info + said("packfile", last=[*(b"\1" + piece for piece in pieces(pack, BAND)), Mark.FLUSH])
 
-    def served(self, asked: FetchAsked):
+    def _offered(self):
+        """The ids that each offered name has: its own, and what its tag leads to."""
+        return {name: way[:1] + way[-1:] for name, _, way in self.state.offered() if way}
+
+    def _kept(self, asked, offered):
+        """The commits that depth lines keep."""
+        if asked.depth is None:
+            return set()
+
+        def ids(name):
+            return [digits for full in named(name, offered) for digits in offered[full]]
+
+        return self.state.history.kept(asked.depth, asked.wants, asked.border, ids)
+
+    def _served(self, asked, kept, moves):
         """The ids of the objects in a pack, ascending."""
-        border = set(asked.border)
-        needed = self.state.reached(asked.wants, border) - self.state.reached(asked.haves, border)
+        before = set(asked.border)
+        come, left = ({line.split(" ")[1] for line in moves if line.startswith(word)} for word in ("shallow ", "unshallow "))
+        parents = [parent for digits in left for parent in self.state.history.parents[digits]]
+        needed = self.state.reached([*asked.wants, *kept, *parents], (before | come) - left) - self.state.reached(asked.haves, before)
         tags = [way for name, _, way in self.state.offered() if name.startswith("refs/tags/") and len(way) > 1]
         along = [digits for way in tags if asked.include_tag and way[-1] in needed for digits in way[:-1]]
         return sorted(needed | set(along))

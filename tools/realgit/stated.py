@@ -48,13 +48,26 @@ RejectShallowRemote RejectShallowRemoteConfig ReplyTooLong ServerError""".split(
 FOUND = re.compile(rb"^(missing|unreached|broken [^\n ]+ [A-Za-z]+)", re.MULTILINE)
 FINDING_NAMES = "Cycle Depth MissingObject missing unreached".split()
 MIRROR_NAMES = "NotClosed NotServable ShallowServer Workers".split()
+GIVEN, LENGTH = rb"gives [^\n]*", rb"[0-9a-f]{4}"
+# What stands before depth lines, and their forms.
+FRONT = rb"(?:plain-pack(?:-2)?|include-tag|shallow [0-9a-f]+)%0A" + LENGTH
+COUNT, SINCE, NOT = rb"deepen [0-9]+%0A" + LENGTH, rb"deepen-since [0-9]+%0A" + LENGTH, rb"(?:deepen-not [^%%\n]+%%0A%b)+" % LENGTH
+FORMS = {
+    "deepen": COUNT, "deepen-relative": COUNT + rb"deepen-relative%0A" + LENGTH, "deepen-since": SINCE, "deepen-not": NOT,
+    "deepen-since with deepen-not": SINCE + NOT,
+}
 PRINTED = {
     "ShallowServer": rb"refused a repository with a shallow border",
     "WrongId": rb"refused the stored id ",
     "NotClosed": rb"refused the stored object ",
     "NotServable": rb"refused the reference ",
     "Malformed": rb"refused malformed line at byte ",
-    "want not offered": rb"(?:gives [^\n]*)ERR want [0-9a-f]+ not offered%0A",
+    "want not offered": GIVEN + rb"ERR want [0-9a-f]+ not offered%0A",
+    "shallow": GIVEN + rb"%bshallow [0-9a-f]+%%0A" % LENGTH,
+    "unshallow": GIVEN + rb"%bunshallow [0-9a-f]+%%0A" % LENGTH,
+    "no moves": GIVEN + rb"shallow-info%0A0001",
+    # A request with depth lines of a form in one piece, and `shallow-info` behind it.
+    **{name: rb"\? [^\n]*%b%bwant (?s:.*)shallow-info%%0A" % (FRONT, form) for name, form in FORMS.items()},
 }
 PRINTED_OF_BUNDLES = {
     "Missing": rb"refused the repository isn't closed",
