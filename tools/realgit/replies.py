@@ -20,8 +20,9 @@ AGAIN = "Objects that come again"
 END = "A commit at the depth"
 FAR = "A border that the wants don't lead to"
 OUTSIDE = "A want outside the limits"
+BEHIND = "Commits behind the border"
 NO_DEPTH = "A depth that Git refuses"
-REASONS = (CHAIN, NOT_OFFERED, READY, NO_HAVES, EMPTY_INFO, AGAIN, END, FAR, OUTSIDE, NO_DEPTH)
+REASONS = (CHAIN, NOT_OFFERED, READY, NO_HAVES, EMPTY_INFO, AGAIN, END, FAR, OUTSIDE, BEHIND, NO_DEPTH)
 # What Git says of depth lines that it refuses.
 REFUSED_DEPTHS = ("Invalid deepen", "ambiguous deepen-not", "no commits selected for shallow requests")
 ACKNOWLEDGED, SHALLOW, PACK, LAST = "acknowledgments", "shallow-info", "packfile", "ready"
@@ -69,6 +70,23 @@ class Asked:
     def kept_by_git(self, history):
         """The same within limits, as Git has it."""
         return history.kept_by_git(self.request.depth, self.request.wants, self._ids)
+
+    def sent_outside(self, border):
+        """What Git sends of wants that are outside limits: all of their history up to its border."""
+        if not self._is_limited():
+            return set()
+        history = History(self.stored)
+        roots = {digits for digits in map(history.peeled, self.request.wants) if digits in history.parents}
+        return reached(self.stored, roots - self.kept_by_git(history), border)
+
+    def sent_behind(self, border):
+        """What is sent here within limits although the wants don't lead to it over the border."""
+        if not self._is_limited():
+            return set()
+        return reached(self.stored, self.kept(History(self.stored)), border) - reached(self.stored, self.request.wants, border)
+
+    def _is_limited(self):
+        return self.request.depth is not None and self.request.depth.deepen is None
 
     def _ids(self, name):
         """The ids of the references that a name stands for."""
@@ -259,15 +277,15 @@ def _packs(theirs, reply, asked):
     if lacking:
         yield f"the client lacks {sorted(lacking)}", None
     if sent.keys() - real:
-        yield f"sent by the server alone: {sorted(sent.keys() - real)}", None
+        more = sent.keys() - real - _with_tags(asked, asked.sent_behind(asked.border(reply.border)))
+        yield f"sent by the server alone: {sorted(sent.keys() - real)}", None if more else BEHIND
     if real - sent.keys():
-        more = real - sent.keys() - (asked.held() | _tags_of(asked, real))
-        yield f"sent by Git alone: {sorted(real - sent.keys())}", None if more else AGAIN
+        more, again = real - sent.keys(), _with_tags(asked, real & asked.held())
+        outside = again | _with_tags(asked, real & asked.sent_outside(asked.border(theirs.border)))
+        yield f"sent by Git alone: {sorted(more)}", AGAIN if more <= again else OUTSIDE if more <= outside else None
 
 
-def _tags_of(asked, real):
-    """The tags that come along with what the client has."""
-    if not asked.request.include_tag:
-        return set()
-    ways = [tags_from(asked.stored, digits) for digits in asked.offered]
-    return {digits for way in ways if way[-1] in real & asked.held() for digits in way}
+def _with_tags(asked, ids):
+    """These ids, with the tags that come along with them."""
+    ways = [tags_from(asked.stored, digits) for digits in asked.offered if asked.request.include_tag]
+    return ids | {digits for way in ways if way[-1] in ids for digits in way}

@@ -77,7 +77,7 @@ class Expected(unittest.TestCase):
                            for name in ("stdin", "stdout"))
         worked_out = [(answer_of(row), answer) for row, answer in zip(inputs, answers)]
         self.assertEqual([wanted for told, wanted in worked_out if told not in (None, wanted)], [])
-        self.assertGreater(sum(told is not None for told, _ in worked_out), 85)
+        self.assertGreater(sum(told is not None for told, _ in worked_out), 170)
 
     def test_what_is_no_row(self):
         for row in (b"", b"= serve a\n? no\n", b"= other a\n", b"= serve a\nobject commit a\n", b"= bundle a\nunder 11 blob a\n"):

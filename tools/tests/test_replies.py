@@ -10,7 +10,8 @@ from realgit.depths import Depth, History, named
 from realgit.lines import Mark, encoded
 from realgit.linking import links_of, reached
 from realgit.plainpack import write_pack
-from realgit.replies import AGAIN, CHAIN, END, FAR, NO_DEPTH, NO_HAVES, NOT_OFFERED, READY, REASONS, Asked, fetches, greetings, listings
+from realgit.replies import AGAIN, BEHIND, CHAIN, END, FAR, NO_DEPTH, NO_HAVES, NOT_OFFERED, OUTSIDE, READY, REASONS
+from realgit.replies import Asked, fetches, greetings, listings
 from realgit.rowserver import escaped, row_of
 from realgit.served import Fetch, Growth, Maker
 from realgit.trouble import read_file
@@ -92,6 +93,27 @@ class Replies(unittest.TestCase):
         asked.request.wants = [self.first]
         self.assertEqual(self.reasons(moved["second"], moved["none"], asked), [FAR])
         self.assertEqual(self.reasons(said(b"ERR upload-pack: Invalid deepen: 0\n"), moved["none"], asked), [NO_DEPTH])
+
+    def limited(self, ids, *moves):
+        """A pack of these objects behind lines that move the border."""
+        front = said(b"shallow-info\n", *(f"{move}\n".encode() for move in moves)).removesuffix(b"0000") + b"0001"
+        return front + self.pack(ids)
+
+    def test_limits(self):
+        """Of a merge one parent is outside the limits, and one want is."""
+        stored, third = self.growth.objects, self.growth.commit([])
+        merge = self.growth.commit([self.first, third])
+        request = Fetch("sha1", "plain-pack-2", False, [], [merge], [], True, Depth(excluded=["old"]))
+        asked = Asked(request, stored, {merge, self.first}, references={"refs/heads/old": [self.first]})
+        ours = self.limited(reached(stored, [merge, third], [merge]), f"shallow {merge}")
+        real = self.limited(reached(stored, [merge], [merge]), f"shallow {merge}")
+        self.assertEqual(self.reasons(real, ours, asked), [BEHIND])
+        self.assertEqual(self.reasons(self.limited(reached(stored, [merge], [merge]) | {self.other}, f"shallow {merge}"), ours, asked), [BEHIND, None])
+        request.wants, asked.references = [self.second, third], {"refs/heads/old": [self.second]}
+        asked.offered = set(request.wants)
+        ours = self.limited(reached(stored, [self.second, third], [self.second]), f"shallow {self.second}")
+        real = self.limited(reached(stored, [self.second, third]))
+        self.assertEqual(self.reasons(real, ours, asked), [OUTSIDE, OUTSIDE])
 
     def test_reasons_are_titles_of_the_documents(self):
         text = read_file(os.path.join(TOOLS, "..", "docs", "DIFFERENCES.md")).decode()
