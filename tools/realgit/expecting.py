@@ -33,9 +33,9 @@ def answer_of(row):
     title, _, rest = row.partition(b"\n")
     lines = rest.removesuffix(b"\n").split(b"\n")
     put = [line for line in lines if not line.startswith(b"? ")]
-    kinds = {b"= serve": ServeRow, b"= bundle": BundleRow}
+    kinds = {b"= serve ": ServeRow, b"= bundle ": BundleRow}
     try:
-        told = kinds[b" ".join(title.split(b" ")[:2])](state_of(put)).tell([line[2:] for line in lines[len(put) :]])
+        told = kinds[title[: title.find(b" ", 2) + 1]](state_of(put)).tell([line[2:] for line in lines[len(put) :]])
     except (MalformedObject, ValueError, KeyError):
         return None
     return b"".join(line + b"\n" for line in [title, *told])
@@ -230,4 +230,4 @@ class BundleRow(QuestionsOf):
         return [b"nothing"] if self.file is None else self._told(self.file)
 
     def _files(self, _):
-        return [] if self.file is None else [b"file a.bundle"]
+        return [b"failed" if self.file is None else b"file a.bundle"]

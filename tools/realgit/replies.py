@@ -21,8 +21,9 @@ END = "A commit at the depth"
 FAR = "A border that the wants don't lead to"
 OUTSIDE = "A want outside the limits"
 BEHIND = "Commits behind the border"
+LEAVES = "A commit that leaves the border"
 NO_DEPTH = "A depth that Git refuses"
-REASONS = (CHAIN, NOT_OFFERED, READY, NO_HAVES, EMPTY_INFO, AGAIN, END, FAR, OUTSIDE, BEHIND, NO_DEPTH)
+REASONS = (CHAIN, NOT_OFFERED, READY, NO_HAVES, EMPTY_INFO, AGAIN, END, FAR, OUTSIDE, BEHIND, LEAVES, NO_DEPTH)
 # What Git says of depth lines that it refuses.
 REFUSED_DEPTHS = ("Invalid deepen", "ambiguous deepen-not", "no commits selected for shallow requests")
 ACKNOWLEDGED, SHALLOW, PACK, LAST = "acknowledgments", "shallow-info", "packfile", "ready"
@@ -84,6 +85,10 @@ class Asked:
         if not self._is_limited():
             return set()
         return reached(self.stored, self.kept(History(self.stored)), border) - reached(self.stored, self.request.wants, border)
+
+    def of_left(self, lines):
+        """What commits lead to that leave the border. Git takes it that the client has them."""
+        return reached(self.stored, set(self.request.border) - self.border(lines), self.request.border)
 
     def _is_limited(self):
         return self.request.depth is not None and self.request.depth.deepen is None
@@ -199,8 +204,9 @@ def _errors(theirs, reply, asked):
     first = next((digits for digits in asked.request.wants if digits not in asked.offered), None)
     is_served = theirs.error is None and first in asked.stored
     is_refused = theirs.error is not None and "not our ref" in theirs.error
-    is_told = reply.error == f"ERR want {first} not offered" and (is_served or is_refused)
-    yield f"a want: Git has {theirs.error or 'a reply'}, the server {reply.error}", NOT_OFFERED if is_told else None
+    reason = NOT_OFFERED if is_served or is_refused else NO_DEPTH if _is_refused_depth(theirs, asked) else None
+    is_told = reply.error == f"ERR want {first} not offered"
+    yield f"a want: Git has {theirs.error or 'a reply'}, the server {reply.error}", reason if is_told else None
 
 
 def _is_refused_depth(theirs, asked):
@@ -277,8 +283,9 @@ def _packs(theirs, reply, asked):
     if lacking:
         yield f"the client lacks {sorted(lacking)}", None
     if sent.keys() - real:
-        more = sent.keys() - real - _with_tags(asked, asked.sent_behind(asked.border(reply.border)))
-        yield f"sent by the server alone: {sorted(sent.keys() - real)}", None if more else BEHIND
+        more, left = sent.keys() - real, asked.of_left(reply.border)
+        behind = left | _with_tags(asked, asked.sent_behind(asked.border(reply.border)))
+        yield f"sent by the server alone: {sorted(more)}", LEAVES if more <= left else BEHIND if more <= behind else None
     if real - sent.keys():
         more, again = real - sent.keys(), _with_tags(asked, real & asked.held())
         outside = again | _with_tags(asked, real & asked.sent_outside(asked.border(theirs.border)))

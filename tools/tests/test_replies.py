@@ -10,7 +10,7 @@ from realgit.depths import Depth, History, named
 from realgit.lines import Mark, encoded
 from realgit.linking import links_of, reached
 from realgit.plainpack import write_pack
-from realgit.replies import AGAIN, BEHIND, CHAIN, END, FAR, NO_DEPTH, NO_HAVES, NOT_OFFERED, OUTSIDE, READY, REASONS
+from realgit.replies import AGAIN, BEHIND, CHAIN, END, FAR, LEAVES, NO_DEPTH, NO_HAVES, NOT_OFFERED, OUTSIDE, READY, REASONS
 from realgit.replies import Asked, fetches, greetings, listings
 from realgit.rowserver import escaped, row_of
 from realgit.served import Fetch, Growth, Maker
@@ -114,6 +114,15 @@ class Replies(unittest.TestCase):
         ours = self.limited(reached(stored, [self.second, third], [self.second]), f"shallow {self.second}")
         real = self.limited(reached(stored, [self.second, third]))
         self.assertEqual(self.reasons(real, ours, asked), [OUTSIDE, OUTSIDE])
+
+    def test_what_leaves_the_border(self):
+        """The first commit, which has no parents, leaves the border, and no have leads to it."""
+        stored = self.growth.objects
+        request = Fetch("sha1", "plain-pack-2", False, [self.first], [self.second], [], True, Depth(deepen=1, relative=True))
+        asked = Asked(request, stored, {self.second})
+        real, ours = (self.limited(ids, f"unshallow {self.first}") for ids in (self.new, self.new | self.old))
+        self.assertEqual(self.reasons(ours, ours, asked), [])
+        self.assertEqual(self.reasons(real, ours, asked), [LEAVES])
 
     def test_reasons_are_titles_of_the_documents(self):
         text = read_file(os.path.join(TOOLS, "..", "docs", "DIFFERENCES.md")).decode()
