@@ -1,0 +1,249 @@
+//! Two workers whose peers hold each reply until the other one was asked for the same, a listing or a pack: so both have to
+//! be under way at once, and neither waits for the other's turn.
+
+ghost use Rattle.std.specs.Prelude.{◌≡◌, IfOk, vec_len};
+ghost use Rattle.fetch_store.specs.Faults.{Rose, Counts, counted};
+
+use crate::mirrors::{options_for, tell_mirror};
+use fetch_mirror::mirror_from;
+use fetch_remote::Repository;
+use fetch_serve::{ServeError, Server, ServerPeer};
+use fetch_store::{Failed, NoMemory};
+use fetch_wire::{Peer, ReplyBound, SendFault};
+use rows::say_number;
+use std::alloc::Global;
+use std::sync::atomic::{AtomicBool, Ordering};
+use std::sync::{Arc, Wait};
+use std::thread::{Threads, yield_now};
+
+/// How often a peer looks whether the other one was asked, before it fails.
+const TURNS: u64 = 10_000_000;
+
+/// What a peer was asked for last.
+#[derive(Clone, Copy)]
+enum Stage {
+    Greeting,
+    Listing,
+    Pack,
+}
+
+/// Whether a peer was asked for a listing, and for a pack.
+#[derive(Drop)]
+struct Asked {
+    listing: AtomicBool,
+    pack: AtomicBool,
+}
+
+/// The same of two peers.
+#[derive(Drop)]
+struct Both {
+    first: Asked,
+    second: Asked,
+}
+
+/// By what one of two peers sees the other one.
+#[derive(Drop)]
+struct Gate {
+    both: Arc<Both, Global>,
+    is_first: bool,
+}
+
+/// A server as a peer, which waits for another one where it has a gate.
+#[derive(Drop)]
+struct GatedPeer<'a> {
+    server: ServerPeer<'a>,
+    gate: Option<Gate>,
+    stage: Stage,
+    failed: u64,
+}
+
+/// What these bytes ask for, if they begin a request behind the greeting.
+fn stage_of(bytes: &[u8]) -> Option<Stage> {
+    if bytes.starts_with(b"0014command=ls-refs\n") {
+        return Some(Stage::Listing);
+    }
+    if bytes.starts_with(b"0012command=fetch\n") {
+        return Some(Stage::Pack);
+    }
+    None
+}
+
+/// The flag of a stage. Each peer is greeted at once.
+fn flag(asked: &Asked, stage: Stage) -> Option<&AtomicBool> {
+    match stage {
+        Stage::Greeting => None,
+        Stage::Listing => Some(&asked.listing),
+        Stage::Pack => Some(&asked.pack),
+    }
+}
+
+impl Gate {
+    /// Notes what this peer was asked for.
+    fn note(&self, stage: Stage) {
+        let mine = if self.is_first {
+            &self.both.first
+        } else {
+            &self.both.second
+        };
+        if let Some(flag) = flag(mine, stage) {
+            flag.store(true, Ordering::SeqCst);
+        }
+    }
+
+    /// Whether the other one was asked for the same, or is while it waits.
+    fn sees_other(&self, stage: Stage) -> bool {
+        let other = if self.is_first {
+            &self.both.second
+        } else {
+            &self.both.first
+        };
+        let Some(flag) = flag(other, stage) else {
+            return true;
+        };
+        for _ in 0..TURNS {
+            if flag.load(Ordering::SeqCst) {
+                return true;
+            }
+            yield_now();
+        }
+        false
+    }
+}
+
+impl<'a> GatedPeer<'a> {
+    /// A peer by a server of its own of the same repository.
+    fn new(server: &Server<'a>, gate: Option<Gate>) -> GatedPeer<'a> {
+        GatedPeer {
+            server: ServerPeer::new(server.fresh()),
+            gate,
+            stage: Stage::Greeting,
+            failed: 0,
+        }
+    }
+
+    /// Notes what these bytes ask for.
+    fn note(&mut self, bytes: &[u8])
+        ensures { self.new.failed ≡ self.old.failed }
+    {
+        if let Some(stage) = stage_of(bytes) {
+            self.stage = stage;
+            if let Some(gate) = &self.gate {
+                gate.note(stage);
+            }
+        }
+    }
+
+    /// Whether it may reply now.
+    fn may_reply(&self) -> bool {
+        match &self.gate {
+            Some(gate) => gate.sees_other(self.stage),
+            None => true,
+        }
+    }
+
+    fn fail(&mut self)
+        ensures counts { Counts (counted self.old.failed) (counted self.new.failed) }
+        ensures rose { Rose (counted self.old.failed) (counted self.new.failed) }
+    {
+        self.failed = self.failed.saturating_add(1);
+    }
+}
+
+impl<'a> Peer for GatedPeer<'a> {
+    ghost use Rattle.std.specs.Prelude.{false, None};
+    ghost use Rattle.fetch_store.specs.Faults.{counted};
+
+    ghost told = { λ _. None };
+
+    ghost faults = { λ p. counted p.failed };
+
+    ghost answers = { false };
+
+    fn send(&mut self, bytes: &[u8]) -> Result<(), SendFault> {
+        self.note(bytes);
+        match self.server.send(bytes) {
+            Ok(()) => Ok(()),
+            Err(SendFault::NoMemory) => Err(SendFault::NoMemory),
+            Err(SendFault::Failed) => {
+                self.fail();
+                Err(SendFault::Failed)
+            }
+        }
+    }
+
+    fn receive(&mut self, into: &mut [u8]) -> Result<usize, Failed> {
+        if !self.may_reply() {
+            self.fail();
+            return Err(Failed);
+        }
+        match self.server.receive(into) {
+            Ok(count) => Ok(count),
+            Err(Failed) => {
+                self.fail();
+                Err(Failed)
+            }
+        }
+    }
+}
+
+fn unasked() -> Asked {
+    Asked {
+        listing: AtomicBool::new(false),
+        pack: AtomicBool::new(false),
+    }
+}
+
+/// Two peers of a server, each of which waits for the other one.
+fn two_peers<'a>(alloc: Global, server: &Server<'a>) -> Result<Vec<GatedPeer<'a>>, NoMemory>
+    ensures { IfOk result (λ peers. vec_len peers ≡ 2) }
+{
+    let both = Both {
+        first: unasked(),
+        second: unasked(),
+    };
+    let both = Arc::new(alloc, both)?;
+    let first = Gate {
+        both: Arc::try_clone(&both)?,
+        is_first: true,
+    };
+    let second = Gate {
+        both,
+        is_first: false,
+    };
+    let mut peers = Vec::with_capacity(alloc, 2)?;
+    peers.push(GatedPeer::new(server, Some(first)))?;
+    peers.push(GatedPeer::new(server, Some(second)))?;
+    Ok(peers)
+}
+
+/// Puts down the mirror of what a server has by such peers, and how many entries were made.
+fn tell_served(
+    rt: &(impl Threads + Wait + Sync),
+    alloc: Global,
+    repo: &Repository,
+    server: &Server<'_>,
+    out: &mut Vec<u8>,
+) -> Result<bool, NoMemory> {
+    let mut lister = Box::new(alloc, GatedPeer::new(server, None))?;
+    let mut peers = two_peers(alloc, server)?;
+    let options = options_for(repo, 2, ReplyBound::default())?;
+    let kind = repo.store().kind();
+    let mirror = mirror_from(rt, alloc, kind, &mut *lister, peers.as_mut_slice(), options);
+    let entries = tell_mirror(alloc, mirror, out)?;
+    say_number(out, b"== entries", entries)?;
+    Ok(true)
+}
+
+/// Puts down the mirror of a repository by such peers. Whether it can be served.
+pub(crate) fn tell(
+    rt: &(impl Threads + Wait + Sync),
+    alloc: Global,
+    repo: &Repository,
+    out: &mut Vec<u8>,
+) -> Result<bool, NoMemory> {
+    match Server::new(alloc, repo.store(), repo.refs(), repo.border()) {
+        Ok(server) => tell_served(rt, alloc, repo, &server, out),
+        Err(ServeError::NoMemory) => Err(NoMemory),
+        Err(_) => Ok(false),
+    }
+}

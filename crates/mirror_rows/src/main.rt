@@ -1,0 +1,80 @@
+//! Mirrors the repositories of its input: by the program's words, by a bound of the replies, or by workers whose peers wait for
+//! each other. Or it fetches from servers of them. It writes what came of it.
+#![tactic(auto)]
+
+mod bounds;
+mod gated;
+mod mirrors;
+mod repositories;
+mod served;
+mod worded;
+
+use self::repositories::repository_of;
+use fetch_store::NoMemory;
+use rows::{Row, end, read_input, rows_of, say};
+use std::alloc::Global;
+use std::process::ExitCode;
+use std::sync::Wait;
+use std::thread::Threads;
+
+/// Puts down what a row tells of mirrors of its repository that the program's words don't ask for. Whether it is one.
+fn tell_mirrors(
+    rt: &(impl Threads + Wait + Sync),
+    alloc: Global,
+    row: &Row<'_>,
+    out: &mut Vec<u8>,
+) -> Result<bool, NoMemory> {
+    let Some(repo) = repository_of(rt, alloc, row.scene)? else {
+        return Ok(false);
+    };
+    if row.whose == b"bounds".as_slice() {
+        bounds::tell(rt, alloc, &repo, row.lines, out)
+    } else if row.whose == b"gated".as_slice() {
+        gated::tell(rt, alloc, &repo, out)
+    } else {
+        Ok(false)
+    }
+}
+
+/// Puts down what a row tells. Whether it is one.
+fn tell_row(
+    rt: &(impl Threads + Wait + Sync),
+    alloc: Global,
+    row: &Row<'_>,
+    out: &mut Vec<u8>,
+) -> Result<bool, NoMemory> {
+    say(out, &[b"=", row.whose, row.about])?;
+    if row.whose == b"mirror".as_slice() {
+        worded::tell(rt, alloc, row.scene, row.lines, out)
+    } else if row.whose == b"served".as_slice() {
+        served::tell(rt, alloc, row, out)
+    } else {
+        tell_mirrors(rt, alloc, row, out)
+    }
+}
+
+/// What all rows tell. Whether they are rows.
+fn tell_all(
+    rt: &(impl Threads + Wait + Sync),
+    alloc: Global,
+    bytes: &[u8],
+    out: &mut Vec<u8>,
+) -> Result<bool, NoMemory> {
+    let Some(rows) = rows_of(alloc, bytes)? else {
+        return Ok(false);
+    };
+    for row in &rows {
+        if !tell_row(rt, alloc, row, out)? {
+            return Ok(false);
+        }
+    }
+    Ok(true)
+}
+
+fn main(rt: HostRuntime) -> ExitCode {
+    let mut out = Vec::new(rt.alloc());
+    match read_input(&rt) {
+        Ok(bytes) => end(&rt, tell_all(&rt, rt.alloc(), &bytes, &mut out), &out),
+        Err(_) => ExitCode::from(2),
+    }
+}
