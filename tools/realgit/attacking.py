@@ -242,4 +242,5 @@ def served_tags(size):
 
 
 OF_A_SIZE = (names_unasked, names_mapped, shallow_lines, repeated_acks, local_borders, names_not_to_deepen, haves, wants, borders,
-             names_not_to_serve, commits_at_a_depth, commits_without_a_name, prefixes, missing_blobs, chained_names, chained_tags, served_tags)
+             names_not_to_serve, commits_at_a_depth, commits_without_a_name, prefixes, missing_blobs, chained_names, chained_tags,
+             served_tags)

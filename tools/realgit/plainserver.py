@@ -164,7 +164,8 @@ class Plainserver:
         kept = self._kept(asked, offered)
         moves = self.state.history.moves(kept, asked.border)
         info = b"" if asked.depth is None else said("shallow-info", *moves, last=[Mark.DELIMITER])
-        pack = write_pack([self.state.objects[digits] for digits in self._served(asked, kept, moves)], asked.version, self.state.hash_name)
+        sent = [self.state.objects[digits] for digits in self._served(asked, kept, moves)]
+        pack = write_pack(sent, asked.version, self.state.hash_name)
         return info + said("packfile", last=[*(b"\1" + piece for piece in pieces(pack, BAND)), Mark.FLUSH])
 
     def _offered(self):
@@ -186,7 +187,8 @@ class Plainserver:
         before = set(asked.border)
         come, left = ({line.split(" ")[1] for line in moves if line.startswith(word)} for word in ("shallow ", "unshallow "))
         parents = [parent for digits in left for parent in self.state.history.parents[digits]]
-        needed = self.state.reached([*asked.wants, *kept, *parents], (before | come) - left) - self.state.reached(asked.haves, before)
+        wanted = self.state.reached([*asked.wants, *kept, *parents], (before | come) - left)
+        needed = wanted - self.state.reached(asked.haves, before)
         tags = [way for name, _, way in self.state.offered() if name.startswith("refs/tags/") and len(way) > 1]
         along = [digits for way in tags if asked.include_tag and way[-1] in needed for digits in way[:-1]]
         return sorted(needed | set(along))

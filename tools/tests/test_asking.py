@@ -51,12 +51,12 @@ class Read(unittest.TestCase):
     def test_lines_that_may_not_stand(self):
         """The last of each of these is told by its place, before what comes behind it."""
         for *front, last in (
-                ["deepen 01"], ["deepen "], ["deepen"], ["deepen -1"], ["deepen 4294967296"], ["deepen 1", "deepen 2"], ["deepen-relative"],
-                ["deepen 0", f"want {FIVE}"], ["deepen 1", "deepen-relative", "deepen-relative"], ["deepen 1", "deepen-relative "],
-                ["deepen-since 18446744073709551616"], ["deepen-since 1", "deepen-since 1"], ["deepen-not a", "deepen-since 1"],
-                ["deepen 1", "deepen-since 1"], ["deepen-since 1", "deepen-relative"], ["deepen-not "], ["deepen-not @"], ["deepen-not a..b"],
-                ["deepen-not a*"], ["deepen 1", f"shallow {FOUR}"], ["deepen 1", "include-tag"], [f"want {FIVE}", "deepen 1"],
-                ["deepen-since 1", "done"]):
+                ["deepen 01"], ["deepen "], ["deepen"], ["deepen -1"], ["deepen 4294967296"], ["deepen 1", "deepen 2"],
+                ["deepen-relative"], ["deepen 0", f"want {FIVE}"], ["deepen 1", "deepen-relative", "deepen-relative"],
+                ["deepen 1", "deepen-relative "], ["deepen-since 18446744073709551616"], ["deepen-since 1", "deepen-since 1"],
+                ["deepen-not a", "deepen-since 1"], ["deepen 1", "deepen-since 1"], ["deepen-since 1", "deepen-relative"],
+                ["deepen-not "], ["deepen-not @"], ["deepen-not a..b"], ["deepen-not a*"], ["deepen 1", f"shallow {FOUR}"],
+                ["deepen 1", "include-tag"], [f"want {FIVE}", "deepen 1"], ["deepen-since 1", "done"]):
             with self.subTest(last, front=front), self.assertRaises(Refused) as caught:
                 request_at(request(*front, last), "sha1", True)
             self.assertEqual(caught.exception.args, ("Malformed", len(request(*front, end=None))))
@@ -111,7 +111,8 @@ class Given(unittest.TestCase):
         return server.feed(request(*words, f"want {FIVE}", f"have {FIVE}", "done"))
 
     def test_forms_that_are_told(self):
-        text = b"= serve a\n? feed plain-pack-2%0A0015deepen-since 1%0A0011deepen-not a%0A0032want 00\ngives 30 0011shallow-info%0A0001"
+        asked, given = b"plain-pack-2%0A0015deepen-since 1%0A0011deepen-not a%0A0032want 00", b"0011shallow-info%0A0001"
+        text = b"= serve a\n? feed %b\ngives 30 %b" % (asked, given)
         self.assertEqual(STATED["server"].names_in(text), {"deepen-since with deepen-not", "no moves"})
 
 

@@ -80,12 +80,14 @@ class Expected(unittest.TestCase):
         self.assertGreater(sum(told is not None for told, _ in worked_out), 170)
 
     def test_what_is_no_row(self):
-        for row in (b"", b"= bundle\n", b"= serve a\n? no\n", b"= other a\n", b"= serve a\nobject commit a\n", b"= bundle a\nunder 11 blob a\n"):
+        for row in (b"", b"= bundle\n", b"= serve a\n? no\n", b"= other a\n", b"= serve a\nobject commit a\n",
+                    b"= bundle a\nunder 11 blob a\n"):
             self.assertIsNone(answer_of(row), row)
 
     def test_files_that_were_written(self):
         """Nothing can be listed before."""
-        self.assertEqual(answer_of(b"= bundle a\n? files\n? put x\n? files"), b"= bundle a\n? files\nfailed\n? put x\n? files\nfile a.bundle\n")
+        told = answer_of(b"= bundle a\n? files\n? put x\n? files")
+        self.assertEqual(told, b"= bundle a\n? files\nfailed\n? put x\n? files\nfile a.bundle\n")
 
     def test_a_check_and_a_mirror(self):
         root = commit(1, None)

@@ -108,7 +108,8 @@ class Replies(unittest.TestCase):
         ours = self.limited(reached(stored, [merge, third], [merge]), f"shallow {merge}")
         real = self.limited(reached(stored, [merge], [merge]), f"shallow {merge}")
         self.assertEqual(self.reasons(real, ours, asked), [BEHIND])
-        self.assertEqual(self.reasons(self.limited(reached(stored, [merge], [merge]) | {self.other}, f"shallow {merge}"), ours, asked), [BEHIND, None])
+        real = self.limited(reached(stored, [merge], [merge]) | {self.other}, f"shallow {merge}")
+        self.assertEqual(self.reasons(real, ours, asked), [BEHIND, None])
         request.wants, asked.references = [self.second, third], {"refs/heads/old": [self.second]}
         asked.offered = set(request.wants)
         ours = self.limited(reached(stored, [self.second, third], [self.second]), f"shallow {self.second}")
