@@ -147,13 +147,10 @@ def _asked(text):
 
 
 def _fetch(wants=None, border=(), haves=(), depth=()):
-    return None, _asked(_fetch_text([commit(1, None).id] if wants is None else wants, border, haves, depth))
-
-
-def _fetch_text(wants, border=(), haves=(), depth=()):
+    wants = [commit(1, None).id] if wants is None else wants
     words = ["plain-pack-2", *(f"shallow {each}" for each in border), *depth, *(f"want {each}" for each in wants),
              *(f"have {each}" for each in haves), "done"]
-    return FIRST_LINE + lines(*front("fetch", HASH), *map(text_line, words))
+    return None, _asked(FIRST_LINE + lines(*front("fetch", HASH), *map(text_line, words)))
 
 
 def haves(size):
@@ -174,26 +171,6 @@ def borders(size):
 def names_not_to_serve(size):
     """`deepen-not` lines."""
     return _fetch(depth=[f"deepen-not refs/heads/{number:07}" for number in range(size)])
-
-
-def _history(size, *depth):
-    """The row in which a server of a line of commits is asked for it with these lines. A reference leads to its middle."""
-    made = [commit(1, None)]
-    for number in range(2, size + 1):
-        made.append(commit(number, made[-1].id))
-    names = {"refs/heads/main": made[-1].id, "refs/heads/old": made[size // 2].id}
-    state = State(HASH, {each.id: each for each in (TREE, *made)}, names)
-    return None, row(b"serve", state, [b"feed " + escaped(_fetch_text([made[-1].id], depth=depth)), b"give 1000000000"])
-
-
-def commits_at_a_depth(size):
-    """A line of commits of which half is asked for, by `deepen`."""
-    return _history(size, f"deepen {size // 2}")
-
-
-def commits_without_a_name(size):
-    """A line of commits of which half is asked for, by `deepen-not`."""
-    return _history(size, "deepen-not old")
 
 
 def prefixes(size):
@@ -242,5 +219,4 @@ def served_tags(size):
 
 
 OF_A_SIZE = (names_unasked, names_mapped, shallow_lines, repeated_acks, local_borders, names_not_to_deepen, haves, wants, borders,
-             names_not_to_serve, commits_at_a_depth, commits_without_a_name, prefixes, missing_blobs, chained_names, chained_tags,
-             served_tags)
+             names_not_to_serve, prefixes, missing_blobs, chained_names, chained_tags, served_tags)
