@@ -4,6 +4,7 @@ ghost use Rattle.std.specs.Prelude.{◌≡◌, ◌++◌, ◌<◌, [], filter, ma
 ghost use Rattle.std.specs.FinSet as set;
 ghost use Rattle.std.specs.List.{flat_map, list_all, list_any};
 ghost use Rattle.std.specs.List.Sorted.{IsStrictlySortedBy};
+ghost use Rattle.fetch_refs.specs.TagEnds.{AreEnds};
 ghost use Rattle.fetch_serve.specs.Depths as spec;
 ghost use Rattle.fetch_serve.specs.Depths.{depth_of, led_to};
 ghost use Rattle.fetch_serve.specs.Offered.{offered_of};
@@ -21,6 +22,7 @@ use crate::asked::{DepthAsked, FetchAsked};
 use crate::offered::{append_ids_in, peeled_from, stands_among};
 use crate::parts::Parts;
 use fetch_reach::union;
+use fetch_refs::TagEnds;
 use fetch_specs::{PartialName, matches};
 use fetch_store::{Border, List, Next, NoMemory, ObjectId, Objects, Parents, Steps, Store, spread};
 use fetch_wire::Ref;
@@ -195,10 +197,12 @@ fn uncounted<L: Ledger>(
 }
 
 /// What a tag leads to; another id leads to itself.
-fn peeled_or_self(store: &Store, id: ObjectId) -> ObjectId
-    ensures { result ≡ spec.peeled_or_self (graph_of store.now.objects) id }
+fn peeled_or_self(store: &Store, known: &mut TagEnds, id: ObjectId) -> ObjectId
+    requires { AreEnds (graph_of store.now.objects) known.old }
+    ensures end { result ≡ spec.peeled_or_self (graph_of store.now.objects) id }
+    ensures known { AreEnds (graph_of store.now.objects) known.new }
 {
-    match peeled_from(store, id) {
+    match peeled_from(store, known, id) {
         Some(last) => last,
         None => id,
     }
@@ -209,8 +213,9 @@ fn roots(alloc: Global, store: &Store, wants: &[ObjectId]) -> Result<Vec<ObjectI
     ensures { IfOk result (λ roots. roots.items ≡ map (spec.peeled_or_self (graph_of store.now.objects)) wants.now) }
 {
     let mut roots = Vec::new(alloc);
+    let mut known = TagEnds::new(alloc);
     for id in wants {
-        roots.push(peeled_or_self(store, *id))?;
+        roots.push(peeled_or_self(store, &mut known, *id))?;
     }
     Ok(roots)
 }
