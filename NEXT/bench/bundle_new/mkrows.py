@@ -1,0 +1,34 @@
+import re,subprocess,os,sys
+KIT='/opt/rattle'
+deps={}
+for l in open('/tmp/w/bundle/crates.txt'):
+    l=l.split('#')[0].strip()
+    if ':' not in l: continue
+    n,d=l.split(':'); deps[n]=d.split()
+own=[]
+def need(n):
+    for d in deps.get(n,[]):
+        if d in deps: need(d)
+    if n not in own: own.append(n)
+need('serve_rows')
+words=[]
+kit=[]
+for n in own:
+    if n=='serve_rows': continue
+    k=[d for d in deps[n] if d not in deps]; o=[d for d in deps[n] if d in deps]
+    k=['std']+k
+    words+=['--lib',f"{n}:{','.join(dict.fromkeys(['core',*k,*o]))}=/tmp/w/bundle/crates/{n}/src/lib.rt"]
+    kit+=k
+names=list(dict.fromkeys(['core','std']+kit))
+for n in names:
+    uses=re.findall(r'^dep (\w+)$',open(f'{KIT}/rlibs/{n}.rlib/format').read(),re.M)
+    names+=[u for u in uses if u not in names]
+    folder='examples/check' if n=='check' else n
+    words+=['--lib',f"{n}:{','.join(uses)}={KIT}/rattle/{folder}/src/lib.rt"]
+os.makedirs('/tmp/w/bb/tmp',exist_ok=True)
+cmd=[f'{KIT}/bin/rattle-try','--toolchain','/tmp/w/bb/toolchain','--asan',f'{KIT}/c/asan.a']
+for l in ('libos_c.a','liblibc_c.a'): cmd+=['--link',f'{KIT}/c/{l}']
+open('/tmp/w/bb/empty','w')
+cmd+=['--stdin','/tmp/w/bb/empty','--crate-name','serve_rows','src/main.rt']+words
+r=subprocess.run(cmd,cwd='/tmp/w/bundle/crates/serve_rows',env={**os.environ,'TMPDIR':'/tmp/w/bb/tmp'},stdin=subprocess.DEVNULL,capture_output=True)
+print(r.returncode,r.stdout[-500:].decode(),r.stderr[-3000:].decode())
