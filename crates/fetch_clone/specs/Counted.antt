@@ -1,5 +1,5 @@
 -- Refusals of a clone that come only where a count rose.
-use Rattle.std.specs.Prelude.{◌≤◌, ⊤}
+use Rattle.std.specs.Prelude.{◌≤◌, false, ⊤}
 use Rattle.fetch_store.specs.Faults.{Faults, Counts, Rose}
 use Rattle.fetch_update.specs.declared.update.Error.TheVariants as update
 use Rattle.fetch_conversation.specs.declared.fetch.Error.TheVariants as fetch
@@ -31,6 +31,10 @@ pub record Meters : Type 0 where
 -- the counts at one moment
 abbrev pub meters : Faults → Faults → Faults → Faults → TreeMeters → Meters
 meters made lost said files trees = record { made = made; lost = lost; yes = said; files = files; trees = trees }
+
+-- the counts where a peer is lent and no maker, which then can't fail: those of the peer stand for the peers that were lost
+abbrev pub peer_meters : Faults → Faults → Faults → TreeMeters → Meters
+peer_meters peer said files trees = meters (record { count = 0; possible = false }) peer said files trees
 
 -- A refusal that has a count comes only where that count rose.
 abbrev pub IsCounted : Meters → Meters → Error → Type 0

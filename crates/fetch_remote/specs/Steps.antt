@@ -2,15 +2,16 @@
 use Rattle.std.specs.Prelude.{◌≡◌, ◌⊎◌, ℕ, Bool, true, false, List, [], ◌++◌, Option, None, Result, Ok, Err}
 use Rattle.std.specs.Borrow.{Fml, RattleType, MutBor, Lends}
 use mir.Syntax.{named}
-use Rattle.fetch_store.specs.Faults.{Faults, Rose, Counts}
+use Rattle.fetch_store.specs.Faults.{Faults}
 use Rattle.fetch_negotiate.specs.declared.algorithm.Shallow.TheVariants.{NoChange}
 use Rattle.fetch_store.specs.Trees.{Tree}
 use Rattle.fetch_update.specs.declared.worktrees.Worktree.{Worktree}
 use Rattle.fetch_wire.specs.Talks.{Talk}
+use Rattle.fetch_conversation.specs.Blame.{BlamesPeer, BlamesInterrupt}
 use Rattle.fetch_conversation.specs.Conversation.{Concludes, Breaks}
-use Rattle.fetch_conversation.specs.Errors.{is_free_listing, is_free_receiving, is_interrupted, prepare_of, is_stopped}
+use Rattle.fetch_conversation.specs.Errors.{is_free_listing, is_free_receiving, is_interrupted, is_transport, prepare_of, is_stopped}
 use Rattle.fetch_conversation.specs.ListStage.{InquiryValue, ListedValue, list_stage, inquiry_stage, shown, pending_of}
-use Rattle.fetch_conversation.specs.Receiving.{IsHeeded}
+use Rattle.fetch_conversation.specs.Receiving.{last_question}
 use Rattle.fetch_conversation.specs.declared.conversing.Received.{Received}
 use Rattle.fetch_conversation.specs.declared.fetch.Error.{Error as ReceiveError}
 use Rattle.fetch_conversation.specs.declared.listing.Listed.{Listed}
@@ -92,14 +93,12 @@ pub record HasListed (answers : Bool) (old now : Option Talk) (q : InquiryValue)
 pub record BreaksOff (answers : Bool) (old now : Option Talk) (q : InquiryValue) (e : PrepareError) : Type 0 where
   pub broke : Breaks is_free_listing is_interrupted answers q.options.max_reply_bytes old now [] (list_stage q.options.max_reply_bytes q) e
 
--- The listing broke off, with the peer left so. The peer's fault is told only where its count rose, and the interrupt was
--- asked once before each receive.
-pub record IsUnlisted {P : Type 0} (told : P → Option Talk) (faults : P → Faults) (answers : Bool) (will will' : ℕ → Type 0)
-    (q : InquiryValue) (before last : P) (e : PrepareError) : Type 0 where
+-- The listing broke off, with the peer left so. Peer and interrupt are blamed only where their counts rose.
+pub record IsUnlisted {P : Type 0} (told : P → Option Talk) (faults : P → Faults) (answers : Bool) (yes yes' : Faults)
+    (will will' : ℕ → Type 0) (q : InquiryValue) (before last : P) (e : PrepareError) : Type 0 where
   pub off : BreaksOff answers (told before) (told last) q e
-  pub counts : Counts (faults before) (faults last)
-  pub transport : e ≡ prepare.RefMap ref_map.Transport → Rose (faults before) (faults last)
-  pub questions : IsHeeded {T = Listed} is_interrupted will will' (told before) (told last) (Err e)
+  pub peer : BlamesPeer (faults before) (faults last) (is_transport e)
+  pub interrupt : BlamesInterrupt yes yes' will will' (told before) (told last) (last_question {T = Listed} is_interrupted (Err e))
 
 -- ---- the first stage by itself
 
@@ -183,3 +182,11 @@ abbrev pub IsUnreceived : Bool → Option Talk → Option Talk → Option (List 
 IsUnreceived answers mid new known files files_left g before after listed e =
     IsCutOff answers mid new files files_left g before after listed e
     ⊎ IsTurnedDown answers mid new known files files_left g before after listed e
+
+-- What a call leaves that goes on with what was listed, or why it was refused.
+abbrev pub ReceivesBy : Bool → Option Talk → Option Talk → Option (List Worktree) → Option Tree → Option Tree → Given → State → State
+    → Listed → Result Outcome ReceiveError → Type 0
+ReceivesBy answers mid new known files files_left g before after listed (Ok outcome) =
+    IsReceived answers mid new known files files_left g before after listed outcome
+ReceivesBy answers mid new known files files_left g before after listed (Err e) =
+    IsUnreceived answers mid new known files files_left g before after listed e

@@ -31,11 +31,12 @@ use Rattle.fetch_conversation.specs.declared.fetch.Error.{Error as ReceiveError}
 use Rattle.fetch_conversation.specs.declared.fetch.Error.TheVariants as receive
 use Rattle.fetch_remote.specs.Errors.{receiving}
 use Rattle.fetch_remote.specs.Judging.{is_free_judging, judged_of}
-use Rattle.fetch_remote.specs.Keeping.{AreFiles, made, with_keep, without_keep}
-use Rattle.fetch_remote.specs.Settling.{brought, pack_of, pack_read, pack_kept, policy_in, told_of, status_by, status_of, released_of, outcome_in, IsOfJudging}
+use Rattle.fetch_remote.specs.Keeping.{AreFiles, made, made_in, with_keep, without_keep}
+use Rattle.fetch_remote.specs.Settling.{brought, pack_of, pack_read, pack_kept, policy_in, told_of, status_by, status_of, kept_of as kept_in, released_of, outcome_in, IsOfJudging}
 use Rattle.fetch_remote.specs.declared.fetching.outcome.Outcome.{Outcome}
+use Rattle.fetch_remote.specs.declared.fetching.outcome.Status.{Status}
 use Rattle.fetch_remote.specs.declared.fetching.settling.Taken.{Taken as Told}
-use Rattle.fetch_remote.proofs.Keeping.{status_is, removed_is, left_files, removable}
+use Rattle.fetch_remote.proofs.Keeping.{status_is, made_is, made_none, kept_none, removed_is, left_files, removable}
 use Rattle.fetch_remote.proofs.Settled.{judging_told}
 use Rattle.fetch_shared.specs.declared.bringing.Brought.{Brought}
 use Rattle.fetch_shared.specs.declared.entry.Entry.{Entry}
@@ -274,3 +275,15 @@ module _ (m : Matter) (p q w : Holder) (known : Option (List Worktree)) (files l
     removable_by may_fail path blocked gone never =
         removable files mid may_fail m.setup.settings.git_dir m.how.dry_run m.told.received v.updates v.taken (receive.RemovePackKeepFile path) told_is
         (subst (λ (x : Option (List ℕ)). AreFiles files mid (with_keep x)) keep_same hv.kept) blocked (path, refl, gone) never
+
+    -- where no pack was read, no keep file was made
+    pub kept_nothing : pack_read m.how.dry_run m.told.received ≡ None → kept_in v.taken ≡ None
+    kept_nothing none = ap (λ (t : Option Told). kept_in t) told_is ∙ kept_none m.setup.settings.git_dir m.how.dry_run m.told.received none
+
+    -- and where none is told, no pack was read
+    pub read_nothing : (status : Status) → status ≡ status_by m.how.dry_run v.taken v.updates → made_in m.setup.settings.git_dir status ≡ None → pack_read m.how.dry_run m.told.received ≡ None
+    read_nothing status is none =
+        let git_dir = m.setup.settings.git_dir in
+        let told : status ≡ status_of git_dir m.how.dry_run m.told.received v.updates =
+        is ∙ (ap (λ (t : Option Told). status_by m.how.dry_run t v.updates) told_is ∙ status_is git_dir m.how.dry_run m.told.received v.updates) in
+        made_none git_dir m.how.dry_run m.told.received (sym (made_is git_dir m.how.dry_run m.told.received v.updates) ∙ (sym (ap (λ (s : Status). made_in git_dir s) told) ∙ none))

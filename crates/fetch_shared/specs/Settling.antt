@@ -16,6 +16,7 @@ use Rattle.fetch_update.specs.declared.update.Outcome.{Outcome as Updates}
 use Rattle.fetch_update.specs.declared.worktrees.Worktree.{Worktree}
 use Rattle.fetch_wire.specs.declared.listings.mapping.RefMap.{RefMap}
 use Rattle.fetch_conversation.specs.Errors.{is_worktree_fault}
+use Rattle.fetch_conversation.specs.ListStage.{ListedValue}
 use Rattle.fetch_conversation.specs.declared.conversing.Received.{Received}
 use Rattle.fetch_conversation.specs.declared.fetch.Error.{Error as ReceiveError}
 use Rattle.fetch_conversation.specs.declared.fetch.Error.TheVariants as receive
@@ -49,6 +50,11 @@ pub record Matter : Type 0 where
   pub how : Manner
   pub wants : List ObjectId
   pub told : Told
+
+-- the same, of its parts
+abbrev pub matter_of : Setup → Manner → List ObjectId → ListedValue → Option Received → Matter
+matter_of setup how wants listed received =
+    record { setup = setup; how = how; wants = wants; told = record { listed = listed; received = received } }
 
 -- The course of it: what the shared repository opened as, the pass's number and its entries so far; the journal that the
 -- plan saw, and the one that the pass has seen in the end; the list of work trees that is told, and the files before and
