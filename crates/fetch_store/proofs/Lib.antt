@@ -48,3 +48,5 @@ pub mod Apart
 pub mod Copies
 pub mod HexTables
 pub mod FrontPlaces
+pub mod Walking
+pub mod Marking

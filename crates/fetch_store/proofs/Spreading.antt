@@ -1,6 +1,6 @@
 -- What a walk by levels finds.
 use Rattle.std.proofs.Common.{◌≡◌, ℕ, ◌+◌, ◌≤◌, ◌<◌, Bool, true, false, cond, List, [], ◌∷◌, ◌++◌, length, take, drop, Option, Some, None, refl, sym, ap, ap₂, subst, add_assoc, ◌∙◌, inl, inr, arith, Contains, append_assoc, length-append, get_or, drop-cons, add-one, sum_by}
-use Rattle.std.specs.Prelude.{◌⊎◌, ◌↔◌, IsSome, is_some, IfSome, IfOk, Result, Ok, Err}
+use Rattle.std.specs.Prelude.{◌⊎◌, ◌↔◌, IsSome, is_some, IfSome}
 use Rattle.std.specs.List.{IsDistinct, dedup, dedup_from}
 use Rattle.std.specs.List.Sorted.{IsSorted, IsStrictlySortedBy, IsPermutation}
 use Rattle.std.specs.Option.{option_map, option_map_or}
@@ -454,12 +454,6 @@ module _ (h : Holding) where
     λ w. record { start = w.start; among = w.among; rest = w.rest; walk = path_walk w.start w.rest id w.path },
     λ r. record { start = r.start; among = r.among; rest = r.rest; path = walk_path r.start r.rest id r.walk; few = tt },
   )
-
-  -- of a call that may want memory
-  pub reached_if_ok : {E : Type 0} (starts : List ObjectId) (r : Result (List ObjectId) E) → IfOk r (λ ids. (id : ObjectId) → Contains ids id ↔ IsWithin (nexts_in h) starts None id)
-      → IfOk r (λ ids. (id : ObjectId) → Contains ids id ↔ Reached h starts id)
-  reached_if_ok starts (Ok ids) is = λ id. (λ c. (reached_within starts id).0 ((is id).0 c), λ r. (is id).1 ((reached_within starts id).1 r))
-  reached_if_ok starts (Err e) is = tt
 
   pub reached_some : (starts : List ObjectId) (id : ObjectId) → Reached h starts id ↔ ((n : ℕ) × IsWithin (nexts_in h) starts (Some n) id)
   reached_some starts id =

@@ -16,6 +16,7 @@ pub mod Honest
 pub mod Missing
 pub mod Spread
 pub mod Found
+pub mod Marks
 pub mod Indexes
 pub mod Entries
 pub mod Buffers

@@ -1,7 +1,7 @@
 //! Lists of ids, each with a value.
 
-ghost use Rattle.std.specs.Prelude.{◌≡◌, ◌<◌, ◌≤◌, ◌+◌, ◌*◌, ◌^◌, ◌++◌, [], ℕ, All, Contains, IsTrue, None, get_or, is_some, length};
-ghost use Rattle.std.specs.Prelude.{vec_len, vec_capacity};
+ghost use Rattle.std.specs.Prelude.{◌≡◌, ◌<◌, ◌≤◌, ◌+◌, ◌*◌, ◌^◌, ◌++◌, [], ℕ, All, Contains, None, get_or, is_some, length};
+ghost use Rattle.std.specs.Prelude.{IfSome, IsTrue, MatchOption, vec_len, vec_capacity};
 ghost use Rattle.std.specs.FinMap as map;
 ghost use Rattle.std.specs.declared.cmp.Ordering.TheVariants.{Less, Greater};
 ghost use Rattle.std.specs.Option.{option_copied};
@@ -22,15 +22,32 @@ pub(crate) fn find_in_order<'a, X>(
     requires { IsInOrder entries.now }
     ensures { option_copied result ≡ map.find id_cmp id.now entries.now }
 {
+    match place_in_order(entries, near, id) {
+        Some(place) => Some(&entries[place].1),
+        None => None,
+    }
+}
+
+/// Where an id stands. Where it doesn't stand between two places that are guessed, all entries are searched.
+pub(crate) fn place_in_order<X>(
+    entries: &[(ObjectId, X)],
+    near: (usize, usize),
+    id: &ObjectId,
+) -> Option<usize>
+    requires { IsInOrder entries.now }
+    ensures within { IfSome result (λ place. place < length entries.now) }
+    ensures place { MatchOption result (map.find id_cmp id.now entries.now ≡ None)
+        (λ place. (d : ObjectId × X) → (get_or entries.now place d).0 ≡ id.now) }
+{
     let (low, high) = bounds(entries, near, id);
     let mut low = low;
     let mut high = high;
     while low < high {
         let middle = low + (high - low) / 2;
-        let (key, value) = &entries[middle];
+        let (key, _) = &entries[middle];
         let order = id.cmp(key);
         if order.is_eq() {
-            return Some(value);
+            return Some(middle);
         }
         if order.is_lt() {
             high = middle;

@@ -16,6 +16,7 @@ use crate::id::ObjectId;
 use crate::object::{Object, ObjectRef, read_history};
 use crate::object_kind::ObjectKind;
 use crate::objects::{Objects, target};
+use crate::parent_ids::ParentIds;
 use crate::parents::Parents;
 use crate::starts::Starts;
 use crate::store::Store;
@@ -28,7 +29,7 @@ pub(crate) struct History {
     /// What kind of object it is.
     pub kind: ObjectKind,
     /// Of a commit its parents, in order; of another object none.
-    pub parents: Vec<ObjectId>,
+    pub parents: ParentIds,
     /// Of a commit when it was made, in seconds since 1970.
     pub seconds: Option<u64>,
     /// Of a tag what it is of.
@@ -42,14 +43,14 @@ impl Model for History {
 
     ghost coded = { coded_node };
 
-    ghost view = { λ n. record { kind = n.kind; parents = n.parents.items; seconds = n.seconds; target = n.target } };
+    ghost view = { λ n. record { kind = n.kind; parents = n.parents; seconds = n.seconds; target = n.target } };
 }
 
 impl TryClone for History {
     fn try_clone(&self) -> Result<History, NoMemory> {
         Ok(History {
             kind: self.kind,
-            parents: self.parents.clone()?,
+            parents: self.parents.try_clone()?,
             seconds: self.seconds,
             target: self.target,
         })
@@ -213,14 +214,14 @@ impl Objects for Graph {
 
     fn parents(&self, id: &ObjectId) -> Parents<'_> {
         match self.get(id) {
-            Some(node) => Parents::List(node.parents.as_slice()),
-            None => Parents::List(&[]),
+            Some(node) => node.parents.iter(),
+            None => Parents::Ids(None, &[]),
         }
     }
 
     fn parent(&self, id: &ObjectId, index: usize) -> Option<ObjectId> {
         match self.get(id) {
-            Some(node) => node.parents.get(index).copied(),
+            Some(node) => node.parents.get(index),
             None => None,
         }
     }

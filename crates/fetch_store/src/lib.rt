@@ -33,6 +33,7 @@ mod node;
 mod object;
 mod object_kind;
 mod objects;
+mod parent_ids;
 mod parents;
 mod reach;
 mod scan;

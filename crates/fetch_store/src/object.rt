@@ -11,6 +11,7 @@ use crate::error::{NoMemory, StoreError};
 use crate::grammar::{Expected, Part, part_at};
 use crate::id::{Kind, ObjectId};
 use crate::object_kind::ObjectKind;
+use crate::parent_ids::ParentIds;
 use std::alloc::Global;
 use std::marker::Model;
 
@@ -243,24 +244,21 @@ impl<'a> ObjectRef<'a> {
 pub(crate) fn read_history(
     alloc: Global,
     object: ObjectRef<'_>,
-) -> Result<(Vec<ObjectId>, Option<u64>), NoMemory>
-    ensures parents { let o = seen object.entry in IfOk result (λ history. history.0.items ≡ spec.parents_of o.hash o.kind o.bytes) }
+) -> Result<(ParentIds, Option<u64>), NoMemory>
+    ensures parents { let o = seen object.entry in IfOk result (λ history. history.0 ≡ spec.parents_of o.hash o.kind o.bytes) }
     ensures seconds { let o = seen object.entry in IfOk result (λ history. history.1 ≡ spec.seconds_of o.hash o.kind o.bytes) }
 {
     match object.kind {
         ObjectKind::Commit => read_parts(alloc, object),
-        ObjectKind::Tree | ObjectKind::Blob | ObjectKind::Tag => Ok((Vec::new(alloc), None)),
+        ObjectKind::Tree | ObjectKind::Blob | ObjectKind::Tag => Ok((ParentIds::new(alloc), None)),
     }
 }
 
-fn read_parts(
-    alloc: Global,
-    object: ObjectRef<'_>,
-) -> Result<(Vec<ObjectId>, Option<u64>), NoMemory>
-    ensures parents { let o = seen object.entry in IfOk result (λ history. history.0.items ≡ spec.parents_of o.hash o.kind o.bytes) }
+fn read_parts(alloc: Global, object: ObjectRef<'_>) -> Result<(ParentIds, Option<u64>), NoMemory>
+    ensures parents { let o = seen object.entry in IfOk result (λ history. history.0 ≡ spec.parents_of o.hash o.kind o.bytes) }
     ensures seconds { let o = seen object.entry in IfOk result (λ history. history.1 ≡ spec.seconds_of o.hash o.kind o.bytes) }
 {
-    let mut parents = Vec::new(alloc);
+    let mut parents = ParentIds::new(alloc);
     let mut seconds: Option<u64> = None;
     let mut expected = first_of(object.kind);
     let mut rest = object.bytes;
@@ -274,8 +272,8 @@ fn read_parts(
 }
 
 /// Puts the parent that a part names, if it does, after the others.
-fn push_parent(parents: &mut Vec<ObjectId>, part: Part) -> Result<(), NoMemory>
-    ensures { OnOk result (parents.new.items ≡ parents.old.items ++ option_to_list (spec.parent_in part)) }
+fn push_parent(parents: &mut ParentIds, part: Part) -> Result<(), NoMemory>
+    ensures { OnOk result (parents.new ≡ parents.old ++ option_to_list (spec.parent_in part)) }
 {
     if let Part::Parent(id) = part {
         parents.push(id)?;

@@ -71,7 +71,7 @@ impl Objects for Store {
     fn parents(&self, id: &ObjectId) -> Parents<'_> {
         match self.get(id) {
             Some(object) => Parents::Text(object.parents()),
-            None => Parents::List(&[]),
+            None => Parents::Ids(None, &[]),
         }
     }
 

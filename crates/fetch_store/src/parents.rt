@@ -12,8 +12,8 @@ use crate::object::Links;
 pub enum Parents<'a> {
     /// They stand in the commit's text, which is read line by line as they are asked for.
     Text(Links<'a>),
-    /// They stand in a list.
-    List(&'a [ObjectId]),
+    /// They stand in memory, the first by itself.
+    Ids(Option<ObjectId>, &'a [ObjectId]),
 }
 
 impl Iterator for Parents<'_> {
@@ -26,7 +26,10 @@ impl Iterator for Parents<'_> {
     fn next(&mut self) -> Option<ObjectId> {
         match self {
             Parents::Text(links) => links.next(),
-            Parents::List(ids) => next_of(ids),
+            Parents::Ids(first, others) => match first.take() {
+                Some(id) => Some(id),
+                None => next_of(others),
+            },
         }
     }
 }

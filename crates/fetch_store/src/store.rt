@@ -1,6 +1,7 @@
 //! A store of objects.
 
-ghost use Rattle.std.specs.Prelude.{map as listed, ◌≡◌, ◌↔◌, ◌+◌, ◌*◌, ◌^◌, ℕ, IsTrue, ◌≤◌, length, option_map, None, MatchOption, IfSome};
+ghost use Rattle.std.specs.Prelude.{map as listed, ◌≡◌, ◌↔◌, ◌+◌, ◌*◌, ◌^◌, ℕ, IsTrue, false, ◌≤◌, ◌<◌, get_or, length, option_map};
+ghost use Rattle.std.specs.Prelude.{None, Some, MatchOption, IfSome};
 ghost use Rattle.std.specs.Prelude.{IfOk, IfErr, OnOk, OnErr, IsOkUnless, vec_len};
 ghost use Rattle.std.specs.FinMap as map;
 ghost use Rattle.std.specs.List.Sorted.{IsStrictlySortedBy};
@@ -12,11 +13,12 @@ ghost use Rattle.fetch_store.specs.References.{seen};
 ghost use Rattle.fetch_store.specs.Stores as spec;
 ghost use Rattle.fetch_store.specs.Stores.{id_cmp, AreOf, collision, payload_len};
 ghost use Rattle.fetch_store.specs.declared.error.StoreError.TheVariants as errors;
+ghost use Rattle.fetch_store.specs.declared.id.ObjectId.{ObjectId as Id};
 
 use crate::buffer::{self, add_new, lend};
 use crate::collisions::{first_collision, first_collision_of_distinct};
 use crate::counter::Steps;
-use crate::entries::{find_counted, find_in_order};
+use crate::entries::{find_counted, find_in_order, place_in_order};
 use crate::error::{NoMemory, StoreError};
 use crate::id::{Kind, ObjectId};
 use crate::object::{Object, ObjectRef};
@@ -162,6 +164,25 @@ impl Store {
         ensures { result ≡ map.contains_key self.now.objects id.now }
     {
         find_in_order(self.index.as_slice(), self.starts.near(id), id).is_some()
+    }
+
+    /// Where an id stands among those that are stored, in their order. None where it isn't stored.
+    pub(crate) fn place_of(&self, id: &ObjectId) -> Option<usize>
+        ensures within { IfSome result (λ place. place < map.len self.now.objects) }
+        ensures place { MatchOption result (map.contains_key self.now.objects id.now ≡ false)
+            (λ place. (d : Id) → get_or (map.keys self.now.objects) place d ≡ id.now) }
+    {
+        place_in_order(self.index.as_slice(), self.starts.near(id), id)
+    }
+
+    /// The id that stands at a place, with its object, lent.
+    pub(crate) fn at(&self, place: usize) -> (ObjectId, ObjectRef<'_>)
+        requires { place < map.len self.now.objects }
+        ensures id { (d : Id) → get_or (map.keys self.now.objects) place d ≡ result.0 }
+        ensures object { map.get self.now.objects result.0 ≡ Some (seen result.1) }
+    {
+        let (id, span) = &self.index[place];
+        (*id, lend(self.hash, self.buffer.as_slice(), span))
     }
 
     /// The ids with their objects, lent, in ascending order of ids.

@@ -1,46 +1,16 @@
-use Rattle.std.proofs.Common.{rules, ◌≡◌, ◌+◌, ◌-◌, ◌/◌, length, true, false, sym, ap, ◌∙◌, arith}
-use Rattle.std.specs.Ordering.{is_eq, is_lt}
-use Rattle.std.specs.Cmp.{Equal-is}
+use Rattle.std.proofs.Common.{sym, ap, ◌∙◌}
+use Rattle.std.specs.Cmp.{tied_itself}
+use Rattle.std.specs.FinMap.{is_sorted}
 use Rattle.fetch_store.specs.Stores.{id_cmp}
-use Rattle.fetch_store.proofs.Orders.{cmp_at}
-use Rattle.fetch_store.proofs.Probes.{greater, lesser, left_of, right_of, hit, missed, probing_of}
+use Rattle.fetch_store.proofs.Arranged.{order_of, searched}
+use Rattle.fetch_store.proofs.Ids.{id_cmp_total}
 use Rattle.fetch_store.proofs.entries.find_in_order.Goals as goal
 
-pub returns-then-is_eq : goal.returns-then-is_eq
-returns-then-is_eq g c =
+pub returns-in-Some : goal.returns-in-Some
+returns-in-Some g c =
     let es = c.args.entries.now in
     let q = c.args.id.now in
-    let e = c.index-entries-middle.result in
-    let order = c.cmp-order.ensures ∙ cmp_at q e.0 in
-    let tied : is_eq (id_cmp q e.0) ≡ true = ap is_eq (sym order) ∙ search rules in
-    sym (hit es q c.requires c.loop-low.low c.loop-low.high (c.loop-low.low + (c.loop-low.high - c.loop-low.low) / 2) (probing_of es q c.loop-low.low c.loop-low.high c.loop-low.invariant) (search rules) e c.index-entries-middle.is ((Equal-is (id_cmp q e.0)).0 tied))
+    sym (searched es q c.in-Some.place (order_of (is_sorted id_cmp es) c.requires) c.in-Some.ensures.within (λ d. ap (λ x. id_cmp x q) (c.in-Some.ensures.place d) ∙ tied_itself id_cmp_total q) c.index-entries-place.result)
 
-pub loop-low-preserved-then-is_lt : goal.loop-low-preserved-then-is_lt
-loop-low-preserved-then-is_lt g c =
-    let es = c.args.entries.now in
-    let q = c.args.id.now in
-    let m = c.loop-low.invariant in
-    let low = c.loop-low.low in
-    let high = c.loop-low.high in
-    let e = c.index-entries-middle.result in
-    let order = c.cmp-order.ensures ∙ cmp_at q e.0 in
-    let under : is_lt (id_cmp q e.0) ≡ true = ap is_lt (sym order) ∙ search rules in
-    let p = left_of es q c.requires low high (low + (high - low) / 2) (probing_of es q low high m) (omega (arith, m.end, c.loop-low-test.true)) e c.index-entries-middle.is (lesser (id_cmp q e.0) under) in
-    record { below = p.below; above = p.above; inside = omega arith; end = omega (arith, m.end, m.inside) }
-
-pub loop-low-preserved : goal.loop-low-preserved
-loop-low-preserved g c =
-    let es = c.args.entries.now in
-    let q = c.args.id.now in
-    let m = c.loop-low.invariant in
-    let low = c.loop-low.low in
-    let high = c.loop-low.high in
-    let e = c.index-entries-middle.result in
-    let order = c.cmp-order.ensures ∙ cmp_at q e.0 in
-    let other : is_eq (id_cmp q e.0) ≡ false = ap is_eq (sym order) ∙ search rules in
-    let over : is_lt (id_cmp q e.0) ≡ false = ap is_lt (sym order) ∙ search rules in
-    let p = right_of es q c.requires low high (low + (high - low) / 2) (probing_of es q low high m) (omega (arith, m.end, c.loop-low-test.true)) e c.index-entries-middle.is (greater (id_cmp q e.0) other over) in
-    record { below = p.below; above = p.above; inside = omega (arith, c.loop-low-test.true); end = m.end }
-
-pub returns : goal.returns
-returns g c = sym (missed c.args.entries.now c.args.id.now c.loop-low.low c.loop-low.high (probing_of c.args.entries.now c.args.id.now c.loop-low.low c.loop-low.high c.loop-low.invariant) (search rules))
+pub returns-in-None : goal.returns-in-None
+returns-in-None g c = sym c.in-None.ensures.place

@@ -8,6 +8,6 @@ returns-in-Tree c =
     let o = c.args.object in
     let quiet = quiet_at_first o.kind c.in-Tree.is in
     record {
-      parents = c.new.ensures.items ∙ sym (no_parents o.hash (first_of o.kind) o.bytes.now quiet);
+      parents = c.new.ensures ∙ sym (no_parents o.hash (first_of o.kind) o.bytes.now quiet);
       seconds = sym (no_seconds o.hash (first_of o.kind) o.bytes.now quiet);
     }

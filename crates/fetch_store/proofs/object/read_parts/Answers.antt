@@ -20,14 +20,14 @@ loop-step-preserved c =
     let seconds = slice_get (filter_map seconds_in (reading h s.expected s.rest).parts) 0 in
     let both : c.or-seconds.result ≡ option_or c.loop-step.seconds (seconds_in s.part) = c.or-seconds.ensures ∙ ap (option_or c.loop-step.seconds) c.seconds_in.ensures in
     record {
-      parents = ap (λ (xs : List ObjectId). xs ++ parents) c.in_ok-push_parent.ensures ∙ parents_more h c.loop-step.expected c.loop-step.rest.now s c.loop-step.parents.items (sym c.in-Some.ensures) ∙ c.loop-step.invariant.parents;
+      parents = ap (λ (xs : List ObjectId). xs ++ parents) c.in_ok-push_parent.ensures ∙ parents_more h c.loop-step.expected c.loop-step.rest.now s c.loop-step.parents (sym c.in-Some.ensures) ∙ c.loop-step.invariant.parents;
       seconds = ap (λ (o : Option ℕ). option_or o seconds) both ∙ seconds_more h c.loop-step.expected c.loop-step.rest.now s c.loop-step.seconds (sym c.in-Some.ensures) ∙ c.loop-step.invariant.seconds;
     }
 
 pub returns-clause-parents : goal.returns-clause-parents
 returns-clause-parents c =
     let over = parts_end parent_in c.args.object.hash c.loop-step.expected c.loop-step.rest.now (sym c.in_default.ensures) in
-    sym (append-nil c.loop-step.parents.items) ∙ sym (ap (λ (xs : List ObjectId). c.loop-step.parents.items ++ xs) over) ∙ c.loop-step.invariant.parents
+    sym (append-nil c.loop-step.parents) ∙ sym (ap (λ (xs : List ObjectId). c.loop-step.parents ++ xs) over) ∙ c.loop-step.invariant.parents
 
 pub returns-clause-seconds : goal.returns-clause-seconds
 returns-clause-seconds c =

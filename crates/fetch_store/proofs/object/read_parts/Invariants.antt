@@ -6,7 +6,7 @@ use Rattle.fetch_store.proofs.object.read_parts.Given as goal
 
 abbrev pub invariant-loop-step : goal.invariant-loop-step
 invariant-loop-step l = record {
-  parents : l.parents.items ++ filter_map parent_in (reading l.object.hash l.expected l.rest).parts ≡ parents_of l.object.hash l.object.kind l.object.bytes.now;
+  parents : l.parents ++ filter_map parent_in (reading l.object.hash l.expected l.rest).parts ≡ parents_of l.object.hash l.object.kind l.object.bytes.now;
   seconds : option_or l.seconds (slice_get (filter_map seconds_in (reading l.object.hash l.expected l.rest).parts) 0) ≡ seconds_of l.object.hash l.object.kind l.object.bytes.now;
 }
 
