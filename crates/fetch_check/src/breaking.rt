@@ -3,13 +3,15 @@
 ghost use Rattle.std.specs.Prelude.{◌≡◌, IfOk, Result, slice_get};
 ghost use Rattle.fetch_store.specs.declared.id.ObjectId.{ObjectId as Id};
 ghost use Rattle.fetch_store.specs.Answers.{AnswersUnless};
+ghost use Rattle.fetch_store.specs.Graph.{graph_of};
 ghost use Rattle.fetch_refs.specs.Answers.{is_memory};
+ghost use Rattle.fetch_refs.specs.TagEnds.{AreEnds};
 ghost use Rattle.fetch_refs.specs.Targets.{seen};
 ghost use Rattle.fetch_refs.specs.declared.error.RefError.{RefError as Refusal};
 ghost use Rattle.fetch_check.specs.Finding.{broken_at, broken_of, cause_in, cause_of, unless_stored};
 
 use crate::findings::{Broken, BrokenCause};
-use fetch_refs::{RefError, Refs, TargetRef, peel_tags};
+use fetch_refs::{RefError, Refs, TagEnds, TargetRef};
 use fetch_specs::{FullName, NameError};
 use fetch_store::{List, NoMemory, ObjectId, Store};
 use std::alloc::Global;
@@ -23,8 +25,9 @@ pub(crate) fn all_broken(
     ensures { IfOk result (λ broken. broken ≡ broken_of refs.now.names store.now.objects) }
 {
     let mut broken = List::new(alloc);
+    let mut known = TagEnds::new(alloc);
     for (name, target) in refs.iter() {
-        if let Some(found) = broken_reference(alloc, store, refs, name, target)? {
+        if let Some(found) = broken_reference(alloc, store, refs, &mut known, name, target)? {
             broken.push(found)?;
         }
     }
@@ -35,12 +38,15 @@ fn broken_reference(
     alloc: Global,
     store: &Store,
     refs: &Refs,
+    known: &mut TagEnds,
     name: &[u8],
     target: TargetRef<'_>,
 ) -> Result<Option<Broken>, NoMemory>
-    ensures { IfOk result (λ broken. broken ≡ broken_at refs.now.names store.now.objects (name.now, seen target.entry)) }
+    requires { AreEnds (graph_of store.now.objects) known.old }
+    ensures broken { IfOk result (λ broken. broken ≡ broken_at refs.now.names store.now.objects (name.now, seen target.entry)) }
+    ensures known { AreEnds (graph_of store.now.objects) known.new }
 {
-    let Some(cause) = cause(alloc, store, refs, name, target)? else {
+    let Some(cause) = cause(store, refs, known, name, target)? else {
         return Ok(None);
     };
     match FullName::new(alloc, name) {
@@ -51,19 +57,21 @@ fn broken_reference(
 }
 
 /// Why a reference leads to no stored object; None where it does, and where it leads to an absent name.
-pub(crate) fn cause(
-    alloc: Global,
+fn cause(
     store: &Store,
     refs: &Refs,
+    known: &mut TagEnds,
     name: &[u8],
     target: TargetRef<'_>,
 ) -> Result<Option<BrokenCause>, NoMemory>
-    ensures { IfOk result (λ cause. cause ≡ cause_of refs.now.names store.now.objects (name.now, seen target.entry)) }
+    requires { AreEnds (graph_of store.now.objects) known.old }
+    ensures cause { IfOk result (λ cause. cause ≡ cause_of refs.now.names store.now.objects (name.now, seen target.entry)) }
+    ensures known { AreEnds (graph_of store.now.objects) known.new }
 {
     match target {
         TargetRef::Object(id) => Ok(unstored(store, id)),
         TargetRef::Symbolic(_) => match refs.resolve(name, target) {
-            Ok(id) => told(store, peel_tags(store, id)),
+            Ok(id) => told(store, known.peel(store, id)),
             Err(e) => told(store, Err(e)),
         },
     }
@@ -103,8 +111,9 @@ pub(crate) fn first_broken(
 ) -> Result<Option<Broken>, NoMemory>
     ensures { IfOk result (λ broken. broken ≡ slice_get (broken_of refs.now.names store.now.objects) 0) }
 {
+    let mut known = TagEnds::new(alloc);
     for (name, target) in refs.iter() {
-        if let Some(found) = broken_reference(alloc, store, refs, name, target)? {
+        if let Some(found) = broken_reference(alloc, store, refs, &mut known, name, target)? {
             return Ok(Some(found));
         }
     }

@@ -16,6 +16,7 @@ pub mod FirstLines
 pub mod Walks
 pub mod TagWays
 pub mod TagSteps
+pub mod Ends
 pub mod NameWays
 pub mod PackedAnswers
 pub mod Hashes

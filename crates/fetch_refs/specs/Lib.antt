@@ -24,4 +24,5 @@ pub mod Prepared
 pub mod Reading
 pub mod ReadSteps
 pub mod Leading
+pub mod TagEnds
 pub mod Hashing

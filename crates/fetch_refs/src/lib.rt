@@ -19,6 +19,7 @@ mod prepared;
 mod reading;
 mod refs;
 mod slot;
+mod tag_ends;
 mod target;
 mod undo;
 
@@ -30,4 +31,5 @@ pub use peel::peel_tags;
 pub use pending::{Pending, Restore};
 pub use prepared::Prepared;
 pub use refs::Refs;
+pub use tag_ends::TagEnds;
 pub use target::{Target, TargetRef};

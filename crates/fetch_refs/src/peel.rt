@@ -165,7 +165,7 @@ fn end_of_tags<O: Objects>(objects: &O, first: ObjectId) -> Option<Result<Object
 }
 
 /// The id, where it is stored.
-fn if_stored<O: Objects>(objects: &O, id: ObjectId) -> Result<ObjectId, RefError>
+pub(crate) fn if_stored<O: Objects>(objects: &O, id: ObjectId) -> Result<ObjectId, RefError>
     ensures { result ≡ stopped id (finmap.get (O.graph objects.now) id) }
 {
     if objects.kind_of(&id).is_none() {

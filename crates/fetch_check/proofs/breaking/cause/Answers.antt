@@ -25,23 +25,23 @@ as_told : (expected found : Result ObjectId RefError) → found ≡ expected →
 as_told expected (Ok id) is = sym is
 as_told expected (Err e) is = freely (is_memory e) (expected ≡ Err e) (sym is)
 
-pub returns-in-Object : goal.returns-in-Object
-returns-in-Object c = c.unstored.ensures ∙ sym (ap (λ t. cause_of c.args.refs.now.names c.args.store.now.objects (c.args.name.now, seen t)) c.in-Object.is)
+pub returns-in-Object-clause-cause : goal.returns-in-Object-clause-cause
+returns-in-Object-clause-cause c = c.unstored.ensures ∙ sym (ap (λ t. cause_of c.args.refs.now.names c.args.store.now.objects (c.args.name.now, seen t)) c.in-Object.is)
 
-pub returns-in-Ok : goal.returns-in-Ok
-returns-in-Ok c =
+pub returns-in-Ok-clause-cause : goal.returns-in-Ok-clause-cause
+returns-in-Ok-clause-cause c =
     let names = c.args.refs.now.names in
     let objects = c.args.store.now.objects in
     let graph = graph_of objects in
     let name = c.args.name.now in
     let end = end_of names graph (name, seen c.args.target) in
-    let answers : AnswersUnless is_memory end c.peel_tags.result = as_told end c.peel_tags.result (c.peel_tags.ensures ∙ ap (λ r. and_then r (through graph (map.len graph) [])) (sym c.in-Ok.ensures.answer)) in
+    let answers : AnswersUnless is_memory end c.peel.result = as_told end c.peel.result (c.peel.ensures.answer ∙ ap (λ r. and_then r (through graph (map.len graph) [])) (sym c.in-Ok.ensures.answer)) in
     let same : cause_in objects end ≡ cause_of names objects (name, seen c.args.target) =
     ap (λ t. cause_in objects (end_of names graph (name, seen t))) c.in-Symbolic.is ∙ sym (ap (λ t. cause_of names objects (name, seen t)) c.in-Symbolic.is) in
     subst (λ x. IfOk c.told.result (λ cause. cause ≡ x)) same (c.told.ensures end answers)
 
-pub returns-in-Err : goal.returns-in-Err
-returns-in-Err c =
+pub returns-in-Err-clause-cause : goal.returns-in-Err-clause-cause
+returns-in-Err-clause-cause c =
     let names = c.args.refs.now.names in
     let objects = c.args.store.now.objects in
     let graph = graph_of objects in
