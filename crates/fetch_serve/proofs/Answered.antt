@@ -43,6 +43,8 @@ use Rattle.fetch_serve.specs.declared.asked.Asked.TheVariants.{First, Listing, F
 use Rattle.fetch_serve.specs.declared.asked.DepthAsked.{DepthAsked}
 use Rattle.fetch_serve.specs.declared.asked.FetchAsked.{FetchAsked}
 use Rattle.fetch_serve.specs.Offered.{capabilities_of, capability, offer, offered_ids, offered_of, peeled_behind, target_of}
+use Rattle.fetch_serve.specs.declared.depth.Move.{Move}
+use Rattle.fetch_serve.specs.declared.depth.Move.TheVariants.{Comes, Leaves}
 use Rattle.fetch_serve.specs.Depths.{border_of, depth_of, kept_of, moved_of, shallow_of, unshallow_of}
 use Rattle.fetch_serve.specs.Packs.{known_haves, pack_of, served_of}
 use Rattle.fetch_serve.specs.Replies.{change_in, error_lines, fetch_lines, first_unoffered, is_too_large, is_too_long, not_offered, objects_of, pack_lines, reply_lines, too_large}
@@ -135,16 +137,16 @@ asked_of d r = record { kind = d.hash; haves = r.haves; done = r.done; read_pack
 -- ---- a pack
 
 -- commits that come or leave are of the hash
-moved_are : (d : Data) (r : FetchAsked) (leaves : Bool) → IsServable d → All (IsIdOf d.hash) (moved_of (history_of d) (border_of r) (kept_of d r) leaves)
-moved_are d r leaves s = λ k e lt.
-    let id = get_or (moved_of (history_of d) (border_of r) (kept_of d r) leaves) k e in
-    let kept = moved_kept d r leaves id (Contains-get_or (moved_of (history_of d) (border_of r) (kept_of d r) leaves) k e lt) in
+moved_are : (d : Data) (r : FetchAsked) (way : Move) → IsServable d → All (IsIdOf d.hash) (moved_of (history_of d) (border_of r) (kept_of d r) way)
+moved_are d r way s = λ k e lt.
+    let id = get_or (moved_of (history_of d) (border_of r) (kept_of d r) way) k e in
+    let kept = moved_kept d r way id (Contains-get_or (moved_of (history_of d) (border_of r) (kept_of d r) way) k e lt) in
     let o = commit_at d.objects id (kept_commit d r id kept) in
     stored_is d id s (ap is_some o.1)
 
 moves_are : (d : Data) (r : FetchAsked) (depth : Option DepthAsked) → IsServable d → IfSome (change_in d r depth) (IsChangeOf d.hash)
 moves_are d r None s = tt
-moves_are d r (Some depth) s = record { shallow = moved_are d r false s; unshallow = moved_are d r true s }
+moves_are d r (Some depth) s = record { shallow = moved_are d r Comes s; unshallow = moved_are d r Leaves s }
 
 -- ---- a fetch request
 
@@ -194,14 +196,14 @@ fetched_fits : (d : Data) (r : FetchAsked) (done : Bool) → IsServable d → fi
 fetched_fits d r false s = round_fits (known_haves d r) (λ k e lt. short_id d.hash (get_or (known_haves d r) k e) (known_are d r s k e lt))
 fetched_fits d r true s = by_size (is_too_large r.version (objects_of d r))
   where
-    short_moves : (leaves : Bool) → AreShort (moved_of (history_of d) (border_of r) (kept_of d r) leaves)
-    short_moves leaves = λ k e lt. short_id d.hash (get_or (moved_of (history_of d) (border_of r) (kept_of d r) leaves) k e) (moved_are d r leaves s k e lt)
+    short_moves : (way : Move) → AreShort (moved_of (history_of d) (border_of r) (kept_of d r) way)
+    short_moves way = λ k e lt. short_id d.hash (get_or (moved_of (history_of d) (border_of r) (kept_of d r) way) k e) (moved_are d r way s k e lt)
 
     by_depth : (depth : Option DepthAsked) → first_too_long (last_lines (change_in d r depth) (bands_of (pack_bytes d r))) ≡ None
     by_depth None = pack_fits (pack_bytes d r)
     by_depth (Some depth) =
         both_fit (change_lines (change_in d r (Some depth))) (bands.pack_lines (bands_of (pack_bytes d r)))
-        (change_fits (shallow_of d r) (unshallow_of d r) (short_moves false) (short_moves true)) (pack_fits (pack_bytes d r))
+        (change_fits (shallow_of d r) (unshallow_of d r) (short_moves Comes) (short_moves Leaves)) (pack_fits (pack_bytes d r))
 
     by_size : (b : Bool) → first_too_long (cond b (error_lines too_large) (last_lines (change_in d r r.depth) (bands_of (pack_bytes d r)))) ≡ None
     by_size true = large_fits

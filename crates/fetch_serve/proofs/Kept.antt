@@ -24,6 +24,8 @@ use Rattle.fetch_store.proofs.Members.{none_in}
 use Rattle.fetch_serve.specs.declared.asked.DepthAsked.{DepthAsked}
 use Rattle.fetch_serve.specs.declared.asked.DepthAsked.TheVariants.{Deepen, Limits}
 use Rattle.fetch_serve.specs.declared.asked.FetchAsked.{FetchAsked}
+use Rattle.fetch_serve.specs.declared.depth.Move.{Move}
+use Rattle.fetch_serve.specs.declared.depth.Move.TheVariants.{Comes, Leaves}
 use Rattle.fetch_serve.specs.declared.depth.Way.{Way}
 use Rattle.fetch_serve.specs.declared.depth.Way.TheVariants as ways
 use Rattle.fetch_serve.specs.Depths.{IsDepth, IsKeptBy, are_parents_among, border_of, depth_of, either_of, excluded_by, is_moved, kept_by, kept_of, led_to, limited_steps, may_be_kept, met_of, moved_of, near_of, parent_steps, parents_in, roots_of, shallow_of, steps_to, steps_within, unshallow_of}
@@ -194,12 +196,12 @@ module _ (d : Data) (r : FetchAsked) where
   pub kept_commit : (id : ObjectId) → Contains (kept_of d r) id → IsCommit d.objects id
   kept_commit id h = commit_stored d.objects id (commit_kept d r r.depth id (kept_is d r r.depth id h))
 
-  pub moved_kept : (leaves : Bool) (id : ObjectId) → Contains (moved_of (history_of d) (border_of r) (kept_of d r) leaves) id → Contains (kept_of d r) id
-  moved_kept leaves id h = (filtered (is_moved (history_of d) (border_of r) (kept_of d r) leaves) id (kept_of d r) h).0
+  pub moved_kept : (way : Move) (id : ObjectId) → Contains (moved_of (history_of d) (border_of r) (kept_of d r) way) id → Contains (kept_of d r) id
+  moved_kept way id h = (filtered (is_moved (history_of d) (border_of r) (kept_of d r) way) id (kept_of d r) h).0
 
   left_border : (id : ObjectId) → Contains (unshallow_of d r) id → Contains r.border id
   left_border id h =
-      let f = filtered (is_moved (history_of d) (border_of r) (kept_of d r) true) id (kept_of d r) h in
+      let f = filtered (is_moved (history_of d) (border_of r) (kept_of d r) Leaves) id (kept_of d r) h in
       let b = both (set.contains (border_of r) id) (are_parents_among (history_of d) (kept_of d r) id) f.1 in
       Contains-named id r.border (sym (set.contains-from_list id_cmp_total r.border id) ∙ b.0)
 
@@ -207,7 +209,7 @@ module _ (d : Data) (r : FetchAsked) where
   pub depth_is : IsDepth d r (depth_of d r)
   depth_is = record {
     kept = λ j f lt. kept_commit (get_or (kept_of d r) j f) (Contains-get_or (kept_of d r) j f lt);
-    comes = λ j f lt. moved_kept false (get_or (shallow_of d r) j f) (Contains-get_or (shallow_of d r) j f lt);
+    comes = λ j f lt. moved_kept Comes (get_or (shallow_of d r) j f) (Contains-get_or (shallow_of d r) j f lt);
     leaves = λ j f lt. left_border (get_or (unshallow_of d r) j f) (Contains-get_or (unshallow_of d r) j f lt);
-    stored = λ j f lt. kept_commit (get_or (unshallow_of d r) j f) (moved_kept true (get_or (unshallow_of d r) j f) (Contains-get_or (unshallow_of d r) j f lt));
+    stored = λ j f lt. kept_commit (get_or (unshallow_of d r) j f) (moved_kept Leaves (get_or (unshallow_of d r) j f) (Contains-get_or (unshallow_of d r) j f lt));
   }

@@ -25,5 +25,3 @@ pub mod Collecting
 pub mod Appending
 pub mod Hearing
 pub mod Peering
-pub mod Fronting
-pub mod Walking

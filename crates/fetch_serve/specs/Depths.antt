@@ -18,6 +18,8 @@ use Rattle.fetch_serve.specs.declared.asked.DepthAsked.{DepthAsked}
 use Rattle.fetch_serve.specs.declared.asked.DepthAsked.TheVariants.{Deepen, Limits}
 use Rattle.fetch_serve.specs.declared.asked.FetchAsked.{FetchAsked}
 use Rattle.fetch_serve.specs.declared.depth.Depth.{Depth}
+use Rattle.fetch_serve.specs.declared.depth.Move.{Move}
+use Rattle.fetch_serve.specs.declared.depth.Move.TheVariants.{Comes, Leaves}
 use Rattle.fetch_serve.specs.Offered.{ids_in, offered_of, peeled_from}
 use Rattle.fetch_serve.specs.Requests.{has_id}
 use Rattle.fetch_serve.specs.Served.{Data, history_of}
@@ -151,21 +153,21 @@ are_parents_among history ids id = list_all (λ parent. has_id parent ids) (pare
 
 -- Whether a kept commit comes to a border, since it isn't there and some parent isn't kept; or whether it leaves the border,
 -- since it is there and each parent is kept.
-abbrev pub is_moved : Graph → IdSet → List ObjectId → Bool → ObjectId → Bool
-is_moved history border kept false id = not (set.contains border id) && not (are_parents_among history kept id)
-is_moved history border kept true id = set.contains border id && are_parents_among history kept id
+abbrev pub is_moved : Graph → IdSet → List ObjectId → Move → ObjectId → Bool
+is_moved history border kept Comes id = not (set.contains border id) && not (are_parents_among history kept id)
+is_moved history border kept Leaves id = set.contains border id && are_parents_among history kept id
 
 -- the kept commits that come to a border, or leave it
-abbrev pub moved_of : Graph → IdSet → List ObjectId → Bool → List ObjectId
-moved_of history border kept leaves = filter (is_moved history border kept leaves) kept
+abbrev pub moved_of : Graph → IdSet → List ObjectId → Move → List ObjectId
+moved_of history border kept way = filter (is_moved history border kept way) kept
 
 -- the commits that come to the client's border, ascending
 abbrev pub shallow_of : Data → FetchAsked → List ObjectId
-shallow_of d r = moved_of (history_of d) (border_of r) (kept_of d r) false
+shallow_of d r = moved_of (history_of d) (border_of r) (kept_of d r) Comes
 
 -- the commits that leave the client's border, ascending
 abbrev pub unshallow_of : Data → FetchAsked → List ObjectId
-unshallow_of d r = moved_of (history_of d) (border_of r) (kept_of d r) true
+unshallow_of d r = moved_of (history_of d) (border_of r) (kept_of d r) Leaves
 
 -- what the depth lines of a request decide
 abbrev pub depth_of : Data → FetchAsked → Depth

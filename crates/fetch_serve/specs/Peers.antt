@@ -1,9 +1,12 @@
 -- A server as the peer of a fetch.
 use Rattle.std.specs.Prelude.{◌≡◌, ℕ, ◌-◌, Bool, false, true, List, [], ◌++◌, length, take, drop, Option, Some, None, is_some, ⊤}
-use Rattle.std.specs.Prelude.{if◌then◌else◌, refl}
+use Rattle.std.specs.Prelude.{Result, Ok, Err, if◌then◌else◌, refl}
 use Rattle.std.specs.Coded.{Coded, code_by, coded_ℕ, coded_list, coded×}
+use Rattle.fetch_store.specs.Calls.{one_more}
 use Rattle.fetch_store.specs.Faults.{Faults}
 use Rattle.fetch_wire.specs.Talks.{Talk, Receive}
+use Rattle.fetch_wire.specs.declared.session.peer.SendFault.{SendFault}
+use Rattle.fetch_wire.specs.declared.session.peer.SendFault.TheVariants as sending
 use Rattle.fetch_serve.specs.Replies.{replies_of}
 use Rattle.fetch_serve.specs.Served.{Data}
 use Rattle.fetch_serve.specs.Servings.{Serving, coded_data}
@@ -58,6 +61,12 @@ told_by p = let heard = heard_by p.served p.heard in Some (talk_with p heard (re
 -- Its faults count where what it heard shows one.
 abbrev pub faults_of : ServedPeer → Faults
 faults_of p = record { count = if is_troubled p.served (heard_by p.served p.heard) then p.failed else 0; possible = true }
+
+-- how often it failed after this answer: once more where it failed, as far as the count goes
+abbrev pub count_after : ℕ → Result (Unit {0}) SendFault → ℕ
+count_after failed (Err sending.Failed) = one_more failed
+count_after failed (Err sending.NoMemory) = failed
+count_after failed (Ok u) = failed
 
 -- what a peer of this data had given where it had heard this, and so many bytes were still to be given
 abbrev pub receive_at : Data → List ℕ → ℕ → Receive

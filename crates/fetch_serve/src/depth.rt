@@ -4,6 +4,7 @@ ghost use Rattle.std.specs.Prelude.{◌≡◌, ◌++◌, ◌<◌, [], filter, ma
 ghost use Rattle.std.specs.FinSet as set;
 ghost use Rattle.std.specs.List.{flat_map, list_all, list_any};
 ghost use Rattle.std.specs.List.Sorted.{IsStrictlySortedBy};
+ghost use Rattle.fetch_refs.specs.TagEnds.{AreEnds};
 ghost use Rattle.fetch_serve.specs.Depths as spec;
 ghost use Rattle.fetch_serve.specs.Depths.{depth_of, led_to};
 ghost use Rattle.fetch_serve.specs.Offered.{offered_of};
@@ -21,6 +22,7 @@ use crate::asked::{DepthAsked, FetchAsked};
 use crate::offered::{append_ids_in, peeled_from, stands_among};
 use crate::parts::Parts;
 use fetch_reach::union;
+use fetch_refs::TagEnds;
 use fetch_specs::{PartialName, matches};
 use fetch_store::{Border, List, Next, NoMemory, ObjectId, Objects, Parents, Steps, Store, spread};
 use fetch_wire::Ref;
@@ -195,10 +197,12 @@ fn uncounted<L: Ledger>(
 }
 
 /// What a tag leads to; another id leads to itself.
-fn peeled_or_self(store: &Store, id: ObjectId) -> ObjectId
-    ensures { result ≡ spec.peeled_or_self (graph_of store.now.objects) id }
+fn peeled_or_self(store: &Store, known: &mut TagEnds, id: ObjectId) -> ObjectId
+    requires { AreEnds (graph_of store.now.objects) known.old }
+    ensures end { result ≡ spec.peeled_or_self (graph_of store.now.objects) id }
+    ensures known { AreEnds (graph_of store.now.objects) known.new }
 {
-    match peeled_from(store, id) {
+    match peeled_from(store, known, id) {
         Some(last) => last,
         None => id,
     }
@@ -209,8 +213,9 @@ fn roots(alloc: Global, store: &Store, wants: &[ObjectId]) -> Result<Vec<ObjectI
     ensures { IfOk result (λ roots. roots.items ≡ map (spec.peeled_or_self (graph_of store.now.objects)) wants.now) }
 {
     let mut roots = Vec::new(alloc);
+    let mut known = TagEnds::new(alloc);
     for id in wants {
-        roots.push(peeled_or_self(store, *id))?;
+        roots.push(peeled_or_self(store, &mut known, *id))?;
     }
     Ok(roots)
 }
@@ -370,31 +375,39 @@ fn are_among(ids: &[ObjectId], parents: Parents<'_>) -> bool
     true
 }
 
-/// Whether a kept commit comes to the border, or leaves it.
-fn is_moved(store: &Store, border: &Border, kept: &[ObjectId], leaves: bool, id: &ObjectId) -> bool
+/// How a kept commit moves over a border.
+#[derive(Clone, Copy)]
+pub(crate) enum Move {
+    /// It comes to the border.
+    Comes,
+    /// It leaves the border.
+    Leaves,
+}
+
+/// Whether a kept commit moves so.
+fn is_moved(store: &Store, border: &Border, kept: &[ObjectId], way: Move, id: &ObjectId) -> bool
     requires { IsStrictlySortedBy id_cmp kept.now }
-    ensures { result ≡ spec.is_moved (graph_of store.now.objects) border.now kept.now leaves id.now }
+    ensures { result ≡ spec.is_moved (graph_of store.now.objects) border.now kept.now way id.now }
 {
-    if leaves {
-        border.contains(id) && are_among(kept, store.parents(id))
-    } else {
-        !border.contains(id) && !are_among(kept, store.parents(id))
+    match way {
+        Move::Comes => !border.contains(id) && !are_among(kept, store.parents(id)),
+        Move::Leaves => border.contains(id) && are_among(kept, store.parents(id)),
     }
 }
 
-/// The kept commits that come to the border, or leave it.
+/// The kept commits that move so.
 fn moved(
     walk: Walk<'_>,
     border: &Border,
     kept: &[ObjectId],
-    leaves: bool,
+    way: Move,
 ) -> Result<List<ObjectId>, NoMemory>
     requires { IsStrictlySortedBy id_cmp kept.now }
-    ensures { IfOk result (λ ids. ids ≡ spec.moved_of (graph_of walk.entry.store.now.objects) border.now kept.now leaves) }
+    ensures { IfOk result (λ ids. ids ≡ spec.moved_of (graph_of walk.entry.store.now.objects) border.now kept.now way) }
 {
     let mut ids = List::new(walk.alloc);
     for id in kept {
-        if is_moved(walk.store, border, kept, leaves, id) {
+        if is_moved(walk.store, border, kept, way, id) {
             ids.push(*id)?;
         }
     }
@@ -414,8 +427,8 @@ pub(crate) fn decided(
 {
     let walk = walk_over(parts);
     let kept = kept(parts, asked, border, references)?;
-    let shallow = moved(walk, border, kept.as_slice(), false)?;
-    let unshallow = moved(walk, border, kept.as_slice(), true)?;
+    let shallow = moved(walk, border, kept.as_slice(), Move::Comes)?;
+    let unshallow = moved(walk, border, kept.as_slice(), Move::Leaves)?;
     Ok(Depth {
         kept,
         shallow,

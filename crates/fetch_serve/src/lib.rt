@@ -22,7 +22,6 @@ mod saying;
 mod servable;
 mod served;
 mod server;
-mod walk;
 
 pub use asked::{Asked, DepthAsked, FetchAsked};
 pub use error::ServeError;

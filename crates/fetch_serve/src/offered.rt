@@ -7,6 +7,7 @@ ghost use Rattle.std.specs.Option.{option_copied};
 ghost use Rattle.std.specs.Result.{result_ok};
 ghost use Rattle.std.specs.Str.{bytes_eq};
 ghost use Rattle.fetch_refs.specs.Peeled.{resolved};
+ghost use Rattle.fetch_refs.specs.TagEnds.{AreEnds};
 ghost use Rattle.fetch_refs.specs.Targets.{seen};
 ghost use Rattle.fetch_serve.specs.Offered as spec;
 ghost use Rattle.fetch_serve.specs.Parts.{held_by};
@@ -16,20 +17,22 @@ ghost use Rattle.fetch_store.specs.Graph.{graph_of};
 ghost use Rattle.fetch_store.specs.Stores.{id_cmp};
 
 use crate::parts::Parts;
-use fetch_refs::{RefError, TargetRef, peel_tags};
+use fetch_refs::{RefError, TagEnds, TargetRef};
 use fetch_specs::FullName;
 use fetch_store::{NoMemory, ObjectId, Objects, Store, Text, ascending};
 use fetch_wire::{Ref, make_ref};
 use std::alloc::Global;
 
 /// What a tag at this id leads to; nothing of another object.
-pub(crate) fn peeled_from(store: &Store, id: ObjectId) -> Option<ObjectId>
-    ensures { result ≡ spec.peeled_from (graph_of store.now.objects) id }
+pub(crate) fn peeled_from(store: &Store, known: &mut TagEnds, id: ObjectId) -> Option<ObjectId>
+    requires { AreEnds (graph_of store.now.objects) known.old }
+    ensures end { result ≡ spec.peeled_from (graph_of store.now.objects) id }
+    ensures known { AreEnds (graph_of store.now.objects) known.new }
 {
     if store.tag_target(&id).is_none() {
         return None;
     }
-    match peel_tags(store, id) {
+    match known.peel(store, id) {
         Ok(last) => Some(last),
         Err(_) => None,
     }
@@ -60,21 +63,30 @@ fn target_of(target: TargetRef<'_>) -> Option<&[u8]>
 }
 
 /// What a tag at the id leads to, where there is an id.
-fn peeled_if(store: &Store, id: Option<ObjectId>) -> Option<ObjectId>
-    ensures { result ≡ spec.peeled_behind (graph_of store.now.objects) id }
+fn peeled_if(store: &Store, known: &mut TagEnds, id: Option<ObjectId>) -> Option<ObjectId>
+    requires { AreEnds (graph_of store.now.objects) known.old }
+    ensures end { result ≡ spec.peeled_behind (graph_of store.now.objects) id }
+    ensures known { AreEnds (graph_of store.now.objects) known.new }
 {
     match id {
-        Some(id) => peeled_from(store, id),
+        Some(id) => peeled_from(store, known, id),
         None => None,
     }
 }
 
 /// The reference as it is listed.
-fn listed(parts: Parts<'_>, name: &[u8], target: TargetRef<'_>) -> Result<Option<Ref>, NoMemory>
-    ensures { IfOk result (λ found. found ≡ spec.listed (held_by parts.entry) (name.now, seen target.entry)) }
+fn listed(
+    parts: Parts<'_>,
+    known: &mut TagEnds,
+    name: &[u8],
+    target: TargetRef<'_>,
+) -> Result<Option<Ref>, NoMemory>
+    requires { AreEnds (graph_of parts.store.now.objects) known.old }
+    ensures found { IfOk result (λ found. found ≡ spec.listed (held_by parts.entry) (name.now, seen target.entry)) }
+    ensures known { AreEnds (graph_of parts.entry.store.now.objects) known.new }
 {
     let id = resolved(parts, name, target)?;
-    let peeled = peeled_if(parts.store, id);
+    let peeled = peeled_if(parts.store, known, id);
     make_ref(parts.alloc, name, id, (target_of(target), peeled))
 }
 
@@ -138,17 +150,20 @@ pub(crate) struct Wanted<'a> {
 /// The reference, where it is offered.
 fn offer(
     parts: Parts<'_>,
+    known: &mut TagEnds,
     wanted: Wanted<'_>,
     name: &[u8],
     target: TargetRef<'_>,
 ) -> Result<Option<Ref>, NoMemory>
-    ensures { IfOk result (λ found.
+    requires { AreEnds (graph_of parts.store.now.objects) known.old }
+    ensures found { IfOk result (λ found.
         found ≡ spec.offer (held_by parts.entry) wanted.entry.unborn wanted.entry.prefixes.now (name.now, seen target.entry)) }
+    ensures known { AreEnds (graph_of parts.entry.store.now.objects) known.new }
 {
     if !is_public(name) || !is_under(wanted.prefixes, name) {
         return Ok(None);
     }
-    match listed(parts, name, target)? {
+    match listed(parts, known, name, target)? {
         Some(reference) => Ok(if_told(wanted.unborn, reference)),
         None => Ok(None),
     }
@@ -160,9 +175,10 @@ pub(crate) fn offered(parts: Parts<'_>, wanted: Wanted<'_>) -> Result<Vec<Ref>, 
 {
     let mut found = Vec::new(parts.alloc);
     let mut references = parts.refs.iter();
+    let mut known = TagEnds::new(parts.alloc);
     while let Some((name, target)) = references.next() {
         if FullName::is_valid(name) {
-            if let Some(reference) = offer(parts, wanted, name, target)? {
+            if let Some(reference) = offer(parts, &mut known, wanted, name, target)? {
                 found.push(reference)?;
             }
         }

@@ -3,7 +3,7 @@
 ghost use Rattle.std.specs.Prelude.{◌≡◌, ◌≤◌, ◌+◌, ◌-◌, ◌^◌, ◌++◌, ◌∷◌, ◌↔◌, [], List, ℕ, Some, length, min, true, IfOk, IsErrOf, IsTrue};
 ghost use Rattle.std.specs.Prelude.{OnErr};
 ghost use Rattle.fetch_serve.specs.Hearing.{Hears, fault_of};
-ghost use Rattle.fetch_serve.specs.Peers.{faults_of, told_by};
+ghost use Rattle.fetch_serve.specs.Peers.{count_after, faults_of, told_by};
 ghost use Rattle.fetch_serve.specs.Replies.{replies_of};
 ghost use Rattle.fetch_serve.specs.Servings.{unfed};
 ghost use Rattle.fetch_serve.specs.declared.error.ServeError.TheVariants as errors;
@@ -128,8 +128,8 @@ fn hear(server: &mut Server<'_>, bytes: &[u8]) -> (usize, Result<(), SendFault>)
 
 /// How often the other side failed after this answer.
 fn counted(failed: u64, answer: &Result<(), SendFault>) -> u64
+    ensures count { result ≡ count_after failed answer.now }
     ensures later { failed ≤ result }
-    ensures rose { IsErrOf answer.now SendFault.Failed → min (failed + 1) (2 ^ 64 - 1) ≤ result }
 {
     match answer {
         Err(SendFault::Failed) => failed.saturating_add(1),

@@ -1,19 +1,21 @@
 //! Which repositories can be served.
 
 ghost use Rattle.std.specs.Prelude.{◌≡◌, ◌||◌, map, filter, slice_get, Some, IfOk, IfErr, MatchOption, OnOk};
+ghost use Rattle.fetch_refs.specs.TagEnds.{AreEnds};
 ghost use Rattle.fetch_refs.specs.Targets.{seen};
 ghost use Rattle.fetch_serve.specs.Parts.{held_by};
 ghost use Rattle.fetch_serve.specs.Servable as spec;
 ghost use Rattle.fetch_serve.specs.Servable.{IsServable, IsTrouble};
 ghost use Rattle.fetch_reach.specs.Named.{AreOwnIds};
 ghost use Rattle.fetch_store.specs.Closed.{IsClosed, holding};
+ghost use Rattle.fetch_store.specs.Graph.{graph_of};
 ghost use Rattle.std.specs.FinSet as set;
 ghost use Rattle.fetch_store.specs.Missing.{unclosed};
 
 use crate::error::ServeError;
 use crate::parts::Parts;
 use fetch_reach::{first_misnamed, stored_objects_are_objects};
-use fetch_refs::{RefError, TargetRef, peel_tags};
+use fetch_refs::{RefError, TagEnds, TargetRef};
 use fetch_specs::{FullName, NameError};
 use fetch_store::{Border, Missing, NoMemory, Store, first_missing};
 
@@ -31,8 +33,15 @@ fn is_unlistable(target: TargetRef<'_>) -> bool
 }
 
 /// Whether a reference leads to nothing that is stored, into a cycle, or over too many names. An unborn one doesn't.
-fn is_refused(parts: Parts<'_>, name: &[u8], target: TargetRef<'_>) -> Result<bool, NoMemory>
-    ensures { IfOk result (λ refused. refused ≡ spec.is_refused (spec.end_of (held_by parts.entry) name.now (seen target.entry))) }
+fn is_refused(
+    parts: Parts<'_>,
+    known: &mut TagEnds,
+    name: &[u8],
+    target: TargetRef<'_>,
+) -> Result<bool, NoMemory>
+    requires { AreEnds (graph_of parts.store.now.objects) known.old }
+    ensures refused { IfOk result (λ refused. refused ≡ spec.is_refused (spec.end_of (held_by parts.entry) name.now (seen target.entry))) }
+    ensures known { AreEnds (graph_of parts.entry.store.now.objects) known.new }
 {
     let id = match parts.refs.resolve(name, target) {
         Ok(id) => id,
@@ -40,19 +49,26 @@ fn is_refused(parts: Parts<'_>, name: &[u8], target: TargetRef<'_>) -> Result<bo
         Err(RefError::Unborn { .. }) => return Ok(false),
         Err(_) => return Ok(true),
     };
-    match peel_tags(parts.store, id) {
+    match known.peel(parts.store, id) {
         Ok(_) | Err(RefError::Unborn { .. }) => Ok(false),
         Err(_) => Ok(true),
     }
 }
 
-fn is_unservable(parts: Parts<'_>, name: &[u8], target: TargetRef<'_>) -> Result<bool, NoMemory>
-    ensures { IfOk result (λ found. found ≡ spec.is_unservable (held_by parts.entry) (name.now, seen target.entry)) }
+fn is_unservable(
+    parts: Parts<'_>,
+    known: &mut TagEnds,
+    name: &[u8],
+    target: TargetRef<'_>,
+) -> Result<bool, NoMemory>
+    requires { AreEnds (graph_of parts.store.now.objects) known.old }
+    ensures found { IfOk result (λ found. found ≡ spec.is_unservable (held_by parts.entry) (name.now, seen target.entry)) }
+    ensures known { AreEnds (graph_of parts.entry.store.now.objects) known.new }
 {
     if name.len() > MAX_NAME || is_unlistable(target) {
         return Ok(true);
     }
-    is_refused(parts, name, target)
+    is_refused(parts, known, name, target)
 }
 
 /// The name, where it is a full one.
@@ -71,9 +87,10 @@ fn first_unservable(parts: Parts<'_>) -> Result<Option<FullName>, NoMemory>
     ensures { IfOk result (λ found. found ≡ slice_get (spec.unservable_names (held_by parts.entry)) 0) }
 {
     let mut references = parts.refs.iter();
+    let mut known = TagEnds::new(parts.alloc);
     while let Some((name, target)) = references.next() {
         if let Some(name) = full_name(parts, name)? {
-            if is_unservable(parts, name.as_bytes(), target)? {
+            if is_unservable(parts, &mut known, name.as_bytes(), target)? {
                 return Ok(Some(name));
             }
         }

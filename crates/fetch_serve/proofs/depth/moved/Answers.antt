@@ -10,7 +10,7 @@ pub loop-id-preserved : goal.loop-id-preserved
 loop-id-preserved c =
     let history = graph_of c.args.walk.store.now.objects in
     let kept = c.args.kept.now in
-    let moves = is_moved history c.args.border.now kept c.args.leaves in
+    let moves = is_moved history c.args.border.now kept c.args.way in
     let i = c.loop-id.id-index in
     let none = Sha1 [] in
     let id = get_or kept i none in
@@ -20,4 +20,4 @@ loop-id-preserved c =
       | then-is_moved+in_ok-push w ↦ w.ids-is ∙ w.in_ok-push.ensures.ok ∙ sym (ap (λ b. cond b (c.loop-id.ids ++ id ∷ []) c.loop-id.ids) (sym c.is_moved.ensures ∙ w.if-is_moved.true))
       | else-is_moved w ↦ w.ids-is ∙ sym (ap (λ b. cond b (c.loop-id.ids ++ id ∷ []) c.loop-id.ids) (sym c.is_moved.ensures ∙ w.if-is_moved.false))
     ] in
-    kept_more moves kept i none c.loop-id.ids c.if-is_moved.ids (moved_of history c.args.border.now kept c.args.leaves) lt c.loop-id.invariant now
+    kept_more moves kept i none c.loop-id.ids c.if-is_moved.ids (moved_of history c.args.border.now kept c.args.way) lt c.loop-id.invariant now
