@@ -23,9 +23,9 @@ use Rattle.fetch_conversation.proofs.Held.{round_in, behind_round, negotiating_i
 
 module _ (bound : ℕ) (t : TermsValue) (g : Graph) (algorithm : Algorithm) (view : View) where
   -- a course that open rounds lead to
-  record IsCourse (c : CourseValue) : Type 0 where
-    are : (more : List Round) → AreRounds g algorithm c.size c.so_far more → AreRounds g algorithm first_size (begun algorithm view.tips view.border) (c.rounds ++ more)
-    going : AllByRecursion (λ (r : Round). r.done ≡ false) c.rounds
+  pub record IsCourse (c : CourseValue) : Type 0 where
+    pub are : (more : List Round) → AreRounds g algorithm c.size c.so_far more → AreRounds g algorithm first_size (begun algorithm view.tips view.border) (c.rounds ++ more)
+    pub going : AllByRecursion (λ (r : Round). r.done ≡ false) c.rounds
 
   open_more : (rounds : List Round) (r : Round) → AllByRecursion (λ (r : Round). r.done ≡ false) rounds → r.done ≡ false → AllByRecursion (λ (r : Round). r.done ≡ false) (rounds ++ r ∷ [])
   open_more [] r all one = (one, tt)
@@ -35,7 +35,7 @@ module _ (bound : ℕ) (t : TermsValue) (g : Graph) (algorithm : Algorithm) (vie
   or_left false b is = refl
   or_left true b is = absurd (cc)
 
-  course_on : (c : CourseValue) (reply : FetchReply) → IsCourse c → is_end c (next_window g algorithm c) reply ≡ false → IsCourse (course_after algorithm c (next_window g algorithm c) reply)
+  pub course_on : (c : CourseValue) (reply : FetchReply) → IsCourse c → is_end c (next_window g algorithm c) reply ≡ false → IsCourse (course_after algorithm c (next_window g algorithm c) reply)
   course_on c reply h going =
       let w : Window = next_window g algorithm c in
       let r : Round = round_of c w reply in
@@ -44,7 +44,7 @@ module _ (bound : ℕ) (t : TermsValue) (g : Graph) (algorithm : Algorithm) (vie
         going = open_more c.rounds r h.going (or_left (is_short c w) reply.last going);
       }
 
-  few : (c : CourseValue) → IsCourse c → 16 * length c.rounds ≤ map.len g
+  pub few : (c : CourseValue) → IsCourse c → 16 * length c.rounds ≤ map.len g
   few c h =
       are_few g algorithm view.tips view.border c.rounds (subst (λ (l : List Round). AreRounds g algorithm first_size (begun algorithm view.tips view.border) l) (append-nil c.rounds) (h.are [] tt))
       (All-from_recursion (λ (r : Round). r.done ≡ false) c.rounds h.going)
@@ -92,7 +92,7 @@ module _ (bound : ℕ) (t : TermsValue) (g : Graph) (algorithm : Algorithm) (vie
       (λ going. same_rounds left more (course_after algorithm c (next_window g algorithm c) reply) (course_on c reply h going)
       (let l = length-append c.rounds (round_of c (next_window g algorithm c) reply ∷ []) in omega arith))))
 
-  first_is : IsCourse (first_course algorithm view)
+  pub first_is : IsCourse (first_course algorithm view)
   first_is = record { are = λ more h. h; going = tt }
 
   pub never_used_up : (more : ℕ) → IsSame (negotiating (suc (map.len g) + more) bound t g algorithm (first_course algorithm view)) (negotiating (suc (map.len g)) bound t g algorithm (first_course algorithm view))

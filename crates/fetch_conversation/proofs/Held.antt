@@ -135,10 +135,6 @@ module _ (bound : ℕ) (t : TermsValue) (g : Graph) (algorithm : Algorithm) wher
       (breaks_late is_free_receiving is_stopped answers bound old new new pending rest (round_in c) (λ r. behind_round more c r) reply e h
       (broken_free is_free_receiving is_stopped answers bound new rest (behind_round more c reply) e free going))
 
-  -- all rounds are used up
-  pub used_up : (answers : Bool) (now : Option Talk) (pending : List ℕ) (c : CourseValue) → Breaks is_free_receiving is_stopped answers bound now now pending (negotiating zero bound t g algorithm c) other_reply
-  used_up answers now pending c = broken_at_once is_free_receiving is_stopped answers bound now pending (negotiating zero bound t g algorithm c) other_reply refl (λ isnt. negotiating_none c)
-
   -- ---- a round, step by step
 
   -- the round that comes next, and the course once its window was taken
@@ -255,11 +251,6 @@ module _ (bound : ℕ) (t : TermsValue) (g : Graph) (algorithm : Algorithm) wher
   goes_off answers old mid new pending rest behind all first c held e less h k =
       let more = left_of all held less in
       record { held = (h.leads (suc more.0) more.1).whole new behind (Err e) (k more.0) }
-
-  -- all rounds are used up
-  pub goes_out : (answers : Bool) (old now : Option Talk) (pending rest behind : List ℕ) (all : ℕ) (first c : CourseValue) (held : ℕ) → held ≡ all → Goes answers old now pending rest all first c held
-      → Converses is_free_receiving is_stopped answers bound old now pending behind (negotiating all bound t g algorithm first) (Err other_reply)
-  goes_out answers old now pending rest behind all first c held is h = let sum : zero + held ≡ all = omega (arith, is) in record { held = (h.leads zero sum).whole now behind (Err other_reply) (used_up answers now rest c) }
 
   -- memory runs out before the first round
   pub goes_nowhere : (answers : Bool) (now : Option Talk) (pending behind : List ℕ) (all : ℕ) (first : CourseValue) (e : Error) → is_free_receiving e ≡ true → is_stopped e ≡ false → Converses is_free_receiving is_stopped answers bound now now pending behind (negotiating all bound t g algorithm first) (Err e)

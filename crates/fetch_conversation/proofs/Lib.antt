@@ -9,6 +9,7 @@ pub mod Tied
 pub mod AwaitedTold
 pub mod Inquired
 pub mod Replied
+pub mod Keeping
 pub mod Listings
 pub mod Requests
 pub mod Exchanged

@@ -1,5 +1,5 @@
 -- The first stage is held.
-use Rattle.std.proofs.Common.{◌≡◌, ◌≢◌, ℕ, Bool, true, false, List, [], ◌∷◌, map, Option, Some, None, Result, Ok, Err, refl, sym, ap, ◌∙◌, subst}
+use Rattle.std.proofs.Common.{◌≡◌, ◌≢◌, ℕ, Bool, true, false, List, [], ◌∷◌, map, Option, Some, None, Result, Ok, Err, refl, sym, ◌∙◌, subst}
 use Rattle.std.specs.Prelude.{IfErr}
 use Rattle.fetch_specs.specs.Conflicts.{conflicts_of}
 use Rattle.fetch_specs.specs.Matches.{mappings_of}
@@ -20,7 +20,7 @@ use Rattle.fetch_wire.proofs.Conversing.{same}
 use Rattle.fetch_conversation.specs.Conversation.{Conversation, ends, sent_in, answer_in, Concludes, RefusesWith, Converses}
 use Rattle.fetch_conversation.specs.Drives.{IsDrivable, Finishes, Stops}
 use Rattle.fetch_conversation.specs.Errors.{is_free_listing, is_interrupted, prepare_of, prepare_of_wire, prepare_of_stop}
-use Rattle.fetch_conversation.specs.Listing.{IsOpened, TellsUnopened, Answers, TellsConflicts, TellsUntold, found_in, first_of}
+use Rattle.fetch_conversation.specs.Listing.{IsOpened, TellsUnopened, Answers, TellsConflicts, first_of}
 use Rattle.fetch_conversation.specs.ListStage.{InquiryValue, ListedValue, prefixes_asked, all_specs, handshaking, too_long, no_specs, mapped, mapped_unless, map_of, inquiry_stage, list_stage, answer_shown, left_by, shown, is_nil}
 use Rattle.fetch_conversation.specs.declared.drive.Stop.{Stop}
 use Rattle.fetch_conversation.specs.declared.drive.Stop.TheVariants as stops
@@ -172,12 +172,3 @@ mapped_refused q h refs ref_map.Transport is isnt = absurd is
 mapped_refused q h refs ref_map.Interrupted is isnt = absurd is
 mapped_refused q h refs ref_map.NoMemory is isnt = absurd (cc)
 mapped_refused q h refs (ref_map.InitRefMap conflicts) is isnt = unless_some q h refs (conflicts_of (mappings_of (all_specs q) (map name_in refs) h.object_hash)) conflicts is.0 is.1
-
--- why greeting or references aren't there
-untold_by : (q : InquiryValue) (h : Option Handshake) (refs : Option (List Ref)) (e : WireError) → found_in q h refs ≡ Err (handshaking (wire.Malformed 0)) → (e ≢ wire.NoMemory → e ≡ wire.Malformed 0) → is_free_listing (prepare_of_wire e) ≡ false → found_in q h refs ≡ Err (prepare_of_wire e)
-untold_by q h refs e is why isnt = let w = word_by e isnt in is ∙ ap (λ (x : WireError). Err (handshaking x)) (sym (why w.0)) ∙ ap (λ (x : Error). Err x) (sym w.1)
-
-pub untold : (q : InquiryValue) (h : Option Handshake) (refs : Option (List Ref)) (e : WireError) → TellsUntold h refs e → is_free_listing (prepare_of_wire e) ≡ false → found_in q h refs ≡ Err (prepare_of_wire e)
-untold q None refs e why isnt = untold_by q None refs e refl why isnt
-untold q (Some h) None e why isnt = untold_by q (Some h) None e refl why isnt
-untold q (Some h) (Some refs) e why isnt = absurd ((word_by e isnt).0 why)

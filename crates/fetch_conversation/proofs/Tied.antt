@@ -111,7 +111,7 @@ fails_by s more e is w = absurd (not_well s.trouble e is w.well)
 
 -- ---- a session that is at rest
 
-not_some : {A : Type 0} (x : Option A) → is_some x ≡ false → x ≡ None
+pub not_some : {A : Type 0} (x : Option A) → is_some x ≡ false → x ≡ None
 not_some None is = refl
 not_some (Some a) is = absurd (cc)
 

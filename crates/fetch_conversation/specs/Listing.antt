@@ -1,12 +1,11 @@
 -- How the references are listed and mapped, step by step.
-use Rattle.std.specs.Prelude.{◌≡◌, ◌≢◌, false, List, [], ◌∷◌, Option, Some, None, Result, Ok, Err, ⊤}
+use Rattle.std.specs.Prelude.{◌≡◌, false, List, [], ◌∷◌, Option, Some, None, Result, Ok, Err, ⊤}
 use Rattle.fetch_specs.specs.declared.conflict.Conflict.{Conflict}
 use Rattle.fetch_wire.specs.Parameters.{first_bad, texts_told, TellsUnsent}
 use Rattle.fetch_wire.specs.Requests.{first_line}
 use Rattle.fetch_wire.specs.SessionStates.{SessionState, opened}
 use Rattle.fetch_wire.specs.Written.{first_too_long}
 use Rattle.fetch_wire.specs.declared.error.WireError.{WireError}
-use Rattle.fetch_wire.specs.declared.error.WireError.TheVariants as wire
 use Rattle.fetch_wire.specs.declared.greetings.handshake.Handshake.{Handshake}
 use Rattle.fetch_wire.specs.declared.lines.line.Line.{Line}
 use Rattle.fetch_wire.specs.declared.listings.reference.Ref.{Ref}
@@ -37,12 +36,6 @@ abbrev pub found_in : InquiryValue → Option Handshake → Option (List Ref) �
 found_in q None refs = Err other_reply
 found_in q (Some h) None = Err other_reply
 found_in q (Some h) (Some refs) = mapped q h refs
-
--- why they aren't there: none tells it, except out of memory
-abbrev pub TellsUntold : Option Handshake → Option (List Ref) → WireError → Type 0
-TellsUntold None refs e = e ≢ wire.NoMemory → e ≡ wire.Malformed 0
-TellsUntold (Some h) None e = e ≢ wire.NoMemory → e ≡ wire.Malformed 0
-TellsUntold (Some h) (Some refs) e = e ≡ wire.NoMemory
 
 -- these conflicts are told, or out of memory
 abbrev pub TellsConflicts : List Conflict → MapError → Type 0

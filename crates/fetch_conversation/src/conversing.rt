@@ -17,14 +17,14 @@ use crate::fetch;
 use crate::listing::Listed;
 use crate::negotiate::Negotiate;
 use crate::progress::Progress;
-use crate::receiving::{received, tell};
+use crate::receiving::received;
 use crate::refusals::{refuse_lacking, refuse_other_hash, refuse_settings, refuse_unmapped};
 use crate::rounds::negotiate;
 use crate::settings::Settings;
 use fetch_negotiate::Shallow;
 use fetch_specs::Tags;
 use fetch_store::{Border, List, NoMemory, Object, ObjectId, Objects};
-use fetch_wire::{Interrupt, Peer, WireError};
+use fetch_wire::{Interrupt, Peer};
 use std::alloc::Global;
 use std::thread::Threads;
 
@@ -115,7 +115,8 @@ fn refuse(alloc: Global, listed: &Listed, terms: &Terms<'_>) -> Result<(), fetch
 /// Asks for the pack of what is wanted, in rounds that tell which commits are there, and reads it. Where nothing is
 /// wanted, nothing is sent. The interrupt is asked once before each receive. Before anything is sent `NoMapping`,
 /// `IncompatibleObjectHash`, a setting that can't be read and what the server lacks are refused, in this order.
-/// `Client` comes only where the peer's faults rose, and `Interrupted` only where the interrupt said yes.
+/// `Client` comes only where the peer's faults rose, and `Interrupted` only where the interrupt said yes. The server's
+/// texts of progress are told as they come, also where it is refused later.
 // Many arguments: each is lent by itself, so that a clause speaks of each before and after the call.
 pub fn converse<R: Threads + Sync, P: Peer, I: Interrupt, Q: Progress, O: Objects>(
     rt: &R,
@@ -143,11 +144,10 @@ pub fn converse<R: Threads + Sync, P: Peer, I: Interrupt, Q: Progress, O: Object
     if terms.view.wants.is_empty() {
         return Ok(None);
     }
-    let negotiate = negotiate(alloc, listed, terms, objects, peer, interrupt)?;
+    let negotiate = negotiate(alloc, listed, terms, objects, peer, interrupt, progress)?;
     let Some(reply) = listed.session.take_reply() else {
-        return Err(fetch::Error::Fetch(WireError::Malformed { place: 0 }));
+        unreachable!()
     };
-    tell(progress, reply.progress.as_slice());
     let received = received(rt, alloc, listed, terms, negotiate, &reply)?;
     Ok(Some(received))
 }

@@ -1,6 +1,6 @@
 //! A session is driven: what it has to send is sent, and what its peer says is fed to it.
 
-ghost use Rattle.std.specs.Prelude.{◌≡◌, ◌≢◌, ◌<◌, [], false, None, length, IfErr, OnOk, OnErr};
+ghost use Rattle.std.specs.Prelude.{◌≡◌, ◌≢◌, ◌<◌, [], false, None, length, vec_len, IfErr, IfOk, OnOk, OnErr};
 ghost use Rattle.fetch_conversation.specs.Blame.{BlamesPeer, BlamesInterrupt, is_told};
 ghost use Rattle.fetch_conversation.specs.Receiving.{last_question};
 ghost use Rattle.fetch_conversation.specs.Drives.{IsDrivable, Drives, IsDriven, IsUnsent, RunsOut, Takes, made_by};
@@ -11,8 +11,10 @@ ghost use Rattle.fetch_wire.specs.SessionStates.{turn_of, IsAwaiting};
 ghost use Rattle.fetch_wire.specs.Talks.{Sends, Makes};
 ghost use Rattle.fetch_wire.specs.declared.session.turn.Turn.TheVariants as turns;
 
+use crate::progress::Progress;
+use fetch_store::{NoMemory, Text};
 use fetch_wire::{Interrupt, Peer, SendFault, Session, Turn, WireError};
-use std::alloc::{AllocError, Global};
+use std::alloc::Global;
 
 /// How many bytes are received at once.
 const PIECE: usize = 65_536;
@@ -36,18 +38,6 @@ impl From<WireError> for Stop {
 
     fn from(e: WireError) -> Stop {
         Stop::Refused(e)
-    }
-}
-
-impl From<AllocError> for Stop {
-    ghost use Rattle.std.specs.Prelude.{◌≡◌};
-    ghost use Rattle.fetch_wire.specs.declared.error.WireError.TheVariants as wire;
-    ghost use Rattle.fetch_conversation.specs.declared.drive.Stop.TheVariants as stops;
-
-    ghost from_gives = { λ _ s. s ≡ stops.Refused wire.NoMemory };
-
-    fn from(_e: AllocError) -> Stop {
-        Stop::Refused(WireError::NoMemory)
     }
 }
 
@@ -102,12 +92,33 @@ fn receive<P: Peer, I: Interrupt>(
     Ok(())
 }
 
+/// What is received into, for any number of requests.
+pub(crate) fn receive_buffer(alloc: Global) -> Result<Vec<u8>, NoMemory>
+    ensures { IfOk result (λ buffer. 0 < vec_len buffer) }
+{
+    Ok(vec![in alloc; 0u8; PIECE]?)
+}
+
+/// Tells the texts behind those that were told, which count as told then.
+fn tell_behind<Q: Progress>(progress: &mut Q, texts: &[Text], told: &mut usize) {
+    let first = *told;
+    if first < texts.len() {
+        for text in &texts[first..] {
+            progress.text(text.as_bytes());
+        }
+    }
+    *told = texts.len();
+}
+
 /// Sends and receives by this buffer until nothing is to be sent and no reply is awaited. The interrupt is asked once
-/// before each receive. It comes to an end since a reply has a bound, and each receive brings some of it.
-fn take_turns<P: Peer, I: Interrupt>(
+/// before each receive. Texts of progress are told before each turn, and how many were told is counted on. It comes to
+/// an end since a reply has a bound, and each receive brings some of it.
+fn take_turns<P: Peer, I: Interrupt, Q: Progress>(
     session: &mut Session,
     peer: &mut P,
     interrupt: &mut I,
+    progress: &mut Q,
+    told: &mut usize,
     buffer: &mut [u8],
 ) -> Result<(), Stop>
     requires drivable { IsDrivable session.old }
@@ -116,6 +127,7 @@ fn take_turns<P: Peer, I: Interrupt>(
         (I.yes interrupt.old) (I.yes interrupt.new) (I.will_stop interrupt.old) (I.will_stop interrupt.new) result }
 {
     'turns: loop {
+        tell_behind(progress, session.progress(), told);
         match session.poll() {
             Turn::Send => send(session, peer)?,
             Turn::Receive => receive(session, peer, interrupt, buffer)?,
@@ -125,21 +137,25 @@ fn take_turns<P: Peer, I: Interrupt>(
     }
 }
 
-/// Sends and receives until nothing is to be sent and no reply is awaited. The interrupt is asked once before each
-/// receive.
-pub(crate) fn drive<P: Peer, I: Interrupt>(
-    alloc: Global,
+/// Sends and receives by this buffer until nothing is to be sent and no reply is awaited. The interrupt is asked once
+/// before each receive. The server's texts of progress are told as they come, where it is refused too.
+pub(crate) fn drive<P: Peer, I: Interrupt, Q: Progress>(
     session: &mut Session,
     peer: &mut P,
     interrupt: &mut I,
+    progress: &mut Q,
+    buffer: &mut [u8],
 ) -> Result<(), Stop>
-    requires { IsDrivable session.old }
+    requires drivable { IsDrivable session.old }
+    requires room { 0 < length buffer.old }
     ensures driven { Drives P.answers (P.told peer.old) (P.told peer.new) session.old session.new result }
     ensures memory { RunsOut session.old session.new result }
     ensures peer { BlamesPeer (P.faults peer.old) (P.faults peer.new) (is_told is_failed result) }
     ensures interrupt { BlamesInterrupt (I.yes interrupt.old) (I.yes interrupt.new) (I.will_stop interrupt.old) (I.will_stop interrupt.new)
         (P.told peer.old) (P.told peer.new) (last_question is_yes result) }
 {
-    let mut buffer = vec![in alloc; 0u8; PIECE]?;
-    take_turns(session, peer, interrupt, &mut buffer)
+    let mut told = 0;
+    let end = take_turns(session, peer, interrupt, progress, &mut told, buffer);
+    tell_behind(progress, session.progress(), &mut told);
+    end
 }

@@ -1,6 +1,6 @@
 //! One request for a pack, and its reply.
 
-ghost use Rattle.std.specs.Prelude.{◌≡◌, IfErr, OnOk, IsErrOf, false};
+ghost use Rattle.std.specs.Prelude.{◌≡◌, ◌<◌, IfErr, OnOk, true, false, is_some, length};
 ghost use Rattle.fetch_conversation.specs.Blame.{BlamesPeer, BlamesInterrupt, is_told};
 ghost use Rattle.fetch_conversation.specs.Receiving.{last_question};
 ghost use Rattle.fetch_conversation.specs.Conversation.{Converses};
@@ -17,6 +17,7 @@ use crate::conversing::Terms;
 use crate::drive::drive;
 use crate::fetch;
 use crate::listing::Listed;
+use crate::progress::Progress;
 use crate::reading_settings::agent;
 use fetch_negotiate::{Round, request_of};
 use fetch_store::ObjectId;
@@ -54,21 +55,26 @@ fn ask(
     listed.session.request(&request, !terms.dry_run)
 }
 
-/// Asks for the pack in a round, and reads the reply, which the session keeps. The interrupt is asked once before
-/// each receive.
-pub(crate) fn exchange<P: Peer, I: Interrupt>(
+/// Asks for the pack in a round, and reads the reply by this buffer. The session keeps it where nothing is refused, and the
+/// server's texts of progress are told as they come. The interrupt is asked once before each receive.
+// Many arguments: each is lent by itself, so that a clause speaks of each before and after the call.
+pub(crate) fn exchange<P: Peer, I: Interrupt, Q: Progress>(
     listed: &mut Listed,
     terms: &Terms<'_>,
     shared: &[ObjectId],
     round: &Round,
     peer: &mut P,
     interrupt: &mut I,
+    progress: &mut Q,
+    buffer: &mut [u8],
 ) -> Result<(), fetch::Error>
-    requires { IsReady listed.old }
+    requires ready { IsReady listed.old }
+    requires room { 0 < length buffer.old }
     ensures held { Converses is_free_receiving is_stopped P.answers listed.old.session.intake.bound (P.told peer.old) (P.told peer.new)
         (pending_of listed.old) (pending_of listed.new)
         (spec.exchange listed.old.session.intake.bound (terms_told (shown listed.old) terms.now)
         (haves_told shared.now round.now.haves) round.now.done) (reply_of result listed.new.session.reply) }
+    ensures replied { OnOk result (is_some listed.new.session.reply ≡ true) }
     ensures asked { IfErr result (λ e. is_unasked e ≡ false) }
     ensures ready { OnOk result (IsReady listed.new) }
     ensures bound { OnOk result (listed.new.session.intake.bound ≡ listed.old.session.intake.bound) }
@@ -79,9 +85,6 @@ pub(crate) fn exchange<P: Peer, I: Interrupt>(
 {
     let alloc = round.haves.allocator();
     ask(alloc, listed, terms, shared, round)?;
-    drive(alloc, &mut listed.session, peer, interrupt)?;
-    match listed.session.reply() {
-        Some(_) => Ok(()),
-        None => Err(fetch::Error::Fetch(WireError::Malformed { place: 0 })),
-    }
+    drive(&mut listed.session, peer, interrupt, progress, buffer)?;
+    Ok(())
 }

@@ -1,25 +1,26 @@
 //! Listing the references of a remote, and mapping them.
 
-ghost use Rattle.std.specs.Prelude.{◌≡◌, [], true, false, None, ◌&&◌, ◌++◌, IfOk, IfErr, OnOk, IsErrOf};
+ghost use Rattle.std.specs.Prelude.{◌≡◌, [], true, false, None, is_some, ◌&&◌, ◌++◌, IfOk, IfErr, OnOk, IsErrOf};
 ghost use Rattle.fetch_conversation.specs.Blame.{BlamesPeer, BlamesInterrupt, is_told};
 ghost use Rattle.fetch_conversation.specs.Receiving.{last_question};
 ghost use Rattle.fetch_conversation.specs.Conversation.{Converses};
 ghost use Rattle.fetch_conversation.specs.Errors.{is_free_listing, is_transport, is_interrupted};
 ghost use Rattle.fetch_conversation.specs.ListStage.{InquiryValue, inquiry_stage, list_stage, answer_shown, left_by, IsReady, all_specs};
 ghost use Rattle.fetch_conversation.specs.ListStage.{with_tags, is_nil};
-ghost use Rattle.fetch_conversation.specs.Listing.{IsOpened, TellsUnopened, TellsUntold, Answers};
+ghost use Rattle.fetch_conversation.specs.Listing.{IsOpened, TellsUnopened, Answers};
 ghost use Rattle.fetch_wire.specs.SessionStates.{turn_of};
 ghost use Rattle.fetch_wire.specs.declared.session.turn.Turn.TheVariants as turns;
 ghost use Rattle.fetch_conversation.specs.declared.prepare.Error.TheVariants as errors;
 ghost use Rattle.fetch_conversation.specs.declared.ref_map.Error.TheVariants as ref_map_errors;
 
 use crate::asking::{copied_specs, joined_specs, prefixes_for, specs_with_tags};
-use crate::drive::drive;
+use crate::drive::{drive, receive_buffer};
 use crate::mapped::map_refs;
 use crate::prepare;
+use crate::progress::NoProgress;
 use crate::ref_map::Options;
 use fetch_specs::{RefSpec, Tags};
-use fetch_store::List;
+use fetch_store::{List, NoMemory};
 use fetch_wire::{Handshake, Interrupt, Peer, Ref, RefMap, Session, WireError};
 use std::alloc::Global;
 
@@ -92,15 +93,18 @@ fn open(
 }
 
 /// What the greeting and the listing told. The session hands the references over.
-fn told(session: &mut Session) -> Result<(Handshake, List<Ref>), WireError>
+fn told(session: &mut Session) -> Result<(Handshake, List<Ref>), NoMemory>
+    requires handshake { is_some session.old.handshake ≡ true }
+    requires refs { is_some session.old.refs ≡ true }
     ensures told { IfOk result (λ x. (session.old.handshake ≡ Some x.0) × (session.old.refs ≡ Some x.1)) }
-    ensures refused { IfErr result (λ e. TellsUntold session.old.handshake session.old.refs e) }
     ensures left { session.new ≡ record session.old { refs = None } }
 {
-    let refs = session.take_refs();
-    match (session.handshake(), refs) {
-        (Some(handshake), Some(refs)) => Ok((handshake.try_clone()?, refs)),
-        _ => Err(WireError::Malformed { place: 0 }),
+    let Some(refs) = session.take_refs() else {
+        unreachable!()
+    };
+    match session.handshake() {
+        Some(handshake) => Ok((handshake.try_clone()?, refs)),
+        None => unreachable!(),
     }
 }
 
@@ -116,6 +120,8 @@ fn map_listed(
     requires extra { extra.items ≡ with_tags inquiry.now.tags options.now.extra_refspecs }
     requires specs { specs.now ≡ inquiry.now.specs.now ++ extra.items }
     requires idle { turn_of session ≡ turns.Idle }
+    requires handshake { is_some session.handshake ≡ true }
+    requires refs { is_some session.refs ≡ true }
     requires unrefused { session.refused ≡ false }
     ensures answer { Answers (record {
       address = inquiry.now.address.now;
@@ -189,7 +195,8 @@ pub fn inquire<P: Peer, I: Interrupt>(
     let extra = specs_with_tags(alloc, inquiry.tags, options.extra_refspecs.as_slice())?;
     let specs = joined_specs(alloc, inquiry.specs, &extra)?;
     let mut session = open(alloc, inquiry, &options, &specs)?;
-    drive(alloc, &mut session, peer, interrupt)?;
+    let mut buffer = receive_buffer(alloc)?;
+    drive(&mut session, peer, interrupt, &mut NoProgress, &mut buffer)?;
     map_listed(alloc, inquiry, &options, session, extra, &specs)
 }
 

@@ -1,8 +1,9 @@
 //! What is told of a server's progress.
 
-/// One who is told how a server gets on. What it does decides nothing.
+/// One who is told how a server gets on, as it is received. What it does decides nothing.
 pub trait Progress {
-    /// The server says this text, as it stands in band 2.
+    /// The server says this text, as it stands in band 2. It is told in the order in which it stands in the reply, before
+    /// the next bytes are received, and also where the fetch is refused by what comes behind it.
     fn text(&mut self, band: &[u8]);
 }
 

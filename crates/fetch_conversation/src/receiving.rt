@@ -15,12 +15,11 @@ use crate::copies::copied_ids;
 use crate::fetch;
 use crate::listing::Listed;
 use crate::negotiate::Negotiate;
-use crate::progress::Progress;
 use crate::reading_settings::{rejects_shallow, threads};
 use crate::settings::Settings;
 use fetch_negotiate::Shallow;
 use fetch_pack::read_pack;
-use fetch_store::{Border, Kind, List, NoMemory, ObjectId, Text};
+use fetch_store::{Border, Kind, List, NoMemory, ObjectId};
 use fetch_wire::FetchReply;
 use std::alloc::Global;
 use std::thread::Threads;
@@ -30,13 +29,6 @@ pub(crate) fn thread_count(settings: &Settings) -> usize {
     match threads(settings) {
         Ok(Some(count)) => count,
         Ok(None) | Err(_) => 1,
-    }
-}
-
-/// Tells these texts, in order.
-pub(crate) fn tell<Q: Progress>(progress: &mut Q, texts: &[Text]) {
-    for text in texts {
-        progress.text(text.as_bytes());
     }
 }
 

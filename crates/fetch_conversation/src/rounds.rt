@@ -1,6 +1,6 @@
 //! The rounds of a fetch: one request after another, until one of them ends the rounds.
 
-ghost use Rattle.std.specs.Prelude.{◌≡◌, ◌+◌, ◌∷◌, ◌++◌, ◌||◌, [], false, suc, None, IfOk, OnOk, IsErrOf, IfErr};
+ghost use Rattle.std.specs.Prelude.{◌≡◌, ◌<◌, ◌∷◌, ◌++◌, ◌||◌, [], true, false, suc, None, IfOk, OnOk, IfErr, is_some, length};
 ghost use Rattle.std.specs.FinMap as map;
 ghost use Rattle.fetch_conversation.specs.Blame.{BlamesPeer, BlamesInterrupt, is_told};
 ghost use Rattle.fetch_conversation.specs.Receiving.{last_question};
@@ -20,15 +20,17 @@ ghost use Rattle.fetch_conversation.specs.declared.fetch.Error.TheVariants as er
 
 use crate::conversing::Terms;
 use crate::copies::copied_ids;
+use crate::drive::receive_buffer;
 use crate::exchange::exchange;
 use crate::fetch;
 use crate::listing::Listed;
 use crate::negotiate::Negotiate;
+use crate::progress::Progress;
 use crate::reading_settings::algorithm;
 use crate::settings::Settings;
 use fetch_negotiate::{Algorithm, AnyNegotiator, Negotiator, Round};
 use fetch_store::{List, NoMemory, ObjectId, Objects};
-use fetch_wire::{FetchReply, Interrupt, Peer, WireError, each_once};
+use fetch_wire::{FetchReply, Interrupt, Peer, each_once};
 use std::alloc::Global;
 
 /// How many commits the first window has, if so many are to be told.
@@ -182,15 +184,19 @@ impl Course {
 }
 
 /// Holds the next round, and answers whether that ends the rounds. The session keeps the reply.
-fn hold_round<P: Peer, I: Interrupt, O: Objects>(
+// Many arguments: each is lent by itself, so that a clause speaks of each before and after the call.
+fn hold_round<P: Peer, I: Interrupt, Q: Progress, O: Objects>(
     listed: &mut Listed,
     terms: &Terms<'_>,
     course: &mut Course,
     objects: &O,
     peer: &mut P,
     interrupt: &mut I,
+    progress: &mut Q,
+    buffer: &mut [u8],
 ) -> Result<bool, fetch::Error>
     requires ready { IsReady listed.old }
+    requires room { 0 < length buffer.old }
     requires told { IsTold (known_by course.old.negotiator) (O.graph objects.now) }
     ensures held { Holds P.answers listed.old.session.intake.bound (P.told peer.old) (P.told peer.new) (pending_of listed.old)
         (pending_of listed.new)
@@ -214,10 +220,12 @@ fn hold_round<P: Peer, I: Interrupt, O: Objects>(
         &round,
         peer,
         interrupt,
+        progress,
+        buffer,
     )?;
     match listed.session.reply() {
         Some(reply) => Ok(course.take_in(objects, round, reply)?),
-        None => Err(fetch::Error::Fetch(WireError::Malformed { place: 0 })),
+        None => unreachable!(),
     }
 }
 
@@ -232,15 +240,17 @@ fn most_rounds<O: Objects>(objects: &O) -> Result<usize, NoMemory>
     }
 }
 
-/// Holds the rounds until one of them ends them. The session keeps the last reply. The interrupt is asked once before
-/// each receive.
-pub(crate) fn negotiate<P: Peer, I: Interrupt, O: Objects>(
+/// Holds the rounds until one of them ends them. The session keeps the last reply, and the server's texts of progress are
+/// told as they come. The interrupt is asked once before each receive.
+// Many arguments: each is lent by itself, so that a clause speaks of each before and after the call.
+pub(crate) fn negotiate<P: Peer, I: Interrupt, Q: Progress, O: Objects>(
     alloc: Global,
     listed: &mut Listed,
     terms: &Terms<'_>,
     objects: &O,
     peer: &mut P,
     interrupt: &mut I,
+    progress: &mut Q,
 ) -> Result<Negotiate, fetch::Error>
     requires { IsReady listed.old }
     ensures held { Converses is_free_receiving is_stopped P.answers listed.old.session.intake.bound (P.told peer.old) (P.told peer.new)
@@ -248,6 +258,7 @@ pub(crate) fn negotiate<P: Peer, I: Interrupt, O: Objects>(
         (spec.negotiating (suc (map.len (O.graph objects.now))) listed.old.session.intake.bound (terms_told (shown listed.old) terms.now)
         (O.graph objects.now) (algorithm_in terms.now.settings.now)
         (spec.first_course (algorithm_in terms.now.settings.now) terms.now.view.now)) (negotiated_of result listed.new.session.reply) }
+    ensures replied { OnOk result (is_some listed.new.session.reply ≡ true) }
     ensures asked { IfErr result (λ e. is_unasked e ≡ false) }
     ensures kept { shown listed.new ≡ shown listed.old }
     ensures peer { BlamesPeer (P.faults peer.old) (P.faults peer.new) (is_told is_client result) }
@@ -256,12 +267,23 @@ pub(crate) fn negotiate<P: Peer, I: Interrupt, O: Objects>(
 {
     let most = most_rounds(objects)?;
     let mut course = Course::new(alloc, terms)?;
+    let mut bytes = receive_buffer(alloc)?;
+    let buffer = bytes.as_mut_slice();
     for _ in 0..most {
-        if hold_round(listed, terms, &mut course, objects, peer, interrupt)? {
+        if hold_round(
+            listed,
+            terms,
+            &mut course,
+            objects,
+            peer,
+            interrupt,
+            progress,
+            buffer,
+        )? {
             return Ok(Negotiate {
                 rounds: course.rounds,
             });
         }
     }
-    Err(fetch::Error::Fetch(WireError::Malformed { place: 0 }))
+    unreachable!()
 }

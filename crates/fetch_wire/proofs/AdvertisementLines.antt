@@ -49,11 +49,11 @@ use Rattle.fetch_wire.proofs.ReplyLines.{shallow_read, shallow_fails_not}
 
 -- ---- capabilities
 
-word_by : (found : List Capability) (text : List ℕ) (c : Capability) → text ≢ [] → option_and_then if_known (capability_in text) ≡ Some c → with_word found text ≡ Some (found ++ c ∷ [])
+pub word_by : (found : List Capability) (text : List ℕ) (c : Capability) → text ≢ [] → option_and_then if_known (capability_in text) ≡ Some c → with_word found text ≡ Some (found ++ c ∷ [])
 word_by found [] c some is = absurd (some refl)
 word_by found (b ∷ bs) c some is = ap (option_map (λ capability. found ++ capability ∷ [])) is
 
-text_some : (name : List ℕ) (value : Option (List ℕ)) → name ≢ [] → with_value name value ≢ []
+pub text_some : (name : List ℕ) (value : Option (List ℕ)) → name ≢ [] → with_value name value ≢ []
 text_some [] value some = λ e. some refl
 text_some (b ∷ bs) None some = λ e. cc
 text_some (b ∷ bs) (Some value) some = λ e. cc
@@ -81,14 +81,14 @@ named_read kind id name is =
     ap (option_and_then (λ parts. option_map (λ x. (x, parts.1)) (id_in_hex kind parts.0))) ((splits 32 (named_text (Some id) name)).only (encode_lower (bytes_of id)) name refl (id_whole kind (Some id) is))
     ∙ ap (option_map (λ x. (x, name))) (id_read kind id is)
 
-peel_read : (name : List ℕ) → before_peel (name ++ codes "^{}") ≡ Some name
+pub peel_read : (name : List ℕ) → before_peel (name ++ codes "^{}") ≡ Some name
 unfolding before_peel
 peel_read name =
     let n : length (name ++ codes "^{}") - 3 ≡ length name = omega (arith, length-append name (codes "^{}")) in
     rw (n, drop_at name (codes "^{}") (length name) refl, take_at name (codes "^{}") (length name) refl) refl
 
 -- before what its tag peels to is told
-abbrev unpeeled : Ref → Ref
+abbrev pub unpeeled : Ref → Ref
 unpeeled (Direct name object) = Direct name object
 unpeeled (Symbolic name target None object) = Symbolic name target None object
 unpeeled (Symbolic name target (Some tag) object) = Symbolic name target None tag
@@ -109,7 +109,7 @@ own_ref (Symbolic name target (Some tag) object) id is = ap (λ x. ref_with name
 own_ref (Peeled name tag object) id is = ap (λ x. ref_with name x (None, None)) (sym is)
 own_ref (Unborn name target) id is = cc
 
-not_peeled : (r : Ref) → peeled_in r ≡ None → unpeeled r ≡ r
+pub not_peeled : (r : Ref) → peeled_in r ≡ None → unpeeled r ≡ r
 not_peeled (Direct name object) is = refl
 not_peeled (Symbolic name target None object) is = refl
 not_peeled (Symbolic name target (Some tag) object) is = cc
@@ -133,20 +133,22 @@ by_name : (h : Handshake) (before : List Ref) (id : ObjectId) (name : List ℕ) 
 by_name h before id [] some = absurd (some refl)
 by_name h before id (c ∷ cs) some = refl
 
-own_told : (h : Handshake) (before : List Ref) (r : Ref) (id : ObjectId) → IsAdvertisable h.object_hash h.capabilities r → id_in r ≡ Some id → is_listed before r ≡ false
+-- a reference that is told, and not yet what its tag peels to
+pub own_told : (h : Handshake) (before : List Ref) (r : Ref) (id : ObjectId) → name_in r ≢ [] → target_among (name_in r) h.capabilities ≡ target_in r → id_in r ≡ Some id → is_listed before r ≡ false
     → advertised h before id (name_in r) ≡ Some (unpeeled r)
-own_told h before r id is has new =
-    by_name h before id (name_in r) is.name
-    ∙ ap (λ t. option_and_then (λ x. if is_listed before x then None else Some x) (ref_with (name_in r) (Some id) (t, None))) is.target
+own_told h before r id some target has new =
+    by_name h before id (name_in r) some
+    ∙ ap (λ t. option_and_then (λ x. if is_listed before x then None else Some x) (ref_with (name_in r) (Some id) (t, None))) target
     ∙ ap (option_and_then (λ x. if is_listed before x then None else Some x)) (own_ref r id has)
     ∙ if_unlisted before (unpeeled r) (ap (λ (n : List ℕ). list_any (λ q. bytes_eq (name_in q) n) before) (same_name r) ∙ new)
 
-abbrev IsOpen : Advertised → Type 0
+-- another reference may come
+abbrev pub IsOpen : Advertised → Type 0
 IsOpen next.Reference = ⊤
 IsOpen next.Peeled = ⊤
 IsOpen next.Shallow = ⊥
 
-named_by : (h : Handshake) (before : List Ref) (allowed : Advertised) (id : ObjectId) (name : List ℕ) → IsOpen allowed
+pub named_by : (h : Handshake) (before : List Ref) (allowed : Advertised) (id : ObjectId) (name : List ℕ) → IsOpen allowed
     → at_name h before allowed id name None ≡ option_map (λ r. reading.Advertisement h (before ++ r ∷ []) next.Reference) (advertised h before id name)
 named_by h before next.Reference id name is = refl
 named_by h before next.Peeled id name is = refl
@@ -174,9 +176,9 @@ own_step : (h : Handshake) (before : List Ref) (allowed : Advertised) (r : Ref) 
     → step_of (reading.Advertisement h before allowed) (text_line (named_text (Some id) (name_in r))) ≡ goes (reading.Advertisement h (before ++ unpeeled r ∷ []) next.Reference)
 own_step h before allowed r id is has of_kind new open_yet =
     name_step h before allowed id (name_in r) None (reading.Advertisement h (before ++ unpeeled r ∷ []) next.Reference) of_kind is.unpeeled
-    (named_by h before allowed id (name_in r) open_yet ∙ ap (option_map (λ x. reading.Advertisement h (before ++ x ∷ []) next.Reference)) (own_told h before r id is has new))
+    (named_by h before allowed id (name_in r) open_yet ∙ ap (option_map (λ x. reading.Advertisement h (before ++ x ∷ []) next.Reference)) (own_told h before r id is.name is.target has new))
 
-peel_told : (h : Handshake) (before : List Ref) (r : Ref) (id : ObjectId) → peeled_in r ≡ Some id → with_peel id (name_in r) (before ++ unpeeled r ∷ []) ≡ Some (before ++ r ∷ [])
+pub peel_told : (h : Handshake) (before : List Ref) (r : Ref) (id : ObjectId) → peeled_in r ≡ Some id → with_peel id (name_in r) (before ++ unpeeled r ∷ []) ≡ Some (before ++ r ∷ [])
 peel_told h before r id has =
     peel_front id (name_in r) before (unpeeled r)
     ∙ ap (λ (b : Bool). if b then Some (before ++ peeled_to id (unpeeled r) ∷ []) else None) (ap (λ (n : List ℕ). bytes_eq n (name_in r)) (same_name r) ∙ (bytes_eq-Decides (name_in r) (name_in r)).1 refl)
@@ -189,11 +191,11 @@ peel_step h before r id has of_kind =
     (ap (option_map (λ refs. reading.Advertisement h refs next.Peeled)) (peel_told h before r id has))
 
 -- what may come after a reference
-abbrev behind_ref : Option ObjectId → Advertised
+abbrev pub behind_ref : Option ObjectId → Advertised
 behind_ref None = next.Reference
 behind_ref (Some id) = next.Peeled
 
-stays_open : (peeled : Option ObjectId) → IsOpen (behind_ref peeled)
+pub stays_open : (peeled : Option ObjectId) → IsOpen (behind_ref peeled)
 stays_open None = tt
 stays_open (Some id) = tt
 
@@ -236,7 +238,7 @@ border_moves h refs allowed (id ∷ border) are =
     let more = border_moves h refs next.Shallow border (All-tail (IsIdOf h.object_hash) id border are) in
     (more.0, (reading.Advertisement h refs next.Shallow, border_step h refs allowed id (All-head (IsIdOf h.object_hash) id border are), more.1))
 
-closes : (h : Handshake) (refs : List Ref) (allowed : Advertised) → step_of (reading.Advertisement h refs allowed) Flush ≡ ends (told.Advertisement h refs)
+pub closes : (h : Handshake) (refs : List Ref) (allowed : Advertised) → step_of (reading.Advertisement h refs allowed) Flush ≡ ends (told.Advertisement h refs)
 unfolding step_of
 closes h refs allowed = refl
 
@@ -270,7 +272,7 @@ a_name_by name false is peel = refl
 a_name : (name : List ℕ) → before_peel name ≡ None → is_no_name name ≡ false
 a_name name peel = a_name_by name (is_no_name name) refl peel
 
-first_named_is : (h : Handshake) (id : ObjectId) (name : List ℕ) → before_peel name ≡ None → first_named h (id, name) ≡ at_name h [] next.Peeled id name None
+pub first_named_is : (h : Handshake) (id : ObjectId) (name : List ℕ) → before_peel name ≡ None → first_named h (id, name) ≡ at_name h [] next.Peeled id name None
 first_named_is h id name peel = rw (a_name name peel, peel) refl
 
 first_ref : (cs : List Capability) (r : Ref) (id : ObjectId) → All IsTellable cs → All IsOneWord cs → IsAdvertisable (handshake_1 cs).object_hash cs r → id_in r ≡ Some id → IsIdOf (handshake_1 cs).object_hash id
@@ -278,7 +280,7 @@ first_ref : (cs : List Capability) (r : Ref) (id : ObjectId) → All IsTellable 
 first_ref cs r id are whole is has of_kind =
     let h = handshake_1 cs in
     first_step cs id (name_in r) (reading.Advertisement h (unpeeled r ∷ []) next.Reference) are whole of_kind is.whole
-    (first_named_is h id (name_in r) is.unpeeled ∙ ap (option_map (λ x. reading.Advertisement h ([] ++ x ∷ []) next.Reference)) (own_told h [] r id is has refl))
+    (first_named_is h id (name_in r) is.unpeeled ∙ ap (option_map (λ x. reading.Advertisement h ([] ++ x ∷ []) next.Reference)) (own_told h [] r id is.name is.target has refl))
 
 first_by : (cs : List Capability) (r : Ref) (id : Option ObjectId) → All IsTellable cs → All IsOneWord cs → IsAdvertisable (handshake_1 cs).object_hash cs r → id_in r ≡ id → id ≢ None → IfSome id (IsIdOf (handshake_1 cs).object_hash)
     → Moves step_of reading.Version (sent ((named_text id (name_in r) ++ 0 ∷ joined (map capability_text cs)) ∷ peel_texts (name_in r) (peeled_in r))) (reading.Advertisement (handshake_1 cs) (r ∷ []) (behind_ref (peeled_in r)))
@@ -287,7 +289,7 @@ first_by cs r (Some id) are whole is has born of_kind =
     let h = handshake_1 cs in
     (reading.Advertisement h (unpeeled r ∷ []) next.Reference, first_ref cs r id are whole is has of_kind, peels_by h [] r (peeled_in r) refl is.peeled)
 
-no_ref : (h : Handshake) (null : ObjectId) → is_null null ≡ true → first_named h (null, codes "capabilities^{}") ≡ Some (reading.Advertisement h [] next.Shallow)
+pub no_ref : (h : Handshake) (null : ObjectId) → is_null null ≡ true → first_named h (null, codes "capabilities^{}") ≡ Some (reading.Advertisement h [] next.Shallow)
 unfolding is_no_name
 no_ref h null zeros = rw zeros refl
 

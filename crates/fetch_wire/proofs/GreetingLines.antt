@@ -22,7 +22,8 @@ use Rattle.fetch_wire.specs.Stepping.{goes, ends, breaks, or_breaks}
 use Rattle.fetch_wire.specs.Texts.{is_error, without_lf}
 use Rattle.fetch_wire.proofs.Moving.{Moves, moves_tell, by_text_line}
 
-not_within : (c : ℕ) (before behind : List ℕ) → IsWithout c (before ++ c ∷ behind) → ⊥
+-- a text with the byte isn't without it
+pub not_within : (c : ℕ) (before behind : List ℕ) → IsWithout c (before ++ c ∷ behind) → ⊥
 not_within c before behind none = let p = (parts_without c before (c ∷ behind) none).1 in let e = rw ((Decides-eqb c c).1 refl) at p in cc
 
 none_by : (c : ℕ) (text : List ℕ) (found : Option (List ℕ × List ℕ)) → split_first c text ≡ found → IsWithout c text → found ≡ None

@@ -1,29 +1,28 @@
 -- What may still come of a peer lessens with each byte that a session is fed.
 use Rattle.std.proofs.Common.{◌≡◌, ℕ, zero, suc, ◌+◌, ◌*◌, ◌-◌, ◌<◌, ◌≤◌, Bool, true, false, List, [], ◌∷◌, ◌++◌, length, Option, Some, None, Result, Ok, Err, refl, sym, ap, ◌∙◌, subst, arith, length-append}
-use Rattle.std.specs.Prelude.{max, nat_lt, is_some, if◌then◌else◌}
+use Rattle.std.specs.Prelude.{max, nat_lt, if◌then◌else◌}
 use Rattle.std.proofs.lemmas.Bool.Decides.{nat_tests}
 use Rattle.std.proofs.lemmas.List.{append-nil}
-use Rattle.fetch_wire.specs.declared.error.WireError.{WireError}
 use Rattle.fetch_wire.specs.declared.greetings.handshake.Handshake.{Handshake}
 use Rattle.fetch_wire.specs.declared.lines.line.Line.{Line}
 use Rattle.fetch_wire.specs.declared.lines.section.Trouble.{Trouble}
 use Rattle.fetch_wire.specs.declared.lines.section.Trouble.TheVariants as lines
+use Rattle.fetch_wire.specs.declared.replies.awaited.Await.TheVariants as awaits
 use Rattle.fetch_wire.specs.declared.replies.awaited.Fault.{Fault}
 use Rattle.fetch_wire.specs.declared.replies.awaited.Fault.TheVariants as faults
 use Rattle.fetch_wire.specs.declared.replies.awaited.Told.{Told}
 use Rattle.fetch_wire.specs.declared.replies.awaited.Told.TheVariants as told
 use Rattle.fetch_wire.specs.declared.replies.reading.Reading.{Reading}
 use Rattle.fetch_wire.specs.declared.replies.reading.Reading.TheVariants as reading
-use Rattle.fetch_wire.specs.declared.session.turn.Turn.TheVariants as turns
-use Rattle.fetch_wire.specs.Awaited.{replies_behind, step_of, told_from}
+use Rattle.fetch_wire.specs.Awaited.{replies_behind, step_of, told_at, told_from}
 use Rattle.fetch_wire.specs.Feeding.{room_at}
 use Rattle.fetch_wire.specs.Greetings.{offers}
-use Rattle.fetch_wire.specs.Intakes.{Intake, behind_awaited, room_in, told_with, taking, resting}
+use Rattle.fetch_wire.specs.Intakes.{Intake, room_in, told_with, taking, resting}
 use Rattle.fetch_wire.specs.Intakes as intakes
 use Rattle.fetch_wire.specs.LineLaws.{line_at-is, line_at-len, least}
 use Rattle.fetch_wire.specs.Lines.{number_in, is_no_line, line_counted, announced, line_at, line_len}
 use Rattle.fetch_wire.specs.Requests.{listing_lines}
-use Rattle.fetch_wire.specs.SessionStates.{SessionState, IsAlike, IsAwaiting, after_told, read_one, rests, asks, listing_by, listing_feature, fed, is_all_sent, refusal_of, turn_by, turn_of}
+use Rattle.fetch_wire.specs.SessionStates.{SessionState, IsAlike, IsAwaiting, after_told, read_one, rests, asks, listing_by, listing_feature, fed}
 use Rattle.fetch_wire.specs.Stepping.{Step, goes, ends, breaks, says, after_step, after_line, read_within}
 use Rattle.fetch_wire.specs.Written.{first_too_long}
 use Rattle.fetch_wire.proofs.Conversing.{fed_is}
@@ -111,6 +110,10 @@ greeting_behind : (bound place : ℕ) (r : Reading) (bytes rest : List ℕ) (h :
 greeting_behind bound place r bytes rest h is =
     greeting_by (replies_behind r) h rest (told_from bound r place bytes) is
     (within-keeps (λ t. replies_behind t ≡ replies_behind r) (IsBefore (replies_behind r)) step_of (suc (length bytes)) bound place r bytes (keeps_behind (replies_behind r)) refl)
+
+-- what is told of a greeting, of either version
+pub greeted_told : (bound : ℕ) (bytes : List ℕ) → OfTold (IsBefore 1) (told_at bound awaits.Greeting bytes)
+greeted_told bound bytes = within-keeps (λ t. replies_behind t ≡ 1) (IsBefore 1) step_of (suc (length bytes)) bound 0 reading.Greeting bytes (keeps_behind 1) refl
 
 -- ---- how much may still come
 

@@ -27,3 +27,6 @@ pub mod SpelledPack
 pub mod SpelledReply
 pub mod SpelledNames
 pub mod SpelledAdvertisement
+pub mod RepliesFed
+pub mod InWords
+pub mod AdvertisementInWords

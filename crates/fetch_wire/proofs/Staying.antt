@@ -22,7 +22,7 @@ use Rattle.fetch_wire.specs.declared.replies.reading.Reading.TheVariants as read
 use Rattle.fetch_wire.specs.declared.requests.records.FetchReply.{FetchReply}
 use Rattle.fetch_wire.specs.Advertisements.{advertised, with_peel, with_words, handshake_1, before_peel, is_no_name, is_null, is_version_1, id_and_name, at_name, at_reference, at_advertised, first_named, at_first}
 use Rattle.fetch_wire.specs.Awaited.{replies_behind, at_greeting, at_capability, at_listed, step_of}
-use Rattle.fetch_wire.specs.FetchReplies.{is_nak, is_ready, is_acknowledgments, is_shallow_info, is_packfile, acknowledged_in, shallow_in, unshallow_in, at_packfile, at_rest, at_beginning, at_acknowledgment, behind_ready, at_change, by_band, at_band, with_bytes, reply_step}
+use Rattle.fetch_wire.specs.FetchReplies.{is_nak, is_ready, is_acknowledgments, is_shallow_info, is_packfile, acknowledged_in, shallow_in, unshallow_in, at_packfile, at_rest, at_beginning, at_acknowledgment, behind_ready, at_change, at_band, with_bytes, reply_step}
 use Rattle.fetch_wire.specs.KnownIds.{each_once}
 use Rattle.fetch_wire.specs.Greetings.{is_version_2, if_known, capability_in, handshake_of}
 use Rattle.fetch_wire.specs.Listings.{if_new, ref_in}
@@ -31,12 +31,12 @@ use Rattle.fetch_wire.specs.Stepping.{Step, goes, ends, breaks, says, or_breaks}
 use Rattle.fetch_wire.specs.Texts.{without_lf, is_error}
 use Rattle.fetch_wire.specs.Words.{words}
 
--- a greeting of version 2 is told where another reply comes behind
+-- a greeting is told where another reply comes behind, and what else is told where none does
 abbrev pub IsBefore : ℕ → Told → Type 0
 IsBefore n (told.Greeting h) = n ≡ 1
-IsBefore n (told.Advertisement h refs) = ⊤
-IsBefore n (told.Listing refs) = ⊤
-IsBefore n (told.Reply reply) = ⊤
+IsBefore n (told.Advertisement h refs) = n ≡ 1
+IsBefore n (told.Listing refs) = n ≡ 0
+IsBefore n (told.Reply reply) = n ≡ 0
 
 -- as many replies come behind, where it goes on
 abbrev pub Stays : ℕ → Step Reading Told → Type 0
@@ -125,7 +125,7 @@ listed_goes kind before text = some_goes 0 (option_and_then (if_new before) (ref
 -- ---- replies to requests
 
 packfile_goes : (asked : AskedReply) (reply : FetchReply) (text : List ℕ) → Stays 0 (at_packfile asked reply text)
-packfile_goes asked reply text = chosen 0 (is_packfile text) _ breaks (chosen 0 asked.read_pack (goes (reading.Reply asked parts.Bands (record reply { pack = Some [] }))) (ends (told.Reply reply)) refl tt) tt
+packfile_goes asked reply text = chosen 0 (is_packfile text) _ breaks (chosen 0 asked.read_pack (goes (reading.Reply asked parts.Bands (record reply { pack = Some [] }))) (ends (told.Reply reply)) refl refl) tt
 
 rest_goes : (asked : AskedReply) (reply : FetchReply) (text : List ℕ) → Stays 0 (at_rest asked reply text)
 rest_goes asked reply text = chosen 0 (is_shallow_info text) (goes (reading.Reply asked parts.ShallowInfo reply)) (at_packfile asked reply text) refl (packfile_goes asked reply text)
@@ -155,13 +155,13 @@ band_goes asked reply (lines.Payload (band ∷ bytes)) =
     (if band == 2 then goes (reading.Reply asked parts.Bands (record reply { progress = reply.progress ++ bytes ∷ [] })) else (if band == 3 then says bytes else breaks)) refl
     (chosen 0 (band == 2) (goes (reading.Reply asked parts.Bands (record reply { progress = reply.progress ++ bytes ∷ [] }))) (if band == 3 then says bytes else breaks) refl (chosen 0 (band == 3) (says bytes) breaks tt tt))
 band_goes asked reply (lines.Payload []) = tt
-band_goes asked reply lines.Flush = tt
+band_goes asked reply lines.Flush = refl
 band_goes asked reply lines.Delim = tt
 band_goes asked reply lines.End = tt
 
 reply_goes : (asked : AskedReply) (part : Part) (reply : FetchReply) (line : Line) → Stays 0 (reply_step asked part reply line)
 reply_goes asked parts.Beginning reply line = line_goes 0 breaks breaks (at_beginning asked reply) line tt tt (beginning_goes asked reply)
-reply_goes asked parts.Acknowledgments reply line = line_goes 0 (ends (told.Reply (record reply { acknowledged = each_once reply.acknowledged; last = false }))) breaks (at_acknowledgment asked reply) line tt tt (acknowledgment_goes asked reply)
+reply_goes asked parts.Acknowledgments reply line = line_goes 0 (ends (told.Reply (record reply { acknowledged = each_once reply.acknowledged; last = false }))) breaks (at_acknowledgment asked reply) line refl tt (acknowledgment_goes asked reply)
 reply_goes asked parts.Ready reply line = ready_goes asked reply line
 reply_goes asked parts.Rest reply line = line_goes 0 breaks breaks (at_rest asked reply) line tt tt (rest_goes asked reply)
 reply_goes asked parts.ShallowInfo reply line =
@@ -176,6 +176,6 @@ unfolding step_of
 stays reading.Greeting line = line_goes 1 breaks breaks at_greeting line tt tt greeting_goes
 stays (reading.Capabilities before) line = line_goes 1 (ends (told.Greeting (handshake_of before))) breaks (at_capability before) line refl tt (capability_goes before)
 stays reading.Version line = line_goes 1 breaks breaks (λ text. or_breaks (at_first text) (λ s. goes s)) line tt tt (λ text. one_goes 1 (at_first text) (first_is text))
-stays (reading.Advertisement h before allowed) line = line_goes 1 (ends (told.Advertisement h before)) breaks (at_advertised h before allowed) line tt tt (advertised_goes h before allowed)
-stays (reading.Listing kind before) line = line_goes 0 (ends (told.Listing before)) breaks (at_listed kind before) line tt tt (listed_goes kind before)
+stays (reading.Advertisement h before allowed) line = line_goes 1 (ends (told.Advertisement h before)) breaks (at_advertised h before allowed) line refl tt (advertised_goes h before allowed)
+stays (reading.Listing kind before) line = line_goes 0 (ends (told.Listing before)) breaks (at_listed kind before) line refl tt (listed_goes kind before)
 stays (reading.Reply asked part reply) line = reply_goes asked part reply line

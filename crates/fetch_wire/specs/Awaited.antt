@@ -1,5 +1,5 @@
 -- Each reply that can be awaited, read line by line: what a line does to what was told so far.
-use Rattle.std.specs.Prelude.{ℕ, List, [], ◌∷◌, ◌++◌, Result, if◌then◌else◌}
+use Rattle.std.specs.Prelude.{ℕ, List, [], ◌∷◌, ◌++◌, Option, Some, None, Result, if◌then◌else◌}
 use Rattle.std.specs.Option.{option_and_then}
 use Rattle.fetch_store.specs.declared.id.Kind.{Kind}
 use Rattle.fetch_wire.specs.declared.replies.awaited.Await.{Await}
@@ -40,6 +40,15 @@ abbrev pub start_of : Await → Reading
 start_of Greeting = reading.Greeting
 start_of (Listing kind) = reading.Listing kind []
 start_of (Reply asked) = reading.Reply asked parts.Beginning no_reply
+
+-- the texts of the server's progress that were told so far, where a reply to a fetch request is read
+abbrev pub progress_in : Reading → Option (List (List ℕ))
+progress_in reading.Greeting = None
+progress_in (reading.Capabilities before) = None
+progress_in reading.Version = None
+progress_in (reading.Advertisement handshake before next) = None
+progress_in (reading.Listing kind before) = None
+progress_in (reading.Reply asked part reply) = Some reply.progress
 
 -- how many replies come behind this one without another request: after a greeting the listing
 abbrev pub replies_behind : Reading → ℕ

@@ -50,7 +50,7 @@ abbrev pub behind_next : Feeding → Feeding
 behind_next feeding = left_by feeding (found_in feeding)
 
 -- what a reader gives, its line seen as one that owns its payload
-abbrev pub seen : Result Need Trouble → Result (Option Line) Trouble
+abbrev pub seen : {E : Type 0} → Result Need E → Result (Option Line) E
 seen (Ok (needs.Line line)) = Ok (Some (line_of line))
 seen (Ok needs.More) = Ok None
 seen (Err trouble) = Err trouble
@@ -60,3 +60,12 @@ abbrev pub error_of : ℕ → Trouble → WireError
 error_of bound (Short place) = errors.Malformed place
 error_of bound (Broken place) = errors.Malformed place
 error_of bound TooLong = errors.ReplyTooLong bound
+
+-- what is found, a refusal as it is to a caller
+abbrev pub told_to_caller : {A : Type 0} → ℕ → Result A Trouble → Result A WireError
+told_to_caller bound (Ok found) = Ok found
+told_to_caller bound (Err trouble) = Err (error_of bound trouble)
+
+-- the next line, or None where more bytes are needed, or why it is refused, as a caller is told
+abbrev pub next_told : Feeding → Result (Option Line) WireError
+next_told feeding = told_to_caller feeding.bound (next_in feeding)

@@ -33,6 +33,7 @@ pub mod Bands
 pub mod Progressing
 pub mod Parameters
 pub mod Intakes
+pub mod ReplyReadings
 pub mod SessionStates
 pub mod NamesTold
 pub mod ServerLines

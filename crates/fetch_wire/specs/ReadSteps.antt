@@ -6,7 +6,7 @@ use Rattle.fetch_wire.specs.declared.replies.reading.Part.{Part}
 use Rattle.fetch_wire.specs.declared.replies.reading.Part.TheVariants.{Beginning, Acknowledgments, Ready, Rest, ShallowInfo, Packfile}
 use Rattle.fetch_wire.specs.declared.replies.reading.Part.TheVariants.{Bands}
 use Rattle.fetch_wire.specs.declared.replies.reading.Read.{Read}
-use Rattle.fetch_wire.specs.declared.replies.reading.Read.TheVariants.{On, Whole, Broken, Said}
+use Rattle.fetch_wire.specs.declared.replies.reading.Read.TheVariants.{On, Whole, Broken, Said, BrokenBehind, SaidBehind}
 use Rattle.fetch_wire.specs.declared.replies.reading.Reading.{Reading}
 use Rattle.fetch_wire.specs.declared.replies.saying.Saying.{Saying}
 use Rattle.fetch_wire.specs.declared.replies.saying.Saying.TheVariants as saying
@@ -20,6 +20,8 @@ step_in (On s) = goes s
 step_in (Whole told) = ends told
 step_in Broken = breaks
 step_in (Said text) = says text
+step_in (BrokenBehind progress) = breaks
+step_in (SaidBehind text progress) = says text
 
 -- by what a line says
 abbrev pub by_saying : Step Reading Told → Step Reading Told → (List ℕ → Step Reading Told) → Saying → Step Reading Told

@@ -1,6 +1,7 @@
 -- A session: what it sends, what it takes in, and what it was told.
 use Rattle.std.specs.Prelude.{◌≡◌, ◌⊎◌, ℕ, Bool, true, false, List, [], ◌∷◌, ◌++◌, Option, Some, None, Result, Ok, Err, codes, is_some}
 use Rattle.std.specs.Prelude.{length, ◌==◌, ◌||◌, ⊤}
+use Rattle.std.specs.Option.{option_and_then}
 use Rattle.fetch_store.specs.declared.id.Kind.{Kind}
 use Rattle.fetch_store.specs.declared.id.Kind.TheVariants.{Sha1}
 use Rattle.fetch_wire.specs.declared.replies.awaited.AskedReply.{AskedReply}
@@ -18,9 +19,10 @@ use Rattle.fetch_wire.specs.declared.lines.line.Line.{Line}
 use Rattle.fetch_wire.specs.declared.requests.records.FetchReply.{FetchReply}
 use Rattle.fetch_wire.specs.declared.requests.records.Request.{Request}
 use Rattle.fetch_wire.specs.declared.listings.reference.Ref.{Ref}
+use Rattle.fetch_wire.specs.declared.replies.reading.Reading.{Reading}
 use Rattle.fetch_wire.specs.declared.session.turn.Turn.{Turn}
 use Rattle.fetch_wire.specs.declared.session.turn.Turn.TheVariants as turns
-use Rattle.fetch_wire.specs.Awaited.{start_of}
+use Rattle.fetch_wire.specs.Awaited.{start_of, progress_in}
 use Rattle.fetch_wire.specs.Greetings.{offers}
 use Rattle.fetch_wire.specs.Intakes.{Intake, told_with, resting, awaiting, taking}
 use Rattle.fetch_wire.specs.Intakes as intakes
@@ -106,6 +108,15 @@ asks (told.Reply reply) s = s
 -- nothing is asked for
 abbrev pub rests : Told → SessionState → SessionState
 rests t s = s
+
+-- the texts of the server's progress in the last reply, where it was read whole or is awaited
+abbrev pub progress_by : Option FetchReply → Option Reading → Option (List (List ℕ))
+progress_by (Some reply) reading = Some reply.progress
+progress_by None reading = option_and_then progress_in reading
+
+-- those texts in a session
+abbrev pub progress_of : SessionState → Option (List (List ℕ))
+progress_of s = progress_by s.reply s.intake.reading
 
 -- ---- reading
 

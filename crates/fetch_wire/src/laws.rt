@@ -272,3 +272,32 @@ pub fn replies_that_are_read_are_replies()
         → told_at bound (Reply asked) bytes ≡ Ok (told.Reply reply, rest)
         → (lines : List Line) × Writes bound 0 lines rest bytes × IsReply asked reply lines }
 {}
+
+/// What the grammar of a greeting of version 2 writes, in any spelling, is read as that greeting, whatever comes after.
+pub fn greetings_are_read_in_any_spelling()
+    ensures { (bound : ℕ) (lines : List Line) (rest bytes : List ℕ) (handshake : Handshake)
+        → Writes bound 0 lines rest bytes → IsGreeting handshake lines
+        → told_at bound await.Greeting bytes ≡ Ok (told.Greeting handshake, rest) }
+{}
+
+/// What the grammar of an advertisement of version 1 writes, in any spelling, is read as that advertisement, whatever comes
+/// after.
+pub fn advertisements_are_read_in_any_spelling()
+    ensures { (bound : ℕ) (lines : List Line) (rest bytes : List ℕ) (handshake : Handshake) (refs : List Ref)
+        → Writes bound 0 lines rest bytes → IsAdvertisement handshake refs lines
+        → told_at bound await.Greeting bytes ≡ Ok (told.Advertisement handshake refs, rest) }
+{}
+
+/// What the grammar of a listing writes, with attributes in any order, is read as that listing, whatever comes after.
+pub fn listings_are_read_in_any_spelling()
+    ensures { (bound : ℕ) (kind : Kind) (lines : List Line) (rest bytes : List ℕ) (refs : List Ref)
+        → Writes bound 0 lines rest bytes → IsListing kind refs lines
+        → told_at bound (await.Listing kind) bytes ≡ Ok (told.Listing refs, rest) }
+{}
+
+/// What the grammar of a reply to a fetch request writes, in any spelling, is read as that reply, whatever comes after.
+pub fn replies_are_read_in_any_spelling()
+    ensures { (bound : ℕ) (asked : AskedReply) (lines : List Line) (rest bytes : List ℕ) (reply : FetchReply)
+        → Writes bound 0 lines rest bytes → IsReply asked reply lines
+        → told_at bound (Reply asked) bytes ≡ Ok (told.Reply reply, rest) }
+{}

@@ -25,7 +25,6 @@ pub use listings::reference::{Ref, Source};
 pub use replies::awaited::{AskedReply, Await, Fault, Told};
 pub use replies::bound::ReplyBound;
 pub use replies::haves::{Haves, each_once};
-pub use replies::reply_reader::ReplyReader;
 pub use replies::saying::without_line_feed;
 pub use requests::records::{FetchReply, Request};
 pub use requests::request_parts::{
@@ -36,5 +35,6 @@ pub use server::reply_lines::{last_lines, ready_lines};
 pub use server::server_lines::{greeting_lines, listing_lines, round_lines};
 pub use session::conversation::Session;
 pub use session::peer::{Interrupt, Peer, SendFault};
+pub use session::reply_reader::ReplyReader;
 pub use session::scripted::{ScriptedInterrupt, ScriptedPeer};
 pub use session::turn::Turn;

@@ -6,5 +6,4 @@ pub mod fetch_reply;
 pub mod haves;
 pub mod progress;
 pub mod reading;
-pub mod reply_reader;
 pub mod saying;

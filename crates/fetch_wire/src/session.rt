@@ -3,5 +3,6 @@
 pub mod conversation;
 pub mod intake;
 pub mod peer;
+pub mod reply_reader;
 pub mod scripted;
 pub mod turn;

@@ -1,9 +1,8 @@
 //! Lines, read while their bytes come in pieces.
 
-ghost use Rattle.std.specs.Prelude.{◌≡◌, ◌≤◌, ◌+◌, [], Ok, Err, OnOk, OnErr, IfOk, IfErr, IsOk, drop, length, vec_len};
-ghost use Rattle.fetch_wire.specs.Lines.{line_at};
+ghost use Rattle.std.specs.Prelude.{◌≡◌, ◌≤◌, [], OnOk, OnErr, IfOk, IfErr};
 ghost use Rattle.fetch_wire.specs.declared.error.WireError.TheVariants as errors;
-ghost use Rattle.fetch_wire.specs.Feeding.{next_in, need_in, left_by, fed, seen};
+ghost use Rattle.fetch_wire.specs.Feeding.{next_in, next_told, fed, seen};
 ghost use Rattle.fetch_wire.specs.FeedingLends.{RestsBehind};
 ghost use Rattle.std.specs.Borrow.{sem};
 
@@ -109,18 +108,34 @@ impl LineReader {
         Ok(())
     }
 
-    /// The next line, where all of it was fed. A line that breaks the grammar, or whose digits pass the bound, is refused
-    /// as soon as its digits show it, and by each later call too. Takes no memory. `Trouble::to_error` makes a
-    /// `WireError` of a refusal.
-    pub fn next(&mut self) -> Result<Need<'_>, Trouble>
+    /// The next line, where all of it was fed. A line that breaks the grammar is `Malformed` at its place, and one whose
+    /// digits pass the bound is `ReplyTooLong`, as soon as its digits show it, and by each later call too. Takes no memory.
+    /// Of what the reader is afterwards a proof knows nothing here, since the error may own a text: `next_line` tells it.
+    pub fn next(&mut self) -> Result<Need<'_>, WireError>
+        ensures given { seen result ≡ next_told self.old }
+    {
+        let bound = self.bound;
+        match self.next_line() {
+            Ok(need) => Ok(need),
+            Err(trouble) => Err(trouble.to_error(bound)),
+        }
+    }
+
+    /// As `next`, with a refusal that owns nothing: the line is read once it was given, and what is refused stays.
+    pub fn next_line(&mut self) -> Result<Need<'_>, Trouble>
         ensures given { seen result ≡ next_in self.old }
         ensures* left { sem 𝓛 (RestsBehind self.entry) }
     {
         let (start, place) = (self.start, self.place);
-        let count = count_next(self.bound, place, &self.bytes[start..])?;
-        self.start = start + count;
-        self.place = place + count;
-        Ok(need_next(self.bound, place, start, &self.bytes))
+        match line_in(self.bound.get() as usize, place, &self.bytes[start..]) {
+            Ok((line, count)) => {
+                self.start = start + count;
+                self.place = place + count;
+                Ok(Need::Line(line))
+            }
+            Err(Trouble::Short { .. }) => Ok(Need::More),
+            Err(trouble) => Err(trouble),
+        }
     }
 
     /// Forgets what was fed and not yet read, and begins anew.
@@ -137,35 +152,5 @@ impl LineReader {
         ensures { self.new ≡ record self.old { place = 0 } }
     {
         self.place = 0;
-    }
-}
-
-/// How many bytes the next line takes: none where more are needed.
-fn count_next(bound: ReplyBound, place: usize, bytes: &[u8]) -> Result<usize, Trouble>
-    requires { place ≤ bound }
-    ensures left { IfOk result (λ count. left_by (record { bound = bound; place = place; pending = bytes.now })
-        (line_at bound place bytes.now) ≡ record { bound = bound; place = place + count; pending = drop count bytes.now }) }
-    ensures within { IfOk result (λ count. count ≤ length bytes.now) }
-    ensures bounded { IfOk result (λ count. place + count ≤ bound) }
-    ensures refused { IfErr result (λ e. need_in (line_at bound place bytes.now) ≡ Err e) }
-    ensures read { IfOk result (λ count. IsOk (need_in (line_at bound place bytes.now))) }
-{
-    match line_in(bound.get() as usize, place, bytes) {
-        Ok((_, count)) => Ok(count),
-        Err(Trouble::Short { .. }) => Ok(0),
-        Err(trouble) => Err(trouble),
-    }
-}
-
-/// The line that begins at `start`, if all of it is there. It isn't refused.
-fn need_next(bound: ReplyBound, place: usize, start: usize, bytes: &Vec<u8>) -> Need<'_>
-    requires place { place ≤ bound }
-    requires start { start ≤ vec_len bytes.now }
-    requires read { IsOk (need_in (line_at bound place (drop start bytes.now.items))) }
-    ensures { seen (Ok result) ≡ need_in (line_at bound place (drop start bytes.now.items)) }
-{
-    match line_in(bound.get() as usize, place, &bytes[start..]) {
-        Ok((line, _)) => Need::Line(line),
-        Err(_) => Need::More,
     }
 }

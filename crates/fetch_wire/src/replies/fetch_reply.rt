@@ -206,8 +206,11 @@ fn band(
     match band {
         1 => reply.pack = Some(with_bytes(alloc, reply.pack, bytes)?),
         2 => reply.progress.push(Text::new(alloc, bytes)?)?,
-        3 => return Read::said(alloc, bytes),
-        _ => return Ok(Read::Broken),
+        3 => {
+            let text = Text::new(alloc, bytes)?;
+            return Ok(Read::SaidBehind(text, reply.progress));
+        }
+        _ => return Ok(Read::BrokenBehind(reply.progress)),
     }
     Ok(Read::On(Reading::Reply(asked, Part::Bands, reply)))
 }
@@ -224,7 +227,9 @@ fn read_band(
     match line {
         LineRef::Payload([first, bytes @ ..]) => band(alloc, asked, reply, *first, bytes),
         LineRef::Flush => Ok(Read::Whole(Told::Reply(reply))),
-        LineRef::Payload([]) | LineRef::Delim | LineRef::End => Ok(Read::Broken),
+        LineRef::Payload([]) | LineRef::Delim | LineRef::End => {
+            Ok(Read::BrokenBehind(reply.progress))
+        }
     }
 }
 

@@ -1,14 +1,14 @@
 //! How far a reply was read, and reading on as far as its lines are there.
 
 ghost use Rattle.std.specs.Prelude.{◌≡◌, IfOk};
-ghost use Rattle.fetch_wire.specs.Progressing.{Goes, GoesOn};
+ghost use Rattle.fetch_wire.specs.Progressing.{Goes};
 ghost use Rattle.fetch_wire.specs.Stepping.{fault_of};
 
 use crate::lines::reader::{LineReader, Need};
 use crate::lines::section::Trouble;
 use crate::replies::awaited::{Fault, Told};
 use crate::replies::reading::{Read, Reading};
-use fetch_store::{NoMemory, TryClone};
+use fetch_store::{List, NoMemory, Text};
 use std::alloc::Global;
 
 /// How far a reply was read.
@@ -18,18 +18,8 @@ pub(crate) enum Progress {
     On(Reading),
     /// To its end.
     Whole(Told),
-    /// It can't become whole, however the bytes go on.
-    Refused(Fault),
-}
-
-impl TryClone for Progress {
-    fn try_clone(&self) -> Result<Progress, NoMemory> {
-        match self {
-            Progress::On(reading) => Ok(Progress::On(reading.try_clone()?)),
-            Progress::Whole(told) => Ok(Progress::Whole(told.try_clone()?)),
-            Progress::Refused(fault) => Ok(Progress::Refused(fault.try_clone()?)),
-        }
-    }
+    /// It can't become whole, however the bytes go on. In a pack the server told these texts of its progress before.
+    Refused(Fault, Option<List<Text>>),
 }
 
 /// Why a line can't be read is why the reply can't.
@@ -55,31 +45,24 @@ pub(crate) fn read_on(
     let mut reading = reading;
     'lines: loop {
         let place = lines.place();
-        let read = match lines.next() {
+        let read = match lines.next_line() {
             Ok(Need::Line(line)) => reading.line(alloc, line)?,
             Ok(Need::More) => return Ok(Progress::On(reading)),
-            Err(trouble) => return Ok(Progress::Refused(fault(trouble))),
+            Err(trouble) => {
+                return Ok(Progress::Refused(fault(trouble), reading.into_progress()));
+            }
         };
         match read {
             Read::On(next) => reading = next,
             Read::Whole(told) => return Ok(Progress::Whole(told)),
-            Read::Broken => return Ok(Progress::Refused(Fault::Broken { place })),
-            Read::Said(text) => return Ok(Progress::Refused(Fault::Said { text })),
+            Read::Broken => return Ok(Progress::Refused(Fault::Broken { place }, None)),
+            Read::Said(text) => return Ok(Progress::Refused(Fault::Said { text }, None)),
+            Read::BrokenBehind(progress) => {
+                return Ok(Progress::Refused(Fault::Broken { place }, Some(progress)));
+            }
+            Read::SaidBehind(text, progress) => {
+                return Ok(Progress::Refused(Fault::Said { text }, Some(progress)));
+            }
         }
-    }
-}
-
-/// Reads on where lines are still to come.
-pub(crate) fn go_on(
-    alloc: Global,
-    lines: &mut LineReader,
-    progress: Progress,
-) -> Result<Progress, NoMemory>
-    ensures { IfOk result (λ now. GoesOn lines.old progress lines.new now) }
-{
-    match progress {
-        Progress::On(reading) => read_on(alloc, lines, reading),
-        Progress::Whole(told) => Ok(Progress::Whole(told)),
-        Progress::Refused(fault) => Ok(Progress::Refused(fault)),
     }
 }

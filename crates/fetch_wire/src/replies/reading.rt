@@ -1,7 +1,8 @@
 //! A reply that is being read, line by line.
 
 ghost use Rattle.std.specs.Prelude.{◌≡◌, IfOk};
-ghost use Rattle.fetch_wire.specs.Awaited.{start_of, step_of};
+ghost use Rattle.std.specs.Option.{option_copied};
+ghost use Rattle.fetch_wire.specs.Awaited.{start_of, step_of, progress_in};
 ghost use Rattle.fetch_wire.specs.LineViews.{line_of};
 ghost use Rattle.fetch_wire.specs.ReadSteps.{step_in};
 ghost use Rattle.fetch_wire.specs.Stepping.{says};
@@ -75,6 +76,10 @@ pub(crate) enum Read {
     Broken,
     /// The server says that it fails, with this text.
     Said(Text),
+    /// The line breaks the grammar, and the server told these texts of its progress before it.
+    BrokenBehind(List<Text>),
+    /// The server says that it fails, with this text, and told these texts of its progress before.
+    SaidBehind(Text, List<Text>),
 }
 
 impl Read {
@@ -117,6 +122,34 @@ impl Reading {
                 *part,
                 reply.try_clone()?,
             )),
+        }
+    }
+
+    /// The texts of the server's progress that were told so far.
+    pub(crate) fn progress(&self) -> Option<&[Text]>
+        ensures { option_copied result ≡ progress_in self.now }
+    {
+        match self {
+            Reading::Reply(_, _, reply) => Some(reply.progress.as_slice()),
+            Reading::Greeting
+            | Reading::Capabilities(_)
+            | Reading::Version
+            | Reading::Advertisement(_, _, _)
+            | Reading::Listing(_, _) => None,
+        }
+    }
+
+    /// Those texts alone.
+    pub(crate) fn into_progress(self) -> Option<List<Text>>
+        ensures { result ≡ progress_in self }
+    {
+        match self {
+            Reading::Reply(_, _, reply) => Some(reply.progress),
+            Reading::Greeting
+            | Reading::Capabilities(_)
+            | Reading::Version
+            | Reading::Advertisement(_, _, _)
+            | Reading::Listing(_, _) => None,
         }
     }
 

@@ -210,6 +210,17 @@ impl Session {
         self.reply.take()
     }
 
+    /// The texts of the server's progress in the last reply to a request, as far as it was read: while it is awaited, until
+    /// it is taken, and where it was refused. Without a request since, or a pack in that reply, there are none.
+    pub fn progress(&self) -> &[Text]
+        ensures progress { IfSome (spec.progress_of self.now) (λ texts. result.now ≡ texts) }
+    {
+        match &self.reply {
+            Some(reply) => reply.progress.as_slice(),
+            None => self.intake.progress(),
+        }
+    }
+
     /// What stands of a refusal, or out of memory in its place.
     fn answer(&self) -> Result<(), WireError>
         ensures refusal { RefusesUnless spec.is_memory (spec.refusal_of self.now) result }

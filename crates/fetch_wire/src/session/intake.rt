@@ -1,12 +1,15 @@
 //! What a peer sent and wasn't read yet, and the reply that is awaited of it.
 
+ghost use Rattle.std.specs.Prelude.{◌≡◌, IfSome};
+ghost use Rattle.std.specs.Option.{option_copied};
+
 use crate::error::WireError;
 use crate::lines::reader::LineReader;
 use crate::replies::awaited::{Await, Fault, Told};
 use crate::replies::bound::ReplyBound;
 use crate::replies::progress::{Progress, read_on};
 use crate::replies::reading::Reading;
-use fetch_store::{NoMemory, TryClone};
+use fetch_store::{List, NoMemory, Text, TryClone};
 use std::alloc::Global;
 use std::marker::Model;
 
@@ -21,10 +24,22 @@ pub(crate) enum Found {
     Fault(Fault),
 }
 
+impl TryClone for Found {
+    fn try_clone(&self) -> Result<Found, NoMemory> {
+        match self {
+            Found::Nothing => Ok(Found::Nothing),
+            Found::Told(told) => Ok(Found::Told(told.try_clone()?)),
+            Found::Fault(fault) => Ok(Found::Fault(fault.try_clone()?)),
+        }
+    }
+}
+
 /// What a peer sent and wasn't read yet, and what the reply that is awaited told so far.
 pub(crate) struct Intake {
     lines: LineReader,
     reading: Option<Reading>,
+    /// The texts of progress of a pack that was refused, or is awaited no more.
+    progress: Option<List<Text>>,
 }
 
 impl Model for Intake {
@@ -39,9 +54,10 @@ impl Model for Intake {
 }
 
 impl Intake {
-    ghost use Rattle.std.specs.Prelude.{◌≡◌, [], true, Some, None, Err, IfOk, IfErr, OnErr, is_some};
+    ghost use Rattle.std.specs.Prelude.{◌≡◌, [], true, Some, None, Err, IfOk, IfErr, IfSome, OnErr, is_some};
+    ghost use Rattle.std.specs.Option.{option_and_then};
     ghost use Rattle.fetch_wire.specs.Intakes as spec;
-    ghost use Rattle.fetch_wire.specs.Awaited.{start_of};
+    ghost use Rattle.fetch_wire.specs.Awaited.{start_of, progress_in};
     ghost use Rattle.fetch_wire.specs.declared.replies.awaited.Fault.TheVariants as faults;
     ghost use Rattle.fetch_wire.specs.declared.error.WireError.TheVariants as errors;
 
@@ -52,6 +68,7 @@ impl Intake {
         Intake {
             lines: LineReader::new(alloc, bound),
             reading: Some(Reading::start(alloc, awaited)),
+            progress: None,
         }
     }
 
@@ -70,18 +87,41 @@ impl Intake {
         self.lines.bound()
     }
 
-    /// How many bytes the lines that were read of the awaited reply have.
+    /// How many bytes the lines that were read of the awaited reply have: it is short there.
     pub(crate) fn place(&self) -> usize
-        ensures { result ≡ self.now.place }
+        ensures place { result ≡ self.now.place }
+        ensures short { is_some self.now.reading ≡ true → spec.told_with self.now [] ≡ Some (Err (faults.Short self.now.place)) }
     {
         self.lines.place()
     }
 
-    /// Forgets what wasn't read, and awaits nothing.
+    /// The bytes that were fed and not yet read.
+    pub(crate) fn pending(&self) -> &[u8]
+        ensures { result.now ≡ self.now.pending }
+    {
+        self.lines.pending()
+    }
+
+    /// The texts of progress of the reply that is awaited, as far as it was read, or of one that was refused.
+    pub(crate) fn progress(&self) -> &[Text]
+        ensures { IfSome (option_and_then progress_in self.now.reading) (λ texts. result.now ≡ texts) }
+    {
+        if let Some(reading) = &self.reading {
+            return texts_of(reading.progress());
+        }
+        match &self.progress {
+            Some(progress) => progress.as_slice(),
+            None => &[],
+        }
+    }
+
+    /// Forgets what wasn't read but for texts of progress, and awaits nothing.
     pub(crate) fn clear(&mut self)
         ensures { self.new ≡ spec.resting [] self.old }
     {
-        self.reading = None;
+        if let Some(reading) = self.reading.take() {
+            self.progress = reading.into_progress();
+        }
         self.lines.clear();
     }
 
@@ -95,6 +135,7 @@ impl Intake {
         Ok(Intake {
             lines,
             reading: None,
+            progress: None,
         })
     }
 
@@ -105,6 +146,7 @@ impl Intake {
         Ok(Intake {
             lines: self.lines.try_clone()?,
             reading: self.reading.try_clone()?,
+            progress: self.progress.try_clone()?,
         })
     }
 
@@ -125,8 +167,9 @@ impl Intake {
                 self.lines.next_reply();
                 Ok(Found::Told(told))
             }
-            Progress::Refused(fault) => {
+            Progress::Refused(fault, progress) => {
                 self.lines.clear();
+                self.progress = progress;
                 Ok(Found::Fault(fault))
             }
         }
@@ -155,8 +198,19 @@ impl Intake {
     {
         let alloc = self.lines.allocator();
         self.reading = None;
+        self.progress = None;
         self.lines.next_reply();
         self.read(Reading::start(alloc, awaited))
+    }
+}
+
+/// These texts, or none.
+fn texts_of(texts: Option<&[Text]>) -> &[Text]
+    ensures { IfSome (option_copied texts.entry) (λ all. result.now ≡ all) }
+{
+    match texts {
+        Some(texts) => texts,
+        None => &[],
     }
 }
 
@@ -165,6 +219,7 @@ impl Drop for Intake {
         let Intake {
             lines: _,
             reading: _,
+            progress: _,
         } = self;
     }
 }

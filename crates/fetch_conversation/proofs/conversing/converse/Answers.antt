@@ -1,22 +1,21 @@
-use Rattle.std.proofs.Common.{◌≡◌, false, List, Option, Some, None, Ok, Err, refl, sym, subst, ◌∙◌, arith}
+use Rattle.std.proofs.Common.{◌≡◌, false, List, Option, Some, Ok, Err, sym, subst, ◌∙◌, arith}
 use Rattle.std.proofs.lemmas.Result.{err_from_is_err_and}
 use Rattle.fetch_wire.specs.declared.requests.records.FetchReply.{FetchReply}
 use Rattle.fetch_negotiate.specs.declared.algorithm.Round.{Round}
 use Rattle.fetch_conversation.specs.Conversing.{terms_told}
 use Rattle.fetch_conversation.specs.ConverseStage.{received}
 use Rattle.fetch_conversation.specs.Errors.{is_free_receiving, is_stopped}
-use Rattle.fetch_conversation.specs.Exchange.{TermsValue, other_reply}
+use Rattle.fetch_conversation.specs.Exchange.{TermsValue}
 use Rattle.fetch_conversation.specs.ListStage.{ListedValue, shown, is_nil}
 use Rattle.fetch_conversation.specs.declared.conversing.Received.{Received}
 use Rattle.fetch_conversation.specs.declared.fetch.Error.{Error}
+use Rattle.fetch_conversation.proofs.Blame.{interrupt_still}
 use Rattle.fetch_conversation.proofs.Fetches.{FindsIn, holds_refusal, holds_nothing, holds_broken, holds_found}
+use Rattle.fetch_conversation.proofs.Heeded.{no_question}
 use Rattle.fetch_conversation.proofs.Nil.{nil_by, nil_is}
 use Rattle.fetch_conversation.proofs.conversing.converse.Goals as goal
 
 -- ---- what the rounds bring
-
-finds_none : (t : TermsValue) (rounds : List Round) (kept : Option FetchReply) → kept ≡ None → FindsIn t rounds kept (Err other_reply)
-finds_none t rounds kept is = rw is refl
 
 finds_refusal : (t : TermsValue) (rounds : List Round) (kept : Option FetchReply) (r : FetchReply) (e : Error) → kept ≡ Some r → is_stopped e ≡ false → (is_free_receiving e ≡ false → received t (record { rounds = rounds; reply = r }) ≡ Err e) → FindsIn t rounds kept (Err e)
 finds_refusal t rounds kept r e is going h = rw is (going, h)
@@ -45,15 +44,6 @@ returns-in_err-negotiate-clause-held g c =
     rw (p.1, p.2) (holds_broken g.P.Peer.answers c.args.listed.now.session.intake.bound (g.P.Peer.told c.args.peer.now) (g.P.Peer.told c.negotiate.new.peer) _ _ (g.O.Objects.graph c.args.objects.now) t c.in_err-negotiate.field-0.0 c.in_ok-refuse.ensures.clear some
     c.in_err-negotiate.ensures.held.held)
 
-pub returns-in_default-clause-held : goal.returns-in_default-clause-held
-returns-in_default-clause-held g c =
-    let t : TermsValue = terms_told (shown c.args.listed.now) c.args.terms.now in
-    let some : is_nil c.args.terms.now.view.now.wants ≡ false = sym (nil_by c.args.terms.now.view.now.wants c.is_empty.result c.is_empty.ensures) ∙ c.if-is_empty.false in
-    let n = c.in_ok-negotiate.negotiate in
-    let none : c.negotiate.new.listed.session.reply ≡ None = grind arith in
-    rw c.take_reply.ensures.left (holds_found g.P.Peer.answers c.args.listed.now.session.intake.bound (g.P.Peer.told c.args.peer.now) (g.P.Peer.told c.negotiate.new.peer) _ _ (g.O.Objects.graph c.args.objects.now) t n c.negotiate.new.listed.session.reply (Err other_reply) c.in_ok-refuse.ensures.clear some
-    c.in_ok-negotiate.ensures.held.held (finds_none t n.rounds c.negotiate.new.listed.session.reply none))
-
 pub returns-in_err-received-clause-held : goal.returns-in_err-received-clause-held
 returns-in_err-received-clause-held g c =
     let t : TermsValue = terms_told (shown c.args.listed.now) c.args.terms.now in
@@ -76,3 +66,8 @@ returns-clause-held g c =
     let received_so = subst (λ (l : ListedValue). received (terms_told l c.args.terms.now) (record { rounds = n.rounds; reply = c.in-Some.reply }) ≡ Ok (Some x)) c.in_ok-negotiate.ensures.kept c.in_ok-received.ensures.received in
     rw c.take_reply.ensures.left (holds_found g.P.Peer.answers c.args.listed.now.session.intake.bound (g.P.Peer.told c.args.peer.now) (g.P.Peer.told c.negotiate.new.peer) _ _ (g.O.Objects.graph c.args.objects.now) t n c.negotiate.new.listed.session.reply (Ok (Some x)) c.in_ok-refuse.ensures.clear some
     c.in_ok-negotiate.ensures.held.held (finds_received t n.rounds c.negotiate.new.listed.session.reply c.in-Some.reply x told received_so))
+
+pub returns-in_err-refuse-clause-interrupt : goal.returns-in_err-refuse-clause-interrupt
+returns-in_err-refuse-clause-interrupt g c =
+    let p = err_from_is_err_and c.from_residual.result c.from_residual.ensures.1 in
+    rw (p.1, p.2) (interrupt_still (g.I.Interrupt.yes c.args.interrupt.now) (g.I.Interrupt.will_stop c.args.interrupt.now) (g.P.Peer.told c.args.peer.now) _ (no_question (Option Received) is_stopped c.in_err-refuse.field-0.0 c.in_err-refuse.ensures.own.1))

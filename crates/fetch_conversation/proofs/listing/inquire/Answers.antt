@@ -10,6 +10,7 @@ use Rattle.fetch_conversation.proofs.Driven.{finished_unrefused}
 use Rattle.fetch_conversation.proofs.Listings.{inquires_free, inquires_unopened, inquires_stopped, inquires_found, inquired_bound, opened_drivable}
 use Rattle.fetch_conversation.proofs.Heeded.{prepare_asks, stop_prepared}
 use Rattle.fetch_conversation.proofs.Blame.{interrupt_still, interrupt_as}
+use Rattle.fetch_conversation.proofs.Keeping.{finished_listed}
 use Rattle.fetch_conversation.proofs.listing.inquire.Goals as goal
 
 bound_by : (q : InquiryValue) (s : SessionState) (result : Result Listed Error) (n : ℕ) → Answers q s result → s.intake.bound ≡ n → IfOk result (λ l. l.session.intake.bound ≡ n)
@@ -34,6 +35,12 @@ returns-in_err-session-clause-held g c =
     let p = err_from_is_err_and c.from_residual-in_err-session.result c.from_residual-in_err-session.ensures.1 in
     rw (p.1, p.2) (inquires_unopened g.P.Peer.answers (g.P.Peer.told c.args.peer.now) q c.in_err-session.field-0.0 c.in_err-session.ensures.refused)
 
+pub returns-in_err-buffer-clause-held : goal.returns-in_err-buffer-clause-held
+returns-in_err-buffer-clause-held g c =
+    let q : InquiryValue = record { address = c.args.inquiry.now.address.now; agent = c.args.inquiry.now.agent.now; specs = c.args.inquiry.now.specs.now; tags = c.args.inquiry.now.tags; options = c.args.options } in
+    let p = err_from_is_err_and c.from_residual-in_err-buffer.result c.from_residual-in_err-buffer.ensures.1 in
+    rw (p.1, p.2) (inquires_free g.P.Peer.answers (g.P.Peer.told c.args.peer.now) q errors.NoMemory refl refl)
+
 pub returns-in_err-drive-clause-held : goal.returns-in_err-drive-clause-held
 returns-in_err-drive-clause-held g c =
     let q : InquiryValue = record { address = c.args.inquiry.now.address.now; agent = c.args.inquiry.now.agent.now; specs = c.args.inquiry.now.specs.now; tags = c.args.inquiry.now.tags; options = c.args.options } in
@@ -56,10 +63,25 @@ map_listed-requires-clause-unrefused g c =
     let q : InquiryValue = record { address = c.args.inquiry.now.address.now; agent = c.args.inquiry.now.agent.now; specs = c.args.inquiry.now.specs.now; tags = c.args.inquiry.now.tags; options = c.args.options } in
     finished_unrefused g.P.Peer.answers (g.P.Peer.told c.args.peer.now) (g.P.Peer.told c.drive.new.peer) c.in_ok-session.session c.drive.new.session (opened_drivable q c.in_ok-session.session c.in_ok-session.ensures.opened).unrefused c.in_ok-drive.ensures.driven
 
+pub map_listed-requires-clause-handshake : goal.map_listed-requires-clause-handshake
+map_listed-requires-clause-handshake g c =
+    let q : InquiryValue = record { address = c.args.inquiry.now.address.now; agent = c.args.inquiry.now.agent.now; specs = c.args.inquiry.now.specs.now; tags = c.args.inquiry.now.tags; options = c.args.options } in
+    (finished_listed g.P.Peer.answers (g.P.Peer.told c.args.peer.now) (g.P.Peer.told c.drive.new.peer) q c.in_ok-session.session c.drive.new.session c.in_ok-session.ensures.opened c.in_ok-drive.ensures.driven).handshake
+
+pub map_listed-requires-clause-refs : goal.map_listed-requires-clause-refs
+map_listed-requires-clause-refs g c =
+    let q : InquiryValue = record { address = c.args.inquiry.now.address.now; agent = c.args.inquiry.now.agent.now; specs = c.args.inquiry.now.specs.now; tags = c.args.inquiry.now.tags; options = c.args.options } in
+    (finished_listed g.P.Peer.answers (g.P.Peer.told c.args.peer.now) (g.P.Peer.told c.drive.new.peer) q c.in_ok-session.session c.drive.new.session c.in_ok-session.ensures.opened c.in_ok-drive.ensures.driven).refs
+
 pub returns-in_err-session-clause-interrupt : goal.returns-in_err-session-clause-interrupt
 returns-in_err-session-clause-interrupt g c =
     let p = err_from_is_err_and c.from_residual-in_err-session.result c.from_residual-in_err-session.ensures.1 in
     rw (p.1, p.2) (interrupt_still _ _ _ _ (prepare_asks (Unit {0}) c.in_err-session.field-0.0))
+
+pub returns-in_err-buffer-clause-interrupt : goal.returns-in_err-buffer-clause-interrupt
+returns-in_err-buffer-clause-interrupt g c =
+    let p = err_from_is_err_and c.from_residual-in_err-buffer.result c.from_residual-in_err-buffer.ensures.1 in
+    rw (p.1, p.2) (interrupt_still (g.I.Interrupt.yes c.args.interrupt.now) (g.I.Interrupt.will_stop c.args.interrupt.now) (g.P.Peer.told c.args.peer.now) 0 refl)
 
 pub returns-in_err-drive-clause-interrupt : goal.returns-in_err-drive-clause-interrupt
 returns-in_err-drive-clause-interrupt g c =

@@ -6,13 +6,11 @@ use Rattle.fetch_specs.specs.Specs.{Spec}
 use Rattle.fetch_specs.specs.declared.conflict.Conflict.{Conflict}
 use Rattle.fetch_wire.specs.References.{name_in}
 use Rattle.fetch_wire.specs.SessionStates.{SessionState}
-use Rattle.fetch_wire.specs.declared.error.WireError.{WireError}
-use Rattle.fetch_wire.specs.declared.error.WireError.TheVariants as wire
 use Rattle.fetch_wire.specs.declared.greetings.handshake.Handshake.{Handshake}
 use Rattle.fetch_wire.specs.declared.listings.mapping.Mapping.{Mapping}
 use Rattle.fetch_wire.specs.declared.listings.mapping.RefMap.{RefMap}
 use Rattle.fetch_wire.specs.declared.listings.reference.Ref.{Ref}
-use Rattle.fetch_conversation.specs.Errors.{is_free_listing, is_transport, is_interrupted, prepare_of, prepare_of_wire}
+use Rattle.fetch_conversation.specs.Errors.{is_free_listing, is_transport, is_interrupted, prepare_of}
 use Rattle.fetch_conversation.specs.Listing.{TellsConflicts, found_in}
 use Rattle.fetch_conversation.specs.ListStage.{InquiryValue, all_specs, extra_specs, map_of}
 use Rattle.fetch_conversation.specs.Mapped.{ref_mappings}
@@ -38,24 +36,6 @@ found_by q s h refs specs own extra mappings told all clear mapped o e =
     rw (told.0, told.1) (mapped_clear q h refs no ∙ ap (λ (m : RefMap). Ok (record { ref_map = m; handshake = h })) (map_is q h refs specs own extra mappings all mapped o e))
 
 -- none of it is a fault of the peer, nor a yes of the interrupt
-wire_heard : (e : WireError) → is_transport (prepare_of_wire e) ≡ false
-wire_heard wire.NoMemory = refl
-wire_heard (wire.Malformed place) = refl
-wire_heard (wire.ServerError text) = refl
-wire_heard (wire.ReplyTooLong bound) = refl
-wire_heard (wire.MissingFeature name) = refl
-wire_heard (wire.LineTooLong n) = refl
-wire_heard (wire.BadParameter text place) = refl
-
-wire_uninterrupted : (e : WireError) → is_interrupted (prepare_of_wire e) ≡ false
-wire_uninterrupted wire.NoMemory = refl
-wire_uninterrupted (wire.Malformed place) = refl
-wire_uninterrupted (wire.ServerError text) = refl
-wire_uninterrupted (wire.ReplyTooLong bound) = refl
-wire_uninterrupted (wire.MissingFeature name) = refl
-wire_uninterrupted (wire.LineTooLong n) = refl
-wire_uninterrupted (wire.BadParameter text place) = refl
-
 map_heard : (conflicts : List Conflict) (e : MapError) → TellsConflicts conflicts e → is_transport (prepare_of e) ≡ false
 map_heard conflicts (ref_map.Handshake e) h = absurd h
 map_heard conflicts ref_map.Transport h = absurd h
@@ -69,16 +49,6 @@ map_uninterrupted conflicts ref_map.Transport h = absurd h
 map_uninterrupted conflicts ref_map.Interrupted h = absurd h
 map_uninterrupted conflicts (ref_map.InitRefMap found) h = refl
 map_uninterrupted conflicts ref_map.NoMemory h = refl
-
-pub returns-in_err-handshake-clause-heard : goal.returns-in_err-handshake-clause-heard
-returns-in_err-handshake-clause-heard c =
-    let p = err_from_is_err_and c.from_residual.result c.from_residual.ensures.1 in
-    rw (p.1, p.2) (wire_heard c.in_err-handshake.field-0.0)
-
-pub returns-in_err-handshake-clause-uninterrupted : goal.returns-in_err-handshake-clause-uninterrupted
-returns-in_err-handshake-clause-uninterrupted c =
-    let p = err_from_is_err_and c.from_residual.result c.from_residual.ensures.1 in
-    rw (p.1, p.2) (wire_uninterrupted c.in_err-handshake.field-0.0)
 
 pub returns-in_err-mappings-clause-heard : goal.returns-in_err-mappings-clause-heard
 returns-in_err-mappings-clause-heard c =

@@ -1,10 +1,10 @@
-use Rattle.std.proofs.Common.{◌≡◌, Option, Some, None, Ok, refl, ap, subst, ◌∙◌, arith}
+use Rattle.std.proofs.Common.{◌≡◌, Option, Some, Ok, refl, ap, subst, ◌∙◌, arith}
 use Rattle.std.proofs.lemmas.Result.{err_from_is_err_and}
 use Rattle.fetch_wire.specs.declared.requests.records.FetchReply.{FetchReply}
 use Rattle.fetch_negotiate.specs.Any.{algorithm_of}
 use Rattle.fetch_negotiate.specs.declared.algorithm.Round.{Round}
 use Rattle.fetch_conversation.specs.Conversing.{course_of, found_in, terms_told}
-use Rattle.fetch_conversation.specs.Exchange.{TermsValue, other_reply}
+use Rattle.fetch_conversation.specs.Exchange.{TermsValue}
 use Rattle.fetch_conversation.specs.ListStage.{shown, pending_of}
 use Rattle.fetch_conversation.specs.Rounds.{CourseValue}
 use Rattle.fetch_conversation.specs.declared.fetch.Error.TheVariants as errors
@@ -47,19 +47,3 @@ returns-in_err-take_in-in-Some-clause-held g c =
     let held = subst (λ (o : Option FetchReply). Exchanged bound t graph algorithm g.P.Peer.answers (g.P.Peer.told c.args.peer.now) (g.P.Peer.told c.exchange.new.peer) (pending_of c.args.listed.now) (pending_of c.exchange.new.listed) shared round (found_in (λ (r : FetchReply). Ok r) o)) told c.in_ok-exchange.ensures.held.held in
     let p = err_from_is_err_and c.from_residual-in_err-take_in-in-Some.result c.from_residual-in_err-take_in-in-Some.ensures.1 in
     rw (p.1, p.2) (λ more. untold bound t graph algorithm g.P.Peer.answers (g.P.Peer.told c.args.peer.now) (g.P.Peer.told c.exchange.new.peer) (pending_of c.args.listed.now) (pending_of c.exchange.new.listed) more before d round shared c.in-Some.reply.now errors.NoMemory next held refl refl)
-
-pub returns-in-None-clause-held : goal.returns-in-None-clause-held
-returns-in-None-clause-held g c =
-    let bound = c.args.listed.now.session.intake.bound in
-    let t : TermsValue = terms_told (shown c.args.listed.now) c.args.terms.now in
-    let graph = g.O.Objects.graph c.args.objects.now in
-    let algorithm = algorithm_of c.args.course.now.negotiator in
-    let before : CourseValue = course_of c.args.course.now in
-    let d : CourseValue = course_of c.next.new.self in
-    let round : Round = c.in_ok-round.round in
-    let shared = c.as_slice.result.now in
-    let e = c.in_ok-round.ensures in
-    let next : IsNext bound t graph algorithm before d round shared = record { haves = ap (λ (r : Round). r.haves) e.round; done = ap (λ (r : Round). r.done) e.round; course = e.course; told = c.as_slice.ensures.value ∙ ap (λ (x : CourseValue). x.shared) e.course } in
-    let none : c.exchange.new.listed.session.reply ≡ None = grind arith in
-    let held = subst (λ (o : Option FetchReply). Exchanged bound t graph algorithm g.P.Peer.answers (g.P.Peer.told c.args.peer.now) (g.P.Peer.told c.exchange.new.peer) (pending_of c.args.listed.now) (pending_of c.exchange.new.listed) shared round (found_in (λ (r : FetchReply). Ok r) o)) none c.in_ok-exchange.ensures.held.held in
-    λ more. unanswered bound t graph algorithm g.P.Peer.answers (g.P.Peer.told c.args.peer.now) (g.P.Peer.told c.exchange.new.peer) (pending_of c.args.listed.now) (pending_of c.exchange.new.listed) more before d round shared other_reply next held

@@ -1,12 +1,14 @@
-use Rattle.std.proofs.Common.{◌≡◌, ℕ, suc, ◌<◌, Bool, true, false, List, Option, Result, Ok, Err, refl, subst, ◌∙◌, arith}
+use Rattle.std.proofs.Common.{◌≡◌, ℕ, suc, ◌+◌, ◌<◌, Bool, true, false, List, Option, Result, Ok, Err, refl, sym, ap, subst, ◌∙◌, length, length-append, arith}
+use Rattle.std.specs.Prelude.{is_some}
 use Rattle.std.specs.FinMap as map
 use Rattle.std.proofs.lemmas.Result.{err_from_is_err_and}
-use Rattle.fetch_store.specs.Faults.{Counts-then}
+use Rattle.fetch_store.specs.Faults.{Counts-none, Counts-then}
 use Rattle.fetch_store.specs.Graph.{Graph}
 use Rattle.fetch_wire.specs.Talks.{Talk}
 use Rattle.fetch_wire.specs.declared.requests.records.FetchReply.{FetchReply}
 use Rattle.fetch_negotiate.specs.Any.{algorithm_of}
 use Rattle.fetch_negotiate.specs.declared.algorithm.Algorithm.{Algorithm}
+use Rattle.fetch_negotiate.specs.declared.algorithm.Round.{Round}
 use Rattle.fetch_conversation.specs.ConverseStage.{algorithm_in}
 use Rattle.fetch_conversation.specs.Conversing.{Holds, course_of, terms_told}
 use Rattle.fetch_conversation.specs.Exchange.{TermsValue}
@@ -15,8 +17,9 @@ use Rattle.fetch_conversation.specs.Rounds.{CourseValue, first_course}
 use Rattle.fetch_conversation.specs.declared.conversing.Terms.{Terms}
 use Rattle.fetch_conversation.specs.declared.fetch.Error.{Error}
 use Rattle.fetch_conversation.specs.declared.fetch.Error.TheVariants as errors
-use Rattle.fetch_conversation.proofs.Blame.{interrupt_then}
-use Rattle.fetch_conversation.proofs.Held.{goes_again, goes_to_end, goes_off, goes_out, goes_nowhere}
+use Rattle.fetch_conversation.proofs.Blame.{interrupt_still, interrupt_then}
+use Rattle.fetch_conversation.proofs.Ending.{IsCourse, first_is, course_on, few}
+use Rattle.fetch_conversation.proofs.Held.{starts, goes_again, goes_to_end, goes_off, goes_nowhere}
 use Rattle.fetch_conversation.proofs.rounds.negotiate.Goals as goal
 
 -- a round, told of the session at the first one
@@ -41,6 +44,14 @@ returns-in_err-course-clause-held g c =
     let graph = g.O.Objects.graph c.args.objects.now in
     let algorithm = algorithm_in c.args.terms.now.settings.now in
     let p = err_from_is_err_and c.from_residual-in_err-course.result c.from_residual-in_err-course.ensures.1 in
+    rw (p.1, p.2) (goes_nowhere c.args.listed.now.session.intake.bound t graph algorithm g.P.Peer.answers (g.P.Peer.told c.args.peer.now) (pending_of c.args.listed.now) (pending_of c.args.listed.now) (suc (map.len graph)) (first_course algorithm c.args.terms.now.view.now) errors.NoMemory refl refl)
+
+pub returns-in_err-bytes-clause-held : goal.returns-in_err-bytes-clause-held
+returns-in_err-bytes-clause-held g c =
+    let t : TermsValue = terms_told (shown c.args.listed.now) c.args.terms.now in
+    let graph = g.O.Objects.graph c.args.objects.now in
+    let algorithm = algorithm_in c.args.terms.now.settings.now in
+    let p = err_from_is_err_and c.from_residual-in_err-bytes.result c.from_residual-in_err-bytes.ensures.1 in
     rw (p.1, p.2) (goes_nowhere c.args.listed.now.session.intake.bound t graph algorithm g.P.Peer.answers (g.P.Peer.told c.args.peer.now) (pending_of c.args.listed.now) (pending_of c.args.listed.now) (suc (map.len graph)) (first_course algorithm c.args.terms.now.view.now) errors.NoMemory refl refl)
 
 pub returns-in_err-hold_round-clause-held : goal.returns-in_err-hold_round-clause-held
@@ -68,6 +79,26 @@ returns-then-branch-clause-held g c =
     let held = holds_at g.P.Peer.answers c.loop.listed.session.intake.bound bound (g.P.Peer.told c.loop.peer) (g.P.Peer.told c.hold_round.new.peer) (pending_of c.loop.listed) (pending_of c.hold_round.new.listed) (shown c.loop.listed) (shown c.args.listed.now) c.args.terms.now graph (algorithm_of c.loop.course.negotiator) algorithm (course_of c.loop.course) (course_of c.hold_round.new.course) c.hold_round.new.listed.session.reply (Ok true) i.bound i.kept i.algorithm told in
     goes_to_end bound t graph algorithm g.P.Peer.answers (g.P.Peer.told c.args.peer.now) (g.P.Peer.told c.loop.peer) (g.P.Peer.told c.hold_round.new.peer) (pending_of c.args.listed.now) (pending_of c.loop.listed) (pending_of c.hold_round.new.listed) (suc (map.len graph)) (first_course algorithm c.args.terms.now.view.now) (course_of c.loop.course) (course_of c.hold_round.new.course) c.hold_round.new.listed.session.reply c.loop.counter (record { rounds = c.hold_round.new.course.rounds }) less i.goes refl held
 
+pub loop-init : goal.loop-init
+loop-init g c =
+    let bound = c.args.listed.now.session.intake.bound in
+    let t : TermsValue = terms_told (shown c.args.listed.now) c.args.terms.now in
+    let graph = g.O.Objects.graph c.args.objects.now in
+    let algorithm = algorithm_in c.args.terms.now.settings.now in
+    let e = c.in_ok-course.ensures in
+    record {
+      goes = starts bound t graph algorithm g.P.Peer.answers (g.P.Peer.told c.args.peer.now) (pending_of c.args.listed.now) (suc (map.len graph)) (first_course algorithm c.args.terms.now.view.now) (course_of c.in_ok-course.course) e.course;
+      course = subst (IsCourse bound t graph algorithm c.args.terms.now.view.now) (sym e.course) (first_is bound t graph algorithm c.args.terms.now.view.now);
+      held = ap (λ (x : CourseValue). length x.rounds) e.course;
+      ready = c.requires;
+      bound = refl;
+      kept = refl;
+      algorithm = e.algorithm;
+      told = record { told = λ id found is. absurd (let none = e.unread id in cc) };
+      counts = Counts-none (g.P.Peer.faults c.args.peer.now);
+      interrupt = interrupt_still (g.I.Interrupt.yes c.args.interrupt.now) (g.I.Interrupt.will_stop c.args.interrupt.now) (g.P.Peer.told c.args.peer.now) 0 refl;
+    }
+
 pub loop-preserved : goal.loop-preserved
 loop-preserved g c =
     let bound = c.args.listed.now.session.intake.bound in
@@ -80,6 +111,8 @@ loop-preserved g c =
     let held = holds_at g.P.Peer.answers c.loop.listed.session.intake.bound bound (g.P.Peer.told c.loop.peer) (g.P.Peer.told c.hold_round.new.peer) (pending_of c.loop.listed) (pending_of c.hold_round.new.listed) (shown c.loop.listed) (shown c.args.listed.now) c.args.terms.now graph (algorithm_of c.loop.course.negotiator) algorithm (course_of c.loop.course) (course_of c.hold_round.new.course) c.hold_round.new.listed.session.reply (Ok false) i.bound i.kept i.algorithm told in
     record {
       goes = goes_again bound t graph algorithm g.P.Peer.answers (g.P.Peer.told c.args.peer.now) (g.P.Peer.told c.loop.peer) (g.P.Peer.told c.hold_round.new.peer) (pending_of c.args.listed.now) (pending_of c.loop.listed) (pending_of c.hold_round.new.listed) (suc (map.len graph)) (first_course algorithm c.args.terms.now.view.now) (course_of c.loop.course) (course_of c.hold_round.new.course) c.hold_round.new.listed.session.reply c.loop.counter i.goes held;
+      course = subst (IsCourse bound t graph algorithm c.args.terms.now.view.now) (sym (held.goes refl)) (course_on bound t graph algorithm c.args.terms.now.view.now (course_of c.loop.course) held.reply i.course (sym held.ends));
+      held = ap (λ (l : List Round). length l) held.rounds ∙ length-append (course_of c.loop.course).rounds _ ∙ ap (λ (n : ℕ). n + 1) i.held;
       ready = e.ready;
       bound = e.bound ∙ i.bound;
       kept = e.kept ∙ i.kept;
@@ -89,14 +122,25 @@ loop-preserved g c =
       interrupt = interrupt_then (g.I.Interrupt.yes c.args.interrupt.now) (g.I.Interrupt.yes c.loop.interrupt) (g.I.Interrupt.yes c.hold_round.new.interrupt) _ _ _ _ _ _ 0 i.interrupt e.interrupt;
     }
 
-pub returns-clause-held : goal.returns-clause-held
-returns-clause-held g c =
-    let bound = c.args.listed.now.session.intake.bound in
-    let t : TermsValue = terms_told (shown c.args.listed.now) c.args.terms.now in
-    let graph = g.O.Objects.graph c.args.objects.now in
-    let algorithm = algorithm_in c.args.terms.now.settings.now in
-    let out : c.loop.counter ≡ suc (map.len graph) = (let test = c.loop-test.false in let len = c.in_ok-most.ensures in let end = c.loop.auto.counter-end in omega arith) in
-    goes_out bound t graph algorithm g.P.Peer.answers (g.P.Peer.told c.args.peer.now) (g.P.Peer.told c.loop.peer) (pending_of c.args.listed.now) (pending_of c.loop.listed) (pending_of c.loop.listed) (suc (map.len graph)) (first_course algorithm c.args.terms.now.view.now) (course_of c.loop.course) c.loop.counter out c.loop.invariant.goes
+pub returns-then-branch-clause-replied : goal.returns-then-branch-clause-replied
+returns-then-branch-clause-replied g c = ap is_some c.in_ok-hold_round.ensures.held.kept
+
+pub unreachable-requires : goal.unreachable-requires
+unreachable-requires g c =
+    let i = c.loop.invariant in
+    let out : c.loop.counter ≡ suc (map.len (g.O.Objects.graph c.args.objects.now)) = (let test = c.loop-test.false in let len = c.in_ok-most.ensures in let end = c.loop.auto.counter-end in omega arith) in
+    let few_rounds = few c.args.listed.now.session.intake.bound (terms_told (shown c.args.listed.now) c.args.terms.now) (g.O.Objects.graph c.args.objects.now) (algorithm_in c.args.terms.now.settings.now) c.args.terms.now.view.now (course_of c.loop.course) i.course in
+    let held = i.held in omega arith
+
+pub returns-in_err-course-clause-interrupt : goal.returns-in_err-course-clause-interrupt
+returns-in_err-course-clause-interrupt g c =
+    let p = err_from_is_err_and c.from_residual-in_err-course.result c.from_residual-in_err-course.ensures.1 in
+    rw (p.1, p.2) (interrupt_still (g.I.Interrupt.yes c.args.interrupt.now) (g.I.Interrupt.will_stop c.args.interrupt.now) (g.P.Peer.told c.args.peer.now) 0 refl)
+
+pub returns-in_err-bytes-clause-interrupt : goal.returns-in_err-bytes-clause-interrupt
+returns-in_err-bytes-clause-interrupt g c =
+    let p = err_from_is_err_and c.from_residual-in_err-bytes.result c.from_residual-in_err-bytes.ensures.1 in
+    rw (p.1, p.2) (interrupt_still (g.I.Interrupt.yes c.args.interrupt.now) (g.I.Interrupt.will_stop c.args.interrupt.now) (g.P.Peer.told c.args.peer.now) 0 refl)
 
 pub returns-in_err-hold_round-clause-interrupt : goal.returns-in_err-hold_round-clause-interrupt
 returns-in_err-hold_round-clause-interrupt g c =

@@ -1,4 +1,4 @@
-use Rattle.std.proofs.Common.{◌≡◌, suc}
+use Rattle.std.proofs.Common.{◌≡◌, suc, length}
 use Rattle.std.specs.FinMap as map
 use Rattle.fetch_store.specs.Faults.{Counts}
 use Rattle.fetch_negotiate.specs.Any.{algorithm_of, known_by}
@@ -8,6 +8,7 @@ use Rattle.fetch_conversation.specs.Conversing.{course_of, terms_told}
 use Rattle.fetch_conversation.specs.Blame.{BlamesInterrupt}
 use Rattle.fetch_conversation.specs.ListStage.{IsReady, shown, pending_of}
 use Rattle.fetch_conversation.specs.Rounds.{first_course}
+use Rattle.fetch_conversation.proofs.Ending.{IsCourse}
 use Rattle.fetch_conversation.proofs.Held.{Goes}
 use Rattle.fetch_conversation.proofs.rounds.negotiate.Given as goal
 
@@ -15,6 +16,8 @@ abbrev pub invariant-loop : goal.invariant-loop
 invariant-loop g l = record {
   goes : Goes l.fn.listed.session.intake.bound (terms_told (shown l.fn.listed) l.terms) (g.O.Objects.graph l.objects) (algorithm_in l.terms.settings.now) g.P.Peer.answers (g.P.Peer.told l.fn.peer) (g.P.Peer.told l.peer) (pending_of l.fn.listed) (pending_of l.listed)
       (suc (map.len (g.O.Objects.graph l.objects))) (first_course (algorithm_in l.terms.settings.now) l.terms.view.now) (course_of l.course) l.counter;
+  course : IsCourse l.fn.listed.session.intake.bound (terms_told (shown l.fn.listed) l.terms) (g.O.Objects.graph l.objects) (algorithm_in l.terms.settings.now) l.terms.view.now (course_of l.course);
+  held : length (course_of l.course).rounds ≡ l.counter;
   ready : IsReady l.listed;
   bound : l.listed.session.intake.bound ≡ l.fn.listed.session.intake.bound;
   kept : shown l.listed ≡ shown l.fn.listed;

@@ -6,7 +6,7 @@ pub returns-in-Ok-More-clause-read : goal.returns-in-Ok-More-clause-read
 returns-in-Ok-More-clause-read c =
     let given = sym (rw c.in-Ok-More.field-0-is at c.in-Ok-More.ensures.given) in
     let i = c.lines.invariant in
-    let same = c.next.follows.holds-at-none ∙ on.nothing_left c.lines.lines given in
+    let same = c.next_line.follows.holds-at-none ∙ on.nothing_left c.lines.lines given in
     rw same (record {
       bound = i.bound;
       room = i.room;
@@ -18,7 +18,7 @@ returns-in-Ok-More-clause-read c =
 pub returns-in-Err-clause-read : goal.returns-in-Err-clause-read
 returns-in-Err-clause-read c =
     let i = c.lines.invariant in
-    let behind = c.next.follows.holds-at-none in
+    let behind = c.next_line.follows.holds-at-none in
     rw (behind, c.fault.ensures) (record {
       bound = on.same_bound c.lines.lines ∙ i.bound;
       told = λ more. sym (i.told more) ∙ on.stopped c.lines.lines c.lines.reading c.in-Err.trouble (sym c.in-Err.ensures.given) more;
@@ -28,13 +28,13 @@ returns-in-Err-clause-read c =
 pub lines-smaller : goal.lines-smaller
 lines-smaller c =
     let given = sym (rw c.in-Ok-Line.field-0-is at c.in-Ok-Line.ensures.given) in
-    rw c.next.follows.holds-at-none (on.smaller c.lines.lines _ given)
+    rw c.next_line.follows.holds-at-none (on.smaller c.lines.lines _ given)
 
 pub lines-preserved : goal.lines-preserved
 lines-preserved c =
     let given = sym (rw c.in-Ok-Line.field-0-is at c.in-Ok-Line.ensures.given) in
     let i = c.lines.invariant in
-    let behind = c.next.follows.holds-at-none in
+    let behind = c.next_line.follows.holds-at-none in
     let step = rw c.in-On.is at c.in_ok-read-in-Ok-Line.ensures in
     rw behind (record {
       bound = on.same_bound c.lines.lines ∙ i.bound;
@@ -47,7 +47,7 @@ pub returns-in-Whole-clause-read : goal.returns-in-Whole-clause-read
 returns-in-Whole-clause-read c =
     let given = sym (rw c.in-Ok-Line.field-0-is at c.in-Ok-Line.ensures.given) in
     let i = c.lines.invariant in
-    let behind = c.next.follows.holds-at-none in
+    let behind = c.next_line.follows.holds-at-none in
     let step = rw c.in-Whole.is at c.in_ok-read-in-Ok-Line.ensures in
     rw behind (record { bound = on.same_bound c.lines.lines ∙ i.bound; told = λ more. sym (i.told more) ∙ on.whole c.lines.lines c.lines.reading c.in-Whole.told _ given (sym step) more })
 
@@ -55,7 +55,7 @@ pub returns-in-Broken-clause-read : goal.returns-in-Broken-clause-read
 returns-in-Broken-clause-read c =
     let given = sym (rw c.in-Ok-Line.field-0-is at c.in-Ok-Line.ensures.given) in
     let i = c.lines.invariant in
-    let behind = c.next.follows.holds-at-none in
+    let behind = c.next_line.follows.holds-at-none in
     let step = rw c.in-Broken.is at c.in_ok-read-in-Ok-Line.ensures in
     rw (behind, c.place-place.ensures.place) (record { bound = on.same_bound c.lines.lines ∙ i.bound; told = λ more. sym (i.told more) ∙ on.broken c.lines.lines c.lines.reading _ given (sym step) more; lasting = refl })
 
@@ -63,6 +63,22 @@ pub returns-in-Said-clause-read : goal.returns-in-Said-clause-read
 returns-in-Said-clause-read c =
     let given = sym (rw c.in-Ok-Line.field-0-is at c.in-Ok-Line.ensures.given) in
     let i = c.lines.invariant in
-    let behind = c.next.follows.holds-at-none in
+    let behind = c.next_line.follows.holds-at-none in
     let step = rw c.in-Said.is at c.in_ok-read-in-Ok-Line.ensures in
     rw behind (record { bound = on.same_bound c.lines.lines ∙ i.bound; told = λ more. sym (i.told more) ∙ on.said c.lines.lines c.lines.reading c.in-Said.text _ given (sym step) more; lasting = refl })
+
+pub returns-in-BrokenBehind-clause-read : goal.returns-in-BrokenBehind-clause-read
+returns-in-BrokenBehind-clause-read c =
+    let given = sym (rw c.in-Ok-Line.field-0-is at c.in-Ok-Line.ensures.given) in
+    let i = c.lines.invariant in
+    let behind = c.next_line.follows.holds-at-none in
+    let step = rw c.in-BrokenBehind.is at c.in_ok-read-in-Ok-Line.ensures in
+    rw (behind, c.place-place.ensures.place) (record { bound = on.same_bound c.lines.lines ∙ i.bound; told = λ more. sym (i.told more) ∙ on.broken c.lines.lines c.lines.reading _ given (sym step) more; lasting = refl })
+
+pub returns-in-SaidBehind-clause-read : goal.returns-in-SaidBehind-clause-read
+returns-in-SaidBehind-clause-read c =
+    let given = sym (rw c.in-Ok-Line.field-0-is at c.in-Ok-Line.ensures.given) in
+    let i = c.lines.invariant in
+    let behind = c.next_line.follows.holds-at-none in
+    let step = rw c.in-SaidBehind.is at c.in_ok-read-in-Ok-Line.ensures in
+    rw behind (record { bound = on.same_bound c.lines.lines ∙ i.bound; told = λ more. sym (i.told more) ∙ on.said c.lines.lines c.lines.reading c.in-SaidBehind.text _ given (sym step) more; lasting = refl })

@@ -1,38 +1,40 @@
 //! One reply, read while its bytes come in pieces.
 
+ghost use Rattle.std.specs.Prelude.{◌≡◌};
+ghost use Rattle.fetch_wire.specs.ReplyReadings.{first_found};
+
 use crate::error::WireError;
-use crate::lines::reader::LineReader;
 use crate::replies::awaited::{Await, Fault, Told};
 use crate::replies::bound::ReplyBound;
-use crate::replies::progress::{Progress, go_on};
-use crate::replies::reading::Reading;
+use crate::session::intake::{Found, Intake};
 use fetch_store::{NoMemory, TryClone};
 use std::alloc::Global;
 use std::marker::Model;
+use std::mem;
 
 /// A reader of one reply, whose bytes are fed in pieces. It reads as soon as a line is whole. Contracts see what all
 /// that was fed tells, with any bytes after it.
 pub struct ReplyReader {
-    lines: LineReader,
-    progress: Option<Progress>,
+    intake: Intake,
+    found: Found,
 }
 
 impl Model for ReplyReader {
     ghost use Rattle.std.specs.Prelude.{◌≡◌, true};
-    ghost use Rattle.fetch_wire.specs.Progressing.{ReplyReading, are_read};
+    ghost use Rattle.fetch_wire.specs.ReplyReadings.{ReplyReading, is_kept};
 
     ghost Value = { ReplyReading };
 
-    ghost view = { λ r. record { bound = r.lines.bound; place = r.lines.place; pending = r.lines.pending; progress = r.progress } };
+    ghost view = { λ r. record { intake = r.intake; found = r.found } };
 
-    ghost invariant = { λ r. are_read r.lines.bound r.lines.place r.lines.pending r.progress ≡ true };
+    ghost invariant = { λ r. is_kept r.intake r.found ≡ true };
 }
 
 impl ReplyReader {
     ghost use Rattle.std.specs.Prelude.{◌≡◌, ◌++◌, [], List, ℕ, Some, None, Ok, Err, IfOk, OnOk, OnErr, IfErr, IsErr};
     ghost use Rattle.std.specs.Option.{option_copied};
     ghost use Rattle.fetch_wire.specs.Awaited.{told_at};
-    ghost use Rattle.fetch_wire.specs.Progressing.{tells, whole_in, refusal_in};
+    ghost use Rattle.fetch_wire.specs.ReplyReadings.{tells, is_lost, whole_in, refusal_in};
     ghost use Rattle.fetch_wire.specs.declared.replies.awaited.Fault.TheVariants as faults;
     ghost use Rattle.fetch_wire.specs.declared.replies.awaited.Told.{Told};
     ghost use Rattle.fetch_wire.specs.declared.error.WireError.TheVariants as errors;
@@ -42,8 +44,8 @@ impl ReplyReader {
         ensures { (more : List ℕ) → tells result more ≡ Some (told_at bound awaited more) }
     {
         ReplyReader {
-            lines: LineReader::new(alloc, bound),
-            progress: Some(Progress::On(Reading::start(alloc, awaited))),
+            intake: Intake::new(alloc, bound, awaited),
+            found: Found::Nothing,
         }
     }
 
@@ -52,9 +54,19 @@ impl ReplyReader {
         ensures { IfOk result (λ copy. copy ≡ self.now) }
     {
         Ok(ReplyReader {
-            lines: self.lines.try_clone()?,
-            progress: self.progress.try_clone()?,
+            intake: self.intake.try_clone()?,
+            found: self.found.try_clone()?,
         })
+    }
+
+    /// Whether nothing is known of the reply, since memory ran out.
+    fn is_lost(&self) -> bool
+        ensures { result ≡ is_lost self.now }
+    {
+        match &self.found {
+            Found::Nothing => !self.intake.is_awaiting(),
+            Found::Told(_) | Found::Fault(_) => false,
+        }
     }
 
     /// Takes the next bytes, and reads on as far as lines are whole. Out of memory is the only error: nothing is known
@@ -65,12 +77,12 @@ impl ReplyReader {
         ensures again { tells self.old [] ≡ None → IsErr result }
         ensures memory { IfErr result (λ e. e ≡ errors.NoMemory) }
     {
-        let Some(progress) = self.progress.take() else {
+        if self.is_lost() {
             return Err(WireError::NoMemory);
-        };
-        let alloc = self.lines.allocator();
-        self.lines.feed(piece)?;
-        self.progress = Some(go_on(alloc, &mut self.lines, progress)?);
+        }
+        let before = mem::replace(&mut self.found, Found::Nothing);
+        let found = self.intake.feed(piece)?;
+        self.found = first_found(before, found);
         Ok(())
     }
 
@@ -78,9 +90,9 @@ impl ReplyReader {
     pub fn told(&self) -> Option<&Told>
         ensures { option_copied result ≡ whole_in (tells self.now []) }
     {
-        match &self.progress {
-            Some(Progress::Whole(told)) => Some(told),
-            Some(Progress::On(_)) | Some(Progress::Refused(_)) | None => None,
+        match &self.found {
+            Found::Told(told) => Some(told),
+            Found::Nothing | Found::Fault(_) => None,
         }
     }
 
@@ -88,9 +100,9 @@ impl ReplyReader {
     pub fn refusal(&self) -> Option<&Fault>
         ensures { option_copied result ≡ refusal_in (tells self.now []) }
     {
-        match &self.progress {
-            Some(Progress::Refused(fault)) => Some(fault),
-            Some(Progress::On(_)) | Some(Progress::Whole(_)) | None => None,
+        match &self.found {
+            Found::Fault(fault) => Some(fault),
+            Found::Nothing | Found::Told(_) => None,
         }
     }
 
@@ -98,22 +110,33 @@ impl ReplyReader {
     pub fn place(&self) -> usize
         ensures { (place : ℕ) → tells self.now [] ≡ Some (Err (faults.Short place)) → result ≡ place }
     {
-        self.lines.place()
+        self.intake.place()
     }
 
     /// The bytes after the reply, once it is whole. They belong to the next one.
     pub fn rest(&self) -> &[u8]
         ensures { (told : Told) (rest : List ℕ) → tells self.now [] ≡ Some (Ok (told, rest)) → result.now ≡ rest }
     {
-        self.lines.pending()
+        self.intake.pending()
+    }
+}
+
+/// What was found first.
+fn first_found(before: Found, now: Found) -> Found
+    ensures { result ≡ first_found before now }
+{
+    match before {
+        Found::Nothing => now,
+        Found::Told(told) => Found::Told(told),
+        Found::Fault(fault) => Found::Fault(fault),
     }
 }
 
 impl Drop for ReplyReader {
     fn drop(self) {
         let ReplyReader {
-            lines: _,
-            progress: _,
+            intake: _,
+            found: _,
         } = self;
     }
 }
