@@ -5,7 +5,6 @@ ghost use Rattle.std.specs.Prelude.{◌≡◌, IfOk};
 use crate::direction::Direction;
 use fetch_specs::SpecError;
 use fetch_store::{NoMemory, Text};
-use std::alloc::{AllocError, AllocFailed};
 use thiserror::Error as ThisError;
 
 /// Why what a configuration says of a remote can't be read.
@@ -74,28 +73,6 @@ impl From<NoMemory> for Error {
     ghost from_gives = { λ _ e. e ≡ errors.NoMemory };
 
     fn from(_e: NoMemory) -> Error {
-        Error::NoMemory
-    }
-}
-
-impl From<AllocError> for Error {
-    ghost use Rattle.std.specs.Prelude.{◌≡◌};
-    ghost use Rattle.fetch_lookup.specs.declared.find.Error.TheVariants as errors;
-
-    ghost from_gives = { λ _ e. e ≡ errors.NoMemory };
-
-    fn from(_e: AllocError) -> Error {
-        Error::NoMemory
-    }
-}
-
-impl<T: Drop> From<AllocFailed<T>> for Error {
-    ghost use Rattle.std.specs.Prelude.{◌≡◌};
-    ghost use Rattle.fetch_lookup.specs.declared.find.Error.TheVariants as errors;
-
-    ghost from_gives = { λ _ e. e ≡ errors.NoMemory };
-
-    fn from(_e: AllocFailed<T>) -> Error {
         Error::NoMemory
     }
 }

@@ -1,6 +1,6 @@
 //! Remotes whose refspecs lead to a tracking branch.
 
-ghost use Rattle.std.specs.Prelude.{◌≡◌, ◌++◌, IfOk, OnOk};
+ghost use Rattle.std.specs.Prelude.{◌≡◌, ◌++◌, ◌∷◌, [], IfOk, OnOk};
 ghost use Rattle.std.specs.List.{flat_map};
 ghost use Rattle.fetch_store.specs.Answers.{AnswersBy, AnswersUnless};
 ghost use Rattle.fetch_lookup.specs.Names.{remote_names_of};
@@ -60,9 +60,16 @@ fn each_leading(
 {
     let mut found = Vec::new(alloc);
     for name in names {
-        found.push(leads_from(alloc, file, tracking, name)?)?;
+        add(&mut found, leads_from(alloc, file, tracking, name)?)?;
     }
     Ok(found)
+}
+
+fn add(found: &mut Vec<Leading>, leading: Leading) -> Result<(), NoMemory>
+    ensures { OnOk result (found.new.items ≡ found.old.items ++ leading ∷ []) }
+{
+    found.push(leading)?;
+    Ok(())
 }
 
 #[tactic(auto, unfolding(crate::specs::Upstreams::leading_in))]

@@ -4,7 +4,6 @@ ghost use Rattle.std.specs.Prelude.{◌≡◌, IfOk};
 
 use crate::name::Error as NameError;
 use fetch_store::{NoMemory, Text};
-use std::alloc::{AllocError, AllocFailed};
 use thiserror::Error as ThisError;
 
 /// Why a remote isn't saved.
@@ -50,28 +49,6 @@ impl From<NoMemory> for Error {
     ghost from_gives = { λ _ e. e ≡ errors.NoMemory };
 
     fn from(_e: NoMemory) -> Error {
-        Error::NoMemory
-    }
-}
-
-impl From<AllocError> for Error {
-    ghost use Rattle.std.specs.Prelude.{◌≡◌};
-    ghost use Rattle.fetch_lookup.specs.declared.save.Error.TheVariants as errors;
-
-    ghost from_gives = { λ _ e. e ≡ errors.NoMemory };
-
-    fn from(_e: AllocError) -> Error {
-        Error::NoMemory
-    }
-}
-
-impl<T: Drop> From<AllocFailed<T>> for Error {
-    ghost use Rattle.std.specs.Prelude.{◌≡◌};
-    ghost use Rattle.fetch_lookup.specs.declared.save.Error.TheVariants as errors;
-
-    ghost from_gives = { λ _ e. e ≡ errors.NoMemory };
-
-    fn from(_e: AllocFailed<T>) -> Error {
         Error::NoMemory
     }
 }

@@ -5,7 +5,6 @@ ghost use Rattle.std.specs.Prelude.{◌≡◌, IfOk};
 use crate::find;
 use fetch_specs::FullName;
 use fetch_store::{List, NoMemory, Text};
-use std::alloc::AllocFailed;
 use thiserror::Error as ThisError;
 
 /// Why it isn't told which branch a tracking branch follows.
@@ -65,17 +64,6 @@ impl From<NoMemory> for Error {
     ghost from_gives = { λ _ e. e ≡ errors.NoMemory };
 
     fn from(_e: NoMemory) -> Error {
-        Error::NoMemory
-    }
-}
-
-impl<T: Drop> From<AllocFailed<T>> for Error {
-    ghost use Rattle.std.specs.Prelude.{◌≡◌};
-    ghost use Rattle.fetch_lookup.specs.declared.upstream.Error.TheVariants as errors;
-
-    ghost from_gives = { λ _ e. e ≡ errors.NoMemory };
-
-    fn from(_e: AllocFailed<T>) -> Error {
         Error::NoMemory
     }
 }

@@ -6,7 +6,6 @@ use crate::mode::{Mode, TypeChange};
 use fetch_refs::{RefEdit, RefError};
 use fetch_specs::FullName;
 use fetch_store::{List, NoMemory, ObjectId, Text};
-use std::alloc::{AllocError, AllocFailed};
 use thiserror::Error as ErrorMacro;
 
 /// What becomes of one mapping.
@@ -106,28 +105,6 @@ impl From<NoMemory> for Error {
     ghost from_gives = { λ _ e. e ≡ errors.NoMemory };
 
     fn from(_e: NoMemory) -> Error {
-        Error::NoMemory
-    }
-}
-
-impl From<AllocError> for Error {
-    ghost use Rattle.std.specs.Prelude.{◌≡◌};
-    ghost use Rattle.fetch_update.specs.declared.update.Error.TheVariants as errors;
-
-    ghost from_gives = { λ _ e. e ≡ errors.NoMemory };
-
-    fn from(_e: AllocError) -> Error {
-        Error::NoMemory
-    }
-}
-
-impl<T: Drop> From<AllocFailed<T>> for Error {
-    ghost use Rattle.std.specs.Prelude.{◌≡◌};
-    ghost use Rattle.fetch_update.specs.declared.update.Error.TheVariants as errors;
-
-    ghost from_gives = { λ _ e. e ≡ errors.NoMemory };
-
-    fn from(_e: AllocFailed<T>) -> Error {
         Error::NoMemory
     }
 }

@@ -10,7 +10,7 @@ use crate::judging::judge_mapping;
 use crate::update::Error;
 use crate::verdict::Verdict;
 use fetch_specs::RefSpec;
-use fetch_store::Objects;
+use fetch_store::{NoMemory, Objects};
 use fetch_wire::Mapping;
 
 /// The verdicts of the mappings, each beside its index, or the first refusal. A mapping whose
@@ -29,7 +29,7 @@ pub(crate) fn verdicts<O: Objects>(
     'mappings: for (index, mapping) in mappings.iter().enumerate() {
         if let Some(refspec) = mapping.spec_index.get(refspecs, extra_refspecs) {
             let verdict = judge_mapping(judge, objects, refspec, mapping)?;
-            verdicts.push((index, verdict))?;
+            verdicts.push((index, verdict)).map_err(NoMemory::from)?;
         }
     }
     Ok(verdicts)

@@ -16,7 +16,7 @@ returns-in_err-leads_from c =
 pub loop-name-preserved : goal.loop-name-preserved
 loop-name-preserved c =
     let f = leading_in c.args.file.now.sections c.args.tracking.now in
-    gather-step f c.args.names.now c.loop-name.name-index c.name-item.result c.loop-name.found.items c.push.new.self.items c.in_ok-leads_from.field-0 (all_of f c.args.names.now) c.loop-name-test.true c.name-item.is c.in_ok-leads_from.ensures c.in_ok-push.ensures.items c.loop-name.invariant
+    gather-step f c.args.names.now c.loop-name.name-index c.name-item.result c.loop-name.found.items c.add.new.found.items c.in_ok-leads_from.field-0 (all_of f c.args.names.now) c.loop-name-test.true c.name-item.is c.in_ok-leads_from.ensures c.in_ok-add.ensures c.loop-name.invariant
 
 pub returns : goal.returns
 returns c =
