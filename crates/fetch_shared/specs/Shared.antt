@@ -1,6 +1,7 @@
 -- What a shared repository shows: what it opened as, what it is now, and its journal.
-use Rattle.std.specs.Prelude.{◌≡◌, Bool, true, false, List, [], length}
-use Rattle.fetch_store.specs.Graph.{graph_of}
+use Rattle.std.specs.Prelude.{◌≡◌, Bool, true, false, List, [], Option, IfSome, length}
+use Rattle.fetch_store.specs.Graph.{Graph, graph_of}
+use Rattle.fetch_store.specs.Stores.{ObjectMap}
 use Rattle.fetch_remote.specs.RepositoryValues.{RepositoryValue}
 use Rattle.fetch_shared.specs.declared.entry.Entry.{Entry}
 use Rattle.fetch_shared.specs.declared.error.SharedError.{SharedError}
@@ -62,6 +63,10 @@ pub record IsKept (v : SharedValue) : Type 0 where
   pub sound : IsSound v.repository
   pub state : IsStateOf v.opening v.journal v.repository
   pub met : AllMet (outline v.opening) v.journal
+
+-- a graph that is kept is that of these objects
+abbrev pub IsGraphOf : ObjectMap → Option Graph → Type 0
+IsGraphOf objects kept = IfSome kept (λ graph. graph ≡ graph_of objects)
 
 -- out of memory
 abbrev pub is_memory : SharedError → Bool

@@ -7,6 +7,7 @@ mod editing;
 mod entry;
 mod error;
 mod fetching;
+mod kept_graph;
 pub mod laws;
 mod pass;
 mod plan;

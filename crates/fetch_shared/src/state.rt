@@ -2,44 +2,46 @@
 
 ghost use Rattle.std.specs.Prelude.{◌≡◌, IfOk, IfErr, IsOk, OnOk, OnErr, MatchOption, Err, length, slice_get};
 ghost use Rattle.fetch_store.specs.Answers.{RefusesUnless};
-ghost use Rattle.fetch_store.specs.Graph as spec;
 ghost use Rattle.fetch_store.specs.Missing.{unclosed};
 ghost use Rattle.fetch_store.specs.Stores.{AreOf};
 ghost use Rattle.fetch_pack.specs.Once.{AreNamed};
 ghost use Rattle.fetch_shared.specs.Machine.{held, refusal};
 ghost use Rattle.fetch_shared.specs.Machine.Event.{Take, Commit, Delete};
-ghost use Rattle.fetch_shared.specs.Shared.{is_memory, IsKept, done, opened, plan_of, snapshot_of, state_of};
+ghost use Rattle.fetch_shared.specs.Shared.{is_memory, IsGraphOf, IsKept, done, opened, plan_of, snapshot_of, state_of};
 ghost use Rattle.fetch_shared.specs.declared.error.SharedError.TheVariants as errors;
 
 use crate::editing::{delete, edit};
 use crate::entry::Entry;
 use crate::error::SharedError;
+use crate::kept_graph::{extended, graph_copy, graph_of};
 use crate::plan::{Plan, Taken};
-use crate::taking::{add, entry_of, graph_with, judge, merged};
+use crate::taking::{add, entry_of, judge, merged};
 use fetch_conversation::Settings;
 use fetch_negotiate::{Shallow, tips, wants};
 use fetch_refs::{RefEdit, Signature};
 use fetch_remote::Repository;
 use fetch_specs::{FullName, Tags};
-use fetch_store::{Border, Graph, List, NoMemory, Object, ObjectId, Store, first_missing};
+use fetch_store::{Border, Graph, List, NoMemory, Object, ObjectId, first_missing};
 use fetch_wire::RefMap;
 use opening_value::Opening;
 use std::alloc::Global;
 use std::marker::Model;
 
 /// A repository that several use, and the journal of what became of it. It is closed, and what the journal leaves of the
-/// repository that it opened as.
+/// repository that it opened as. The graph of what is stored is kept from the first call on that asks for it, and a take
+/// extends it, so that no call reads the objects anew.
 // Not copied: it stands behind one lock; its repository can be copied.
 #[derive(Drop)]
 pub struct SharedState {
     opening: Opening<Repository>,
     repo: Repository,
+    graph: Option<Graph>,
     entries: Vec<Entry>,
 }
 
 impl Model for SharedState {
     ghost use Rattle.fetch_shared.specs.Codes.{coded_shared};
-    ghost use Rattle.fetch_shared.specs.Shared.{IsKept, SharedValue};
+    ghost use Rattle.fetch_shared.specs.Shared.{IsGraphOf, IsKept, SharedValue};
 
     ghost Value = { SharedValue };
 
@@ -47,7 +49,8 @@ impl Model for SharedState {
 
     ghost view = { λ s. record { opening = s.opening.value; repository = s.repo; journal = s.entries.items } };
 
-    ghost invariant = { λ s. IsKept (record { opening = s.opening.value; repository = s.repo; journal = s.entries.items }) };
+    ghost invariant = { λ s. IsKept (record { opening = s.opening.value; repository = s.repo; journal = s.entries.items })
+        × IsGraphOf s.repo.state.objects s.graph };
 }
 
 impl SharedState {
@@ -64,6 +67,7 @@ impl SharedState {
         Ok(SharedState {
             opening: Opening::of(&repo),
             repo,
+            graph: None,
             entries: Vec::new(alloc),
         })
     }
@@ -81,7 +85,7 @@ impl SharedState {
         ensures memory { IfErr result (λ e. e ≡ errors.NoMemory) }
         ensures unchanged { self.new ≡ self.old }
     {
-        let graph = graph_of(alloc, self.repo.store())?;
+        let graph = graph_copy(alloc, &mut self.graph, self.repo.store())?;
         let wants = wants(alloc, map, tags, shallow, &graph)?;
         let tips = tips(alloc, self.repo.refs(), &graph)?;
         let border = self.repo.border().try_clone()?;
@@ -127,15 +131,18 @@ impl SharedState {
         judge(alloc, self.repo.store(), self.repo.border(), &take)?;
         let entry = entry_of(alloc, pass, &take)?;
         let border = merged(alloc, self.repo.border(), shallow, unshallow)?;
-        let graph = graph_with(alloc, self.repo.store(), objects.as_slice())?;
+        let kept = self.graph.take();
+        let graph = extended(alloc, kept, self.repo.store(), objects.as_slice())?;
+        let copy = graph.try_clone(alloc)?;
         let refs = self.repo.refs().try_clone()?;
         self.entries.reserve(1)?;
         add(&mut self.repo, objects, border)?;
+        self.graph = Some(graph);
         self.entries.push_reserved(entry);
         Ok(Taken {
             place: self.entries.len() as u64,
             refs,
-            graph,
+            graph: copy,
         })
     }
 
@@ -193,7 +200,10 @@ impl SharedState {
         ensures memory { IfErr result (λ e. e ≡ errors.NoMemory) }
     {
         let refs = self.repo.refs().try_clone()?;
-        let graph = graph_of(alloc, self.repo.store())?;
+        let graph = match &self.graph {
+            Some(graph) => graph.try_clone(alloc)?,
+            None => graph_of(alloc, self.repo.store())?,
+        };
         Ok(Taken {
             place: self.entries.len() as u64,
             refs,
@@ -217,6 +227,7 @@ impl SharedState {
         let SharedState {
             opening: _,
             repo,
+            graph: _,
             entries,
         } = self;
         (repo, entries)
@@ -228,15 +239,6 @@ impl SharedState {
         ensures kept { IsKept self.now }
     {
         self.entries.as_slice()
-    }
-}
-
-fn graph_of(alloc: Global, store: &Store) -> Result<Graph, NoMemory>
-    ensures { IfOk result (λ graph. graph ≡ spec.graph_of store.now.objects) }
-{
-    match Graph::of(alloc, store) {
-        Ok(graph) => Ok(graph),
-        Err(_) => Err(NoMemory),
     }
 }
 

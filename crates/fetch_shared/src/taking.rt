@@ -4,9 +4,8 @@ ghost use Rattle.std.specs.Prelude.{◌≡◌, IfOk, None, OnErr, OnOk, map};
 ghost use Rattle.fetch_store.specs.Answers.{RefusesUnless};
 ghost use Rattle.fetch_store.specs.Borders as borders;
 ghost use Rattle.fetch_store.specs.Closed.{holding};
-ghost use Rattle.fetch_store.specs.Graph.{graph_of};
 ghost use Rattle.fetch_store.specs.References.{pack_of};
-ghost use Rattle.fetch_store.specs.Stores.{AreOf, add_all, collision};
+ghost use Rattle.fetch_store.specs.Stores.{AreOf, collision};
 ghost use Rattle.fetch_remote.specs.Repositories.{with_pack};
 ghost use Rattle.fetch_shared.specs.Machine.{take_refusal};
 ghost use Rattle.fetch_shared.specs.Shared.{is_memory};
@@ -16,7 +15,7 @@ use crate::entry::Entry;
 use crate::error::SharedError;
 use fetch_remote::Repository;
 use fetch_store::{
-    Border, Graph, List, NoMemory, Object, ObjectId, Store, StoreError, Take, first_missing_of_take,
+    Border, List, NoMemory, Object, ObjectId, Store, StoreError, Take, first_missing_of_take,
 };
 use std::alloc::Global;
 
@@ -96,22 +95,6 @@ pub(crate) fn add(
 {
     match repo.take_reserved(objects, border) {
         Ok(()) => Ok(()),
-        Err(_) => Err(NoMemory),
-    }
-}
-
-/// The graph after a take.
-pub(crate) fn graph_with(
-    alloc: Global,
-    store: &Store,
-    objects: &[(ObjectId, Object)],
-) -> Result<Graph, NoMemory>
-    requires of_hash { AreOf store.now.hash objects.now }
-    requires no_collision { collision store.now.objects objects.now ≡ None }
-    ensures { IfOk result (λ graph. graph ≡ graph_of (add_all store.now.objects objects.now)) }
-{
-    match Graph::of_added(alloc, store, objects) {
-        Ok(graph) => Ok(graph),
         Err(_) => Err(NoMemory),
     }
 }
