@@ -50,7 +50,7 @@ done g trees before after files outcome a b stream told h =
     let same = same_talk a _ told in
     let all = whole a b _ h.said stream same h.heard.passed in
     record {
-      fetched = rw (all, ← h.listed_trees) (h.whole b.to_come);
+      fetched = rw (all, ← h.carried.listed_trees) (h.whole b.to_come);
       requests = heard_is a b _ h.said stream same h.heard.passed ∙ rw all (sym (h.heard.same_requests b.to_come));
     }
 
@@ -68,7 +68,7 @@ refused_by g trees before after files e b said heard stream all is (inr last) =
 refused_for : (g : Given) (trees : List Worktree) (before after : State) (files : Tree) (e : FetchError) (a b : Talk) (stream : List ℕ) → a ≡ record { heard = []; given = []; to_come = stream; receives = []; rule = None }
     → is_free e ≡ false → IsRefused false (Some a) (Some b) (Some trees) (Some map.empty) (Some files) g before after e → HasRefused g trees before stream e after files b.heard
 refused_for g trees before after files e a b stream same sure h =
-    refused_by g trees before after files e b h.said h.heard stream (whole a b _ h.said stream same h.passed) (heard_is a b _ h.said stream same h.passed) (rw h.listed_trees at (h.why sure))
+    refused_by g trees before after files e b h.said h.heard stream (whole a b _ h.said stream same h.exchanged.passed) (heard_is a b _ h.said stream same h.exchanged.passed) (rw h.listed_trees at (h.why sure))
 
 -- No fault of the peer or of the worktrees is told, and no yes of the interrupt. A keep file that couldn't be made has
 -- something in its way, and none couldn't be removed.

@@ -6,5 +6,6 @@ pub mod Reported
 pub mod Summed
 pub mod Checked
 pub mod Answering
+pub mod Ended
 pub mod Sent
 pub mod Requested

@@ -1,8 +1,10 @@
 -- What the program writes, and its status.
-use Rattle.std.specs.Prelude.{◌≡◌, ◌⊎◌, ℕ, Bool, true, false, List, Option, Some, Result, Ok, Err}
+use Rattle.std.specs.Prelude.{◌≡◌, ◌≢◌, ◌≤◌, ◌⊎◌, ℕ, Bool, true, false, List, Option, Some, Result, Ok, Err}
 use Rattle.std.specs.Io.KnownBytes.{Appends}
 use Rattle.fetch_remote.specs.Valid.{IsValidInput}
+use Rattle.fetch_store.specs.Faults.{Faults, Rose, Counts}
 use Rattle.fetch_check.specs.declared.findings.Findings.{Findings}
+use Rattle.fetch_check.specs.Telling.{findings_status, findings_text}
 use Rattle.fetch_scene.specs.declared.scene.Scene.{Scene}
 use Rattle.fetch_cli.specs.declared.program.running.Task.{Task}
 use Rattle.fetch_cli.specs.declared.program.running.Task.TheVariants as tasks
@@ -119,3 +121,28 @@ pub record WritesSummary (count : ℕ) (old new : Option (List ℕ)) (status : �
 -- the status of that summary, whatever the source says
 abbrev pub bench_status : ℕ → ℕ
 bench_status count = (summary_of count (generated_scene count)).0
+
+-- An end that is lent, whose failure is told by this status alone: its count rose in a call that answers so, and in no other.
+pub record BlamesEnd (old new : Faults) (failed status : ℕ) : Type 0 where
+  pub counts : Counts old new
+  pub rose : status ≡ failed → Rose old new
+  pub quiet : status ≢ failed → new.count ≡ old.count
+
+-- What is written, by the status: the whole answer of that status, a front of some answer, or nothing.
+pub record WritesBy (whole : ℕ → Type 0) (front nothing : Type 0) (status : ℕ) : Type 0 where
+  pub done : status ≡ 0 → whole 0
+  pub refused : status ≡ 1 → whole 1
+  pub unread : status ≡ 2 → nothing
+  pub failed : status ≡ 3 → front
+  pub malformed : status ≡ 4 → whole 4
+  pub memory : status ≡ 5 → nothing ⊎ front
+
+-- A bench writes the summary of its scene, with its status.
+pub record IsBenched (count : ℕ) (old new : Option (List ℕ)) (status : ℕ) : Type 0 where
+  pub summary : status ≤ 1 → WritesSummary count old new status
+  pub exact : IsUnlessFailed status (bench_status count)
+
+-- A check writes all that is found, with the status for that.
+pub record IsCheckOf (findings : Findings) (old new : Option (List ℕ)) (status : ℕ) : Type 0 where
+  pub text : status ≤ 1 → Appends old new (findings_text findings)
+  pub exact : IsUnlessFailed status (findings_status findings)

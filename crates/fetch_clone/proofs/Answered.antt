@@ -1,35 +1,29 @@
 -- What each step of a clone's fetch makes of the calls before it.
-use Rattle.std.proofs.Common.{◌≡◌, ℕ, Bool, true, false, List, [], ◌∷◌, Option, Some, None, Result, Ok, Err, IsErrAnd, refl, sym, ap, subst, ◌∙◌, inl, inr}
+use Rattle.std.proofs.Common.{◌≡◌, ℕ, Bool, true, false, List, [], ◌∷◌, Option, Some, None, Result, Ok, Err, refl, inl, inr}
 use Rattle.std.specs.Bool.{OnFalse}
 use Rattle.std.specs.Prelude.{IfErr, IfOk, OnOk}
 use Rattle.fetch_store.specs.Faults.{Faults, Rose}
 use Rattle.fetch_store.specs.Trees.{Tree}
 use Rattle.fetch_lookup.specs.declared.direction.Direction.TheVariants.{Fetch}
-use Rattle.fetch_update.specs.declared.update.Error.TheVariants as update
 use Rattle.fetch_update.specs.declared.worktrees.Worktree.{Worktree}
 use Rattle.fetch_wire.specs.Talks.{Talk}
 use Rattle.fetch_wire.specs.declared.listings.mapping.RefMap.{RefMap}
-use Rattle.fetch_conversation.specs.declared.fetch.Error.{Error as ReceiveError}
-use Rattle.fetch_conversation.specs.declared.fetch.Error.TheVariants as fetch
-use Rattle.fetch_conversation.specs.declared.prepare.Error.{Error as PrepareError}
-use Rattle.fetch_conversation.specs.declared.prepare.Error.TheVariants as prepare
 use Rattle.fetch_conversation.specs.declared.ref_map.Error.{Error as MapError}
 use Rattle.fetch_conversation.specs.declared.ref_map.Error.TheVariants as ref_map
-use Rattle.fetch_remote.specs.Connecting.{IsMissing, Makes, MakesAtFirst, TakesBack, with_lost}
+use Rattle.fetch_remote.specs.Connecting.{IsMissing, Makes, MakesAtFirst, TakesBack}
 use Rattle.fetch_remote.specs.Remotes.{RemoteValue}
 use Rattle.fetch_remote.specs.RepositoryValues.{RepositoryValue}
 use Rattle.fetch_remote.specs.declared.connect.Error.{Error as ConnectError}
 use Rattle.fetch_remote.specs.declared.connect.Error.TheVariants as connect
 use Rattle.fetch_remote.specs.declared.fetching.outcome.Outcome.{Outcome}
 use Rattle.fetch_remote.specs.declared.fetching.prepared.Prepared.{Prepared}
-use Rattle.fetch_remote.specs.declared.repository.open_error.OpenError.TheVariants as opening
 use Rattle.fetch_clone.specs.Counted.{Meters, IsCounted}
 use Rattle.fetch_clone.specs.Heeded.{IsHeededOver}
 use Rattle.fetch_clone.specs.Heading.{IsToldAs}
 use Rattle.fetch_clone.specs.Meant.{is_memory, meant_in}
 use Rattle.fetch_clone.specs.Reached.{Ways, Line, IsTurnedAway, IsUnreached, connecting, line, turned_away}
 use Rattle.fetch_clone.specs.Received.{IsNotTaken, IsOfReceiving, IsReceived, IsTaken, IsUnmapped, IsUnreceived}
-use Rattle.fetch_clone.specs.Stages.{listing, preparing, receiving}
+use Rattle.fetch_clone.specs.Stages.{listing}
 use Rattle.fetch_clone.specs.declared.aim.Unaimed.TheVariants as unaimed
 use Rattle.fetch_clone.specs.declared.choices.Wanted.{Wanted}
 use Rattle.fetch_clone.specs.declared.choices.Wanted.TheVariants.{RefName}
@@ -40,8 +34,7 @@ use Rattle.fetch_clone.specs.declared.meant.Unmeant.{Unmeant}
 use Rattle.fetch_clone.specs.declared.prepare_fetch.ConfigureFault.{ConfigureFault}
 use Rattle.fetch_clone.specs.declared.prepare_fetch.ConfigureFault.TheVariants as faults
 use Rattle.fetch_clone.proofs.Headed.{forgotten, memory-told}
-use Rattle.fetch_clone.proofs.Returned.{lost_rose}
-use Rattle.fetch_clone.proofs.StepsCounted.{received-counted}
+use Rattle.fetch_clone.proofs.StepsCounted.{received-recounted}
 
 -- ---- peers
 
@@ -74,7 +67,7 @@ pub turned : {G P : Type 0} (w : Ways G P) (unmade : Type 0) (was is : Faults) (
 turned w unmade was is before after url made peer (faults.Refused text) next at refused given = record { made = made; next = next; at = at; peer = peer; refused = refused; given = given }
 turned w unmade was is before after url made peer faults.NoMemory next at refused given = inr (record { made = made; next = next; at = at; peer = peer; refused = refused; given = given })
 
--- ---- refusals that are told
+-- ---- a refusal that is told
 
 pub is-listing : (e cause : MapError) → listing e ≡ errors.RefMap cause → e ≡ cause
 is-listing (ref_map.Handshake x) cause h = cc
@@ -82,34 +75,6 @@ is-listing ref_map.Transport cause h = cc
 is-listing ref_map.Interrupted cause h = cc
 is-listing (ref_map.InitRefMap x) cause h = cc
 is-listing ref_map.NoMemory cause h = absurd cc
-
-pub is-preparing : (e cause : PrepareError) → preparing e ≡ errors.PrepareFetch cause → e ≡ cause
-is-preparing prepare.MissingRefSpecs cause h = cc
-is-preparing (prepare.RefMap x) cause h = cc
-is-preparing prepare.NoMemory cause h = absurd cc
-
-pub is-receiving : (e cause : ReceiveError) → receiving e ≡ errors.Fetch cause → e ≡ cause
-is-receiving (fetch.NoMapping x y) cause h = cc
-is-receiving (fetch.IncompatibleObjectHash x y) cause h = cc
-is-receiving (fetch.Disconnected x) cause h = cc
-is-receiving (fetch.RejectShallowRemoteConfig x) cause h = cc
-is-receiving (fetch.NegotiationAlgorithmConfig x) cause h = cc
-is-receiving (fetch.PackThreads x) cause h = cc
-is-receiving (fetch.Fetch x) cause h = cc
-is-receiving fetch.Client cause h = cc
-is-receiving fetch.Interrupted cause h = cc
-is-receiving (fetch.RejectShallowRemote x) cause h = cc
-is-receiving (fetch.Pack x) cause h = cc
-is-receiving (fetch.Collision x) cause h = cc
-is-receiving (fetch.KeepFile x) cause h = cc
-is-receiving (fetch.UpdateRefs x) cause h = cc
-is-receiving (fetch.RemovePackKeepFile x) cause h = cc
-is-receiving fetch.NoMemory cause h = absurd cc
-
--- the one error of a result
-pub same-error : {X E : Type 0} (r : Result X E) (e f : E) → IsErrAnd r (λ y. y ≡ e) → r ≡ Err f → e ≡ f
-same-error (Ok x) e f h is = absurd h
-same-error (Err y) e f h is = let k : y ≡ f = cc in sym h ∙ k
 
 -- ---- what is mapped
 
@@ -137,12 +102,8 @@ module _ {P : Type 0} (told : P → Option Talk) (answers : Bool) (before after 
   not-taken (Err e) refused = λ begun h. record { last = last; why = refused begun h; returned = returned }
 
 -- The refusals that have a count come only where it rose, once the peer is taken back.
-pub taken-counted : (was is : Meters) (wanted : Wanted) (map : RefMap) (peer peer_left : Faults) (r : Result Outcome Error) → IfErr r (IsOfReceiving wanted map) → is.lost ≡ with_lost peer_left was.lost → (r ≡ Err (errors.ReopenWithObjectHash opening.Io) → Rose was.files is.files)
-    → (r ≡ Err (errors.Fetch fetch.Client) → Rose peer peer_left) → (r ≡ Err (errors.Fetch fetch.Interrupted) → Rose was.yes is.yes) → ((path : List ℕ) → r ≡ Err (errors.Fetch (fetch.KeepFile path)) → Rose was.files is.files)
-    → ((path : List ℕ) → r ≡ Err (errors.Fetch (fetch.RemovePackKeepFile path)) → Rose was.files is.files)
-    → (r ≡ Err (errors.Fetch (fetch.UpdateRefs update.WorktreeListing)) → Rose was.trees.listing is.trees.listing) → (r ≡ Err (errors.Fetch (fetch.UpdateRefs update.OpenWorktreeRepo)) → Rose was.trees.open_repo is.trees.open_repo)
-    → (r ≡ Err (errors.Fetch (fetch.UpdateRefs update.FollowSymref)) → Rose was.trees.follow_symref is.trees.follow_symref) → IfErr r (IsCounted was is)
-taken-counted was is wanted map peer peer_left (Ok x) kind lost reopened client stopped keep removed listed opened followed = tt
-taken-counted was is wanted map peer peer_left (Err e) kind lost reopened client stopped keep removed listed opened followed =
-    received-counted was is wanted map e kind (λ h. reopened (ap (λ x. Err x) h)) (λ h. subst (Rose was.lost) (sym lost) (lost_rose peer peer_left was.lost (client (ap (λ x. Err x) h)))) (λ h. stopped (ap (λ x. Err x) h)) (λ path h. keep path (ap (λ x. Err x) h)) (λ path h. removed path (ap (λ x. Err x) h))
-    (λ h. listed (ap (λ x. Err x) h)) (λ h. opened (ap (λ x. Err x) h)) (λ h. followed (ap (λ x. Err x) h))
+pub taken-counted : (was is here left : Meters) (wanted : Wanted) (map : RefMap) (r : Result Outcome Error) → IfErr r (IsOfReceiving wanted map) → (Rose here.lost left.lost → Rose was.lost is.lost) → (Rose here.yes left.yes → Rose was.yes is.yes) → (Rose here.files left.files → Rose was.files is.files)
+    → (Rose here.trees.listing left.trees.listing → Rose was.trees.listing is.trees.listing) → (Rose here.trees.open_repo left.trees.open_repo → Rose was.trees.open_repo is.trees.open_repo) → (Rose here.trees.follow_symref left.trees.follow_symref → Rose was.trees.follow_symref is.trees.follow_symref)
+    → IfErr r (IsCounted here left) → IfErr r (IsCounted was is)
+taken-counted was is here left wanted map (Ok x) kind lost said files listed opened followed h = tt
+taken-counted was is here left wanted map (Err e) kind lost said files listed opened followed h = received-recounted was is here left wanted map e kind lost said files listed opened followed h

@@ -1,6 +1,6 @@
 -- Refusals that have a count, in a part of a call.
-use Rattle.std.proofs.Common.{◌≡◌, ◌≤◌, ℕ, Bool, true, List, Result, Ok, Err, refl, ap, arith}
-use Rattle.std.specs.Prelude.{OnOk, if◌then◌else◌}
+use Rattle.std.proofs.Common.{◌≡◌, ◌≤◌, ℕ, true, List, Result, Ok, Err, refl, arith}
+use Rattle.std.specs.Prelude.{OnOk}
 use Rattle.std.proofs.lemmas.Bool.{false≢true}
 use Rattle.fetch_store.specs.Faults.{Counts, Faults, Counts-none, Counts-then, Rose}
 use Rattle.fetch_update.specs.declared.update.Error.TheVariants as update
@@ -128,10 +128,6 @@ counted-within a b c d errors.NoMemory p q h = tt
 pub at-ok : {X E P : Type 0} (r : Result X E) → P → OnOk r P
 at-ok (Ok x) p = p
 at-ok (Err e) p = tt
-
--- a yes is one question more
-pub one-question : (X : Type 0) (e : PrepareError) → is_interrupted e ≡ true → last_question {T = X} is_interrupted (Err e) ≡ 1
-one-question X e is = ap (λ (b : Bool). if b then 1 else 0) is
 
 -- A conflict is no yes of the interrupt.
 pub conflict-quiet : (X : Type 0) (place : List ℕ) (e : PrepareError) → is_conflict_at place e ≡ true → last_question {T = X} is_interrupted (Err e) ≡ 0

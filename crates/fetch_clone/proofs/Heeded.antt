@@ -1,8 +1,9 @@
 -- The interrupt says no in one part of a clone after another.
-use Rattle.std.proofs.Common.{◌≡◌, ◌+◌, ℕ, Bool, Option, Result, subst, arith}
+use Rattle.std.proofs.Common.{◌≡◌, ◌+◌, ℕ, Option, subst, arith}
 use Rattle.std.proofs.lemmas.Bool.{cases_lt}
+use Rattle.fetch_store.specs.Faults.{Faults}
 use Rattle.fetch_wire.specs.Talks.{Talk}
-use Rattle.fetch_conversation.specs.Receiving.{last_question, IsHeeded}
+use Rattle.fetch_conversation.specs.Blame.{BlamesInterrupt}
 use Rattle.fetch_conversation.proofs.Heeded.{no_yes_by, received_then}
 use Rattle.fetch_clone.specs.Heeded.{SaysNo, IsHeededOver}
 
@@ -14,21 +15,22 @@ says-none will = record {
   later = λ n y. subst will (omega arith) y;
 }
 
-pub says-of : {T E : Type 0} (says : E → Bool) (will will' : ℕ → Type 0) (a b : Option Talk) (r : Result T E) → last_question says r ≡ 0 → IsHeeded says will will' a b r → SaysNo will will'
-says-of says will will' a b r none h = record {
+-- none was a yes
+pub says-of : (y y' : Faults) (will will' : ℕ → Type 0) (a b : Option Talk) (more : ℕ) → more ≡ 0 → BlamesInterrupt y y' will will' a b more → SaysNo will will'
+says-of y y' will will' a b more none h = record {
   asked = h.receives;
   no_yes = h.no_yes;
-  later = λ n y. h.later n (subst will (omega (arith, none)) y);
+  later = λ n w. h.later n (subst will (omega (arith, none)) w);
 }
 
-pub heeded-of : {T E : Type 0} (says : E → Bool) (will will' : ℕ → Type 0) (a b : Option Talk) (r : Result T E) → last_question says r ≡ 0 → IsHeeded says will will' a b r → IsHeededOver will will' a b
-heeded-of says will will' a b r none h = record {
+pub heeded-of : (y y' : Faults) (will will' : ℕ → Type 0) (a b : Option Talk) (more : ℕ) → more ≡ 0 → BlamesInterrupt y y' will will' a b more → IsHeededOver will will' a b
+heeded-of y y' will will' a b more none h = record {
   asked = h.receives;
   receives = h.receives;
   made = h.made;
   each = omega arith;
   no_yes = h.no_yes;
-  later = λ n y. h.later n (subst will (omega (arith, none)) y);
+  later = λ n w. h.later n (subst will (omega (arith, none)) w);
 }
 
 -- behind what was asked before

@@ -4,8 +4,6 @@ use Rattle.std.specs.Prelude.{◌⊎◌}
 use Rattle.fetch_store.specs.Trees.{Tree}
 use Rattle.fetch_store.specs.declared.id.Kind.{Kind}
 use Rattle.fetch_wire.specs.Talks.{Talk}
-use Rattle.fetch_conversation.specs.declared.fetch.Error.{Error as ReceiveError}
-use Rattle.fetch_conversation.specs.declared.fetch.Error.TheVariants as fetch
 use Rattle.fetch_remote.specs.Remotes.{RemoteValue}
 use Rattle.fetch_remote.specs.RepositoryValues.{RepositoryValue, Setup, resolved_of}
 use Rattle.fetch_remote.specs.declared.fetching.prepared.Prepared.{Prepared}
@@ -14,7 +12,7 @@ use Rattle.fetch_remote.specs.declared.repository.open_error.OpenError.{OpenErro
 use Rattle.fetch_remote.specs.declared.repository.open_error.OpenError.TheVariants as opening
 use Rattle.fetch_clone.specs.Hashed.{IsHashed, IsUnhashed, IsUnread, IsUnversioned}
 use Rattle.fetch_clone.specs.Received.{IsResolvedIn, WasListed}
-use Rattle.fetch_clone.specs.Stages.{receiving, reopening}
+use Rattle.fetch_clone.specs.Stages.{reopening}
 use Rattle.fetch_clone.specs.declared.clone.fetch.Error.{Error}
 use Rattle.fetch_clone.specs.declared.clone.fetch.Error.TheVariants as errors
 
@@ -88,29 +86,3 @@ of-hash may_fail told now kind found (errors.Fetch x) h = of-either may_fail tol
 of-hash may_fail told now kind found (errors.FindRevision x) h = of-either may_fail told now kind found.setup (errors.FindRevision x) h.1
 of-hash may_fail told now kind found (errors.PeelRevision x) h = of-either may_fail told now kind found.setup (errors.PeelRevision x) h.1
 of-hash may_fail told now kind found errors.NoMemory h = (opening.NoMemory, refl)
-
--- Neither is told as the other.
-pub no-fetch : (cause : OpenError) (x : ReceiveError) → reopening cause ≡ errors.Fetch x → ⊥
-no-fetch opening.Io x h = absurd cc
-no-fetch (opening.Missing y) x h = absurd cc
-no-fetch (opening.Config y) x h = absurd cc
-no-fetch (opening.Override y) x h = absurd cc
-no-fetch opening.NoMemory x h = absurd cc
-
-pub no-reopening : (cause : ReceiveError) (x : OpenError) → receiving cause ≡ errors.ReopenWithObjectHash x → ⊥
-no-reopening (fetch.NoMapping y z) x h = absurd cc
-no-reopening (fetch.IncompatibleObjectHash y z) x h = absurd cc
-no-reopening (fetch.Disconnected y) x h = absurd cc
-no-reopening (fetch.RejectShallowRemoteConfig y) x h = absurd cc
-no-reopening (fetch.NegotiationAlgorithmConfig y) x h = absurd cc
-no-reopening (fetch.PackThreads y) x h = absurd cc
-no-reopening (fetch.Fetch y) x h = absurd cc
-no-reopening fetch.Client x h = absurd cc
-no-reopening fetch.Interrupted x h = absurd cc
-no-reopening (fetch.RejectShallowRemote y) x h = absurd cc
-no-reopening (fetch.Pack y) x h = absurd cc
-no-reopening (fetch.Collision y) x h = absurd cc
-no-reopening (fetch.KeepFile y) x h = absurd cc
-no-reopening (fetch.UpdateRefs y) x h = absurd cc
-no-reopening (fetch.RemovePackKeepFile y) x h = absurd cc
-no-reopening fetch.NoMemory x h = absurd cc

@@ -1,17 +1,20 @@
 -- Of each step, the refusals that have a count come only where it rose.
 use Rattle.std.proofs.Common.{◌≡◌, ℕ, Bool, true, List, inl, inr, Option, Some, None, Result, Ok, Err, refl, sym, ap, subst, ◌∙◌}
-use Rattle.std.specs.Prelude.{IfErr}
+use Rattle.std.specs.Prelude.{IfErr, is_some}
 use Rattle.fetch_config.specs.Contents.{Contents}
 use Rattle.fetch_store.specs.Faults.{Faults, Counts, Rose, Rose-earlier}
 use Rattle.fetch_store.specs.Trees.{Tree}
 use Rattle.fetch_wire.specs.declared.listings.mapping.RefMap.{RefMap}
 use Rattle.fetch_update.specs.declared.update.Error.TheVariants as update
+use Rattle.fetch_update.specs.declared.worktrees.WorktreeFault.TheVariants.{Listing, OpenRepo, FollowSymref}
+use Rattle.fetch_conversation.specs.Errors.{is_client, is_stopped}
 use Rattle.fetch_conversation.specs.declared.fetch.Error.{Error as ReceiveError}
 use Rattle.fetch_conversation.specs.declared.fetch.Error.TheVariants as fetch
 use Rattle.fetch_conversation.specs.declared.prepare.Error.{Error as PrepareError}
 use Rattle.fetch_conversation.specs.declared.prepare.Error.TheVariants as prepare
 use Rattle.fetch_conversation.specs.declared.ref_map.Error.{Error as MapError}
 use Rattle.fetch_conversation.specs.declared.ref_map.Error.TheVariants as ref_map
+use Rattle.fetch_remote.specs.Blame.{fault_in, keep_fault_in}
 use Rattle.fetch_remote.specs.Remotes.{RemoteValue}
 use Rattle.fetch_remote.specs.RepositoryValues.{RepositoryValue, Setup}
 use Rattle.fetch_remote.specs.declared.connect.Error.TheVariants as connect
@@ -231,52 +234,80 @@ pub unmapped-counted : (was is : Meters) (wanted : Wanted) (map : RefMap) (e : E
 unmapped-counted was is wanted map e (inl m) = subst (IsCounted was is) (sym m) tt
 unmapped-counted was is wanted map e (inr u) = unmapped-uncounted was is wanted map e u
 
-receiving-counted : (was is : Meters) (cause : ReceiveError) → (receiving cause ≡ errors.Fetch fetch.Client → Rose was.lost is.lost) → (receiving cause ≡ errors.Fetch fetch.Interrupted → Rose was.yes is.yes)
-    → ((path : List ℕ) → receiving cause ≡ errors.Fetch (fetch.KeepFile path) → Rose was.files is.files) → ((path : List ℕ) → receiving cause ≡ errors.Fetch (fetch.RemovePackKeepFile path) → Rose was.files is.files)
-    → (receiving cause ≡ errors.Fetch (fetch.UpdateRefs update.WorktreeListing) → Rose was.trees.listing is.trees.listing) → (receiving cause ≡ errors.Fetch (fetch.UpdateRefs update.OpenWorktreeRepo) → Rose was.trees.open_repo is.trees.open_repo)
-    → (receiving cause ≡ errors.Fetch (fetch.UpdateRefs update.FollowSymref) → Rose was.trees.follow_symref is.trees.follow_symref) → IsCounted was is (receiving cause)
-receiving-counted was is (fetch.NoMapping x y) client stopped keep removed listed opened followed = tt
-receiving-counted was is (fetch.IncompatibleObjectHash x y) client stopped keep removed listed opened followed = tt
-receiving-counted was is (fetch.Disconnected x) client stopped keep removed listed opened followed = tt
-receiving-counted was is (fetch.RejectShallowRemoteConfig x) client stopped keep removed listed opened followed = tt
-receiving-counted was is (fetch.NegotiationAlgorithmConfig x) client stopped keep removed listed opened followed = tt
-receiving-counted was is (fetch.PackThreads x) client stopped keep removed listed opened followed = tt
-receiving-counted was is (fetch.Fetch x) client stopped keep removed listed opened followed = tt
-receiving-counted was is fetch.Client client stopped keep removed listed opened followed = client refl
-receiving-counted was is fetch.Interrupted client stopped keep removed listed opened followed = stopped refl
-receiving-counted was is (fetch.RejectShallowRemote x) client stopped keep removed listed opened followed = tt
-receiving-counted was is (fetch.Pack x) client stopped keep removed listed opened followed = tt
-receiving-counted was is (fetch.Collision x) client stopped keep removed listed opened followed = tt
-receiving-counted was is (fetch.KeepFile x) client stopped keep removed listed opened followed = keep x refl
-receiving-counted was is (fetch.UpdateRefs (update.FindReference x)) client stopped keep removed listed opened followed = tt
-receiving-counted was is (fetch.UpdateRefs (update.InvalidRefName x)) client stopped keep removed listed opened followed = tt
-receiving-counted was is (fetch.UpdateRefs (update.FindCommit x)) client stopped keep removed listed opened followed = tt
-receiving-counted was is (fetch.UpdateRefs (update.PeelToId x y)) client stopped keep removed listed opened followed = tt
-receiving-counted was is (fetch.UpdateRefs update.WorktreeListing) client stopped keep removed listed opened followed = listed refl
-receiving-counted was is (fetch.UpdateRefs update.OpenWorktreeRepo) client stopped keep removed listed opened followed = opened refl
-receiving-counted was is (fetch.UpdateRefs update.FollowSymref) client stopped keep removed listed opened followed = followed refl
-receiving-counted was is (fetch.UpdateRefs update.NoMemory) client stopped keep removed listed opened followed = tt
-receiving-counted was is (fetch.RemovePackKeepFile x) client stopped keep removed listed opened followed = removed x refl
-receiving-counted was is fetch.NoMemory client stopped keep removed listed opened followed = tt
+-- a refusal of a fetch that goes on with what was listed, where each that it blames is counted
+pub receiving-counted : (was is : Meters) (cause : ReceiveError) → (is_client cause ≡ true → Rose was.lost is.lost) → (is_stopped cause ≡ true → Rose was.yes is.yes) → (is_some (keep_fault_in cause) ≡ true → Rose was.files is.files)
+    → (fault_in cause ≡ Some Listing → Rose was.trees.listing is.trees.listing) → (fault_in cause ≡ Some OpenRepo → Rose was.trees.open_repo is.trees.open_repo) → (fault_in cause ≡ Some FollowSymref → Rose was.trees.follow_symref is.trees.follow_symref)
+    → IsCounted was is (receiving cause)
+receiving-counted was is (fetch.NoMapping x y) client stopped keep listed opened followed = tt
+receiving-counted was is (fetch.IncompatibleObjectHash x y) client stopped keep listed opened followed = tt
+receiving-counted was is (fetch.Disconnected x) client stopped keep listed opened followed = tt
+receiving-counted was is (fetch.RejectShallowRemoteConfig x) client stopped keep listed opened followed = tt
+receiving-counted was is (fetch.NegotiationAlgorithmConfig x) client stopped keep listed opened followed = tt
+receiving-counted was is (fetch.PackThreads x) client stopped keep listed opened followed = tt
+receiving-counted was is (fetch.Fetch x) client stopped keep listed opened followed = tt
+receiving-counted was is fetch.Client client stopped keep listed opened followed = client refl
+receiving-counted was is fetch.Interrupted client stopped keep listed opened followed = stopped refl
+receiving-counted was is (fetch.RejectShallowRemote x) client stopped keep listed opened followed = tt
+receiving-counted was is (fetch.Pack x) client stopped keep listed opened followed = tt
+receiving-counted was is (fetch.Collision x) client stopped keep listed opened followed = tt
+receiving-counted was is (fetch.KeepFile x) client stopped keep listed opened followed = keep refl
+receiving-counted was is (fetch.UpdateRefs (update.FindReference x)) client stopped keep listed opened followed = tt
+receiving-counted was is (fetch.UpdateRefs (update.InvalidRefName x)) client stopped keep listed opened followed = tt
+receiving-counted was is (fetch.UpdateRefs (update.FindCommit x)) client stopped keep listed opened followed = tt
+receiving-counted was is (fetch.UpdateRefs (update.PeelToId x y)) client stopped keep listed opened followed = tt
+receiving-counted was is (fetch.UpdateRefs update.WorktreeListing) client stopped keep listed opened followed = listed refl
+receiving-counted was is (fetch.UpdateRefs update.OpenWorktreeRepo) client stopped keep listed opened followed = opened refl
+receiving-counted was is (fetch.UpdateRefs update.FollowSymref) client stopped keep listed opened followed = followed refl
+receiving-counted was is (fetch.UpdateRefs update.NoMemory) client stopped keep listed opened followed = tt
+receiving-counted was is (fetch.RemovePackKeepFile x) client stopped keep listed opened followed = keep refl
+receiving-counted was is fetch.NoMemory client stopped keep listed opened followed = tt
 
-reopening-counted : (was is : Meters) (cause : OpenError) → (reopening cause ≡ errors.ReopenWithObjectHash opening.Io → Rose was.files is.files) → IsCounted was is (reopening cause)
+-- a refusal of the file that is read again
+pub reopening-counted : (was is : Meters) (cause : OpenError) → (reopening cause ≡ errors.ReopenWithObjectHash opening.Io → Rose was.files is.files) → IsCounted was is (reopening cause)
 reopening-counted was is opening.Io reopened = reopened refl
 reopening-counted was is (opening.Missing x) reopened = tt
 reopening-counted was is (opening.Config x) reopened = tt
 reopening-counted was is (opening.Override x) reopened = tt
 reopening-counted was is opening.NoMemory reopened = tt
 
-pub received-counted : (was is : Meters) (wanted : Wanted) (map : RefMap) (e : Error) → IsOfReceiving wanted map e → (e ≡ errors.ReopenWithObjectHash opening.Io → Rose was.files is.files) → (e ≡ errors.Fetch fetch.Client → Rose was.lost is.lost)
-    → (e ≡ errors.Fetch fetch.Interrupted → Rose was.yes is.yes) → ((path : List ℕ) → e ≡ errors.Fetch (fetch.KeepFile path) → Rose was.files is.files) → ((path : List ℕ) → e ≡ errors.Fetch (fetch.RemovePackKeepFile path) → Rose was.files is.files)
-    → (e ≡ errors.Fetch (fetch.UpdateRefs update.WorktreeListing) → Rose was.trees.listing is.trees.listing) → (e ≡ errors.Fetch (fetch.UpdateRefs update.OpenWorktreeRepo) → Rose was.trees.open_repo is.trees.open_repo)
-    → (e ≡ errors.Fetch (fetch.UpdateRefs update.FollowSymref) → Rose was.trees.follow_symref is.trees.follow_symref) → IsCounted was is e
-received-counted was is wanted map e (inl u) reopened client stopped keep removed listed opened followed = unmapped-counted was is wanted map e u
-received-counted was is wanted map e (inr (inl b)) reopened client stopped keep removed listed opened followed =
+receiving-recounted : (was is here left : Meters) (cause : ReceiveError) → (Rose here.lost left.lost → Rose was.lost is.lost) → (Rose here.yes left.yes → Rose was.yes is.yes) → (Rose here.files left.files → Rose was.files is.files)
+    → (Rose here.trees.listing left.trees.listing → Rose was.trees.listing is.trees.listing) → (Rose here.trees.open_repo left.trees.open_repo → Rose was.trees.open_repo is.trees.open_repo) → (Rose here.trees.follow_symref left.trees.follow_symref → Rose was.trees.follow_symref is.trees.follow_symref)
+    → IsCounted here left (receiving cause) → IsCounted was is (receiving cause)
+receiving-recounted was is here left (fetch.NoMapping x y) lost said files listed opened followed h = tt
+receiving-recounted was is here left (fetch.IncompatibleObjectHash x y) lost said files listed opened followed h = tt
+receiving-recounted was is here left (fetch.Disconnected x) lost said files listed opened followed h = tt
+receiving-recounted was is here left (fetch.RejectShallowRemoteConfig x) lost said files listed opened followed h = tt
+receiving-recounted was is here left (fetch.NegotiationAlgorithmConfig x) lost said files listed opened followed h = tt
+receiving-recounted was is here left (fetch.PackThreads x) lost said files listed opened followed h = tt
+receiving-recounted was is here left (fetch.Fetch x) lost said files listed opened followed h = tt
+receiving-recounted was is here left fetch.Client lost said files listed opened followed h = lost h
+receiving-recounted was is here left fetch.Interrupted lost said files listed opened followed h = said h
+receiving-recounted was is here left (fetch.RejectShallowRemote x) lost said files listed opened followed h = tt
+receiving-recounted was is here left (fetch.Pack x) lost said files listed opened followed h = tt
+receiving-recounted was is here left (fetch.Collision x) lost said files listed opened followed h = tt
+receiving-recounted was is here left (fetch.KeepFile x) lost said files listed opened followed h = files h
+receiving-recounted was is here left (fetch.UpdateRefs (update.FindReference x)) lost said files listed opened followed h = tt
+receiving-recounted was is here left (fetch.UpdateRefs (update.InvalidRefName x)) lost said files listed opened followed h = tt
+receiving-recounted was is here left (fetch.UpdateRefs (update.FindCommit x)) lost said files listed opened followed h = tt
+receiving-recounted was is here left (fetch.UpdateRefs (update.PeelToId x y)) lost said files listed opened followed h = tt
+receiving-recounted was is here left (fetch.UpdateRefs update.WorktreeListing) lost said files listed opened followed h = listed h
+receiving-recounted was is here left (fetch.UpdateRefs update.OpenWorktreeRepo) lost said files listed opened followed h = opened h
+receiving-recounted was is here left (fetch.UpdateRefs update.FollowSymref) lost said files listed opened followed h = followed h
+receiving-recounted was is here left (fetch.UpdateRefs update.NoMemory) lost said files listed opened followed h = tt
+receiving-recounted was is here left (fetch.RemovePackKeepFile x) lost said files listed opened followed h = files h
+receiving-recounted was is here left fetch.NoMemory lost said files listed opened followed h = tt
+
+-- the same, counted by others
+pub received-recounted : (was is here left : Meters) (wanted : Wanted) (map : RefMap) (e : Error) → IsOfReceiving wanted map e → (Rose here.lost left.lost → Rose was.lost is.lost) → (Rose here.yes left.yes → Rose was.yes is.yes) → (Rose here.files left.files → Rose was.files is.files)
+    → (Rose here.trees.listing left.trees.listing → Rose was.trees.listing is.trees.listing) → (Rose here.trees.open_repo left.trees.open_repo → Rose was.trees.open_repo is.trees.open_repo) → (Rose here.trees.follow_symref left.trees.follow_symref → Rose was.trees.follow_symref is.trees.follow_symref)
+    → IsCounted here left e → IsCounted was is e
+received-recounted was is here left wanted map e (inl u) lost said files listed opened followed h = unmapped-counted was is wanted map e u
+received-recounted was is here left wanted map e (inr (inl b)) lost said files listed opened followed h =
     let t = b.1 in
-    subst (IsCounted was is) (sym t) (reopening-counted was is b.0 (λ h. reopened (t ∙ h)))
-received-counted was is wanted map e (inr (inr b)) reopened client stopped keep removed listed opened followed =
+    subst (IsCounted was is) (sym t) (reopening-counted was is b.0 (λ io. files (subst (IsCounted here left) (t ∙ io) h)))
+received-recounted was is here left wanted map e (inr (inr b)) lost said files listed opened followed h =
     let t = b.1 in
-    subst (IsCounted was is) (sym t) (receiving-counted was is b.0 (λ h. client (t ∙ h)) (λ h. stopped (t ∙ h)) (λ path h. keep path (t ∙ h)) (λ path h. removed path (t ∙ h)) (λ h. listed (t ∙ h)) (λ h. opened (t ∙ h)) (λ h. followed (t ∙ h)))
+    subst (IsCounted was is) (sym t) (receiving-recounted was is here left b.0 lost said files listed opened followed (subst (IsCounted here left) t h))
 
 -- ---- finishing
 

@@ -1,5 +1,5 @@
 -- Refusals of a clone that come only where a count rose.
-use Rattle.std.specs.Prelude.{◌≤◌, ⊤}
+use Rattle.std.specs.Prelude.{◌≡◌, ◌≤◌, false, ⊤, Result, Ok, Err}
 use Rattle.fetch_store.specs.Faults.{Faults, Counts, Rose}
 use Rattle.fetch_update.specs.declared.update.Error.TheVariants as update
 use Rattle.fetch_conversation.specs.declared.fetch.Error.TheVariants as fetch
@@ -32,6 +32,10 @@ pub record Meters : Type 0 where
 abbrev pub meters : Faults → Faults → Faults → Faults → TreeMeters → Meters
 meters made lost said files trees = record { made = made; lost = lost; yes = said; files = files; trees = trees }
 
+-- the counts where a peer is lent and no maker, which then can't fail: those of the peer stand for the peers that were lost
+abbrev pub peer_meters : Faults → Faults → Faults → TreeMeters → Meters
+peer_meters peer said files trees = meters (record { count = 0; possible = false }) peer said files trees
+
 -- A refusal that has a count comes only where that count rose.
 abbrev pub IsCounted : Meters → Meters → Error → Type 0
 IsCounted was is (errors.Connect connect.Connect) = Rose was.made is.made
@@ -50,6 +54,11 @@ IsCounted was is (errors.Fetch (fetch.UpdateRefs update.WorktreeListing)) = Rose
 IsCounted was is (errors.Fetch (fetch.UpdateRefs update.OpenWorktreeRepo)) = Rose was.trees.open_repo is.trees.open_repo
 IsCounted was is (errors.Fetch (fetch.UpdateRefs update.FollowSymref)) = Rose was.trees.follow_symref is.trees.follow_symref
 IsCounted was is e = ⊤
+
+-- the same of what a call answers; where it is done, the interrupt said no yes in it
+abbrev pub CountsBy : {T : Type 0} → Meters → Meters → Result T Error → Type 0
+CountsBy was is (Ok value) = is.yes.count ≡ was.yes.count
+CountsBy was is (Err e) = IsCounted was is e
 
 -- Nothing that is counted fell.
 pub record Later (was is : Meters) : Type 0 where

@@ -9,7 +9,7 @@ use Rattle.fetch_store.specs.declared.id.Kind.{Kind}
 use Rattle.fetch_store.specs.declared.id.Kind.TheVariants as hashes
 use Rattle.fetch_config.specs.Contents.{Contents}
 use Rattle.fetch_config.specs.declared.meta.Meta.{Meta}
-use Rattle.fetch_config.specs.declared.meta.Origin.TheVariants.{Local, System}
+use Rattle.fetch_config.specs.declared.meta.Origin.TheVariants.{Local}
 use Rattle.fetch_refs.specs.declared.edit.Change.TheVariants.{Update}
 use Rattle.fetch_refs.specs.declared.edit.PreviousValue.TheVariants.{Any}
 use Rattle.fetch_refs.specs.declared.edit.RefEdit.{RefEdit}
@@ -46,14 +46,6 @@ hash_of options = unwrap_or options.object_hash hashes.Sha1
 abbrev pub new_of : List ℕ → Layout → Options → Signature → OpenOptions → New
 new_of directory kind options committer opened =
     record { path = path_of directory kind; hash = hash_of options; committer = committer; options = opened }
-
--- settings that can't be read are taken as absent, there are no overrides, and nothing comes before the local file
-abbrev pub lenient : OpenOptions
-lenient = record {
-  lenient_config = true;
-  api_config_overrides = [];
-  base = record { meta = record { source = System; level = 0; path = None; trusted = true }; sections = [] };
-}
 
 -- the path of its configuration
 abbrev pub config_of : New → List ℕ

@@ -15,7 +15,7 @@ use Rattle.fetch_remote.specs.Form.{Given}
 use Rattle.fetch_remote.specs.Keeping.{with_keep}
 use Rattle.fetch_remote.specs.Refused.{IsRefused}
 use Rattle.fetch_remote.specs.Remotes.{RemoteValue}
-use Rattle.fetch_remote.specs.Repositories.{in_force}
+use Rattle.fetch_remote.specs.Repositories.{State, in_force}
 use Rattle.fetch_remote.specs.RepositoryValues.{RepositoryValue, Setup, resolved_of}
 use Rattle.fetch_remote.specs.Stages.{inquiry_of}
 use Rattle.fetch_remote.specs.Valid.{HasValidInput}
@@ -120,6 +120,18 @@ pub record IsNotHashed (may_fail : Bool) (files files_left : Option Tree) (draft
   pub why : IsUnhashed may_fail files files_left prepared.listed.ref_map.object_hash found e
   pub repository : repo ≡ found
 
+-- The fetch was refused, for a cause that is told.
+pub record IsFetchRefused (answers : Bool) (old new : Option Talk) (known : Option (List Worktree)) (may_fail : Bool)
+    (files files_left : Option Tree) (g : Given) (before after : State) (e : Error) : Type 0 where
+  pub cause : ReceiveError
+  pub told : e ≡ receiving cause
+  pub refused : IsRefused answers old new known files files_left g before after (fetch_refusal cause)
+  -- Valid input is refused for what has a count or nothing in place of a cause alone.
+  pub complete : HasValidInput old new known g before → is_free (fetch_refusal cause) ≡ true
+  -- Files that fail at nothing by themselves have something in the way of a keep file, and remove each one that they told.
+  pub in_the_way : (path : List ℕ) → cause ≡ fetch.KeepFile path → IsBlocked may_fail files (with_keep (Some path))
+  pub removable : (path : List ℕ) → cause ≡ fetch.RemovePackKeepFile path → may_fail ≡ false → files ≡ None
+
 -- All was ready, and what was listed wasn't fetched; then too the file was put in force that was read again.
 pub record IsUnfetched (answers : Bool) (old new : Option Talk) (known : Option (List Worktree)) (may_fail : Bool)
     (files files_left : Option Tree) (draft : Draft) (remote : RemoteValue) (prepared : Prepared) (found repo : RepositoryValue)
@@ -128,15 +140,8 @@ pub record IsUnfetched (answers : Bool) (old new : Option Talk) (known : Option 
   pub written : Option Tree
   pub reread : Option Resolved
   pub ready : IsReady files written draft prepared found asked reread
-  pub cause : ReceiveError
-  pub told : e ≡ receiving cause
-  pub refused : IsRefused answers old new known written files_left (given draft remote prepared asked.setup) asked.state repo.state
-      (fetch_refusal cause)
-  -- Valid input is refused for what has a count or nothing in place of a cause alone.
-  pub complete : HasValidInput old new known (given draft remote prepared asked.setup) asked.state → is_free (fetch_refusal cause) ≡ true
-  -- Files that fail at nothing by themselves have something in the way of a keep file, and remove each one that they told.
-  pub in_the_way : (path : List ℕ) → cause ≡ fetch.KeepFile path → IsBlocked may_fail written (with_keep (Some path))
-  pub removable : (path : List ℕ) → cause ≡ fetch.RemovePackKeepFile path → may_fail ≡ false → written ≡ None
+  pub unfetched : IsFetchRefused answers old new known may_fail written files_left (given draft remote prepared asked.setup)
+      asked.state repo.state e
   pub setup : repo.setup ≡ with_reread asked.setup reread
 
 -- Why nothing is received, in the order of the steps.

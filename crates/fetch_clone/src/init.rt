@@ -1,13 +1,14 @@
 //! A repository is created and opened.
 
-ghost use Rattle.std.specs.Prelude.{◌≡◌, IfOk, IfErr, OnOk, IsTrue};
+ghost use Rattle.std.specs.Prelude.{◌≡◌, true, IfOk, IfErr, OnOk, IsTrue};
 ghost use Rattle.fetch_store.specs.Faults.{Rose, Counts};
+ghost use Rattle.fetch_remote.specs.Repositories.{open_options as usual_options};
 ghost use Rattle.fetch_clone.specs.Creation.{Reaches};
-ghost use Rattle.fetch_clone.specs.Initial.{IsInitial, IsInitRefusal, new_of, lenient as usual, is_init_fault};
+ghost use Rattle.fetch_clone.specs.Initial.{IsInitial, IsInitRefusal, new_of, is_init_fault};
 ghost use Rattle.fetch_clone.specs.Plans.{steps_of};
 
 use crate::create::{self, Kind, Options};
-use crate::opening::{New, lenient, open_new};
+use crate::opening::{New, open_new};
 use fetch_refs::Signature;
 use fetch_remote::{OpenError, OpenOptions, ThreadSafeRepository};
 use fetch_store::{Files, NoMemory, Text};
@@ -102,21 +103,20 @@ pub fn init<F: Files>(
     committer: Signature,
 ) -> Result<ThreadSafeRepository, Error>
     ensures created { OnOk result (Reaches (F.told files.old) (steps_of directory.now kind options) (F.told files.new)) }
-    ensures repo { IfOk result (IsInitial (F.told files.new) (new_of directory.now kind options committer usual)) }
+    ensures repo { IfOk result (IsInitial (F.told files.new) (new_of directory.now kind options committer (usual_options true))) }
     ensures refused { IfErr result (IsInitRefusal (F.may_fail files.old) (F.told files.old) (steps_of directory.now kind options)
-        (new_of directory.now kind options committer usual) (F.told files.new)) }
+        (new_of directory.now kind options committer (usual_options true)) (F.told files.new)) }
     ensures cause { IfErr result (λ e. IsTrue (is_init_fault e) → Rose (F.faults files.old) (F.faults files.new)) }
     ensures counts { Counts (F.faults files.old) (F.faults files.new) }
     ensures may_fail { F.may_fail files.new ≡ F.may_fail files.old }
 {
-    let open_options = lenient(alloc)?;
     init_opts(
         alloc,
         files,
         directory,
         kind,
         options,
-        open_options,
+        OpenOptions::lenient(alloc),
         committer,
     )
 }

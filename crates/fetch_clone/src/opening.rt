@@ -1,13 +1,13 @@
 //! A repository is opened whose files were created.
 
-ghost use Rattle.std.specs.Prelude.{◌≡◌, IfOk, IfErr, IsErrOf, OnOk, OnErr, IsTrue, Some, codes};
+ghost use Rattle.std.specs.Prelude.{◌≡◌, IfOk, IfErr, IsErrOf, OnOk, IsTrue, Some, codes};
 ghost use Rattle.fetch_store.specs.FileCalls.{IsRefused};
 ghost use Rattle.fetch_store.specs.Faults.{Rose, Counts};
 ghost use Rattle.fetch_store.specs.Paths.{parts_of};
 ghost use Rattle.fetch_store.specs.Trees.{read_in};
-ghost use Rattle.fetch_clone.specs.Branches.{default_branch_of, branch_of as branch_named};
+ghost use Rattle.fetch_clone.specs.Branches.{default_branch_of};
 ghost use Rattle.fetch_clone.specs.Initial as spec;
-ghost use Rattle.fetch_clone.specs.Initial.{IsBranchRefusal, IsInitial, IsLocal, IsNew, IsUnopened, IsUnready, is_init_fault};
+ghost use Rattle.fetch_clone.specs.Initial.{IsBranchRefusal, IsInitial, IsNew, IsUnopened, IsUnready, is_init_fault};
 ghost use Rattle.fetch_remote.specs.Paths.{config_path as path_of_config};
 ghost use Rattle.fetch_remote.specs.Reloads.{IsRefusedAt};
 ghost use Rattle.fetch_remote.specs.Repositories.{state_of, setup_of, setup_in, state_in, IsOpenRefusal};
@@ -22,7 +22,7 @@ use fetch_refs::{
 };
 use fetch_remote::{OpenError, OpenOptions, Parts, Repository, read_configuration};
 use fetch_specs::FullName;
-use fetch_store::{Border, Files, Kind, List, NoMemory, Store, Text};
+use fetch_store::{Border, Files, Kind, NoMemory, Store, Text};
 use std::alloc::Global;
 
 /// What a repository is opened with, once its files are created.
@@ -36,26 +36,6 @@ pub(crate) struct New {
     pub committer: Signature,
     /// Leniency, overrides, and what comes before the local file.
     pub options: OpenOptions,
-}
-
-/// Settings that can't be read are taken as absent, there are no overrides, and nothing comes before the local file.
-pub(crate) fn lenient(alloc: Global) -> Result<OpenOptions, NoMemory>
-    ensures { IfOk result (λ options. options ≡ spec.lenient) }
-{
-    let meta = Meta {
-        source: Origin::System,
-        level: 0,
-        path: None,
-        trusted: true,
-    };
-    match File::new(alloc, meta) {
-        Ok(base) => Ok(OpenOptions {
-            lenient_config: true,
-            api_config_overrides: List::new(alloc),
-            base,
-        }),
-        Err(_) => Err(NoMemory),
-    }
 }
 
 /// Reads the configuration, opens the repository, and lets its `HEAD` lead to the branch that the configuration names.

@@ -303,15 +303,7 @@ impl<F: Files + Drop, C: Connect + Drop, R: Drop, G: Drop> PrepareFetch<F, C, R,
 
 impl<F: Files + Drop, C: Connect + Drop, R: Drop, G: Drop> Drop for PrepareFetch<F, C, R, G> {
     fn drop(self) {
-        let PrepareFetch {
-            files,
-            maker: _,
-            configure_remote: _,
-            configure_connection: _,
-            draft,
-        } = self;
-        let mut files = files;
-        give_up(&mut files, &draft);
+        let _files = self.abandon();
     }
 }
 

@@ -179,7 +179,7 @@ module _ {P : Type 0} (race : Race P) (workers bound : ℕ) (names : List (List 
     saw = u.by.taken.seen
 
     abbrev now : SharedValue
-    now = u.refused.found
+    now = u.refused.1.found
 
     abbrev rest : List Entry
     rest = u.by.taken.at.begins.rest
@@ -211,7 +211,7 @@ module _ {P : Type 0} (race : Race P) (workers bound : ℕ) (names : List (List 
     still : (n : List ℕ) → IsIn (share i) n → finmap.get now.repository.state.refs.names n ≡ finmap.get saw.repository.state.refs.names n
     still n is_mine =
         let opening : Outline = outline k.opening in
-        let told_now : outline now.repository ≡ replay opening h.after.front = u.refused.kept.state.told ∙ ap (λ (r : RepositoryValue). replay (outline r) now.journal) u.refused.opened ∙ ap (replay opening) u.refused.journal in
+        let told_now : outline now.repository ≡ replay opening h.after.front = u.refused.1.kept.state.told ∙ ap (λ (r : RepositoryValue). replay (outline r) now.journal) u.refused.1.opened ∙ ap (replay opening) u.refused.1.journal in
         let told_then : outline saw.repository ≡ replay opening saw.journal = u.by.taken.at.kept.state.told ∙ ap (λ (r : RepositoryValue). replay (outline r) saw.journal) u.by.taken.at.opened in
         ap (λ (o : Outline). finmap.get o.refs.names n) (told_now ∙ ap (replay opening) (sym whole) ∙ replay_then opening saw.journal rest)
         ∙ replays (replay opening saw.journal) n rest (λ q e at. others_off i n is_mine e (apart q e at) (entry_own (length saw.journal + q) e (in_journal q e at)))
@@ -225,7 +225,7 @@ module _ {P : Type 0} (race : Race P) (workers bound : ℕ) (names : List (List 
         (judged_so (policy_in saw.repository.state m.how u.by.trees) stopped.told.listed.ref_map u.updates u.by.verdicts)))
 
     pub never : ⊥
-    never = nothing_fails (find (fails now.repository.state.refs.names) edits) met u.refused.cause
+    never = nothing_fails (find (fails now.repository.state.refs.names) edits) met u.refused.1.cause
       where
         nothing_fails : (o : Option RefEdit) → o ≡ None → option_map (λ (e : RefEdit). errors.EditReferences e.name (finmap.get now.repository.state.refs.names e.name)) o ≡ Some (errors.EditReferences name found) → ⊥
         nothing_fails None is cause = absurd cc

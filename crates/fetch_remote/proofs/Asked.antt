@@ -1,34 +1,17 @@
--- Which refusals of a fetch tell a yes.
+-- Which refusals of a fetch tell a yes, or the peer's fault.
 use Rattle.std.proofs.Common.{◌≡◌, ◌≢◌, false, refl}
-use Rattle.fetch_conversation.specs.Errors.{is_interrupted, is_stopped}
+use Rattle.fetch_conversation.specs.Errors.{is_client, is_interrupted, is_stopped}
 use Rattle.fetch_conversation.specs.declared.fetch.Error.{Error as ReceiveError}
 use Rattle.fetch_conversation.specs.declared.fetch.Error.TheVariants as fetch
 use Rattle.fetch_conversation.specs.declared.prepare.Error.{Error as PrepareError}
-use Rattle.fetch_conversation.specs.declared.prepare.Error.TheVariants as prepare
 use Rattle.fetch_remote.specs.Errors.{preparing, receiving, is_yes}
+use Rattle.fetch_remote.proofs.Blamed.{as_prepared, as_received}
 
 pub listing_yes : (e : PrepareError) → is_interrupted e ≡ is_yes (preparing e)
-listing_yes prepare.MissingRefSpecs = refl
-listing_yes (prepare.RefMap e) = refl
-listing_yes prepare.NoMemory = refl
+listing_yes e = as_prepared is_yes e refl
 
 pub receiving_yes : (e : ReceiveError) → is_stopped e ≡ is_yes (receiving e)
-receiving_yes fetch.NoMemory = refl
-receiving_yes fetch.Client = refl
-receiving_yes fetch.Interrupted = refl
-receiving_yes (fetch.NoMapping specs count) = refl
-receiving_yes (fetch.IncompatibleObjectHash local remote) = refl
-receiving_yes (fetch.Disconnected link) = refl
-receiving_yes (fetch.RejectShallowRemoteConfig value) = refl
-receiving_yes (fetch.NegotiationAlgorithmConfig value) = refl
-receiving_yes (fetch.PackThreads value) = refl
-receiving_yes (fetch.Fetch e) = refl
-receiving_yes (fetch.RejectShallowRemote id) = refl
-receiving_yes (fetch.Pack e) = refl
-receiving_yes (fetch.Collision id) = refl
-receiving_yes (fetch.KeepFile path) = refl
-receiving_yes (fetch.UpdateRefs e) = refl
-receiving_yes (fetch.RemovePackKeepFile path) = refl
+receiving_yes e = as_received is_yes e refl
 
 -- where no conversation is held
 pub settling_yes : (e : ReceiveError) → e ≢ fetch.Interrupted → is_yes (receiving e) ≡ false
@@ -48,3 +31,22 @@ settling_yes (fetch.Collision id) isnt = refl
 settling_yes (fetch.KeepFile path) isnt = refl
 settling_yes (fetch.UpdateRefs e) isnt = refl
 settling_yes (fetch.RemovePackKeepFile path) isnt = refl
+
+-- nor the peer
+pub spares_peer : (e : ReceiveError) → e ≢ fetch.Client → is_client e ≡ false
+spares_peer fetch.Client isnt = absurd (isnt refl)
+spares_peer fetch.NoMemory isnt = refl
+spares_peer fetch.Interrupted isnt = refl
+spares_peer (fetch.NoMapping specs count) isnt = refl
+spares_peer (fetch.IncompatibleObjectHash local remote) isnt = refl
+spares_peer (fetch.Disconnected link) isnt = refl
+spares_peer (fetch.RejectShallowRemoteConfig value) isnt = refl
+spares_peer (fetch.NegotiationAlgorithmConfig value) isnt = refl
+spares_peer (fetch.PackThreads value) isnt = refl
+spares_peer (fetch.Fetch e) isnt = refl
+spares_peer (fetch.RejectShallowRemote id) isnt = refl
+spares_peer (fetch.Pack e) isnt = refl
+spares_peer (fetch.Collision id) isnt = refl
+spares_peer (fetch.KeepFile path) isnt = refl
+spares_peer (fetch.UpdateRefs e) isnt = refl
+spares_peer (fetch.RemovePackKeepFile path) isnt = refl

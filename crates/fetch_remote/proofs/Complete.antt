@@ -90,18 +90,18 @@ pub complete : (answers : Bool) (old new : Option Talk) (known : Option (List Wo
     → is_free e ≡ true
 complete answers old new known files left g before after e h v = by (is_free e) refl
   where
-    passed : Talks answers (Some v.before) (Some v.after) h.heard h.said
-    passed = subst (λ (t : Option Talk). Talks answers t (Some v.after) h.heard h.said) v.told_before (subst (λ (t : Option Talk). Talks answers old t h.heard h.said) v.told_after h.passed)
+    passed : Talks answers (Some v.exchanged.before) (Some v.after) h.heard h.said
+    passed = subst (λ (t : Option Talk). Talks answers t (Some v.after) h.heard h.said) v.exchanged.told_before (subst (λ (t : Option Talk). Talks answers old t h.heard h.said) v.exchanged.told_after h.exchanged.passed)
 
     same_said : h.said ≡ v.said
-    same_said = append_cancel_left v.before.given h.said v.said (sym passed.gave_more ∙ v.gave)
+    same_said = append_cancel_left v.exchanged.before.given h.said v.said (sym passed.gave_more ∙ v.exchanged.gave)
 
     same_heard : h.heard ≡ v.heard
-    same_heard = append_cancel_left v.before.heard h.heard v.heard (sym passed.heard_more ∙ v.hears)
+    same_heard = append_cancel_left v.exchanged.before.heard h.heard v.heard (sym passed.heard_more ∙ v.exchanged.hears)
 
     why : is_free e ≡ false → IsRefusedBy (Some v.after) g h.trees before after files left v.said v.heard e
     why sure =
-        let k : IsRefusedBy (Some v.after) g h.trees before after files left h.said h.heard e = subst (λ (t : Option Talk). IsRefusedBy t g h.trees before after files left h.said h.heard e) v.told_after (h.why sure) in
+        let k : IsRefusedBy (Some v.after) g h.trees before after files left h.said h.heard e = subst (λ (t : Option Talk). IsRefusedBy t g h.trees before after files left h.said h.heard e) v.exchanged.told_after (h.why sure) in
         subst (λ (l : List ℕ). IsRefusedBy (Some v.after) g h.trees before after files left v.said l e) same_heard (subst (λ (l : List ℕ). IsRefusedBy (Some v.after) g h.trees before after files left l h.heard e) same_said k)
 
     no : is_free e ≡ false → IsValidInput g h.trees before (v.said ++ v.after.to_come) ⊎ IsUnheard (bound_of g) (conversation g before) v.heard (v.said ++ v.after.to_come) → ⊥

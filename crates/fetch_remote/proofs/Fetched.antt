@@ -18,7 +18,7 @@ use Rattle.fetch_conversation.specs.declared.conversing.Received.{Received}
 use Rattle.fetch_remote.specs.declared.fetching.fetch_error.FetchError.{FetchError}
 use Rattle.fetch_remote.specs.declared.fetching.outcome.Outcome.{Outcome}
 use Rattle.fetch_store.specs.Trees.{Tree}
-use Rattle.fetch_remote.specs.Fetched.{HasHeard, HasRead, IsJudged, IsWritten, IsLeft, IsKept, IsSafe, IsFetched, policy_at}
+use Rattle.fetch_remote.specs.Fetched.{HasHeard, HasRead, IsJudged, IsWritten, IsLeft, IsKept, IsSafe, IsCarriedOut, IsFetched, policy_at}
 use Rattle.fetch_remote.specs.Fetching.{manner_in, taken_in, settled_in, settled_by, fetched_in, requests_in}
 use Rattle.fetch_remote.specs.Form.{Given}
 use Rattle.fetch_remote.specs.Judging.{IsTold, judged_of}
@@ -144,10 +144,25 @@ is_safe g before m r s u took none = record {
 pub is_kept : (g : Given) (files left : Option Tree) (l : ListedValue) (r : Option Received) (u : Updates) → AreFiles files left (left_tree g.setup.settings.git_dir (at_outcome g l r u).status) → IsKept g files left r u (at_outcome g l r u)
 is_kept g files left l r u h = record { keep = keep_is g.setup.settings.git_dir g.options.dry_run r u; tree = h }
 
+-- what became of what was received
+pub is_carried_out : (known : Option (List Worktree)) (files left : Option Tree) (g : Given) (trees : List Worktree) (before : State) (l : ListedValue) (r : Option Received) (s : State) (u : Updates) → IsTold known trees
+    → taken_in g before (record { listed = l; received = r }) ≡ Ok s → judged_of (policy_in s (manner_in g) trees) l.ref_map ≡ Ok u → AreFiles files left (left_tree g.setup.settings.git_dir (at_outcome g l r u).status)
+    → (r ≡ None → wants_in g before l.ref_map ≡ []) → IsCarriedOut known files left g before (moved_in g s u.edits) r (at_outcome g l r u)
+unfolding is_judged
+is_carried_out known files left g trees before l r s u listed took judged kept none = record {
+  trees = trees;
+  listed_trees = listed;
+  judged = is_judged g trees before l r s u (takes before _ _ s took).refs judged;
+  written = is_written g trees before l r s u (takes before _ _ s took).refs judged;
+  left = has_left g.options.dry_run (manner_in g).packed g before _ r s u took;
+  kept = is_kept g files left l r u kept;
+  safe = is_safe g before l.ref_map r s u took none;
+}
+
 fetched_with : (answers : Bool) (old new : Option Talk) (known : Option (List Worktree)) (files left : Option Tree) (g : Given) (trees : List Worktree) (before : State) (l : ListedValue) (r : Option Received) (rest : List ℕ) (s : State) (u : Updates) → IsTold known trees
     → HasTold answers old new g before l r rest → taken_in g before (record { listed = l; received = r }) ≡ Ok s → judged_of (policy_in s (manner_in g) trees) l.ref_map ≡ Ok u
     → AreFiles files left (left_tree g.setup.settings.git_dir (at_outcome g l r u).status) → IsFetched answers old new known files left g before (moved_in g s u.edits) (at_outcome g l r u)
-unfolding has_read is_judged
+unfolding has_read is_judged is_carried_out
 fetched_with answers old new known files left g trees before l r rest s u listed told took judged kept =
     let k = told_spoken answers old new g before l r rest told in
     let said = said_in answers old new g before l r rest told in
@@ -161,14 +176,8 @@ fetched_with answers old new known files left g trees before l r rest s u listed
       heard = has_heard answers old new g before l r rest told;
       read = read;
       rounds = are_held g before l read.behind read.rest r read.replied;
-      trees = trees;
-      listed_trees = listed;
-      judged = is_judged g trees before l r s u same_refs judged;
+      carried = is_carried_out known files left g trees before l r s u listed took judged kept none;
       one_each = (is_judged g trees before l r s u same_refs judged).one_each ∙ found;
-      written = is_written g trees before l r s u same_refs judged;
-      left = has_left g.options.dry_run (manner_in g).packed g before _ r s u took;
-      kept = is_kept g files left l r u kept;
-      safe = is_safe g before l.ref_map r s u took none;
       whole = λ more. fetched_is g trees before (said ++ more) _ _ (k.answered more) (rw is refl);
     }
 

@@ -1,5 +1,5 @@
 -- What judging answers, over a list of worktrees.
-use Rattle.std.proofs.Common.{◌≡◌, true, false, List, Result, Ok, Err, refl, sym, ap, subst, ◌∙◌}
+use Rattle.std.proofs.Common.{◌≡◌, true, false, List, None, Result, Ok, Err, refl, sym, subst, ◌∙◌}
 use Rattle.std.proofs.lemmas.Bool.{OnFalse_from}
 use Rattle.fetch_store.specs.Answers.{AnswersUnless}
 use Rattle.fetch_specs.specs.Specs.{Spec}
@@ -15,7 +15,7 @@ use Rattle.fetch_update.specs.declared.worktrees.Worktree.{Worktree}
 use Rattle.fetch_update.proofs.Refused.{refused_with}
 use Rattle.fetch_conversation.specs.Errors.{fetch_of_update, is_worktree_fault}
 use Rattle.fetch_conversation.specs.declared.fetch.Error.{Error}
-use Rattle.fetch_conversation.specs.declared.fetch.Error.TheVariants as errors
+use Rattle.fetch_remote.specs.Blame.{fault_in}
 use Rattle.fetch_remote.specs.Judging.{judged_of, is_free_judging}
 
 refuses_no_fault : (p : Policy) (m : Mapping) (e : UpdateError) → Refuses p m e → is_worktree_fault e ≡ false
@@ -55,31 +55,16 @@ told_refusal p m update.WorktreeListing h = tt
 told_refusal p m update.OpenWorktreeRepo h = tt
 told_refusal p m update.FollowSymref h = tt
 
-same_refusal : (a b : UpdateError) → errors.UpdateRefs a ≡ errors.UpdateRefs b → a ≡ b
-same_refusal a b is = cc
-
-isnt_fault : (p : Policy) (m : RefMap) (e fault : UpdateError) → outcome_of p m.refspecs m.extra_refspecs m.mappings ≡ Err e → is_worktree_fault fault ≡ true → errors.UpdateRefs e ≡ errors.UpdateRefs fault → ⊥
-isnt_fault p m e fault is faulty same =
-    let no = no_fault p m.refspecs m.extra_refspecs m.mappings e is in
-    let h : true ≡ false = sym faulty ∙ ap is_worktree_fault (sym (same_refusal e fault same)) ∙ no in
-    cc
-
--- what the policy answers is told as no fault of the worktrees
-pub tells_no_fault : (p : Policy) (m : RefMap) (e fault : UpdateError) → AnswersUnless {A = Outcome} is_memory (outcome_of p m.refspecs m.extra_refspecs m.mappings) (Err e) → is_worktree_fault fault ≡ true → fetch_of_update e ≡ errors.UpdateRefs fault → ⊥
-tells_no_fault p m update.NoMemory fault h faulty is = absurd (cc)
-tells_no_fault p m (update.FindReference name) fault h faulty is = isnt_fault p m (update.FindReference name) fault h faulty is
-tells_no_fault p m (update.InvalidRefName name) fault h faulty is = isnt_fault p m (update.InvalidRefName name) fault h faulty is
-tells_no_fault p m (update.FindCommit id) fault h faulty is = isnt_fault p m (update.FindCommit id) fault h faulty is
-tells_no_fault p m (update.PeelToId name cause) fault h faulty is = isnt_fault p m (update.PeelToId name cause) fault h faulty is
-tells_no_fault p m update.WorktreeListing fault h faulty is = isnt_fault p m update.WorktreeListing fault h faulty is
-tells_no_fault p m update.OpenWorktreeRepo fault h faulty is = isnt_fault p m update.OpenWorktreeRepo fault h faulty is
-tells_no_fault p m update.FollowSymref fault h faulty is = isnt_fault p m update.FollowSymref fault h faulty is
-
--- what `?` returned is the refusal that was told
-pub same_told : {T : Type 0} (r : Result T Error) (e y x : Error) → r ≡ Err y → y ≡ e → r ≡ Err x → e ≡ x
-same_told r e y x is told same =
-    let k : y ≡ x = cc in
-    sym told ∙ k
+-- what the policy answers is told as no fault of the work trees
+pub policy_trees : (p : Policy) (m : RefMap) (e : UpdateError) → AnswersUnless {A = Outcome} is_memory (outcome_of p m.refspecs m.extra_refspecs m.mappings) (Err e) → fault_in (fetch_of_update e) ≡ None
+policy_trees p m update.NoMemory h = refl
+policy_trees p m (update.FindReference name) h = refl
+policy_trees p m (update.InvalidRefName name) h = refl
+policy_trees p m (update.FindCommit id) h = refl
+policy_trees p m (update.PeelToId name cause) h = refl
+policy_trees p m update.WorktreeListing h = let k : true ≡ false = no_fault p m.refspecs m.extra_refspecs m.mappings update.WorktreeListing h in absurd (cc)
+policy_trees p m update.OpenWorktreeRepo h = let k : true ≡ false = no_fault p m.refspecs m.extra_refspecs m.mappings update.OpenWorktreeRepo h in absurd (cc)
+policy_trees p m update.FollowSymref h = let k : true ≡ false = no_fault p m.refspecs m.extra_refspecs m.mappings update.FollowSymref h in absurd (cc)
 
 -- the same answer, over what the slices of the code hold
 pub at_slices : (p : List Worktree → Policy) (m : RefMap) (trees held : List Worktree) (mappings : List Mapping) (specs extra : List Spec) (r : Result Outcome UpdateError) → held ≡ trees → mappings ≡ m.mappings → specs ≡ m.refspecs

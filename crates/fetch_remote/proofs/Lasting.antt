@@ -228,8 +228,8 @@ updates_told git_dir false (Some r) u = by r.pack
     by None = refl
     by (Some p) = refl
 
-updates_are : (answers : Bool) (old new : Option Talk) (known : Option (List Worktree)) (files files_left : Option Tree) (g : Given) (before after : State) (outcome : Outcome) → (h : IsFetched answers old new known files files_left g before after outcome) → updates_in outcome.status ≡ h.judged.updates
-updates_are answers old new known files files_left g before after outcome h = ap updates_in h.judged.status ∙ updates_told g.setup.settings.git_dir g.options.dry_run h.read.received h.judged.updates
+updates_are : (answers : Bool) (old new : Option Talk) (known : Option (List Worktree)) (files files_left : Option Tree) (g : Given) (before after : State) (outcome : Outcome) → (h : IsFetched answers old new known files files_left g before after outcome) → updates_in outcome.status ≡ h.carried.judged.updates
+updates_are answers old new known files files_left g before after outcome h = ap updates_in h.carried.judged.status ∙ updates_told g.setup.settings.git_dir g.options.dry_run h.read.received h.carried.judged.updates
 
 -- ---- the laws
 
@@ -237,15 +237,15 @@ pub others_stay : (answers : Bool) (old new : Option Talk) (known : Option (List
     → (name : List ℕ) → AcceptsNone (updates_in outcome.status) name → finmap.get after.refs.names name ≡ finmap.get before.refs.names name
 others_stay answers old new known files files_left g before after outcome h name none =
     let same = updates_are answers old new known files files_left g before after outcome h in
-    let j = h.judged in
-    rw h.left.refs (kept_name g.options.dry_run (policy_at g h.trees before after) outcome.ref_map.refspecs outcome.ref_map.extra_refspecs outcome.ref_map.mappings j.updates name h.written.carried j.one_each (rw same at none))
+    let j = h.carried.judged in
+    rw h.carried.left.refs (kept_name g.options.dry_run (policy_at g h.carried.trees before after) outcome.ref_map.refspecs outcome.ref_map.extra_refspecs outcome.ref_map.mappings j.updates name h.carried.written.carried j.one_each (rw same at none))
 
 pub new_ids_stay : (answers : Bool) (old new : Option Talk) (known : Option (List Worktree)) (files files_left : Option Tree) (g : Given) (before after : State) (outcome : Outcome) → IsFetched answers old new known files files_left g before after outcome
     → g.options.dry_run ≡ false → (e : RefEdit) (id : ObjectId) → Contains (updates_in outcome.status).edits e → gives e ≡ Some (targets.Object id) → finmap.get before.refs.names e.name ≢ Some (targets.Object id) → IsStored after.objects id
 new_ids_stay answers old new known files files_left g before after outcome h wet e id among given_id other =
     let same = updates_are answers old new known files files_left g before after outcome h in
-    let j = h.judged in
-    stored_node after.objects id (new_ids_stored (policy_at g h.trees before after) outcome.ref_map.refspecs outcome.ref_map.extra_refspecs outcome.ref_map.mappings j.updates j.verdicts wet e id (rw same at among) given_id other)
+    let j = h.carried.judged in
+    stored_node after.objects id (new_ids_stored (policy_at g h.carried.trees before after) outcome.ref_map.refspecs outcome.ref_map.extra_refspecs outcome.ref_map.mappings j.updates j.verdicts wet e id (rw same at among) given_id other)
 
 -- ---- a source that isn't stored
 
@@ -308,12 +308,12 @@ pub all_sources_found : (answers : Bool) (old new : Option Talk) (known : Option
     → (u : Update) (id : ObjectId) → Contains (updates_in outcome.status).updates u → u.mode ≡ modes.RejectedSourceObjectNotFound id → ⊥
 all_sources_found answers old new known files files_left g before after outcome h u id among is =
     let same = updates_are answers old new known files files_left g before after outcome h in
-    let j = h.judged in
+    let j = h.carried.judged in
     let m = outcome.ref_map in
     let there = rw same at among in
     let k = has_mapping m.refspecs m.extra_refspecs m.mappings j.updates u j.one_each there in
     let r = j.rejects.told u k.mapping k.refspec there (record { mapping = k.at; refspec = k.made }) (ap is_accepting is) in
-    not_rejected g h.trees before after m j.updates.edits k.mapping k.refspec id h.safe (contains_at m.mappings u.mapping_index k.mapping k.at) k.made (subst (λ (mode : Mode). IsRejected (policy_at g h.trees before after) j.updates.edits k.refspec k.mapping mode) is r)
+    not_rejected g h.carried.trees before after m j.updates.edits k.mapping k.refspec id h.carried.safe (contains_at m.mappings u.mapping_index k.mapping k.at) k.made (subst (λ (mode : Mode). IsRejected (policy_at g h.carried.trees before after) j.updates.edits k.refspec k.mapping mode) is r)
 
 -- ---- packed and loose
 

@@ -83,9 +83,7 @@ broken_for : (answers : Bool) (old new : Option Talk) (known : Option (List Work
 broken_for answers old new known files g before e sure h = record {
   said = h.said;
   heard = h.heard;
-  passed = h.passed;
-  front = rw (in_form g before h.said) h.front;
-  needed = h.needed;
+  exchanged = record { passed = h.passed; front = rw (in_form g before h.said) h.front; needed = h.needed };
   trees = list_of known;
   listed_trees = list_told known;
   why = λ bound_to. early_by new g (list_of known) before files h.said h.heard e (h.why bound_to);
@@ -99,9 +97,7 @@ broken_free : (answers : Bool) (old new : Option Talk) (known : Option (List Wor
 broken_free answers old new known files g before said heard e free passed front needed counted = record {
   said = said;
   heard = heard;
-  passed = passed;
-  front = rw (in_form g before said) front;
-  needed = needed;
+  exchanged = record { passed = passed; front = rw (in_form g before said) front; needed = needed };
   trees = list_of known;
   listed_trees = list_told known;
   why = λ sure. absurd (cc (free, sure));
@@ -261,9 +257,7 @@ not_settled answers old new known files left g before after l r rest e told u =
     record {
       said = said;
       heard = heard;
-      passed = h.passed;
-      front = front_all g before said heard h.asked;
-      needed = h.needed;
+      exchanged = record { passed = h.passed; front = front_all g before said heard h.asked; needed = h.needed };
       trees = u.trees;
       listed_trees = u.listed_trees;
       why = λ sure.

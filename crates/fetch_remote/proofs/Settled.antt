@@ -32,12 +32,14 @@ use Rattle.fetch_remote.specs.declared.fetching.outcome.Outcome.{Outcome}
 use Rattle.fetch_remote.specs.declared.fetching.outcome.Status.{Status}
 use Rattle.fetch_remote.specs.declared.fetching.settling.Manner.{Manner}
 use Rattle.fetch_remote.specs.Fetched.{HoldsMapped, objects_with, border_with}
+use Rattle.fetch_remote.specs.Blame.{fault_in, keep_fault_in}
 use Rattle.fetch_remote.specs.Errors.{is_memory}
 use Rattle.fetch_remote.specs.Form.{Given}
 use Rattle.fetch_remote.specs.Judging.{judged_as, judged_of, is_free_judging, IsTold, Judges}
 use Rattle.fetch_remote.specs.Repositories.{State, Setup, held}
 use Rattle.fetch_remote.specs.Keeping.{AreFiles, IsUnmade, made, with_keep}
 use Rattle.fetch_remote.specs.Settling.{◌>>=◌, unless_hit, unless_missing, brought, keep_of, pack_of, after_take, taken, policy_in, moved, outcome_in, status_of, status_by, told_of, released_of, done, settled, IsOfJudging, is_early, is_free_taking, is_free_settling, IsMaking, IsMade, IsTaken, IsMoved, IsUntaken, IsUnreleased, IsUnsettledBy}
+use Rattle.fetch_remote.proofs.Blamed.{tells_no_trees, tells_no_keep}
 use Rattle.fetch_remote.proofs.Keeping.{files_same, same_files, status_is, removed_is, gone_made}
 use Rattle.fetch_remote.specs.Stages.{wants_in}
 use Rattle.fetch_remote.proofs.Wanted.{stored_or_wanted}
@@ -181,8 +183,13 @@ untaken setup how trees before wants l r files left e h = record {
     only : (x : Error) → is_free_taking x ≡ false → e ≡ x → IsOfTaking x
     only x sure is = taking_only before wants (brought how.dry_run r) e x (h.why (ap is_free_taking is ∙ sure)).0 is
 
-pub untaken_unremoved : (before : State) (wants : List ObjectId) (r : Option Received) (keep : Option (List ℕ)) (files left : Option Tree) (e : Error) (path : List ℕ) → IsUntaken (taken before wants r) keep files left e → e ≡ errors.RemovePackKeepFile path → ⊥
-untaken_unremoved before wants r keep files left e path h is = taking_only before wants r e (errors.RemovePackKeepFile path) (h.why (ap is_free_taking is)).0 is
+-- a taking that is refused tells no fault of the work trees
+pub untaken_trees : (before : State) (wants : List ObjectId) (r : Option Received) (keep : Option (List ℕ)) (files left : Option Tree) (e : Error) → IsUntaken (taken before wants r) keep files left e → fault_in e ≡ None
+untaken_trees before wants r keep files left e h = tells_no_trees e (λ cause is. taking_only before wants r e (errors.UpdateRefs cause) (h.why (ap is_free_taking is)).0 is)
+
+-- nor a keep file, before any call of the files
+pub refused_keep : (before : State) (wants : List ObjectId) (r : Option Received) (e : Error) → AnswersUnless {A = State} is_memory (taken before wants r) (Err e) → keep_fault_in e ≡ None
+refused_keep before wants r e h = tells_no_keep e (λ path is. never_unmade before wants r e path h is) (λ path is. of_taking before wants r (errors.RemovePackKeepFile path) (rw is at h))
 
 -- ---- judging is refused after the taking
 

@@ -46,17 +46,19 @@ use Rattle.fetch_remote.specs.Refused.{IsRefused}
 use Rattle.fetch_remote.specs.Repositories.{State}
 use Rattle.fetch_remote.specs.Settling.{policy_in, IsSettled}
 use Rattle.fetch_remote.specs.Stages.{bound_of, wants_in, inquiry_in, terms_in, pack_stage}
-use Rattle.fetch_remote.specs.Steps.{HasListed, BreaksOff, HasReceived, IsReceived, listing_error, is_missing}
+use Rattle.fetch_remote.specs.Steps.{HasListed, BreaksOff, HasReceived, IsReceived, IsUnreceived, ReceivesBy, listing_error, is_missing}
 use Rattle.fetch_remote.specs.Talking.{HasEnded, BreaksListing, BreaksReceiving}
 use Rattle.fetch_remote.specs.declared.fetching.fetch_error.FetchError.TheVariants as errors
 use Rattle.fetch_remote.specs.declared.fetching.outcome.Outcome.{Outcome}
 use Rattle.fetch_remote.specs.declared.fetching.talking.Talked.{Talked}
-use Rattle.fetch_remote.proofs.Fetched.{at_outcome, moved_in, is_judged, is_written, has_left, is_kept, is_safe}
+use Rattle.fetch_remote.proofs.Fetched.{at_outcome, moved_in, is_carried_out}
 use Rattle.fetch_remote.proofs.Negotiated.{are_held}
-use Rattle.fetch_remote.proofs.Settled.{settled_as, takes}
+use Rattle.fetch_remote.proofs.Settled.{settled_as}
 use Rattle.fetch_conversation.proofs.Tied.{broken_free}
 use Rattle.fetch_remote.proofs.Received.{is_received}
 use Rattle.fetch_remote.proofs.Refused.{broken_off}
+use Rattle.fetch_remote.specs.Blame.{fault_in, keep_fault_in}
+use Rattle.fetch_remote.proofs.Blamed.{tells_no_trees, tells_no_keep}
 use Rattle.fetch_remote.proofs.Unjudged.{IsOther, refused_as}
 
 -- ---- the second stage after the first
@@ -93,6 +95,17 @@ is_spoken answers mid new g s listed e x apart sure b is =
     let k = subst (λ (y : ReceiveError). Breaks is_free_receiving is_stopped answers (bound_of g) mid new (pending_of listed) (pack_stage g s (shown listed)) y) is b in
     refused_as new g s (shown listed) _ _ x apart (k.why sure)
 
+-- a conversation tells no fault of the work trees
+pub spoken_trees : (answers : Bool) (mid new : Option Talk) (g : Given) (s : State) (listed : Listed) (e : ReceiveError)
+    → Breaks is_free_receiving is_stopped answers (bound_of g) mid new (pending_of listed) (pack_stage g s (shown listed)) e → fault_in e ≡ None
+spoken_trees answers mid new g s listed e b = tells_no_trees e (λ cause is. is_spoken answers mid new g s listed e (receive.UpdateRefs cause) (λ x. x) refl b is)
+
+-- nor a keep file
+pub spoken_keep : (answers : Bool) (mid new : Option Talk) (g : Given) (s : State) (listed : Listed) (e : ReceiveError)
+    → Breaks is_free_receiving is_stopped answers (bound_of g) mid new (pending_of listed) (pack_stage g s (shown listed)) e → keep_fault_in e ≡ None
+spoken_keep answers mid new g s listed e b =
+    tells_no_keep e (λ path is. is_spoken answers mid new g s listed e (receive.KeepFile path) (λ x. x) refl b is) (λ path is. is_spoken answers mid new g s listed e (receive.RemovePackKeepFile path) (λ x. x) refl b is)
+
 -- memory runs out after the listing
 pub forgot_on : (answers : Bool) (old now : Option Talk) (known : Option (List Worktree)) (files : Option Tree) (g : Given) (before : State) (listed : Listed) → HasListed answers old now (inquiry_in g) listed
     → IsRefused answers old now known files files g before before errors.NoMemory
@@ -103,7 +116,6 @@ forgot_on answers old now known files g before listed h = broken_off answers old
 received_with : (answers : Bool) (mid new : Option Talk) (known : Option (List Worktree)) (files left : Option Tree) (g : Given) (trees : List Worktree) (before : State) (listed : Listed) (r : Option Received) (rest : List ℕ) (s : State) (u : Updates) → IsTold known trees
     → Concludes answers (bound_of g) mid new (pending_of listed) (pack_stage g before (shown listed)) r rest → taken_in g before (record { listed = shown listed; received = r }) ≡ Ok s → judged_of (policy_in s (manner_in g) trees) listed.ref_map ≡ Ok u
     → AreFiles files left (left_tree g.setup.settings.git_dir (at_outcome g (shown listed) r u).status) → IsReceived answers mid new known files left g before (moved_in g s u.edits) listed (at_outcome g (shown listed) r u)
-unfolding is_judged
 received_with answers mid new known files left g trees before listed r rest s u told pack took judged kept =
     let none = (is_received (bound_of g) (graph_of before.objects) (terms_in g before (shown listed)) _ r _ (pack.answered [])).none in
     record {
@@ -112,13 +124,7 @@ received_with answers mid new known files left g trees before listed r rest s u 
       rest = rest;
       pack = pack;
       rounds = are_held g before (shown listed) (pending_of listed ++ pack.said) rest r (λ more. rw append_assoc (pack.answered more));
-      trees = trees;
-      listed_trees = told;
-      judged = is_judged g trees before (shown listed) r s u (takes before _ _ s took).refs judged;
-      written = is_written g trees before (shown listed) r s u (takes before _ _ s took).refs judged;
-      left = has_left g.options.dry_run (manner_in g).packed g before _ r s u took;
-      kept = is_kept g files left (shown listed) r u kept;
-      safe = is_safe g before listed.ref_map r s u took none;
+      carried = is_carried_out known files left g trees before (shown listed) r s u told took judged kept none;
     }
 
 pub has_received : (answers : Bool) (mid new : Option Talk) (known : Option (List Worktree)) (files left : Option Tree) (g : Given) (before after : State) (listed : Listed) (outcome : Outcome) (r : Option Received) (rest : List ℕ)
@@ -141,11 +147,11 @@ pub of_err : {A E : Type 0} {P S : E → Type 0} (r : Result A E) → ((e : E) �
 of_err (Ok x) f p = tt
 of_err (Err e) f p = f e p
 
--- what `?` returned is the refusal that was told
-pub same_error : {T E : Type 0} (r : Result T E) (e y x : E) → r ≡ Err y → y ≡ e → r ≡ Err x → e ≡ x
-same_error r e y x is told same =
-    let k : y ≡ x = cc in
-    sym told ∙ k
+-- what is left, or why it was refused
+pub received_by : (answers : Bool) (mid new : Option Talk) (known : Option (List Worktree)) (files left : Option Tree) (g : Given) (before after : State) (listed : Listed) (r : Result Outcome ReceiveError)
+    → IfOk r (λ outcome. IsReceived answers mid new known files left g before after listed outcome) → IfErr r (λ e. IsUnreceived answers mid new known files left g before after listed e) → ReceivesBy answers mid new known files left g before after listed r
+received_by answers mid new known files left g before after listed (Ok outcome) h k = h
+received_by answers mid new known files left g before after listed (Err e) h k = k
 
 -- ---- a listing by itself isn't refused for want of a refspec
 
@@ -258,14 +264,3 @@ pub told_by : (answers : Bool) (old new : Option Talk) (bound : ℕ) (c : Conver
 told_by answers old new bound c prepare.MissingRefSpecs isnt b = absurd (cc)
 told_by answers old new bound c (prepare.RefMap e) isnt b = told_map answers old new bound c e b
 told_by answers old new bound c prepare.NoMemory isnt b = b
-
--- a fault and a yes are told as such
-pub transport_is : (e : PrepareError) → listing_error e ≡ ref_map.Transport → e ≡ prepare.RefMap ref_map.Transport
-transport_is prepare.MissingRefSpecs is = absurd (cc)
-transport_is (prepare.RefMap e) is = rw is refl
-transport_is prepare.NoMemory is = absurd (cc)
-
-pub interrupted_is : (e : PrepareError) → listing_error e ≡ ref_map.Interrupted → e ≡ prepare.RefMap ref_map.Interrupted
-interrupted_is prepare.MissingRefSpecs is = absurd (cc)
-interrupted_is (prepare.RefMap e) is = rw is refl
-interrupted_is prepare.NoMemory is = absurd (cc)

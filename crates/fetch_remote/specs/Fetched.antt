@@ -170,6 +170,18 @@ pub record IsSafe (g : Given) (before after : State) (m : RefMap) : Type 0 where
   pub closed : IsClosed (held before) → IsClosed (held after)
   pub holds : g.options.dry_run ≡ false → HoldsMapped g m after.objects
 
+-- What became of what was received: of the mappings and the edits, of the repository and the files; and that it is safe.
+pub record IsCarriedOut (known : Option (List Worktree)) (files files_left : Option Tree) (g : Given) (before after : State)
+    (received : Option Received) (outcome : Outcome) : Type 0 where
+  -- The worktrees' list is the one that is told.
+  pub trees : List Worktree
+  pub listed_trees : IsTold known trees
+  pub judged : IsJudged g trees before after received outcome
+  pub written : IsWritten g trees before after outcome judged.updates
+  pub left : IsLeft g.options.dry_run (manner_in g).packed g.setup before after received judged.updates
+  pub kept : IsKept g files files_left received judged.updates outcome
+  pub safe : IsSafe g before after outcome.ref_map
+
 -- ---- the headline
 
 -- What holds after a fetch that was done.
@@ -180,15 +192,8 @@ pub record IsFetched (answers : Bool) (old new : Option Talk) (known : Option (L
   pub read : HasRead g before said outcome
   -- One round a request was held, and told what is there.
   pub rounds : AreHeld g before (listed_in outcome) read.behind read.received
-  -- The worktrees' list is the one that is told.
-  pub trees : List Worktree
-  pub listed_trees : IsTold known trees
-  pub judged : IsJudged g trees before after read.received outcome
+  pub carried : IsCarriedOut known files files_left g before after read.received outcome
   -- Each mapping has one update, in order.
-  pub one_each : map (λ u. u.mapping_index) judged.updates.updates ≡ range_with_len 0 (length outcome.ref_map.mappings)
-  pub written : IsWritten g trees before after outcome judged.updates
-  pub left : IsLeft g.options.dry_run (manner_in g).packed g.setup before after read.received judged.updates
-  pub kept : IsKept g files files_left read.received judged.updates outcome
-  pub safe : IsSafe g before after outcome.ref_map
+  pub one_each : map (λ u. u.mapping_index) carried.judged.updates.updates ≡ range_with_len 0 (length outcome.ref_map.mappings)
   -- All of it is what the whole fetch gives, so that no other refusal stood against it.
-  pub whole : (more : List ℕ) → fetched_in g trees before (said ++ more) ≡ Ok (outcome, after)
+  pub whole : (more : List ℕ) → fetched_in g carried.trees before (said ++ more) ≡ Ok (outcome, after)

@@ -14,6 +14,7 @@ pub mod Reloads
 pub mod Threads
 pub mod Judging
 pub mod Keeping
+pub mod Blame
 pub mod Settling
 pub mod Form
 pub mod Stages

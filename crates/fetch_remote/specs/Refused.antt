@@ -156,16 +156,19 @@ pub record IsCounted (g : Given) (trees : List Worktree) (before after : State) 
 
 -- ---- the refusal
 
+-- What the peer gave in the call is what it said, and it heard a prefix of the requests for that.
+pub record HasHeardSome (answers : Bool) (old new : Option Talk) (g : Given) (before : State) (said heard : List ℕ) : Type 0 where
+  pub passed : Talks answers old new heard said
+  pub front : IsFront heard (lines_text (requests_in g before said))
+  -- Each receive was made where it had heard all that was to be sent so far, and a reply was still awaited.
+  pub needed : IsAwaited (bound_of g) old new [] (conversation g before)
+
 -- What holds after a fetch that was refused.
 pub record IsRefused (answers : Bool) (old new : Option Talk) (known : Option (List Worktree)) (files files_left : Option Tree) (g : Given)
     (before after : State) (e : FetchError) : Type 0 where
-  -- What the peer gave in the call is what it said, and it heard a prefix of the requests for that. Each receive was
-  -- made where it had heard all that was to be sent so far, and a reply was still awaited.
   pub said : List ℕ
   pub heard : List ℕ
-  pub passed : Talks answers old new heard said
-  pub front : IsFront heard (lines_text (requests_in g before said))
-  pub needed : IsAwaited (bound_of g) old new [] (conversation g before)
+  pub exchanged : HasHeardSome answers old new g before said heard
   -- The worktrees' list is the one that is told.
   pub trees : List Worktree
   pub listed_trees : IsTold known trees

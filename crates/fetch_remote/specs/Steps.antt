@@ -2,15 +2,16 @@
 use Rattle.std.specs.Prelude.{◌≡◌, ◌⊎◌, ℕ, Bool, true, false, List, [], ◌++◌, Option, None, Result, Ok, Err}
 use Rattle.std.specs.Borrow.{Fml, RattleType, MutBor, Lends}
 use mir.Syntax.{named}
-use Rattle.fetch_store.specs.Faults.{Faults, Rose, Counts}
+use Rattle.fetch_store.specs.Faults.{Faults}
 use Rattle.fetch_negotiate.specs.declared.algorithm.Shallow.TheVariants.{NoChange}
 use Rattle.fetch_store.specs.Trees.{Tree}
 use Rattle.fetch_update.specs.declared.worktrees.Worktree.{Worktree}
 use Rattle.fetch_wire.specs.Talks.{Talk}
+use Rattle.fetch_conversation.specs.Blame.{BlamesPeer, BlamesInterrupt}
 use Rattle.fetch_conversation.specs.Conversation.{Concludes, Breaks}
-use Rattle.fetch_conversation.specs.Errors.{is_free_listing, is_free_receiving, is_interrupted, prepare_of, is_stopped}
+use Rattle.fetch_conversation.specs.Errors.{is_free_listing, is_free_receiving, is_interrupted, is_transport, prepare_of, is_stopped}
 use Rattle.fetch_conversation.specs.ListStage.{InquiryValue, ListedValue, list_stage, inquiry_stage, shown, pending_of}
-use Rattle.fetch_conversation.specs.Receiving.{IsHeeded}
+use Rattle.fetch_conversation.specs.Receiving.{last_question}
 use Rattle.fetch_conversation.specs.declared.conversing.Received.{Received}
 use Rattle.fetch_conversation.specs.declared.fetch.Error.{Error as ReceiveError}
 use Rattle.fetch_conversation.specs.declared.listing.Listed.{Listed}
@@ -19,10 +20,9 @@ use Rattle.fetch_conversation.specs.declared.prepare.Error.TheVariants as prepar
 use Rattle.fetch_conversation.specs.declared.ref_map.Error.{Error as MapError}
 use Rattle.fetch_conversation.specs.declared.ref_map.Error.TheVariants as ref_map
 use Rattle.fetch_conversation.specs.declared.ref_map.Options.{Options}
-use Rattle.fetch_remote.specs.Fetched.{listed_in, IsJudged, IsWritten, IsLeft, IsKept, IsSafe}
+use Rattle.fetch_remote.specs.Fetched.{listed_in, IsCarriedOut}
 use Rattle.fetch_remote.specs.Fetching.{manner_in}
 use Rattle.fetch_remote.specs.Form.{Given}
-use Rattle.fetch_remote.specs.Judging.{IsTold}
 use Rattle.fetch_remote.specs.Negotiated.{AreHeld}
 use Rattle.fetch_remote.specs.Remotes.{RemoteValue}
 use Rattle.fetch_remote.specs.Repositories.{State, Setup}
@@ -92,14 +92,12 @@ pub record HasListed (answers : Bool) (old now : Option Talk) (q : InquiryValue)
 pub record BreaksOff (answers : Bool) (old now : Option Talk) (q : InquiryValue) (e : PrepareError) : Type 0 where
   pub broke : Breaks is_free_listing is_interrupted answers q.options.max_reply_bytes old now [] (list_stage q.options.max_reply_bytes q) e
 
--- The listing broke off, with the peer left so. The peer's fault is told only where its count rose, and the interrupt was
--- asked once before each receive.
-pub record IsUnlisted {P : Type 0} (told : P → Option Talk) (faults : P → Faults) (answers : Bool) (will will' : ℕ → Type 0)
-    (q : InquiryValue) (before last : P) (e : PrepareError) : Type 0 where
+-- The listing broke off, with the peer left so. Peer and interrupt are blamed only where their counts rose.
+pub record IsUnlisted {P : Type 0} (told : P → Option Talk) (faults : P → Faults) (answers : Bool) (yes yes' : Faults)
+    (will will' : ℕ → Type 0) (q : InquiryValue) (before last : P) (e : PrepareError) : Type 0 where
   pub off : BreaksOff answers (told before) (told last) q e
-  pub counts : Counts (faults before) (faults last)
-  pub transport : e ≡ prepare.RefMap ref_map.Transport → Rose (faults before) (faults last)
-  pub questions : IsHeeded {T = Listed} is_interrupted will will' (told before) (told last) (Err e)
+  pub peer : BlamesPeer (faults before) (faults last) (is_transport e)
+  pub interrupt : BlamesInterrupt yes yes' will will' (told before) (told last) (last_question {T = Listed} is_interrupted (Err e))
 
 -- ---- the first stage by itself
 
@@ -153,13 +151,7 @@ pub record IsReceived (answers : Bool) (mid new : Option Talk) (known : Option (
   pub rest : List ℕ
   pub pack : Concludes answers (bound_of g) mid new (pending_of listed) (pack_stage g before (shown listed)) received rest
   pub rounds : AreHeld g before (shown listed) (pending_of listed ++ pack.said) received
-  pub trees : List Worktree
-  pub listed_trees : IsTold known trees
-  pub judged : IsJudged g trees before after received outcome
-  pub written : IsWritten g trees before after outcome judged.updates
-  pub left : IsLeft g.options.dry_run (manner_in g).packed g.setup before after received judged.updates
-  pub kept : IsKept g files files_left received judged.updates outcome
-  pub safe : IsSafe g before after outcome.ref_map
+  pub carried : IsCarriedOut known files files_left g before after received outcome
 
 -- A call that goes on with what was listed broke off in its conversation: all is as found.
 pub record IsCutOff (answers : Bool) (mid new : Option Talk) (files files_left : Option Tree) (g : Given) (before after : State)
@@ -183,3 +175,11 @@ abbrev pub IsUnreceived : Bool → Option Talk → Option Talk → Option (List 
 IsUnreceived answers mid new known files files_left g before after listed e =
     IsCutOff answers mid new files files_left g before after listed e
     ⊎ IsTurnedDown answers mid new known files files_left g before after listed e
+
+-- What a call leaves that goes on with what was listed, or why it was refused.
+abbrev pub ReceivesBy : Bool → Option Talk → Option Talk → Option (List Worktree) → Option Tree → Option Tree → Given → State → State
+    → Listed → Result Outcome ReceiveError → Type 0
+ReceivesBy answers mid new known files files_left g before after listed (Ok outcome) =
+    IsReceived answers mid new known files files_left g before after listed outcome
+ReceivesBy answers mid new known files files_left g before after listed (Err e) =
+    IsUnreceived answers mid new known files files_left g before after listed e

@@ -47,17 +47,21 @@ pub record IsValidInput (g : Given) (trees : List Worktree) (s : State) (stream 
   pub pack : IfSome (brought g.options.dry_run told.received) (IsTakeable s (wants_in g s told.listed.ref_map))
   pub mappings : AreJudgeable (policy_with g trees s told) told.listed.ref_map
 
+-- In a call the peer heard this and gave this, and stands so at its end.
+pub record HasExchanged (old new : Option Talk) (after : Talk) (heard said : List ℕ) : Type 0 where
+  pub before : Talk
+  pub told_before : old ≡ Some before
+  pub told_after : new ≡ Some after
+  pub hears : after.heard ≡ before.heard ++ heard
+  pub gave : after.given ≡ before.given ++ said
+
 -- The input of a call is valid: what the peer gave in it, with what is still to come at its end, and the list of worktrees,
 -- where that is told.
 pub record HasValidInput (old new : Option Talk) (known : Option (List Worktree)) (g : Given) (s : State) : Type 0 where
-  pub before : Talk
   pub after : Talk
-  pub told_before : old ≡ Some before
-  pub told_after : new ≡ Some after
   pub heard : List ℕ
-  pub hears : after.heard ≡ before.heard ++ heard
   pub said : List ℕ
-  pub gave : after.given ≡ before.given ++ said
+  pub exchanged : HasExchanged old new after heard said
   -- They are replies to all requests of the fetch, or at least to each that was heard whole.
   pub valid : (trees : List Worktree) → IsTold known trees → IsValidInput g trees s (said ++ after.to_come)
       ⊎ IsUnheard (bound_of g) (conversation g s) heard (said ++ after.to_come)

@@ -15,12 +15,12 @@ ghost use Rattle.fetch_specs.specs.Categories.{shortened};
 ghost use Rattle.fetch_config.specs.Print.{text_of};
 ghost use Rattle.fetch_lookup.specs.Removed.{without_branches};
 ghost use Rattle.fetch_refs.specs.Names.{name_cmp};
-ghost use Rattle.fetch_remote.specs.Judging.{IsOnce};
 ghost use Rattle.fetch_remote.specs.Deleting as spec;
 ghost use Rattle.fetch_remote.specs.DeletionSteps as steps;
-ghost use Rattle.fetch_remote.specs.Repositories.{state_of, setup_of, in_force};
+ghost use Rattle.fetch_remote.specs.Repositories.{state_of, setup_of};
 ghost use Rattle.fetch_remote.specs.declared.delete.Error.TheVariants as errors;
 ghost use Rattle.fetch_remote.specs.declared.repository.open_error.OpenError.TheVariants as causes;
+ghost use Rattle.fetch_remote.specs.Blame.{BlamesWorktrees, fault_deleting, told_by, lent_trees};
 
 use crate::delete::{CleanupError, Error};
 use crate::deleting::undeletable::{check_local, check_unheld};
@@ -74,14 +74,8 @@ impl Repository {
             (spec.in_order names.now) (state_of self.old) (state_of self.new)) }
         ensures setup { OnErr result (setup_of self.new ≡ setup_of self.old) }
         ensures unasked { IfErr result (λ e. OnTrue (spec.is_unlocal e) (worktrees.new ≡ worktrees.old)) }
-        ensures listing { IsErrOf result errors.WorktreeListing → Rose (W.listing worktrees.old) (W.listing worktrees.new) }
-        ensures open_repo { IsErrOf result errors.OpenWorktreeRepo → Rose (W.open_repo worktrees.old) (W.open_repo worktrees.new) }
-        ensures follow_symref { IsErrOf result errors.FollowSymref → Rose (W.follow_symref worktrees.old) (W.follow_symref worktrees.new) }
-        ensures listing_counts { Counts (W.listing worktrees.old) (W.listing worktrees.new) }
-        ensures open_repo_counts { Counts (W.open_repo worktrees.old) (W.open_repo worktrees.new) }
-        ensures follow_symref_counts { Counts (W.follow_symref worktrees.old) (W.follow_symref worktrees.new) }
-        ensures told { W.told worktrees.new ≡ W.told worktrees.old }
-        ensures asked_once { IsOnce (W.asked worktrees.old) (W.asked worktrees.new) }
+        ensures worktrees { BlamesWorktrees (lent_trees W.told W.asked W.listing W.open_repo W.follow_symref worktrees.old)
+            (lent_trees W.told W.asked W.listing W.open_repo W.follow_symref worktrees.new) (told_by fault_deleting result) }
         ensures untouched { IfErr result (λ e. OnTrue (spec.is_before_files e) (files.new ≡ files.old)) }
         ensures file_fault { IfErr result (λ e. OnTrue (spec.is_file_fault e) (Rose (F.faults files.old) (F.faults files.new))) }
         ensures in_the_way { IfErr result (spec.IsInTheWay (F.may_fail files.old) (F.told files.old) (F.told files.new)

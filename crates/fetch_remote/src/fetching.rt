@@ -11,23 +11,17 @@ pub mod preparing;
 pub mod settling;
 pub mod talking;
 
-ghost use Rattle.std.specs.Prelude.{◌≡◌, ℕ, true, false, List, Some, None, IfOk, IfErr, OnOk, IsErrOf};
-ghost use Rattle.fetch_store.specs.Faults.{Rose, Counts};
-ghost use Rattle.fetch_store.specs.FileCalls.{IsRefused as IsBlocked};
-ghost use Rattle.fetch_conversation.specs.Receiving.{IsHeeded};
-ghost use Rattle.fetch_conversation.specs.declared.fetch.Error.TheVariants as receive_errors;
-ghost use Rattle.fetch_conversation.specs.declared.prepare.Error.TheVariants as prepare_errors;
-ghost use Rattle.fetch_conversation.specs.declared.ref_map.Error.TheVariants as ref_map_errors;
-ghost use Rattle.fetch_update.specs.declared.update.Error.TheVariants as update_errors;
-ghost use Rattle.fetch_remote.specs.Judging.{IsOnce};
-ghost use Rattle.fetch_remote.specs.Errors.{is_free, is_yes};
+ghost use Rattle.std.specs.Prelude.{◌≡◌, true, Some, None, IfOk, IfErr};
+ghost use Rattle.fetch_conversation.specs.Receiving.{last_question};
+ghost use Rattle.fetch_remote.specs.Errors.{is_free, is_yes, is_of_peer};
 ghost use Rattle.fetch_remote.specs.Fetched.{IsFetched};
 ghost use Rattle.fetch_remote.specs.Fetching.{manner_of, message_of, places_of};
-ghost use Rattle.fetch_remote.specs.Keeping.{made_in, with_keep};
 ghost use Rattle.fetch_remote.specs.Refused.{IsRefused, is_early};
 ghost use Rattle.fetch_remote.specs.Repositories.{state_of, setup_of};
 ghost use Rattle.fetch_remote.specs.Valid.{HasValidInput};
-ghost use Rattle.fetch_remote.specs.declared.fetching.fetch_error.FetchError.TheVariants as errors;
+ghost use Rattle.fetch_conversation.specs.Blame.{BlamesPeer, BlamesInterrupt, is_told};
+ghost use Rattle.fetch_remote.specs.Blame.{BlamesFiles, BlamesWorktrees, SparesFiles, fault_told, keep_fault_told};
+ghost use Rattle.fetch_remote.specs.Blame.{lent_files, lent_trees, told_by};
 
 use crate::fetching::connection::listed_for;
 use crate::fetching::fetch_error::FetchError;
@@ -82,43 +76,15 @@ impl Remote {
         ensures complete { IfErr result (λ e. HasValidInput (P.told peer.old) (P.told peer.new) (W.told worktrees.old)
             (record { remote = self.now; options = options; setup = setup_of repo.old }) (state_of repo.old) → is_free e ≡ true) }
         ensures setup { setup_of repo.new ≡ setup_of repo.old }
-        ensures counts { Counts (P.faults peer.old) (P.faults peer.new) }
-        ensures transport { IsErrOf result (errors.Prepare (prepare_errors.RefMap ref_map_errors.Transport))
-            → Rose (P.faults peer.old) (P.faults peer.new) }
-        ensures client { IsErrOf result (errors.Receive receive_errors.Client) → Rose (P.faults peer.old) (P.faults peer.new) }
-        ensures asked { Counts (I.yes interrupt.old) (I.yes interrupt.new) }
-        ensures interrupted { IsErrOf result (errors.Prepare (prepare_errors.RefMap ref_map_errors.Interrupted))
-            → Rose (I.yes interrupt.old) (I.yes interrupt.new) }
-        ensures stopped { IsErrOf result (errors.Receive receive_errors.Interrupted) → Rose (I.yes interrupt.old) (I.yes interrupt.new) }
-        ensures uninterrupted { OnOk result ((I.yes interrupt.new).count ≡ (I.yes interrupt.old).count) }
-        // The interrupt is asked once before each receive, and no oftener.
-        ensures questions { IsHeeded is_yes (I.will_stop interrupt.old) (I.will_stop interrupt.new) (P.told peer.old)
-            (P.told peer.new) result }
-        ensures dry { options.dry_run ≡ true → files.new ≡ files.old }
-        ensures unread { IfOk result (λ outcome. made_in (setup_of repo.old).settings.git_dir outcome.status ≡ None
-            → files.new ≡ files.old) }
-        ensures early { IfErr result (λ e. is_early e ≡ true → files.new ≡ files.old) }
-        ensures file_counts { Counts (F.faults files.old) (F.faults files.new) }
-        ensures keep_file { (path : List ℕ) → IsErrOf result (errors.Receive (receive_errors.KeepFile path))
-            → Rose (F.faults files.old) (F.faults files.new) }
-        ensures in_the_way { (path : List ℕ) → IsErrOf result (errors.Receive (receive_errors.KeepFile path))
-            → IsBlocked (F.may_fail files.old) (F.told files.old) (with_keep (Some path)) }
-        ensures remove_keep_file { (path : List ℕ) → IsErrOf result (errors.Receive (receive_errors.RemovePackKeepFile path))
-            → Rose (F.faults files.old) (F.faults files.new) }
-        ensures removable { (path : List ℕ) → IsErrOf result (errors.Receive (receive_errors.RemovePackKeepFile path))
-            → F.may_fail files.old ≡ false → F.told files.old ≡ None }
-        ensures may_fail { F.may_fail files.new ≡ F.may_fail files.old }
-        ensures told { W.told worktrees.new ≡ W.told worktrees.old }
-        ensures asked_once { IsOnce (W.asked worktrees.old) (W.asked worktrees.new) }
-        ensures listing_counts { Counts (W.listing worktrees.old) (W.listing worktrees.new) }
-        ensures open_repo_counts { Counts (W.open_repo worktrees.old) (W.open_repo worktrees.new) }
-        ensures follow_symref_counts { Counts (W.follow_symref worktrees.old) (W.follow_symref worktrees.new) }
-        ensures listing { IsErrOf result (errors.Receive (receive_errors.UpdateRefs update_errors.WorktreeListing))
-            → Rose (W.listing worktrees.old) (W.listing worktrees.new) }
-        ensures open_repo { IsErrOf result (errors.Receive (receive_errors.UpdateRefs update_errors.OpenWorktreeRepo))
-            → Rose (W.open_repo worktrees.old) (W.open_repo worktrees.new) }
-        ensures follow_symref { IsErrOf result (errors.Receive (receive_errors.UpdateRefs update_errors.FollowSymref))
-            → Rose (W.follow_symref worktrees.old) (W.follow_symref worktrees.new) }
+        ensures peer { BlamesPeer (P.faults peer.old) (P.faults peer.new) (is_told is_of_peer result) }
+        ensures interrupt { BlamesInterrupt (I.yes interrupt.old) (I.yes interrupt.new) (I.will_stop interrupt.old)
+            (I.will_stop interrupt.new) (P.told peer.old) (P.told peer.new) (last_question is_yes result) }
+        ensures files { BlamesFiles (lent_files F.may_fail F.told F.faults files.old)
+            (lent_files F.may_fail F.told F.faults files.new) (told_by keep_fault_told result) }
+        ensures untouched { SparesFiles result (λ outcome. outcome.status) is_early options.dry_run (setup_of repo.old).settings.git_dir
+            (files.new ≡ files.old) }
+        ensures worktrees { BlamesWorktrees (lent_trees W.told W.asked W.listing W.open_repo W.follow_symref worktrees.old)
+            (lent_trees W.told W.asked W.listing W.open_repo W.follow_symref worktrees.new) (told_by fault_told result) }
     {
         let FetchOptions {
             map,

@@ -57,11 +57,9 @@ impl OpenOptions {
     pub fn lenient(alloc: Global) -> OpenOptions
         ensures { result ≡ spec.open_options true }
     {
-        OpenOptions {
-            lenient_config: true,
-            api_config_overrides: List::new(alloc),
-            base: empty_base(alloc),
-        }
+        let mut options = OpenOptions::new(alloc);
+        options.lenient_config = true;
+        options
     }
 
     /// Equal options.

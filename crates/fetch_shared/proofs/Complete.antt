@@ -59,20 +59,20 @@ module _ (line : Line) (c : Call) (receipt : Receipt) (v : HasValidInput line c 
 
   said_same : (heard said : List ℕ) → Talks line.answers line.old line.new heard said → said ≡ v.said
   said_same heard said p =
-      let q : Talks line.answers (Some v.before) (Some v.after) heard said = rw (v.told_before, v.told_after) at p in
-      append_cancel_left v.before.given said v.said (sym q.gave_more ∙ v.gave)
+      let q : Talks line.answers (Some v.exchanged.before) (Some v.after) heard said = rw (v.exchanged.told_before, v.exchanged.told_after) at p in
+      append_cancel_left v.exchanged.before.given said v.said (sym q.gave_more ∙ v.exchanged.gave)
 
   -- the replies are valid ones of a conversation
   valid_replies : {X E : Type 0} (bound : ℕ) (k : Conversation X E) → IsReplied bound k v.heard stream → HasValidReplies bound line.old line.new k
   valid_replies bound k replied = record {
-    before = v.before;
+    before = v.exchanged.before;
     after = v.after;
-    told_before = v.told_before;
-    told_after = v.told_after;
+    told_before = v.exchanged.told_before;
+    told_after = v.exchanged.told_after;
     heard = v.heard;
     said = v.said;
-    heard_so = v.hears;
-    gave_so = v.gave;
+    heard_so = v.exchanged.hears;
+    gave_so = v.exchanged.gave;
     valid = replied;
   }
 
@@ -117,12 +117,12 @@ module _ (line : Line) (c : Call) (receipt : Receipt) (v : HasValidInput line c 
     answered : answer_in (bound_of c.given) (conversation c.given planned) stream ≡ Ok (h.told, h.conversed.ended.rest ++ v.after.to_come)
     answered = ap (λ (l : List ℕ). answer_in (bound_of c.given) (conversation c.given planned) (l ++ v.after.to_come)) (sym (said_same (lines_text (requests_in c.given planned h.conversed.said)) h.conversed.said h.conversed.heard.passed)) ∙ h.conversed.ended.answered v.after.to_come
 
-    judgeable : (r : HasReplies c h.judged planned stream) → AreJudgeable (policy_in over (manner_in c.given) u.trees) h.told.listed.ref_map
+    judgeable : (r : HasReplies c h.judged planned stream) → AreJudgeable (policy_in over (manner_in c.given) u.by.trees) h.told.listed.ref_map
     judgeable r =
-        let p = policy_in over (manner_in c.given) u.trees in
+        let p = policy_in over (manner_in c.given) u.by.trees in
         let mappings : AreJudgeableAt c (Some u.count) r.told.listed.ref_map = subst (λ (o : Option ℕ). AreJudgeableAt c o r.told.listed.ref_map) u.judged_is r.mappings in
         let same : h.told ≡ r.told = one_answer (answer_in (bound_of c.given) (conversation c.given planned) stream) h.told r.told (h.conversed.ended.rest ++ v.after.to_come) r.behind answered r.replies in
-        subst (λ (t : Told). AreJudgeable p t.listed.ref_map) (sym same) (mappings u.taken.seen u.trees judged_at u.listed_trees)
+        subst (λ (t : Told). AreJudgeable p t.listed.ref_map) (sym same) (mappings u.taken.seen u.by.trees judged_at u.by.listed_trees)
 
     judging : HasReplies c h.judged planned stream ⊎ IsUnheard (bound_of c.given) (conversation c.given planned) v.heard stream → is_worktree_fault cause ≡ true
     judging (inr n) = absurd (awaited_no (bound_of c.given) (conversation c.given planned) stream (h.told, h.conversed.ended.rest ++ v.after.to_come) n.awaited answered)

@@ -49,7 +49,7 @@ module _ (line : Line) (c : Call) (receipt : Receipt) (link : Missing) (h : IsSt
   pub not_honest : (haves : List ObjectId) → IsAlike (planned_in h).state.objects (found_in h).state.objects → IsHonest (request_in haves h) (refused_pack h) → ⊥
   not_honest haves alike honest =
       let gap = disconnected (held (found_in h)) (request_in haves h).wants (refused_pack h) link h.unsettled.refused.cause in
-      let fit : AreOf (planned_in h).state.hash (refused_pack h).objects = subst (λ (k : Kind). AreOf k (refused_pack h).objects) (sym same_hash) h.unsettled.of_kind in
+      let fit : AreOf (planned_in h).state.hash (refused_pack h).objects = subst (λ (k : Kind). AreOf k (refused_pack h).objects) (sym same_hash) h.unsettled.came.of_kind in
       let whole : missing (held (found_in h)) (request_in haves h).wants (refused_pack h) ≡ [] =
       connects_later (planned_in h).state.hash (request_in haves h) (found_in h) (refused_pack h) h.conversed.at.kept.sound.of_hash h.conversed.at.kept.sound.closed h.unsettled.refused.kept.sound.closed (grown alike) fit gap.0 honest in
       let no : None ≡ Some link = sym (subst (λ (l : List Missing). slice_get l 0 ≡ None) (sym whole) refl) ∙ gap.1 in

@@ -38,7 +38,7 @@ use Rattle.fetch_shared.specs.declared.error.SharedError.{SharedError}
 use Rattle.fetch_shared.specs.declared.error.SharedError.TheVariants as errors
 use Rattle.fetch_shared.specs.declared.receipt.Receipt.{Receipt}
 use Rattle.fetch_shared.specs.declared.talking.Talked.{Talked}
-use Rattle.fetch_shared.specs.Errors.{fetching}
+use Rattle.fetch_shared.specs.Errors.{fetching, keep_fault, tree_fault}
 use Rattle.fetch_shared.specs.Fetching.{Call, own, course_in, matter_in, receipt_of, HasConversed, IsTold, IsSharedFetch, IsStopped, HasSpoken, IsSharedRefused}
 use Rattle.fetch_shared.specs.Journals.{entries_of}
 use Rattle.fetch_shared.specs.Passes.{Holder, IsBack}
@@ -48,6 +48,7 @@ use Rattle.fetch_shared.specs.Shared.{SharedValue}
 use Rattle.fetch_shared.specs.Talking.{Line, HasTalked, HasBroken}
 use Rattle.fetch_shared.proofs.Holds.{received_none, stored_on, holds_mapped}
 use Rattle.fetch_shared.proofs.Saw.{state_later}
+use Rattle.fetch_shared.proofs.Owned.{keep_unless, trees_unless}
 use Rattle.fetch_shared.proofs.Told.{listing_isnt, receiving_was, memory_never}
 
 -- ---- what the peer heard when memory ran out
@@ -145,6 +146,14 @@ broken_other line g before after planned e (inl h) x apart sure is = listing_isn
 broken_other line g before after planned e (inr (inl h)) x apart sure is = memory_never e (fetch.Receive x) h.memory is
 broken_other line g before after planned e (inr (inr h)) x apart sure is =
     receives_no_other line.answers line.old line.new g h.seen.repository.state h.cause h.broke x apart sure (receiving_was h.broke.cause x e (h.told ∙ ap fetching h.broke.told) is)
+
+-- nor a fault of the files or of the work trees
+pub broken_keep : (line : Line) (g : Given) (before after : Holder) (planned : Option ℕ) (e : SharedError) → HasBroken line g before after planned e → keep_fault e ≡ None
+broken_keep line g before after planned e h =
+    keep_unless e (λ path is. broken_other line g before after planned e h (receive.KeepFile path) (λ x. x) refl is) (λ path is. broken_other line g before after planned e h (receive.RemovePackKeepFile path) (λ x. x) refl is)
+
+pub broken_trees : (line : Line) (g : Given) (before after : Holder) (planned : Option ℕ) (e : SharedError) → HasBroken line g before after planned e → tree_fault e ≡ None
+broken_trees line g before after planned e h = trees_unless e (λ cause is. broken_other line g before after planned e h (receive.UpdateRefs cause) (λ x. x) refl is)
 
 -- memory ran out before anything was said
 pub ran_out : (line : Line) (c : Call) → line.new ≡ line.old → c.left ≡ c.files → c.after ≡ c.before → ((s : State) → HasSpoken line c.given s) → IsSharedRefused line c (receipt_of c.before None None None) errors.NoMemory

@@ -1,9 +1,9 @@
 -- What a refusal behind the taking is one of.
-use Rattle.std.proofs.Common.{◌≡◌, ◌⊎◌, List, ℕ, Option, sym, subst, inl, inr}
+use Rattle.std.proofs.Common.{◌≡◌, ◌⊎◌, List, ℕ, Option, None, refl, sym, subst, inl, inr}
 use Rattle.fetch_store.specs.Trees.{Tree}
-use Rattle.fetch_update.specs.declared.update.Error.{Error as UpdateError}
 use Rattle.fetch_conversation.specs.declared.fetch.Error.{Error}
 use Rattle.fetch_conversation.specs.declared.fetch.Error.TheVariants as receive
+use Rattle.fetch_remote.specs.Blame.{fault_in}
 use Rattle.fetch_remote.specs.Keeping.{IsUnmade}
 use Rattle.fetch_remote.specs.Settling as remote
 use Rattle.fetch_shared.specs.Settling.{IsOfJudging}
@@ -16,12 +16,13 @@ unmade_only keep files left e h = by h.why
     by (inl is) = subst IsOfJudging (sym is) tt
     by (inr is) = subst IsOfJudging (sym is) tt
 
-pub unmade_never : (keep : Option (List ℕ)) (files left : Option Tree) (e : Error) (cause : UpdateError) → IsUnmade keep files left e → e ≡ receive.UpdateRefs cause → ⊥
-unmade_never keep files left e cause h is = by h.why
+-- neither is a fault of the work trees
+pub unmade_trees : (keep : Option (List ℕ)) (files left : Option Tree) (e : Error) → IsUnmade keep files left e → fault_in e ≡ None
+unmade_trees keep files left e h = by h.why
   where
-    by : (e ≡ receive.KeepFile h.path) ⊎ (e ≡ receive.NoMemory) → ⊥
-    by (inl other) = absurd (cc)
-    by (inr other) = absurd (cc)
+    by : (e ≡ receive.KeepFile h.path) ⊎ (e ≡ receive.NoMemory) → fault_in e ≡ None
+    by (inl is) = rw is refl
+    by (inr is) = rw is refl
 
 -- a refusal of the policy or of the work trees, or memory ran out
 pub judging_only : (e : Error) → remote.IsOfJudging e → IsOfJudging e

@@ -1,29 +1,30 @@
 -- Refusals that a shared repository makes by itself: none of them is one of a fetch. Those behind the conversation are neither
 -- the peer's fault nor a yes.
-use Rattle.std.proofs.Common.{◌≡◌, ◌⊎◌, ℕ, Bool, false, true, List, Option, Some, refl, sym, subst, inl, inr}
+use Rattle.std.proofs.Common.{◌≡◌, ◌⊎◌, ℕ, Bool, false, true, List, Option, None, Some, Result, Ok, Err, IfErr, refl, subst, inl, inr}
 use Rattle.fetch_store.specs.declared.id.ObjectId.{ObjectId}
 use Rattle.fetch_store.specs.declared.missing.Missing.{Missing}
 use Rattle.fetch_refs.specs.declared.edit.RefEdit.{RefEdit}
 use Rattle.fetch_refs.specs.declared.log.Signature.{Signature}
 use Rattle.fetch_refs.specs.declared.target.Target.{Target}
-use Rattle.fetch_store.specs.Faults.{Faults}
-use Rattle.fetch_conversation.specs.Blame.{BlamesPeer}
+use Rattle.fetch_update.specs.declared.update.Error.{Error as UpdateError}
 use Rattle.fetch_conversation.specs.declared.conversing.Received.{Received}
 use Rattle.fetch_conversation.specs.declared.fetch.Error.{Error as ReceiveError}
 use Rattle.fetch_conversation.specs.declared.fetch.Error.TheVariants as receive
+use Rattle.fetch_remote.specs.Blame.{told_by}
 use Rattle.fetch_remote.specs.Errors.{receiving}
 use Rattle.fetch_remote.specs.Settling.{brought, pack_of}
 use Rattle.fetch_remote.specs.declared.fetching.fetch_error.FetchError.{FetchError}
 use Rattle.fetch_remote.specs.declared.fetching.fetch_error.FetchError.TheVariants as fetch
+use Rattle.fetch_remote.proofs.Blamed.{tells_no_keep, tells_no_trees}
 use Rattle.fetch_shared.specs.declared.error.SharedError.{SharedError}
 use Rattle.fetch_shared.specs.declared.error.SharedError.TheVariants as errors
 use Rattle.fetch_shared.specs.Bringing.{IsUnbrought}
-use Rattle.fetch_shared.specs.Errors.{fetching, is_of_peer, is_yes}
+use Rattle.fetch_shared.specs.Errors.{fetching, is_of_peer, is_yes, keep_fault, tree_fault, tree_fault_deleting}
 use Rattle.fetch_shared.specs.Machine.{held}
 use Rattle.fetch_shared.specs.Machine.Event.{Take, Commit}
 use Rattle.fetch_shared.specs.Passes.{Holder}
 use Rattle.fetch_shared.specs.Seen.{IsRefusedAt}
-use Rattle.fetch_shared.specs.Settling.{Matter, Course, IsUnsettled, IsUnmoved, IsOfJudging, is_early}
+use Rattle.fetch_shared.specs.Settling.{Matter, Course, IsUnsettled, IsUnmoved, IsOfJudging, is_early, unmade, unremoved}
 use Rattle.fetch_shared.proofs.Settled.{take_refused, commit_refused}
 
 pub unbrought_own : (before after : Holder) (dry_run : Bool) (wants : List ObjectId) (r : Option Received) (e : SharedError) (x : FetchError) → IsUnbrought before after dry_run wants r e → e ≡ errors.Fetch x → ⊥
@@ -111,5 +112,53 @@ unsettled_calm m c judged place (errors.Fetch (fetch.Receive (receive.UpdateRefs
 unsettled_calm m c judged place (errors.Fetch (fetch.Receive (receive.RemovePackKeepFile path))) h = (refl, refl)
 unsettled_calm m c judged place (errors.Fetch (fetch.Receive receive.NoMemory)) h = (refl, refl)
 
-pub still_blamed : (old new : Faults) (blamed : Bool) → blamed ≡ false → BlamesPeer old new false → BlamesPeer old new blamed
-still_blamed old new blamed calm h = subst (λ (b : Bool). BlamesPeer old new b) (sym calm) h
+-- ---- files and work trees
+
+-- a refusal that is none of a fetch tells no keep file
+pub own_keep : (e : SharedError) → ((x : FetchError) → e ≡ errors.Fetch x → ⊥) → keep_fault e ≡ None
+own_keep (errors.Fetch x) isnt = absurd (isnt x refl)
+own_keep (errors.NotClosed link) isnt = refl
+own_keep (errors.Disconnected link) isnt = refl
+own_keep (errors.Collision id) isnt = refl
+own_keep (errors.EditReferences name found) isnt = refl
+own_keep (errors.Delete cause) isnt = refl
+own_keep errors.NoMemory isnt = refl
+
+-- nor a fault of the work trees
+pub own_trees : (e : SharedError) → ((x : FetchError) → e ≡ errors.Fetch x → ⊥) → tree_fault e ≡ None
+own_trees (errors.Fetch x) isnt = absurd (isnt x refl)
+own_trees (errors.NotClosed link) isnt = refl
+own_trees (errors.Disconnected link) isnt = refl
+own_trees (errors.Collision id) isnt = refl
+own_trees (errors.EditReferences name found) isnt = refl
+own_trees (errors.Delete cause) isnt = refl
+own_trees errors.NoMemory isnt = refl
+
+-- memory that ran out in a turn tells none either
+pub memory_trees : {A B : Type 0} (result : Result A (B × SharedError)) → IfErr result (λ x. x.1 ≡ errors.NoMemory) → told_by (λ (x : B × SharedError). tree_fault_deleting x.1) result ≡ None
+memory_trees (Ok x) memory = refl
+memory_trees (Err x) memory = rw memory refl
+
+-- a refusal that tells no keep file
+pub keep_unless : (e : SharedError) → ((path : List ℕ) → e ≡ unmade path → ⊥) → ((path : List ℕ) → e ≡ unremoved path → ⊥) → keep_fault e ≡ None
+keep_unless (errors.Fetch (fetch.Receive x)) isnt stays = tells_no_keep x (λ path is. isnt path (rw is refl)) (λ path is. stays path (rw is refl))
+keep_unless (errors.Fetch (fetch.Prepare x)) isnt stays = refl
+keep_unless (errors.Fetch fetch.NoMemory) isnt stays = refl
+keep_unless (errors.NotClosed link) isnt stays = refl
+keep_unless (errors.Disconnected link) isnt stays = refl
+keep_unless (errors.Collision id) isnt stays = refl
+keep_unless (errors.EditReferences name found) isnt stays = refl
+keep_unless (errors.Delete cause) isnt stays = refl
+keep_unless errors.NoMemory isnt stays = refl
+
+-- one that tells no fault of the work trees
+pub trees_unless : (e : SharedError) → ((cause : UpdateError) → e ≡ errors.Fetch (fetch.Receive (receive.UpdateRefs cause)) → ⊥) → tree_fault e ≡ None
+trees_unless (errors.Fetch (fetch.Receive x)) isnt = tells_no_trees x (λ cause is. isnt cause (rw is refl))
+trees_unless (errors.Fetch (fetch.Prepare x)) isnt = refl
+trees_unless (errors.Fetch fetch.NoMemory) isnt = refl
+trees_unless (errors.NotClosed link) isnt = refl
+trees_unless (errors.Disconnected link) isnt = refl
+trees_unless (errors.Collision id) isnt = refl
+trees_unless (errors.EditReferences name found) isnt = refl
+trees_unless (errors.Delete cause) isnt = refl
+trees_unless errors.NoMemory isnt = refl

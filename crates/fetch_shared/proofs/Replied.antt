@@ -35,16 +35,16 @@ receiving_free line c receipt e h v =
     ∙ never_refused is_free is_yes line.answers (bound_of c.given) line.old line.new (conversation c.given s) (receiving h.broke.cause)
     (whole_receiving line.answers line.old h.broke.between line.new c.given s h.broke.listed h.broke.behind h.broke.cause h.broke.list h.broke.broke) v
 
-pub unjudged_free : (m : Matter) (c : Course) (judged place : Option ℕ) (cause : UpdateError) → (u : IsUnjudged m c judged place cause) → AreJudgeable (policy_in u.taken.seen.repository.state m.how u.trees) m.told.listed.ref_map → is_worktree_fault cause ≡ true
+pub unjudged_free : (m : Matter) (c : Course) (judged place : Option ℕ) (cause : UpdateError) → (u : IsUnjudged m c judged place cause) → AreJudgeable (policy_in u.taken.seen.repository.state m.how u.by.trees) m.told.listed.ref_map → is_worktree_fault cause ≡ true
 unjudged_free m c judged place cause u able = by (is_worktree_fault cause) refl
   where
     by : (b : Bool) → is_worktree_fault cause ≡ b → b ≡ true
     by true sure = refl
     by false sure =
-        let p = policy_in u.taken.seen.repository.state m.how u.trees in
+        let p = policy_in u.taken.seen.repository.state m.how u.by.trees in
         let j = judges_it p m.told.listed.ref_map able in
-        absurd (not_both (judged_of p m.told.listed.ref_map) (receive.UpdateRefs cause) j.0 (u.why sure) j.1)
+        absurd (not_both (judged_of p m.told.listed.ref_map) (receive.UpdateRefs cause) j.0 (u.by.why sure) j.1)
 
 pub judging_free : (line : Line) (c : Call) (receipt : Receipt) (cause : UpdateError) → (h : IsStopped line c receipt (errors.Fetch (fetch.Receive (receive.UpdateRefs cause))))
-    → AreJudgeable (policy_in h.unsettled.taken.seen.repository.state (manner_in c.given) h.unsettled.trees) h.told.listed.ref_map → is_worktree_fault cause ≡ true
+    → AreJudgeable (policy_in h.unsettled.taken.seen.repository.state (manner_in c.given) h.unsettled.by.trees) h.told.listed.ref_map → is_worktree_fault cause ≡ true
 judging_free line c receipt cause h able = unjudged_free _ _ h.judged h.place cause h.unsettled able

@@ -31,11 +31,12 @@ use Rattle.fetch_conversation.specs.declared.fetch.Error.{Error as ReceiveError}
 use Rattle.fetch_conversation.specs.declared.fetch.Error.TheVariants as receive
 use Rattle.fetch_remote.specs.Errors.{receiving}
 use Rattle.fetch_remote.specs.Judging.{is_free_judging, judged_of}
-use Rattle.fetch_remote.specs.Keeping.{AreFiles, made, with_keep, without_keep}
-use Rattle.fetch_remote.specs.Settling.{brought, pack_of, pack_read, pack_kept, policy_in, told_of, status_by, status_of, released_of, outcome_in, IsOfJudging}
+use Rattle.fetch_remote.specs.Keeping.{AreFiles, made, made_in, with_keep, without_keep}
+use Rattle.fetch_remote.specs.Settling.{brought, pack_of, pack_read, pack_kept, policy_in, told_of, status_by, status_of, kept_of as kept_in, released_of, outcome_in, IsOfJudging}
 use Rattle.fetch_remote.specs.declared.fetching.outcome.Outcome.{Outcome}
+use Rattle.fetch_remote.specs.declared.fetching.outcome.Status.{Status}
 use Rattle.fetch_remote.specs.declared.fetching.settling.Taken.{Taken as Told}
-use Rattle.fetch_remote.proofs.Keeping.{status_is, removed_is, left_files, removable}
+use Rattle.fetch_remote.proofs.Keeping.{status_is, made_is, made_none, kept_none, removed_is, left_files, removable}
 use Rattle.fetch_remote.proofs.Settled.{judging_told}
 use Rattle.fetch_shared.specs.declared.bringing.Brought.{Brought}
 use Rattle.fetch_shared.specs.declared.entry.Entry.{Entry}
@@ -99,9 +100,11 @@ unbrought m before after known files e of_kind named h = by h.why
           none = h.none;
           files_same = refl;
           reply = reply;
-          reply_is = is;
-          of_kind = brought_from (λ r. AreOf before.shared.opening.state.hash r.objects) m.how.dry_run m.told.received reply of_kind is;
-          named = brought_from (λ r. AreNamed r.objects) m.how.dry_run m.told.received reply named is;
+          came = record {
+            is = is;
+            of_kind = brought_from (λ r. AreOf before.shared.opening.state.hash r.objects) m.how.dry_run m.told.received reply of_kind is;
+            named = brought_from (λ r. AreNamed r.objects) m.how.dry_run m.told.received reply named is;
+          };
           refused = refused;
         })
         (take_refused (held refused.found.repository) m.wants (pack_of reply) e refused.cause)
@@ -175,9 +178,7 @@ module _ (m : Matter) (p q w : Holder) (known : Option (List Worktree)) (files l
           unplaced = refl;
           taken = taken_at b.taken.place refl later;
           none = own_same later same;
-          trees = h.trees;
-          listed_trees = h.listed_trees;
-          why = why cause is;
+          by = record { trees = h.trees; listed_trees = h.listed_trees; why = why cause is };
           kept = stands;
         })
 
@@ -210,12 +211,14 @@ module _ (m : Matter) (p q w : Holder) (known : Option (List Worktree)) (files l
               count = v.judged;
               judged_is = refl;
               unplaced = refl;
-              wet = wet;
               updates = v.updates;
               by = judged_at v mid hv later.begins;
               none = own_same later.begins same;
-              refused = refused_earlier p.shared.opening p.front q.front w.front (Commit p.number v.updates.edits committer) e back.begins
-                  (subst (λ (x : Holder). IsRefusedAt x.shared.opening q.front w.front (Commit x.number v.updates.edits committer) e) (λ i. record q { shared = back.shared i; number = back.number i }) refused);
+              refused = (
+                wet,
+                refused_earlier p.shared.opening p.front q.front w.front (Commit p.number v.updates.edits committer) e back.begins
+                    (subst (λ (x : Holder). IsRefusedAt x.shared.opening q.front w.front (Commit x.number v.updates.edits committer) e) (λ i. record q { shared = back.shared i; number = back.number i }) refused),
+              );
               kept = stands;
             }) (commit_refused refused.found.repository.state.refs.names v.updates.edits e refused.cause)
 
@@ -274,3 +277,15 @@ module _ (m : Matter) (p q w : Holder) (known : Option (List Worktree)) (files l
     removable_by may_fail path blocked gone never =
         removable files mid may_fail m.setup.settings.git_dir m.how.dry_run m.told.received v.updates v.taken (receive.RemovePackKeepFile path) told_is
         (subst (λ (x : Option (List ℕ)). AreFiles files mid (with_keep x)) keep_same hv.kept) blocked (path, refl, gone) never
+
+    -- where no pack was read, no keep file was made
+    pub kept_nothing : pack_read m.how.dry_run m.told.received ≡ None → kept_in v.taken ≡ None
+    kept_nothing none = ap (λ (t : Option Told). kept_in t) told_is ∙ kept_none m.setup.settings.git_dir m.how.dry_run m.told.received none
+
+    -- and where none is told, no pack was read
+    pub read_nothing : (status : Status) → status ≡ status_by m.how.dry_run v.taken v.updates → made_in m.setup.settings.git_dir status ≡ None → pack_read m.how.dry_run m.told.received ≡ None
+    read_nothing status is none =
+        let git_dir = m.setup.settings.git_dir in
+        let told : status ≡ status_of git_dir m.how.dry_run m.told.received v.updates =
+        is ∙ (ap (λ (t : Option Told). status_by m.how.dry_run t v.updates) told_is ∙ status_is git_dir m.how.dry_run m.told.received v.updates) in
+        made_none git_dir m.how.dry_run m.told.received (sym (made_is git_dir m.how.dry_run m.told.received v.updates) ∙ (sym (ap (λ (s : Status). made_in git_dir s) told) ∙ none))

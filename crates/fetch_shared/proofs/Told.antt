@@ -1,4 +1,4 @@
--- How inner refusals are told: each as one of its own, a fault of the peer as one, and a yes as a yes.
+-- How inner refusals are told: each as one of its own, a fault as one, and a yes as a yes.
 use Rattle.std.proofs.Common.{◌≡◌, Bool, refl, sym, ap, ◌∙◌, subst}
 use Rattle.fetch_store.specs.Faults.{Faults}
 use Rattle.fetch_conversation.specs.Blame.{BlamesPeer}
@@ -11,10 +11,14 @@ use Rattle.fetch_remote.specs.Errors.{preparing, receiving}
 use Rattle.fetch_remote.specs.Errors as remote
 use Rattle.fetch_remote.specs.declared.fetching.fetch_error.FetchError.{FetchError}
 use Rattle.fetch_remote.specs.declared.fetching.fetch_error.FetchError.TheVariants as fetch
+use Rattle.fetch_remote.specs.Blame.{keep_fault_in, keep_fault_told, fault_in, fault_told, fault_deleting}
+use Rattle.fetch_remote.specs.declared.delete.Error.{Error as DeleteError}
+use Rattle.fetch_remote.specs.declared.delete.Error.TheVariants as delete
 use Rattle.fetch_remote.proofs.Asked.{listing_yes, receiving_yes}
+use Rattle.fetch_remote.proofs.Blamed.{as_prepared, as_received}
 use Rattle.fetch_shared.specs.declared.error.SharedError.{SharedError}
 use Rattle.fetch_shared.specs.declared.error.SharedError.TheVariants as errors
-use Rattle.fetch_shared.specs.Errors.{fetching, is_of_peer, is_yes}
+use Rattle.fetch_shared.specs.Errors.{fetching, deleting, is_of_peer, is_yes, keep_fault, tree_fault, tree_fault_deleting}
 
 -- ---- a refusal is told as one alone
 
@@ -59,52 +63,48 @@ receiving_was cause x e told is = told_fetch (receiving cause) (fetch.Receive x)
 
 -- ---- a fault of the peer is told as one
 
-fetching_blames : (f : FetchError) → remote.is_of_peer f ≡ is_of_peer (fetching f)
-fetching_blames (fetch.Prepare e) = refl
-fetching_blames (fetch.Receive e) = refl
-fetching_blames fetch.NoMemory = refl
+fetching_as : {X : Type 0} (says : SharedError → X) (f : FetchError) → says errors.NoMemory ≡ says (errors.Fetch fetch.NoMemory) → says (errors.Fetch f) ≡ says (fetching f)
+fetching_as says (fetch.Prepare e) same = refl
+fetching_as says (fetch.Receive e) same = refl
+fetching_as says fetch.NoMemory same = sym same
 
-preparing_blames : (e : PrepareError) → is_transport e ≡ remote.is_of_peer (preparing e)
-preparing_blames prepare.MissingRefSpecs = refl
-preparing_blames (prepare.RefMap e) = refl
-preparing_blames prepare.NoMemory = refl
+preparing_blames : (e : PrepareError) → is_transport e ≡ is_of_peer (fetching (preparing e))
+preparing_blames e = as_prepared remote.is_of_peer e refl ∙ fetching_as is_of_peer (preparing e) refl
 
-receiving_blames : (e : ReceiveError) → is_client e ≡ remote.is_of_peer (receiving e)
-receiving_blames (receive.NoMapping specs count) = refl
-receiving_blames (receive.IncompatibleObjectHash local remote) = refl
-receiving_blames (receive.Disconnected link) = refl
-receiving_blames (receive.RejectShallowRemoteConfig value) = refl
-receiving_blames (receive.NegotiationAlgorithmConfig value) = refl
-receiving_blames (receive.PackThreads value) = refl
-receiving_blames (receive.Fetch e) = refl
-receiving_blames receive.Client = refl
-receiving_blames receive.Interrupted = refl
-receiving_blames (receive.RejectShallowRemote id) = refl
-receiving_blames (receive.Pack e) = refl
-receiving_blames (receive.Collision id) = refl
-receiving_blames (receive.KeepFile path) = refl
-receiving_blames (receive.UpdateRefs e) = refl
-receiving_blames (receive.RemovePackKeepFile path) = refl
-receiving_blames receive.NoMemory = refl
+receiving_blames : (e : ReceiveError) → is_client e ≡ is_of_peer (fetching (receiving e))
+receiving_blames e = as_received remote.is_of_peer e refl ∙ fetching_as is_of_peer (receiving e) refl
 
 pub listing_blamed : (old new : Faults) (cause : PrepareError) (e : SharedError) → e ≡ fetching (preparing cause) → BlamesPeer old new (is_transport cause) → BlamesPeer old new (is_of_peer e)
-listing_blamed old new cause e told h = subst (λ (b : Bool). BlamesPeer old new b) (preparing_blames cause ∙ (fetching_blames (preparing cause) ∙ sym (ap is_of_peer told))) h
+listing_blamed old new cause e told h = subst (λ (b : Bool). BlamesPeer old new b) (preparing_blames cause ∙ sym (ap is_of_peer told)) h
 
 pub receiving_blamed : (old new : Faults) (cause : ReceiveError) (e : SharedError) → e ≡ fetching (receiving cause) → BlamesPeer old new (is_client cause) → BlamesPeer old new (is_of_peer e)
-receiving_blamed old new cause e told h = subst (λ (b : Bool). BlamesPeer old new b) (receiving_blames cause ∙ (fetching_blames (receiving cause) ∙ sym (ap is_of_peer told))) h
+receiving_blamed old new cause e told h = subst (λ (b : Bool). BlamesPeer old new b) (receiving_blames cause ∙ sym (ap is_of_peer told)) h
 
 -- ---- a yes is told as a yes
 
-fetching_yes : (f : FetchError) → remote.is_yes f ≡ is_yes (fetching f)
-fetching_yes (fetch.Prepare e) = refl
-fetching_yes (fetch.Receive e) = refl
-fetching_yes fetch.NoMemory = refl
-
 pub listing_asks : (cause : PrepareError) (e : SharedError) → e ≡ fetching (preparing cause) → is_interrupted cause ≡ is_yes e
-listing_asks cause e told = listing_yes cause ∙ (fetching_yes (preparing cause) ∙ sym (ap is_yes told))
+listing_asks cause e told = listing_yes cause ∙ (fetching_as is_yes (preparing cause) refl ∙ sym (ap is_yes told))
 
 pub receiving_asks : (cause : ReceiveError) (e : SharedError) → e ≡ fetching (receiving cause) → is_stopped cause ≡ is_yes e
-receiving_asks cause e told = receiving_yes cause ∙ (fetching_yes (receiving cause) ∙ sym (ap is_yes told))
+receiving_asks cause e told = receiving_yes cause ∙ (fetching_as is_yes (receiving cause) refl ∙ sym (ap is_yes told))
+
+-- ---- a fault of the files or of the work trees is told as one
+
+pub receiving_keeps : (cause : ReceiveError) → keep_fault_in cause ≡ keep_fault (fetching (receiving cause))
+receiving_keeps cause = as_received keep_fault_told cause refl ∙ fetching_as keep_fault (receiving cause) refl
+
+pub receiving_trees : (cause : ReceiveError) → fault_in cause ≡ tree_fault (fetching (receiving cause))
+receiving_trees cause = as_received fault_told cause refl ∙ fetching_as tree_fault (receiving cause) refl
+
+pub deleting_trees : (cause : DeleteError) → fault_deleting cause ≡ tree_fault_deleting (deleting cause)
+deleting_trees (delete.NotLocal name) = refl
+deleting_trees delete.WorktreeListing = refl
+deleting_trees delete.OpenWorktreeRepo = refl
+deleting_trees delete.FollowSymref = refl
+deleting_trees (delete.CheckedOut name directories) = refl
+deleting_trees (delete.ConfigRead cause) = refl
+deleting_trees (delete.Cleanup references source) = refl
+deleting_trees delete.NoMemory = refl
 
 -- out of memory is told as no refusal of a fetch
 pub memory_never : (e : SharedError) (x : FetchError) → e ≡ errors.NoMemory → e ≡ errors.Fetch x → ⊥

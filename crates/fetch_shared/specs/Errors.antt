@@ -1,5 +1,7 @@
--- How an inner refusal is told, and which refusals are the peer's fault.
-use Rattle.std.specs.Prelude.{Bool, false}
+-- How an inner refusal is told, and whom a refusal blames.
+use Rattle.std.specs.Prelude.{Bool, false, Option, None}
+use Rattle.fetch_update.specs.declared.worktrees.WorktreeFault.{WorktreeFault}
+use Rattle.fetch_remote.specs.Blame.{KeepFault, keep_fault_told, fault_told, fault_deleting}
 use Rattle.fetch_remote.specs.Errors as remote
 use Rattle.fetch_remote.specs.declared.delete.Error.{Error as DeleteError}
 use Rattle.fetch_remote.specs.declared.delete.Error.TheVariants as delete
@@ -27,3 +29,18 @@ is_of_peer e = false
 abbrev pub is_yes : SharedError → Bool
 is_yes (errors.Fetch e) = remote.is_yes e
 is_yes e = false
+
+-- the keep file that is told
+abbrev pub keep_fault : SharedError → Option KeepFault
+keep_fault (errors.Fetch e) = keep_fault_told e
+keep_fault e = None
+
+-- the fault of the work trees that a fetch tells
+abbrev pub tree_fault : SharedError → Option WorktreeFault
+tree_fault (errors.Fetch e) = fault_told e
+tree_fault e = None
+
+-- the one that a deletion tells
+abbrev pub tree_fault_deleting : SharedError → Option WorktreeFault
+tree_fault_deleting (errors.Delete e) = fault_deleting e
+tree_fault_deleting e = None

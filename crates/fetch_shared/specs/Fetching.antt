@@ -13,12 +13,14 @@ use Rattle.fetch_remote.specs.Fetching.{manner_in, requests_in}
 use Rattle.fetch_remote.specs.Form.{Given}
 use Rattle.fetch_remote.specs.Negotiated.{AreHeld}
 use Rattle.fetch_remote.specs.Refused.{HasEnded}
+use Rattle.fetch_remote.specs.Remotes.{RemoteValue}
 use Rattle.fetch_remote.specs.Repositories.{State}
 use Rattle.fetch_remote.specs.RepositoryValues.{RepositoryValue}
 use Rattle.fetch_remote.specs.Stages.{Told, bound_of, wants_in, conversation}
 use Rattle.fetch_remote.specs.Talking.{BreaksListing, BreaksReceiving}
 use Rattle.fetch_remote.specs.declared.fetching.fetch_error.FetchError.{FetchError}
 use Rattle.fetch_remote.specs.declared.fetching.fetch_error.FetchError.TheVariants as fetch
+use Rattle.fetch_remote.specs.declared.fetching.options.FetchOptions.{FetchOptions}
 use Rattle.fetch_remote.specs.declared.fetching.outcome.Outcome.{Outcome}
 use Rattle.fetch_shared.specs.declared.entry.Entry.{Entry}
 use Rattle.fetch_shared.specs.declared.error.SharedError.{SharedError}
@@ -29,7 +31,7 @@ use Rattle.fetch_shared.specs.Passes.{Holder}
 use Rattle.fetch_shared.specs.Seen.{IsStateAt}
 use Rattle.fetch_shared.specs.Settling.{Matter, Course, IsSettled, IsUnsettled}
 use Rattle.fetch_shared.specs.Shared.{SharedValue}
-use Rattle.fetch_shared.specs.Talking.{Line}
+use Rattle.fetch_shared.specs.Talking.{Line, given_to}
 
 -- A call: what it is given, its pass before and after it, the list of work trees that is told, and the files before and
 -- after it, where they tell a tree.
@@ -40,6 +42,11 @@ pub record Call : Type 0 where
   pub known : Option (List Worktree)
   pub files : Option Tree
   pub left : Option Tree
+
+-- the call with this remote and these options, from a pass as it was to the pass as it came back
+abbrev pub call_of : RemoteValue → FetchOptions → Holder → Holder → Option (List Worktree) → Option Tree → Option Tree → Call
+call_of remote options before after known files left =
+    record { given = given_to remote options before; before = before; after = after; known = known; files = files; left = left }
 
 -- the pass's entries before
 abbrev pub own : Call → List Entry

@@ -16,11 +16,13 @@ use Rattle.fetch_update.specs.declared.update.Outcome.{Outcome as Updates}
 use Rattle.fetch_update.specs.declared.worktrees.Worktree.{Worktree}
 use Rattle.fetch_wire.specs.declared.listings.mapping.RefMap.{RefMap}
 use Rattle.fetch_conversation.specs.Errors.{is_worktree_fault}
+use Rattle.fetch_conversation.specs.ListStage.{ListedValue}
 use Rattle.fetch_conversation.specs.declared.conversing.Received.{Received}
 use Rattle.fetch_conversation.specs.declared.fetch.Error.{Error as ReceiveError}
 use Rattle.fetch_conversation.specs.declared.fetch.Error.TheVariants as receive
 use Rattle.fetch_remote.specs.Judging.{IsTold, is_free_judging, judged_of}
 use Rattle.fetch_remote.specs.Keeping.{AreFiles, IsUnmade, left_tree, made, removed_in, with_keep}
+use Rattle.fetch_remote.specs.Repositories.{State}
 use Rattle.fetch_remote.specs.RepositoryValues.{RepositoryValue, Setup}
 use Rattle.fetch_remote.specs.Settling.{brought, keep_of, outcome_in, pack_kept, pack_of, policy_in, status_of}
 use Rattle.fetch_remote.specs.Settling as remote
@@ -49,6 +51,11 @@ pub record Matter : Type 0 where
   pub how : Manner
   pub wants : List ObjectId
   pub told : Told
+
+-- the same, of its parts
+abbrev pub matter_of : Setup → Manner → List ObjectId → ListedValue → Option Received → Matter
+matter_of setup how wants listed received =
+    record { setup = setup; how = how; wants = wants; told = record { listed = listed; received = received } }
 
 -- The course of it: what the shared repository opened as, the pass's number and its entries so far; the journal that the
 -- plan saw, and the one that the pass has seen in the end; the list of work trees that is told, and the files before and
@@ -130,17 +137,20 @@ pub record IsSettled (m : Matter) (c : Course) (judged : ℕ) (place : Option �
 
 -- ---- refused
 
--- What was received is refused as it is taken: nothing is entered, and no file is touched. Its ids and objects are of the
--- repository's hash, and each id is its object's.
+-- What was received, and is to be taken: its ids and objects are of the repository's hash, and each id is its object's.
+pub record IsReply (m : Matter) (c : Course) (reply : Received) : Type 0 where
+  pub is : reply_in m ≡ Some reply
+  pub of_kind : AreOf c.opening.state.hash reply.objects
+  pub named : AreNamed reply.objects
+
+-- What was received is refused as it is taken: nothing is entered, and no file is touched.
 pub record IsUntaken (m : Matter) (c : Course) (judged place : Option ℕ) (e : SharedError) : Type 0 where
   pub unjudged : judged ≡ None
   pub unplaced : place ≡ None
   pub none : entries_of c.number c.front ≡ c.own
   pub files_same : c.left ≡ c.files
   pub reply : Received
-  pub reply_is : reply_in m ≡ Some reply
-  pub of_kind : AreOf c.opening.state.hash reply.objects
-  pub named : AreNamed reply.objects
+  pub came : IsReply m c reply
   pub refused : IsRefusedAt c.opening c.planned c.front (Take c.number m.wants (pack_of reply)) e
 
 -- What was received is taken, and its keep file couldn't be made: the files are those found.
@@ -151,6 +161,12 @@ pub record IsUnkept (m : Matter) (c : Course) (judged place : Option ℕ) (path 
   pub keep : keep_in m ≡ Some path
   pub files_same : c.left ≡ c.files
 
+-- The mappings are refused over this state: by the policy with the list of work trees that is told, or the work trees failed.
+pub record IsJudgingRefused (m : Matter) (known : Option (List Worktree)) (state : State) (cause : UpdateError) : Type 0 where
+  pub trees : List Worktree
+  pub listed_trees : IsTold known trees
+  pub why : is_worktree_fault cause ≡ false → judged_of (policy_in state m.how trees) m.told.listed.ref_map ≡ Err (receive.UpdateRefs cause)
+
 -- What was received is taken, its keep file stands, and the mappings are refused: by the policy, or the work trees failed.
 pub record IsUnjudged (m : Matter) (c : Course) (judged place : Option ℕ) (cause : UpdateError) : Type 0 where
   pub count : ℕ
@@ -158,22 +174,20 @@ pub record IsUnjudged (m : Matter) (c : Course) (judged place : Option ℕ) (cau
   pub unplaced : place ≡ None
   pub taken : HasTaken m c count
   pub none : entries_of c.number c.front ≡ entries_of c.number taken.seen.journal
-  pub trees : List Worktree
-  pub listed_trees : IsTold c.known trees
-  pub why : is_worktree_fault cause ≡ false → judged_of (policy_in taken.seen.repository.state m.how trees) m.told.listed.ref_map
-      ≡ Err (receive.UpdateRefs cause)
+  pub by : IsJudgingRefused m c.known taken.seen.repository.state cause
   pub kept : AreFiles c.files c.left (with_keep (keep_in m))
 
--- What was received is taken, its keep file stands, and the edits of the verdicts are refused as they are committed.
+-- What was received is taken, its keep file stands, and the edits of the verdicts are refused as they are committed, in no
+-- dry run.
 pub record IsUncommitted (m : Matter) (c : Course) (judged place : Option ℕ) (e : SharedError) : Type 0 where
   pub count : ℕ
   pub judged_is : judged ≡ Some count
   pub unplaced : place ≡ None
-  pub wet : m.how.dry_run ≡ false
   pub updates : Updates
   pub by : HasJudged m c count updates
   pub none : entries_of c.number c.front ≡ entries_of c.number by.taken.seen.journal
-  pub refused : IsRefusedAt c.opening c.planned c.front (Commit c.number updates.edits m.setup.settings.committer) e
+  pub refused : (m.how.dry_run ≡ false)
+      × IsRefusedAt c.opening c.planned c.front (Commit c.number updates.edits m.setup.settings.committer) e
   pub kept : AreFiles c.files c.left (with_keep (keep_in m))
 
 -- All is done, but the keep file that was to go couldn't be removed: it stands.

@@ -28,6 +28,10 @@ pub record Line : Type 0 where
   pub old : Option Talk
   pub new : Option Talk
 
+-- the same, of its parts
+abbrev pub line_of : Bool → Option Talk → Option Talk → Line
+line_of answers old new = record { answers = answers; old = old; new = new }
+
 -- A turn told the plan of what stands, which the pass has seen whole.
 pub record HasPlanned (before after : Holder) (plan_of : SharedValue → Plan) (plan : Plan) : Type 0 where
   pub seen : SharedValue

@@ -13,7 +13,7 @@ use Rattle.fetch_remote.specs.Judging.{IsTold}
 use Rattle.fetch_remote.specs.Repositories.{State}
 use Rattle.fetch_remote.specs.Settling.{policy_in}
 use Rattle.fetch_remote.specs.Stages.{Told, bound_of, listing_stage, conversation}
-use Rattle.fetch_remote.specs.Valid.{AreJudgeable}
+use Rattle.fetch_remote.specs.Valid.{AreJudgeable, HasExchanged}
 use Rattle.fetch_shared.specs.declared.error.SharedError.{SharedError}
 use Rattle.fetch_shared.specs.declared.error.SharedError.TheVariants as errors
 use Rattle.fetch_shared.specs.declared.receipt.Receipt.{Receipt}
@@ -53,14 +53,10 @@ IsValidFrom c judged heard stream (Some count) =
 
 -- The input of a call is valid: what the peer gave in it, with what is still to come at its end.
 pub record HasValidInput (line : Line) (c : Call) (receipt : Receipt) : Type 0 where
-  pub before : Talk
   pub after : Talk
-  pub told_before : line.old ≡ Some before
-  pub told_after : line.new ≡ Some after
   pub heard : List ℕ
-  pub hears : after.heard ≡ before.heard ++ heard
   pub said : List ℕ
-  pub gave : after.given ≡ before.given ++ said
+  pub exchanged : HasExchanged line.old line.new after heard said
   pub valid : IsValidFrom c receipt.judged heard (said ++ after.to_come) receipt.planned
 
 -- A refusal that valid input may meet: one that has a count, out of memory, or that of an event by what others entered.

@@ -2,10 +2,10 @@
 
 ghost use Rattle.std.specs.Prelude.{◌≡◌, ◌≢◌, None, [], Ok, IfOk, IfErr, MatchResult};
 ghost use Rattle.std.specs.Bool.{OnTrue};
-ghost use Rattle.fetch_store.specs.Faults.{Rose, Counts};
+ghost use Rattle.fetch_remote.specs.Blame.{BlamesWorktrees, lent_trees, told_by};
 ghost use Rattle.fetch_remote.specs.Deleting.{in_order};
-ghost use Rattle.fetch_remote.specs.declared.delete.Error.TheVariants as causes;
 ghost use Rattle.fetch_shared.specs.Deleting.{HasDeleted, HasEntered, IsUndeleted, is_unlocal};
+ghost use Rattle.fetch_shared.specs.Errors.{tree_fault_deleting};
 ghost use Rattle.fetch_shared.specs.Journals.{entries_of};
 ghost use Rattle.fetch_shared.specs.Passes.{IsBack};
 ghost use Rattle.fetch_shared.specs.declared.error.SharedError.TheVariants as errors;
@@ -41,16 +41,8 @@ pub fn delete_shared<R: Wait, W: Worktrees>(
     ensures refused { IfErr result (λ r. IsUndeleted (W.told worktrees.old) (in_order names.now) r.1) }
     ensures none { IfErr result (λ r. entries_of pass.number r.0.front ≡ entries_of pass.number pass.front) }
     ensures unasked { IfErr result (λ r. OnTrue (is_unlocal r.1) (worktrees.new ≡ worktrees.old)) }
-    ensures told { W.told worktrees.new ≡ W.told worktrees.old }
-    ensures listing_counts { Counts (W.listing worktrees.old) (W.listing worktrees.new) }
-    ensures open_repo_counts { Counts (W.open_repo worktrees.old) (W.open_repo worktrees.new) }
-    ensures follow_symref_counts { Counts (W.follow_symref worktrees.old) (W.follow_symref worktrees.new) }
-    ensures listing { IfErr result (λ r. r.1 ≡ errors.Delete causes.WorktreeListing
-        → Rose (W.listing worktrees.old) (W.listing worktrees.new)) }
-    ensures open_repo { IfErr result (λ r. r.1 ≡ errors.Delete causes.OpenWorktreeRepo
-        → Rose (W.open_repo worktrees.old) (W.open_repo worktrees.new)) }
-    ensures follow_symref { IfErr result (λ r. r.1 ≡ errors.Delete causes.FollowSymref
-        → Rose (W.follow_symref worktrees.old) (W.follow_symref worktrees.new)) }
+    ensures worktrees { BlamesWorktrees (lent_trees W.told W.asked W.listing W.open_repo W.follow_symref worktrees.old)
+        (lent_trees W.told W.asked W.listing W.open_repo W.follow_symref worktrees.new) (told_by (λ r. tree_fault_deleting r.1) result) }
 {
     if names.is_empty() {
         return Ok((pass, None));

@@ -1,17 +1,15 @@
 //! A fetch over a shared repository.
 
-ghost use Rattle.std.specs.Prelude.{◌≡◌, ℕ, false, true, List, None, Some, IfOk, IfErr, MatchResult};
-ghost use Rattle.fetch_store.specs.Faults.{Rose, Counts};
-ghost use Rattle.fetch_store.specs.FileCalls.{IsRefused as IsBlocked};
+ghost use Rattle.std.specs.Prelude.{◌≡◌, true, None, Some, IfOk, IfErr, MatchResult};
 ghost use Rattle.fetch_conversation.specs.Blame.{BlamesPeer, BlamesInterrupt, is_told};
 ghost use Rattle.fetch_conversation.specs.Receiving.{last_question};
-ghost use Rattle.fetch_remote.specs.Keeping.{made_in, with_keep};
-ghost use Rattle.fetch_shared.specs.Errors.{is_of_peer, is_yes};
-ghost use Rattle.fetch_shared.specs.Fetching.{IsSharedFetch, IsSharedRefused};
+ghost use Rattle.fetch_remote.specs.Blame.{BlamesFiles, BlamesWorktrees, SparesFiles, lent_files, lent_trees, told_by};
+ghost use Rattle.fetch_shared.specs.Errors.{is_of_peer, is_yes, keep_fault, tree_fault};
+ghost use Rattle.fetch_shared.specs.Fetching.{IsSharedFetch, IsSharedRefused, call_of};
 ghost use Rattle.fetch_shared.specs.Passes.{IsBack};
 ghost use Rattle.fetch_shared.specs.Receipts.{IsReceipt};
-ghost use Rattle.fetch_shared.specs.Settling as settling;
-ghost use Rattle.fetch_shared.specs.Talking.{given_to};
+ghost use Rattle.fetch_shared.specs.Settling.{is_early};
+ghost use Rattle.fetch_shared.specs.Talking.{line_of};
 ghost use Rattle.fetch_shared.specs.Valid.{HasValidInput, is_free};
 
 use crate::error::SharedError;
@@ -57,56 +55,21 @@ pub fn fetch_shared<R: Threads + Wait + Sync, P: Peer, I: Interrupt, F: Files, W
     requires { pass.shared ≡ shared.now }
     ensures back { MatchResult result (λ r. IsBack pass r.0) (λ r. IsBack pass r.0) }
     ensures receipt { MatchResult result (λ r. IsReceipt pass r.0 r.1) (λ r. IsReceipt pass r.0 r.1) }
-    ensures fetched { IfOk result (λ r. IsSharedFetch (record { answers = P.answers; old = P.told peer.old; new = P.told peer.new })
-        (record {
-          given = given_to remote.now options pass;
-          before = pass;
-          after = r.0;
-          known = W.told worktrees.old;
-          files = F.told files.old;
-          left = F.told files.new;
-        }) r.1 r.2) }
-    ensures refused { IfErr result (λ r. IsSharedRefused (record { answers = P.answers; old = P.told peer.old; new = P.told peer.new })
-        (record {
-          given = given_to remote.now options pass;
-          before = pass;
-          after = r.0;
-          known = W.told worktrees.old;
-          files = F.told files.old;
-          left = F.told files.new;
-        }) r.1 r.2) }
+    ensures fetched { IfOk result (λ r. IsSharedFetch (line_of P.answers (P.told peer.old) (P.told peer.new))
+        (call_of remote.now options pass r.0 (W.told worktrees.old) (F.told files.old) (F.told files.new)) r.1 r.2) }
+    ensures refused { IfErr result (λ r. IsSharedRefused (line_of P.answers (P.told peer.old) (P.told peer.new))
+        (call_of remote.now options pass r.0 (W.told worktrees.old) (F.told files.old) (F.told files.new)) r.1 r.2) }
     ensures peer { BlamesPeer (P.faults peer.old) (P.faults peer.new) (is_told (λ r. is_of_peer r.2) result) }
     ensures interrupt { BlamesInterrupt (I.yes interrupt.old) (I.yes interrupt.new) (I.will_stop interrupt.old) (I.will_stop interrupt.new)
         (P.told peer.old) (P.told peer.new) (last_question (λ r. is_yes r.2) result) }
-    ensures dry { options.dry_run ≡ true → files.new ≡ files.old }
-    ensures unread { IfOk result (λ r. made_in shared.now.opening.setup.settings.git_dir r.2.status ≡ None → files.new ≡ files.old) }
-    ensures early { IfErr result (λ r. settling.is_early r.2 ≡ true → files.new ≡ files.old) }
-    ensures file_counts { Counts (F.faults files.old) (F.faults files.new) }
-    ensures keep_file { IfErr result (λ r. (path : List ℕ) → r.2 ≡ settling.unmade path → Rose (F.faults files.old) (F.faults files.new)) }
-    ensures in_the_way { IfErr result (λ r. (path : List ℕ) → r.2 ≡ settling.unmade path
-        → IsBlocked (F.may_fail files.old) (F.told files.old) (with_keep (Some path))) }
-    ensures remove_keep_file { IfErr result (λ r. (path : List ℕ) → r.2 ≡ settling.unremoved path
-        → Rose (F.faults files.old) (F.faults files.new)) }
-    ensures removable { IfErr result (λ r. (path : List ℕ) → r.2 ≡ settling.unremoved path → F.may_fail files.old ≡ false
-        → F.told files.old ≡ None) }
-    ensures may_fail { F.may_fail files.new ≡ F.may_fail files.old }
-    ensures told { W.told worktrees.new ≡ W.told worktrees.old }
-    ensures listing_counts { Counts (W.listing worktrees.old) (W.listing worktrees.new) }
-    ensures open_repo_counts { Counts (W.open_repo worktrees.old) (W.open_repo worktrees.new) }
-    ensures follow_symref_counts { Counts (W.follow_symref worktrees.old) (W.follow_symref worktrees.new) }
-    ensures listing { IfErr result (λ r. r.2 ≡ settling.unlisted → Rose (W.listing worktrees.old) (W.listing worktrees.new)) }
-    ensures open_repo { IfErr result (λ r. r.2 ≡ settling.unopened → Rose (W.open_repo worktrees.old) (W.open_repo worktrees.new)) }
-    ensures follow_symref { IfErr result (λ r. r.2 ≡ settling.unfollowed
-        → Rose (W.follow_symref worktrees.old) (W.follow_symref worktrees.new)) }
-    ensures complete { IfErr result (λ r. HasValidInput (record { answers = P.answers; old = P.told peer.old; new = P.told peer.new })
-        (record {
-          given = given_to remote.now options pass;
-          before = pass;
-          after = r.0;
-          known = W.told worktrees.old;
-          files = F.told files.old;
-          left = F.told files.new;
-        }) r.1 → is_free r.2 ≡ true) }
+    ensures files { BlamesFiles (lent_files F.may_fail F.told F.faults files.old)
+        (lent_files F.may_fail F.told F.faults files.new) (told_by (λ r. keep_fault r.2) result) }
+    ensures untouched { SparesFiles result (λ r. r.2.status) (λ r. is_early r.2) options.dry_run
+        shared.now.opening.setup.settings.git_dir (files.new ≡ files.old) }
+    ensures worktrees { BlamesWorktrees (lent_trees W.told W.asked W.listing W.open_repo W.follow_symref worktrees.old)
+        (lent_trees W.told W.asked W.listing W.open_repo W.follow_symref worktrees.new) (told_by (λ r. tree_fault r.2) result) }
+    ensures complete { IfErr result (λ r. HasValidInput (line_of P.answers (P.told peer.old) (P.told peer.new))
+        (call_of remote.now options pass r.0 (W.told worktrees.old) (F.told files.old) (F.told files.new)) r.1 → is_free r.2 ≡ true) }
 {
     let number = pass.number();
     let how = match manner(alloc, remote.fetch_tags(), &options) {

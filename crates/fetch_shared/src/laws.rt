@@ -123,7 +123,7 @@ pub fn valid_replies_are_never_refused_there()
         HasValidReplies (bound_of c.given) line.old line.new (conversation c.given h.seen.repository.state) → is_free e ≡ true }
     ensures judging { (line : Line) (c : Call) (receipt : Receipt) (cause : UpdateError)
         (h : IsStopped line c receipt (Fetch (Receive (UpdateRefs cause)))) →
-        AreJudgeable (policy_in h.unsettled.taken.seen.repository.state (manner_in c.given) h.unsettled.trees) h.told.listed.ref_map
+        AreJudgeable (policy_in h.unsettled.taken.seen.repository.state (manner_in c.given) h.unsettled.by.trees) h.told.listed.ref_map
         → is_worktree_fault cause ≡ true }
 {}
 

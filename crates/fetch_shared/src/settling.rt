@@ -1,19 +1,21 @@
 //! What a fetch does with what it received, over a shared repository.
 
-ghost use Rattle.std.specs.Prelude.{◌≡◌, ℕ, false, true, List as Items, None, Some, IfOk, IfErr, IfSome, MatchResult, OnOk, OnErr};
+ghost use Rattle.std.specs.Prelude.{◌≡◌, ℕ, List as Items, None, Some, IfOk, IfErr, IfSome, MatchResult, OnOk, OnErr};
 ghost use Rattle.std.specs.Option.{option_map};
 ghost use Rattle.fetch_store.specs.Faults.{Rose, Counts};
 ghost use Rattle.fetch_store.specs.FileCalls.{IsRefused as IsBlocked};
 ghost use Rattle.fetch_store.specs.Stores.{AreOf};
 ghost use Rattle.fetch_pack.specs.Once.{AreNamed};
-ghost use Rattle.fetch_update.specs.declared.update.Error.TheVariants as update_errors;
 ghost use Rattle.fetch_conversation.specs.ListStage.{shown};
-ghost use Rattle.fetch_conversation.specs.declared.fetch.Error.TheVariants as causes;
-ghost use Rattle.fetch_remote.specs.Keeping.{AreFiles, made_in, with_keep, without_keep};
+ghost use Rattle.fetch_remote.specs.Keeping.{AreFiles, without_keep};
 ghost use Rattle.fetch_remote.specs.Settling.{released_of, status_by, kept_of as kept_in};
+ghost use Rattle.fetch_remote.specs.Blame.{BlamesFiles, BlamesWorktrees, SparesFiles, fault_in, keep_fault_in};
+ghost use Rattle.fetch_remote.specs.Blame.{lent_files, lent_trees, told_by};
+ghost use Rattle.fetch_shared.specs.Errors.{keep_fault, tree_fault};
 ghost use Rattle.fetch_shared.specs.Passes.{IsBack};
 ghost use Rattle.fetch_shared.specs.Settling as spec;
-ghost use Rattle.fetch_shared.specs.Settling.{HasVerdicts, IsSettled, IsStop, IsUnmoved, IsUnsettled, Moves, course_of, is_early};
+ghost use Rattle.fetch_shared.specs.Settling.{HasVerdicts, IsSettled, IsStop, IsUnmoved, IsUnsettled, Moves};
+ghost use Rattle.fetch_shared.specs.Settling.{course_of, is_early, matter_of};
 
 use crate::bringing::{Brought, bring};
 use crate::error::SharedError;
@@ -67,41 +69,17 @@ pub(crate) fn settle_in_turns<R: Wait, F: Files, W: Worktrees>(
     requires named { IfSome talked.received (λ r. AreNamed r.objects) }
     ensures back { MatchResult result (λ r. IsBack pass r.0) (λ r. IsBack pass r.0) }
     ensures settled { IfOk result (λ r. IsSettled
-        (record {
-          setup = shared.now.opening.setup;
-          how = how.now;
-          wants = talked.wants;
-          told = record { listed = shown talked.listed; received = talked.received };
-        })
+        (matter_of shared.now.opening.setup how.now talked.wants (shown talked.listed) talked.received)
         (course_of pass r.0 (W.told worktrees.old) (F.told files.old) (F.told files.new)) r.1 r.2 r.3) }
     ensures refused { IfErr result (λ r. IsUnsettled
-        (record {
-          setup = shared.now.opening.setup;
-          how = how.now;
-          wants = talked.wants;
-          told = record { listed = shown talked.listed; received = talked.received };
-        })
+        (matter_of shared.now.opening.setup how.now talked.wants (shown talked.listed) talked.received)
         (course_of pass r.0 (W.told worktrees.old) (F.told files.old) (F.told files.new)) r.1 r.2 r.3) }
-    ensures dry { how.now.dry_run ≡ true → files.new ≡ files.old }
-    ensures unread { IfOk result (λ r. made_in shared.now.opening.setup.settings.git_dir r.3.status ≡ None → files.new ≡ files.old) }
-    ensures early { IfErr result (λ r. is_early r.3 ≡ true → files.new ≡ files.old) }
-    ensures file_counts { Counts (F.faults files.old) (F.faults files.new) }
-    ensures keep_file { IfErr result (λ r. (path : Items ℕ) → r.3 ≡ spec.unmade path → Rose (F.faults files.old) (F.faults files.new)) }
-    ensures in_the_way { IfErr result (λ r. (path : Items ℕ) → r.3 ≡ spec.unmade path
-        → IsBlocked (F.may_fail files.old) (F.told files.old) (with_keep (Some path))) }
-    ensures remove_keep_file { IfErr result (λ r. (path : Items ℕ) → r.3 ≡ spec.unremoved path
-        → Rose (F.faults files.old) (F.faults files.new)) }
-    ensures removable { IfErr result (λ r. (path : Items ℕ) → r.3 ≡ spec.unremoved path → F.may_fail files.old ≡ false
-        → F.told files.old ≡ None) }
-    ensures may_fail { F.may_fail files.new ≡ F.may_fail files.old }
-    ensures told { W.told worktrees.new ≡ W.told worktrees.old }
-    ensures listing_counts { Counts (W.listing worktrees.old) (W.listing worktrees.new) }
-    ensures open_repo_counts { Counts (W.open_repo worktrees.old) (W.open_repo worktrees.new) }
-    ensures follow_symref_counts { Counts (W.follow_symref worktrees.old) (W.follow_symref worktrees.new) }
-    ensures listing { IfErr result (λ r. r.3 ≡ spec.unlisted → Rose (W.listing worktrees.old) (W.listing worktrees.new)) }
-    ensures open_repo { IfErr result (λ r. r.3 ≡ spec.unopened → Rose (W.open_repo worktrees.old) (W.open_repo worktrees.new)) }
-    ensures follow_symref { IfErr result (λ r. r.3 ≡ spec.unfollowed
-        → Rose (W.follow_symref worktrees.old) (W.follow_symref worktrees.new)) }
+    ensures files { BlamesFiles (lent_files F.may_fail F.told F.faults files.old)
+        (lent_files F.may_fail F.told F.faults files.new) (told_by (λ r. keep_fault r.3) result) }
+    ensures untouched { SparesFiles result (λ r. r.3.status) (λ r. is_early r.3) how.now.dry_run
+        shared.now.opening.setup.settings.git_dir (files.new ≡ files.old) }
+    ensures worktrees { BlamesWorktrees (lent_trees W.told W.asked W.listing W.open_repo W.follow_symref worktrees.old)
+        (lent_trees W.told W.asked W.listing W.open_repo W.follow_symref worktrees.new) (told_by (λ r. tree_fault r.3) result) }
 {
     let Talked {
         listed,
@@ -145,7 +123,7 @@ fn found(listed: Listed) -> (RefMap, Handshake)
 
 /// Makes the keep file of a pack that was taken, and judges the mapped references over what the taking left.
 // Many arguments: each is lent by itself.
-// Long: its clauses on each of the files and the work trees.
+// Long: its contract names each of what is lent, before and after.
 fn judge_over<F: Files, W: Worktrees>(
     alloc: Global,
     settings: &Settings,
@@ -161,22 +139,10 @@ fn judge_over<F: Files, W: Worktrees>(
         (F.told files.new) settings.now.git_dir how.now ref_map.now brought) }
     ensures only { IfErr result (λ s. spec.IsOfJudging s.cause) }
     ensures unread { brought.pack ≡ None → files.new ≡ files.old }
-    ensures counts { Counts (F.faults files.old) (F.faults files.new) }
-    ensures keep_file { IfErr result (λ s. (path : Items ℕ) → s.cause ≡ causes.KeepFile path
-        → Rose (F.faults files.old) (F.faults files.new)) }
-    ensures in_the_way { IfErr result (λ s. (path : Items ℕ) → s.cause ≡ causes.KeepFile path
-        → IsBlocked (F.may_fail files.old) (F.told files.old) (with_keep (Some path))) }
-    ensures may_fail { F.may_fail files.new ≡ F.may_fail files.old }
-    ensures told { W.told worktrees.new ≡ W.told worktrees.old }
-    ensures listing_counts { Counts (W.listing worktrees.old) (W.listing worktrees.new) }
-    ensures open_repo_counts { Counts (W.open_repo worktrees.old) (W.open_repo worktrees.new) }
-    ensures follow_symref_counts { Counts (W.follow_symref worktrees.old) (W.follow_symref worktrees.new) }
-    ensures listing { IfErr result (λ s. s.cause ≡ causes.UpdateRefs update_errors.WorktreeListing
-        → Rose (W.listing worktrees.old) (W.listing worktrees.new)) }
-    ensures open_repo { IfErr result (λ s. s.cause ≡ causes.UpdateRefs update_errors.OpenWorktreeRepo
-        → Rose (W.open_repo worktrees.old) (W.open_repo worktrees.new)) }
-    ensures follow_symref { IfErr result (λ s. s.cause ≡ causes.UpdateRefs update_errors.FollowSymref
-        → Rose (W.follow_symref worktrees.old) (W.follow_symref worktrees.new)) }
+    ensures files { BlamesFiles (lent_files F.may_fail F.told F.faults files.old)
+        (lent_files F.may_fail F.told F.faults files.new) (told_by (λ s. keep_fault_in s.cause) result) }
+    ensures worktrees { BlamesWorktrees (lent_trees W.told W.asked W.listing W.open_repo W.follow_symref worktrees.old)
+        (lent_trees W.told W.asked W.listing W.open_repo W.follow_symref worktrees.new) (told_by (λ s. fault_in s.cause) result) }
 {
     let Brought {
         taken: over,

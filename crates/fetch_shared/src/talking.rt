@@ -10,7 +10,7 @@ ghost use Rattle.fetch_shared.specs.Errors.{fetching, is_of_peer, is_yes};
 ghost use Rattle.fetch_shared.specs.Journals.{entries_of};
 ghost use Rattle.fetch_shared.specs.Passes.{IsBack};
 ghost use Rattle.fetch_shared.specs.Shared.{plan_of};
-ghost use Rattle.fetch_shared.specs.Talking.{HasBroken, HasPlanned, HasTalked, given_to};
+ghost use Rattle.fetch_shared.specs.Talking.{HasBroken, HasPlanned, HasTalked, given_to, line_of};
 ghost use Rattle.fetch_shared.specs.declared.error.SharedError.TheVariants as errors;
 
 use crate::error::SharedError;
@@ -54,9 +54,9 @@ pub(crate) fn talk<R: Threads + Wait + Sync, P: Peer, I: Interrupt>(
     ensures back { MatchResult result (λ r. IsBack pass r.0) (λ r. IsBack pass r.0) }
     ensures none { MatchResult result (λ r. entries_of pass.number r.0.front ≡ entries_of pass.number pass.front)
         (λ r. entries_of pass.number r.0.front ≡ entries_of pass.number pass.front) }
-    ensures talked { IfOk result (λ r. HasTalked (record { answers = P.answers; old = P.told peer.old; new = P.told peer.new })
+    ensures talked { IfOk result (λ r. HasTalked (line_of P.answers (P.told peer.old) (P.told peer.new))
         (given_to remote.now options pass) pass r.0 r.1 r.2) }
-    ensures broken { IfErr result (λ r. HasBroken (record { answers = P.answers; old = P.told peer.old; new = P.told peer.new })
+    ensures broken { IfErr result (λ r. HasBroken (line_of P.answers (P.told peer.old) (P.told peer.new))
         (given_to remote.now options pass) pass r.0 r.1 r.2) }
     ensures of_kind { IfOk result (λ r. IfSome r.2.received (λ x. AreOf pass.shared.opening.state.hash x.objects)) }
     ensures named { IfOk result (λ r. IfSome r.2.received (λ x. AreNamed x.objects)) }

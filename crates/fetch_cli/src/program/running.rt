@@ -1,18 +1,17 @@
 //! The program: it reads a scene, fetches or checks, and writes a report.
 
-ghost use Rattle.std.specs.Prelude.{◌≡◌, ◌≢◌, ◌≤◌, ◌⊎◌, ℕ, List, Some, map, true, false, IfOk, OnOk, IsErrOf};
-ghost use Rattle.std.specs.Io.KnownBytes.{Appends, IsAtEnd};
+ghost use Rattle.std.specs.Prelude.{◌≡◌, ◌≢◌, ◌≤◌, ℕ, List, Some, map, true, false, IfOk, IsErrOf};
+ghost use Rattle.std.specs.Io.KnownBytes.{IsAtEnd};
 ghost use Rattle.fetch_store.specs.Faults.{Rose, Counts};
 ghost use Rattle.fetch_store.specs.Stores.{AreOf};
-ghost use Rattle.fetch_check.specs.Telling.{findings_status, findings_text};
 ghost use Rattle.fetch_check.specs.declared.findings.Findings.{Findings};
 ghost use Rattle.fetch_cli.specs.Bench.{IsSummary, generated_scene};
 ghost use Rattle.fetch_cli.specs.Checks.{IsChecked};
 ghost use Rattle.fetch_cli.specs.Report.{IsReport};
 ghost use Rattle.fetch_cli.specs.ReportLines.{malformed_line, malformed_word_line};
 ghost use Rattle.fetch_cli.specs.Run.{Are, IsSceneAnswer, IsServerAnswer, IsBytesAnswer, IsInputAnswer, IsAnswer};
-ghost use Rattle.fetch_cli.specs.Run.{HasFindings, HasValidScene, AsksBench, asks_input, bench_status};
-ghost use Rattle.fetch_cli.specs.Run.{IsUnlessFailed, Writes, WritesFront, WritesSummary};
+ghost use Rattle.fetch_cli.specs.Run.{BlamesEnd, HasFindings, HasValidScene, AsksBench, asks_input};
+ghost use Rattle.fetch_cli.specs.Run.{IsBenched, IsCheckOf, IsUnlessFailed, Writes, WritesBy, WritesFront};
 ghost use Rattle.fetch_cli.specs.ServerScenes.{server_scene_of};
 ghost use Rattle.fetch_cli.specs.Words.{IsWithin, help_text, version_text};
 ghost use Rattle.fetch_scene.specs.Scene.{scene_of};
@@ -225,22 +224,13 @@ pub fn run<R: Threads + Sync, S: Source, K: Sink>(
     source: &mut S,
     sink: &mut K,
 ) -> u8
-    ensures done { result ≡ 0 → Writes (map (λ word. word.items) words.now) (S.left source.old) (K.taken sink.old) (K.taken sink.new) 0 }
-    ensures refused { result ≡ 1 → Writes (map (λ word. word.items) words.now) (S.left source.old) (K.taken sink.old) (K.taken sink.new) 1 }
-    ensures reads { Counts (S.faults source.old) (S.faults source.new) }
-    ensures writes { Counts (K.faults sink.old) (K.faults sink.new) }
-    ensures read { result ≡ 2 → Rose (S.faults source.old) (S.faults source.new) }
-    ensures unread { result ≡ 2 → sink.new ≡ sink.old }
     // A source that failed is told by 2 alone, and a sink that failed by 3.
-    ensures quiet_source { result ≢ 2 → (S.faults source.new).count ≡ (S.faults source.old).count }
-    ensures quiet_sink { result ≢ 3 → (K.faults sink.new).count ≡ (K.faults sink.old).count }
-    ensures write { result ≡ 3 → Rose (K.faults sink.old) (K.faults sink.new) }
-    ensures front { result ≡ 3 → WritesFront (map (λ word. word.items) words.now) (S.left source.old) (K.taken sink.old)
-        (K.taken sink.new) }
-    ensures malformed { result ≡ 4 → Writes (map (λ word. word.items) words.now) (S.left source.old) (K.taken sink.old)
-        (K.taken sink.new) 4 }
-    ensures memory { result ≡ 5 → (sink.new ≡ sink.old)
-        ⊎ WritesFront (map (λ word. word.items) words.now) (S.left source.old) (K.taken sink.old) (K.taken sink.new) }
+    ensures source { BlamesEnd (S.faults source.old) (S.faults source.new) 2 result }
+    ensures sink { BlamesEnd (K.faults sink.old) (K.faults sink.new) 3 result }
+    ensures written { WritesBy
+        (Writes (map (λ word. word.items) words.now) (S.left source.old) (K.taken sink.old) (K.taken sink.new))
+        (WritesFront (map (λ word. word.items) words.now) (S.left source.old) (K.taken sink.old) (K.taken sink.new))
+        (sink.new ≡ sink.old) result }
     // Where a fetch was done or refused, or a repository was checked, the source was read to its end.
     ensures end { asks_input (map (λ word. word.items) words.now) ≡ true → result ≤ 1 → IsAtEnd (S.left source.new) }
     // Words are tested before the source is read.
@@ -249,15 +239,10 @@ pub fn run<R: Threads + Sync, S: Source, K: Sink>(
     // Where the source tells what is in it, the status is that of the one answer.
     ensures exact { (bytes : List ℕ) (status : ℕ) (text : List ℕ) → S.left source.old ≡ Some bytes
         → IsAnswer (map (λ word. word.items) words.now) (Some bytes) status text → IsUnlessFailed result status }
-    // A bench writes the summary of its scene, with its status.
-    ensures bench { (count : ℕ) → AsksBench (map (λ word. word.items) words.now) count → result ≤ 1
-        → WritesSummary count (K.taken sink.old) (K.taken sink.new) result }
-    ensures bench_exact { (count : ℕ) → AsksBench (map (λ word. word.items) words.now) count → IsUnlessFailed result (bench_status count) }
-    // A check writes all that is found in the repository of its scene, with its status.
+    ensures bench { (count : ℕ) → AsksBench (map (λ word. word.items) words.now) count
+        → IsBenched count (K.taken sink.old) (K.taken sink.new) result }
     ensures check { (findings : Findings) → HasFindings (map (λ word. word.items) words.now) (S.left source.old) findings
-        → result ≤ 1 → Appends (K.taken sink.old) (K.taken sink.new) (findings_text findings) }
-    ensures check_exact { (findings : Findings) → HasFindings (map (λ word. word.items) words.now) (S.left source.old) findings
-        → IsUnlessFailed result (findings_status findings) }
+        → IsCheckOf findings (K.taken sink.old) (K.taken sink.new) result }
     ensures complete { HasValidScene (map (λ word. word.items) words.now) (S.left source.old) → IsUnlessFailed result 0 }
 {
     match answer(rt, alloc, words, source) {

@@ -4,7 +4,7 @@ ghost use Rattle.std.specs.Prelude.{◌≡◌, Some, None, Err, IfOk, IfErr, IfS
 ghost use Rattle.std.specs.Fn.{CalledAtMut};
 ghost use Rattle.fetch_remote.specs.RepositoryValues.{RepositoryValue};
 ghost use Rattle.fetch_clone.specs.Cloned.{IsCloned, IsUncloned};
-ghost use Rattle.fetch_clone.specs.Counted.{IsCounted, Later, meters, tree_meters};
+ghost use Rattle.fetch_clone.specs.Counted.{CountsBy, IsCounted, Later, meters, tree_meters};
 ghost use Rattle.fetch_clone.specs.Drafts.{without_repo};
 ghost use Rattle.fetch_clone.specs.Reached.{line, ways};
 ghost use Rattle.fetch_clone.specs.declared.clone.fetch.Error.TheVariants as errors;
@@ -63,22 +63,20 @@ where
             (line (C.left self.new.maker) (C.taken self.new.maker) (C.addresses self.new.maker) self.new.configure_connection)
             (W.told worktrees.old) (F.may_fail self.old.files) (F.told self.old.files) (F.told self.new.files)
             (without_repo self.old.draft) found repo e)) }
-        ensures counted { IfErr result (IsCounted
+        ensures counted { CountsBy
             (meters (C.faults self.old.maker) (C.lost self.old.maker) (I.yes interrupt.old) (F.faults self.old.files)
             (tree_meters (W.listing worktrees.old) (W.open_repo worktrees.old) (W.follow_symref worktrees.old)))
             (meters (C.faults self.new.maker) (C.lost self.new.maker) (I.yes interrupt.new) (F.faults self.new.files)
-            (tree_meters (W.listing worktrees.new) (W.open_repo worktrees.new) (W.follow_symref worktrees.new)))) }
+            (tree_meters (W.listing worktrees.new) (W.open_repo worktrees.new) (W.follow_symref worktrees.new))) result }
         ensures later { Later (meters (C.faults self.old.maker) (C.lost self.old.maker) (I.yes interrupt.old) (F.faults self.old.files)
             (tree_meters (W.listing worktrees.old) (W.open_repo worktrees.old) (W.follow_symref worktrees.old)))
             (meters (C.faults self.new.maker) (C.lost self.new.maker) (I.yes interrupt.new) (F.faults self.new.files)
             (tree_meters (W.listing worktrees.new) (W.open_repo worktrees.new) (W.follow_symref worktrees.new))) }
         ensures told { W.told worktrees.new ≡ W.told worktrees.old }
-        ensures uninterrupted { OnOk result ((I.yes interrupt.new).count ≡ (I.yes interrupt.old).count) }
         // Each peer that was made was taken back.
         ensures out { C.out self.new.maker ≡ C.out self.old.maker }
         ensures may_fail { F.may_fail self.new.files ≡ F.may_fail self.old.files }
-        ensures remote_again { R.IsAlwaysCallable self.new.configure_remote }
-        ensures connection_again { G.IsAlwaysCallable self.new.configure_connection }
+        ensures again { R.IsAlwaysCallable self.new.configure_remote × G.IsAlwaysCallable self.new.configure_connection }
     {
         let alloc = self.draft.choices.overrides.allocator();
         let Some(mut repo) = self.draft.repo.take() else {

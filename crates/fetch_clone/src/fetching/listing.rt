@@ -1,12 +1,11 @@
 //! The references that a clone fetches are listed.
 
-ghost use Rattle.std.specs.Prelude.{◌≡◌, ◌≤◌, ◌<◌, ◌+◌, IfOk, IfErr, IsErrOf, OnOk, OnErr, filter, not, codes, true, false};
+ghost use Rattle.std.specs.Prelude.{◌≡◌, ◌≤◌, ◌<◌, ◌+◌, IfOk, IfErr, IsErrOf, OnOk, OnErr, filter, not, true, false};
 ghost use Rattle.std.specs.Fn.{CalledAtMut};
 ghost use Rattle.std.specs.List.{list_any};
-ghost use Rattle.std.specs.Option.{option_copied};
 ghost use Rattle.fetch_store.specs.Faults.{Counts, Rose};
 ghost use Rattle.fetch_conversation.specs.Errors.{is_interrupted};
-ghost use Rattle.fetch_conversation.specs.Receiving.{IsHeeded, last_question};
+ghost use Rattle.fetch_conversation.specs.Receiving.{last_question};
 ghost use Rattle.fetch_conversation.specs.declared.prepare.Error.TheVariants as prepare_errors;
 ghost use Rattle.fetch_conversation.specs.declared.ref_map.Error.TheVariants as ref_map_errors;
 ghost use Rattle.fetch_remote.specs.Connecting.{TakesBack, out_after};
@@ -27,13 +26,12 @@ use crate::fetching::reaching::reached;
 use crate::fetching::targeting::said;
 use crate::prepare_fetch::ConfigureFault;
 use fetch_conversation::{prepare, ref_map};
-use fetch_negotiate::Shallow;
 use fetch_remote::connect::Connect;
-use fetch_remote::phases::list;
-use fetch_remote::{Direction, FetchOptions, Prepared, Remote, Repository};
+use fetch_remote::phases::listed_for;
+use fetch_remote::{Direction, Prepared, Remote, Repository};
 use fetch_specs::{Conflict, RefSpec};
 use fetch_store::{List, NoMemory, Text};
-use fetch_wire::{Interrupt, Peer};
+use fetch_wire::Interrupt;
 use std::alloc::Global;
 
 /// Lists the references that the clone fetches, by a peer that the closure agreed to. Where the only conflict is on the
@@ -160,50 +158,13 @@ fn listed_by<C: Connect, I: Interrupt>(
         (C.Peer.told found.0)) }
 {
     let mut peer = peer;
-    match prepared_by(alloc, remote, repo, &mut peer, interrupt, options) {
+    match listed_for(alloc, remote, repo, &mut peer, interrupt, options) {
         Ok(prepared) => Ok((peer, prepared)),
         Err(e) => {
             maker.take_back(peer);
             Err(e)
         }
     }
-}
-
-/// Lists them by a peer that is lent, to be fetched as is usual. Where no yes is told, the interrupt said none.
-fn prepared_by<P: Peer, I: Interrupt>(
-    alloc: Global,
-    remote: &Remote,
-    repo: &Repository,
-    peer: &mut P,
-    interrupt: &mut I,
-    options: ref_map::Options,
-) -> Result<Prepared, prepare::Error>
-    ensures listed { IfOk result (λ p. HasListed P.answers (P.told peer.old) (P.told peer.new)
-        (spec.asked remote.now (setup_of repo.now) options) p.listed) }
-    ensures usual { IfOk result (λ p. p.options ≡ options_with options) }
-    ensures refused { IfErr result (λ e. BreaksOff P.answers (P.told peer.old) (P.told peer.new)
-        (spec.asked remote.now (setup_of repo.now) options) e) }
-    ensures counts { Counts (P.faults peer.old) (P.faults peer.new) }
-    ensures transport { IsErrOf result (prepare_errors.RefMap ref_map_errors.Transport) → Rose (P.faults peer.old) (P.faults peer.new) }
-    ensures asked { Counts (I.yes interrupt.old) (I.yes interrupt.new) }
-    ensures interrupted { IsErrOf result (prepare_errors.RefMap ref_map_errors.Interrupted)
-        → Rose (I.yes interrupt.old) (I.yes interrupt.new) }
-    ensures quiet { last_question is_interrupted result ≡ 0 → (I.yes interrupt.new).count ≡ (I.yes interrupt.old).count }
-    ensures questions { IsHeeded is_interrupted (I.will_stop interrupt.old) (I.will_stop interrupt.new) (P.told peer.old)
-        (P.told peer.new) result }
-{
-    let map = options.try_clone()?;
-    let listed = list(alloc, remote, repo.settings(), peer, interrupt, options)?;
-    Ok(Prepared {
-        listed,
-        options: FetchOptions {
-            map,
-            dry_run: false,
-            write_packed_refs_only: false,
-            reflog_message: None,
-            shallow: Shallow::NoChange,
-        },
-    })
 }
 
 /// Where the remote's `HEAD` is kept.

@@ -1,16 +1,12 @@
 //! What a clone listed is fetched.
 
-ghost use Rattle.std.specs.Prelude.{◌≡◌, ℕ, List, Option, IfOk, IfErr, IsErrOf, OnOk};
-ghost use Rattle.fetch_store.specs.Faults.{Counts, Rose};
-ghost use Rattle.fetch_conversation.specs.declared.fetch.Error.TheVariants as receive_errors;
-ghost use Rattle.fetch_update.specs.declared.update.Error.TheVariants as update_errors;
+ghost use Rattle.std.specs.Prelude.{◌≡◌, Option, IfOk, IfErr, OnOk};
 ghost use Rattle.fetch_wire.specs.Talks.{Talk};
 ghost use Rattle.fetch_remote.specs.Repositories.{state_of, setup_of};
-ghost use Rattle.fetch_remote.specs.declared.repository.open_error.OpenError.TheVariants as opening;
+ghost use Rattle.fetch_clone.specs.Counted.{IsCounted, Later, peer_meters, tree_meters};
 ghost use Rattle.fetch_clone.specs.Heeded.{IsHeededOver};
 ghost use Rattle.fetch_clone.specs.Received as spec;
 ghost use Rattle.fetch_clone.specs.Received.{IsReceived, IsUnreceived, WasListed};
-ghost use Rattle.fetch_clone.specs.declared.clone.fetch.Error.TheVariants as errors;
 
 use crate::aim::{Unaimed, revision_id};
 use crate::choices::Wanted;
@@ -62,30 +58,20 @@ pub(crate) fn received<
         → IsUnreceived P.answers begun (P.told peer.new) (W.told worktrees.old) (F.may_fail files.old) (F.told files.old)
         (F.told files.new) draft.now remote.now prepared repo.old repo.new e) }
     ensures kind { IfErr result (spec.IsOfReceiving draft.now.choices.wanted prepared.listed.ref_map) }
-    ensures counts { Counts (P.faults peer.old) (P.faults peer.new) }
-    ensures client { IsErrOf result (errors.Fetch receive_errors.Client) → Rose (P.faults peer.old) (P.faults peer.new) }
-    ensures asked { Counts (I.yes interrupt.old) (I.yes interrupt.new) }
-    ensures stopped { IsErrOf result (errors.Fetch receive_errors.Interrupted) → Rose (I.yes interrupt.old) (I.yes interrupt.new) }
+    ensures counted { IfErr result (IsCounted
+        (peer_meters (P.faults peer.old) (I.yes interrupt.old) (F.faults files.old)
+        (tree_meters (W.listing worktrees.old) (W.open_repo worktrees.old) (W.follow_symref worktrees.old)))
+        (peer_meters (P.faults peer.new) (I.yes interrupt.new) (F.faults files.new)
+        (tree_meters (W.listing worktrees.new) (W.open_repo worktrees.new) (W.follow_symref worktrees.new)))) }
+    ensures later { Later (peer_meters (P.faults peer.old) (I.yes interrupt.old) (F.faults files.old)
+        (tree_meters (W.listing worktrees.old) (W.open_repo worktrees.old) (W.follow_symref worktrees.old)))
+        (peer_meters (P.faults peer.new) (I.yes interrupt.new) (F.faults files.new)
+        (tree_meters (W.listing worktrees.new) (W.open_repo worktrees.new) (W.follow_symref worktrees.new))) }
     ensures uninterrupted { OnOk result ((I.yes interrupt.new).count ≡ (I.yes interrupt.old).count) }
     ensures questions { OnOk result (IsHeededOver (I.will_stop interrupt.old) (I.will_stop interrupt.new) (P.told peer.old)
         (P.told peer.new)) }
-    ensures file_counts { Counts (F.faults files.old) (F.faults files.new) }
-    ensures reopened { IsErrOf result (errors.ReopenWithObjectHash opening.Io) → Rose (F.faults files.old) (F.faults files.new) }
-    ensures keep_file { (path : List ℕ) → IsErrOf result (errors.Fetch (receive_errors.KeepFile path))
-        → Rose (F.faults files.old) (F.faults files.new) }
-    ensures remove_keep_file { (path : List ℕ) → IsErrOf result (errors.Fetch (receive_errors.RemovePackKeepFile path))
-        → Rose (F.faults files.old) (F.faults files.new) }
     ensures may_fail { F.may_fail files.new ≡ F.may_fail files.old }
     ensures told { W.told worktrees.new ≡ W.told worktrees.old }
-    ensures listing_counts { Counts (W.listing worktrees.old) (W.listing worktrees.new) }
-    ensures open_repo_counts { Counts (W.open_repo worktrees.old) (W.open_repo worktrees.new) }
-    ensures follow_symref_counts { Counts (W.follow_symref worktrees.old) (W.follow_symref worktrees.new) }
-    ensures listing { IsErrOf result (errors.Fetch (receive_errors.UpdateRefs update_errors.WorktreeListing))
-        → Rose (W.listing worktrees.old) (W.listing worktrees.new) }
-    ensures open_repo { IsErrOf result (errors.Fetch (receive_errors.UpdateRefs update_errors.OpenWorktreeRepo))
-        → Rose (W.open_repo worktrees.old) (W.open_repo worktrees.new) }
-    ensures follow_symref { IsErrOf result (errors.Fetch (receive_errors.UpdateRefs update_errors.FollowSymref))
-        → Rose (W.follow_symref worktrees.old) (W.follow_symref worktrees.new) }
 {
     check_mapped(alloc, &draft.choices.wanted, &prepared.listed.ref_map)?;
     // The order takes memory before anything is changed.

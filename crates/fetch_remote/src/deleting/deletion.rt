@@ -1,12 +1,10 @@
 //! Which branches may be deleted.
 
-ghost use Rattle.std.specs.Prelude.{◌≡◌, IfOk, IfErr, IsErrOf, OnOk};
+ghost use Rattle.std.specs.Prelude.{◌≡◌, IfOk, IfErr, OnOk};
 ghost use Rattle.std.specs.Bool.{OnTrue};
-ghost use Rattle.fetch_store.specs.Faults.{Rose, Counts};
-ghost use Rattle.fetch_remote.specs.Judging.{IsOnce};
 ghost use Rattle.fetch_remote.specs.Deleting.{AreFree, in_order, is_unlocal};
 ghost use Rattle.fetch_remote.specs.Undeletable.{IsUndeletable};
-ghost use Rattle.fetch_remote.specs.declared.delete.Error.TheVariants as errors;
+ghost use Rattle.fetch_remote.specs.Blame.{BlamesWorktrees, fault_deleting, told_by, lent_trees};
 
 use crate::delete::Error;
 use crate::deleting::in_order;
@@ -28,14 +26,8 @@ pub fn deletable<W: Worktrees>(
     ensures free { OnOk result (AreFree (W.told worktrees.old) (in_order names.now)) }
     ensures refused { IfErr result (IsUndeletable (W.told worktrees.old) (in_order names.now)) }
     ensures unasked { IfErr result (λ e. OnTrue (is_unlocal e) (worktrees.new ≡ worktrees.old)) }
-    ensures told { W.told worktrees.new ≡ W.told worktrees.old }
-    ensures asked_once { IsOnce (W.asked worktrees.old) (W.asked worktrees.new) }
-    ensures listing_counts { Counts (W.listing worktrees.old) (W.listing worktrees.new) }
-    ensures open_repo_counts { Counts (W.open_repo worktrees.old) (W.open_repo worktrees.new) }
-    ensures follow_symref_counts { Counts (W.follow_symref worktrees.old) (W.follow_symref worktrees.new) }
-    ensures listing { IsErrOf result errors.WorktreeListing → Rose (W.listing worktrees.old) (W.listing worktrees.new) }
-    ensures open_repo { IsErrOf result errors.OpenWorktreeRepo → Rose (W.open_repo worktrees.old) (W.open_repo worktrees.new) }
-    ensures follow_symref { IsErrOf result errors.FollowSymref → Rose (W.follow_symref worktrees.old) (W.follow_symref worktrees.new) }
+    ensures worktrees { BlamesWorktrees (lent_trees W.told W.asked W.listing W.open_repo W.follow_symref worktrees.old)
+        (lent_trees W.told W.asked W.listing W.open_repo W.follow_symref worktrees.new) (told_by fault_deleting result) }
 {
     let names = in_order(alloc, names)?;
     check_local(names.as_slice())?;

@@ -1,17 +1,15 @@
 //! Branches that can't be deleted: those that are no local ones, and those that are checked out.
 
-ghost use Rattle.std.specs.Prelude.{◌≡◌, ℕ, List as Items, None, true, cond, find, IfOk, IfErr, IsErrOf, OnOk};
+ghost use Rattle.std.specs.Prelude.{◌≡◌, ℕ, List as Items, None, true, cond, find, IfOk, IfErr, OnOk};
 ghost use Rattle.std.specs.BTreeMap.{is_at};
 ghost use Rattle.std.specs.BTreeSet.{contains};
-ghost use Rattle.fetch_store.specs.Faults.{Rose, Counts};
 ghost use Rattle.fetch_lookup.specs.Ordered.{placed};
 ghost use Rattle.fetch_refs.specs.Names.{name_cmp};
 ghost use Rattle.fetch_update.specs.Trees.{directories_of};
 ghost use Rattle.fetch_update.specs.Trees as tree_spec;
-ghost use Rattle.fetch_remote.specs.Judging.{IsOnce};
 ghost use Rattle.fetch_remote.specs.Deleting as spec;
 ghost use Rattle.fetch_remote.specs.DeletionSteps.{AreBranches, AreUnheld, IsHeld, IsHeldIn, IsUnlocal, directory_of, listing_refusal};
-ghost use Rattle.fetch_remote.specs.declared.delete.Error.TheVariants as errors;
+ghost use Rattle.fetch_remote.specs.Blame.{BlamesWorktrees, fault_deleting, told_by, lent_trees};
 
 use crate::delete::Error;
 use fetch_specs::FullName;
@@ -50,14 +48,8 @@ pub(crate) fn check_unheld<W: Worktrees>(
 ) -> Result<(), Error>
     ensures ok { OnOk result (AreUnheld (W.told worktrees.old) names.now) }
     ensures refused { IfErr result (IsHeld (W.told worktrees.old) names.now) }
-    ensures told { W.told worktrees.new ≡ W.told worktrees.old }
-    ensures asked_once { IsOnce (W.asked worktrees.old) (W.asked worktrees.new) }
-    ensures listing_counts { Counts (W.listing worktrees.old) (W.listing worktrees.new) }
-    ensures open_repo_counts { Counts (W.open_repo worktrees.old) (W.open_repo worktrees.new) }
-    ensures follow_symref_counts { Counts (W.follow_symref worktrees.old) (W.follow_symref worktrees.new) }
-    ensures listing { IsErrOf result errors.WorktreeListing → Rose (W.listing worktrees.old) (W.listing worktrees.new) }
-    ensures open_repo { IsErrOf result errors.OpenWorktreeRepo → Rose (W.open_repo worktrees.old) (W.open_repo worktrees.new) }
-    ensures follow_symref { IsErrOf result errors.FollowSymref → Rose (W.follow_symref worktrees.old) (W.follow_symref worktrees.new) }
+    ensures worktrees { BlamesWorktrees (lent_trees W.told W.asked W.listing W.open_repo W.follow_symref worktrees.old)
+        (lent_trees W.told W.asked W.listing W.open_repo W.follow_symref worktrees.new) (told_by fault_deleting result) }
 {
     match worktrees.list() {
         Ok(trees) => check_in(alloc, trees.as_slice(), names),

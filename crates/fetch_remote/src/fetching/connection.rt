@@ -1,17 +1,15 @@
 //! A remote with its peer.
 
-ghost use Rattle.std.specs.Prelude.{◌≡◌, false, IfOk, IfErr, OnOk, IsErrOf};
+ghost use Rattle.std.specs.Prelude.{◌≡◌, false, IfOk, IfErr};
 ghost use Rattle.std.specs.Borrow.{sem};
-ghost use Rattle.fetch_store.specs.Faults.{Rose, Counts};
-ghost use Rattle.fetch_conversation.specs.Errors.{is_interrupted, is_interrupted_map};
-ghost use Rattle.fetch_conversation.specs.Receiving.{IsHeeded};
-ghost use Rattle.fetch_conversation.specs.declared.prepare.Error.TheVariants as prepare_errors;
-ghost use Rattle.fetch_conversation.specs.declared.ref_map.Error.TheVariants as ref_map_errors;
+ghost use Rattle.fetch_conversation.specs.Errors.{is_interrupted, is_interrupted_map, is_transport, is_transport_map};
+ghost use Rattle.fetch_conversation.specs.Receiving.{last_question};
 ghost use Rattle.fetch_remote.specs.Repositories.{setup_of};
 ghost use Rattle.fetch_remote.specs.Stages.{inquiry_of};
 ghost use Rattle.fetch_remote.specs.Steps as spec;
 ghost use Rattle.fetch_remote.specs.Steps.{LendsPeer, peer_of, remote_of, lent, prepared_of, options_with, HasListed, BreaksOff};
 ghost use Rattle.fetch_remote.specs.Steps.{IsUnlisted, HasInquired, IsUninquired, is_missing};
+ghost use Rattle.fetch_conversation.specs.Blame.{BlamesPeer, BlamesInterrupt, is_told};
 
 use crate::fetching::options::FetchOptions;
 use crate::fetching::prepared::Prepared;
@@ -73,14 +71,10 @@ impl<'a, P: Peer> Connection<'a, P> {
             (inquiry_of (remote_of self.entry) (setup_of repo.now).settings options) (record { ref_map = found.0; handshake = found.1 })) }
         ensures refused { IfErr result (λ e. IsUninquired P.answers (P.told (peer_of self.entry).now) (P.told self.exit.1.0.now)
             (inquiry_of (remote_of self.entry) (setup_of repo.now).settings options) e) }
-        ensures counts { Counts (P.faults (peer_of self.entry).now) (P.faults self.exit.1.0.now) }
-        ensures transport { IsErrOf result ref_map_errors.Transport
-            → Rose (P.faults (peer_of self.entry).now) (P.faults self.exit.1.0.now) }
-        ensures asked { Counts (I.yes interrupt.old) (I.yes interrupt.new) }
-        ensures interrupted { IsErrOf result ref_map_errors.Interrupted → Rose (I.yes interrupt.old) (I.yes interrupt.new) }
-        ensures uninterrupted { OnOk result ((I.yes interrupt.new).count ≡ (I.yes interrupt.old).count) }
-        ensures questions { IsHeeded is_interrupted_map (I.will_stop interrupt.old) (I.will_stop interrupt.new)
-            (P.told (peer_of self.entry).now) (P.told self.exit.1.0.now) result }
+        ensures peer { BlamesPeer (P.faults (peer_of self.entry).now) (P.faults self.exit.1.0.now) (is_told is_transport_map result) }
+        ensures interrupt { BlamesInterrupt (I.yes interrupt.old) (I.yes interrupt.new) (I.will_stop interrupt.old)
+            (I.will_stop interrupt.new) (P.told (peer_of self.entry).now) (P.told self.exit.1.0.now)
+            (last_question is_interrupted_map result) }
     {
         let Connection { remote, peer } = self;
         inquired(alloc, remote, repo, peer, interrupt, options)
@@ -97,20 +91,17 @@ impl<'a, P: Peer> Connection<'a, P> {
         options: ref_map::Options,
     ) -> Result<Prepare<'a, P>, prepare::Error>
         ensures refused { IfErr result (λ e. (last : P)
-            × IsUnlisted P.told P.faults P.answers (I.will_stop interrupt.old) (I.will_stop interrupt.new)
+            × IsUnlisted P.told P.faults P.answers (I.yes interrupt.old) (I.yes interrupt.new)
+            (I.will_stop interrupt.old) (I.will_stop interrupt.new)
             (inquiry_of (remote_of self.entry) (setup_of repo.now).settings options) (peer_of self.entry).now last e) }
         ensures same_reference { IfOk result (λ p. (lent p).ghost_name ≡ (peer_of self.entry).ghost_name) }
         ensures remote { IfOk result (λ p. (prepared_of p).remote ≡ remote_of self.entry) }
         ensures options { IfOk result (λ p. (prepared_of p).options ≡ options_with options) }
         ensures listed { IfOk result (λ p. HasListed P.answers (P.told (peer_of self.entry).now) (P.told (lent p).now)
             (inquiry_of (remote_of self.entry) (setup_of repo.now).settings options) (prepared_of p).listed) }
-        ensures counts { IfOk result (λ p. Counts (P.faults (peer_of self.entry).now) (P.faults (lent p).now)) }
-        ensures asked { Counts (I.yes interrupt.old) (I.yes interrupt.new) }
-        ensures interrupted { IsErrOf result (prepare_errors.RefMap ref_map_errors.Interrupted)
-            → Rose (I.yes interrupt.old) (I.yes interrupt.new) }
-        ensures uninterrupted { OnOk result ((I.yes interrupt.new).count ≡ (I.yes interrupt.old).count) }
-        ensures questions { IfOk result (λ p. IsHeeded is_interrupted (I.will_stop interrupt.old) (I.will_stop interrupt.new)
-            (P.told (peer_of self.entry).now) (P.told (lent p).now) result) }
+        ensures peer { IfOk result (λ p. BlamesPeer (P.faults (peer_of self.entry).now) (P.faults (lent p).now) false) }
+        ensures interrupt { IfOk result (λ p. BlamesInterrupt (I.yes interrupt.old) (I.yes interrupt.new) (I.will_stop interrupt.old)
+            (I.will_stop interrupt.new) (P.told (peer_of self.entry).now) (P.told (lent p).now) 0) }
     {
         let Connection { remote, peer } = self;
         match listed_for(alloc, remote, repo, peer, interrupt, options) {
@@ -138,13 +129,9 @@ pub fn inquired<P: Peer, I: Interrupt>(
         (inquiry_of remote.now (setup_of repo.now).settings options) (record { ref_map = found.0; handshake = found.1 })) }
     ensures refused { IfErr result (λ e. IsUninquired P.answers (P.told peer.old) (P.told peer.new)
         (inquiry_of remote.now (setup_of repo.now).settings options) e) }
-    ensures counts { Counts (P.faults peer.old) (P.faults peer.new) }
-    ensures transport { IsErrOf result ref_map_errors.Transport → Rose (P.faults peer.old) (P.faults peer.new) }
-    ensures asked { Counts (I.yes interrupt.old) (I.yes interrupt.new) }
-    ensures interrupted { IsErrOf result ref_map_errors.Interrupted → Rose (I.yes interrupt.old) (I.yes interrupt.new) }
-    ensures uninterrupted { OnOk result ((I.yes interrupt.new).count ≡ (I.yes interrupt.old).count) }
-    ensures questions { IsHeeded is_interrupted_map (I.will_stop interrupt.old) (I.will_stop interrupt.new) (P.told peer.old)
-        (P.told peer.new) result }
+    ensures peer { BlamesPeer (P.faults peer.old) (P.faults peer.new) (is_told is_transport_map result) }
+    ensures interrupt { BlamesInterrupt (I.yes interrupt.old) (I.yes interrupt.new) (I.will_stop interrupt.old)
+        (I.will_stop interrupt.new) (P.told peer.old) (P.told peer.new) (last_question is_interrupted_map result) }
 {
     let inquiry = Inquiry {
         address: remote.address(),
@@ -185,14 +172,9 @@ pub fn listed_for<P: Peer, I: Interrupt>(
         (inquiry_of remote.now (setup_of repo.now).settings options) p.listed) }
     ensures refused { IfErr result (λ e. BreaksOff P.answers (P.told peer.old) (P.told peer.new)
         (inquiry_of remote.now (setup_of repo.now).settings options) e) }
-    ensures counts { Counts (P.faults peer.old) (P.faults peer.new) }
-    ensures transport { IsErrOf result (prepare_errors.RefMap ref_map_errors.Transport) → Rose (P.faults peer.old) (P.faults peer.new) }
-    ensures asked { Counts (I.yes interrupt.old) (I.yes interrupt.new) }
-    ensures interrupted { IsErrOf result (prepare_errors.RefMap ref_map_errors.Interrupted)
-        → Rose (I.yes interrupt.old) (I.yes interrupt.new) }
-    ensures uninterrupted { OnOk result ((I.yes interrupt.new).count ≡ (I.yes interrupt.old).count) }
-    ensures questions { IsHeeded is_interrupted (I.will_stop interrupt.old) (I.will_stop interrupt.new) (P.told peer.old)
-        (P.told peer.new) result }
+    ensures peer { BlamesPeer (P.faults peer.old) (P.faults peer.new) (is_told is_transport result) }
+    ensures interrupt { BlamesInterrupt (I.yes interrupt.old) (I.yes interrupt.new) (I.will_stop interrupt.old)
+        (I.will_stop interrupt.new) (P.told peer.old) (P.told peer.new) (last_question is_interrupted result) }
 {
     let map = options.try_clone()?;
     let listed = list(alloc, remote, repo.settings(), peer, interrupt, options)?;

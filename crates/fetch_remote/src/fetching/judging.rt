@@ -1,11 +1,9 @@
 //! Judging the mapped references.
 
-ghost use Rattle.std.specs.Prelude.{◌≡◌, true, IfOk, IfErr, IsErrOf};
-ghost use Rattle.fetch_store.specs.Faults.{Rose, Counts};
+ghost use Rattle.std.specs.Prelude.{◌≡◌, true, IfOk, IfErr};
 ghost use Rattle.fetch_update.specs.Policy.{policy_over};
-ghost use Rattle.fetch_update.specs.declared.update.Error.TheVariants as update_errors;
-ghost use Rattle.fetch_conversation.specs.declared.fetch.Error.TheVariants as errors;
-ghost use Rattle.fetch_remote.specs.Judging.{IsOnce, Judges, IsTold, is_free_judging};
+ghost use Rattle.fetch_remote.specs.Judging.{Judges, IsTold, is_free_judging};
+ghost use Rattle.fetch_remote.specs.Blame.{BlamesWorktrees, fault_in, told_by, lent_trees};
 
 use crate::fetch;
 use fetch_refs::Refs;
@@ -30,17 +28,8 @@ pub fn judge<O: Objects, W: Worktrees>(
 ) -> Result<update::Outcome, fetch::Error>
     ensures judged { Judges (W.told worktrees.old)
         (λ trees. policy_over refs.now.names (O.graph objects.now) message.now tags dry_run trees) ref_map.now result }
-    ensures told { W.told worktrees.new ≡ W.told worktrees.old }
-    ensures asked_once { IsOnce (W.asked worktrees.old) (W.asked worktrees.new) }
-    ensures listing_counts { Counts (W.listing worktrees.old) (W.listing worktrees.new) }
-    ensures open_repo_counts { Counts (W.open_repo worktrees.old) (W.open_repo worktrees.new) }
-    ensures follow_symref_counts { Counts (W.follow_symref worktrees.old) (W.follow_symref worktrees.new) }
-    ensures listing { IsErrOf result (errors.UpdateRefs update_errors.WorktreeListing)
-        → Rose (W.listing worktrees.old) (W.listing worktrees.new) }
-    ensures open_repo { IsErrOf result (errors.UpdateRefs update_errors.OpenWorktreeRepo)
-        → Rose (W.open_repo worktrees.old) (W.open_repo worktrees.new) }
-    ensures follow_symref { IsErrOf result (errors.UpdateRefs update_errors.FollowSymref)
-        → Rose (W.follow_symref worktrees.old) (W.follow_symref worktrees.new) }
+    ensures worktrees { BlamesWorktrees (lent_trees W.told W.asked W.listing W.open_repo W.follow_symref worktrees.old)
+        (lent_trees W.told W.asked W.listing W.open_repo W.follow_symref worktrees.new) (told_by fault_in result) }
 {
     let trees = listed(worktrees)?;
     let outcome = laws::update(
@@ -62,17 +51,8 @@ pub fn judge<O: Objects, W: Worktrees>(
 fn listed<W: Worktrees>(worktrees: &mut W) -> Result<Vec<Worktree>, fetch::Error>
     ensures list { IfOk result (λ trees. IsTold (W.told worktrees.old) trees.items) }
     ensures refused { IfErr result (λ e. is_free_judging e ≡ true) }
-    ensures told { W.told worktrees.new ≡ W.told worktrees.old }
-    ensures asked_once { IsOnce (W.asked worktrees.old) (W.asked worktrees.new) }
-    ensures listing_counts { Counts (W.listing worktrees.old) (W.listing worktrees.new) }
-    ensures open_repo_counts { Counts (W.open_repo worktrees.old) (W.open_repo worktrees.new) }
-    ensures follow_symref_counts { Counts (W.follow_symref worktrees.old) (W.follow_symref worktrees.new) }
-    ensures listing { IsErrOf result (errors.UpdateRefs update_errors.WorktreeListing)
-        → Rose (W.listing worktrees.old) (W.listing worktrees.new) }
-    ensures open_repo { IsErrOf result (errors.UpdateRefs update_errors.OpenWorktreeRepo)
-        → Rose (W.open_repo worktrees.old) (W.open_repo worktrees.new) }
-    ensures follow_symref { IsErrOf result (errors.UpdateRefs update_errors.FollowSymref)
-        → Rose (W.follow_symref worktrees.old) (W.follow_symref worktrees.new) }
+    ensures worktrees { BlamesWorktrees (lent_trees W.told W.asked W.listing W.open_repo W.follow_symref worktrees.old)
+        (lent_trees W.told W.asked W.listing W.open_repo W.follow_symref worktrees.new) (told_by fault_in result) }
 {
     match worktrees.list() {
         Ok(trees) => Ok(trees),

@@ -1,6 +1,6 @@
 //! The keep file of a pack.
 
-ghost use Rattle.std.specs.Prelude.{◌≡◌, ◌⊎◌, ℕ, List, [], None, Some, false, if◌then◌else◌, IfOk, IfErr, IsErrOf, OnErr, OnOk};
+ghost use Rattle.std.specs.Prelude.{◌≡◌, ◌⊎◌, [], None, Some, false, if◌then◌else◌, IfOk, IfErr, OnErr, OnOk};
 ghost use Rattle.std.specs.Option.{option_map};
 ghost use Rattle.fetch_store.specs.Faults.{Rose, Counts};
 ghost use Rattle.fetch_store.specs.FileCalls.{Changes, IsRefused};
@@ -11,6 +11,7 @@ ghost use Rattle.fetch_remote.specs.Keeping as spec;
 ghost use Rattle.fetch_remote.specs.Keeping.{AreFiles, with_keep, without_keep};
 ghost use Rattle.fetch_remote.specs.Paths.{keep_path};
 ghost use Rattle.fetch_remote.specs.Settling.{pack_kept, kept_told, released};
+ghost use Rattle.fetch_remote.specs.Blame.{BlamesFiles, keep_fault_in, lent_files, told_by};
 
 use crate::fetch;
 use crate::fetching::outcome::PackOutcome;
@@ -42,13 +43,10 @@ pub fn make_keep<F: Files>(
 ) -> Result<Text, fetch::Error>
     ensures path { IfOk result (λ path. path ≡ keep_path settings.now.git_dir digest.now) }
     ensures refused { IfErr result (λ e. (e ≡ errors.KeepFile (keep_path settings.now.git_dir digest.now)) ⊎ (e ≡ errors.NoMemory)) }
-    ensures counts { Counts (F.faults files.old) (F.faults files.new) }
-    ensures cause { (path : List ℕ) → IsErrOf result (errors.KeepFile path) → Rose (F.faults files.old) (F.faults files.new) }
     ensures tree { Changes (F.told files.old) (F.told files.new)
         (λ t. written t (parts_of (keep_path settings.now.git_dir digest.now)) []) result }
-    ensures in_the_way { (path : List ℕ) → IsErrOf result (errors.KeepFile path)
-        → IsRefused (F.may_fail files.old) (F.told files.old) (λ t. written t (parts_of path) []) }
-    ensures may_fail { F.may_fail files.new ≡ F.may_fail files.old }
+    ensures files { BlamesFiles (lent_files F.may_fail F.told F.faults files.old)
+        (lent_files F.may_fail F.told F.faults files.new) (told_by keep_fault_in result) }
 {
     let path = keep_file(alloc, settings.git_dir.as_bytes(), digest)?;
     match files.write(path.as_bytes(), b"") {
@@ -85,11 +83,8 @@ pub fn keep<F: Files>(
     ensures made { OnOk result (AreFiles (F.told files.old) (F.told files.new) (with_keep (spec.made settings.now.git_dir pack))) }
     ensures refused { IfErr result (λ e. spec.IsUnmade (spec.made settings.now.git_dir pack) (F.told files.old) (F.told files.new) e) }
     ensures unread { pack ≡ None → files.new ≡ files.old }
-    ensures counts { Counts (F.faults files.old) (F.faults files.new) }
-    ensures cause { (path : List ℕ) → IsErrOf result (errors.KeepFile path) → Rose (F.faults files.old) (F.faults files.new) }
-    ensures in_the_way { (path : List ℕ) → IsErrOf result (errors.KeepFile path)
-        → IsRefused (F.may_fail files.old) (F.told files.old) (with_keep (Some path)) }
-    ensures may_fail { F.may_fail files.new ≡ F.may_fail files.old }
+    ensures files { BlamesFiles (lent_files F.may_fail F.told F.faults files.old)
+        (lent_files F.may_fail F.told F.faults files.new) (told_by keep_fault_in result) }
 {
     let Some((num_objects, digest)) = pack else {
         return Ok(None);

@@ -1,22 +1,19 @@
 //! A fetch that is prepared.
 
-ghost use Rattle.std.specs.Prelude.{◌≡◌, ℕ, None, true, false, List, Option, Some, IfOk, IfErr, OnOk, IsErrOf};
-ghost use Rattle.fetch_store.specs.Faults.{Rose, Counts};
-ghost use Rattle.fetch_store.specs.FileCalls.{IsRefused as IsBlocked};
+ghost use Rattle.std.specs.Prelude.{◌≡◌, true, Option, Some, IfOk, IfErr};
 ghost use Rattle.fetch_wire.specs.Talks.{Talk};
-ghost use Rattle.fetch_conversation.specs.Errors.{is_stopped};
-ghost use Rattle.fetch_conversation.specs.Receiving.{IsHeeded};
-ghost use Rattle.fetch_conversation.specs.declared.fetch.Error.TheVariants as receive_errors;
-ghost use Rattle.fetch_update.specs.declared.update.Error.TheVariants as update_errors;
-ghost use Rattle.fetch_remote.specs.Judging.{IsOnce};
+ghost use Rattle.fetch_conversation.specs.Errors.{is_stopped, is_client};
+ghost use Rattle.fetch_conversation.specs.Receiving.{last_question};
 ghost use Rattle.fetch_remote.specs.Errors.{receiving, is_free};
 ghost use Rattle.fetch_remote.specs.Fetched.{IsFetched};
-ghost use Rattle.fetch_remote.specs.Keeping.{made_in, with_keep};
 ghost use Rattle.fetch_remote.specs.Refused.{IsRefused};
 ghost use Rattle.fetch_remote.specs.Repositories.{state_of, setup_of};
 ghost use Rattle.fetch_remote.specs.Settling.{is_early};
-ghost use Rattle.fetch_remote.specs.Steps.{lent, prepared_of, given_by, asked_by, HasListed, IsReceived, IsUnreceived};
+ghost use Rattle.fetch_remote.specs.Steps.{lent, prepared_of, given_by, asked_by, HasListed, ReceivesBy};
 ghost use Rattle.fetch_remote.specs.Valid.{HasValidInput};
+ghost use Rattle.fetch_conversation.specs.Blame.{BlamesPeer, BlamesInterrupt, is_told};
+ghost use Rattle.fetch_remote.specs.Blame.{BlamesFiles, BlamesWorktrees, SparesFiles, fault_in, keep_fault_in};
+ghost use Rattle.fetch_remote.specs.Blame.{lent_files, lent_trees, told_by};
 
 use crate::fetch;
 use crate::fetching::manner;
@@ -134,14 +131,10 @@ impl<'a, P: Peer> Prepare<'a, P> {
         worktrees: &mut W,
     ) -> Result<Outcome, fetch::Error>
         // `self.exit.1.0` is the reference to the peer.
-        ensures received { IfOk result (λ outcome. IsReceived P.answers (P.told (lent self.entry).now) (P.told self.exit.1.0.now)
+        ensures received { ReceivesBy P.answers (P.told (lent self.entry).now) (P.told self.exit.1.0.now)
             (W.told worktrees.old) (F.told files.old) (F.told files.new)
             (given_by (prepared_of self.entry) (setup_of repo.old)) (state_of repo.old) (state_of repo.new)
-            (prepared_of self.entry).listed outcome) }
-        ensures unreceived { IfErr result (λ e. IsUnreceived P.answers (P.told (lent self.entry).now) (P.told self.exit.1.0.now)
-            (W.told worktrees.old) (F.told files.old) (F.told files.new)
-            (given_by (prepared_of self.entry) (setup_of repo.old)) (state_of repo.old) (state_of repo.new)
-            (prepared_of self.entry).listed e) }
+            (prepared_of self.entry).listed result }
         // Whatever conversation listed the references, that one and this call together are the fetch.
         ensures fetched { IfOk result (λ outcome. (begun : Option Talk)
             → HasListed P.answers begun (P.told (lent self.entry).now) (asked_by (prepared_of self.entry) (setup_of repo.old))
@@ -159,38 +152,15 @@ impl<'a, P: Peer> Prepare<'a, P> {
             → HasValidInput begun (P.told self.exit.1.0.now) (W.told worktrees.old) (given_by (prepared_of self.entry) (setup_of repo.old))
             (state_of repo.old) → is_free (receiving e) ≡ true) }
         ensures setup { setup_of repo.new ≡ setup_of repo.old }
-        ensures counts { Counts (P.faults (lent self.entry).now) (P.faults self.exit.1.0.now) }
-        ensures client { IsErrOf result receive_errors.Client → Rose (P.faults (lent self.entry).now) (P.faults self.exit.1.0.now) }
-        ensures asked { Counts (I.yes interrupt.old) (I.yes interrupt.new) }
-        ensures stopped { IsErrOf result receive_errors.Interrupted → Rose (I.yes interrupt.old) (I.yes interrupt.new) }
-        ensures uninterrupted { OnOk result ((I.yes interrupt.new).count ≡ (I.yes interrupt.old).count) }
-        ensures questions { IsHeeded is_stopped (I.will_stop interrupt.old) (I.will_stop interrupt.new) (P.told (lent self.entry).now)
-            (P.told self.exit.1.0.now) result }
-        ensures dry { (prepared_of self.entry).options.dry_run ≡ true → files.new ≡ files.old }
-        ensures unread { IfOk result (λ outcome. made_in (setup_of repo.old).settings.git_dir outcome.status ≡ None
-            → files.new ≡ files.old) }
-        ensures early { IfErr result (λ e. is_early e ≡ true → files.new ≡ files.old) }
-        ensures file_counts { Counts (F.faults files.old) (F.faults files.new) }
-        ensures keep_file { (path : List ℕ) → IsErrOf result (receive_errors.KeepFile path)
-            → Rose (F.faults files.old) (F.faults files.new) }
-        ensures in_the_way { (path : List ℕ) → IsErrOf result (receive_errors.KeepFile path)
-            → IsBlocked (F.may_fail files.old) (F.told files.old) (with_keep (Some path)) }
-        ensures remove_keep_file { (path : List ℕ) → IsErrOf result (receive_errors.RemovePackKeepFile path)
-            → Rose (F.faults files.old) (F.faults files.new) }
-        ensures removable { (path : List ℕ) → IsErrOf result (receive_errors.RemovePackKeepFile path) → F.may_fail files.old ≡ false
-            → F.told files.old ≡ None }
-        ensures may_fail { F.may_fail files.new ≡ F.may_fail files.old }
-        ensures told { W.told worktrees.new ≡ W.told worktrees.old }
-        ensures asked_once { IsOnce (W.asked worktrees.old) (W.asked worktrees.new) }
-        ensures listing_counts { Counts (W.listing worktrees.old) (W.listing worktrees.new) }
-        ensures open_repo_counts { Counts (W.open_repo worktrees.old) (W.open_repo worktrees.new) }
-        ensures follow_symref_counts { Counts (W.follow_symref worktrees.old) (W.follow_symref worktrees.new) }
-        ensures listing { IsErrOf result (receive_errors.UpdateRefs update_errors.WorktreeListing)
-            → Rose (W.listing worktrees.old) (W.listing worktrees.new) }
-        ensures open_repo { IsErrOf result (receive_errors.UpdateRefs update_errors.OpenWorktreeRepo)
-            → Rose (W.open_repo worktrees.old) (W.open_repo worktrees.new) }
-        ensures follow_symref { IsErrOf result (receive_errors.UpdateRefs update_errors.FollowSymref)
-            → Rose (W.follow_symref worktrees.old) (W.follow_symref worktrees.new) }
+        ensures peer { BlamesPeer (P.faults (lent self.entry).now) (P.faults self.exit.1.0.now) (is_told is_client result) }
+        ensures interrupt { BlamesInterrupt (I.yes interrupt.old) (I.yes interrupt.new) (I.will_stop interrupt.old)
+            (I.will_stop interrupt.new) (P.told (lent self.entry).now) (P.told self.exit.1.0.now) (last_question is_stopped result) }
+        ensures files { BlamesFiles (lent_files F.may_fail F.told F.faults files.old)
+            (lent_files F.may_fail F.told F.faults files.new) (told_by keep_fault_in result) }
+        ensures untouched { SparesFiles result (λ outcome. outcome.status) is_early (prepared_of self.entry).options.dry_run
+            (setup_of repo.old).settings.git_dir (files.new ≡ files.old) }
+        ensures worktrees { BlamesWorktrees (lent_trees W.told W.asked W.listing W.open_repo W.follow_symref worktrees.old)
+            (lent_trees W.told W.asked W.listing W.open_repo W.follow_symref worktrees.new) (told_by fault_in result) }
     {
         let Prepare {
             remote,
@@ -219,14 +189,10 @@ pub fn fetch_on<R: Threads + Sync, P: Peer, Q: Progress, I: Interrupt, F: Files,
     files: &mut F,
     worktrees: &mut W,
 ) -> Result<Outcome, fetch::Error>
-    ensures received { IfOk result (λ outcome.
-        IsReceived P.answers (P.told peer.old) (P.told peer.new) (W.told worktrees.old) (F.told files.old) (F.told files.new)
-        (given_by (record { remote = remote.now; listed = prepared.listed; options = prepared.options }) (setup_of repo.old))
-        (state_of repo.old) (state_of repo.new) prepared.listed outcome) }
-    ensures unreceived { IfErr result (λ e. IsUnreceived P.answers (P.told peer.old) (P.told peer.new) (W.told worktrees.old)
+    ensures received { ReceivesBy P.answers (P.told peer.old) (P.told peer.new) (W.told worktrees.old)
         (F.told files.old) (F.told files.new)
         (given_by (record { remote = remote.now; listed = prepared.listed; options = prepared.options }) (setup_of repo.old))
-        (state_of repo.old) (state_of repo.new) prepared.listed e) }
+        (state_of repo.old) (state_of repo.new) prepared.listed result }
     ensures fetched { IfOk result (λ outcome. (begun : Option Talk)
         → HasListed P.answers begun (P.told peer.old)
         (asked_by (record { remote = remote.now; listed = prepared.listed; options = prepared.options }) (setup_of repo.old))
@@ -249,36 +215,15 @@ pub fn fetch_on<R: Threads + Sync, P: Peer, Q: Progress, I: Interrupt, F: Files,
         (given_by (record { remote = remote.now; listed = prepared.listed; options = prepared.options }) (setup_of repo.old))
         (state_of repo.old) → is_free (receiving e) ≡ true) }
     ensures setup { setup_of repo.new ≡ setup_of repo.old }
-    ensures counts { Counts (P.faults peer.old) (P.faults peer.new) }
-    ensures client { IsErrOf result receive_errors.Client → Rose (P.faults peer.old) (P.faults peer.new) }
-    ensures asked { Counts (I.yes interrupt.old) (I.yes interrupt.new) }
-    ensures stopped { IsErrOf result receive_errors.Interrupted → Rose (I.yes interrupt.old) (I.yes interrupt.new) }
-    ensures uninterrupted { OnOk result ((I.yes interrupt.new).count ≡ (I.yes interrupt.old).count) }
-    ensures questions { IsHeeded is_stopped (I.will_stop interrupt.old) (I.will_stop interrupt.new) (P.told peer.old)
-        (P.told peer.new) result }
-    ensures dry { prepared.options.dry_run ≡ true → files.new ≡ files.old }
-    ensures unread { IfOk result (λ outcome. made_in (setup_of repo.old).settings.git_dir outcome.status ≡ None → files.new ≡ files.old) }
-    ensures early { IfErr result (λ e. is_early e ≡ true → files.new ≡ files.old) }
-    ensures file_counts { Counts (F.faults files.old) (F.faults files.new) }
-    ensures keep_file { (path : List ℕ) → IsErrOf result (receive_errors.KeepFile path) → Rose (F.faults files.old) (F.faults files.new) }
-    ensures in_the_way { (path : List ℕ) → IsErrOf result (receive_errors.KeepFile path)
-        → IsBlocked (F.may_fail files.old) (F.told files.old) (with_keep (Some path)) }
-    ensures remove_keep_file { (path : List ℕ) → IsErrOf result (receive_errors.RemovePackKeepFile path)
-        → Rose (F.faults files.old) (F.faults files.new) }
-    ensures removable { (path : List ℕ) → IsErrOf result (receive_errors.RemovePackKeepFile path) → F.may_fail files.old ≡ false
-        → F.told files.old ≡ None }
-    ensures may_fail { F.may_fail files.new ≡ F.may_fail files.old }
-    ensures told { W.told worktrees.new ≡ W.told worktrees.old }
-    ensures asked_once { IsOnce (W.asked worktrees.old) (W.asked worktrees.new) }
-    ensures listing_counts { Counts (W.listing worktrees.old) (W.listing worktrees.new) }
-    ensures open_repo_counts { Counts (W.open_repo worktrees.old) (W.open_repo worktrees.new) }
-    ensures follow_symref_counts { Counts (W.follow_symref worktrees.old) (W.follow_symref worktrees.new) }
-    ensures listing { IsErrOf result (receive_errors.UpdateRefs update_errors.WorktreeListing)
-        → Rose (W.listing worktrees.old) (W.listing worktrees.new) }
-    ensures open_repo { IsErrOf result (receive_errors.UpdateRefs update_errors.OpenWorktreeRepo)
-        → Rose (W.open_repo worktrees.old) (W.open_repo worktrees.new) }
-    ensures follow_symref { IsErrOf result (receive_errors.UpdateRefs update_errors.FollowSymref)
-        → Rose (W.follow_symref worktrees.old) (W.follow_symref worktrees.new) }
+    ensures peer { BlamesPeer (P.faults peer.old) (P.faults peer.new) (is_told is_client result) }
+    ensures interrupt { BlamesInterrupt (I.yes interrupt.old) (I.yes interrupt.new) (I.will_stop interrupt.old)
+        (I.will_stop interrupt.new) (P.told peer.old) (P.told peer.new) (last_question is_stopped result) }
+    ensures files { BlamesFiles (lent_files F.may_fail F.told F.faults files.old)
+        (lent_files F.may_fail F.told F.faults files.new) (told_by keep_fault_in result) }
+    ensures untouched { SparesFiles result (λ outcome. outcome.status) is_early prepared.options.dry_run
+        (setup_of repo.old).settings.git_dir (files.new ≡ files.old) }
+    ensures worktrees { BlamesWorktrees (lent_trees W.told W.asked W.listing W.open_repo W.follow_symref worktrees.old)
+        (lent_trees W.told W.asked W.listing W.open_repo W.follow_symref worktrees.new) (told_by fault_in result) }
 {
     let Prepared { listed, options } = prepared;
     let how = manner(alloc, remote.fetch_tags(), &options)?;

@@ -1,6 +1,6 @@
 //! What a fetch does with what it received.
 
-ghost use Rattle.std.specs.Prelude.{◌≡◌, ℕ, true, false, IfOk, IfErr, IfSome, IsErrOf, List, OnOk, OnErr, Some, None, Ok};
+ghost use Rattle.std.specs.Prelude.{◌≡◌, true, IfOk, IfErr, IfSome, OnOk, OnErr, Some, None, Ok};
 ghost use Rattle.std.specs.Option.{option_map};
 ghost use Rattle.fetch_store.specs.Answers.{AnswersBy, AnswersUnless};
 ghost use Rattle.fetch_store.specs.Faults.{Rose, Counts};
@@ -8,16 +8,17 @@ ghost use Rattle.fetch_store.specs.FileCalls.{IsRefused};
 ghost use Rattle.fetch_store.specs.Collisions.{HasDistinctIds};
 ghost use Rattle.fetch_store.specs.Stores.{AreOf};
 ghost use Rattle.fetch_refs.specs.Expectations.{refusal_of};
-ghost use Rattle.fetch_update.specs.declared.update.Error.TheVariants as update_errors;
 ghost use Rattle.fetch_conversation.specs.ListStage.{shown};
 ghost use Rattle.fetch_conversation.specs.declared.fetch.Error.TheVariants as errors;
 ghost use Rattle.fetch_remote.specs.Errors.{is_memory};
-ghost use Rattle.fetch_remote.specs.Judging.{IsOnce, Judges};
-ghost use Rattle.fetch_remote.specs.Keeping.{AreFiles, made, made_in, with_keep, without_keep, left_tree};
+ghost use Rattle.fetch_remote.specs.Judging.{Judges};
+ghost use Rattle.fetch_remote.specs.Keeping.{AreFiles, made, with_keep, without_keep, left_tree};
 ghost use Rattle.fetch_remote.specs.Repositories.{state_of, setup_of};
 ghost use Rattle.fetch_remote.specs.Settling as spec;
 ghost use Rattle.fetch_remote.specs.Settling.{taken, brought, pack_read, policy_in, is_early, IsOfJudging, IsSettled, IsUnsettled};
 ghost use Rattle.fetch_remote.specs.Settling.{IsUntaken};
+ghost use Rattle.fetch_remote.specs.Blame.{BlamesFiles, BlamesWorktrees, SparesFiles, fault_in, keep_fault_in};
+ghost use Rattle.fetch_remote.specs.Blame.{lent_files, lent_trees, told_by};
 
 use crate::fetch;
 use crate::fetching::judging::judge;
@@ -76,29 +77,12 @@ pub(crate) fn settle<F: Files, W: Worktrees>(
     ensures refused { IfErr result (λ e. IsUnsettled (W.told worktrees.old) (F.told files.old) (F.told files.new)
         (setup_of repo.old) how.now (state_of repo.old) talked.wants (shown talked.listed) talked.received (state_of repo.new) e) }
     ensures setup { setup_of repo.new ≡ setup_of repo.old }
-    ensures dry { how.now.dry_run ≡ true → files.new ≡ files.old }
-    ensures unread { IfOk result (λ outcome. made_in (setup_of repo.old).settings.git_dir outcome.status ≡ None → files.new ≡ files.old) }
-    ensures early { IfErr result (λ e. is_early e ≡ true → files.new ≡ files.old) }
-    ensures file_counts { Counts (F.faults files.old) (F.faults files.new) }
-    ensures keep_file { (path : List ℕ) → IsErrOf result (errors.KeepFile path) → Rose (F.faults files.old) (F.faults files.new) }
-    ensures in_the_way { (path : List ℕ) → IsErrOf result (errors.KeepFile path)
-        → IsRefused (F.may_fail files.old) (F.told files.old) (with_keep (Some path)) }
-    ensures remove_keep_file { (path : List ℕ) → IsErrOf result (errors.RemovePackKeepFile path)
-        → Rose (F.faults files.old) (F.faults files.new) }
-    ensures removable { (path : List ℕ) → IsErrOf result (errors.RemovePackKeepFile path) → F.may_fail files.old ≡ false
-        → F.told files.old ≡ None }
-    ensures may_fail { F.may_fail files.new ≡ F.may_fail files.old }
-    ensures told { W.told worktrees.new ≡ W.told worktrees.old }
-    ensures asked_once { IsOnce (W.asked worktrees.old) (W.asked worktrees.new) }
-    ensures listing_counts { Counts (W.listing worktrees.old) (W.listing worktrees.new) }
-    ensures open_repo_counts { Counts (W.open_repo worktrees.old) (W.open_repo worktrees.new) }
-    ensures follow_symref_counts { Counts (W.follow_symref worktrees.old) (W.follow_symref worktrees.new) }
-    ensures listing { IsErrOf result (errors.UpdateRefs update_errors.WorktreeListing)
-        → Rose (W.listing worktrees.old) (W.listing worktrees.new) }
-    ensures open_repo { IsErrOf result (errors.UpdateRefs update_errors.OpenWorktreeRepo)
-        → Rose (W.open_repo worktrees.old) (W.open_repo worktrees.new) }
-    ensures follow_symref { IsErrOf result (errors.UpdateRefs update_errors.FollowSymref)
-        → Rose (W.follow_symref worktrees.old) (W.follow_symref worktrees.new) }
+    ensures files { BlamesFiles (lent_files F.may_fail F.told F.faults files.old)
+        (lent_files F.may_fail F.told F.faults files.new) (told_by keep_fault_in result) }
+    ensures untouched { SparesFiles result (λ outcome. outcome.status) is_early how.now.dry_run (setup_of repo.old).settings.git_dir
+        (files.new ≡ files.old) }
+    ensures worktrees { BlamesWorktrees (lent_trees W.told W.asked W.listing W.open_repo W.follow_symref worktrees.old)
+        (lent_trees W.told W.asked W.listing W.open_repo W.follow_symref worktrees.new) (told_by fault_in result) }
 {
     let Talked {
         listed,
@@ -145,11 +129,8 @@ fn bring<F: Files>(
     ensures setup { setup_of repo.new ≡ setup_of repo.old }
     ensures unread { pack_read dry_run received ≡ None → files.new ≡ files.old }
     ensures early { IfErr result (λ e. is_early e ≡ true → files.new ≡ files.old) }
-    ensures counts { Counts (F.faults files.old) (F.faults files.new) }
-    ensures cause { (path : List ℕ) → IsErrOf result (errors.KeepFile path) → Rose (F.faults files.old) (F.faults files.new) }
-    ensures in_the_way { (path : List ℕ) → IsErrOf result (errors.KeepFile path)
-        → IsRefused (F.may_fail files.old) (F.told files.old) (with_keep (Some path)) }
-    ensures may_fail { F.may_fail files.new ≡ F.may_fail files.old }
+    ensures files { BlamesFiles (lent_files F.may_fail F.told F.faults files.old)
+        (lent_files F.may_fail F.told F.faults files.new) (told_by keep_fault_in result) }
 {
     let Some(received) = received else {
         return Ok(None);
@@ -188,11 +169,8 @@ fn take<F: Files>(
     ensures setup { setup_of repo.new ≡ setup_of repo.old }
     ensures unread { received.pack ≡ None → files.new ≡ files.old }
     ensures early { IfErr result (λ e. is_early e ≡ true → files.new ≡ files.old) }
-    ensures counts { Counts (F.faults files.old) (F.faults files.new) }
-    ensures cause { (path : List ℕ) → IsErrOf result (errors.KeepFile path) → Rose (F.faults files.old) (F.faults files.new) }
-    ensures in_the_way { (path : List ℕ) → IsErrOf result (errors.KeepFile path)
-        → IsRefused (F.may_fail files.old) (F.told files.old) (with_keep (Some path)) }
-    ensures may_fail { F.may_fail files.new ≡ F.may_fail files.old }
+    ensures files { BlamesFiles (lent_files F.may_fail F.told F.faults files.old)
+        (lent_files F.may_fail F.told F.faults files.new) (told_by keep_fault_in result) }
 {
     may_take(alloc, repo, wants, &received)?;
     let pack = keep(alloc, files, repo.settings(), received.pack)?;
@@ -289,17 +267,8 @@ fn judged<W: Worktrees>(
 ) -> Result<update::Outcome, fetch::Error>
     ensures judged { Judges (W.told worktrees.old) (λ trees. policy_in (state_of repo.now) how.now trees) ref_map.now result }
     ensures only { IfErr result IsOfJudging }
-    ensures told { W.told worktrees.new ≡ W.told worktrees.old }
-    ensures asked_once { IsOnce (W.asked worktrees.old) (W.asked worktrees.new) }
-    ensures listing_counts { Counts (W.listing worktrees.old) (W.listing worktrees.new) }
-    ensures open_repo_counts { Counts (W.open_repo worktrees.old) (W.open_repo worktrees.new) }
-    ensures follow_symref_counts { Counts (W.follow_symref worktrees.old) (W.follow_symref worktrees.new) }
-    ensures listing { IsErrOf result (errors.UpdateRefs update_errors.WorktreeListing)
-        → Rose (W.listing worktrees.old) (W.listing worktrees.new) }
-    ensures open_repo { IsErrOf result (errors.UpdateRefs update_errors.OpenWorktreeRepo)
-        → Rose (W.open_repo worktrees.old) (W.open_repo worktrees.new) }
-    ensures follow_symref { IsErrOf result (errors.UpdateRefs update_errors.FollowSymref)
-        → Rose (W.follow_symref worktrees.old) (W.follow_symref worktrees.new) }
+    ensures worktrees { BlamesWorktrees (lent_trees W.told W.asked W.listing W.open_repo W.follow_symref worktrees.old)
+        (lent_trees W.told W.asked W.listing W.open_repo W.follow_symref worktrees.new) (told_by fault_in result) }
 {
     judge(
         alloc,

@@ -1,4 +1,4 @@
-use Rattle.std.proofs.Common.{◌∙◌}
+use Rattle.std.proofs.Common.{refl, ◌∙◌}
 use Rattle.std.specs.List.{concat}
 use Rattle.fetch_cli.proofs.Fetching.{fetched, no_fault, in_nothing}
 use Rattle.fetch_cli.proofs.reporting.fetch.Goals as goal
@@ -13,19 +13,19 @@ returns-clause-fetched g c =
     let nothing = c.new-files.ensures.told in
     let f = c.fetch-result.ensures in
     fetched _ c.args.setting.worktrees _ _ _ _ _ (concat c.args.setting.pieces) c.fetch-result.result _ _ told trees nothing f.fetched f.refused (record {
-      transport = λ e. no_fault _ _ sure f.counts (f.transport e);
-      interrupted = λ e. no_fault _ _ calm f.asked (f.interrupted e);
-      client = λ e. no_fault _ _ sure f.counts (f.client e);
-      stopped = λ e. no_fault _ _ calm f.asked (f.stopped e);
-      listing = λ e. no_fault _ _ (rw c.new-4.ensures.items at c.new-worktrees.ensures.listing) f.listing_counts (f.listing e);
-      open_repo = λ e. no_fault _ _ (rw c.new-4.ensures.items at c.new-worktrees.ensures.open_repo) f.open_repo_counts (f.open_repo e);
-      follow_symref = λ e. no_fault _ _ (rw c.new-4.ensures.items at c.new-worktrees.ensures.follow_symref) f.follow_symref_counts (f.follow_symref e);
-      unmade = λ path e. in_nothing _ path nothing (f.in_the_way path e never);
-      unremoved = λ path e. let none = f.removable path e never in absurd (cc (none, nothing));
+      transport = λ e. no_fault _ _ sure f.peer.counts (f.peer.cause (rw e refl));
+      interrupted = λ e. no_fault _ _ calm f.interrupt.counts (f.interrupt.cause (rw e refl));
+      client = λ e. no_fault _ _ sure f.peer.counts (f.peer.cause (rw e refl));
+      stopped = λ e. no_fault _ _ calm f.interrupt.counts (f.interrupt.cause (rw e refl));
+      listing = λ e. no_fault _ _ (rw c.new-4.ensures.items at c.new-worktrees.ensures.listing) f.worktrees.listing_counts (f.worktrees.listing (rw e refl));
+      open_repo = λ e. no_fault _ _ (rw c.new-4.ensures.items at c.new-worktrees.ensures.open_repo) f.worktrees.open_repo_counts (f.worktrees.open_repo (rw e refl));
+      follow_symref = λ e. no_fault _ _ (rw c.new-4.ensures.items at c.new-worktrees.ensures.follow_symref) f.worktrees.follow_symref_counts (f.worktrees.follow_symref (rw e refl));
+      unmade = λ path e. in_nothing _ path nothing (f.files.in_the_way path (rw e refl) never);
+      unremoved = λ path e. let none = f.files.removable (rw e refl) never in absurd (cc (none, nothing));
     })
 
 pub returns-clause-calm : goal.returns-clause-calm
-returns-clause-calm g c = let never = rw c.new-3.ensures.items at c.new-files.ensures.may_fail in c.fetch-result.ensures.may_fail ∙ never
+returns-clause-calm g c = let never = rw c.new-3.ensures.items at c.new-files.ensures.may_fail in c.fetch-result.ensures.files.may_fail ∙ never
 
 pub returns-clause-setup : goal.returns-clause-setup
 returns-clause-setup g c = c.fetch-result.ensures.setup

@@ -26,10 +26,10 @@ returns g c =
     refused race job c.fetch_shared-answer.new.peer c.args.pass c.in-Err.pass c.in-Err.receipt (Some c.fetch_shared-answer.new.files.tree) c.args.options _ _ c.in-Err.e
     refl c.new-trees.ensures.told nothing e.back e.receipt e.peer e.refused (no_yes _ _ _ _ _ _ c.in-Err.e none e.interrupt)
     (record {
-      listing = λ is. no_count _ _ false (rw c.new-3.ensures.items at c.new-trees.ensures.listing) refl f.listing_counts (e.listing is);
-      open_repo = λ is. no_count _ _ false (rw c.new-3.ensures.items at c.new-trees.ensures.open_repo) refl f.open_repo_counts (e.open_repo is);
-      follow_symref = λ is. no_count _ _ false (rw c.new-3.ensures.items at c.new-trees.ensures.follow_symref) refl f.follow_symref_counts (e.follow_symref is);
-      unmade = λ path is. never_kept _ _ _ c.in-Err.e _ nothing e.refused path is (subst (λ (b : Bool). IsBlocked b (Some c.new-files.result.tree) (with_keep (Some path))) never (e.in_the_way path is));
-      unremoved = λ path is. let none = e.removable path is never in absurd (cc (none, nothing));
+      listing = λ is. no_count _ _ false (rw c.new-3.ensures.items at c.new-trees.ensures.listing) refl f.worktrees.listing_counts (e.worktrees.listing (rw is refl));
+      open_repo = λ is. no_count _ _ false (rw c.new-3.ensures.items at c.new-trees.ensures.open_repo) refl f.worktrees.open_repo_counts (e.worktrees.open_repo (rw is refl));
+      follow_symref = λ is. no_count _ _ false (rw c.new-3.ensures.items at c.new-trees.ensures.follow_symref) refl f.worktrees.follow_symref_counts (e.worktrees.follow_symref (rw is refl));
+      unmade = λ path is. never_kept _ _ _ c.in-Err.e _ nothing e.refused path is (subst (λ (b : Bool). IsBlocked b (Some c.new-files.result.tree) (with_keep (Some path))) never (e.files.in_the_way path (rw is refl)));
+      unremoved = λ path is. let none = e.files.removable (rw is refl) never in absurd (cc (none, nothing));
     })
     e.complete

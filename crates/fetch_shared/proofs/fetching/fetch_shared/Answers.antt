@@ -1,9 +1,8 @@
 use Rattle.std.proofs.Common.{refl, sym, ap}
 use Rattle.fetch_conversation.specs.ListStage.{shown}
-use Rattle.fetch_conversation.specs.declared.fetch.Error.TheVariants as receive
-use Rattle.fetch_update.specs.declared.update.Error.TheVariants as update
 use Rattle.fetch_conversation.proofs.Blame.{interrupt_still, interrupt_as}
 use Rattle.fetch_conversation.proofs.Heeded.{no_question}
+use Rattle.fetch_remote.proofs.Blamed.{peer_as, files_still, trees_still}
 use Rattle.fetch_shared.specs.Errors.{is_yes}
 use Rattle.fetch_shared.specs.Fetching.{Call}
 use Rattle.fetch_shared.specs.Passes.{Which}
@@ -11,8 +10,8 @@ use Rattle.fetch_shared.specs.Settling.{Matter}
 use Rattle.fetch_shared.specs.Talking.{Line, given_to}
 use Rattle.fetch_shared.proofs.Back.{back_trans}
 use Rattle.fetch_shared.proofs.Complete.{complete}
-use Rattle.fetch_shared.proofs.Fetched.{silent, ran_out, broken, broken_other, stopped, fetched}
-use Rattle.fetch_shared.proofs.Owned.{unsettled_calm, still_blamed}
+use Rattle.fetch_shared.proofs.Fetched.{silent, ran_out, broken, broken_keep, broken_trees, stopped, fetched}
+use Rattle.fetch_shared.proofs.Owned.{unsettled_calm}
 use Rattle.fetch_shared.proofs.Places.{receipt_none, receipt_broken, receipt_settled, receipt_unsettled}
 use Rattle.fetch_shared.proofs.Saw.{back_self}
 use Rattle.fetch_shared.proofs.fetching.fetch_shared.Goals as goal
@@ -86,35 +85,18 @@ returns-in-Err-clause-interrupt g c = interrupt_still _ _ _ _ refl
 pub returns-clause-peer : goal.returns-clause-peer
 returns-clause-peer g c =
     let calm = unsettled_calm _ _ _ _ c.in-Err-settle_in_turns.e c.in-Err-settle_in_turns.ensures.refused in
-    still_blamed _ _ _ calm.0 c.in-Ok-answer.ensures.peer
+    peer_as _ _ _ _ (sym calm.0) c.in-Ok-answer.ensures.peer
 
 pub returns-clause-interrupt : goal.returns-clause-interrupt
 returns-clause-interrupt g c =
     let calm = unsettled_calm _ _ _ _ c.in-Err-settle_in_turns.e c.in-Err-settle_in_turns.ensures.refused in
     interrupt_as _ _ _ _ _ _ _ _ (sym (no_question (Unit {0}) is_yes c.in-Err-settle_in_turns.e calm.1)) c.in-Ok-answer.ensures.interrupt
 
--- ---- refusals that have a count
+pub returns-in-Err-answer-clause-files : goal.returns-in-Err-answer-clause-files
+returns-in-Err-answer-clause-files g c = files_still _ _ (broken_keep _ _ _ _ _ c.in-Err-answer.e c.in-Err-answer.ensures.broken)
 
-pub returns-in-Err-answer-clause-keep_file : goal.returns-in-Err-answer-clause-keep_file
-returns-in-Err-answer-clause-keep_file g c path is = absurd (broken_other _ _ _ _ _ _ c.in-Err-answer.ensures.broken (receive.KeepFile path) (λ h. h) refl is)
-
-pub returns-in-Err-answer-clause-in_the_way : goal.returns-in-Err-answer-clause-in_the_way
-returns-in-Err-answer-clause-in_the_way g c path is = absurd (broken_other _ _ _ _ _ _ c.in-Err-answer.ensures.broken (receive.KeepFile path) (λ h. h) refl is)
-
-pub returns-in-Err-answer-clause-remove_keep_file : goal.returns-in-Err-answer-clause-remove_keep_file
-returns-in-Err-answer-clause-remove_keep_file g c path is = absurd (broken_other _ _ _ _ _ _ c.in-Err-answer.ensures.broken (receive.RemovePackKeepFile path) (λ h. h) refl is)
-
-pub returns-in-Err-answer-clause-removable : goal.returns-in-Err-answer-clause-removable
-returns-in-Err-answer-clause-removable g c path is = absurd (broken_other _ _ _ _ _ _ c.in-Err-answer.ensures.broken (receive.RemovePackKeepFile path) (λ h. h) refl is)
-
-pub returns-in-Err-answer-clause-listing : goal.returns-in-Err-answer-clause-listing
-returns-in-Err-answer-clause-listing g c is = absurd (broken_other _ _ _ _ _ _ c.in-Err-answer.ensures.broken (receive.UpdateRefs update.WorktreeListing) (λ h. h) refl is)
-
-pub returns-in-Err-answer-clause-open_repo : goal.returns-in-Err-answer-clause-open_repo
-returns-in-Err-answer-clause-open_repo g c is = absurd (broken_other _ _ _ _ _ _ c.in-Err-answer.ensures.broken (receive.UpdateRefs update.OpenWorktreeRepo) (λ h. h) refl is)
-
-pub returns-in-Err-answer-clause-follow_symref : goal.returns-in-Err-answer-clause-follow_symref
-returns-in-Err-answer-clause-follow_symref g c is = absurd (broken_other _ _ _ _ _ _ c.in-Err-answer.ensures.broken (receive.UpdateRefs update.FollowSymref) (λ h. h) refl is)
+pub returns-in-Err-answer-clause-worktrees : goal.returns-in-Err-answer-clause-worktrees
+returns-in-Err-answer-clause-worktrees g c = trees_still _ _ (broken_trees _ _ _ _ _ c.in-Err-answer.e c.in-Err-answer.ensures.broken)
 
 -- ---- valid input
 
@@ -126,3 +108,27 @@ returns-in-Err-answer-clause-complete g c v = complete c.in-Err-answer.e v (retu
 
 pub returns-clause-complete : goal.returns-clause-complete
 returns-clause-complete g c v = complete c.in-Err-settle_in_turns.e v (returns-clause-refused g c)
+
+-- ---- files and work trees, where nothing was asked of them, and behind the settling
+
+pub returns-in-Err-clause-files : goal.returns-in-Err-clause-files
+returns-in-Err-clause-files g c = files_still _ _ refl
+
+pub returns-in-Err-clause-worktrees : goal.returns-in-Err-clause-worktrees
+returns-in-Err-clause-worktrees g c = trees_still _ _ refl
+
+pub returns-in-Err-clause-untouched : goal.returns-in-Err-clause-untouched
+returns-in-Err-clause-untouched g c = record { dry = λ _. refl; unread = tt; early = λ _. refl }
+
+pub returns-in-Err-answer-clause-untouched : goal.returns-in-Err-answer-clause-untouched
+returns-in-Err-answer-clause-untouched g c = record { dry = λ _. refl; unread = tt; early = λ _. refl }
+
+pub returns-in-Ok-settle_in_turns-clause-untouched : goal.returns-in-Ok-settle_in_turns-clause-untouched
+returns-in-Ok-settle_in_turns-clause-untouched g c =
+    let u = c.in-Ok-settle_in_turns.ensures.untouched in
+    record { dry = λ is. u.dry (rw c.in-Ok.ensures is); unread = u.unread; early = tt }
+
+pub returns-clause-untouched : goal.returns-clause-untouched
+returns-clause-untouched g c =
+    let u = c.in-Err-settle_in_turns.ensures.untouched in
+    record { dry = λ is. u.dry (rw c.in-Ok.ensures is); unread = tt; early = u.early }

@@ -1,15 +1,12 @@
-use Rattle.std.proofs.Common.{◌≡◌, refl, sym, subst, ◌∙◌, inl, inr}
+use Rattle.std.proofs.Common.{Bool, refl, ap, ◌∙◌, inl, inr}
+use Rattle.std.specs.Prelude.{if◌then◌else◌}
 use Rattle.std.proofs.lemmas.Result.{err_from_is_err_and}
-use Rattle.fetch_store.specs.Faults.{Counts-then, Rose-earlier}
-use Rattle.fetch_update.specs.declared.update.Error.TheVariants as update
-use Rattle.fetch_conversation.specs.declared.fetch.Error.TheVariants as fetch
-use Rattle.fetch_remote.specs.declared.repository.open_error.OpenError.TheVariants as opening
-use Rattle.fetch_clone.specs.Counted.{Meters, IsCounted, meters, tree_meters}
-use Rattle.fetch_clone.specs.declared.clone.fetch.Error.TheVariants as errors
-use Rattle.fetch_clone.proofs.Answered.{is-receiving, same-error}
+use Rattle.fetch_store.specs.Faults.{Counts-none, Counts-then, Rose-earlier}
+use Rattle.fetch_clone.specs.Counted.{Meters, peer_meters, tree_meters}
+use Rattle.fetch_clone.proofs.Counted.{later-none, later-files}
 use Rattle.fetch_clone.proofs.Heeded.{heeded-of}
-use Rattle.fetch_clone.proofs.Rehashed.{no-fetch, no-reopening, of-hash, resolved-in, still-listed}
-use Rattle.fetch_clone.proofs.StepsCounted.{unmapped-counted}
+use Rattle.fetch_clone.proofs.Rehashed.{of-hash, resolved-in, still-listed}
+use Rattle.fetch_clone.proofs.StepsCounted.{receiving-counted, reopening-counted, unmapped-counted}
 use Rattle.fetch_clone.proofs.fetching.receiving.received.Goals as goal
 
 -- ---- what isn't mapped
@@ -76,12 +73,14 @@ returns-in-Err-clause-refused g c =
         written = g.F.Files.told c.take_hash.new.files;
         reread = c.in_ok-reread.reread;
         ready = record { mapped = c.in_ok-check_mapped.ensures.ok; hashed = hashed };
-        cause = c.in-Err.e;
-        told = c.from.ensures;
-        refused = refused begun (still-listed _ _ _ _ _ c.in_ok-reread.reread hashed _ begun _ c.args.remote.now c.args.prepared h);
-        complete = complete begun (still-listed _ _ _ _ _ c.in_ok-reread.reread hashed _ begun _ c.args.remote.now c.args.prepared h);
-        in_the_way = λ path k. rw c.in_ok-reread.ensures.may_fail at (c.in-Err.ensures.in_the_way path (rw k refl));
-        removable = λ path k none. c.in-Err.ensures.removable path (rw k refl) (c.in_ok-reread.ensures.may_fail ∙ none);
+        unfetched = record {
+          cause = c.in-Err.e;
+          told = c.from.ensures;
+          refused = refused begun (still-listed _ _ _ _ _ c.in_ok-reread.reread hashed _ begun _ c.args.remote.now c.args.prepared h);
+          complete = complete begun (still-listed _ _ _ _ _ c.in_ok-reread.reread hashed _ begun _ c.args.remote.now c.args.prepared h);
+          in_the_way = λ path k. rw c.in_ok-reread.ensures.may_fail at (c.in-Err.ensures.files.in_the_way path (rw k refl));
+          removable = λ path k none. c.in-Err.ensures.files.removable (rw k refl) (c.in_ok-reread.ensures.may_fail ∙ none);
+        };
         setup = rw c.fetch_on-fetched.ensures.setup at c.put_reread.ensures.setup;
       }));
     }
@@ -91,153 +90,66 @@ returns-in-Err-clause-kind g c = inr (inr (c.in-Err.e, c.from.ensures))
 
 -- ---- what is counted
 
-pub returns-in_err-check_mapped-clause-reopened : goal.returns-in_err-check_mapped-clause-reopened
-returns-in_err-check_mapped-clause-reopened g c is =
-    let e : c.in_err-check_mapped.field-0.0 ≡ errors.ReopenWithObjectHash opening.Io = same-error c.from_residual.result _ _ c.from_residual.ensures.1 is in
-    let m : Meters = meters (g.F.Files.faults c.args.files.now) (g.P.Peer.faults c.args.peer.now) (g.I.Interrupt.yes c.args.interrupt.now) (g.F.Files.faults c.args.files.now) (tree_meters (g.W.Worktrees.listing c.args.worktrees.now) (g.W.Worktrees.open_repo c.args.worktrees.now) (g.W.Worktrees.follow_symref c.args.worktrees.now)) in
-    subst (IsCounted m m) e (unmapped-counted m m c.args.draft.now.choices.wanted c.args.prepared.listed.ref_map c.in_err-check_mapped.field-0.0 c.in_err-check_mapped.ensures.refused)
+pub returns-in_err-check_mapped-clause-counted : goal.returns-in_err-check_mapped-clause-counted
+returns-in_err-check_mapped-clause-counted g c =
+    let p = err_from_is_err_and c.from_residual.result c.from_residual.ensures.1 in
+    let m : Meters = peer_meters (g.P.Peer.faults c.args.peer.now) (g.I.Interrupt.yes c.args.interrupt.now) (g.F.Files.faults c.args.files.now) (tree_meters (g.W.Worktrees.listing c.args.worktrees.now) (g.W.Worktrees.open_repo c.args.worktrees.now) (g.W.Worktrees.follow_symref c.args.worktrees.now)) in
+    rw (p.1, p.2) (unmapped-counted m m c.args.draft.now.choices.wanted c.args.prepared.listed.ref_map c.in_err-check_mapped.field-0.0 c.in_err-check_mapped.ensures.refused)
 
-pub returns-in_err-check_mapped-clause-client : goal.returns-in_err-check_mapped-clause-client
-returns-in_err-check_mapped-clause-client g c is =
-    let e : c.in_err-check_mapped.field-0.0 ≡ errors.Fetch fetch.Client = same-error c.from_residual.result _ _ c.from_residual.ensures.1 is in
-    let m : Meters = meters (g.F.Files.faults c.args.files.now) (g.P.Peer.faults c.args.peer.now) (g.I.Interrupt.yes c.args.interrupt.now) (g.F.Files.faults c.args.files.now) (tree_meters (g.W.Worktrees.listing c.args.worktrees.now) (g.W.Worktrees.open_repo c.args.worktrees.now) (g.W.Worktrees.follow_symref c.args.worktrees.now)) in
-    subst (IsCounted m m) e (unmapped-counted m m c.args.draft.now.choices.wanted c.args.prepared.listed.ref_map c.in_err-check_mapped.field-0.0 c.in_err-check_mapped.ensures.refused)
+pub returns-in_err-check_mapped-clause-later : goal.returns-in_err-check_mapped-clause-later
+returns-in_err-check_mapped-clause-later g c = later-none _
 
-pub returns-in_err-check_mapped-clause-stopped : goal.returns-in_err-check_mapped-clause-stopped
-returns-in_err-check_mapped-clause-stopped g c is =
-    let e : c.in_err-check_mapped.field-0.0 ≡ errors.Fetch fetch.Interrupted = same-error c.from_residual.result _ _ c.from_residual.ensures.1 is in
-    let m : Meters = meters (g.F.Files.faults c.args.files.now) (g.P.Peer.faults c.args.peer.now) (g.I.Interrupt.yes c.args.interrupt.now) (g.F.Files.faults c.args.files.now) (tree_meters (g.W.Worktrees.listing c.args.worktrees.now) (g.W.Worktrees.open_repo c.args.worktrees.now) (g.W.Worktrees.follow_symref c.args.worktrees.now)) in
-    subst (IsCounted m m) e (unmapped-counted m m c.args.draft.now.choices.wanted c.args.prepared.listed.ref_map c.in_err-check_mapped.field-0.0 c.in_err-check_mapped.ensures.refused)
+pub returns-in_err-prepared-clause-counted : goal.returns-in_err-prepared-clause-counted
+returns-in_err-prepared-clause-counted g c =
+    let p = err_from_is_err_and c.from_residual-in_err-prepared.result c.from_residual-in_err-prepared.ensures.1 in
+    rw (p.1, p.2) tt
 
-pub returns-in_err-check_mapped-clause-keep_file : goal.returns-in_err-check_mapped-clause-keep_file
-returns-in_err-check_mapped-clause-keep_file g c path is =
-    let e : c.in_err-check_mapped.field-0.0 ≡ errors.Fetch (fetch.KeepFile path) = same-error c.from_residual.result _ _ c.from_residual.ensures.1 is in
-    let m : Meters = meters (g.F.Files.faults c.args.files.now) (g.P.Peer.faults c.args.peer.now) (g.I.Interrupt.yes c.args.interrupt.now) (g.F.Files.faults c.args.files.now) (tree_meters (g.W.Worktrees.listing c.args.worktrees.now) (g.W.Worktrees.open_repo c.args.worktrees.now) (g.W.Worktrees.follow_symref c.args.worktrees.now)) in
-    subst (IsCounted m m) e (unmapped-counted m m c.args.draft.now.choices.wanted c.args.prepared.listed.ref_map c.in_err-check_mapped.field-0.0 c.in_err-check_mapped.ensures.refused)
+pub returns-in_err-prepared-clause-later : goal.returns-in_err-prepared-clause-later
+returns-in_err-prepared-clause-later g c = later-none _
 
-pub returns-in_err-check_mapped-clause-remove_keep_file : goal.returns-in_err-check_mapped-clause-remove_keep_file
-returns-in_err-check_mapped-clause-remove_keep_file g c path is =
-    let e : c.in_err-check_mapped.field-0.0 ≡ errors.Fetch (fetch.RemovePackKeepFile path) = same-error c.from_residual.result _ _ c.from_residual.ensures.1 is in
-    let m : Meters = meters (g.F.Files.faults c.args.files.now) (g.P.Peer.faults c.args.peer.now) (g.I.Interrupt.yes c.args.interrupt.now) (g.F.Files.faults c.args.files.now) (tree_meters (g.W.Worktrees.listing c.args.worktrees.now) (g.W.Worktrees.open_repo c.args.worktrees.now) (g.W.Worktrees.follow_symref c.args.worktrees.now)) in
-    subst (IsCounted m m) e (unmapped-counted m m c.args.draft.now.choices.wanted c.args.prepared.listed.ref_map c.in_err-check_mapped.field-0.0 c.in_err-check_mapped.ensures.refused)
-
-pub returns-in_err-reread-clause-client : goal.returns-in_err-reread-clause-client
-returns-in_err-reread-clause-client g c is =
-    let e : c.in_err-reread.field-0.0 ≡ errors.Fetch fetch.Client = same-error c.from_residual-in_err-reread.result _ _ c.from_residual-in_err-reread.ensures.1 is in
+pub returns-in_err-reread-clause-counted : goal.returns-in_err-reread-clause-counted
+returns-in_err-reread-clause-counted g c =
+    let p = err_from_is_err_and c.from_residual-in_err-reread.result c.from_residual-in_err-reread.ensures.1 in
+    let was : Meters = peer_meters (g.P.Peer.faults c.args.peer.now) (g.I.Interrupt.yes c.args.interrupt.now) (g.F.Files.faults c.args.files.now) (tree_meters (g.W.Worktrees.listing c.args.worktrees.now) (g.W.Worktrees.open_repo c.args.worktrees.now) (g.W.Worktrees.follow_symref c.args.worktrees.now)) in
+    let is : Meters = peer_meters (g.P.Peer.faults c.args.peer.now) (g.I.Interrupt.yes c.args.interrupt.now) (g.F.Files.faults c.take_hash.new.files) (tree_meters (g.W.Worktrees.listing c.args.worktrees.now) (g.W.Worktrees.open_repo c.args.worktrees.now) (g.W.Worktrees.follow_symref c.args.worktrees.now)) in
     let o = of-hash _ _ _ _ _ c.in_err-reread.field-0.0 c.in_err-reread.ensures.refused in
-    absurd (no-fetch o.0 fetch.Client (sym o.1 ∙ e))
+    rw (p.1, p.2, o.1) (reopening-counted was is o.0 (λ h. c.in_err-reread.ensures.io (rw (o.1, h) refl)))
 
-pub returns-in_err-reread-clause-stopped : goal.returns-in_err-reread-clause-stopped
-returns-in_err-reread-clause-stopped g c is =
-    let e : c.in_err-reread.field-0.0 ≡ errors.Fetch fetch.Interrupted = same-error c.from_residual-in_err-reread.result _ _ c.from_residual-in_err-reread.ensures.1 is in
-    let o = of-hash _ _ _ _ _ c.in_err-reread.field-0.0 c.in_err-reread.ensures.refused in
-    absurd (no-fetch o.0 fetch.Interrupted (sym o.1 ∙ e))
+pub returns-in_err-reread-clause-later : goal.returns-in_err-reread-clause-later
+returns-in_err-reread-clause-later g c = later-files _ _ c.in_err-reread.ensures.counts
 
-pub returns-in_err-reread-clause-reopened : goal.returns-in_err-reread-clause-reopened
-returns-in_err-reread-clause-reopened g c is =
-    let e : c.in_err-reread.field-0.0 ≡ errors.ReopenWithObjectHash opening.Io = same-error c.from_residual-in_err-reread.result _ _ c.from_residual-in_err-reread.ensures.1 is in
-    c.in_err-reread.ensures.io (rw e refl)
+pub returns-in-Ok-clause-later : goal.returns-in-Ok-clause-later
+returns-in-Ok-clause-later g c =
+    let f = c.fetch_on-fetched.ensures in
+    record {
+      made = Counts-none _;
+      lost = f.peer.counts.later;
+      yes = f.interrupt.counts;
+      files = Counts-then _ _ _ c.in_ok-reread.ensures.counts f.files.counts;
+      listing = f.worktrees.listing_counts;
+      open_repo = f.worktrees.open_repo_counts;
+      follow_symref = f.worktrees.follow_symref_counts;
+    }
 
-pub returns-in_err-reread-clause-keep_file : goal.returns-in_err-reread-clause-keep_file
-returns-in_err-reread-clause-keep_file g c path is =
-    let e : c.in_err-reread.field-0.0 ≡ errors.Fetch (fetch.KeepFile path) = same-error c.from_residual-in_err-reread.result _ _ c.from_residual-in_err-reread.ensures.1 is in
-    let o = of-hash _ _ _ _ _ c.in_err-reread.field-0.0 c.in_err-reread.ensures.refused in
-    absurd (no-fetch o.0 (fetch.KeepFile path) (sym o.1 ∙ e))
+pub returns-in-Err-clause-later : goal.returns-in-Err-clause-later
+returns-in-Err-clause-later g c =
+    let f = c.fetch_on-fetched.ensures in
+    record {
+      made = Counts-none _;
+      lost = f.peer.counts.later;
+      yes = f.interrupt.counts;
+      files = Counts-then _ _ _ c.in_ok-reread.ensures.counts f.files.counts;
+      listing = f.worktrees.listing_counts;
+      open_repo = f.worktrees.open_repo_counts;
+      follow_symref = f.worktrees.follow_symref_counts;
+    }
 
-pub returns-in_err-reread-clause-remove_keep_file : goal.returns-in_err-reread-clause-remove_keep_file
-returns-in_err-reread-clause-remove_keep_file g c path is =
-    let e : c.in_err-reread.field-0.0 ≡ errors.Fetch (fetch.RemovePackKeepFile path) = same-error c.from_residual-in_err-reread.result _ _ c.from_residual-in_err-reread.ensures.1 is in
-    let o = of-hash _ _ _ _ _ c.in_err-reread.field-0.0 c.in_err-reread.ensures.refused in
-    absurd (no-fetch o.0 (fetch.RemovePackKeepFile path) (sym o.1 ∙ e))
-
-pub returns-in-Ok-clause-file_counts : goal.returns-in-Ok-clause-file_counts
-returns-in-Ok-clause-file_counts g c = Counts-then _ _ _ c.in_ok-reread.ensures.counts c.fetch_on-fetched.ensures.file_counts
-
-pub returns-in-Err-clause-file_counts : goal.returns-in-Err-clause-file_counts
-returns-in-Err-clause-file_counts g c = Counts-then _ _ _ c.in_ok-reread.ensures.counts c.fetch_on-fetched.ensures.file_counts
-
-pub returns-in-Err-clause-client : goal.returns-in-Err-clause-client
-returns-in-Err-clause-client g c is =
-    let e : c.from.result ≡ errors.Fetch fetch.Client = cc in
-    let k : c.in-Err.e ≡ fetch.Client = is-receiving c.in-Err.e fetch.Client (sym c.from.ensures ∙ e) in
-    c.in-Err.ensures.client (rw k refl)
-
-pub returns-in-Err-clause-stopped : goal.returns-in-Err-clause-stopped
-returns-in-Err-clause-stopped g c is =
-    let e : c.from.result ≡ errors.Fetch fetch.Interrupted = cc in
-    let k : c.in-Err.e ≡ fetch.Interrupted = is-receiving c.in-Err.e fetch.Interrupted (sym c.from.ensures ∙ e) in
-    c.in-Err.ensures.stopped (rw k refl)
-
-pub returns-in-Err-clause-reopened : goal.returns-in-Err-clause-reopened
-returns-in-Err-clause-reopened g c is =
-    let e : c.from.result ≡ errors.ReopenWithObjectHash opening.Io = cc in
-    absurd (no-reopening c.in-Err.e opening.Io (sym c.from.ensures ∙ e))
-
-pub returns-in-Err-clause-keep_file : goal.returns-in-Err-clause-keep_file
-returns-in-Err-clause-keep_file g c path is =
-    let e : c.from.result ≡ errors.Fetch (fetch.KeepFile path) = cc in
-    let k : c.in-Err.e ≡ fetch.KeepFile path = is-receiving c.in-Err.e (fetch.KeepFile path) (sym c.from.ensures ∙ e) in
-    Rose-earlier (g.F.Files.faults c.args.files.now) (g.F.Files.faults c.take_hash.new.files) (g.F.Files.faults c.fetch_on-fetched.new.files) c.in_ok-reread.ensures.counts (c.in-Err.ensures.keep_file path (rw k refl))
-
-pub returns-in-Err-clause-remove_keep_file : goal.returns-in-Err-clause-remove_keep_file
-returns-in-Err-clause-remove_keep_file g c path is =
-    let e : c.from.result ≡ errors.Fetch (fetch.RemovePackKeepFile path) = cc in
-    let k : c.in-Err.e ≡ fetch.RemovePackKeepFile path = is-receiving c.in-Err.e (fetch.RemovePackKeepFile path) (sym c.from.ensures ∙ e) in
-    Rose-earlier (g.F.Files.faults c.args.files.now) (g.F.Files.faults c.take_hash.new.files) (g.F.Files.faults c.fetch_on-fetched.new.files) c.in_ok-reread.ensures.counts (c.in-Err.ensures.remove_keep_file path (rw k refl))
-
-pub returns-in_err-check_mapped-clause-listing : goal.returns-in_err-check_mapped-clause-listing
-returns-in_err-check_mapped-clause-listing g c is =
-    let e : c.in_err-check_mapped.field-0.0 ≡ errors.Fetch (fetch.UpdateRefs update.WorktreeListing) = same-error c.from_residual.result _ _ c.from_residual.ensures.1 is in
-    let m : Meters = meters (g.F.Files.faults c.args.files.now) (g.P.Peer.faults c.args.peer.now) (g.I.Interrupt.yes c.args.interrupt.now) (g.F.Files.faults c.args.files.now) (tree_meters (g.W.Worktrees.listing c.args.worktrees.now) (g.W.Worktrees.open_repo c.args.worktrees.now) (g.W.Worktrees.follow_symref c.args.worktrees.now)) in
-    subst (IsCounted m m) e (unmapped-counted m m c.args.draft.now.choices.wanted c.args.prepared.listed.ref_map c.in_err-check_mapped.field-0.0 c.in_err-check_mapped.ensures.refused)
-
-pub returns-in_err-reread-clause-listing : goal.returns-in_err-reread-clause-listing
-returns-in_err-reread-clause-listing g c is =
-    let e : c.in_err-reread.field-0.0 ≡ errors.Fetch (fetch.UpdateRefs update.WorktreeListing) = same-error c.from_residual-in_err-reread.result _ _ c.from_residual-in_err-reread.ensures.1 is in
-    let o = of-hash _ _ _ _ _ c.in_err-reread.field-0.0 c.in_err-reread.ensures.refused in
-    absurd (no-fetch o.0 (fetch.UpdateRefs update.WorktreeListing) (sym o.1 ∙ e))
-
-pub returns-in-Err-clause-listing : goal.returns-in-Err-clause-listing
-returns-in-Err-clause-listing g c is =
-    let e : c.from.result ≡ errors.Fetch (fetch.UpdateRefs update.WorktreeListing) = cc in
-    let k : c.in-Err.e ≡ fetch.UpdateRefs update.WorktreeListing = is-receiving c.in-Err.e (fetch.UpdateRefs update.WorktreeListing) (sym c.from.ensures ∙ e) in
-    c.in-Err.ensures.listing (rw k refl)
-
-pub returns-in_err-check_mapped-clause-open_repo : goal.returns-in_err-check_mapped-clause-open_repo
-returns-in_err-check_mapped-clause-open_repo g c is =
-    let e : c.in_err-check_mapped.field-0.0 ≡ errors.Fetch (fetch.UpdateRefs update.OpenWorktreeRepo) = same-error c.from_residual.result _ _ c.from_residual.ensures.1 is in
-    let m : Meters = meters (g.F.Files.faults c.args.files.now) (g.P.Peer.faults c.args.peer.now) (g.I.Interrupt.yes c.args.interrupt.now) (g.F.Files.faults c.args.files.now) (tree_meters (g.W.Worktrees.listing c.args.worktrees.now) (g.W.Worktrees.open_repo c.args.worktrees.now) (g.W.Worktrees.follow_symref c.args.worktrees.now)) in
-    subst (IsCounted m m) e (unmapped-counted m m c.args.draft.now.choices.wanted c.args.prepared.listed.ref_map c.in_err-check_mapped.field-0.0 c.in_err-check_mapped.ensures.refused)
-
-pub returns-in_err-reread-clause-open_repo : goal.returns-in_err-reread-clause-open_repo
-returns-in_err-reread-clause-open_repo g c is =
-    let e : c.in_err-reread.field-0.0 ≡ errors.Fetch (fetch.UpdateRefs update.OpenWorktreeRepo) = same-error c.from_residual-in_err-reread.result _ _ c.from_residual-in_err-reread.ensures.1 is in
-    let o = of-hash _ _ _ _ _ c.in_err-reread.field-0.0 c.in_err-reread.ensures.refused in
-    absurd (no-fetch o.0 (fetch.UpdateRefs update.OpenWorktreeRepo) (sym o.1 ∙ e))
-
-pub returns-in-Err-clause-open_repo : goal.returns-in-Err-clause-open_repo
-returns-in-Err-clause-open_repo g c is =
-    let e : c.from.result ≡ errors.Fetch (fetch.UpdateRefs update.OpenWorktreeRepo) = cc in
-    let k : c.in-Err.e ≡ fetch.UpdateRefs update.OpenWorktreeRepo = is-receiving c.in-Err.e (fetch.UpdateRefs update.OpenWorktreeRepo) (sym c.from.ensures ∙ e) in
-    c.in-Err.ensures.open_repo (rw k refl)
-
-pub returns-in_err-check_mapped-clause-follow_symref : goal.returns-in_err-check_mapped-clause-follow_symref
-returns-in_err-check_mapped-clause-follow_symref g c is =
-    let e : c.in_err-check_mapped.field-0.0 ≡ errors.Fetch (fetch.UpdateRefs update.FollowSymref) = same-error c.from_residual.result _ _ c.from_residual.ensures.1 is in
-    let m : Meters = meters (g.F.Files.faults c.args.files.now) (g.P.Peer.faults c.args.peer.now) (g.I.Interrupt.yes c.args.interrupt.now) (g.F.Files.faults c.args.files.now) (tree_meters (g.W.Worktrees.listing c.args.worktrees.now) (g.W.Worktrees.open_repo c.args.worktrees.now) (g.W.Worktrees.follow_symref c.args.worktrees.now)) in
-    subst (IsCounted m m) e (unmapped-counted m m c.args.draft.now.choices.wanted c.args.prepared.listed.ref_map c.in_err-check_mapped.field-0.0 c.in_err-check_mapped.ensures.refused)
-
-pub returns-in_err-reread-clause-follow_symref : goal.returns-in_err-reread-clause-follow_symref
-returns-in_err-reread-clause-follow_symref g c is =
-    let e : c.in_err-reread.field-0.0 ≡ errors.Fetch (fetch.UpdateRefs update.FollowSymref) = same-error c.from_residual-in_err-reread.result _ _ c.from_residual-in_err-reread.ensures.1 is in
-    let o = of-hash _ _ _ _ _ c.in_err-reread.field-0.0 c.in_err-reread.ensures.refused in
-    absurd (no-fetch o.0 (fetch.UpdateRefs update.FollowSymref) (sym o.1 ∙ e))
-
-pub returns-in-Err-clause-follow_symref : goal.returns-in-Err-clause-follow_symref
-returns-in-Err-clause-follow_symref g c is =
-    let e : c.from.result ≡ errors.Fetch (fetch.UpdateRefs update.FollowSymref) = cc in
-    let k : c.in-Err.e ≡ fetch.UpdateRefs update.FollowSymref = is-receiving c.in-Err.e (fetch.UpdateRefs update.FollowSymref) (sym c.from.ensures ∙ e) in
-    c.in-Err.ensures.follow_symref (rw k refl)
+pub returns-in-Err-clause-counted : goal.returns-in-Err-clause-counted
+returns-in-Err-clause-counted g c =
+    let was : Meters = peer_meters (g.P.Peer.faults c.args.peer.now) (g.I.Interrupt.yes c.args.interrupt.now) (g.F.Files.faults c.args.files.now) (tree_meters (g.W.Worktrees.listing c.args.worktrees.now) (g.W.Worktrees.open_repo c.args.worktrees.now) (g.W.Worktrees.follow_symref c.args.worktrees.now)) in
+    let is : Meters = peer_meters (g.P.Peer.faults c.fetch_on-fetched.new.peer) (g.I.Interrupt.yes c.fetch_on-fetched.new.interrupt) (g.F.Files.faults c.fetch_on-fetched.new.files) (tree_meters (g.W.Worktrees.listing c.fetch_on-fetched.new.worktrees) (g.W.Worktrees.open_repo c.fetch_on-fetched.new.worktrees) (g.W.Worktrees.follow_symref c.fetch_on-fetched.new.worktrees)) in
+    let e = c.in-Err.ensures in
+    rw c.from.ensures (receiving-counted was is c.in-Err.e e.peer.cause (λ h. e.interrupt.cause (ap (λ (b : Bool). if b then 1 else 0) h)) (λ h. Rose-earlier (g.F.Files.faults c.args.files.now) (g.F.Files.faults c.take_hash.new.files) (g.F.Files.faults c.fetch_on-fetched.new.files) c.in_ok-reread.ensures.counts (e.files.cause h)) e.worktrees.listing e.worktrees.open_repo e.worktrees.follow_symref)
 
 pub returns-in-Ok-clause-questions : goal.returns-in-Ok-clause-questions
-returns-in-Ok-clause-questions g c = heeded-of _ _ _ _ _ _ refl c.in-Ok.ensures.questions
+returns-in-Ok-clause-questions g c = heeded-of _ _ _ _ _ _ _ refl c.in-Ok.ensures.interrupt

@@ -1,7 +1,7 @@
-use Rattle.fetch_clone.specs.Counted.{meters, tree_meters}
+use Rattle.fetch_clone.specs.Counted.{meters, peer_meters, tree_meters}
 use Rattle.fetch_store.specs.Faults.{Counts-none}
 use Rattle.fetch_clone.proofs.Answered.{is-taken, not-taken, taken-counted}
-use Rattle.fetch_clone.proofs.Returned.{lost_later}
+use Rattle.fetch_clone.proofs.Returned.{lost_later, lost_rose}
 use Rattle.fetch_clone.proofs.fetching.taking.taken.Goals as goal
 
 pub returns-clause-taken : goal.returns-clause-taken
@@ -16,8 +16,24 @@ returns-clause-refused g c =
 
 pub returns-clause-counted : goal.returns-clause-counted
 returns-clause-counted g c =
-    taken-counted (meters (g.C.Connect.faults c.args.maker.now) (g.C.Connect.lost c.args.maker.now) (g.I.Interrupt.yes c.args.interrupt.now) (g.F.Files.faults c.args.files.now) (tree_meters (g.W.Worktrees.listing c.args.worktrees.now) (g.W.Worktrees.open_repo c.args.worktrees.now) (g.W.Worktrees.follow_symref c.args.worktrees.now))) (meters (g.C.Connect.faults c.take_back.new.self) (g.C.Connect.lost c.take_back.new.self) (g.I.Interrupt.yes c.received-answer.new.interrupt) (g.F.Files.faults c.received-answer.new.files) (tree_meters (g.W.Worktrees.listing c.received-answer.new.worktrees) (g.W.Worktrees.open_repo c.received-answer.new.worktrees) (g.W.Worktrees.follow_symref c.received-answer.new.worktrees))) c.args.draft.now.choices.wanted c.args.prepared.listed.ref_map (g.C.Peer.Peer.faults c.args.peer) (g.C.Peer.Peer.faults c.received-answer.new.peer) c.received-answer.result c.received-answer.ensures.kind c.take_back.ensures.lost c.received-answer.ensures.reopened c.received-answer.ensures.client c.received-answer.ensures.stopped c.received-answer.ensures.keep_file c.received-answer.ensures.remove_keep_file c.received-answer.ensures.listing c.received-answer.ensures.open_repo c.received-answer.ensures.follow_symref
+    let was_trees = tree_meters (g.W.Worktrees.listing c.args.worktrees.now) (g.W.Worktrees.open_repo c.args.worktrees.now) (g.W.Worktrees.follow_symref c.args.worktrees.now) in
+    let is_trees = tree_meters (g.W.Worktrees.listing c.received-answer.new.worktrees) (g.W.Worktrees.open_repo c.received-answer.new.worktrees) (g.W.Worktrees.follow_symref c.received-answer.new.worktrees) in
+    let was = meters (g.C.Connect.faults c.args.maker.now) (g.C.Connect.lost c.args.maker.now) (g.I.Interrupt.yes c.args.interrupt.now) (g.F.Files.faults c.args.files.now) was_trees in
+    let is = meters (g.C.Connect.faults c.take_back.new.self) (g.C.Connect.lost c.take_back.new.self) (g.I.Interrupt.yes c.received-answer.new.interrupt) (g.F.Files.faults c.received-answer.new.files) is_trees in
+    let here = peer_meters (g.C.Peer.Peer.faults c.args.peer) (g.I.Interrupt.yes c.args.interrupt.now) (g.F.Files.faults c.args.files.now) was_trees in
+    let left = peer_meters (g.C.Peer.Peer.faults c.received-answer.new.peer) (g.I.Interrupt.yes c.received-answer.new.interrupt) (g.F.Files.faults c.received-answer.new.files) is_trees in
+    taken-counted was is here left c.args.draft.now.choices.wanted c.args.prepared.listed.ref_map c.received-answer.result c.received-answer.ensures.kind
+    (λ h. rw c.take_back.ensures.lost (lost_rose (g.C.Peer.Peer.faults c.args.peer) (g.C.Peer.Peer.faults c.received-answer.new.peer) (g.C.Connect.lost c.args.maker.now) h)) (λ h. h) (λ h. h) (λ h. h) (λ h. h) (λ h. h) c.received-answer.ensures.counted
 
 pub returns-clause-later : goal.returns-clause-later
 returns-clause-later g c =
-    record { made = rw c.take_back.ensures.faults (Counts-none _); lost = rw c.take_back.ensures.lost (lost_later (g.C.Peer.Peer.faults c.received-answer.new.peer) (g.C.Connect.lost c.args.maker.now)); yes = c.received-answer.ensures.asked; files = c.received-answer.ensures.file_counts; listing = c.received-answer.ensures.listing_counts; open_repo = c.received-answer.ensures.open_repo_counts; follow_symref = c.received-answer.ensures.follow_symref_counts }
+    let later = c.received-answer.ensures.later in
+    record {
+      made = rw c.take_back.ensures.faults (Counts-none _);
+      lost = rw c.take_back.ensures.lost (lost_later (g.C.Peer.Peer.faults c.received-answer.new.peer) (g.C.Connect.lost c.args.maker.now));
+      yes = later.yes;
+      files = later.files;
+      listing = later.listing;
+      open_repo = later.open_repo;
+      follow_symref = later.follow_symref;
+    }

@@ -1,13 +1,16 @@
 use Rattle.std.proofs.Common.{ap, sym, ◌∙◌}
 use Rattle.std.proofs.lemmas.Result.{err_from_is_err_and}
+use Rattle.fetch_store.specs.Faults.{Counts-then, Rose-earlier}
 use Rattle.fetch_wire.specs.declared.greetings.handshake.Handshake.{Handshake}
 use Rattle.fetch_wire.specs.declared.listings.mapping.RefMap.{RefMap}
 use Rattle.fetch_conversation.specs.ListStage.{shown}
 use Rattle.fetch_remote.specs.Keeping.{made_in}
 use Rattle.fetch_remote.specs.Repositories.{state_of, setup_of}
+use Rattle.fetch_remote.specs.Settling.{brought}
 use Rattle.fetch_remote.specs.declared.fetching.outcome.Status.{Status}
-use Rattle.fetch_remote.proofs.Keeping.{left_files, status_is, made_none, made_is, kept_none, removable}
-use Rattle.fetch_remote.proofs.Settled.{settles, untaken, unjudged_found, unmoved, unreleased, finds_all, list_of, list_told}
+use Rattle.fetch_remote.proofs.Blamed.{files_as, trees_still, judging_keeps}
+use Rattle.fetch_remote.proofs.Keeping.{left_files, status_is, made_none, made_is, kept_none, dry_none, removable}
+use Rattle.fetch_remote.proofs.Settled.{settles, untaken, unjudged_found, unmoved, unreleased, untaken_trees, never_early, finds_all, list_of, list_told}
 use Rattle.fetch_remote.proofs.fetching.settling.settle.Goals as goal
 
 pub returns-in_err-taken-clause-refused : goal.returns-in_err-taken-clause-refused
@@ -62,20 +65,100 @@ returns-clause-kept g c =
     let dir = (setup_of c.args.repo.now).settings.git_dir in
     left_files _ _ _ dir c.args.how.now.dry_run c.args.talked.received c.in_ok-updates.updates c.in_ok-status.status (told ∙ status_is dir c.args.how.now.dry_run c.args.talked.received c.in_ok-updates.updates) c.in_ok-taken.ensures.made gone
 
-pub returns-clause-unread : goal.returns-clause-unread
-returns-clause-unread g c none =
+-- ---- who is blamed, and what stays
+
+pub returns-in_err-taken-clause-worktrees : goal.returns-in_err-taken-clause-worktrees
+returns-in_err-taken-clause-worktrees g c =
+    let p = err_from_is_err_and c.from_residual.result c.from_residual.ensures.1 in
+    rw (p.1, p.2) (trees_still _ _ (untaken_trees (state_of c.args.repo.now) _ (brought c.args.how.now.dry_run c.args.talked.received) _ _ _ c.in_err-taken.field-0.0 c.in_err-taken.ensures.refused))
+
+pub returns-in_err-updates-clause-files : goal.returns-in_err-updates-clause-files
+returns-in_err-updates-clause-files g c =
+    let p = err_from_is_err_and c.from_residual-in_err-updates.result c.from_residual-in_err-updates.ensures.1 in
+    rw (p.1, p.2) (files_as _ _ _ _ (sym (judging_keeps c.in_err-updates.field-0.0 c.in_err-updates.ensures.only)) c.in_ok-taken.ensures.files)
+
+pub returns-in_err-status-clause-files : goal.returns-in_err-status-clause-files
+returns-in_err-status-clause-files g c =
+    let p = err_from_is_err_and c.from_residual-in_err-status.result c.from_residual-in_err-status.ensures.1 in
+    let dir = (setup_of c.args.repo.now).settings.git_dir in
+    let made = c.in_ok-taken.ensures.files in
+    let gone = c.in_err-status.ensures.refused in
+    rw (p.1, p.2, gone.1) (record {
+      may_fail = c.in_err-status.ensures.may_fail ∙ made.may_fail;
+      counts = Counts-then _ _ _ made.counts c.in_err-status.ensures.counts;
+      cause = λ _. Rose-earlier (g.F.Files.faults c.args.files.now) (g.F.Files.faults c.bring.new.files) (g.F.Files.faults c.status.new.files) made.counts c.in_err-status.ensures.cause;
+      in_the_way = λ path is. absurd (cc);
+      removable = λ is never. removable _ _ _ dir c.args.how.now.dry_run c.args.talked.received c.in_ok-updates.updates c.in_ok-taken.taken c.in_err-status.field-0.0 c.in_ok-taken.ensures.told c.in_ok-taken.ensures.made c.in_err-status.ensures.in_the_way c.in_err-status.ensures.refused (made.may_fail ∙ never);
+    })
+
+pub returns-in_err-status-clause-worktrees : goal.returns-in_err-status-clause-worktrees
+returns-in_err-status-clause-worktrees g c =
+    let p = err_from_is_err_and c.from_residual-in_err-status.result c.from_residual-in_err-status.ensures.1 in
+    rw (p.1, p.2, c.in_err-status.ensures.refused.1) c.in_ok-updates.ensures.worktrees
+
+pub returns-in_err-move_refs-clause-files : goal.returns-in_err-move_refs-clause-files
+returns-in_err-move_refs-clause-files g c =
+    let p = err_from_is_err_and c.from_residual-in_err-move_refs.result c.from_residual-in_err-move_refs.ensures.1 in
+    rw (p.1, p.2) c.in_ok-taken.ensures.files
+
+pub returns-in_err-move_refs-clause-worktrees : goal.returns-in_err-move_refs-clause-worktrees
+returns-in_err-move_refs-clause-worktrees g c =
+    let p = err_from_is_err_and c.from_residual-in_err-move_refs.result c.from_residual-in_err-move_refs.ensures.1 in
+    rw (p.1, p.2) c.in_ok-updates.ensures.worktrees
+
+pub returns-in_err-taken-clause-untouched : goal.returns-in_err-taken-clause-untouched
+returns-in_err-taken-clause-untouched g c =
+    let p = err_from_is_err_and c.from_residual.result c.from_residual.ensures.1 in
+    rw (p.1, p.2) (record {
+      dry = λ is. c.in_err-taken.ensures.unread (dry_none c.args.how.now.dry_run c.args.talked.received is);
+      unread = tt;
+      early = c.in_err-taken.ensures.early;
+    })
+
+pub returns-in_err-updates-clause-untouched : goal.returns-in_err-updates-clause-untouched
+returns-in_err-updates-clause-untouched g c =
+    let p = err_from_is_err_and c.from_residual-in_err-updates.result c.from_residual-in_err-updates.ensures.1 in
+    rw (p.1, p.2) (record {
+      dry = λ is. c.in_ok-taken.ensures.unread (dry_none c.args.how.now.dry_run c.args.talked.received is);
+      unread = tt;
+      early = λ early. absurd (never_early c.in_err-updates.field-0.0 c.in_err-updates.ensures.only early);
+    })
+
+pub returns-in_err-move_refs-clause-untouched : goal.returns-in_err-move_refs-clause-untouched
+returns-in_err-move_refs-clause-untouched g c =
+    let p = err_from_is_err_and c.from_residual-in_err-move_refs.result c.from_residual-in_err-move_refs.ensures.1 in
+    rw (p.1, p.2) (record {
+      dry = λ is. c.in_ok-taken.ensures.unread (dry_none c.args.how.now.dry_run c.args.talked.received is);
+      unread = tt;
+      early = λ early. absurd (cc);
+    })
+
+pub returns-in_err-status-clause-untouched : goal.returns-in_err-status-clause-untouched
+returns-in_err-status-clause-untouched g c =
+    let p = err_from_is_err_and c.from_residual-in_err-status.result c.from_residual-in_err-status.ensures.1 in
+    let dir = (setup_of c.args.repo.now).settings.git_dir in
+    let dry = c.args.how.now.dry_run in
+    let r = c.args.talked.received in
+    rw (p.1, p.2, c.in_err-status.ensures.refused.1) (record {
+      dry = λ is. c.in_err-status.ensures.unread (rw c.in_ok-taken.ensures.told (kept_none dir dry r (dry_none dry r is))) ∙ c.in_ok-taken.ensures.unread (dry_none dry r is);
+      unread = tt;
+      early = λ early. absurd (cc);
+    })
+
+pub returns-clause-untouched : goal.returns-clause-untouched
+returns-clause-untouched g c =
     let told = rw c.in_ok-taken.ensures.told at c.in_ok-status.ensures.told in
     let dir = (setup_of c.args.repo.now).settings.git_dir in
     let dry = c.args.how.now.dry_run in
     let r = c.args.talked.received in
     let u = c.in_ok-updates.updates in
-    let no_pack = made_none dir dry r (sym (made_is dir dry r u) ∙ sym (ap (λ (s : Status). made_in dir s) (told ∙ status_is dir dry r u)) ∙ none) in
-    c.in_ok-status.ensures.unread (rw c.in_ok-taken.ensures.told (kept_none dir dry r no_pack)) ∙ c.in_ok-taken.ensures.unread no_pack
-
-pub returns-in_err-status-clause-removable : goal.returns-in_err-status-clause-removable
-returns-in_err-status-clause-removable g c path is never =
-    let dir = (setup_of c.args.repo.now).settings.git_dir in
-    removable _ _ _ dir c.args.how.now.dry_run c.args.talked.received c.in_ok-updates.updates c.in_ok-taken.taken c.in_err-status.field-0.0 c.in_ok-taken.ensures.told c.in_ok-taken.ensures.made c.in_err-status.ensures.in_the_way c.in_err-status.ensures.refused (c.in_ok-taken.ensures.may_fail ∙ never)
+    record {
+      dry = λ is. c.in_ok-status.ensures.unread (rw c.in_ok-taken.ensures.told (kept_none dir dry r (dry_none dry r is))) ∙ c.in_ok-taken.ensures.unread (dry_none dry r is);
+      unread = λ none.
+          let no_pack = made_none dir dry r (sym (made_is dir dry r u) ∙ sym (ap (λ (s : Status). made_in dir s) (told ∙ status_is dir dry r u)) ∙ none) in
+          c.in_ok-status.ensures.unread (rw c.in_ok-taken.ensures.told (kept_none dir dry r no_pack)) ∙ c.in_ok-taken.ensures.unread no_pack;
+      early = tt;
+    }
 
 pub move_refs-requires : goal.move_refs-requires
 move_refs-requires g c =
