@@ -3,36 +3,36 @@
 use crate::refusals;
 use crate::setting::Setting;
 use fetch_clone::PrepareFetch;
-use fetch_negotiate::{Depth, Shallow};
-use fetch_remote::{ScriptedConnect, ref_map};
+use fetch_remote::connect::Connect;
+use fetch_remote::ref_map;
 use fetch_specs::{Operation, RefSpec, parse};
 use fetch_store::{Files, List, NoMemory, Text};
 use std::alloc::Global;
 
 /// The clone as the row asks for it, but for its closures. What is refused is told, and passed over.
-pub(crate) fn built<F: Files + Drop, R: Drop, G: Drop>(
+pub(crate) fn built<F: Files + Drop, C: Connect + Drop, R: Drop, G: Drop>(
     alloc: Global,
     setting: &Setting,
-    clone: PrepareFetch<F, ScriptedConnect, R, G>,
+    clone: PrepareFetch<F, C, R, G>,
     out: &mut Vec<u8>,
-) -> Result<PrepareFetch<F, ScriptedConnect, R, G>, NoMemory> {
+) -> Result<PrepareFetch<F, C, R, G>, NoMemory> {
     let overrides = copies_of(alloc, &setting.overrides)?;
     let mut options = ref_map::Options::new(alloc);
     options.extra_refspecs = List::from(specs_of(alloc, &setting.specs)?);
     let clone = clone
         .with_in_memory_config_overrides(overrides)
         .with_fetch_options(options)
-        .with_shallow(shallow_of(setting.depth));
+        .with_shallow(setting.shallow.try_clone()?);
     let clone = with_remote_name(setting, clone, out)?;
     let clone = with_ref_name(setting, clone, out)?;
     with_revision(setting, clone, out)
 }
 
-fn with_remote_name<F: Files + Drop, R: Drop, G: Drop>(
+fn with_remote_name<F: Files + Drop, C: Connect + Drop, R: Drop, G: Drop>(
     setting: &Setting,
-    clone: PrepareFetch<F, ScriptedConnect, R, G>,
+    clone: PrepareFetch<F, C, R, G>,
     out: &mut Vec<u8>,
-) -> Result<PrepareFetch<F, ScriptedConnect, R, G>, NoMemory> {
+) -> Result<PrepareFetch<F, C, R, G>, NoMemory> {
     let Some(name) = &setting.remote_name else {
         return Ok(clone);
     };
@@ -45,11 +45,11 @@ fn with_remote_name<F: Files + Drop, R: Drop, G: Drop>(
     }
 }
 
-fn with_ref_name<F: Files + Drop, R: Drop, G: Drop>(
+fn with_ref_name<F: Files + Drop, C: Connect + Drop, R: Drop, G: Drop>(
     setting: &Setting,
-    clone: PrepareFetch<F, ScriptedConnect, R, G>,
+    clone: PrepareFetch<F, C, R, G>,
     out: &mut Vec<u8>,
-) -> Result<PrepareFetch<F, ScriptedConnect, R, G>, NoMemory> {
+) -> Result<PrepareFetch<F, C, R, G>, NoMemory> {
     let Some(name) = &setting.ref_name else {
         return Ok(clone);
     };
@@ -62,11 +62,11 @@ fn with_ref_name<F: Files + Drop, R: Drop, G: Drop>(
     }
 }
 
-fn with_revision<F: Files + Drop, R: Drop, G: Drop>(
+fn with_revision<F: Files + Drop, C: Connect + Drop, R: Drop, G: Drop>(
     setting: &Setting,
-    clone: PrepareFetch<F, ScriptedConnect, R, G>,
+    clone: PrepareFetch<F, C, R, G>,
     out: &mut Vec<u8>,
-) -> Result<PrepareFetch<F, ScriptedConnect, R, G>, NoMemory> {
+) -> Result<PrepareFetch<F, C, R, G>, NoMemory> {
     let Some(revision) = &setting.revision else {
         return Ok(clone);
     };
@@ -76,17 +76,6 @@ fn with_revision<F: Files + Drop, R: Drop, G: Drop>(
             refusals::of_revision(out, &e)?;
             Ok(clone)
         }
-    }
-}
-
-/// A change of depth, or none for 0.
-fn shallow_of(depth: u64) -> Shallow {
-    match u32::try_from(depth) {
-        Ok(depth) => match Depth::new(depth) {
-            Some(depth) => Shallow::DepthAtRemote(depth),
-            None => Shallow::NoChange,
-        },
-        Err(_) => Shallow::NoChange,
     }
 }
 

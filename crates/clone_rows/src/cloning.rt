@@ -1,215 +1,170 @@
-//! Clones, and what stands after each try.
+//! Clones, from peers that say what a row has or from servers, over files in memory or on the host.
 
-ghost use Rattle.std.specs.Prelude.{◌≡◌, IfOk, true};
-ghost use Rattle.std.specs.List.{list_all};
-ghost use Rattle.fetch_remote.specs.Connecting.{is_fresh};
-
-use crate::building::built;
-use crate::refusals;
-use crate::setting::{Closures, Setting, agrees, as_it_is, committer, options};
-use crate::standing::say_file;
-use fetch_cli::append_state;
+use crate::said::maker_of;
+use crate::served::{ServedConnect, repository_of};
+use crate::setting::{Setting, agrees, as_it_is, committer, options};
+use crate::standing::say_place;
+use crate::trying::{Course, Ending, tell_clone};
 use fetch_clone::create::Options;
-use fetch_clone::{ConfigureFault, HostFiles, PrepareFetch};
-use fetch_remote::phases::NoProgress;
-use fetch_remote::{Remote, Repository, ScriptedConnect};
-use fetch_store::{Files, MemoryFiles, NoMemory, Text, decimal};
-use fetch_update::ScriptedWorktrees;
-use fetch_wire::{ScriptedInterrupt, ScriptedPeer};
-use rows::{lines, say, say_lines, split_word};
+use fetch_clone::{HostFiles, PrepareFetch};
+use fetch_remote::Repository;
+use fetch_remote::connect::Connect;
+use fetch_serve::{ServeError, Server};
+use fetch_store::{Files, MemoryFiles, NoMemory, decimal};
+use rows::{lines, say, say_printed, split_word};
 use std::alloc::{Alloc, Global};
 use std::fs::Files as HostCalls;
 use std::thread::Threads;
 
-fn refusal(alloc: Global) -> Result<ConfigureFault, NoMemory> {
-    Ok(ConfigureFault::Refused {
-        text: Text::new(alloc, b"no")?,
-    })
-}
-
-/// A peer that says these bytes at once.
-fn peer_of(alloc: Global, said: &Text) -> Result<ScriptedPeer, NoMemory>
-    ensures { IfOk result (λ peer. is_fresh peer ≡ true) }
-{
-    let mut pieces = Vec::new(alloc);
-    pieces.push(said.try_clone()?)?;
-    Ok(ScriptedPeer::new(alloc, pieces, Vec::new(alloc)))
-}
-
-fn peers_of(alloc: Global, said: &[Text]) -> Result<Vec<ScriptedPeer>, NoMemory>
-    ensures { IfOk result (λ peers. list_all is_fresh peers.items ≡ true) }
-{
-    let mut peers = Vec::new(alloc);
-    for text in said {
-        peers.push(peer_of(alloc, text)?)?;
+/// Where a clone is to stand.
+fn creation(setting: &Setting) -> Options {
+    if setting.is_used {
+        Options {
+            destination_must_be_empty: Some(false),
+            ..Options::default()
+        }
+    } else {
+        Options::default()
     }
-    Ok(peers)
 }
 
-/// Clones what a row says over files in memory, with so many tries.
-fn clone<T: Threads + Sync>(
-    rt: &T,
-    alloc: Global,
-    setting: &Setting,
-    tries: u64,
-    out: &mut Vec<u8>,
-) -> Result<(), NoMemory> {
-    let files = MemoryFiles::new(alloc, Vec::from_slice(alloc, &setting.files)?);
-    clone_over(rt, alloc, setting, files, b"/w", tries, out)
-}
-
-/// The same over those of the host, in a directory `made` where the program runs, which is removed then.
-fn clone_on_host<T: Threads + Sync + HostCalls + Alloc<A = Global> + Clone + Drop>(
-    rt: &T,
-    alloc: Global,
-    setting: &Setting,
-    tries: u64,
-    out: &mut Vec<u8>,
-) -> Result<(), NoMemory> {
-    let own = HostFiles::new(rt.clone()?);
-    clone_over(rt, alloc, setting, own, b"made", tries, out)?;
-    let mut files = HostFiles::new(rt.clone()?);
-    let _ = files.remove_dir_all(b"made");
-    Ok(())
-}
-
-/// Clones what a row says into this place.
-// Many arguments: the row, the files and the place, and what each row is told with.
-fn clone_over<T: Threads + Sync, F: Files + Drop>(
+/// Clones what a row says into this place, by these peers.
+// Many arguments: the row, the files, the maker and the place, and what each row is told with.
+fn clone_over<T: Threads + Sync, F: Files + Drop, C: Connect + Drop>(
     rt: &T,
     alloc: Global,
     setting: &Setting,
     files: F,
+    maker: C,
     place: &[u8],
-    tries: u64,
+    course: Course,
     out: &mut Vec<u8>,
 ) -> Result<(), NoMemory> {
     let options = options(alloc, false)?;
     let committer = committer(alloc)?;
-    let failing = Vec::from_slice(alloc, &setting.unmade)?;
-    let maker = ScriptedConnect::new(alloc, peers_of(alloc, &setting.said)?, failing);
     let clone = PrepareFetch::new(
         alloc,
         setting.url.as_bytes(),
         place,
         setting.kind,
-        Options::default(),
+        creation(setting),
         options,
         committer,
         files,
         maker,
         as_it_is,
-        agrees,
+        agrees::<C::Peer>,
     );
     match clone {
-        Ok(clone) => tell_clone(rt, alloc, setting, clone, place, tries, out),
+        Ok(clone) => tell_clone(rt, alloc, setting, clone, place, course, out),
         Err(_) => say(out, &[b"unprepared"]),
     }
 }
 
-/// Sets the closures of a row, and clones.
-// Many arguments: the row, its clone and the place, and what each row is told with.
-fn tell_clone<T: Threads + Sync, F: Files + Drop, R, G>(
+/// Clones what a row says over files in memory, with so many tries.
+fn clone_in_memory<T: Threads + Sync, C: Connect + Drop>(
     rt: &T,
     alloc: Global,
     setting: &Setting,
-    clone: PrepareFetch<F, ScriptedConnect, R, G>,
-    place: &[u8],
+    maker: C,
     tries: u64,
-    out: &mut Vec<u8>,
-) -> Result<(), NoMemory>
-where
-    R: FnMut(Remote) -> Result<Remote, ConfigureFault> + Drop,
-    G: FnMut(&mut ScriptedPeer) -> Result<(), ConfigureFault> + Drop,
-    requires remote { (f : _) (x : _) → R.pre f x }
-    requires connection { (f : _) (x : _) → G.pre f x }
-{
-    let clone = built(alloc, setting, clone, out)?;
-    match setting.closures {
-        Closures::Usual => tell_tries(rt, alloc, clone, place, tries, out),
-        Closures::Remote => {
-            let clone = clone.configure_remote(as_it_is);
-            tell_tries(rt, alloc, clone, place, tries, out)
-        }
-        Closures::RefusesRemote => {
-            let clone = clone.configure_remote(move |_remote: Remote| Err(refusal(alloc)?));
-            tell_tries(rt, alloc, clone, place, tries, out)
-        }
-        Closures::RefusesPeer => {
-            let clone = clone.configure_connection(move |_peer: &mut ScriptedPeer| Err(refusal(
-                alloc,
-            )?));
-            tell_tries(rt, alloc, clone, place, tries, out)
-        }
-    }
-}
-
-/// Tries so often, and gives the clone up.
-fn tell_tries<T: Threads + Sync, F: Files + Drop, R, G>(
-    rt: &T,
-    alloc: Global,
-    clone: PrepareFetch<F, ScriptedConnect, R, G>,
-    place: &[u8],
-    tries: u64,
-    out: &mut Vec<u8>,
-) -> Result<(), NoMemory>
-where
-    R: FnMut(Remote) -> Result<Remote, ConfigureFault> + Drop,
-    G: FnMut(&mut ScriptedPeer) -> Result<(), ConfigureFault> + Drop,
-    requires remote { (f : _) (x : _) → R.pre f x }
-    requires connection { (f : _) (x : _) → G.pre f x }
-{
-    let mut clone = clone;
-    for _ in 0..tries {
-        tell_try(rt, alloc, &mut clone, out)?;
-    }
-    let mut files = clone.abandon();
-    say_place(alloc, &mut files, place, b"/.git/config", out)?;
-    say_place(alloc, &mut files, place, b"/config", out)
-}
-
-/// Tells a file under a place.
-fn say_place<F: Files>(
-    alloc: Global,
-    files: &mut F,
-    place: &[u8],
-    rest: &[u8],
     out: &mut Vec<u8>,
 ) -> Result<(), NoMemory> {
-    let mut path = Vec::from_slice(alloc, place)?;
-    path.extend_from_slice(rest)?;
-    say_file(files, &path, out)
+    let files = MemoryFiles::new(alloc, Vec::from_slice(alloc, &setting.files)?);
+    let course = Course {
+        tries,
+        ending: Ending::GivenUp,
+    };
+    clone_over(rt, alloc, setting, files, maker, b"/w", course, out)
 }
 
-/// Tries once, and tells what stands then.
-fn tell_try<T: Threads + Sync, F: Files + Drop, R, G>(
+/// The same from what its peers say.
+fn clone_from_script<T: Threads + Sync>(
     rt: &T,
     alloc: Global,
-    clone: &mut PrepareFetch<F, ScriptedConnect, R, G>,
+    setting: &Setting,
+    tries: u64,
     out: &mut Vec<u8>,
-) -> Result<(), NoMemory>
-where
-    R: FnMut(Remote) -> Result<Remote, ConfigureFault> + Drop,
-    G: FnMut(&mut ScriptedPeer) -> Result<(), ConfigureFault> + Drop,
-    requires remote { (f : _) (x : _) → R.pre f x }
-    requires connection { (f : _) (x : _) → G.pre f x }
-{
-    let mut interrupt = ScriptedInterrupt::new(Vec::new(alloc));
-    let mut worktrees = ScriptedWorktrees::new(Vec::new(alloc), Vec::new(alloc));
-    match clone.fetch_only(rt, &mut NoProgress, &mut interrupt, &mut worktrees) {
-        Ok((repo, _)) => tell_repository(alloc, &repo, out),
-        Err(e) => refusals::of_clone(out, &e),
+) -> Result<(), NoMemory> {
+    let maker = maker_of(alloc, &setting.said, &setting.unmade)?;
+    clone_in_memory(rt, alloc, setting, maker, tries, out)
+}
+
+/// The same from servers of a repository. Where it can't be served, it is told why.
+fn clone_from<T: Threads + Sync>(
+    rt: &T,
+    alloc: Global,
+    setting: &Setting,
+    repo: &Repository,
+    tries: u64,
+    out: &mut Vec<u8>,
+) -> Result<(), NoMemory> {
+    match Server::new(alloc, repo.store(), repo.refs(), repo.border()) {
+        Ok(server) => {
+            clone_in_memory(rt, alloc, setting, ServedConnect::new(server), tries, out)
+        }
+        Err(ServeError::NoMemory) => Err(NoMemory),
+        Err(e) => say_printed(out, b"unserved", &e),
     }
 }
 
-/// References, reflogs, border and ids, and the configuration in memory.
-fn tell_repository(alloc: Global, repo: &Repository, out: &mut Vec<u8>) -> Result<(), NoMemory> {
-    say(out, &[b"done"])?;
-    append_state(out, repo)?;
-    say(out, &[b"in memory"])?;
-    match repo.local().write(alloc, None) {
-        Ok(text) => say_lines(out, text.as_bytes()),
-        Err(_) => Err(NoMemory),
+/// The same from servers of the repository that the row says. Whether it says one.
+fn clone_from_server<T: Threads + Sync>(
+    rt: &T,
+    alloc: Global,
+    setting: &Setting,
+    tries: u64,
+    out: &mut Vec<u8>,
+) -> Result<bool, NoMemory> {
+    match repository_of(rt, alloc, setting.server.as_bytes())? {
+        Some(repo) => {
+            clone_from(rt, alloc, setting, &repo, tries, out)?;
+            Ok(true)
+        }
+        None => Ok(false),
+    }
+}
+
+/// Puts a file of the user's at the place, where the row has one there.
+fn prepare_place<F: Files>(setting: &Setting, files: &mut F) {
+    if setting.is_used {
+        let _ = files.make_dir_all(b"made");
+        let _ = files.write(b"made/notes", b"mine\n");
+    }
+}
+
+/// Clones what a row says over the files of the host, in a directory `made` where the program runs, which is removed then. Where
+/// the clone isn't given up, what stands there is told before.
+fn clone_on_host<T: Threads + Sync + HostCalls + Alloc<A = Global> + Clone + Drop>(
+    rt: &T,
+    alloc: Global,
+    setting: &Setting,
+    course: Course,
+    out: &mut Vec<u8>,
+) -> Result<(), NoMemory> {
+    let mut files = HostFiles::new(rt.clone()?);
+    prepare_place(setting, &mut files);
+    let own = HostFiles::new(rt.clone()?);
+    let maker = maker_of(alloc, &setting.said, &setting.unmade)?;
+    clone_over(rt, alloc, setting, own, maker, b"made", course, out)?;
+    if course.ending != Ending::GivenUp {
+        say_place(&mut files, b"made/.git/config", out)?;
+        say_place(&mut files, b"made/notes", out)?;
+    }
+    let _ = files.remove_dir_all(b"made");
+    Ok(())
+}
+
+/// How a clone on the host ends, where a word asks for one.
+fn ending_of(word: &[u8]) -> Option<Ending> {
+    if word == b"clone-on-host".as_slice() {
+        Some(Ending::GivenUp)
+    } else if word == b"drop-on-host".as_slice() {
+        Some(Ending::Dropped)
+    } else if word == b"persist-on-host".as_slice() {
+        Some(Ending::Persisted)
+    } else {
+        None
     }
 }
 
@@ -226,44 +181,51 @@ fn tell_clones<T: Threads + Sync + HostCalls + Alloc<A = Global> + Clone + Drop>
         return Ok(false);
     };
     if word == b"clone".as_slice() {
-        clone(rt, alloc, setting, tries, out)?;
-        Ok(true)
-    } else if word == b"clone-on-host".as_slice() {
-        clone_on_host(rt, alloc, setting, tries, out)?;
-        Ok(true)
-    } else {
-        Ok(false)
+        clone_from_script(rt, alloc, setting, tries, out)?;
+        return Ok(true);
+    }
+    if word == b"clone-from-server".as_slice() {
+        return clone_from_server(rt, alloc, setting, tries, out);
+    }
+    match ending_of(word) {
+        Some(ending) => {
+            clone_on_host(rt, alloc, setting, Course { tries, ending }, out)?;
+            Ok(true)
+        }
+        None => Ok(false),
     }
 }
 
-/// Takes a line of a row, or clones what the row says. Whether it is such a line.
+/// Puts down what was told, or that it is the same as by the clone before.
+fn append_told(out: &mut Vec<u8>, told: &[u8], last: &[u8]) -> Result<(), NoMemory> {
+    if told == last {
+        say(out, &[b"the same"])
+    } else {
+        out.extend_from_slice(told)?;
+        Ok(())
+    }
+}
+
+/// Takes a line of a row, or clones what the row says, where `last` is what the clone before told. Whether it is such a line.
+// Many arguments: the row and its line, and what each row is told with.
 fn tell_line<T: Threads + Sync + HostCalls + Alloc<A = Global> + Clone + Drop>(
     rt: &T,
     alloc: Global,
     setting: &mut Setting,
     line: &[u8],
+    last: &mut Vec<u8>,
     out: &mut Vec<u8>,
 ) -> Result<bool, NoMemory> {
     let (word, rest) = split_word(line);
     if setting.take(alloc, word, rest)? {
-        Ok(true)
-    } else {
-        tell_clones(rt, alloc, setting, word, rest, out)
+        return Ok(true);
     }
-}
-
-fn tell_lines<T: Threads + Sync + HostCalls + Alloc<A = Global> + Clone + Drop>(
-    rt: &T,
-    alloc: Global,
-    setting: &mut Setting,
-    text: &[u8],
-    out: &mut Vec<u8>,
-) -> Result<bool, NoMemory> {
-    for line in &lines(alloc, text)? {
-        if !tell_line(rt, alloc, setting, line, out)? {
-            return Ok(false);
-        }
+    let mut told = Vec::new(alloc);
+    if !tell_clones(rt, alloc, setting, word, rest, &mut told)? {
+        return Ok(false);
     }
+    append_told(out, &told, last)?;
+    *last = told;
     Ok(true)
 }
 
@@ -274,6 +236,12 @@ pub(crate) fn tell<T: Threads + Sync + HostCalls + Alloc<A = Global> + Clone + D
     text: &[u8],
     out: &mut Vec<u8>,
 ) -> Result<bool, NoMemory> {
-    let mut setting = Setting::new(alloc)?;
-    tell_lines(rt, alloc, &mut setting, text, out)
+    let mut setting = Box::new(alloc, Setting::new(alloc)?)?;
+    let mut last = Vec::new(alloc);
+    for line in &lines(alloc, text)? {
+        if !tell_line(rt, alloc, &mut setting, line, &mut last, out)? {
+            return Ok(false);
+        }
+    }
+    Ok(true)
 }

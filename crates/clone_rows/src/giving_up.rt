@@ -6,6 +6,7 @@ use fetch_clone::create::{Kind, Options};
 use fetch_clone::{HostFiles, PrepareFetch};
 use fetch_remote::ScriptedConnect;
 use fetch_store::{MemoryFiles, NoMemory};
+use fetch_wire::ScriptedPeer;
 use rows::say;
 use std::alloc::{Alloc, Global};
 use std::fs::Files as HostCalls;
@@ -30,7 +31,7 @@ pub(crate) fn give_up(
         files,
         ScriptedConnect::new(alloc, Vec::new(alloc), Vec::new(alloc)),
         as_it_is,
-        agrees,
+        agrees::<ScriptedPeer>,
     );
     match clone {
         Ok(clone) => Ok(clone.abandon()),
@@ -61,7 +62,7 @@ pub(crate) fn tell_dropped<R: HostCalls + Alloc<A = Global> + Clone + Drop>(
         own,
         ScriptedConnect::new(alloc, Vec::new(alloc), Vec::new(alloc)),
         as_it_is,
-        agrees,
+        agrees::<ScriptedPeer>,
     );
     let told = say_place(files, b"made/.git/config", out);
     drop(clone);

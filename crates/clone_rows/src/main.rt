@@ -7,11 +7,14 @@ mod creating;
 mod giving_up;
 mod making;
 mod refusals;
+mod said;
+mod served;
 mod setting;
 mod standing;
+mod trying;
 
 use fetch_store::NoMemory;
-use rows::{Row, end, read_input, rows_of, say};
+use rows::{Row, run_rows};
 use std::alloc::{Alloc, Global};
 use std::fs::Files as HostCalls;
 use std::process::ExitCode;
@@ -24,7 +27,6 @@ fn tell_row<T: Threads + Sync + HostCalls + Alloc<A = Global> + Clone + Drop>(
     row: &Row<'_>,
     out: &mut Vec<u8>,
 ) -> Result<bool, NoMemory> {
-    say(out, &[b"=", row.whose, row.about])?;
     if row.whose == b"clone".as_slice() {
         cloning::tell(rt, alloc, row.lines, out)
     } else if row.whose == b"memory".as_slice() {
@@ -36,28 +38,7 @@ fn tell_row<T: Threads + Sync + HostCalls + Alloc<A = Global> + Clone + Drop>(
     }
 }
 
-/// What all rows tell. Whether they are rows.
-fn tell_all<T: Threads + Sync + HostCalls + Alloc<A = Global> + Clone + Drop>(
-    rt: &T,
-    alloc: Global,
-    bytes: &[u8],
-    out: &mut Vec<u8>,
-) -> Result<bool, NoMemory> {
-    let Some(rows) = rows_of(alloc, bytes)? else {
-        return Ok(false);
-    };
-    for row in &rows {
-        if !tell_row(rt, alloc, row, out)? {
-            return Ok(false);
-        }
-    }
-    Ok(true)
-}
-
 fn main(rt: HostRuntime) -> ExitCode {
-    let mut out = Vec::new(rt.alloc());
-    match read_input(&rt) {
-        Ok(bytes) => end(&rt, tell_all(&rt, rt.alloc(), &bytes, &mut out), &out),
-        Err(_) => ExitCode::from(2),
-    }
+    let alloc = rt.alloc();
+    run_rows(&rt, |row, out| tell_row(&rt, alloc, row, out))
 }

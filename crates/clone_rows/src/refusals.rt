@@ -2,11 +2,11 @@
 
 use fetch_clone::clone::fetch::Error;
 use fetch_clone::with_revision;
-use fetch_remote::{OpenError, fetch, name, prepare, ref_map, save};
+use fetch_remote::{OpenError, connect, fetch, name, prepare, ref_map, save};
 use fetch_specs::NameError;
-use fetch_store::{NoMemory, ObjectId, append_hex};
+use fetch_store::{NoMemory, ObjectId, Text, append_hex};
 use fetch_wire::WireError;
-use rows::say;
+use rows::{say, say_texts};
 
 /// A refusal with these words after it.
 fn refused(out: &mut Vec<u8>, words: &[&[u8]]) -> Result<(), NoMemory> {
@@ -33,6 +33,15 @@ pub(crate) fn of_revision(out: &mut Vec<u8>, e: &with_revision::Error) -> Result
         with_revision::Error::Parse(_) => refused(out, &[b"Parse"]),
         with_revision::Error::Invalid => refused(out, &[b"Invalid"]),
         with_revision::Error::NoMemory => Err(NoMemory),
+    }
+}
+
+/// A refusal of a maker of peers.
+fn of_connect(out: &mut Vec<u8>, e: connect::Error) -> Result<(), NoMemory> {
+    match e {
+        connect::Error::MissingUrl { .. } => refused(out, &[b"Connect", b"MissingUrl"]),
+        connect::Error::Connect => refused(out, &[b"Connect"]),
+        connect::Error::NoMemory => Err(NoMemory),
     }
 }
 
@@ -76,10 +85,12 @@ fn receiving_word(e: &fetch::Error) -> &'static [u8] {
     match e {
         fetch::Error::Fetch(e) => wire_word(e),
         fetch::Error::Client => b"Client",
+        fetch::Error::Interrupted => b"Interrupted",
         fetch::Error::Disconnected { .. } => b"Disconnected",
         fetch::Error::KeepFile { .. } => b"KeepFile",
         fetch::Error::RemovePackKeepFile { .. } => b"RemovePackKeepFile",
         fetch::Error::IncompatibleObjectHash { .. } => b"IncompatibleObjectHash",
+        fetch::Error::RejectShallowRemote { .. } => b"RejectShallowRemote",
         fetch::Error::UpdateRefs(_) => b"UpdateRefs",
         _ => b"Pack",
     }
@@ -95,7 +106,7 @@ fn saving_word(e: &save::AsError) -> &'static [u8] {
 /// A refusal that keeps a refusal of a call.
 fn of_call(out: &mut Vec<u8>, e: &Error) -> Result<(), NoMemory> {
     match e {
-        Error::Connect(_) => refused(out, &[b"Connect"]),
+        Error::Connect(e) => of_connect(out, *e),
         Error::RefMap(e) => refused(out, &[b"RefMap", listing_word(e)]),
         Error::PrepareFetch(e) => refused(out, &[b"PrepareFetch", preparing_word(e)]),
         Error::Fetch(e) => refused(out, &[b"Fetch", receiving_word(e)]),
@@ -107,14 +118,20 @@ fn of_call(out: &mut Vec<u8>, e: &Error) -> Result<(), NoMemory> {
     }
 }
 
+/// A refusal of a name that may mean several references, which are told.
+fn of_candidates(out: &mut Vec<u8>, wanted: &[u8], candidates: &[Text]) -> Result<(), NoMemory> {
+    refused(out, &[b"RefNameAmbiguous", wanted])?;
+    say_texts(out, b"may be", candidates)
+}
+
 /// A refusal of what is meant by a text.
 fn of_text(out: &mut Vec<u8>, e: &Error) -> Result<(), NoMemory> {
     match e {
         Error::RefNameMissing { wanted } => {
             refused(out, &[b"RefNameMissing", wanted.as_bytes()])
         }
-        Error::RefNameAmbiguous { wanted, .. } => {
-            refused(out, &[b"RefNameAmbiguous", wanted.as_bytes()])
+        Error::RefNameAmbiguous { wanted, candidates } => {
+            of_candidates(out, wanted.as_bytes(), candidates.as_slice())
         }
         Error::InvalidHeadRef { head_ref_name } => {
             refused(out, &[b"InvalidHeadRef", head_ref_name.as_bytes()])

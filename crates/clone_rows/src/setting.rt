@@ -1,12 +1,14 @@
 //! What the lines of a row say of a clone.
 
+use crate::said::Said;
 use fetch_clone::ConfigureFault;
 use fetch_clone::create::Kind;
 use fetch_config::{File, Meta, Origin};
+use fetch_negotiate::{Depth, Shallow};
 use fetch_refs::Signature;
 use fetch_remote::{OpenOptions, Remote};
+use fetch_specs::{NameError, PartialName};
 use fetch_store::{List, NoMemory, Text, decimal};
-use fetch_wire::ScriptedPeer;
 use rows::{decoded, split_word};
 use std::alloc::Global;
 
@@ -21,6 +23,10 @@ pub(crate) enum Closures {
     RefusesRemote,
     /// The one for the peer refuses.
     RefusesPeer,
+    /// The builder sets one that answers a remote without an address.
+    Nowhere,
+    /// The builder sets one that answers a remote whose address no configuration can have.
+    Unsaveable,
 }
 
 /// What is cloned, and how.
@@ -31,16 +37,24 @@ pub(crate) struct Setting {
     pub(crate) remote_name: Option<Text>,
     pub(crate) ref_name: Option<Text>,
     pub(crate) revision: Option<Text>,
-    pub(crate) depth: u64,
+    pub(crate) shallow: Shallow,
     pub(crate) specs: Vec<Text>,
     pub(crate) overrides: Vec<Text>,
     pub(crate) closures: Closures,
     /// What each peer that is made says.
-    pub(crate) said: Vec<Text>,
+    pub(crate) said: Vec<Said>,
+    /// The scene of the server that peers are made of, where they are.
+    pub(crate) server: Text,
     /// The makings that fail, from 0.
     pub(crate) unmade: Vec<u64>,
     /// The calls of files that fail, from 0.
     pub(crate) files: Vec<u64>,
+    /// The calls of work trees that fail, from 0.
+    pub(crate) worktrees: Vec<u64>,
+    /// The questions that the interrupt answers with yes, from 0.
+    pub(crate) yes: Vec<u64>,
+    /// Whether a file of the user's stands at the place, which needn't be empty then.
+    pub(crate) is_used: bool,
 }
 
 /// Options without overrides, before an empty base.
@@ -76,7 +90,7 @@ pub(crate) fn as_it_is(remote: Remote) -> Result<Remote, ConfigureFault> {
 }
 
 /// A peer as it is.
-pub(crate) fn agrees(_peer: &mut ScriptedPeer) -> Result<(), ConfigureFault> {
+pub(crate) fn agrees<P>(_peer: &mut P) -> Result<(), ConfigureFault> {
     Ok(())
 }
 
@@ -87,6 +101,10 @@ fn closures_of(word: &[u8]) -> Option<Closures> {
         Some(Closures::RefusesRemote)
     } else if word == b"no-peer".as_slice() {
         Some(Closures::RefusesPeer)
+    } else if word == b"nowhere".as_slice() {
+        Some(Closures::Nowhere)
+    } else if word == b"unsaveable".as_slice() {
+        Some(Closures::Unsaveable)
     } else {
         None
     }
@@ -103,6 +121,35 @@ fn push_number(numbers: &mut Vec<u64>, digits: &[u8]) -> Result<bool, NoMemory> 
     }
 }
 
+/// That many commits. None for 0.
+fn depth_of(digits: &[u8]) -> Option<Shallow> {
+    let depth = u32::try_from(decimal(digits)?).ok()?;
+    Some(Shallow::DepthAtRemote(Depth::new(depth)?))
+}
+
+/// The commits since a time.
+fn since(digits: &[u8]) -> Option<Shallow> {
+    Some(Shallow::Since {
+        cutoff: decimal(digits)?,
+    })
+}
+
+/// The commits that a name doesn't reach. None where it is none.
+fn without(alloc: Global, name: &[u8]) -> Result<Option<Shallow>, NoMemory> {
+    match PartialName::new(alloc, name) {
+        Ok(name) => {
+            let mut remote_refs = List::new(alloc);
+            remote_refs.push(name)?;
+            Ok(Some(Shallow::Exclude {
+                remote_refs,
+                since_cutoff: None,
+            }))
+        }
+        Err(NameError::Invalid { .. }) => Ok(None),
+        Err(NameError::NoMemory) => Err(NoMemory),
+    }
+}
+
 impl Setting {
     /// A clone of `/srv/a.git` with a work tree, of which nothing was asked, without peers, where nothing fails.
     pub(crate) fn new(alloc: Global) -> Result<Setting, NoMemory> {
@@ -112,13 +159,17 @@ impl Setting {
             remote_name: None,
             ref_name: None,
             revision: None,
-            depth: 0,
+            shallow: Shallow::NoChange,
             specs: Vec::new(alloc),
             overrides: Vec::new(alloc),
             closures: Closures::Usual,
             said: Vec::new(alloc),
+            server: Text::new(alloc, b"")?,
             unmade: Vec::new(alloc),
             files: Vec::new(alloc),
+            worktrees: Vec::new(alloc),
+            yes: Vec::new(alloc),
+            is_used: false,
         })
     }
 
@@ -130,17 +181,71 @@ impl Setting {
         rest: &[u8],
     ) -> Result<bool, NoMemory> {
         if word == b"says".as_slice() {
-            self.said.push(Text::from(decoded(alloc, rest)?))?;
+            let piece = Text::from(decoded(alloc, rest)?);
+            self.said.push(Said::new(alloc, piece)?)?;
             Ok(true)
-        } else if word == b"bare".as_slice() {
-            self.kind = Kind::Bare;
+        } else if word == b"adds".as_slice() {
+            self.take_piece(Text::from(decoded(alloc, rest)?))
+        } else if word == b"server".as_slice() {
+            self.server = Text::from(decoded(alloc, rest)?);
             Ok(true)
+        } else if word == b"yes".as_slice() {
+            push_number(&mut self.yes, rest)
         } else if word == b"fail".as_slice() {
             self.take_fault(rest)
+        } else {
+            self.take_choice(alloc, word, rest)
+        }
+    }
+
+    /// One more piece of the last peer. Whether there is one.
+    fn take_piece(&mut self, piece: Text) -> Result<bool, NoMemory> {
+        match self.said.last_mut() {
+            Some(said) => {
+                said.pieces.push(piece)?;
+                Ok(true)
+            }
+            None => Ok(false),
+        }
+    }
+
+    /// Takes that a call fails. Whether it is said whose, and which.
+    fn take_fault(&mut self, rest: &[u8]) -> Result<bool, NoMemory> {
+        let (whose, digits) = split_word(rest);
+        if whose == b"files".as_slice() {
+            push_number(&mut self.files, digits)
+        } else if whose == b"maker".as_slice() {
+            push_number(&mut self.unmade, digits)
+        } else if whose == b"worktrees".as_slice() {
+            push_number(&mut self.worktrees, digits)
+        } else if whose == b"peer".as_slice() {
+            match self.said.last_mut() {
+                Some(said) => push_number(&mut said.failing, digits),
+                None => Ok(false),
+            }
+        } else {
+            Ok(false)
+        }
+    }
+
+    /// Takes what is chosen.
+    fn take_choice(&mut self, alloc: Global, word: &[u8], rest: &[u8]) -> Result<bool, NoMemory> {
+        if word == b"bare".as_slice() {
+            self.kind = Kind::Bare;
+            Ok(true)
+        } else if word == b"used".as_slice() {
+            self.is_used = true;
+            Ok(true)
         } else if word == b"closures".as_slice() {
             Ok(self.take_closures(rest))
+        } else if word == b"depth".as_slice() {
+            Ok(self.take_shallow(depth_of(rest)))
+        } else if word == b"since".as_slice() {
+            Ok(self.take_shallow(since(rest)))
+        } else if word == b"not".as_slice() {
+            Ok(self.take_shallow(without(alloc, rest)?))
         } else {
-            self.take_text(alloc, word, rest)
+            self.take_text(word, Text::new(alloc, rest)?)
         }
     }
 
@@ -154,50 +259,33 @@ impl Setting {
         }
     }
 
-    /// Takes that a call fails. Whether it is said whose, and which.
-    fn take_fault(&mut self, rest: &[u8]) -> Result<bool, NoMemory> {
-        let (whose, digits) = split_word(rest);
-        if whose == b"files".as_slice() {
-            push_number(&mut self.files, digits)
-        } else if whose == b"maker".as_slice() {
-            push_number(&mut self.unmade, digits)
-        } else {
-            Ok(false)
+    fn take_shallow(&mut self, shallow: Option<Shallow>) -> bool {
+        match shallow {
+            Some(shallow) => {
+                self.shallow = shallow;
+                true
+            }
+            None => false,
         }
     }
 
     /// Takes what is chosen by a text.
-    fn take_text(&mut self, alloc: Global, word: &[u8], rest: &[u8]) -> Result<bool, NoMemory> {
-        let text = Text::new(alloc, rest)?;
+    fn take_text(&mut self, word: &[u8], text: Text) -> Result<bool, NoMemory> {
         if word == b"url".as_slice() {
             self.url = text;
-            Ok(true)
         } else if word == b"name".as_slice() {
             self.remote_name = Some(text);
-            Ok(true)
         } else if word == b"ref".as_slice() {
             self.ref_name = Some(text);
-            Ok(true)
         } else if word == b"revision".as_slice() {
             self.revision = Some(text);
-            Ok(true)
-        } else {
-            self.take_list(word, text)
-        }
-    }
-
-    fn take_list(&mut self, word: &[u8], text: Text) -> Result<bool, NoMemory> {
-        if word == b"spec".as_slice() {
+        } else if word == b"spec".as_slice() {
             self.specs.push(text)?;
-            Ok(true)
         } else if word == b"override".as_slice() {
             self.overrides.push(text)?;
-            Ok(true)
-        } else if word == b"depth".as_slice() {
-            self.depth = decimal(text.as_bytes()).unwrap_or(0);
-            Ok(self.depth > 0)
         } else {
-            Ok(false)
+            return Ok(false);
         }
+        Ok(true)
     }
 }

@@ -201,7 +201,7 @@ fn tell_fault(
 }
 
 /// Fetches what the scene of a row says, once for each line that names what fails. Whether each of them does.
-pub(crate) fn tell(
+pub(crate) fn tell_faults(
     rt: &(impl Threads + Sync),
     alloc: Global,
     row: &Row<'_>,

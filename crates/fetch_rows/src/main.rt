@@ -7,7 +7,7 @@ mod remotes;
 mod scenes;
 
 use fetch_store::NoMemory;
-use rows::{Row, end, read_input, rows_of, say};
+use rows::{Row, run_rows};
 use std::alloc::Global;
 use std::process::ExitCode;
 use std::thread::Threads;
@@ -19,13 +19,12 @@ fn tell_row(
     row: &Row<'_>,
     out: &mut Vec<u8>,
 ) -> Result<bool, NoMemory> {
-    say(out, &[b"=", row.whose, row.about])?;
     if row.whose == b"fetch".as_slice() || row.whose == b"check".as_slice() {
         scenes::tell_scene(rt, alloc, row, out)
     } else if row.whose == b"words".as_slice() {
         scenes::tell_words(rt, alloc, row.about, out)
     } else if row.whose == b"fault".as_slice() {
-        faults::tell(rt, alloc, row, out)
+        faults::tell_faults(rt, alloc, row, out)
     } else if row.whose == b"remote".as_slice() {
         remotes::tell(alloc, row.lines, out)
     } else {
@@ -33,28 +32,7 @@ fn tell_row(
     }
 }
 
-/// What all rows tell. Whether they are rows.
-fn tell_all(
-    rt: &(impl Threads + Sync),
-    alloc: Global,
-    bytes: &[u8],
-    out: &mut Vec<u8>,
-) -> Result<bool, NoMemory> {
-    let Some(rows) = rows_of(alloc, bytes)? else {
-        return Ok(false);
-    };
-    for row in &rows {
-        if !tell_row(rt, alloc, row, out)? {
-            return Ok(false);
-        }
-    }
-    Ok(true)
-}
-
 fn main(rt: HostRuntime) -> ExitCode {
-    let mut out = Vec::new(rt.alloc());
-    match read_input(&rt) {
-        Ok(bytes) => end(&rt, tell_all(&rt, rt.alloc(), &bytes, &mut out), &out),
-        Err(_) => ExitCode::from(2),
-    }
+    let alloc = rt.alloc();
+    run_rows(&rt, |row, out| tell_row(&rt, alloc, row, out))
 }

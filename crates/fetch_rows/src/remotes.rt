@@ -13,8 +13,8 @@ mod setting;
 use self::opening::open;
 use self::setting::Setting;
 use fetch_remote::Repository;
-use fetch_store::NoMemory;
-use rows::{lines, say, split_word};
+use fetch_store::{NoMemory, after};
+use rows::{Question, say, tell_lines};
 use std::alloc::Global;
 
 /// Tells what is asked of a repository that stays as it is. Whether something is.
@@ -22,20 +22,19 @@ fn ask_of(
     alloc: Global,
     setting: &Setting,
     repo: &Repository,
-    what: &[u8],
-    rest: &[u8],
+    question: Question<'_>,
     out: &mut Vec<u8>,
 ) -> Result<bool, NoMemory> {
-    if finding::ask(alloc, repo, what, rest, out)? {
+    if finding::ask(alloc, repo, question, out)? {
         return Ok(true);
     }
-    if branches::ask(alloc, repo, what, rest, out)? {
+    if branches::ask_of_branches(alloc, repo, question, out)? {
         return Ok(true);
     }
-    if connecting::ask(alloc, repo, setting.peers.as_slice(), what, rest, out)? {
+    if connecting::ask(alloc, repo, setting.peers.as_slice(), question, out)? {
         return Ok(true);
     }
-    saving::ask(alloc, repo, setting.config.as_slice(), what, rest, out)
+    saving::ask(alloc, repo, setting.config.as_slice(), question, out)
 }
 
 /// Tells what is asked of a repository. Whether something is.
@@ -43,29 +42,27 @@ fn ask_or_change(
     alloc: Global,
     setting: &Setting,
     repo: &mut Repository,
-    what: &[u8],
-    rest: &[u8],
+    question: Question<'_>,
     out: &mut Vec<u8>,
 ) -> Result<bool, NoMemory> {
-    if ask_of(alloc, setting, repo, what, rest, out)? {
+    if ask_of(alloc, setting, repo, question, out)? {
         return Ok(true);
     }
-    deleting::ask(alloc, setting, repo, what, rest, out)
+    deleting::ask(alloc, setting, repo, question, out)
 }
 
 /// Tells what is asked. Whether something is, and of a repository.
 fn ask(
     alloc: Global,
     setting: &Setting,
-    question: &[u8],
+    question: Question<'_>,
     out: &mut Vec<u8>,
 ) -> Result<bool, NoMemory> {
-    let (what, rest) = split_word(question);
-    if what == b"open-with".as_slice() {
-        return overriding::tell(alloc, setting, rest, out);
+    if question.what == b"open-with".as_slice() {
+        return overriding::tell(alloc, setting, question.rest, out);
     }
     match open(alloc, setting)? {
-        Some(mut repo) => ask_or_change(alloc, setting, &mut repo, what, rest, out),
+        Some(mut repo) => ask_or_change(alloc, setting, &mut repo, question, out),
         None => Ok(false),
     }
 }
@@ -77,31 +74,22 @@ fn tell_line(
     line: &[u8],
     out: &mut Vec<u8>,
 ) -> Result<bool, NoMemory> {
-    let (word, rest) = split_word(line);
-    if word == b"?".as_slice() {
-        say(out, &[line])?;
-        ask(alloc, setting, rest, out)
-    } else {
-        setting.take(alloc, word, rest)
-    }
-}
-
-fn tell_lines(
-    alloc: Global,
-    setting: &mut Setting,
-    text: &[u8],
-    out: &mut Vec<u8>,
-) -> Result<bool, NoMemory> {
-    for line in &lines(alloc, text)? {
-        if !tell_line(alloc, setting, line, out)? {
-            return Ok(false);
+    match after(b"? ", line) {
+        Some(question) => {
+            say(out, &[line])?;
+            ask(alloc, setting, Question::of(question), out)
         }
+        None => setting.take(alloc, line),
     }
-    Ok(true)
 }
 
 /// Takes the lines of a row, and tells what they ask for. Whether they are such lines.
 pub(crate) fn tell(alloc: Global, text: &[u8], out: &mut Vec<u8>) -> Result<bool, NoMemory> {
     let mut setting = Setting::new(alloc);
-    tell_lines(alloc, &mut setting, text, out)
+    tell_lines(
+        alloc,
+        text,
+        out,
+        |line, out| tell_line(alloc, &mut setting, line, out),
+    )
 }

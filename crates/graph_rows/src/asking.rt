@@ -7,8 +7,8 @@ use crate::{
     calling, dated, judging, lines, negotiating, objects, reaching, references, replies, taking,
     walks,
 };
-use fetch_store::{Kind, NoMemory, ObjectId, Store};
-use rows::{lines as lines_of, say, split_word};
+use fetch_store::{Kind, NoMemory, ObjectId, ObjectKind, Store};
+use rows::{Question, say, split_word};
 use std::alloc::Global;
 use std::thread::Threads;
 
@@ -54,10 +54,10 @@ fn ask_of_objects(
     rt: &(impl Threads + Sync),
     alloc: Global,
     world: &World,
-    what: &[u8],
-    rest: &[u8],
+    question: Question<'_>,
     out: &mut Vec<u8>,
 ) -> Result<bool, NoMemory> {
+    let Question { what, rest } = question;
     if what == b"path".as_slice() {
         return ask_path(alloc, &world.store, rest, out);
     } else if what == b"reads".as_slice() {
@@ -84,15 +84,14 @@ fn ask_of_objects(
 fn ask_of_fetch(
     alloc: Global,
     world: &World,
-    what: &[u8],
-    rest: &[u8],
+    question: Question<'_>,
     out: &mut Vec<u8>,
 ) -> Result<bool, NoMemory> {
-    if what == b"told".as_slice() {
-        return negotiating::tell(alloc, world, rest, out);
-    } else if what == b"update".as_slice() {
-        return judging::tell(alloc, world, rest, out);
-    } else if what == b"tips".as_slice() {
+    if question.what == b"told".as_slice() {
+        return negotiating::tell_haves(alloc, world, question.rest, out);
+    } else if question.what == b"update".as_slice() {
+        return judging::tell_updates(alloc, world, question.rest, out);
+    } else if question.what == b"tips".as_slice() {
         references::tell_tips(alloc, world, out)?;
     } else {
         return Ok(false);
@@ -104,10 +103,10 @@ fn ask_of_fetch(
 fn ask_of_references(
     alloc: Global,
     world: &mut World,
-    what: &[u8],
-    rest: &[u8],
+    question: Question<'_>,
     out: &mut Vec<u8>,
 ) -> Result<bool, NoMemory> {
+    let Question { what, rest } = question;
     if what == b"make".as_slice() {
         references::make_edits(alloc, world, rest, out)?;
     } else if what == b"refs".as_slice() {
@@ -119,7 +118,7 @@ fn ask_of_references(
     } else if what == b"read-packed".as_slice() {
         references::read_packed(alloc, world, rest, out)?;
     } else {
-        return references::ask_of_name(alloc, world, what, rest, out);
+        return references::ask_of_name(alloc, world, question, out);
     }
     Ok(true)
 }
@@ -127,17 +126,16 @@ fn ask_of_references(
 /// Asks of what is read or walked over, without objects and references. Whether one of these questions is asked.
 fn ask_of_lines(
     alloc: Global,
-    what: &[u8],
-    rest: &[u8],
+    question: Question<'_>,
     out: &mut Vec<u8>,
 ) -> Result<bool, NoMemory> {
-    if what == b"walk".as_slice() {
-        return walks::tell(alloc, rest, out);
+    if question.what == b"walk".as_slice() {
+        return walks::tell(alloc, question.rest, out);
     }
-    if lines::ask(alloc, what, rest, out)? {
+    if lines::ask(alloc, question, out)? {
         return Ok(true);
     }
-    replies::ask(alloc, what, rest, out)
+    replies::ask(alloc, question, out)
 }
 
 /// Tells what is asked. Whether something is.
@@ -145,26 +143,25 @@ fn ask(
     rt: &(impl Threads + Sync),
     alloc: Global,
     world: &mut World,
-    question: &[u8],
+    question: Question<'_>,
     out: &mut Vec<u8>,
 ) -> Result<bool, NoMemory> {
-    let (what, rest) = split_word(question);
-    if ask_of_lines(alloc, what, rest, out)? {
+    if ask_of_lines(alloc, question, out)? {
         return Ok(true);
     }
-    if calling::ask(alloc, world, what, out)? {
+    if calling::ask(alloc, world, question.what, out)? {
         return Ok(true);
     }
-    if ask_of_objects(rt, alloc, world, what, rest, out)? {
+    if ask_of_objects(rt, alloc, world, question, out)? {
         return Ok(true);
     }
-    if ask_of_fetch(alloc, world, what, rest, out)? {
+    if ask_of_fetch(alloc, world, question, out)? {
         return Ok(true);
     }
-    if let Some(id) = id_of(rest) {
-        return ask_of_id(alloc, world, what, id, out);
+    if let Some(id) = id_of(question.rest) {
+        return ask_of_id(alloc, world, question.what, id, out);
     }
-    ask_of_references(alloc, world, what, rest, out)
+    ask_of_references(alloc, world, question, out)
 }
 
 /// Adds what a line puts down. Whether it puts something down.
@@ -172,16 +169,16 @@ fn put(
     rt: &(impl Threads + Sync),
     alloc: Global,
     world: &mut World,
-    line: &[u8],
+    word: &[u8],
+    rest: &[u8],
     out: &mut Vec<u8>,
 ) -> Result<bool, NoMemory> {
-    let (word, rest) = split_word(line);
     if word == b"add".as_slice() {
         return objects::add_pack(rt, alloc, &mut world.store, rest, out);
     } else if word == b"commit".as_slice() {
-        return objects::add_commit(alloc, &mut world.store, rest, out);
+        return objects::add(alloc, &mut world.store, ObjectKind::Commit, rest, out);
     } else if word == b"tag".as_slice() {
-        return objects::add_tag(alloc, &mut world.store, rest, out);
+        return objects::add(alloc, &mut world.store, ObjectKind::Tag, rest, out);
     } else if word == b"worktree".as_slice() {
         return judging::check_out(alloc, &mut world.worktrees, rest);
     } else if word == b"border".as_slice() {
@@ -197,7 +194,7 @@ fn put(
 
 /// Begins a row with nothing, for ids of SHA-1 (`=`) or of SHA-256 (`==`), or tells what a line asks for, or adds what it
 /// puts down. Whether it is such a line.
-fn tell_line(
+pub(crate) fn tell_line(
     rt: &(impl Threads + Sync),
     alloc: Global,
     world: &mut World,
@@ -207,7 +204,7 @@ fn tell_line(
     let (word, rest) = split_word(line);
     if word == b"?".as_slice() {
         say(out, &[line])?;
-        return ask(rt, alloc, world, rest, out);
+        return ask(rt, alloc, world, Question::of(rest), out);
     }
     if word == b"=".as_slice() || word == b"==".as_slice() {
         let hash = if word.len() == 1 {
@@ -219,31 +216,5 @@ fn tell_line(
         say(out, &[line])?;
         return Ok(true);
     }
-    put(rt, alloc, world, line, out)
-}
-
-fn tell_lines(
-    rt: &(impl Threads + Sync),
-    alloc: Global,
-    world: &mut World,
-    bytes: &[u8],
-    out: &mut Vec<u8>,
-) -> Result<bool, NoMemory> {
-    for line in &lines_of(alloc, bytes)? {
-        if !tell_line(rt, alloc, world, line, out)? {
-            return Ok(false);
-        }
-    }
-    Ok(true)
-}
-
-/// Tells what all lines ask for. Whether each of them is such a line.
-pub(crate) fn tell_all(
-    rt: &(impl Threads + Sync),
-    alloc: Global,
-    bytes: &[u8],
-    out: &mut Vec<u8>,
-) -> Result<bool, NoMemory> {
-    let mut world = World::new(alloc, Kind::Sha1);
-    tell_lines(rt, alloc, &mut world, bytes, out)
+    put(rt, alloc, world, word, rest, out)
 }

@@ -132,7 +132,7 @@ fn judged(
 }
 
 /// `<real or dry> <refspec> <mapping>*`: tells what becomes of the mappings. Whether the words are these.
-pub(crate) fn tell(
+pub(crate) fn tell_updates(
     alloc: Global,
     world: &World,
     rest: &[u8],

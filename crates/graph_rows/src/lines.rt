@@ -2,7 +2,7 @@
 
 use fetch_store::{NoMemory, after, decimal};
 use fetch_wire::{Interrupt, LineRef, ScriptedInterrupt, write_line};
-use rows::{decoded, refuse, say, say_number, split_word};
+use rows::{Question, decoded, refuse, say, say_number, split_word};
 use std::alloc::Global;
 
 /// `flush`, `delim`, or a payload after an equals sign.
@@ -67,17 +67,16 @@ fn tell_interrupt(alloc: Global, rest: &[u8], out: &mut Vec<u8>) -> Result<bool,
 /// Tells what is asked of lines and interrupts. Whether something is.
 pub(crate) fn ask(
     alloc: Global,
-    what: &[u8],
-    rest: &[u8],
+    question: Question<'_>,
     out: &mut Vec<u8>,
 ) -> Result<bool, NoMemory> {
-    if what == b"lines".as_slice() {
-        tell_written(alloc, rest, out)?;
+    if question.what == b"lines".as_slice() {
+        tell_written(alloc, question.rest, out)?;
         Ok(true)
-    } else if what == b"long-line".as_slice() {
-        tell_long(alloc, rest, out)
-    } else if what == b"interrupt".as_slice() {
-        tell_interrupt(alloc, rest, out)
+    } else if question.what == b"long-line".as_slice() {
+        tell_long(alloc, question.rest, out)
+    } else if question.what == b"interrupt".as_slice() {
+        tell_interrupt(alloc, question.rest, out)
     } else {
         Ok(false)
     }

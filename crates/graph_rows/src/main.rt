@@ -17,14 +17,17 @@ mod walks;
 mod words;
 mod world;
 
-use asking::tell_all;
-use rows::{end, read_input};
+use asking::tell_line;
+use fetch_store::Kind;
+use rows::run_lines;
 use std::process::ExitCode;
+use world::World;
 
 fn main(rt: HostRuntime) -> ExitCode {
-    let mut out = Vec::new(rt.alloc());
-    match read_input(&rt) {
-        Ok(bytes) => end(&rt, tell_all(&rt, rt.alloc(), &bytes, &mut out), &out),
-        Err(_) => ExitCode::from(2),
-    }
+    let alloc = rt.alloc();
+    let mut world = World::new(alloc, Kind::Sha1);
+    run_lines(
+        &rt,
+        |line, out| tell_line(&rt, alloc, &mut world, line, out),
+    )
 }

@@ -58,7 +58,7 @@ fn run(
 }
 
 /// `<algorithm> <tip> <id>`, or without an id that the other side has: tells the commits. Whether the words are these.
-pub(crate) fn tell(
+pub(crate) fn tell_haves(
     alloc: Global,
     world: &World,
     rest: &[u8],

@@ -81,27 +81,6 @@ fn entry_of(id: ObjectId, kind: ObjectKind, text: Vec<u8>) -> Option<(ObjectId, 
     }
 }
 
-/// Adds an object. Whether it is one of SHA-1.
-fn add(
-    alloc: Global,
-    store: &mut Store,
-    id: ObjectId,
-    kind: ObjectKind,
-    text: Vec<u8>,
-    out: &mut Vec<u8>,
-) -> Result<bool, NoMemory> {
-    let Some(entry) = entry_of(id, kind, text) else {
-        return Ok(false);
-    };
-    if !is_sha1(store) {
-        return Ok(false);
-    }
-    if let Err(e) = store.add_all(vec![in alloc; entry]?) {
-        refuse(out, &e)?;
-    }
-    Ok(true)
-}
-
 fn commit_text(alloc: Global, seconds: &[u8], parents: &[ObjectId]) -> Result<Vec<u8>, NoMemory> {
     let mut text = Vec::from_slice(alloc, b"tree 4b825dc642cb6eb9a060e54bf8d69288fbee4904\n")?;
     for parent in parents {
@@ -115,21 +94,15 @@ fn commit_text(alloc: Global, seconds: &[u8], parents: &[ObjectId]) -> Result<Ve
     Ok(text)
 }
 
-/// `<id> <seconds> <parents>`: adds a commit. Whether the words are these.
-pub(crate) fn add_commit(
-    alloc: Global,
-    store: &mut Store,
-    rest: &[u8],
-    out: &mut Vec<u8>,
-) -> Result<bool, NoMemory> {
+/// `<id> <seconds> <parents>`: the name and the text of a commit. None where the words aren't these.
+fn commit_of(alloc: Global, rest: &[u8]) -> Result<Option<(ObjectId, Vec<u8>)>, NoMemory> {
     let (id, rest) = split_word(rest);
     let (seconds, parents) = split_word(rest);
     let Some(id) = id_of(id) else {
-        return Ok(false);
+        return Ok(None);
     };
     let parents = ids_of(alloc, parents)?;
-    let text = commit_text(alloc, seconds, parents.as_slice())?;
-    add(alloc, store, id, ObjectKind::Commit, text, out)
+    Ok(Some((id, commit_text(alloc, seconds, parents.as_slice())?)))
 }
 
 fn tag_text(alloc: Global, target: &ObjectId, kind: &[u8]) -> Result<Vec<u8>, NoMemory> {
@@ -141,18 +114,39 @@ fn tag_text(alloc: Global, target: &ObjectId, kind: &[u8]) -> Result<Vec<u8>, No
     Ok(text)
 }
 
-/// `<id> <target> <kind>`: adds a tag of what is called this kind. Whether the words are these.
-pub(crate) fn add_tag(
-    alloc: Global,
-    store: &mut Store,
-    rest: &[u8],
-    out: &mut Vec<u8>,
-) -> Result<bool, NoMemory> {
+/// `<id> <target> <kind>`: the name and the text of a tag of what is called this kind. None where the words aren't these.
+fn tag_of(alloc: Global, rest: &[u8]) -> Result<Option<(ObjectId, Vec<u8>)>, NoMemory> {
     let (id, rest) = split_word(rest);
     let (target, kind) = split_word(rest);
     let (Some(id), Some(target)) = (id_of(id), id_of(target)) else {
+        return Ok(None);
+    };
+    Ok(Some((id, tag_text(alloc, &target, kind)?)))
+}
+
+/// Adds the tag or the commit that these words say. Whether they say one, and the store is one of SHA-1.
+pub(crate) fn add(
+    alloc: Global,
+    store: &mut Store,
+    kind: ObjectKind,
+    rest: &[u8],
+    out: &mut Vec<u8>,
+) -> Result<bool, NoMemory> {
+    let said = match kind {
+        ObjectKind::Tag => tag_of(alloc, rest)?,
+        _ => commit_of(alloc, rest)?,
+    };
+    let Some((id, text)) = said else {
         return Ok(false);
     };
-    let text = tag_text(alloc, &target, kind)?;
-    add(alloc, store, id, ObjectKind::Tag, text, out)
+    let Some(entry) = entry_of(id, kind, text) else {
+        return Ok(false);
+    };
+    if !is_sha1(store) {
+        return Ok(false);
+    }
+    if let Err(e) = store.add_all(vec![in alloc; entry]?) {
+        refuse(out, &e)?;
+    }
+    Ok(true)
 }

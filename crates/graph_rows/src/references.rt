@@ -10,8 +10,8 @@ use fetch_refs::{
     LogLine, PackedRefs, Prepared, RefEdit, RefError, Refs, Signature, Target, TargetRef, peel_tags,
 };
 use fetch_specs::FullName;
-use fetch_store::{NoMemory, ObjectId, Store, Text};
-use rows::{decoded, name_of, refuse, say, say_number};
+use fetch_store::{NoMemory, ObjectId, Store};
+use rows::{Question, decoded, name_of, refuse, say, say_number, somebody};
 use std::alloc::Global;
 
 /// A refusal, and the name, the id or the value found that it tells.
@@ -34,15 +34,6 @@ fn tell_found(out: &mut Vec<u8>, found: &Option<Target>) -> Result<(), NoMemory>
         Some(target) => tell_target(out, Some(target.as_ref())),
         None => tell_target(out, None),
     }
-}
-
-fn signature(alloc: Global) -> Result<Signature, NoMemory> {
-    Ok(Signature {
-        name: Text::new(alloc, b"A")?,
-        email: Text::new(alloc, b"a@x")?,
-        seconds: 1,
-        offset_minutes: 0,
-    })
 }
 
 /// Prepared and committed, the references are those after the edits; refused, they are as before.
@@ -77,7 +68,7 @@ pub(crate) fn make_edits(
     how: &[u8],
     out: &mut Vec<u8>,
 ) -> Result<(), NoMemory> {
-    let committer = signature(alloc)?;
+    let committer = somebody(alloc)?;
     let edits = world.edits.as_slice();
     let made = if how == b"dropped".as_slice() {
         drop_prepared(&mut world.refs, edits, &committer)
@@ -154,18 +145,17 @@ fn resolve(refs: &Refs, name: &FullName, out: &mut Vec<u8>) -> Result<(), NoMemo
 pub(crate) fn ask_of_name(
     alloc: Global,
     world: &World,
-    what: &[u8],
-    rest: &[u8],
+    question: Question<'_>,
     out: &mut Vec<u8>,
 ) -> Result<bool, NoMemory> {
-    let Some(name) = name_of(alloc, rest)? else {
+    let Some(name) = name_of(alloc, question.rest)? else {
         return Ok(false);
     };
-    if what == b"ref".as_slice() {
+    if question.what == b"ref".as_slice() {
         tell_one(&world.refs, &name, out)?;
-    } else if what == b"resolve".as_slice() {
+    } else if question.what == b"resolve".as_slice() {
         resolve(&world.refs, &name, out)?;
-    } else if what == b"peel".as_slice() {
+    } else if question.what == b"peel".as_slice() {
         tell_end(out, world.refs.peel(&world.store, &name))?;
     } else {
         return Ok(false);

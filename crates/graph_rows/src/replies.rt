@@ -1,15 +1,15 @@
 //! Lines of replies, whose bytes come in pieces.
 
 use fetch_store::{NoMemory, decimal};
-use fetch_wire::{LineReader, Need, ReplyBound, Trouble, write_line};
-use rows::{decoded, say, say_number, split_word};
+use fetch_wire::{LineReader, Need, ReplyBound, WireError, write_line};
+use rows::{Question, decoded, say, say_number, split_word};
 use std::alloc::Global;
 
 /// The most lines that a reader is asked for at once.
 const LINES: u32 = 400;
 
 /// Takes all lines that are there, and appends each as it is written. Answers why a line is refused.
-fn take_lines(reader: &mut LineReader, lines: &mut Vec<u8>) -> Result<Option<Trouble>, NoMemory> {
+fn take_lines(reader: &mut LineReader, lines: &mut Vec<u8>) -> Result<Option<WireError>, NoMemory> {
     for _ in 0..LINES {
         match reader.next() {
             Ok(Need::Line(line)) => {
@@ -18,7 +18,7 @@ fn take_lines(reader: &mut LineReader, lines: &mut Vec<u8>) -> Result<Option<Tro
                 }
             }
             Ok(Need::More) => return Ok(None),
-            Err(trouble) => return Ok(Some(trouble)),
+            Err(refusal) => return Ok(Some(refusal)),
         }
     }
     Ok(None)
@@ -29,19 +29,19 @@ fn feed(
     reader: &mut LineReader,
     piece: &[u8],
     lines: &mut Vec<u8>,
-) -> Result<Option<Trouble>, NoMemory> {
+) -> Result<Option<WireError>, NoMemory> {
     match reader.feed(piece) {
         Ok(()) => take_lines(reader, lines),
         Err(_) => Err(NoMemory),
     }
 }
 
-fn tell_trouble(out: &mut Vec<u8>, trouble: Option<Trouble>) -> Result<(), NoMemory> {
-    match trouble {
+fn tell_refusal(out: &mut Vec<u8>, refusal: &Option<WireError>) -> Result<(), NoMemory> {
+    match refusal {
         None => say(out, &[b"taken"]),
-        Some(Trouble::Short { place }) => say_number(out, b"refused: short at", place),
-        Some(Trouble::Broken { place }) => say_number(out, b"refused: broken at", place),
-        Some(Trouble::TooLong) => say(out, &[b"refused: too long"]),
+        Some(WireError::Malformed { place }) => say_number(out, b"refused: broken at", *place),
+        Some(WireError::ReplyTooLong { .. }) => say(out, &[b"refused: too long"]),
+        Some(_) => say(out, &[b"refused otherwise"]),
     }
 }
 
@@ -57,8 +57,8 @@ fn tell_lines(out: &mut Vec<u8>, fed: &[u8], lines: &[u8]) -> Result<(), NoMemor
 /// What a reader answers to the second of two pieces, and to a third, and the lines that it gave.
 #[derive(Drop, PartialEq)]
 struct Fed {
-    second: Option<Trouble>,
-    third: Option<Trouble>,
+    second: Option<WireError>,
+    third: Option<WireError>,
     lines: Vec<u8>,
 }
 
@@ -108,8 +108,8 @@ fn tell_cut(alloc: Global, rest: &[u8], out: &mut Vec<u8>) -> Result<(), NoMemor
     let (text, third) = split_word(rest);
     let text = decoded(alloc, text)?;
     let (_, whole) = feed_cut(alloc, &[], &text, third)?;
-    tell_trouble(out, whole.second)?;
-    tell_trouble(out, whole.third)?;
+    tell_refusal(out, &whole.second)?;
+    tell_refusal(out, &whole.third)?;
     tell_lines(out, &text, &whole.lines)?;
     tell_cuts(alloc, &text, third, &whole, out)
 }
@@ -120,8 +120,9 @@ fn tell_bytes(alloc: Global, text: &[u8], out: &mut Vec<u8>) -> Result<(), NoMem
     let mut lines = Vec::new(alloc);
     let mut reader = LineReader::new(alloc, ReplyBound::default());
     for byte in &text {
-        if let Some(trouble) = feed(&mut reader, &[*byte], &mut lines)? {
-            tell_trouble(out, Some(trouble))?;
+        let refusal = feed(&mut reader, &[*byte], &mut lines)?;
+        if refusal.is_some() {
+            tell_refusal(out, &refusal)?;
         }
     }
     say_number(out, b"fed", text.len())?;
@@ -142,10 +143,10 @@ fn tell_bounded(alloc: Global, rest: &[u8], out: &mut Vec<u8>) -> Result<bool, N
     for piece in pieces.split(|b| *b == b' ') {
         let piece = decoded(alloc, piece)?;
         fed.extend_from_slice(&piece)?;
-        tell_trouble(out, feed(&mut reader, &piece, &mut lines)?)?;
+        tell_refusal(out, &feed(&mut reader, &piece, &mut lines)?)?;
     }
     reader.next_reply();
-    tell_trouble(out, take_lines(&mut reader, &mut lines)?)?;
+    tell_refusal(out, &take_lines(&mut reader, &mut lines)?)?;
     tell_lines(out, &fed, &lines)?;
     Ok(true)
 }
@@ -153,10 +154,10 @@ fn tell_bounded(alloc: Global, rest: &[u8], out: &mut Vec<u8>) -> Result<bool, N
 /// Tells what is asked of a reply's lines. Whether something is.
 pub(crate) fn ask(
     alloc: Global,
-    what: &[u8],
-    rest: &[u8],
+    question: Question<'_>,
     out: &mut Vec<u8>,
 ) -> Result<bool, NoMemory> {
+    let Question { what, rest } = question;
     if what == b"cut".as_slice() {
         tell_cut(alloc, rest, out)?;
     } else if what == b"bytes".as_slice() {

@@ -11,7 +11,7 @@ mod worded;
 
 use self::repositories::repository_of;
 use fetch_store::NoMemory;
-use rows::{Row, end, read_input, rows_of, say};
+use rows::{Row, run_rows};
 use std::alloc::Global;
 use std::process::ExitCode;
 use std::sync::Wait;
@@ -43,7 +43,6 @@ fn tell_row(
     row: &Row<'_>,
     out: &mut Vec<u8>,
 ) -> Result<bool, NoMemory> {
-    say(out, &[b"=", row.whose, row.about])?;
     if row.whose == b"mirror".as_slice() {
         worded::tell(rt, alloc, row.scene, row.lines, out)
     } else if row.whose == b"served".as_slice() {
@@ -53,28 +52,7 @@ fn tell_row(
     }
 }
 
-/// What all rows tell. Whether they are rows.
-fn tell_all(
-    rt: &(impl Threads + Wait + Sync),
-    alloc: Global,
-    bytes: &[u8],
-    out: &mut Vec<u8>,
-) -> Result<bool, NoMemory> {
-    let Some(rows) = rows_of(alloc, bytes)? else {
-        return Ok(false);
-    };
-    for row in &rows {
-        if !tell_row(rt, alloc, row, out)? {
-            return Ok(false);
-        }
-    }
-    Ok(true)
-}
-
 fn main(rt: HostRuntime) -> ExitCode {
-    let mut out = Vec::new(rt.alloc());
-    match read_input(&rt) {
-        Ok(bytes) => end(&rt, tell_all(&rt, rt.alloc(), &bytes, &mut out), &out),
-        Err(_) => ExitCode::from(2),
-    }
+    let alloc = rt.alloc();
+    run_rows(&rt, |row, out| tell_row(&rt, alloc, row, out))
 }

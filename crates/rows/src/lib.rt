@@ -1,13 +1,17 @@
 //! What the programs of rows share: rows and their lines, the words of a line, the lines of an answer, and how a program
-//! begins and ends.
+//! runs.
 #![tactic(auto)]
 
 mod answers;
+mod committers;
+mod kinds;
 mod program;
 mod reading;
 mod words;
 
 pub use answers::{refuse, say, say_id, say_lines, say_number, say_printed, say_specs, say_texts};
-pub use program::{end, read_input};
-pub use reading::{Row, lines, rows_of};
-pub use words::{decoded, name_of, split_word};
+pub use committers::{nobody, somebody};
+pub use kinds::{hash_of, object_kind_of};
+pub use program::{run_lines, run_rows, tell_lines};
+pub use reading::{Row, lines};
+pub use words::{Question, decoded, name_of, split_word};

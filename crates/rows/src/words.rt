@@ -19,6 +19,23 @@ pub fn split_word(line: &[u8]) -> (&[u8], &[u8])
     }
 }
 
+/// What a line asks.
+#[derive(Clone, Copy)]
+pub struct Question<'a> {
+    /// Its first word.
+    pub what: &'a [u8],
+    /// What follows the space after it.
+    pub rest: &'a [u8],
+}
+
+impl<'a> Question<'a> {
+    /// The question of a line.
+    pub fn of(line: &'a [u8]) -> Question<'a> {
+        let (what, rest) = split_word(line);
+        Question { what, rest }
+    }
+}
+
 /// A text in which `%` and two hexadecimal digits stand for a byte.
 pub fn decoded(alloc: Global, word: &[u8]) -> Result<Vec<u8>, NoMemory>
     ensures { IfOk result (λ bytes. bytes.items ≡ percent.percent_decode word.now) }

@@ -4,8 +4,23 @@ use crate::giving::{say_given, take_all, word_of};
 use crate::{peers, refusals};
 use fetch_serve::{Server, ServerPeer};
 use fetch_store::{NoMemory, append_number, decimal};
-use rows::{decoded, say, split_word};
+use rows::{Question, decoded, say};
 use std::alloc::Global;
+
+/// A server, and one of the same repository as a peer.
+#[derive(Drop)]
+pub(crate) struct Ends<'a> {
+    server: Server<'a>,
+    peer: ServerPeer<'a>,
+}
+
+impl<'a> Ends<'a> {
+    /// A server, and a peer that heard nothing.
+    pub(crate) fn of(server: Server<'a>) -> Ends<'a> {
+        let peer = ServerPeer::new(server.fresh());
+        Ends { server, peer }
+    }
+}
 
 /// The refusal, where there is one, and whose turn it is.
 fn feed(server: &mut Server<'_>, bytes: &[u8], out: &mut Vec<u8>) -> Result<(), NoMemory> {
@@ -101,21 +116,20 @@ fn feed_cut(
 /// Asks by a text. Whether one of these questions is asked.
 fn ask_by_text(
     alloc: Global,
-    server: &mut Server<'_>,
-    peer: &mut ServerPeer<'_>,
-    question: &[u8],
+    ends: &mut Ends<'_>,
+    question: Question<'_>,
     out: &mut Vec<u8>,
 ) -> Result<bool, NoMemory> {
-    let (word, rest) = split_word(question);
+    let Question { what, rest } = question;
     let bytes = decoded(alloc, rest)?;
-    if word == b"feed".as_slice() {
-        feed(server, bytes.as_slice(), out)?;
-    } else if word == b"bytes".as_slice() {
-        feed_each(alloc, server, bytes.as_slice(), out)?;
-    } else if word == b"cuts".as_slice() {
-        feed_cut(alloc, server, bytes.as_slice(), out)?;
-    } else if word == b"send".as_slice() {
-        peers::send(peer, bytes.as_slice(), out)?;
+    if what == b"feed".as_slice() {
+        feed(&mut ends.server, bytes.as_slice(), out)?;
+    } else if what == b"bytes".as_slice() {
+        feed_each(alloc, &ends.server, bytes.as_slice(), out)?;
+    } else if what == b"cuts".as_slice() {
+        feed_cut(alloc, &ends.server, bytes.as_slice(), out)?;
+    } else if what == b"send".as_slice() {
+        peers::send(&mut ends.peer, bytes.as_slice(), out)?;
     } else {
         return Ok(false);
     }
@@ -125,37 +139,31 @@ fn ask_by_text(
 /// Asks for so many bytes. Whether one of these questions is asked.
 fn ask_by_count(
     alloc: Global,
-    server: &mut Server<'_>,
-    peer: &mut ServerPeer<'_>,
-    question: &[u8],
+    ends: &mut Ends<'_>,
+    question: Question<'_>,
     out: &mut Vec<u8>,
 ) -> Result<bool, NoMemory> {
-    let (word, rest) = split_word(question);
-    let Some(count) = decimal(rest) else {
+    let what = question.what;
+    let Some(count) = decimal(question.rest) else {
         return Ok(false);
     };
-    if word == b"give".as_slice() {
-        give(server, count, out)?;
+    if what == b"give".as_slice() {
+        give(&mut ends.server, count, out)?;
         return Ok(true);
     }
-    if word == b"receive".as_slice() {
-        return peers::receive(alloc, peer, count, out);
+    if what == b"receive".as_slice() {
+        return peers::receive(alloc, &mut ends.peer, count, out);
     }
     Ok(false)
 }
 
 /// Puts an equal server in place of the server, or a fresh one with a fresh peer. Whether this is asked for.
-fn replace<'a>(
-    server: &mut Server<'a>,
-    peer: &mut ServerPeer<'a>,
-    question: &[u8],
-) -> Result<bool, NoMemory> {
+fn replace(ends: &mut Ends<'_>, question: &[u8]) -> Result<bool, NoMemory> {
     if question == b"copy".as_slice() {
-        *server = server.try_clone()?;
+        ends.server = ends.server.try_clone()?;
         Ok(true)
     } else if question == b"fresh".as_slice() {
-        *peer = peers::peer_of(server);
-        *server = server.fresh();
+        *ends = Ends::of(ends.server.fresh());
         Ok(true)
     } else {
         Ok(false)
@@ -163,18 +171,18 @@ fn replace<'a>(
 }
 
 /// Tells what is asked. Whether something is.
-pub(crate) fn ask<'a>(
+pub(crate) fn ask(
     alloc: Global,
-    server: &mut Server<'a>,
-    peer: &mut ServerPeer<'a>,
+    ends: &mut Ends<'_>,
     question: &[u8],
     out: &mut Vec<u8>,
 ) -> Result<bool, NoMemory> {
-    if replace(server, peer, question)? {
+    if replace(ends, question)? {
         return Ok(true);
     }
-    if ask_by_count(alloc, server, peer, question, out)? {
+    let question = Question::of(question);
+    if ask_by_count(alloc, ends, question, out)? {
         return Ok(true);
     }
-    ask_by_text(alloc, server, peer, question, out)
+    ask_by_text(alloc, ends, question, out)
 }

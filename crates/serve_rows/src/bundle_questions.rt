@@ -90,30 +90,44 @@ fn tell_files(files: &mut MemoryFiles, out: &mut Vec<u8>) -> Result<(), NoMemory
     }
 }
 
-/// A line of how many answers one after another are this one.
-fn say_same(out: &mut Vec<u8>, count: usize, answer: &[u8]) -> Result<(), NoMemory> {
-    if count == 0 {
-        return Ok(());
-    }
-    append_number(out, count)?;
-    out.push(b' ')?;
-    out.extend_from_slice(answer)?;
-    Ok(())
+/// How often an answer came, one after another.
+#[derive(Drop)]
+struct Tally {
+    answer: Vec<u8>,
+    count: usize,
 }
 
-/// Counts one more answer. Where it is another than the last, those before it are told. How often it came.
-fn tally(
-    out: &mut Vec<u8>,
-    last: &mut Vec<u8>,
-    count: usize,
-    answer: Vec<u8>,
-) -> Result<usize, NoMemory> {
-    if answer.as_slice() == last.as_slice() {
-        return Ok(count.saturating_add(1));
+impl Tally {
+    /// No answer yet.
+    fn new(alloc: Global) -> Tally {
+        Tally {
+            answer: Vec::new(alloc),
+            count: 0,
+        }
     }
-    say_same(out, count, last.as_slice())?;
-    *last = answer;
-    Ok(1)
+
+    /// A line of how often the last answer came.
+    fn tell(&self, out: &mut Vec<u8>) -> Result<(), NoMemory> {
+        if self.count == 0 {
+            return Ok(());
+        }
+        append_number(out, self.count)?;
+        out.push(b' ')?;
+        out.extend_from_slice(self.answer.as_slice())?;
+        Ok(())
+    }
+
+    /// Counts one more answer. Where it is another than the last, those before it are told.
+    fn add(&mut self, answer: Vec<u8>, out: &mut Vec<u8>) -> Result<(), NoMemory> {
+        if answer.as_slice() == self.answer.as_slice() {
+            self.count = self.count.saturating_add(1);
+            return Ok(());
+        }
+        self.tell(out)?;
+        self.answer = answer;
+        self.count = 1;
+        Ok(())
+    }
 }
 
 /// Reads what stands before each place of a text, and tells the answers.
@@ -123,13 +137,11 @@ fn tell_cuts<R: Threads + Sync>(
     bytes: &[u8],
     out: &mut Vec<u8>,
 ) -> Result<(), NoMemory> {
-    let mut last = Vec::new(alloc);
-    let mut count = 0usize;
+    let mut tally = Tally::new(alloc);
     for place in 0..bytes.len() {
-        let answer = brief(rt, alloc, &bytes[..place])?;
-        count = tally(out, &mut last, count, answer)?;
+        tally.add(brief(rt, alloc, &bytes[..place])?, out)?;
     }
-    say_same(out, count, last.as_slice())
+    tally.tell(out)
 }
 
 /// A text, but for the byte at a place, of which other bits are set.
@@ -149,14 +161,12 @@ fn tell_changes<R: Threads + Sync>(
     bytes: &[u8],
     out: &mut Vec<u8>,
 ) -> Result<(), NoMemory> {
-    let mut last = Vec::new(alloc);
-    let mut count = 0usize;
+    let mut tally = Tally::new(alloc);
     for place in 0..bytes.len() {
         let text = changed(alloc, bytes, place, bits)?;
-        let answer = brief(rt, alloc, text.as_slice())?;
-        count = tally(out, &mut last, count, answer)?;
+        tally.add(brief(rt, alloc, text.as_slice())?, out)?;
     }
-    say_same(out, count, last.as_slice())
+    tally.tell(out)
 }
 
 /// `<bits> <text>`: reads the text with each byte changed. Whether the words are these.

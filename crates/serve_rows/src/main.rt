@@ -6,7 +6,6 @@ mod bundle_answers;
 mod bundle_questions;
 mod bundles;
 mod giving;
-mod kinds;
 mod peers;
 mod references;
 mod refusals;
@@ -14,7 +13,7 @@ mod serving;
 mod world;
 
 use fetch_store::NoMemory;
-use rows::{Row, end, read_input, rows_of, say};
+use rows::{Row, run_rows};
 use std::alloc::Global;
 use std::process::ExitCode;
 use std::thread::Threads;
@@ -26,7 +25,6 @@ fn tell_row<R: Threads + Sync>(
     row: &Row<'_>,
     out: &mut Vec<u8>,
 ) -> Result<bool, NoMemory> {
-    say(out, &[b"=", row.whose, row.about])?;
     if row.whose == b"serve".as_slice() {
         return serving::tell(alloc, row.lines, out);
     }
@@ -36,28 +34,7 @@ fn tell_row<R: Threads + Sync>(
     Ok(false)
 }
 
-/// What all rows tell. Whether they are rows.
-fn tell_all<R: Threads + Sync>(
-    rt: &R,
-    alloc: Global,
-    bytes: &[u8],
-    out: &mut Vec<u8>,
-) -> Result<bool, NoMemory> {
-    let Some(rows) = rows_of(alloc, bytes)? else {
-        return Ok(false);
-    };
-    for row in &rows {
-        if !tell_row(rt, alloc, row, out)? {
-            return Ok(false);
-        }
-    }
-    Ok(true)
-}
-
 fn main(rt: HostRuntime) -> ExitCode {
-    let mut out = Vec::new(rt.alloc());
-    match read_input(&rt) {
-        Ok(bytes) => end(&rt, tell_all(&rt, rt.alloc(), &bytes, &mut out), &out),
-        Err(_) => ExitCode::from(2),
-    }
+    let alloc = rt.alloc();
+    run_rows(&rt, |row, out| tell_row(&rt, alloc, row, out))
 }

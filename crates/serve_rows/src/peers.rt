@@ -1,7 +1,7 @@
 //! A server as a peer.
 
 use crate::giving::say_given;
-use fetch_serve::{Server, ServerPeer};
+use fetch_serve::ServerPeer;
 use fetch_store::NoMemory;
 use fetch_wire::{Peer, SendFault};
 use rows::say;
@@ -40,9 +40,4 @@ pub(crate) fn receive(
         Err(_) => say(out, &[b"failed"])?,
     }
     Ok(true)
-}
-
-/// A peer of the same repository, which heard nothing.
-pub(crate) fn peer_of<'a>(server: &Server<'a>) -> ServerPeer<'a> {
-    ServerPeer::new(server.fresh())
 }

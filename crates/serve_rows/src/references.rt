@@ -6,7 +6,7 @@ use fetch_refs::{
 };
 use fetch_specs::FullName;
 use fetch_store::{NoMemory, ObjectId, Text};
-use rows::{name_of, split_word};
+use rows::{name_of, nobody, split_word};
 use std::alloc::Global;
 
 /// The target that a word is: an id, or a name.
@@ -33,16 +33,6 @@ fn update_of(alloc: Global, name: FullName, new: Target) -> RefEdit {
             new,
         },
         name,
-    }
-}
-
-/// A committer without a name.
-fn nobody(alloc: Global) -> Signature {
-    Signature {
-        name: Text::from(Vec::new(alloc)),
-        email: Text::from(Vec::new(alloc)),
-        seconds: 0,
-        offset_minutes: 0,
     }
 }
 

@@ -1,8 +1,8 @@
 //! Rows of a server.
 
-use crate::peers::peer_of;
+use crate::asking::{Ends, ask};
+use crate::refusals;
 use crate::world::{World, put};
-use crate::{asking, refusals};
 use fetch_serve::Server;
 use fetch_store::{Kind, NoMemory, after};
 use rows::{lines, say};
@@ -25,16 +25,15 @@ pub(crate) fn world_of(alloc: Global, lines: &[&[u8]]) -> Result<Option<World>, 
 /// Tells what the questions among the lines ask for. Whether each of them is one.
 fn ask_all(
     alloc: Global,
-    first: Server<'_>,
+    server: Server<'_>,
     lines: &[&[u8]],
     out: &mut Vec<u8>,
 ) -> Result<bool, NoMemory> {
-    let mut peer = peer_of(&first);
-    let mut server = first;
+    let mut ends = Ends::of(server);
     for line in lines {
         if let Some(question) = after(b"? ", line) {
             say(out, &[line])?;
-            if !asking::ask(alloc, &mut server, &mut peer, question, out)? {
+            if !ask(alloc, &mut ends, question, out)? {
                 return Ok(false);
             }
         }

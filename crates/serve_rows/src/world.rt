@@ -3,11 +3,10 @@
 ghost use Rattle.std.specs.Prelude.{◌≡◌, IfSome};
 ghost use Rattle.fetch_store.specs.Id.{kind_of};
 
-use crate::kinds::{hash_of, object_kind_of};
 use crate::references::add_reference;
 use fetch_refs::Refs;
 use fetch_store::{Border, Kind, NoMemory, Object, ObjectId, ObjectKind, Store, id_of};
-use rows::{decoded, split_word};
+use rows::{decoded, hash_of, object_kind_of, split_word};
 use std::alloc::Global;
 
 /// Objects, references and a border.

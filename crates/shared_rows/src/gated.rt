@@ -87,14 +87,11 @@ impl Peer for GatedPeer {
 
     fn send(&mut self, bytes: &[u8]) -> Result<(), SendFault> {
         self.note(bytes);
-        match self.script.send(bytes) {
-            Ok(()) => Ok(()),
-            Err(SendFault::NoMemory) => Err(SendFault::NoMemory),
-            Err(SendFault::Failed) => {
-                self.fail();
-                Err(SendFault::Failed)
-            }
+        let sent = self.script.send(bytes);
+        if let Err(SendFault::Failed) = sent {
+            self.fail();
         }
+        sent
     }
 
     fn receive(&mut self, into: &mut [u8]) -> Result<usize, Failed> {

@@ -16,7 +16,7 @@ mod sharing;
 mod thread_safe;
 
 use fetch_store::{NoMemory, after};
-use rows::{Row, end, read_input, rows_of, say};
+use rows::{Row, run_rows};
 use std::alloc::Global;
 use std::process::ExitCode;
 use std::sync::Wait;
@@ -29,7 +29,6 @@ fn tell_row(
     row: &Row<'_>,
     out: &mut Vec<u8>,
 ) -> Result<bool, NoMemory> {
-    say(out, &[b"=", row.whose, row.about])?;
     if row.whose == b"race".as_slice() {
         racing::tell(rt, alloc, row.scene, out)?;
         return Ok(true);
@@ -44,29 +43,8 @@ fn tell_row(
     }
 }
 
-/// What all rows tell. Whether they are rows.
-fn tell_all(
-    rt: &(impl Threads + Wait + Sync),
-    alloc: Global,
-    bytes: &[u8],
-    out: &mut Vec<u8>,
-) -> Result<bool, NoMemory> {
-    let Some(rows) = rows_of(alloc, bytes)? else {
-        return Ok(false);
-    };
-    for row in &rows {
-        if !tell_row(rt, alloc, row, out)? {
-            return Ok(false);
-        }
-    }
-    Ok(true)
-}
-
 fn main(rt: HostRuntime) -> ExitCode {
     thread_safe::shared_types_cross_threads();
-    let mut out = Vec::new(rt.alloc());
-    match read_input(&rt) {
-        Ok(bytes) => end(&rt, tell_all(&rt, rt.alloc(), &bytes, &mut out), &out),
-        Err(_) => ExitCode::from(2),
-    }
+    let alloc = rt.alloc();
+    run_rows(&rt, |row, out| tell_row(&rt, alloc, row, out))
 }

@@ -3,22 +3,13 @@
 ghost use Rattle.fetch_store.specs.Stores.{AreOf};
 
 use fetch_config::{File, Meta, Origin};
-use fetch_refs::{Refs, Signature};
+use fetch_refs::Refs;
 use fetch_remote::{OpenOptions, Parts, Repository};
 use fetch_scene::{Scene, SceneFault, read_scene};
 use fetch_store::{List, NoMemory, Store, Text};
+use rows::nobody;
 use std::alloc::Global;
 use std::thread::Threads;
-
-/// A committer without a name.
-fn nobody(alloc: Global) -> Signature {
-    Signature {
-        name: Text::from(Vec::new(alloc)),
-        email: Text::from(Vec::new(alloc)),
-        seconds: 0,
-        offset_minutes: 0,
-    }
-}
 
 /// Nothing before the repository's own configuration, and nothing after it.
 fn options(alloc: Global) -> OpenOptions {

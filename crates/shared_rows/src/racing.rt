@@ -9,17 +9,18 @@ use std::alloc::Global;
 use std::sync::Wait;
 use std::thread::Threads;
 
-/// Races what a scene says. All that the program writes goes to this sink; the answer is its status.
-fn run_into(
+/// Races what a scene says: all that the program writes, and its status.
+fn raced(
     rt: &(impl Threads + Wait + Sync),
     alloc: Global,
     scene: &[u8],
-    sink: &mut MemorySink,
-) -> Result<u8, NoMemory> {
+) -> Result<(MemorySink, u8), NoMemory> {
+    let mut sink = MemorySink::new(alloc, Vec::new(alloc));
     let mut words = Vec::new(alloc);
     words.push(Vec::from_slice(alloc, b"race")?)?;
     let mut source = MemorySource::new(Text::new(alloc, scene)?, Vec::new(alloc));
-    Ok(run_race(rt, alloc, &words, &mut source, sink))
+    let status = run_race(rt, alloc, &words, &mut source, &mut sink);
+    Ok((sink, status))
 }
 
 fn say_status(out: &mut Vec<u8>, status: u8) -> Result<(), NoMemory> {
@@ -33,8 +34,7 @@ pub(crate) fn tell(
     scene: &[u8],
     out: &mut Vec<u8>,
 ) -> Result<(), NoMemory> {
-    let mut sink = MemorySink::new(alloc, Vec::new(alloc));
-    let status = run_into(rt, alloc, scene, &mut sink)?;
+    let (sink, status) = raced(rt, alloc, scene)?;
     out.extend_from_slice(sink.bytes())?;
     say_status(out, status)
 }
@@ -55,18 +55,9 @@ fn entries_in(alloc: Global, report: &[u8]) -> Result<usize, NoMemory> {
     Ok(count)
 }
 
-/// Puts down how many entries the report of a race tells, and its status: what the report says of them depends on the order
-/// of the jobs' steps.
-fn tell_entries(
-    rt: &(impl Threads + Wait + Sync),
-    alloc: Global,
-    scene: &[u8],
-    out: &mut Vec<u8>,
-) -> Result<(), NoMemory> {
-    let mut sink = MemorySink::new(alloc, Vec::new(alloc));
-    let status = run_into(rt, alloc, scene, &mut sink)?;
-    say_number(out, b"== entries", entries_in(alloc, sink.bytes())?)?;
-    say_status(out, status)
+/// Puts down how many entries the report of a race tells: what it says of them depends on the order of the jobs' steps.
+fn tell_entries(alloc: Global, report: &[u8], out: &mut Vec<u8>) -> Result<(), NoMemory> {
+    say_number(out, b"== entries", entries_in(alloc, report)?)
 }
 
 /// How many entries a race of a scene's first two jobs makes, where each of their peers holds its reply until the other one
@@ -82,7 +73,7 @@ fn gated_entries(
     }
 }
 
-/// Races what a scene says twice, the second time by peers that hold their replies until both were asked, and puts down how
+/// Races what a scene says twice, once by peers that hold their replies until both were asked, and puts down how
 /// many entries were made.
 pub(crate) fn tell_both(
     rt: &(impl Threads + Wait + Sync),
@@ -90,8 +81,11 @@ pub(crate) fn tell_both(
     scene: &[u8],
     out: &mut Vec<u8>,
 ) -> Result<(), NoMemory> {
-    tell_entries(rt, alloc, scene, out)?;
-    let told = match gated_entries(rt, alloc, scene)? {
+    let gated = gated_entries(rt, alloc, scene)?;
+    let (sink, status) = raced(rt, alloc, scene)?;
+    tell_entries(alloc, sink.bytes(), out)?;
+    say_status(out, status)?;
+    let told = match gated {
         Some(4) => b"== both were asked before either was answered; four entries".as_slice(),
         Some(_) => b"== both were asked before either was answered".as_slice(),
         None => b"== not done".as_slice(),

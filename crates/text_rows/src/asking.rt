@@ -7,12 +7,13 @@ use crate::{
 };
 use fetch_config::File;
 use fetch_store::{MemoryFiles, NoMemory};
-use rows::{lines, say, split_word};
+use rows::{Question, say, split_word};
 use std::alloc::Global;
 use std::thread::Threads;
 
 /// Tells a name, an id, an object, a copy or an order that is asked for. Whether one is.
-fn ask_one(alloc: Global, what: &[u8], rest: &[u8], out: &mut Vec<u8>) -> Result<bool, NoMemory> {
+fn ask_one(alloc: Global, question: Question<'_>, out: &mut Vec<u8>) -> Result<bool, NoMemory> {
+    let Question { what, rest } = question;
     if what == b"name".as_slice() {
         names::tell_verdict(alloc, rest, out)?;
     } else if what == b"full".as_slice() {
@@ -26,7 +27,7 @@ fn ask_one(alloc: Global, what: &[u8], rest: &[u8], out: &mut Vec<u8>) -> Result
     } else if what == b"order".as_slice() {
         return orders::ask(alloc, rest, out);
     } else {
-        return copies::ask(alloc, what, rest, out);
+        return copies::ask(alloc, question, out);
     }
     Ok(true)
 }
@@ -35,10 +36,10 @@ fn ask_one(alloc: Global, what: &[u8], rest: &[u8], out: &mut Vec<u8>) -> Result
 fn ask_of_packs(
     rt: &(impl Threads + Sync),
     alloc: Global,
-    what: &[u8],
-    rest: &[u8],
+    question: Question<'_>,
     out: &mut Vec<u8>,
 ) -> Result<bool, NoMemory> {
+    let Question { what, rest } = question;
     if what == b"pack".as_slice() {
         packs::tell_read(rt, alloc, rest, out)
     } else if what == b"write-pack".as_slice() {
@@ -75,30 +76,29 @@ fn ask(
     rt: &(impl Threads + Sync),
     alloc: Global,
     desk: &mut Desk,
-    question: &[u8],
+    question: Question<'_>,
     out: &mut Vec<u8>,
 ) -> Result<bool, NoMemory> {
-    let (what, rest) = split_word(question);
-    if ask_one(alloc, what, rest, out)? {
+    if ask_one(alloc, question, out)? {
         return Ok(true);
     }
-    if ask_of_packs(rt, alloc, what, rest, out)? {
+    if ask_of_packs(rt, alloc, question, out)? {
         return Ok(true);
     }
-    if refspecs::ask(alloc, what, rest, out)? {
+    if refspecs::ask(alloc, question, out)? {
         return Ok(true);
     }
-    if remotes::ask(alloc, &mut desk.file, what, rest, out)? {
+    if remotes::ask_of_remotes(alloc, &mut desk.file, question, out)? {
         return Ok(true);
     }
-    if files::ask(alloc, &mut desk.files, what, rest, out)? {
+    if files::ask(alloc, &mut desk.files, question, out)? {
         return Ok(true);
     }
-    configurations::ask(alloc, &mut desk.file, what, rest, out)
+    configurations::ask(alloc, &mut desk.file, question, out)
 }
 
 /// Begins a row with an empty configuration and no files, or tells what a line asks for. Whether it is such a line.
-fn tell_line(
+pub(crate) fn tell_line(
     rt: &(impl Threads + Sync),
     alloc: Global,
     desk: &mut Desk,
@@ -108,34 +108,8 @@ fn tell_line(
     say(out, &[line])?;
     let (word, rest) = split_word(line);
     if word == b"?".as_slice() {
-        return ask(rt, alloc, desk, rest, out);
+        return ask(rt, alloc, desk, Question::of(rest), out);
     }
     *desk = Desk::new(alloc)?;
     Ok(word == b"=".as_slice())
-}
-
-fn tell_lines(
-    rt: &(impl Threads + Sync),
-    alloc: Global,
-    desk: &mut Desk,
-    bytes: &[u8],
-    out: &mut Vec<u8>,
-) -> Result<bool, NoMemory> {
-    for line in &lines(alloc, bytes)? {
-        if !tell_line(rt, alloc, desk, line, out)? {
-            return Ok(false);
-        }
-    }
-    Ok(true)
-}
-
-/// Tells what all lines ask for. Whether each of them is such a line.
-pub(crate) fn tell_all(
-    rt: &(impl Threads + Sync),
-    alloc: Global,
-    bytes: &[u8],
-    out: &mut Vec<u8>,
-) -> Result<bool, NoMemory> {
-    let mut desk = Desk::new(alloc)?;
-    tell_lines(rt, alloc, &mut desk, bytes, out)
 }

@@ -4,7 +4,7 @@ ghost use Rattle.std.specs.Prelude.{◌≤◌, length};
 
 use fetch_config::{ConfigError, File, Meta, Origin};
 use fetch_store::{NoMemory, decimal};
-use rows::{decoded, refuse, say, say_number, say_printed, split_word};
+use rows::{Question, decoded, refuse, say, say_number, say_printed, split_word};
 use std::alloc::Global;
 
 fn meta(source: Origin, trusted: bool) -> Meta {
@@ -120,10 +120,10 @@ fn write(alloc: Global, file: &File, origin: &[u8], out: &mut Vec<u8>) -> Result
 fn edit(
     alloc: Global,
     file: &mut File,
-    what: &[u8],
-    rest: &[u8],
+    question: Question<'_>,
     out: &mut Vec<u8>,
 ) -> Option<Result<(), ConfigError>> {
+    let Question { what, rest } = question;
     if what == b"read".as_slice() {
         Some(read(alloc, file, rest))
     } else if what == b"section".as_slice() {
@@ -198,11 +198,11 @@ fn tell_integer(file: &File, key: &Key<'_>, out: &mut Vec<u8>) -> Result<(), NoM
 fn look_up(
     alloc: Global,
     file: &File,
-    what: &[u8],
-    rest: &[u8],
+    question: Question<'_>,
     out: &mut Vec<u8>,
 ) -> Result<bool, NoMemory> {
-    let (trusted, rest) = split_word(rest);
+    let what = question.what;
+    let (trusted, rest) = split_word(question.rest);
     let (section, rest) = split_word(rest);
     let (name, sub) = split_word(rest);
     let key = Key {
@@ -231,16 +231,15 @@ fn look_up(
 pub(crate) fn ask(
     alloc: Global,
     file: &mut File,
-    what: &[u8],
-    rest: &[u8],
+    question: Question<'_>,
     out: &mut Vec<u8>,
 ) -> Result<bool, NoMemory> {
-    match edit(alloc, file, what, rest, out) {
+    match edit(alloc, file, question, out) {
         Some(Ok(())) => Ok(true),
         Some(Err(e)) => {
             refuse(out, &e.try_clone()?)?;
             Ok(true)
         }
-        None => look_up(alloc, file, what, rest, out),
+        None => look_up(alloc, file, question, out),
     }
 }

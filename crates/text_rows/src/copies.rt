@@ -1,7 +1,7 @@
 //! Copies and comparisons of what a store keeps.
 
 use fetch_store::{List, NoMemory, Text, decimal};
-use rows::{say, split_word};
+use rows::{Question, say, split_word};
 use std::alloc::Global;
 
 /// `<text>`: copies it.
@@ -33,14 +33,13 @@ fn tell_equality(alloc: Global, rest: &[u8], out: &mut Vec<u8>) -> Result<(), No
 /// Tells what is asked of copies. Whether something is.
 pub(crate) fn ask(
     alloc: Global,
-    what: &[u8],
-    rest: &[u8],
+    question: Question<'_>,
     out: &mut Vec<u8>,
 ) -> Result<bool, NoMemory> {
-    if what == b"copy".as_slice() {
-        tell_copy(alloc, rest, out)?;
-    } else if what == b"compare".as_slice() {
-        tell_equality(alloc, rest, out)?;
+    if question.what == b"copy".as_slice() {
+        tell_copy(alloc, question.rest, out)?;
+    } else if question.what == b"compare".as_slice() {
+        tell_equality(alloc, question.rest, out)?;
     } else {
         return Ok(false);
     }

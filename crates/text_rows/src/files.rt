@@ -1,7 +1,7 @@
 //! Files in memory, and the calls that are to fail.
 
 use fetch_store::{FileError, Files, MemoryFiles, NoMemory, Node, Text, decimal};
-use rows::{refuse, say, split_word};
+use rows::{Question, refuse, say, split_word};
 use std::alloc::Global;
 use std::fmt::Display;
 
@@ -55,10 +55,10 @@ fn tell_names(out: &mut Vec<u8>, found: Result<Vec<Text>, FileError>) -> Result<
 /// `<path>`, or `<path> <bytes>`, or two paths: makes a call on the files. Whether one is asked for.
 fn change(
     files: &mut MemoryFiles,
-    what: &[u8],
-    rest: &[u8],
+    question: Question<'_>,
     out: &mut Vec<u8>,
 ) -> Result<bool, NoMemory> {
+    let Question { what, rest } = question;
     let (path, second) = split_word(rest);
     if what == b"make-dir".as_slice() {
         tell_done(out, files.make_dir_all(path))?;
@@ -80,10 +80,10 @@ fn change(
 pub(crate) fn ask(
     alloc: Global,
     files: &mut MemoryFiles,
-    what: &[u8],
-    rest: &[u8],
+    question: Question<'_>,
     out: &mut Vec<u8>,
 ) -> Result<bool, NoMemory> {
+    let Question { what, rest } = question;
     if what == b"fail".as_slice() {
         *files = failing(alloc, rest)?;
     } else if what == b"kind".as_slice() {
@@ -93,7 +93,7 @@ pub(crate) fn ask(
     } else if what == b"list".as_slice() {
         tell_names(out, files.list(rest))?;
     } else {
-        return change(files, what, rest, out);
+        return change(files, question, out);
     }
     Ok(true)
 }

@@ -1,31 +1,6 @@
-//! Words for hashes, for kinds of objects and for what refspecs are for.
+//! Words for what refspecs are for.
 
 use fetch_specs::Operation;
-use fetch_store::{Kind, ObjectKind};
-
-pub(crate) fn hash_of(word: &[u8]) -> Option<Kind> {
-    if word == b"sha1".as_slice() {
-        Some(Kind::Sha1)
-    } else if word == b"sha256".as_slice() {
-        Some(Kind::Sha256)
-    } else {
-        None
-    }
-}
-
-pub(crate) fn object_kind_of(word: &[u8]) -> Option<ObjectKind> {
-    for kind in [
-        ObjectKind::Commit,
-        ObjectKind::Tree,
-        ObjectKind::Blob,
-        ObjectKind::Tag,
-    ] {
-        if word == kind.name() {
-            return Some(kind);
-        }
-    }
-    None
-}
 
 pub(crate) fn operation_of(word: &[u8]) -> Option<Operation> {
     if word == b"fetch".as_slice() {

@@ -14,14 +14,15 @@ mod pieces;
 mod refspecs;
 mod remotes;
 
-use asking::tell_all;
-use rows::{end, read_input};
+use asking::{Desk, tell_line};
+use fetch_store::NoMemory;
+use rows::run_lines;
 use std::process::ExitCode;
 
 fn main(rt: HostRuntime) -> ExitCode {
-    let mut out = Vec::new(rt.alloc());
-    match read_input(&rt) {
-        Ok(bytes) => end(&rt, tell_all(&rt, rt.alloc(), &bytes, &mut out), &out),
-        Err(_) => ExitCode::from(2),
+    let alloc = rt.alloc();
+    match Desk::new(alloc) {
+        Ok(mut desk) => run_lines(&rt, |line, out| tell_line(&rt, alloc, &mut desk, line, out)),
+        Err(NoMemory) => ExitCode::from(5),
     }
 }

@@ -1,8 +1,7 @@
 //! Ids, and what objects say.
 
-use crate::kinds::{hash_of, object_kind_of};
 use fetch_store::{Kind, NoMemory, Object, ObjectId, ObjectKind, ObjectRef, id_of};
-use rows::{decoded, refuse, say, say_id, say_number, split_word};
+use rows::{decoded, hash_of, object_kind_of, refuse, say, say_id, say_number, split_word};
 use std::alloc::Global;
 
 /// `<hexadecimal digits>`: reads an id.

@@ -2,10 +2,9 @@
 
 ghost use Rattle.std.specs.Prelude.{◌<◌, ◌^◌, length, IfSome, IfOk};
 
-use crate::kinds::{hash_of, object_kind_of};
 use fetch_pack::{Pack, PackVersion, read_pack, write_pack, write_pack_of};
 use fetch_store::{Kind, NoMemory, Object, decimal, split_first};
-use rows::{decoded, refuse, say_id, say_number, split_word};
+use rows::{decoded, hash_of, object_kind_of, refuse, say_id, say_number, split_word};
 use std::alloc::Global;
 use std::thread::Threads;
 

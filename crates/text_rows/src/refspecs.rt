@@ -1,13 +1,13 @@
 //! Refspecs: what they say, what they map, what leads to a name, and what they ask for. In a question a list of
 //! refspecs or of names has commas between.
 
-use crate::kinds::{hash_of, operation_of};
+use crate::kinds::operation_of;
 use fetch_specs::{
     Conflict, Item, Match, MatchGroup, Operation, RefSpec, SourceRef, SpecError, Tags, parse,
     prefixes, validate,
 };
 use fetch_store::{Kind, NoMemory, Text, append_number};
-use rows::{refuse, say, say_number, split_word};
+use rows::{Question, hash_of, refuse, say, say_number, split_word};
 use std::alloc::Global;
 
 fn tell_spec(alloc: Global, spec: &RefSpec, out: &mut Vec<u8>) -> Result<(), SpecError> {
@@ -133,12 +133,8 @@ fn ask_for(alloc: Global, rest: &[u8], out: &mut Vec<u8>) -> Result<(), SpecErro
     Ok(())
 }
 
-fn tell(
-    alloc: Global,
-    what: &[u8],
-    rest: &[u8],
-    out: &mut Vec<u8>,
-) -> Option<Result<(), SpecError>> {
+fn tell(alloc: Global, question: Question<'_>, out: &mut Vec<u8>) -> Option<Result<(), SpecError>> {
+    let Question { what, rest } = question;
     if what == b"refspec".as_slice() {
         Some(read(alloc, rest, out))
     } else if what == b"tags".as_slice() {
@@ -157,11 +153,10 @@ fn tell(
 /// Tells what is asked of refspecs. Whether something is.
 pub(crate) fn ask(
     alloc: Global,
-    what: &[u8],
-    rest: &[u8],
+    question: Question<'_>,
     out: &mut Vec<u8>,
 ) -> Result<bool, NoMemory> {
-    match tell(alloc, what, rest, out) {
+    match tell(alloc, question, out) {
         Some(Ok(())) => Ok(true),
         Some(Err(e)) => {
             refuse(out, &e)?;

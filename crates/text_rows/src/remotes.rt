@@ -8,7 +8,7 @@ use fetch_lookup::{
 };
 use fetch_specs::{Operation, RefSpec, SpecError, Tags};
 use fetch_store::{List, NoMemory, Text};
-use rows::{decoded, refuse, say, say_specs, say_texts, split_word};
+use rows::{Question, decoded, refuse, say, say_specs, say_texts, split_word};
 use std::alloc::Global;
 use std::collections::BTreeSet;
 
@@ -156,13 +156,13 @@ fn extend(
 }
 
 /// Tells what is asked of remotes and branches. Whether something is.
-pub(crate) fn ask(
+pub(crate) fn ask_of_remotes(
     alloc: Global,
     file: &mut File,
-    what: &[u8],
-    rest: &[u8],
+    question: Question<'_>,
     out: &mut Vec<u8>,
 ) -> Result<bool, NoMemory> {
+    let Question { what, rest } = question;
     if what == b"names".as_slice() {
         tell_names(alloc, file, out)?;
     } else if what == b"find".as_slice() {

@@ -6,7 +6,7 @@ use fetch_remote::{Direction, Remote, Repository, branch, fetch, index_threads};
 use fetch_specs::FullName;
 use fetch_store::NoMemory;
 use itoa::Buffer;
-use rows::{name_of, say, split_word};
+use rows::{Question, name_of, say, split_word};
 use std::alloc::Global;
 
 /// Tells the names of all branches.
@@ -15,28 +15,6 @@ pub(crate) fn names(alloc: Global, repo: &Repository, out: &mut Vec<u8>) -> Resu
         say(out, &[b"branch", name.as_bytes()])?;
     }
     Ok(())
-}
-
-fn remote_name(
-    alloc: Global,
-    repo: &Repository,
-    short: &[u8],
-    direction: Direction,
-    out: &mut Vec<u8>,
-) -> Result<(), NoMemory> {
-    let name = repo.branch_remote_name(alloc, short, direction)?;
-    tell_name(out, name.as_ref())
-}
-
-fn remote(
-    alloc: Global,
-    repo: &Repository,
-    short: &[u8],
-    direction: Direction,
-    out: &mut Vec<u8>,
-) -> Result<(), NoMemory> {
-    let found = repo.branch_remote(alloc, short, direction);
-    tell_maybe(out, &found)
 }
 
 fn tell_full_name(
@@ -48,28 +26,6 @@ fn tell_full_name(
         Some(Err(e)) => refusals::branch(out, e),
         None => say(out, &[b"none"]),
     }
-}
-
-fn remote_ref(
-    alloc: Global,
-    repo: &Repository,
-    name: &FullName,
-    direction: Direction,
-    out: &mut Vec<u8>,
-) -> Result<(), NoMemory> {
-    let found = repo.branch_remote_ref_name(alloc, name, direction);
-    tell_full_name(out, &found)
-}
-
-fn tracking_ref(
-    alloc: Global,
-    repo: &Repository,
-    name: &FullName,
-    direction: Direction,
-    out: &mut Vec<u8>,
-) -> Result<(), NoMemory> {
-    let found = repo.branch_remote_tracking_ref_name(alloc, name, direction);
-    tell_full_name(out, &found)
 }
 
 fn tell_upstream(out: &mut Vec<u8>, name: &FullName, remote: &Remote) -> Result<(), NoMemory> {
@@ -99,15 +55,15 @@ fn ask_of_name(
     name: &FullName,
     out: &mut Vec<u8>,
 ) -> Result<bool, NoMemory> {
-    if what == b"remote-ref".as_slice() {
-        remote_ref(alloc, repo, name, direction, out)?;
-        Ok(true)
+    let found = if what == b"remote-ref".as_slice() {
+        repo.branch_remote_ref_name(alloc, name, direction)
     } else if what == b"tracking-ref".as_slice() {
-        tracking_ref(alloc, repo, name, direction, out)?;
-        Ok(true)
+        repo.branch_remote_tracking_ref_name(alloc, name, direction)
     } else {
-        Ok(false)
-    }
+        return Ok(false);
+    };
+    tell_full_name(out, &found)?;
+    Ok(true)
 }
 
 /// Tells which branch a tracking branch follows. Whether it is a full name.
@@ -130,26 +86,25 @@ fn ask_upstream(
 fn ask_of_branch(
     alloc: Global,
     repo: &Repository,
-    what: &[u8],
-    rest: &[u8],
+    question: Question<'_>,
     out: &mut Vec<u8>,
 ) -> Result<bool, NoMemory> {
-    let (word, text) = split_word(rest);
+    let (word, text) = split_word(question.rest);
     let Some(direction) = direction_of(word) else {
         return Ok(false);
     };
-    if what == b"remote-name".as_slice() {
-        remote_name(alloc, repo, text, direction, out)?;
-        Ok(true)
-    } else if what == b"remote".as_slice() {
-        remote(alloc, repo, text, direction, out)?;
-        Ok(true)
+    if question.what == b"remote-name".as_slice() {
+        let name = repo.branch_remote_name(alloc, text, direction)?;
+        tell_name(out, name.as_ref())?;
+    } else if question.what == b"remote".as_slice() {
+        tell_maybe(out, &repo.branch_remote(alloc, text, direction))?;
     } else {
-        match name_of(alloc, text)? {
-            Some(name) => ask_of_name(alloc, repo, what, direction, &name, out),
+        return match name_of(alloc, text)? {
+            Some(name) => ask_of_name(alloc, repo, question.what, direction, &name, out),
             None => Ok(false),
-        }
+        };
     }
+    Ok(true)
 }
 
 fn shallow_file(alloc: Global, repo: &Repository, out: &mut Vec<u8>) -> Result<(), NoMemory> {
@@ -170,25 +125,22 @@ fn threads(repo: &Repository, out: &mut Vec<u8>) -> Result<(), NoMemory> {
 }
 
 /// Tells what is asked of branches and settings. Whether something is.
-pub(crate) fn ask(
+pub(crate) fn ask_of_branches(
     alloc: Global,
     repo: &Repository,
-    what: &[u8],
-    rest: &[u8],
+    question: Question<'_>,
     out: &mut Vec<u8>,
 ) -> Result<bool, NoMemory> {
-    if what == b"branches".as_slice() {
+    if question.what == b"branches".as_slice() {
         names(alloc, repo, out)?;
-        Ok(true)
-    } else if what == b"shallow-file".as_slice() {
+    } else if question.what == b"shallow-file".as_slice() {
         shallow_file(alloc, repo, out)?;
-        Ok(true)
-    } else if what == b"threads".as_slice() {
+    } else if question.what == b"threads".as_slice() {
         threads(repo, out)?;
-        Ok(true)
-    } else if what == b"upstream".as_slice() {
-        ask_upstream(alloc, repo, rest, out)
+    } else if question.what == b"upstream".as_slice() {
+        return ask_upstream(alloc, repo, question.rest, out);
     } else {
-        ask_of_branch(alloc, repo, what, rest, out)
+        return ask_of_branch(alloc, repo, question, out);
     }
+    Ok(true)
 }

@@ -4,7 +4,7 @@ use super::finding::direction_of;
 use super::refusals;
 use fetch_remote::{Direction, Remote, Repository, ScriptedConnect};
 use fetch_store::NoMemory;
-use rows::{say, split_word};
+use rows::{Question, say, split_word};
 use std::alloc::Global;
 
 /// Makes a peer, by a maker that fails at these calls.
@@ -42,17 +42,16 @@ pub(crate) fn ask(
     alloc: Global,
     repo: &Repository,
     failing: &[u64],
-    what: &[u8],
-    rest: &[u8],
+    question: Question<'_>,
     out: &mut Vec<u8>,
 ) -> Result<bool, NoMemory> {
-    let (word, text) = split_word(rest);
+    if question.what != b"connect".as_slice() {
+        return Ok(false);
+    }
+    let (word, text) = split_word(question.rest);
     let Some(direction) = direction_of(word) else {
         return Ok(false);
     };
-    if what != b"connect".as_slice() {
-        return Ok(false);
-    }
     connect_to(alloc, repo, text, direction, failing, out)?;
     Ok(true)
 }

@@ -8,7 +8,7 @@ use fetch_specs::FullName;
 use fetch_store::{FileError, Files, MemoryFiles, NoMemory, Text};
 use fetch_update::ScriptedWorktrees;
 use itoa::Buffer;
-use rows::{say, say_lines};
+use rows::{Question, say, say_lines};
 use std::alloc::Global;
 
 /// What stands beside the configuration while it is replaced.
@@ -76,22 +76,7 @@ fn tell_left(
     tell_files(files, out)
 }
 
-/// Deletes branches, and tells the answer.
-fn delete_from(
-    alloc: Global,
-    repo: &mut Repository,
-    names: &[FullName],
-    files: &mut MemoryFiles,
-    worktrees: &mut ScriptedWorktrees,
-    out: &mut Vec<u8>,
-) -> Result<(), NoMemory> {
-    match repo.delete_local_branches(alloc, names, worktrees, files) {
-        Ok(()) => say(out, &[b"ok"]),
-        Err(e) => refusals::deleted(out, &e),
-    }
-}
-
-/// Deletes branches, and tells what is left: references, branches in memory, and files.
+/// Deletes branches, and tells the answer, and what is left: references, branches in memory, and files.
 fn delete_over(
     alloc: Global,
     repo: &mut Repository,
@@ -100,7 +85,10 @@ fn delete_over(
     worktrees: &mut ScriptedWorktrees,
     out: &mut Vec<u8>,
 ) -> Result<(), NoMemory> {
-    delete_from(alloc, repo, names, files, worktrees, out)?;
+    match repo.delete_local_branches(alloc, names, worktrees, files) {
+        Ok(()) => say(out, &[b"ok"])?,
+        Err(e) => refusals::deleted(out, &e)?,
+    }
     tell_left(alloc, repo, files, out)
 }
 
@@ -147,18 +135,17 @@ pub(crate) fn ask(
     alloc: Global,
     setting: &Setting,
     repo: &mut Repository,
-    what: &[u8],
-    rest: &[u8],
+    question: Question<'_>,
     out: &mut Vec<u8>,
 ) -> Result<bool, NoMemory> {
-    if what == b"reload".as_slice() {
+    if question.what == b"reload".as_slice() {
         reload(alloc, setting, repo, out)?;
         return Ok(true);
     }
-    if what != b"delete".as_slice() {
+    if question.what != b"delete".as_slice() {
         return Ok(false);
     }
-    let Some(names) = names_of(alloc, rest)? else {
+    let Some(names) = names_of(alloc, question.rest)? else {
         return Ok(false);
     };
     delete(alloc, setting, repo, names.as_slice(), out)?;

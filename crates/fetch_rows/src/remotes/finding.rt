@@ -1,11 +1,11 @@
 //! Remotes that are found.
 
 use super::refusals;
-use fetch_remote::find::{existing, for_fetch};
+use fetch_remote::find::existing;
 use fetch_remote::{Direction, Name, Remote, Repository, name};
 use fetch_specs::Tags;
 use fetch_store::{NoMemory, Text};
-use rows::{say, say_specs, say_texts};
+use rows::{Question, say, say_specs, say_texts};
 use std::alloc::Global;
 
 /// What a direction is called.
@@ -68,16 +68,6 @@ pub(crate) fn tell_maybe(
     }
 }
 
-fn tell_fetched(
-    out: &mut Vec<u8>,
-    found: &Result<Remote, for_fetch::Error>,
-) -> Result<(), NoMemory> {
-    match found {
-        Ok(remote) => tell_remote(out, remote),
-        Err(e) => refusals::for_fetch(out, e),
-    }
-}
-
 /// Tells the names of all remotes.
 pub(crate) fn names(alloc: Global, repo: &Repository, out: &mut Vec<u8>) -> Result<(), NoMemory> {
     for name in &repo.remote_names(alloc)? {
@@ -93,46 +83,24 @@ fn tell_text(out: &mut Vec<u8>, text: &Option<Text>) -> Result<(), NoMemory> {
     }
 }
 
-fn default_name(
-    alloc: Global,
-    repo: &Repository,
-    direction: Direction,
-    out: &mut Vec<u8>,
-) -> Result<(), NoMemory> {
-    let name = repo.remote_default_name(alloc, direction)?;
-    tell_text(out, &name)
-}
-
-fn default(
-    alloc: Global,
-    repo: &Repository,
-    direction: Direction,
-    out: &mut Vec<u8>,
-) -> Result<(), NoMemory> {
-    let found = repo.find_default_remote(alloc, direction);
-    tell_maybe(out, &found)
-}
-
 /// What is asked of a direction. Whether something is.
 fn ask_of_direction(
     alloc: Global,
     repo: &Repository,
-    what: &[u8],
-    rest: &[u8],
+    question: Question<'_>,
     out: &mut Vec<u8>,
 ) -> Result<bool, NoMemory> {
-    let Some(direction) = direction_of(rest) else {
+    let Some(direction) = direction_of(question.rest) else {
         return Ok(false);
     };
-    if what == b"default-name".as_slice() {
-        default_name(alloc, repo, direction, out)?;
-        Ok(true)
-    } else if what == b"find-default".as_slice() {
-        default(alloc, repo, direction, out)?;
-        Ok(true)
+    if question.what == b"default-name".as_slice() {
+        tell_text(out, &repo.remote_default_name(alloc, direction)?)?;
+    } else if question.what == b"find-default".as_slice() {
+        tell_maybe(out, &repo.find_default_remote(alloc, direction))?;
     } else {
-        Ok(false)
+        return Ok(false);
     }
+    Ok(true)
 }
 
 fn find(alloc: Global, repo: &Repository, name: &[u8], out: &mut Vec<u8>) -> Result<(), NoMemory> {
@@ -166,8 +134,10 @@ fn to_fetch(
     text: Option<&[u8]>,
     out: &mut Vec<u8>,
 ) -> Result<(), NoMemory> {
-    let found = repo.find_fetch_remote(alloc, text);
-    tell_fetched(out, &found)
+    match repo.find_fetch_remote(alloc, text) {
+        Ok(remote) => tell_remote(out, &remote),
+        Err(e) => refusals::for_fetch(out, &e),
+    }
 }
 
 fn validate(alloc: Global, text: &[u8], out: &mut Vec<u8>) -> Result<(), NoMemory> {
@@ -181,10 +151,10 @@ fn validate(alloc: Global, text: &[u8], out: &mut Vec<u8>) -> Result<(), NoMemor
 pub(crate) fn ask(
     alloc: Global,
     repo: &Repository,
-    what: &[u8],
-    rest: &[u8],
+    question: Question<'_>,
     out: &mut Vec<u8>,
 ) -> Result<bool, NoMemory> {
+    let Question { what, rest } = question;
     if what == b"names".as_slice() {
         names(alloc, repo, out)?;
     } else if what == b"find".as_slice() {
@@ -200,7 +170,7 @@ pub(crate) fn ask(
     } else if what == b"validated".as_slice() {
         validate(alloc, rest, out)?;
     } else {
-        return ask_of_direction(alloc, repo, what, rest, out);
+        return ask_of_direction(alloc, repo, question, out);
     }
     Ok(true)
 }

@@ -14,7 +14,7 @@ use fetch_store::{
     Border, FileError, Files, Kind, List, MemoryFiles, NoMemory, ObjectId, Store, Text,
 };
 use fetch_update::{ScriptedWorktrees, Worktree};
-use rows::name_of;
+use rows::{name_of, somebody};
 use std::alloc::Global;
 
 /// Where the configuration stands.
@@ -27,15 +27,6 @@ fn meta(source: Origin) -> Meta {
         path: None,
         trusted: true,
     }
-}
-
-fn signature(alloc: Global) -> Result<Signature, NoMemory> {
-    Ok(Signature {
-        name: Text::new(alloc, b"A")?,
-        email: Text::new(alloc, b"a@x")?,
-        seconds: 1,
-        offset_minutes: 0,
-    })
 }
 
 /// A configuration of the repository's own without sections.
@@ -110,7 +101,7 @@ struct Places {
 }
 
 fn make_places(alloc: Global, is_lenient: bool, overrides: List<Text>) -> Result<Places, NoMemory> {
-    let committer = signature(alloc)?;
+    let committer = somebody(alloc)?;
     let git_dir = Text::new(alloc, b"/w/.git")?;
     let workdir = Text::new(alloc, b"/w")?;
     Ok(Places {
@@ -173,7 +164,7 @@ fn make_references(
     repo: &mut Repository,
 ) -> Result<(), NoMemory> {
     let edits = edits(alloc, setting)?;
-    let committer = signature(alloc)?;
+    let committer = somebody(alloc)?;
     match repo.edit_refs(edits.as_slice(), &committer, PackedRefs::Never) {
         Ok(()) => Ok(()),
         Err(_) => Err(NoMemory),

@@ -6,7 +6,7 @@ use super::refusals;
 use fetch_config::File;
 use fetch_remote::{Remote, Repository};
 use fetch_store::NoMemory;
-use rows::{say_lines, split_word};
+use rows::{Question, say_lines, split_word};
 use std::alloc::Global;
 
 fn tell_file(alloc: Global, file: &File, out: &mut Vec<u8>) -> Result<(), NoMemory> {
@@ -79,19 +79,18 @@ pub(crate) fn ask(
     alloc: Global,
     repo: &Repository,
     config: &[u8],
-    what: &[u8],
-    rest: &[u8],
+    question: Question<'_>,
     out: &mut Vec<u8>,
 ) -> Result<bool, NoMemory> {
-    if what == b"save".as_slice() {
+    if question.what == b"save".as_slice() {
         let Some(mut file) = config_of(alloc, config)? else {
             return Ok(false);
         };
-        save(alloc, repo, rest, &mut file, out)?;
+        save(alloc, repo, question.rest, &mut file, out)?;
         Ok(true)
-    } else if what == b"save-as".as_slice() {
+    } else if question.what == b"save-as".as_slice() {
         let mut file = no_config(alloc)?;
-        save_as(alloc, repo, rest, &mut file, out)?;
+        save_as(alloc, repo, question.rest, &mut file, out)?;
         Ok(true)
     } else {
         Ok(false)

@@ -67,12 +67,8 @@ impl Setting {
     }
 
     /// Takes what a line says. Whether it says something.
-    pub(crate) fn take(
-        &mut self,
-        alloc: Global,
-        word: &[u8],
-        rest: &[u8],
-    ) -> Result<bool, NoMemory> {
+    pub(crate) fn take(&mut self, alloc: Global, line: &[u8]) -> Result<bool, NoMemory> {
+        let (word, rest) = split_word(line);
         if word == b"config".as_slice() {
             push_line(&mut self.file, rest)?;
             push_line(&mut self.config, rest)

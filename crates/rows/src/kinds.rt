@@ -2,7 +2,8 @@
 
 use fetch_store::{Kind, ObjectKind};
 
-pub(crate) fn hash_of(word: &[u8]) -> Option<Kind> {
+/// `sha1` or `sha256`.
+pub fn hash_of(word: &[u8]) -> Option<Kind> {
     if word == b"sha1".as_slice() {
         Some(Kind::Sha1)
     } else if word == b"sha256".as_slice() {
@@ -12,7 +13,8 @@ pub(crate) fn hash_of(word: &[u8]) -> Option<Kind> {
     }
 }
 
-pub(crate) fn object_kind_of(word: &[u8]) -> Option<ObjectKind> {
+/// The kind of object that has this name.
+pub fn object_kind_of(word: &[u8]) -> Option<ObjectKind> {
     for kind in [
         ObjectKind::Commit,
         ObjectKind::Tree,
