@@ -125,6 +125,17 @@ def repeated_acks(size):
     return ["fetch"], scene.to_bytes()
 
 
+def acks_of_rounds(size):
+    """`ACK`s of the sixteen commits of the first window, so many in each of eight rounds. Each commit is a root."""
+    windows = [16, 32, 64, 128, 256, 512, 1024, 1024]
+    roots = [commit(number, None) for number in range(1, sum(windows) + 2)]
+    acks = [text_line(f"ACK {roots[-1 - number % 16].id}") for number in range(size)]
+    names = {f"refs/heads/{number:04}": each.id for number, each in enumerate(roots)}
+    scene = scene_with(lines(text_line(f"{'f' * 40} refs/heads/main")), *[lines(b"acknowledgments\n", *acks)] * len(windows),
+                       banded(EMPTY_PACK), objects=[TREE, *roots], references=names, algorithm="consecutive")
+    return ["fetch"], scene.to_bytes()
+
+
 def local_borders(size):
     """A border of a repository, each commit of it there."""
     roots = [commit(number, None) for number in range(1, size + 1)]
@@ -218,5 +229,5 @@ def served_tags(size):
     return None, row(b"serve", state, [b"feed " + escaped(text), b"give 1000000000"])
 
 
-OF_A_SIZE = (names_unasked, names_mapped, shallow_lines, repeated_acks, local_borders, names_not_to_deepen, haves, wants, borders,
-             names_not_to_serve, prefixes, missing_blobs, chained_names, chained_tags, served_tags)
+OF_A_SIZE = (names_unasked, names_mapped, shallow_lines, repeated_acks, acks_of_rounds, local_borders, names_not_to_deepen, haves,
+             wants, borders, names_not_to_serve, prefixes, missing_blobs, chained_names, chained_tags, served_tags)
