@@ -47,6 +47,8 @@ def state_in(scene):
     """The repository that the scene of a server has, or None where it can't be read."""
     try:
         read = read_server_scene(scene)
+        if "" in read.references.values():
+            return None
         return State(read.hash_name, {each.id: each for each in read.objects}, read.references, sorted(set(read.border)))
     except (MalformedObject, Trouble):
         return None
