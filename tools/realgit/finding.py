@@ -44,12 +44,14 @@ def mirrored(state, workers):
 
 
 def state_in(scene):
-    """The repository that the scene of a server has, or None where it can't be read."""
+    """The repository that the scene of a server has, its ids in lower case, or None where it can't be read."""
     try:
         read = read_server_scene(scene)
         if "" in read.references.values():
             return None
-        return State(read.hash_name, {each.id: each for each in read.objects}, read.references, sorted(set(read.border)))
+        references = {name: target if target.startswith("@") else target.lower() for name, target in read.references.items()}
+        border = sorted({digits.lower() for digits in read.border})
+        return State(read.hash_name, {each.id: each for each in read.objects}, references, border)
     except (MalformedObject, Trouble):
         return None
 

@@ -99,6 +99,7 @@ class Expected(unittest.TestCase):
         self.assertEqual(mirrored(state, 8), (f"ref {root.id} refs/heads/a\n{ids}ok\n".encode(), 0))
         self.assertEqual(mirrored(state, 9), (b"refused Workers 9\n", 1))
         self.assertEqual(state_in(scene_of(state)), state)
+        self.assertEqual(state_in(scene_of(State("sha1", state.objects, {"refs/heads/a": root.id.upper()}))).references["refs/heads/a"], root.id)
         state.references["refs/heads/b"] = ""
         self.assertIsNone(state_in(scene_of(state)))
         self.assertEqual(object_id("sha1", "tree", b""), TREE.id)
