@@ -93,7 +93,7 @@ class Stated:
         """The names that are told, each once."""
         if isinstance(self.told, dict):
             return {name for name, text in self.told.items() if re.search(rb"^" + text, written, re.MULTILINE)}
-        return {found.decode().rsplit(" ", 1)[-1] for found in self.told.findall(written)}
+        return {found.rsplit(b" ", 1)[-1].decode() for found in self.told.findall(written)}
 
 
 STATED = {

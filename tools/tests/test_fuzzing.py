@@ -142,7 +142,8 @@ class Faults(unittest.TestCase):
     def test_names_that_are_told(self):
         self.assertEqual(ended(1, b"refused Malformed 5\n").names(), {"Malformed"})
         told = b"missing %(id)s %(id)s\nbroken a b Depth\nfound 2\n" % {b"id": b"0" * 40}
-        self.assertEqual(ended(1, told.replace(b"a b", b"a/b"), asked="check").names(), {"missing", "Depth"})
+        for name in (b"a/b", b"a\x80"):
+            self.assertEqual(ended(1, told.replace(b"a b", name), asked="check").names(), {"missing", "Depth"})
         text = b"= serve a\nrefused malformed line at byte 3 of the request\ngives 9 0042ERR want 00 not offered%0A\n"
         self.assertEqual(ended(0, text, asked="server").names(), {"Malformed", "want not offered"})
         self.assertEqual({name for stated in STATED.values() for name in stated.names if not name}, set())
