@@ -73,7 +73,7 @@ class Statuses(unittest.TestCase):
         status, text = self.ended(["--help"])
         self.assertEqual(status, 0)
         offered = re.findall(rb"^(?:usage:|      ) bagjulen (\w+)", text, flags=re.MULTILINE)
-        self.assertEqual(offered, [b"fetch", b"check", b"bench", b"race"])
+        self.assertEqual(offered, [b"fetch", b"check", b"bench", b"race", b"mirror"])
 
     @IN_OWN_MEMORY
     def test_a_scene_that_is_a_byte_too_long(self):

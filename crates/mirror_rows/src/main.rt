@@ -1,8 +1,9 @@
-//! Mirrors the repositories of its input: by the program's words, by a bound of the replies, or by workers whose peers wait for
-//! each other. Or it fetches from servers of them. It writes what came of it.
+//! Mirrors the repositories of its input: by the program's words, by a bound of the replies, by workers whose peers wait for each
+//! other, or by peers that fail. Or it fetches from servers of them. It writes what came of it.
 #![tactic(auto)]
 
 mod bounds;
+mod failing;
 mod gated;
 mod mirrors;
 mod repositories;
@@ -31,6 +32,8 @@ fn tell_mirrors(
         bounds::tell(rt, alloc, &repo, row.lines, out)
     } else if row.whose == b"gated".as_slice() {
         gated::tell(rt, alloc, &repo, out)
+    } else if row.whose == b"failing".as_slice() {
+        failing::tell(rt, alloc, &repo, out)
     } else {
         Ok(false)
     }

@@ -52,3 +52,22 @@ pub(crate) fn tell_mirror(
         }
     }
 }
+
+/// Puts down that a mirror is done, or why there is none. Whether it is done.
+pub(crate) fn tell_outcome(
+    alloc: Global,
+    mirror: Result<Mirrored, MirrorError>,
+    out: &mut Vec<u8>,
+) -> Result<bool, NoMemory> {
+    match mirror {
+        Ok(mirrored) => {
+            drop(mirrored);
+            say(out, &[b"done"])?;
+            Ok(true)
+        }
+        Err(refusal) => {
+            tell_refusal(alloc, refusal, out)?;
+            Ok(false)
+        }
+    }
+}
