@@ -2,6 +2,7 @@ pub mod Appended
 pub mod Steps
 pub mod Meanings
 pub mod Replaced
+pub mod Alone
 pub mod Settings
 pub mod Created
 pub mod Reread

@@ -264,18 +264,26 @@ impl<F: Files + Drop, C: Connect + Drop, R: Drop, G: Drop> PrepareFetch<F, C, R,
         clone
     }
 
-    /// The repository, empty as it was created, where there was no success. The place stays.
+    /// The repository, empty as it was created, where there was no success. The place stays, and the files are asked nothing.
     pub fn persist(self) -> Option<Repository>
         ensures { result ≡ self.draft.repo }
     {
+        let (_files, repo) = self.into_parts();
+        repo
+    }
+
+    /// The files as they are, and the repository where there was no success.
+    fn into_parts(self) -> (F, Option<Repository>)
+        ensures { result ≡ (self.files, self.draft.repo) }
+    {
         let PrepareFetch {
-            files: _,
+            files,
             maker: _,
             configure_remote: _,
             configure_connection: _,
             draft,
         } = self;
-        draft.repo
+        (files, draft.repo)
     }
 
     /// Gives the clone up: without success, and not persisted, the removal of the place is asked for exactly where it was free
@@ -315,6 +323,7 @@ impl<F: Files + Drop, C: Connect + Drop, R: Drop, G: Drop> From<PrepareFetch<F, 
     ghost from_gives = { λ p repo. repo ≡ p.draft.repo };
 
     fn from(clone: PrepareFetch<F, C, R, G>) -> Option<Repository> {
-        clone.persist()
+        let (_files, repo) = clone.into_parts();
+        repo
     }
 }
