@@ -1,12 +1,12 @@
 //! Mirrors in which a call of one peer fails, each of its calls in turn: of the lister, or of one of two workers.
 
 ghost use Rattle.std.specs.Prelude.{◌≡◌, IfOk, vec_len};
-ghost use Rattle.fetch_store.specs.Faults.{Rose, Counts, counted};
 
+use crate::counted::CountedPeer;
 use crate::mirrors::{options_for, tell_outcome};
 use fetch_mirror::mirror_from;
 use fetch_remote::Repository;
-use fetch_serve::{ServeError, Server, ServerPeer};
+use fetch_serve::{ServeError, Server};
 use fetch_store::{Failed, NoMemory};
 use fetch_wire::{Peer, ReplyBound, SendFault};
 use rows::say_number;
@@ -20,28 +20,9 @@ const CALLS: usize = 16;
 /// A server as a peer that fails from a call on.
 #[derive(Drop)]
 struct FailingPeer<'a> {
-    server: ServerPeer<'a>,
+    peer: CountedPeer<'a>,
     /// How many calls are to come before.
     left: usize,
-    failed: u64,
-}
-
-impl<'a> FailingPeer<'a> {
-    /// A peer by a server of its own of the same repository, with so many calls before the first that fails.
-    fn new(server: &Server<'a>, left: usize) -> FailingPeer<'a> {
-        FailingPeer {
-            server: ServerPeer::new(server.fresh()),
-            left,
-            failed: 0,
-        }
-    }
-
-    fn fail(&mut self)
-        ensures counts { Counts (counted self.old.failed) (counted self.new.failed) }
-        ensures rose { Rose (counted self.old.failed) (counted self.new.failed) }
-    {
-        self.failed = self.failed.saturating_add(1);
-    }
 }
 
 impl<'a> Peer for FailingPeer<'a> {
@@ -50,39 +31,26 @@ impl<'a> Peer for FailingPeer<'a> {
 
     ghost told = { λ _. None };
 
-    ghost faults = { λ p. counted p.failed };
+    ghost faults = { λ p. counted p.peer.failed };
 
     ghost answers = { false };
 
     fn send(&mut self, bytes: &[u8]) -> Result<(), SendFault> {
         let Some(left) = self.left.checked_sub(1) else {
-            self.fail();
+            self.peer.fail();
             return Err(SendFault::Failed);
         };
         self.left = left;
-        match self.server.send(bytes) {
-            Ok(()) => Ok(()),
-            Err(SendFault::NoMemory) => Err(SendFault::NoMemory),
-            Err(SendFault::Failed) => {
-                self.fail();
-                Err(SendFault::Failed)
-            }
-        }
+        self.peer.send(bytes)
     }
 
     fn receive(&mut self, into: &mut [u8]) -> Result<usize, Failed> {
         let Some(left) = self.left.checked_sub(1) else {
-            self.fail();
+            self.peer.fail();
             return Err(Failed);
         };
         self.left = left;
-        match self.server.receive(into) {
-            Ok(count) => Ok(count),
-            Err(Failed) => {
-                self.fail();
-                Err(Failed)
-            }
-        }
+        self.peer.receive(into)
     }
 }
 
@@ -106,8 +74,10 @@ impl Who {
 
 /// The peer that this one is, which fails behind so many calls where it is the one that fails.
 fn peer<'a>(server: &Server<'a>, is: Who, fails: Who, calls: usize) -> FailingPeer<'a> {
-    let left = if is == fails { calls } else { usize::MAX };
-    FailingPeer::new(server, left)
+    FailingPeer {
+        peer: CountedPeer::new(server),
+        left: if is == fails { calls } else { usize::MAX },
+    }
 }
 
 /// The peers of two workers.

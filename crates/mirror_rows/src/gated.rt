@@ -2,12 +2,12 @@
 //! be under way at once, and neither waits for the other's turn.
 
 ghost use Rattle.std.specs.Prelude.{◌≡◌, IfOk, vec_len};
-ghost use Rattle.fetch_store.specs.Faults.{Rose, Counts, counted};
 
+use crate::counted::CountedPeer;
 use crate::mirrors::{options_for, tell_mirror};
 use fetch_mirror::mirror_from;
 use fetch_remote::Repository;
-use fetch_serve::{ServeError, Server, ServerPeer};
+use fetch_serve::{ServeError, Server};
 use fetch_store::{Failed, NoMemory};
 use fetch_wire::{Peer, ReplyBound, SendFault};
 use rows::say_number;
@@ -51,10 +51,9 @@ struct Gate {
 /// A server as a peer, which waits for another one where it has a gate.
 #[derive(Drop)]
 struct GatedPeer<'a> {
-    server: ServerPeer<'a>,
+    peer: CountedPeer<'a>,
     gate: Option<Gate>,
     stage: Stage,
-    failed: u64,
 }
 
 /// What these bytes ask for, if they begin a request behind the greeting.
@@ -114,16 +113,15 @@ impl<'a> GatedPeer<'a> {
     /// A peer by a server of its own of the same repository.
     fn new(server: &Server<'a>, gate: Option<Gate>) -> GatedPeer<'a> {
         GatedPeer {
-            server: ServerPeer::new(server.fresh()),
+            peer: CountedPeer::new(server),
             gate,
             stage: Stage::Greeting,
-            failed: 0,
         }
     }
 
     /// Notes what these bytes ask for.
     fn note(&mut self, bytes: &[u8])
-        ensures { self.new.failed ≡ self.old.failed }
+        ensures { self.new.peer ≡ self.old.peer }
     {
         if let Some(stage) = stage_of(bytes) {
             self.stage = stage;
@@ -140,13 +138,6 @@ impl<'a> GatedPeer<'a> {
             None => true,
         }
     }
-
-    fn fail(&mut self)
-        ensures counts { Counts (counted self.old.failed) (counted self.new.failed) }
-        ensures rose { Rose (counted self.old.failed) (counted self.new.failed) }
-    {
-        self.failed = self.failed.saturating_add(1);
-    }
 }
 
 impl<'a> Peer for GatedPeer<'a> {
@@ -155,34 +146,21 @@ impl<'a> Peer for GatedPeer<'a> {
 
     ghost told = { λ _. None };
 
-    ghost faults = { λ p. counted p.failed };
+    ghost faults = { λ p. counted p.peer.failed };
 
     ghost answers = { false };
 
     fn send(&mut self, bytes: &[u8]) -> Result<(), SendFault> {
         self.note(bytes);
-        match self.server.send(bytes) {
-            Ok(()) => Ok(()),
-            Err(SendFault::NoMemory) => Err(SendFault::NoMemory),
-            Err(SendFault::Failed) => {
-                self.fail();
-                Err(SendFault::Failed)
-            }
-        }
+        self.peer.send(bytes)
     }
 
     fn receive(&mut self, into: &mut [u8]) -> Result<usize, Failed> {
         if !self.may_reply() {
-            self.fail();
+            self.peer.fail();
             return Err(Failed);
         }
-        match self.server.receive(into) {
-            Ok(count) => Ok(count),
-            Err(Failed) => {
-                self.fail();
-                Err(Failed)
-            }
-        }
+        self.peer.receive(into)
     }
 }
 

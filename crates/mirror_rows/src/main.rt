@@ -3,6 +3,7 @@
 #![tactic(auto)]
 
 mod bounds;
+mod counted;
 mod failing;
 mod gated;
 mod mirrors;
