@@ -11,6 +11,7 @@ pub mod Conflicting
 pub mod Ascending
 pub mod Stars
 pub mod Taking
+pub mod Exactly
 pub mod Covering
 pub mod Forms
 pub mod Between

@@ -6,6 +6,7 @@ pub mod Parses
 pub mod Views
 pub mod Tagged
 pub mod Matches
+pub mod Exact
 pub mod FoundSets
 pub mod Prefixes
 pub mod Conflicts

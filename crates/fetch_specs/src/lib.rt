@@ -9,6 +9,7 @@ mod grammar;
 pub mod laws;
 mod leading;
 mod listing;
+mod lookup;
 mod matching;
 mod name;
 mod operation;

@@ -1,7 +1,10 @@
 //! What a list of refspecs maps, and what leads to a name.
 
 ghost use Rattle.std.specs.Prelude.{◌≡◌, is_some, map, IfOk, OnOk, IsOkUnless};
+ghost use Rattle.std.specs.List.{list_any};
 ghost use Rattle.std.specs.Option.{option_copied, option_map};
+ghost use Rattle.fetch_specs.specs.Exact as exactly;
+ghost use Rattle.fetch_specs.specs.Exact.{HasPlaces, matches_at, place_from};
 ghost use Rattle.fetch_specs.specs.Matches as words;
 ghost use Rattle.fetch_specs.specs.Matches.{added_all, mappings_of, sources_of};
 ghost use Rattle.fetch_specs.specs.declared.error.SpecError.TheVariants as errors;
@@ -9,12 +12,14 @@ ghost use Rattle.fetch_specs.specs.declared.error.SpecError.TheVariants as error
 use crate::error::SpecError;
 use crate::found::{Found, Match, SourceRef};
 use crate::leading::add_sources;
+use crate::lookup::{place_of, places_for};
 use crate::name::PartialName;
-use crate::pattern::{expanded, taken};
+use crate::pattern::{exact, expanded, taken};
 use crate::reading::id_named;
 use crate::spec::RefSpec;
 use fetch_store::{Kind, NoMemory, ObjectId, Text};
 use std::alloc::Global;
+use std::collections::BTreeMap;
 use std::marker::Model;
 
 /// A name that a remote, or a repository, has.
@@ -104,6 +109,16 @@ fn source_taken<'a>(source: Option<&[u8]>, name: &'a [u8]) -> Option<&'a [u8]>
     }
 }
 
+/// The source, where it takes one name alone.
+fn exact_source(source: Option<&[u8]>) -> Option<&[u8]>
+    ensures { option_copied result ≡ exactly.exact_source (option_copied source.entry) }
+{
+    match source {
+        Some(source) => exact(source),
+        None => None,
+    }
+}
+
 fn source_id(source: Option<&[u8]>) -> Option<ObjectId>
     ensures { result ≡ words.source_id (option_copied source.entry) }
 {
@@ -136,6 +151,27 @@ pub(crate) fn is_excluded(specs: &[RefSpec], name: &[u8]) -> bool
         }
     }
     false
+}
+
+/// Whether there is an exclusion among these refspecs.
+fn has_exclusion(specs: &[RefSpec]) -> bool
+    ensures { result ≡ list_any (λ spec. words.is_exclusion spec.mode) specs.now }
+{
+    for spec in specs {
+        if is_exclusion(spec) {
+            return true;
+        }
+    }
+    false
+}
+
+/// The same as `is_excluded`, where it is known whether there is an exclusion.
+#[tactic(auto, using(crate::proofs::Exactly::none_excluded))]
+fn is_excluded_if(has_exclusion: bool, specs: &[RefSpec], name: &[u8]) -> bool
+    requires { has_exclusion ≡ list_any (λ spec. words.is_exclusion spec.mode) specs.now }
+    ensures { result ≡ words.is_excluded specs.now name.now }
+{
+    has_exclusion && is_excluded(specs, name)
 }
 
 fn is_of(kind: Kind, id: &ObjectId) -> bool
@@ -204,8 +240,10 @@ impl<'a> Names<'a> {
         ensures items { IfOk result (λ names. names.items.now ≡ items.entry.now) }
     {
         let mut excluded = Vec::with_capacity(alloc, items.len())?;
+        let excludes = has_exclusion(specs);
         for item in items {
-            excluded.push(is_excluded(specs, item.full_ref_name.as_bytes()))?;
+            let name = item.full_ref_name.as_bytes();
+            excluded.push(is_excluded_if(excludes, specs, name))?;
         }
         Ok(Names {
             specs,
@@ -285,6 +323,53 @@ fn add_names_of(
     Ok(())
 }
 
+/// What a refspec maps of a name that stands at a place.
+fn add_name_at(
+    alloc: Global,
+    found: &mut Found,
+    names: &Names<'_>,
+    index: usize,
+    spec: &RefSpec,
+    name: &[u8],
+    place: Option<usize>,
+) -> Result<(), NoMemory>
+    requires { place ≡ place_from 0 name.now (map (λ item. item.full_ref_name) names.now.items.now) }
+    ensures added { OnOk result (found.new.matches ≡ added_all found.old.pairs found.old.matches
+        (matches_at (words.name_matches names.now.specs.now index spec.now) name.now place)) }
+    ensures pairs { found.new.pairs ≡ found.old.pairs }
+{
+    let Some(place) = place else {
+        return Ok(());
+    };
+    let one = name_match(alloc, names.excluded[place], index, spec, place, name)?;
+    add_some(found, one)
+}
+
+/// What a refspec maps: one name is looked up where there is a map of them.
+fn add_names_by(
+    alloc: Global,
+    found: &mut Found,
+    names: &Names<'_>,
+    places: &Option<BTreeMap<Text, usize>>,
+    index: usize,
+    spec: &RefSpec,
+) -> Result<(), NoMemory>
+    requires { HasPlaces (map (λ item. item.full_ref_name) names.now.items.now) places.now }
+    ensures added { OnOk result (found.new.matches
+        ≡ added_all found.old.pairs found.old.matches
+        (words.names_from (words.name_matches names.now.specs.now index spec.now) 0
+        (map (λ item. item.full_ref_name) names.now.items.now))) }
+    ensures pairs { found.new.pairs ≡ found.old.pairs }
+{
+    match (exact_source(spec.source()), places) {
+        (Some(name), Some(places)) => {
+            let place = place_of(alloc, places, name)?;
+            add_name_at(alloc, found, names, index, spec, name, place)
+        }
+        _ => add_names_of(alloc, found, names, index, spec),
+    }
+}
+
 fn add_names(
     alloc: Global,
     found: &mut Found,
@@ -296,8 +381,9 @@ fn add_names(
     ensures pairs { found.new.pairs ≡ found.old.pairs }
 {
     let names = Names::new(alloc, specs, items)?;
+    let places = places_for(alloc, specs, names.items)?;
     for i in 0..specs.len() {
-        add_names_of(alloc, found, &names, i, &specs[i])?;
+        add_names_by(alloc, found, &names, &places, i, &specs[i])?;
     }
     Ok(())
 }

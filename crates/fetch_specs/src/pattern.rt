@@ -4,6 +4,7 @@ ghost use Rattle.std.specs.Prelude.{◌≡◌, ◌==◌, ◌++◌, ◌≤◌, le
 ghost use Rattle.std.specs.List.{position_or_len};
 ghost use Rattle.std.specs.Option.{option_copied};
 ghost use Rattle.std.specs.Str.{bytes_eq};
+ghost use Rattle.fetch_specs.specs.Exact as exactly;
 ghost use Rattle.fetch_specs.specs.Matches as spec;
 
 use fetch_store::NoMemory;
@@ -61,6 +62,16 @@ fn is_full(source: &[u8]) -> bool
     ensures { result ≡ spec.is_full source.now }
 {
     source == b"HEAD".as_slice() || source.starts_with(b"refs/")
+}
+
+/// A source that takes one name alone, its own: in full, without a star.
+pub(crate) fn exact(source: &[u8]) -> Option<&[u8]>
+    ensures { option_copied result ≡ exactly.exact source.now }
+{
+    if has_star(source) || !is_full(source) {
+        return None;
+    }
+    Some(source)
 }
 
 /// Whether a name is a prefix and a text.

@@ -28,6 +28,7 @@ pub mod Consistent
 pub mod Firsts
 pub mod Takes
 pub mod GraphsAdded
+pub mod Extended
 pub mod TagTexts
 pub mod TreeTexts
 pub mod CommitTexts

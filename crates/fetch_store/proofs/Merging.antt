@@ -1,12 +1,12 @@
 -- Two lists in order, merged from the back into the first one.
-use Rattle.std.proofs.Common.{◌≡◌, ℕ, zero, suc, ◌+◌, ◌-◌, ◌<◌, ◌≤◌, ◌⊎◌, inl, inr, Bool, true, false, cond, T, List, [], ◌∷◌, ◌++◌, length, get_or, take, drop, set, Option, Some, None, All, Ordering, Less, Equal, Greater, refl, sym, ap, subst, ◌∙◌, arith}
+use Rattle.std.proofs.Common.{◌≡◌, ℕ, zero, suc, ◌+◌, ◌-◌, ◌<◌, ◌≤◌, ◌⊎◌, inl, inr, Bool, true, false, cond, T, List, [], ◌∷◌, ◌++◌, length, get_or, take, drop, set, reverse, Option, Some, None, All, Ordering, Less, Equal, Greater, refl, sym, ap, subst, ◌∙◌, arith}
 use Rattle.std.specs.Prelude.{slice_get}
 use Rattle.std.specs.Option.{option_or, option_map_or}
 use Rattle.std.specs.Ordering.{eq_by_cmp, is_eq, is_lt}
 use Rattle.std.specs.Cmp.{Equal-is}
 use Rattle.std.specs.FinMap.{find, is_sorted}
 use Rattle.std.specs.FinMap.Entries.{below_all}
-use Rattle.std.proofs.lemmas.List.{append_assoc, append-nil, length-append, take_more, take-set-le, drop-set, take-append-drop}
+use Rattle.std.proofs.lemmas.List.{append_assoc, append-nil, length-append, take_more, take-set-le, drop-set, take-append-drop, reverse-append}
 use Rattle.std.proofs.Math.Seq.{take-append_seam, drop-append_seam}
 use Rattle.std.proofs.lemmas.List.Elements.{All-nil, All-cons, All-head, All-tail, All-weaker}
 use Rattle.fetch_store.specs.declared.id.ObjectId.{ObjectId}
@@ -214,3 +214,16 @@ module _ {X : Type 0} where
   pub over_values : (A news all : List (ObjectId × X)) (k e : ℕ) → IsMerging (take k A) news (drop e A) all → news ≡ [] → e ≡ k → (q : ObjectId) → find id_cmp q A ≡ find id_cmp q all
   over_values A news all k e m none same q =
       ap (find id_cmp q) (sym (ap (λ n. take k A ++ drop n A) same ∙ take-append-drop k A)) ∙ ap (λ l. find id_cmp q (take k A ++ (l ++ drop e A))) (sym none) ∙ m.values q
+
+  -- ---- where what is merged stands in a list of its own, the last first
+  module _ (olds kept news moved more all : List (ObjectId × X)) (y : ObjectId × X) (m : IsMerging olds (news ++ y ∷ []) (reverse moved) all) where
+    pub old_moved : (x : ObjectId × X) → olds ≡ kept ++ x ∷ [] → more ≡ moved ++ x ∷ [] → ends_above y.0 olds ≡ true → IsMerging kept (news ++ y ∷ []) (reverse more) all
+    old_moved x two grown above =
+        let over : is_lt (id_cmp y.0 x.0) ≡ true = sym (ends y.0 kept x) ∙ ap (ends_above y.0) (sym two) ∙ above in
+        subst (λ l. IsMerging kept (news ++ y ∷ []) l all) (sym (ap reverse grown ∙ reverse-append moved (x ∷ [])))
+        (move_old (reverse moved) all kept news x y (subst (λ l. IsMerging l (news ++ y ∷ []) (reverse moved) all) two m) over)
+
+    pub new_moved : kept ≡ olds → more ≡ moved ++ y ∷ [] → ends_above y.0 olds ≡ false → IsMerging kept news (reverse more) all
+    new_moved same grown above =
+        subst (λ l. IsMerging kept news l all) (sym (ap reverse grown ∙ reverse-append moved (y ∷ [])))
+        (subst (λ l. IsMerging l news (y ∷ reverse moved) all) (sym same) (move_new (reverse moved) all olds news y m above))

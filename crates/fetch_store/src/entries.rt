@@ -1,6 +1,6 @@
 //! Lists of ids, each with a value.
 
-ghost use Rattle.std.specs.Prelude.{◌≡◌, ◌<◌, ◌≤◌, ◌+◌, ◌*◌, ◌^◌, ◌++◌, [], ℕ, All, Contains, None, get_or, is_some, length};
+ghost use Rattle.std.specs.Prelude.{◌≡◌, ◌<◌, ◌≤◌, ◌+◌, ◌*◌, ◌^◌, ◌++◌, ◌∷◌, [], ℕ, All, Contains, None, get_or, is_some, length};
 ghost use Rattle.std.specs.Prelude.{IfSome, IsTrue, MatchOption, vec_len, vec_capacity};
 ghost use Rattle.std.specs.FinMap as map;
 ghost use Rattle.std.specs.declared.cmp.Ordering.TheVariants.{Less, Greater};
@@ -178,5 +178,44 @@ fn end_is_above<X>(entries: &[(ObjectId, X)], id: &ObjectId) -> bool
     match entries.last() {
         Some(entry) => id.cmp(&entry.0).is_lt(),
         None => false,
+    }
+}
+
+/// The same where entries can't be copied. Those behind new ids move by way of a list that is empty.
+pub(crate) fn merge_by<X>(
+    entries: &mut Vec<(ObjectId, X)>,
+    fresh: &mut Vec<(ObjectId, X)>,
+    moved: &mut Vec<(ObjectId, X)>,
+)
+    requires in_order { IsInOrder entries.old.items }
+    requires fresh_in_order { IsInOrder fresh.old.items }
+    requires new_ids { All (λ e. map.find id_cmp e.0 entries.old.items ≡ None) fresh.old.items }
+    requires empty { moved.old.items ≡ [] }
+    requires room { vec_len entries.old + vec_len fresh.old ≤ vec_capacity entries.old }
+    requires room_to_move { vec_len entries.old + vec_len fresh.old ≤ vec_capacity moved.old }
+    ensures in_order { IsInOrder entries.new.items }
+    ensures values { (q : ObjectId) → map.find id_cmp q entries.new.items ≡ map.find id_cmp q (entries.old.items ++ fresh.old.items) }
+{
+    while let Some(next) = fresh.pop() {
+        while let Some(last) = pop_above(entries, &next.0) {
+            moved.push_reserved(last);
+        }
+        moved.push_reserved(next);
+    }
+    moved.reverse();
+    // There is room, so that it can't fail.
+    let _fits = entries.append(moved);
+}
+
+/// Takes the last entry off, where its id is greater than this one.
+fn pop_above<X>(entries: &mut Vec<(ObjectId, X)>, id: &ObjectId) -> Option<(ObjectId, X)>
+    ensures entries { MatchOption result (entries.new.items ≡ entries.old.items) (λ last. entries.old.items ≡ entries.new.items ++ last ∷ []) }
+    ensures above { is_some result ≡ ends_above id.now entries.old.items }
+    ensures capacity { vec_capacity entries.new ≡ vec_capacity entries.old }
+{
+    if end_is_above(entries.as_slice(), id) {
+        entries.pop()
+    } else {
+        None
     }
 }

@@ -1,6 +1,6 @@
 //! A copy of what a store's objects say of its history, without their bytes.
 
-ghost use Rattle.std.specs.Prelude.{◌≡◌, ◌++◌, None, IfOk, IfErr, OnOk, map as listed};
+ghost use Rattle.std.specs.Prelude.{◌≡◌, ◌++◌, None, IfOk, IfErr, OnOk, filter, not, map as listed};
 ghost use Rattle.std.specs.FinMap as map;
 ghost use Rattle.std.specs.Option.{option_copied};
 ghost use Rattle.fetch_store.specs.declared.error.StoreError.TheVariants as errors;
@@ -10,7 +10,7 @@ ghost use Rattle.fetch_store.specs.Stores.{AreOf, ObjectMap, add_all, collision}
 ghost use Rattle.fetch_store.specs.declared.id.Kind.{Kind};
 
 use crate::cloning::{TryClone, copy_slice};
-use crate::entries::{arrange, find_in_order};
+use crate::entries::{arrange, find_in_order, merge_by};
 use crate::error::{NoMemory, StoreError};
 use crate::id::ObjectId;
 use crate::object::{Object, ObjectRef, read_history};
@@ -103,12 +103,11 @@ impl Graph {
         ensures graph { IfOk result (λ graph. graph ≡ graph_of (add_all store.now.objects objects.now)) }
         ensures memory { IfErr result (λ e. e ≡ errors.NoMemory) }
     {
-        let mut nodes = Vec::new(alloc);
-        append_stored(alloc, &mut nodes, store)?;
-        append(alloc, &mut nodes, objects)?;
-        arrange(&mut nodes);
-        let starts = starts_of(alloc, nodes.as_slice());
-        Ok(Graph { nodes, starts })
+        // For the prover: what a store has is of its hash.
+        let _stored = store.iter();
+        let mut graph = Graph::of(alloc, store)?;
+        graph.extend(objects)?;
+        Ok(graph)
     }
 
     /// Adds the histories of the list, and reads none of those that the graph has: of the graph of some objects it makes
@@ -121,10 +120,14 @@ impl Graph {
     {
         let alloc = *self.nodes.allocator();
         let mut fresh = Vec::with_capacity(alloc, objects.len())?;
-        append(alloc, &mut fresh, objects)?;
-        self.nodes.append(&mut fresh)?;
-        arrange(&mut self.nodes);
-        self.starts = starts_of(alloc, self.nodes.as_slice());
+        append_new(alloc, &mut fresh, self, objects)?;
+        arrange(&mut fresh);
+        self.nodes.reserve(fresh.len())?;
+        let count = self.nodes.len() + fresh.len();
+        let mut moved = Vec::with_capacity(alloc, count)?;
+        self.starts.fit(self.nodes.as_slice(), count);
+        self.starts.add(fresh.as_slice());
+        merge_by(&mut self.nodes, &mut fresh, &mut moved);
         Ok(())
     }
 
@@ -171,15 +174,20 @@ fn append_stored(
     Ok(())
 }
 
-/// Puts the histories of the objects after the others.
-fn append(
+/// Puts the histories of the objects whose ids a graph lacks after the others.
+fn append_new(
     alloc: Global,
     nodes: &mut Vec<(ObjectId, History)>,
+    graph: &Graph,
     objects: &[(ObjectId, Object)],
 ) -> Result<(), NoMemory>
-    ensures { OnOk result (nodes.new.items ≡ nodes.old.items ++ listed (λ e. (e.0, node_of e.1)) objects.now) }
+    ensures { OnOk result (nodes.new.items ≡ nodes.old.items
+        ++ listed (λ e. (e.0, node_of e.1)) (filter (λ e. not (map.contains_key graph.now e.0)) objects.now)) }
 {
     for (id, object) in objects {
+        if graph.get(id).is_some() {
+            continue;
+        }
         let history = history_of(alloc, object.as_ref())?;
         nodes.push((*id, history))?;
     }

@@ -18,8 +18,9 @@ loop-i-preserved c =
     ap (λ (xs : List RefSpec). specs_from (name_matches specs) i xs names) (from specs i c.index-specs-i.result c.loop-i-test.true c.index-specs-i.is) in
     let same = ap₂ (λ (specs : List RefSpec) (items : List Item). added_all c.loop-i.found.pairs c.loop-i.found.matches (names_from (name_matches specs i c.index-specs-i.result) 0 (map (λ (item : Item). item.full_ref_name) items))) c.in_ok-names.ensures.specs c.in_ok-names.ensures.items in
     record {
-      pairs = c.add_names_of.ensures.pairs ∙ c.loop-i.invariant.pairs;
-      added = turn c.loop-i.found.pairs c.add_names_of.new.found.pairs c.loop-i.found.matches c.add_names_of.new.found.matches here rest _ _ c.add_names_of.ensures.pairs (c.in_ok-add_names_of.ensures.added ∙ same) whole c.loop-i.invariant.added;
+      pairs = c.add_names_by.ensures.pairs ∙ c.loop-i.invariant.pairs;
+      places = c.loop-i.invariant.places;
+      added = turn c.loop-i.found.pairs c.add_names_by.new.found.pairs c.loop-i.found.matches c.add_names_by.new.found.matches here rest _ _ c.add_names_by.ensures.pairs (c.in_ok-add_names_by.ensures.added ∙ same) whole c.loop-i.invariant.added;
     }
 
 pub returns-clause-added : goal.returns-clause-added

@@ -1,17 +1,35 @@
-use Rattle.std.proofs.Common.{◌≡◌, ◌++◌, List, ap, ap₂, subst, ◌∙◌}
-use Rattle.std.specs.FinMap.{entries}
+use Rattle.std.proofs.Common.{◌≡◌, ◌++◌, List, All, None, ap, sym, subst, ◌∙◌}
+use Rattle.std.specs.FinMap.{find, contains_key, entries, from_sorted}
 use Rattle.fetch_store.specs.declared.id.ObjectId.{ObjectId}
-use Rattle.fetch_store.specs.Graph.{Node}
+use Rattle.fetch_store.specs.Stores.{id_cmp}
+use Rattle.fetch_store.specs.Graph.{Graph, Node, graph_of}
 use Rattle.fetch_store.proofs.Arranged.{IsArranged}
+use Rattle.fetch_store.proofs.Extended.{new_of, new_nodes, graph_merged}
 use Rattle.fetch_store.proofs.Graphs.{nodes}
-use Rattle.fetch_store.proofs.GraphsAdded.{graph_arranged, nodes_of}
+use Rattle.fetch_store.proofs.GraphsAdded.{nodes_of}
 use Rattle.fetch_store.proofs.graph.Graph.extend.Goals as goal
+
+pub merge_by-requires-clause-new_ids : goal.merge_by-requires-clause-new_ids
+merge_by-requires-clause-new_ids c =
+    let es = c.args.objects.now in
+    let ns = c.self.inside.nodes.items in
+    let arranged = c.arrange.new.entries.items in
+    let added : c.append_new.new.nodes.items ≡ nodes (new_of (contains_key c.args.self.now) es) = c.in_ok-append_new.ensures ∙ ap (λ (l : List (ObjectId × Node)). l ++ nodes (new_of (contains_key c.args.self.now) es)) c.in_ok-fresh.ensures.items in
+    let sort : IsArranged c.append_new.new.nodes.items arranged = record { in_order = c.arrange.ensures.in_order; known = c.arrange.ensures.known; kept = c.arrange.ensures.kept } in
+    let view : c.args.self.now ≡ from_sorted {R = id_cmp} ns = sym c.self.view_is in
+    subst (λ (l : List (ObjectId × Node)). All (λ (e : ObjectId × Node). find id_cmp e.0 l ≡ None) arranged) (sym c.reserve.ensures.items)
+    (new_nodes ns es arranged c.self.invariant (subst (λ (g : Graph). IsArranged (nodes (new_of (contains_key g) es)) arranged) view (subst (λ (l : List (ObjectId × Node)). IsArranged l arranged) added sort)))
 
 pub returns-clause-graph : goal.returns-clause-graph
 returns-clause-graph c = λ hash m was old new none.
     let es = c.args.objects.now in
-    let before : c.self.inside.nodes.items ≡ nodes (entries m) = nodes_of m c.self.inside.nodes.items c.self.invariant (c.self.view_is ∙ was) in
-    let added : c.append.new.nodes.items ≡ nodes es = c.in_ok-append.ensures ∙ ap (λ (ns : List (ObjectId × Node)). ns ++ nodes es) c.in_ok-fresh.ensures.items in
-    let all : c.append-2.new.self.items ≡ nodes (entries m) ++ nodes es = c.in_ok-append-2.ensures.items ∙ ap₂ (λ (xs ys : List (ObjectId × Node)). xs ++ ys) before added in
-    let sort : IsArranged c.append-2.new.self.items c.arrange.new.entries.items = record { in_order = c.arrange.ensures.in_order; known = c.arrange.ensures.known; kept = c.arrange.ensures.kept } in
-    graph_arranged hash m es c.arrange.new.entries.items old new none (subst (λ (ns : List (ObjectId × Node)). IsArranged ns c.arrange.new.entries.items) all sort)
+    let ns = c.self.inside.nodes.items in
+    let arranged = c.arrange.new.entries.items in
+    let zs = c.merge_by.new.entries.items in
+    let before : c.reserve.new.self.items ≡ nodes (entries m) = c.reserve.ensures.items ∙ nodes_of m ns c.self.invariant (c.self.view_is ∙ was) in
+    let added : c.append_new.new.nodes.items ≡ nodes (new_of (contains_key c.args.self.now) es) = c.in_ok-append_new.ensures ∙ ap (λ (l : List (ObjectId × Node)). l ++ nodes (new_of (contains_key c.args.self.now) es)) c.in_ok-fresh.ensures.items in
+    let sort : IsArranged c.append_new.new.nodes.items arranged = record { in_order = c.arrange.ensures.in_order; known = c.arrange.ensures.known; kept = c.arrange.ensures.kept } in
+    let sorted : IsArranged (nodes (new_of (contains_key (graph_of m)) es)) arranged =
+    subst (λ (g : Graph). IsArranged (nodes (new_of (contains_key g) es)) arranged) was (subst (λ (l : List (ObjectId × Node)). IsArranged l arranged) added sort) in
+    graph_merged hash m es old new none arranged zs sorted c.merge_by.ensures.in_order
+    (λ q. c.merge_by.ensures.values q ∙ ap (λ (l : List (ObjectId × Node)). find id_cmp q (l ++ arranged)) before)
