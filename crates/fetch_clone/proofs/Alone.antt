@@ -9,7 +9,7 @@ use Rattle.fetch_config.specs.Lookups.{is_same_sub}
 use Rattle.fetch_config.specs.Pieces.{is_same_name}
 use Rattle.fetch_config.specs.declared.meta.Meta.{Meta}
 use Rattle.fetch_config.specs.declared.section.Section.{Section}
-use Rattle.fetch_lookup.specs.Saved.{KeyLine, is_of_remote, last_place, new_section, placed_in, saved, saved_lines, used_or_new, with_lines}
+use Rattle.fetch_lookup.specs.Saved.{is_of_remote, last_place, new_section, placed_in, saved, saved_lines, used_or_new, with_lines}
 use Rattle.fetch_remote.specs.Remotes.{RemoteValue, parts_of}
 use Rattle.fetch_remote.specs.RepositoryValues.{Setup}
 use Rattle.fetch_clone.specs.Mirrors.{section_of}

@@ -1,10 +1,11 @@
 -- Which reference a name means among those that are mapped.
-use Rattle.std.specs.Prelude.{ℕ, Bool, true, false, ◌&&◌, if◌then◌else◌, List, [], ◌∷◌, ◌++◌, map, find, codes, nat_eq, option_to_list}
+use Rattle.std.specs.Prelude.{ℕ, Bool, true, false, ◌&&◌, if◌then◌else◌, List, [], ◌∷◌, ◌++◌, map, find, codes, nat_eq}
 use Rattle.std.specs.Prelude.{Option, Some, None, is_some, Result, Ok, Err}
-use Rattle.std.specs.List.{starts_with}
+use Rattle.std.specs.List.{list_any, filter_map, starts_with}
 use Rattle.std.specs.Option.{option_map, option_or, option_and_then}
 use Rattle.std.specs.Str.{bytes_eq}
 use Rattle.fetch_store.specs.declared.id.ObjectId.{ObjectId}
+use Rattle.fetch_specs.specs.Matches.{once, taken}
 use Rattle.fetch_wire.specs.References.{source_id, source_name}
 use Rattle.fetch_wire.specs.declared.listings.mapping.Mapping.{Mapping}
 use Rattle.fetch_clone.specs.declared.meant.Meant.{Meant}
@@ -37,16 +38,28 @@ abbrev pub written_out : List Mapping → List ℕ → Option Meant
 written_out mappings wanted = option_or (named mappings wanted) (if starts_with nat_eq wanted (codes "refs/") then None
     else branch_or_tag mappings wanted)
 
--- what else a refspec with a short source takes: a name right under `refs/`, one of `refs/remotes/`, or the `HEAD` of a remote
-abbrev pub taken_beside : List Mapping → List ℕ → List Meant
-taken_beside mappings wanted =
-    option_to_list (named mappings (codes "refs/" ++ wanted))
-    ++ (option_to_list (named mappings (codes "refs/remotes/" ++ wanted))
-    ++ option_to_list (named mappings (codes "refs/remotes/" ++ wanted ++ codes "/HEAD")))
+-- this reference, where it has a name that a refspec with this source takes, and an id
+abbrev pub taken_as : List ℕ → Option (List ℕ) → Option ObjectId → Option Meant
+taken_as wanted None id = None
+taken_as wanted (Some name) None = None
+taken_as wanted (Some name) (Some id) = if is_some (taken wanted name) then Some (record { name = name; id = id }) else None
 
--- what else a refspec with this source takes, outside `refs/`
-abbrev pub beside : List Mapping → List ℕ → List Meant
-beside mappings wanted = if starts_with nat_eq wanted (codes "refs/") then [] else taken_beside mappings wanted
+-- the reference that a mapping is of, where such a refspec takes it
+abbrev pub taken_at : List ℕ → Mapping → Option Meant
+taken_at wanted m = taken_as wanted (source_name m.remote) (source_id m.remote)
+
+-- whether two have one name
+abbrev pub is_same : Meant → Meant → Bool
+is_same a b = bytes_eq a.name b.name
+
+-- what such a refspec takes, in the order of the mappings, each name once
+abbrev pub taken_of : List Mapping → List ℕ → List Meant
+taken_of mappings wanted = once is_same (filter_map (taken_at wanted) mappings)
+
+-- one more, unless there is one of that name
+abbrev pub with_new : List Meant → Option Meant → List Meant
+with_new found None = found
+with_new found (Some m) = if list_any (λ x. is_same x m) found then found else found ++ m ∷ []
 
 -- the name of a reference
 abbrev pub name_of : Meant → List ℕ
@@ -58,14 +71,14 @@ only_one [] = Err Missing
 only_one (m ∷ []) = Ok m
 only_one (m ∷ n ∷ ms) = Err (Ambiguous (map name_of (m ∷ n ∷ ms)))
 
--- the reference, or else the one that is taken beside it
-abbrev pub or_beside : Option Meant → List Meant → Result Meant Unmeant
-or_beside (Some m) ms = Ok m
-or_beside None ms = only_one ms
+-- the reference, or else the only one that is taken
+abbrev pub or_taken : Option Meant → List Meant → Result Meant Unmeant
+or_taken (Some m) ms = Ok m
+or_taken None ms = only_one ms
 
 -- the reference that a name means, full or short
 unfoldable pub meant_in : List Mapping → List ℕ → Result Meant Unmeant
-meant_in mappings wanted = or_beside (written_out mappings wanted) (beside mappings wanted)
+meant_in mappings wanted = or_taken (written_out mappings wanted) (taken_of mappings wanted)
 
 -- out of memory
 abbrev pub is_memory : Unmeant → Bool

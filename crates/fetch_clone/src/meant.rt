@@ -1,11 +1,12 @@
 //! Which reference a name means among those that are mapped.
 
-ghost use Rattle.std.specs.Prelude.{◌≡◌, ◌++◌, codes, find, map, IfOk, OnOk, option_to_list};
+ghost use Rattle.std.specs.Prelude.{◌≡◌, ◌++◌, codes, find, map, IfOk, OnOk, Some};
+ghost use Rattle.std.specs.List.{list_any};
 ghost use Rattle.std.specs.Option.{option_copied};
 ghost use Rattle.fetch_store.specs.Answers.{AnswersUnless};
 ghost use Rattle.fetch_clone.specs.Meant as spec;
 
-use fetch_specs::PartialName;
+use fetch_specs::{PartialName, matches};
 use fetch_store::{List, NoMemory, ObjectId, Text};
 use fetch_wire::Mapping;
 use std::alloc::Global;
@@ -41,7 +42,7 @@ impl From<NoMemory> for Unmeant {
     }
 }
 
-/// The reference that a name means: the one of that full name, or else, outside `refs/`, the branch, the tag, or what else a
+/// The reference that a name means: the one of that full name, or else, outside `refs/`, the branch, the tag, or else what a
 /// refspec with this source takes, of which there has to be one.
 #[tactic(auto, unfolding(crate::specs::Meant::meant_in))]
 pub(crate) fn meaning_of(
@@ -51,10 +52,9 @@ pub(crate) fn meaning_of(
 ) -> Result<Meant, Unmeant>
     ensures { AnswersUnless spec.is_memory (spec.meant_in mappings.now wanted.now) result }
 {
-    let wanted = wanted.as_bytes();
-    match written_out(alloc, mappings, wanted)? {
+    match written_out(alloc, mappings, wanted.as_bytes())? {
         Some(found) => Ok(found),
-        None => only_one(alloc, beside(alloc, mappings, wanted)?),
+        None => only_one(alloc, taken(alloc, mappings, wanted)?),
     }
 }
 
@@ -86,41 +86,69 @@ fn branch_or_tag(
     }
 }
 
-/// What else a refspec with this source takes.
-fn beside(alloc: Global, mappings: &[Mapping], wanted: &[u8]) -> Result<Vec<Meant>, NoMemory>
-    ensures { IfOk result (λ found. found.items ≡ spec.beside mappings.now wanted.now) }
-{
-    if wanted.starts_with(b"refs/") {
-        return Ok(Vec::new(alloc));
-    }
-    taken_beside(alloc, mappings, wanted)
-}
-
-fn taken_beside(alloc: Global, mappings: &[Mapping], wanted: &[u8]) -> Result<Vec<Meant>, NoMemory>
-    ensures { IfOk result (λ found. found.items ≡ spec.taken_beside mappings.now wanted.now) }
+/// What a refspec with this source takes, in the order of the mappings, each name once.
+fn taken(alloc: Global, mappings: &[Mapping], wanted: &PartialName) -> Result<Vec<Meant>, NoMemory>
+    ensures { IfOk result (λ found. found.items ≡ spec.taken_of mappings.now wanted.now) }
 {
     let mut found = Vec::new(alloc);
-    push_named(&mut found, mappings, behind(alloc, b"refs/", wanted)?)?;
-    push_named(
-        &mut found,
-        mappings,
-        behind(alloc, b"refs/remotes/", wanted)?,
-    )?;
-    push_named(
-        &mut found,
-        mappings,
-        head_behind(alloc, b"refs/remotes/", wanted)?,
-    )?;
+    for mapping in mappings {
+        push_taken(alloc, &mut found, mapping, wanted)?;
+    }
     Ok(found)
 }
 
-fn push_named(found: &mut Vec<Meant>, mappings: &[Mapping], name: Text) -> Result<(), NoMemory>
-    ensures { OnOk result (found.new.items ≡ found.old.items ++ option_to_list (spec.named mappings.now name)) }
+fn push_taken(
+    alloc: Global,
+    found: &mut Vec<Meant>,
+    mapping: &Mapping,
+    wanted: &PartialName,
+) -> Result<(), NoMemory>
+    ensures { OnOk result (found.new.items ≡ spec.with_new found.old.items (spec.taken_at wanted.now mapping.now)) }
 {
-    if let Some(other) = named(mappings, name) {
-        found.push(other)?;
+    match taken_at(alloc, mapping, wanted)? {
+        Some(meant) => push_new(found, meant),
+        None => Ok(()),
     }
+}
+
+/// Adds one, unless there is one of that name.
+fn push_new(found: &mut Vec<Meant>, meant: Meant) -> Result<(), NoMemory>
+    ensures { OnOk result (found.new.items ≡ spec.with_new found.old.items (Some meant)) }
+{
+    if is_there(found.as_slice(), &meant) {
+        return Ok(());
+    }
+    found.push(meant)?;
     Ok(())
+}
+
+fn is_there(found: &[Meant], meant: &Meant) -> bool
+    ensures { result ≡ list_any (λ x. spec.is_same x meant.now) found.now }
+{
+    found.iter().any(|other| is_same(other, meant))
+}
+
+fn is_same(a: &Meant, b: &Meant) -> bool
+    ensures { result ≡ spec.is_same a.now b.now }
+{
+    a.name.as_bytes() == b.name.as_bytes()
+}
+
+/// The reference that a mapping is of, where it has an id, and a refspec with this source takes it.
+fn taken_at(
+    alloc: Global,
+    mapping: &Mapping,
+    wanted: &PartialName,
+) -> Result<Option<Meant>, NoMemory>
+    ensures { IfOk result (λ found. found ≡ spec.taken_at wanted.now mapping.now) }
+{
+    match (mapping.remote.as_name(), mapping.remote.as_id()) {
+        (Some(name), Some(id)) if matches(wanted, name) => Ok(Some(Meant {
+            name: Text::new(alloc, name)?,
+            id: *id,
+        })),
+        _ => Ok(None),
+    }
 }
 
 fn only_one(alloc: Global, found: Vec<Meant>) -> Result<Meant, Unmeant>
@@ -153,16 +181,6 @@ fn behind(alloc: Global, front: &[u8], name: &[u8]) -> Result<Text, NoMemory>
 {
     let mut text = Vec::from_slice(alloc, front)?;
     text.extend_from_slice(name)?;
-    Ok(Text::from(text))
-}
-
-/// The name of a remote's `HEAD`.
-fn head_behind(alloc: Global, front: &[u8], name: &[u8]) -> Result<Text, NoMemory>
-    ensures { IfOk result (λ text. text ≡ front.now ++ name.now ++ codes "/HEAD") }
-{
-    let mut text = Vec::from_slice(alloc, front)?;
-    text.extend_from_slice(name)?;
-    text.extend_from_slice(b"/HEAD")?;
     Ok(Text::from(text))
 }
 

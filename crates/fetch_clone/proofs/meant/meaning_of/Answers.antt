@@ -4,8 +4,8 @@ use Rattle.fetch_clone.specs.Meant.{is_memory}
 use Rattle.fetch_clone.proofs.Meanings.{fall-back}
 use Rattle.fetch_clone.proofs.meant.meaning_of.Goals as goal
 
-pub returns-in_ok-beside-in-None : goal.returns-in_ok-beside-in-None
-returns-in_ok-beside-in-None c =
+pub returns-in_ok-taken-in-None : goal.returns-in_ok-taken-in-None
+returns-in_ok-taken-in-None c =
     subst (λ e. AnswersUnless is_memory e c.only_one.result)
-    (fall-back c.args.mappings.now c.args.wanted.now c.as_bytes-wanted.result.now c.in_ok-found.field-0 c.in_ok-beside-in-None.field-0.items c.as_bytes-wanted.ensures.bytes c.in-None.is c.in_ok-found.ensures c.in_ok-beside-in-None.ensures)
+    (fall-back c.args.mappings.now c.args.wanted.now c.as_bytes.result.now c.in_ok-found.field-0 c.in_ok-taken-in-None.field-0.items c.as_bytes.ensures.bytes c.in-None.is c.in_ok-found.ensures c.in_ok-taken-in-None.ensures)
     c.only_one.ensures
