@@ -17,9 +17,11 @@ use Rattle.fetch_mirror.specs.declared.error.MirrorError.{MirrorError}
 use Rattle.fetch_mirror.specs.declared.error.MirrorError.TheVariants as errors
 use Rattle.fetch_mirror.specs.declared.options.Mirrored.{Mirrored}
 use Rattle.fetch_mirror.specs.Copying.{IsCopied, IsUncopied, fresh, given_by}
+use Rattle.fetch_mirror.specs.Limits.{IsLimited}
 use Rattle.fetch_mirror.specs.Mirroring.{Given, HasMirrored, IsFew, IsUnmirrored}
 use Rattle.fetch_mirror.specs.Mirrors.{IsMirrored}
 use Rattle.fetch_mirror.proofs.ListerAlong.{follows_rule, fresh_peer, names_so}
+use Rattle.fetch_mirror.proofs.ListerRefused.{unlisted_so}
 use Rattle.fetch_mirror.proofs.WholeMirror.{is_mirrored}
 
 pub copied_names : (d : Data) → IsServable d → (committer : Signature) (workers bound : ℕ) (lister : ServedPeer) (peers : List ServedPeer) (repo : RepositoryValue) (journal : List Entry)
@@ -64,6 +66,18 @@ module _ (d : Data) (servable : IsServable d) (border : IdSet) (committer : Sign
   pub uncopied_so : (result : Result Mirrored MirrorError) → IfErr result (λ e. IsUnmirrored (given_so lister peers kind) e) → IfErr result (λ e. IsUncopied d border committer workers bound e)
   uncopied_so (Ok m) h = tt
   uncopied_so (Err e) h = uncopied_told e (refused_as e h)
+
+-- the references aren't listed where a reply is too long, and for no other cause
+limited_by : (d : Data) (committer : Signature) (workers bound : ℕ) (border : IdSet) (e : MirrorError) → IsUncopied d border committer workers bound e → IsLimited d bound e
+limited_by d committer workers bound border (errors.Workers count) h = tt
+limited_by d committer workers bound border (errors.Server e) h = tt
+limited_by d committer workers bound border (errors.List e) h = unlisted_so d h.servable committer workers bound h.lister h.peers e h.refused.1
+limited_by d committer workers bound border (errors.Worker index e) h = tt
+limited_by d committer workers bound border errors.NoMemory h = tt
+
+pub limited_so : (d : Data) (committer : Signature) (workers bound : ℕ) (border : IdSet) (result : Result Mirrored MirrorError) → IfErr result (λ e. IsUncopied d border committer workers bound e) → IfErr result (λ e. IsLimited d bound e)
+limited_so d committer workers bound border (Ok m) h = tt
+limited_so d committer workers bound border (Err e) h = limited_by d committer workers bound border e h
 
 -- the mirror as a whole
 pub whole_told : (d : Data) (committer : Signature) (workers bound : ℕ) (result : Result Mirrored MirrorError) → IfOk result (λ m. IsCopied d committer workers bound m.repo m.journal)

@@ -50,4 +50,10 @@ pub mod Numbered
 pub mod WorkerSo
 pub mod PackIds
 pub mod WholeMirror
+pub mod Unconflicted
+pub mod ListerRefused
+pub mod WorkerGoes
+pub mod WorkerUnrefused
+pub mod Settles
+pub mod ListsAll
 pub mod Copied

@@ -38,7 +38,7 @@ use Rattle.fetch_mirror.proofs.ServedAlong.{grows}
 
 -- ---- the request
 
-no_prefixes : prefixes_of (everything ∷ []) ≡ []
+pub no_prefixes : prefixes_of (everything ∷ []) ≡ []
 unfolding prefixes_of refs
 no_prefixes = refl
 
@@ -60,7 +60,7 @@ module _ (d : Data) (servable : IsServable d) (bound : ℕ) where
   told : AreTold d []
   told = record { greeting = answered d First servable refl; listing = answered d (Listing true []) servable refl }
 
-  heard : IsHeard d (inquiry_by bound)
+  pub heard : IsHeard d (inquiry_by bound)
   heard = record {
     servable = servable;
     told = subst (AreTold d) (sym no_prefixes) told;

@@ -1,11 +1,10 @@
 -- What is committed for a share whose names aren't there yet: each of them, by its id.
-use Rattle.std.proofs.Common.{◌≡◌, ℕ, ◌<◌, Bool, true, false, List, [], ◌∷◌, length, map, Option, Some, None, Ok, refl, sym, ap, ◌∙◌, subst, Contains}
+use Rattle.std.proofs.Common.{◌≡◌, ℕ, true, false, List, map, Option, Some, None, Ok, refl, sym, ap, ◌∙◌, subst, Contains}
 use Rattle.std.specs.Prelude.{IsTrue, is_some, slice_get}
 use Rattle.std.specs.FinMap as finmap
 use Rattle.std.specs.Option.{option_and_then, option_map}
 use Rattle.std.proofs.lemmas.Option.{slice_get_within}
 use Rattle.fetch_store.specs.declared.id.ObjectId.{ObjectId}
-use Rattle.fetch_specs.specs.Names.{is_full_name}
 use Rattle.fetch_specs.specs.Specs.{Spec}
 use Rattle.fetch_refs.specs.declared.edit.RefEdit.{RefEdit}
 use Rattle.fetch_refs.specs.declared.target.Target.{Target}
@@ -13,12 +12,10 @@ use Rattle.fetch_refs.specs.declared.target.Target.TheVariants.{Object}
 use Rattle.fetch_wire.specs.Mappings.{spec_at}
 use Rattle.fetch_wire.specs.declared.listings.mapping.Mapping.{Mapping}
 use Rattle.fetch_wire.specs.declared.listings.mapping.SpecIndex.{SpecIndex}
-use Rattle.fetch_update.specs.Accepted.{IsAbout, edit_for, is_found}
-use Rattle.fetch_update.specs.Accepting.{IsAccepted, IsSent, IsWritable, KeepsTarget, is_accepting}
+use Rattle.fetch_update.specs.Accepted.{is_found}
+use Rattle.fetch_update.specs.Accepting.{IsSent, IsWritable, KeepsTarget, is_accepting}
 use Rattle.fetch_update.specs.Outcomes.{outcome_of}
 use Rattle.fetch_update.specs.Policy.{Policy, is_stored, value_of}
-use Rattle.fetch_update.specs.Writes.{gives}
-use Rattle.fetch_update.specs.declared.mode.Mode.{Mode}
 use Rattle.fetch_update.specs.declared.mode.Mode.TheVariants as modes
 use Rattle.fetch_update.specs.declared.update.Outcome.{Outcome}
 use Rattle.fetch_update.specs.declared.update.Update.{Update}

@@ -1,9 +1,8 @@
 -- What a server offers of a share: each name of it that is born there, by its id.
-use Rattle.std.proofs.Common.{◌≡◌, ℕ, Bool, true, false, not, ◌&&◌, ◌||◌, List, [], ◌∷◌, length, map, nat_eq, Option, Some, None, refl, sym, ap, ◌∙◌, subst, ⊎_elim, Contains}
-use Rattle.std.specs.Prelude.{◌⊎◌, IsTrue, is_some, slice_get, if◌then◌else◌}
+use Rattle.std.proofs.Common.{◌≡◌, ℕ, Bool, true, false, not, ◌&&◌, ◌||◌, List, [], length, map, nat_eq, Option, Some, None, refl, ap, ◌∙◌, ⊎_elim, Contains}
+use Rattle.std.specs.Prelude.{IsTrue, is_some, slice_get, if◌then◌else◌}
 use Rattle.std.specs.List.{list_any, starts_with}
 use Rattle.std.specs.Option.{option_and_then, option_map}
-use Rattle.std.specs.Result.{result_ok}
 use Rattle.std.specs.Str.{bytes_eq}
 use Rattle.std.proofs.lemmas.Slice.Eq.{bytes_eq-Decides}
 use Rattle.fetch_store.specs.declared.id.ObjectId.{ObjectId}
@@ -11,12 +10,11 @@ use Rattle.fetch_specs.specs.Categories.{refs}
 use Rattle.fetch_specs.specs.Matches.{takes, taken, where_true}
 use Rattle.fetch_specs.specs.Prefixes.{IsAskedFor, prefixes_of}
 use Rattle.fetch_specs.proofs.Covering.{each_asked_for}
-use Rattle.fetch_refs.specs.Peeled.{resolved}
 use Rattle.fetch_refs.specs.declared.target.Target.{Target}
 use Rattle.fetch_refs.specs.declared.target.Target.TheVariants.{Object}
 use Rattle.fetch_update.specs.Policy.{value_in, value_of}
 use Rattle.fetch_wire.specs.Listings.{ref_with}
-use Rattle.fetch_wire.specs.References.{id_in, name_in, source_id}
+use Rattle.fetch_wire.specs.References.{id_in, name_in}
 use Rattle.fetch_wire.specs.declared.listings.reference.Ref.{Ref}
 use Rattle.fetch_wire.specs.declared.listings.reference.Ref.TheVariants.{Direct, Symbolic, Peeled, Unborn}
 use Rattle.fetch_wire.specs.declared.listings.reference.Source.TheVariants as sources

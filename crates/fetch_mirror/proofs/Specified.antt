@@ -1,6 +1,6 @@
 -- A listing with refspecs isn't refused for want of them.
-use Rattle.std.proofs.Common.{◌≡◌, ◌≢◌, ℕ, Bool, true, false, List, [], ◌∷◌, ◌++◌, Option, Some, None, Result, Ok, Err, refl, sym, ap, ◌∙◌, subst, ⊎_elim}
-use Rattle.std.specs.Prelude.{◌⊎◌, IfErr, if◌then◌else◌, map}
+use Rattle.std.proofs.Common.{◌≡◌, ◌≢◌, ℕ, Bool, true, false, List, [], ◌∷◌, ◌++◌, Option, Some, None, Result, Ok, Err, refl, ap, ◌∙◌, ⊎_elim}
+use Rattle.std.specs.Prelude.{IfErr, if◌then◌else◌, map}
 use Rattle.fetch_wire.specs.Awaited.{told_at}
 use Rattle.fetch_wire.specs.Greetings.{offers}
 use Rattle.fetch_wire.specs.SessionStates.{listing_feature}
@@ -27,7 +27,7 @@ use Rattle.fetch_conversation.specs.Errors.{is_free_listing, is_interrupted}
 use Rattle.fetch_conversation.specs.declared.listing.Listed.{Listed}
 use Rattle.fetch_conversation.specs.ListStage.{InquiryValue, ListedValue, all_specs, answer_shown, failed, greeted, handshaking, inquiry_stage, listed, listing, mapped, mapped_unless, prefixes_asked, too_long, unless, unlisted, unsendable}
 use Rattle.fetch_conversation.specs.declared.prepare.Error.{Error}
-use Rattle.fetch_conversation.specs.declared.prepare.Error.TheVariants.{MissingRefSpecs, RefMap}
+use Rattle.fetch_conversation.specs.declared.prepare.Error.TheVariants.{MissingRefSpecs}
 
 abbrev Answer : Type 0
 Answer = Result (ListedValue × List ℕ) Error

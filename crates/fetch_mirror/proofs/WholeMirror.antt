@@ -44,6 +44,7 @@ use Rattle.fetch_serve.specs.Served.{Data}
 use Rattle.fetch_serve.proofs.Reached.{filtered}
 use Rattle.fetch_mirror.specs.Born.{born_names, born_of}
 use Rattle.fetch_mirror.specs.Copying.{fresh, given_by}
+use Rattle.fetch_mirror.specs.Limits.{worker_given}
 use Rattle.fetch_mirror.specs.Mirroring.{HasMirrored, IsFew, worker_job}
 use Rattle.fetch_mirror.specs.Mirrors.{HasTakenNames, IsJournal, IsMirrored, born_ids, mirrored, mirrored_of}
 use Rattle.fetch_mirror.specs.Opening.{empty_mirror}
@@ -58,7 +59,7 @@ use Rattle.fetch_mirror.proofs.Places.{at_contains, contains_at, mapped_at, unma
 use Rattle.fetch_mirror.proofs.WantedOwn.{is_wanted, stored_or_wanted}
 use Rattle.fetch_mirror.proofs.WorkerSo as worker
 use Rattle.fetch_mirror.proofs.WorkerSo.{IsWorker, race_over}
-use Rattle.fetch_mirror.proofs.WorkerTold.{AreBorn, HasTold, IsBornMapping, each_mapped, worker_given}
+use Rattle.fetch_mirror.proofs.WorkerTold.{AreBorn, HasTold, IsBornMapping, each_mapped}
 use Rattle.fetch_mirror.proofs.Numbered.{small, mod_within, below_both, front_at, in_front, same_replicated, nothing_at, first_of, first_some, in_or_not}
 use Rattle.fetch_mirror.proofs.PackIds.{ids_in, whole, pack_reached, reached_packed, walk_starts, one_all, entry_cases, commit_at, take_at, received_is, wanted_received}
 

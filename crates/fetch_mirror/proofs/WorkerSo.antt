@@ -1,10 +1,9 @@
 -- What a worker that isn't refused did: what it took, and what it committed.
-use Rattle.std.proofs.Common.{◌≡◌, ◌≢◌, ℕ, zero, suc, ◌+◌, ◌<◌, ◌==◌, Bool, true, false, cond, List, [], ◌∷◌, ◌++◌, length, map, filter, Option, Some, None, Result, Ok, Err, refl, sym, ap, ◌∙◌, subst, ⊎_elim, arith, append_assoc, Contains}
-use Rattle.std.specs.Prelude.{◌⊎◌, is_some, option_map, slice_get}
+use Rattle.std.proofs.Common.{◌≡◌, ◌≢◌, ℕ, zero, suc, ◌==◌, Bool, true, false, cond, List, [], ◌∷◌, ◌++◌, map, Option, Some, None, Result, Ok, refl, sym, ap, ◌∙◌, subst, append_assoc, Contains}
+use Rattle.std.specs.Prelude.{is_some, option_map, slice_get}
 use Rattle.std.specs.FinMap as finmap
 use Rattle.std.specs.FinSet as set
-use Rattle.std.proofs.lemmas.List.{append-nil}
-use Rattle.fetch_store.specs.Graph.{Node, graph_of, node_of}
+use Rattle.fetch_store.specs.Graph.{Node, node_of}
 use Rattle.fetch_store.specs.Objects.{Stored}
 use Rattle.fetch_store.specs.Closed.{IsStored}
 use Rattle.fetch_store.specs.declared.id.ObjectId.{ObjectId}
@@ -12,9 +11,7 @@ use Rattle.fetch_store.proofs.Graphs.{get-graph_of}
 use Rattle.fetch_specs.specs.Specs.{Spec}
 use Rattle.fetch_refs.specs.Names.{name_cmp}
 use Rattle.fetch_refs.specs.declared.log.Signature.{Signature}
-use Rattle.fetch_refs.specs.declared.target.Target.{Target}
 use Rattle.fetch_refs.specs.declared.target.Target.TheVariants.{Object}
-use Rattle.fetch_wire.specs.References.{source_id}
 use Rattle.fetch_wire.specs.Talks.{Talk}
 use Rattle.fetch_wire.specs.declared.lines.line.Line.{Line as WireLine}
 use Rattle.fetch_wire.specs.declared.listings.mapping.Mapping.{Mapping}
@@ -22,7 +19,6 @@ use Rattle.fetch_wire.specs.declared.listings.mapping.RefMap.{RefMap}
 use Rattle.fetch_update.specs.Outcomes.{outcome_of}
 use Rattle.fetch_update.specs.Policy.{Policy, is_stored, value_of}
 use Rattle.fetch_update.specs.declared.update.Outcome.{Outcome as Updates}
-use Rattle.fetch_conversation.specs.ListStage.{ListedValue, mapped}
 use Rattle.fetch_conversation.specs.declared.conversing.Received.{Received}
 use Rattle.fetch_remote.specs.Fetched.{HasHeard}
 use Rattle.fetch_remote.specs.Form.{Given}
@@ -34,13 +30,13 @@ use Rattle.fetch_remote.specs.Stages.{Told, conversation, inquiry_in}
 use Rattle.fetch_remote.specs.declared.fetching.fetch_error.FetchError.{FetchError}
 use Rattle.fetch_remote.specs.declared.fetching.outcome.Outcome.{Outcome}
 use Rattle.fetch_shared.specs.declared.entry.Entry.{Entry}
-use Rattle.fetch_shared.specs.declared.entry.Entry.TheVariants.{Take, Commit, Delete}
+use Rattle.fetch_shared.specs.declared.entry.Entry.TheVariants.{Take, Commit}
 use Rattle.fetch_shared.specs.Bringing.{take_entries}
-use Rattle.fetch_shared.specs.Fetching.{Call, IsSharedFetch, course_in, matter_in, own}
+use Rattle.fetch_shared.specs.Fetching.{Call, IsSharedFetch, matter_in, own}
 use Rattle.fetch_shared.specs.Journals.{Begins, entries_of, pass_of}
 use Rattle.fetch_shared.specs.Replays.{Outline, outline, replay}
-use Rattle.fetch_shared.specs.Seen.{AllowsTake, IsAllowedAt, IsStateAt}
-use Rattle.fetch_shared.specs.Settling.{Commits, Course, HasCommitted, HasTaken, Matter, commit_entry, reply_in}
+use Rattle.fetch_shared.specs.Seen.{AllowsTake}
+use Rattle.fetch_shared.specs.Settling.{HasCommitted}
 use Rattle.fetch_shared.specs.Shared.{SharedValue}
 use Rattle.fetch_shared.specs.Talking.{Line, given_to}
 use Rattle.fetch_race.specs.Racing.{HasRaced, Race}
@@ -52,6 +48,7 @@ use Rattle.fetch_serve.proofs.Growing.{nothing_first}
 use Rattle.fetch_mirror.specs.Copying.{fresh}
 use Rattle.fetch_mirror.specs.GoingAlong.{GoesAlong}
 use Rattle.fetch_mirror.specs.Listings.{greeting_of}
+use Rattle.fetch_mirror.specs.Limits.{worker_given}
 use Rattle.fetch_mirror.specs.Mirroring.{worker_job}
 use Rattle.fetch_mirror.specs.Opening.{empty_mirror}
 use Rattle.fetch_mirror.specs.Shares.{AreOwnNames, as_itself}
@@ -63,7 +60,7 @@ use Rattle.fetch_mirror.proofs.OwnEntries.{judged_so}
 use Rattle.fetch_mirror.proofs.OwnNames.{map_is}
 use Rattle.fetch_mirror.proofs.Quiet.{IsOff, replays}
 use Rattle.fetch_mirror.proofs.ServedAlong.{grows}
-use Rattle.fetch_mirror.proofs.WorkerTold.{AreBorn, HasTold, IsBornMapping, each_born, is_told, offered_to, worker_given}
+use Rattle.fetch_mirror.proofs.WorkerTold.{AreBorn, HasTold, IsBornMapping, each_born, is_told, offered_to}
 
 -- the servers as peers, over the empty mirror
 abbrev pub race_over : Data → Signature → Race ServedPeer

@@ -1,26 +1,22 @@
 -- What a worker is told by a server that it hears to the end: its share's names, mapped to themselves, and the pack of all that
 -- they reach, but for what is stored.
-use Rattle.std.proofs.Common.{◌≡◌, ℕ, zero, suc, ◌<◌, ◌≤◌, Bool, true, false, not, ◌||◌, ◌&&◌, cond, List, [], ◌∷◌, ◌++◌, length, map, filter, Option, Some, None, Result, Ok, Err, refl, sym, ap, ◌∙◌, subst, ⊎_elim, codes, sum_by, unwrap_or, Contains}
-use Rattle.std.specs.Prelude.{◌⊎◌, IsTrue, is_some, slice_get, if◌then◌else◌}
+use Rattle.std.proofs.Common.{◌≡◌, ℕ, ◌<◌, ◌≤◌, Bool, true, false, not, ◌||◌, ◌&&◌, cond, List, [], ◌∷◌, ◌++◌, length, map, filter, Option, Some, None, Result, Ok, Err, refl, sym, ap, ◌∙◌, subst, ⊎_elim, codes, sum_by, Contains}
+use Rattle.std.specs.Prelude.{is_some, slice_get, if◌then◌else◌}
 use Rattle.std.specs.FinSet as set
-use Rattle.std.specs.List.{flat_map}
 use Rattle.std.specs.List.Sorted.{IsStrictlySortedBy}
-use Rattle.std.specs.Option.{option_map, option_or}
+use Rattle.std.specs.Option.{option_map}
 use Rattle.std.proofs.lemmas.Bool.{cases_lt}
 use Rattle.std.proofs.lemmas.List.{append-nil}
-use Rattle.fetch_store.specs.Borders.{IdSet, ids_of}
+use Rattle.fetch_store.specs.Borders.{ids_of}
 use Rattle.fetch_store.specs.Closed.{IsStored}
-use Rattle.fetch_store.specs.Graph.{Graph, graph_of}
+use Rattle.fetch_store.specs.Graph.{graph_of}
 use Rattle.fetch_store.specs.Hashing.{digest}
-use Rattle.fetch_store.specs.Stores.{Entries}
 use Rattle.fetch_store.specs.declared.id.Kind.{Kind}
 use Rattle.fetch_store.specs.declared.id.ObjectId.{ObjectId}
 use Rattle.fetch_store.proofs.Borders.{ids_of-set, named-Contains}
 use Rattle.fetch_store.proofs.Members.{first_in, later_in, none_in}
 use Rattle.fetch_specs.specs.Names.{is_full_name}
 use Rattle.fetch_specs.specs.Prefixes.{prefixes_of}
-use Rattle.fetch_specs.specs.Specs.{Spec}
-use Rattle.fetch_specs.specs.declared.tags.Tags.TheVariants as tags
 use Rattle.fetch_pack.specs.Reading.{Contents, read}
 use Rattle.fetch_pack.specs.Records.{body, payloads_of}
 use Rattle.fetch_refs.specs.declared.log.Signature.{Signature}
@@ -41,20 +37,14 @@ use Rattle.fetch_wire.specs.declared.lines.line.Line.{Line}
 use Rattle.fetch_wire.specs.declared.listings.mapping.Mapping.{Mapping}
 use Rattle.fetch_wire.specs.declared.listings.mapping.SpecIndex.TheVariants.{ExplicitInRemote}
 use Rattle.fetch_wire.specs.declared.listings.reference.Ref.{Ref}
-use Rattle.fetch_wire.specs.declared.listings.reference.Source.{Source}
-use Rattle.fetch_wire.specs.declared.listings.reference.Source.TheVariants as sources
 use Rattle.fetch_wire.specs.declared.replies.awaited.Await.TheVariants as await
-use Rattle.fetch_wire.specs.declared.replies.awaited.Fault.TheVariants.{Short, TooLong}
+use Rattle.fetch_wire.specs.declared.replies.awaited.Fault.TheVariants.{Short}
 use Rattle.fetch_wire.specs.declared.replies.awaited.Told.TheVariants as telling
-use Rattle.fetch_wire.specs.declared.requests.records.FetchReply.{FetchReply}
 use Rattle.fetch_negotiate.specs.Requests.{fetch_request}
-use Rattle.fetch_negotiate.specs.declared.algorithm.Shallow.TheVariants.{NoChange}
-use Rattle.fetch_conversation.specs.ConverseStage.{is_no_change, is_rejecting, first_outside, read_of, received, rejected, result_unless, unpacked, with_pack}
+use Rattle.fetch_conversation.specs.ConverseStage.{is_no_change, is_rejecting, first_outside, read_of, received, result_unless, unpacked, with_pack}
 use Rattle.fetch_conversation.specs.Exchange.{TermsValue, asked_by, failed as unreceived_by, reply_to, too_long as unsendable_by}
-use Rattle.fetch_conversation.specs.ListStage.{InquiryValue, ListedValue, all_specs, failed as unlisted_by, handshaking, inquiry_stage, is_nil, mapped, no_specs, prefixes_asked, too_long, unsendable}
+use Rattle.fetch_conversation.specs.ListStage.{InquiryValue, ListedValue, all_specs, handshaking, inquiry_stage, is_nil, mapped, no_specs, prefixes_asked, unsendable}
 use Rattle.fetch_conversation.specs.Mapped.{ref_mappings}
-use Rattle.fetch_conversation.specs.ReadSettings.{rejects_shallow_of}
-use Rattle.fetch_conversation.specs.Rounds.{Negotiated}
 use Rattle.fetch_conversation.specs.declared.conversing.Received.{Received}
 use Rattle.fetch_conversation.specs.declared.fetch.Error.{Error as ReceiveError}
 use Rattle.fetch_conversation.specs.declared.fetch.Error.TheVariants as receive
@@ -63,7 +53,7 @@ use Rattle.fetch_conversation.specs.declared.prepare.Error.TheVariants as prepar
 use Rattle.fetch_remote.specs.Errors.{preparing, receiving}
 use Rattle.fetch_remote.specs.Form.{Given}
 use Rattle.fetch_remote.specs.Repositories.{State}
-use Rattle.fetch_remote.specs.Stages.{Told, bound_of, conversation, inquiry_in, pack_stage, terms_in}
+use Rattle.fetch_remote.specs.Stages.{Told, conversation, inquiry_in, pack_stage, terms_in}
 use Rattle.fetch_remote.specs.declared.fetching.fetch_error.FetchError.{FetchError}
 use Rattle.fetch_serve.specs.declared.asked.Asked.{Asked}
 use Rattle.fetch_serve.specs.declared.asked.Asked.TheVariants.{First, Listing, Fetch}
@@ -71,7 +61,7 @@ use Rattle.fetch_serve.specs.declared.asked.FetchAsked.{FetchAsked}
 use Rattle.fetch_serve.specs.Answers.{fails, fetched, pack_bytes}
 use Rattle.fetch_serve.specs.Offered.{ids_in, offer, offered_ids, offered_of, some_of}
 use Rattle.fetch_serve.specs.Packs.{pack_of, served_of}
-use Rattle.fetch_serve.specs.Replies.{error_lines, fetch_lines, fetched_lines, first_unoffered, is_too_large, objects_of, pack_lines, replies_of, reply_lines, too_large}
+use Rattle.fetch_serve.specs.Replies.{error_lines, fetch_lines, first_unoffered, is_too_large, objects_of, replies_of, reply_lines, too_large}
 use Rattle.fetch_serve.specs.Requests.{has_id}
 use Rattle.fetch_serve.specs.Servable.{IsServable}
 use Rattle.fetch_serve.specs.Served.{Data, references_of}
@@ -81,15 +71,14 @@ use Rattle.fetch_serve.proofs.Ids.{stored_is}
 use Rattle.fetch_serve.proofs.Lines.{large_fits, pack_fits}
 use Rattle.fetch_serve.proofs.Names.{named_once, names_apart, some_apart}
 use Rattle.fetch_serve.proofs.Reached.{in_first, one_of}
-use Rattle.fetch_serve.proofs.References.{id_of, id_stored, offered_made, offered_one}
+use Rattle.fetch_serve.proofs.References.{id_stored, offered_made}
 use Rattle.std.specs.FinMap as finmap
 use Rattle.fetch_mirror.specs.Born.{born_of}
-use Rattle.fetch_mirror.specs.Fetches.{AreNew, AreTerms, IsFetching, IsWanting, one_round, wanting_all}
+use Rattle.fetch_mirror.specs.Fetches.{AreNew, AreTerms, IsFetching, one_round, wanting_all}
 use Rattle.fetch_mirror.specs.GoingAlong.{GoesAlong}
+use Rattle.fetch_mirror.specs.Limits.{worker_given}
 use Rattle.fetch_mirror.specs.Listings.{AreRising, IsHeard, asked_lines, greeting_of}
-use Rattle.fetch_mirror.specs.Mirroring.{worker_options, worker_remote}
-use Rattle.fetch_mirror.specs.Opening.{bare_setup}
-use Rattle.fetch_mirror.specs.Settings.{config_from, own_meta}
+use Rattle.fetch_mirror.specs.Settings.{own_meta}
 use Rattle.fetch_mirror.specs.Shares.{AreOnce, AreOwnNames, as_itself}
 use Rattle.fetch_mirror.specs.Workers.{IsListed}
 use Rattle.fetch_mirror.proofs.AcceptedTerms.{accepted, tells_no_haves}
@@ -98,7 +87,7 @@ use Rattle.fetch_mirror.proofs.ListingAlong.{IsAskable, listing_along, listing_t
 use Rattle.fetch_mirror.proofs.MappedOwn.{IsOwnMapping, each_own, greeted_is, mappings_are, one_of_each}
 use Rattle.fetch_mirror.proofs.MirrorAlong.{worker_broken, worker_fetches, worker_long_pack, worker_wants_nothing}
 use Rattle.fetch_mirror.proofs.NoopRead.{agent_read, is_read}
-use Rattle.fetch_mirror.proofs.OfferedOwn.{IsBornAt, IsOffered, asked_for, born_at, offers, value_is}
+use Rattle.fetch_mirror.proofs.OfferedOwn.{IsOffered, asked_for, born_at, offers, value_is}
 use Rattle.fetch_mirror.proofs.Once.{once_at}
 use Rattle.fetch_mirror.proofs.PackAlong.{IsRequesting, pack_refused, pack_unread, pack_unsent}
 use Rattle.fetch_mirror.proofs.Places.{at_contains, mapped_at}
@@ -129,14 +118,6 @@ IsReceivedOf d (id ∷ wants) r = (x : Received) × (r ≡ Some x) × (x.objects
 -- each name of the share is born, by some id
 abbrev pub AreBorn : Data → List (List ℕ) → Type 0
 AreBorn d share = (index : ℕ) (name : List ℕ) → slice_get share index ≡ Some name → (id : ObjectId) × Contains (born_of d) (name, id)
-
--- what the worker is given
-abbrev pub worker_given : Data → Signature → ℕ → List (List ℕ) → Given
-worker_given d committer bound share = record {
-  remote = worker_remote (map as_itself share);
-  options = worker_options bound;
-  setup = bare_setup d.hash committer;
-}
 
 -- what it is offered
 abbrev pub offered_to : Data → Signature → ℕ → List (List ℕ) → List Ref
@@ -170,29 +151,29 @@ no_ids = ids_of-set [] tt
 -- ---- the worker
 
 module _ (d : Data) (servable : IsServable d) (committer : Signature) (bound : ℕ) (share : List (List ℕ)) (own : AreOwnNames share) (born : AreBorn d share) (first : List ℕ) (some : slice_get share 0 ≡ Some first) where
-  abbrev given : Given
+  abbrev pub given : Given
   given = worker_given d committer bound share
 
-  abbrev q : InquiryValue
+  abbrev pub q : InquiryValue
   q = inquiry_in given
 
-  all_are : all_specs q ≡ map as_itself share
+  pub all_are : all_specs q ≡ map as_itself share
   all_are = append-nil (map as_itself share)
 
-  prefixes_are : prefixes_asked q ≡ prefixes_of (map as_itself share)
+  pub prefixes_are : prefixes_asked q ≡ prefixes_of (map as_itself share)
   prefixes_are = ap prefixes_of all_are
 
   specified : (names : List (List ℕ)) → slice_get names 0 ≡ Some first → is_nil (map as_itself names) ≡ false
   specified [] at = absurd cc
   specified (name ∷ names) at = refl
 
-  named : no_specs q ≡ None
+  pub named : no_specs q ≡ None
   named = ap (λ (b : Bool). if b && true then Some prepare.MissingRefSpecs else None) (specified share some)
 
   sends : unsendable q ≡ None
   sends = ap (λ (agent : List ℕ). option_map (λ (bad : List ℕ × ℕ). handshaking (wire.BadParameter bad.0 bad.1)) (first_bad (texts_told (codes ".") [] agent))) (agent_read own_meta) ∙ sendable bound
 
-  askable : IsAskable d q
+  pub askable : IsAskable d q
   askable = record {
     servable = servable;
     told = record { greeting = answered d First servable refl; listing = answered d (Listing true (prefixes_asked q)) servable refl };
@@ -201,10 +182,10 @@ module _ (d : Data) (servable : IsServable d) (committer : Signature) (bound : �
   }
 
   -- what is listed
-  abbrev refs : List Ref
+  abbrev pub refs : List Ref
   refs = offered_of d true (prefixes_asked q)
 
-  once : AreOnce (map name_in refs)
+  pub once : AreOnce (map name_in refs)
   once = once_at (map name_in refs)
       (named_once (offer d true (prefixes_asked q)) (references_of d) (λ e r is. (offered_made d true (prefixes_asked q) e r is).name_is)
       (some_apart (λ (x : List ℕ × Target). is_full_name x.0) (finmap.entries d.names) (names_apart d.names)))
@@ -258,10 +239,10 @@ module _ (d : Data) (servable : IsServable d) (committer : Signature) (bound : �
         stored_is d id servable (subst (IsStored d.objects) same (id_stored d b.entry m.id servable b.among b.id_is))
 
     module _ (s : State) (border : s.border ≡ set.empty) where
-      abbrev t : TermsValue
+      abbrev pub t : TermsValue
       t = terms_in given s l
 
-      terms : AreTerms d.hash t
+      pub terms : AreTerms d.hash t
       terms = record {
         read = is_read own_meta;
         strict = refl;
@@ -273,13 +254,13 @@ module _ (d : Data) (servable : IsServable d) (committer : Signature) (bound : �
       }
 
       module _ (id : ObjectId) (wants : List ObjectId) (wanted : t.view.wants ≡ id ∷ wants) where
-        abbrev r : FetchAsked
+        abbrev pub r : FetchAsked
         r = wanting_all (id ∷ wants)
 
         abbrev asked : Asked
         asked = Fetch r
 
-        requesting : IsRequesting d t id wants
+        pub requesting : IsRequesting d t id wants
         requesting = record {
           accepted = accepted d.hash t terms;
           wanted = wanted;
@@ -328,7 +309,7 @@ module _ (d : Data) (servable : IsServable d) (committer : Signature) (bound : �
             subst (λ (k : Kind). Tells step_of (start_of (await.Reply (record { kind = k; haves = []; done = true; read_pack = true }))) (reply_lines d asked) (telling.Reply (fetched d r))) (sym hash_is)
             (answered d asked servable (goes small))
 
-        fetching : is_too_large r.version (objects_of d r) ≡ false → first_too_long (fetch_request (asked_by t) [] true) ≡ None → IsFetching d t id wants (fetched d r)
+        pub fetching : is_too_large r.version (objects_of d r) ≡ false → first_too_long (fetch_request (asked_by t) [] true) ≡ None → IsFetching d t id wants (fetched d r)
         fetching small fits = record {
           accepted = requesting.accepted;
           wanted = wanted;
@@ -344,10 +325,10 @@ module _ (d : Data) (servable : IsServable d) (committer : Signature) (bound : �
         abbrev contents : Contents
         contents = record { objects = (pack_of d r).objects; count = length (served_of d r); digest = digest d.hash (body r.version d.hash (payloads_of (objects_of d r))) }
 
-        abbrev bringing : Received
+        abbrev pub bringing : Received
         bringing = with_pack (one_round (fetched d r)) contents
 
-        brings : is_too_large r.version (objects_of d r) ≡ false → received t (one_round (fetched d r)) ≡ Ok (Some bringing)
+        pub brings : is_too_large r.version (objects_of d r) ≡ false → received t (one_round (fetched d r)) ≡ Ok (Some bringing)
         unfolding received
         brings small =
             ap (λ (x : Result Bool (List ℕ)). result_unless (if is_rejecting x && is_no_change t.shallow then option_map (λ i. receive.RejectShallowRemote i) (first_outside t.view.border (fetched d r).shallow) else None)

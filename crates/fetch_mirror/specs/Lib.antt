@@ -12,4 +12,5 @@ pub mod Naming
 pub mod Mirroring
 pub mod Born
 pub mod Copying
+pub mod Limits
 pub mod Mirrors

@@ -3,6 +3,7 @@
 ghost use Rattle.std.specs.Prelude.{◌≡◌, ◌≢◌, replicate, IfOk, IfErr, OnOk};
 ghost use Rattle.std.specs.FinSet as set;
 ghost use Rattle.fetch_mirror.specs.Copying.{IsCopied, IsUncopied, fresh};
+ghost use Rattle.fetch_mirror.specs.Limits.{IsLimited};
 ghost use Rattle.fetch_mirror.specs.Mirrors.{IsMirrored};
 ghost use Rattle.fetch_mirror.specs.declared.error.MirrorError.TheVariants as errors;
 ghost use Rattle.fetch_serve.specs.Servable.{IsServable, IsTrouble};
@@ -24,7 +25,8 @@ use std::thread::Threads;
 /// however the workers' steps lie. Its hash is the store's.
 ///
 /// `Workers` comes first, exactly where there are fewer workers than one or more than eight; then `Server`, exactly where
-/// `Server::new` refuses, and then `List` and `Worker`.
+/// `Server::new` refuses, and then `List` and `Worker`. `List` is `ReplyTooLong` alone, and comes only where the greeting or the
+/// listing passes `max_reply_bytes`.
 pub fn run_mirror<R: Threads + Wait + Sync>(
     rt: &R,
     alloc: Global,
@@ -40,6 +42,7 @@ pub fn run_mirror<R: Threads + Wait + Sync>(
         (data_of store.now refs.now) options.committer options.workers options.max_reply_bytes m.repo m.journal) }
     ensures refused { IfErr result (λ e. IsUncopied
         (data_of store.now refs.now) border.now options.committer options.workers options.max_reply_bytes e) }
+    ensures limited { IfErr result (λ e. IsLimited (data_of store.now refs.now) options.max_reply_bytes e) }
 {
     if !is_few(options.workers) {
         return Err(MirrorError::Workers {

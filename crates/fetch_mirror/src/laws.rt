@@ -3,10 +3,16 @@
 
 ghost use Rattle.std.specs.Prelude.{◌≡◌, ◌↔◌, ◌++◌, ◌<◌, ℕ, None, sum_by, Bool, false, List, [], map, Option, Some, Result, Ok, Err};
 ghost use Rattle.std.specs.Prelude.{IsTrue, ◌∷◌, ◌≤◌, true, codes, slice_get};
-ghost use Rattle.std.specs.List.{Contains};
+ghost use Rattle.std.specs.FinMap as finmap;
+ghost use Rattle.std.specs.FinSet as set;
+ghost use Rattle.std.specs.List.{All, Contains};
 ghost use Rattle.std.specs.Option.{option_or};
+ghost use Rattle.fetch_store.specs.Closed.{Holding, IsStored};
+ghost use Rattle.fetch_store.specs.Missing.{missing};
 ghost use Rattle.fetch_store.specs.declared.id.Kind.{Kind};
 ghost use Rattle.fetch_store.specs.declared.id.ObjectId.{ObjectId};
+ghost use Rattle.fetch_reach.specs.Whole.{without_lines};
+ghost use Rattle.fetch_specs.specs.Conflicts.{conflicts_of};
 ghost use Rattle.fetch_specs.specs.Matches.{mappings_of};
 ghost use Rattle.fetch_specs.specs.Names.{is_full_name};
 ghost use Rattle.fetch_specs.specs.Parses.{parsed};
@@ -15,15 +21,23 @@ ghost use Rattle.fetch_specs.specs.declared.found.Match.{Match};
 ghost use Rattle.fetch_specs.specs.declared.operation.Operation.TheVariants.{Fetch};
 ghost use Rattle.fetch_config.specs.declared.meta.Meta.{Meta};
 ghost use Rattle.fetch_refs.specs.declared.log.Signature.{Signature};
+ghost use Rattle.fetch_refs.specs.declared.target.Target.TheVariants.{Object};
+ghost use Rattle.fetch_update.specs.Policy.{Policy, value_of};
+ghost use Rattle.fetch_update.specs.Refusing.{Refuses};
+ghost use Rattle.fetch_update.specs.declared.update.Error.{Error as UpdateError};
 ghost use Rattle.fetch_remote.specs.RepositoryValues.{RepositoryValue};
 ghost use Rattle.fetch_shared.specs.declared.entry.Entry.{Entry};
+ghost use Rattle.fetch_shared.specs.declared.error.SharedError.TheVariants.{Fetch as SharedFetch};
 ghost use Rattle.fetch_wire.specs.Awaited.{step_of, start_of, told_at};
 ghost use Rattle.fetch_wire.specs.Lines.{line_len};
 ghost use Rattle.fetch_wire.specs.LinesTold.{Tells};
 ghost use Rattle.fetch_wire.specs.Requests.{first_line};
 ghost use Rattle.fetch_wire.specs.Talks.{Talk, IsFront};
 ghost use Rattle.fetch_wire.specs.Written.{first_too_long, lines_text};
+ghost use Rattle.fetch_wire.specs.declared.greetings.handshake.Handshake.{Handshake};
 ghost use Rattle.fetch_wire.specs.declared.lines.line.Line.{Line};
+ghost use Rattle.fetch_wire.specs.declared.listings.mapping.Mapping.{Mapping};
+ghost use Rattle.fetch_wire.specs.declared.listings.reference.Ref.{Ref};
 ghost use Rattle.fetch_wire.specs.declared.replies.awaited.Await.{Await};
 ghost use Rattle.fetch_wire.specs.declared.replies.awaited.Fault.TheVariants.{Short, TooLong};
 ghost use Rattle.fetch_wire.specs.declared.replies.awaited.Told.{Told};
@@ -35,11 +49,12 @@ ghost use Rattle.fetch_conversation.specs.Conversation.{Breaks};
 ghost use Rattle.fetch_conversation.specs.ConverseStage.{algorithm_in, lacking, no_mapping, other_hash, received, unfit};
 ghost use Rattle.fetch_conversation.specs.Exchange.{TermsValue, asked_by, failed as unreceived_by};
 ghost use Rattle.fetch_conversation.specs.ListStage.{ListedValue, inquiry_stage, no_specs, InquiryValue, failed as unlisted_by, mapped};
-ghost use Rattle.fetch_conversation.specs.ListStage.{prefixes_asked};
+ghost use Rattle.fetch_conversation.specs.ListStage.{map_of, prefixes_asked};
 ghost use Rattle.fetch_conversation.specs.Served.{without_rest, IsFresh, Follows};
 ghost use Rattle.fetch_conversation.specs.declared.conversing.Received.{Received};
 ghost use Rattle.fetch_conversation.specs.declared.fetch.Error.{Error as ReceiveError};
 ghost use Rattle.fetch_conversation.specs.declared.prepare.Error.{Error as PrepareError};
+ghost use Rattle.fetch_conversation.specs.declared.ref_map.Error.{Error as ListError};
 ghost use Rattle.fetch_remote.specs.Errors.{is_free, preparing, receiving};
 ghost use Rattle.fetch_remote.specs.Fetched.{HasHeard};
 ghost use Rattle.fetch_remote.specs.Form.{Given};
@@ -48,9 +63,11 @@ ghost use Rattle.fetch_remote.specs.Repositories.{State};
 ghost use Rattle.fetch_remote.specs.Stages.{Told as ToldInAll, bound_of, conversation, inquiry_in, pack_stage, terms_in};
 ghost use Rattle.fetch_remote.specs.Talking.{BreaksListing, BreaksReceiving};
 ghost use Rattle.fetch_remote.specs.declared.fetching.fetch_error.FetchError.{FetchError};
+ghost use Rattle.fetch_remote.specs.declared.fetching.fetch_error.FetchError.TheVariants.{Prepare};
 ghost use Rattle.fetch_serve.specs.Offered.{offered_of};
+ghost use Rattle.fetch_serve.specs.Packs.{pack_of};
 ghost use Rattle.fetch_serve.specs.Replies.{replies_of, reply_lines};
-ghost use Rattle.fetch_serve.specs.Peers.{ServedPeer};
+ghost use Rattle.fetch_serve.specs.Peers.{ServedPeer, told_by};
 ghost use Rattle.fetch_serve.specs.Requests.{IsRequest};
 ghost use Rattle.fetch_serve.specs.Servable.{IsServable};
 ghost use Rattle.fetch_serve.specs.Served.{Data};
@@ -58,12 +75,13 @@ ghost use Rattle.fetch_serve.specs.Texts.{request_bound};
 ghost use Rattle.fetch_serve.specs.declared.asked.Asked.TheVariants.{First, Listing, Fetch as Fetching};
 ghost use Rattle.fetch_mirror.specs.Along.{Grows, IsAlong, answer_along, sent_along};
 ghost use Rattle.fetch_mirror.specs.Born.{born_names};
-ghost use Rattle.fetch_mirror.specs.Copying.{given_by};
-ghost use Rattle.fetch_mirror.specs.Mirroring.{HasMirrored};
+ghost use Rattle.fetch_mirror.specs.Copying.{fresh, given_by};
+ghost use Rattle.fetch_mirror.specs.Limits.{AreWithin, IsPeersFault, IsShare, IsTooLong, IsWithin, worker_given};
+ghost use Rattle.fetch_mirror.specs.Mirroring.{HasMirrored, IsFew, IsUnlisted, IsWorkerRefused};
 ghost use Rattle.fetch_mirror.specs.Fetches.{AreNew, AreTerms, IsFetching, IsWanting, one_round, wanting_all};
 ghost use Rattle.fetch_mirror.specs.GoingAlong.{GoesAlong, GoesTo, IsAlongByCases};
 ghost use Rattle.fetch_mirror.specs.Listings.{AreRising, IsHeard, asked_lines, greeting_of};
-ghost use Rattle.fetch_mirror.specs.Naming.{names_of};
+ghost use Rattle.fetch_mirror.specs.Naming.{inquiry_by, names_of};
 ghost use Rattle.fetch_mirror.specs.Settings.{IsRead, config_from};
 ghost use Rattle.fetch_mirror.specs.Shares.{IsUnderRefs, as_itself, itself_text, AreDivided, AreOnce, AreOwnNames, IsOwnMatch};
 ghost use Rattle.fetch_mirror.specs.Workers.{IsListed};
@@ -259,4 +277,53 @@ pub fn a_mirror_of_servers_has_their_names()
     ensures { (d : Data) → IsServable d → (committer : Signature) (workers bound : ℕ) (lister : ServedPeer) (peers : List ServedPeer)
         (repo : RepositoryValue) (journal : List Entry)
         → (h : HasMirrored (given_by d committer workers bound lister peers) repo journal) → h.names ≡ born_names d }
+{}
+
+/// Names that refspecs map to themselves aren't in conflict: whatever is listed, all names under `refs/` are mapped, and so are
+/// those of a share.
+pub fn names_mapped_to_themselves_are_not_in_conflict()
+    ensures all { (bound : ℕ) (h : Handshake) (listed : List Ref)
+        → mapped (inquiry_by bound) h listed ≡ Ok (record { ref_map = map_of (inquiry_by bound) h listed; handshake = h }) }
+    ensures share { (names listed : List (List ℕ)) (kind : Kind) → AreOwnNames names → AreOnce listed
+        → conflicts_of (mappings_of (map as_itself names) listed kind) ≡ [] }
+{}
+
+/// The references of a server that can be served are listed, unless its greeting or its listing passes the bound: no peer's fault
+/// is told, since a server reads what a mirror asks, and whatever it lists is mapped.
+pub fn servers_are_listed_unless_too_long()
+    ensures { (d : Data) → IsServable d → (committer : Signature) (workers bound : ℕ) (lister : ServedPeer) (peers : List ServedPeer)
+        (e : ListError) → IsUnlisted (given_by d committer workers bound lister peers).asking e → IsTooLong d bound e }
+{}
+
+/// No worker is refused while it talks with its server, over a state without a border, where nothing that passes between them is
+/// too long: it is told all that it asks for, and no fault of the server, which reads what it is asked.
+pub fn workers_are_told_unless_something_is_too_long()
+    ensures listed { (d : Data) → IsServable d → (committer : Signature) (bound : ℕ) (share : List (List ℕ)) → IsShare d share
+        → IsWithin d bound share → (peer : ServedPeer) (e : FetchError) → IsPeersFault d peer e
+        → BreaksListing true (told_by (fresh d)) (told_by peer) (worker_given d committer bound share) e → ⊥ }
+    ensures received { (d : Data) → IsServable d → (committer : Signature) (bound : ℕ) (share : List (List ℕ)) → IsShare d share
+        → IsWithin d bound share → (peer : ServedPeer) (e : FetchError) → IsPeersFault d peer e → (s : State) → s.border ≡ set.empty
+        → BreaksReceiving true (told_by (fresh d)) (told_by peer) (worker_given d committer bound share) s e → ⊥ }
+{}
+
+/// Nothing is missing where the pack of a worker's wants is taken, whatever is stored by then.
+pub fn packs_of_workers_leave_nothing_missing()
+    ensures { (d : Data) → IsServable d → (wants : List ObjectId) → All (IsStored d.objects) wants → (now : Holding)
+        → missing now wants (without_lines (pack_of d (wanting_all wants)).objects) ≡ [] }
+{}
+
+/// No mapping of an id to a name that is absent is refused.
+pub fn new_names_are_never_refused()
+    ensures { (p : Policy) (m : Mapping) (name : List ℕ) (id : ObjectId) (e : UpdateError) → m.local ≡ Some name
+        → IsTrue (is_full_name name) → value_of m.remote ≡ Object id → finmap.get p.names name ≡ None → Refuses p m e → ⊥ }
+{}
+
+/// Nothing that a mirror asks for its references is refused, neither its lister nor a worker, where nothing is too long.
+pub fn references_are_listed_unless_something_is_too_long()
+    ensures lister { (d : Data) → IsServable d → (committer : Signature) (workers bound : ℕ) → AreWithin d workers bound
+        → (lister : ServedPeer) (peers : List ServedPeer) (e : ListError)
+        → IsUnlisted (given_by d committer workers bound lister peers).asking e → ⊥ }
+    ensures worker { (d : Data) → IsServable d → (committer : Signature) (workers bound : ℕ) → IsFew workers → AreWithin d workers bound
+        → (lister : ServedPeer) (peers : List ServedPeer) (index : ℕ) (cause : PrepareError)
+        → IsWorkerRefused (given_by d committer workers bound lister peers) index (SharedFetch (Prepare cause)) → ⊥ }
 {}

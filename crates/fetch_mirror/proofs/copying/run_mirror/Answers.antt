@@ -3,7 +3,7 @@ use Rattle.fetch_serve.specs.Servings.{Serving, unfed}
 use Rattle.fetch_serve.specs.Served.{Data, data_of}
 use Rattle.fetch_mirror.specs.Copying.{fresh}
 use Rattle.fetch_mirror.specs.Mirroring.{IsFew}
-use Rattle.fetch_mirror.proofs.Copied.{always, copied_told, uncopied_so, whole_told}
+use Rattle.fetch_mirror.proofs.Copied.{always, copied_told, limited_so, uncopied_so, whole_told}
 use Rattle.fetch_mirror.proofs.copying.run_mirror.Goals as goal
 
 pub returns-clause-copied : goal.returns-clause-copied
@@ -14,6 +14,16 @@ returns-clause-copied g c =
     let peers_are = c.as_mut_slice.ensures.value ∙ c.in_ok-peers.ensures ∙ ap (λ (s : Serving). replicate c.args.options.workers (fresh s.served)) c.in-Ok.ensures.server in
     copied_told d c.in-Ok.ensures.servable c.args.border.now c.args.options.committer c.args.options.workers c.args.options.max_reply_bytes few c.new-lister.result c.mirror_from.new.lister c.as_mut_slice.result.now c.mirror_from.new.peers c.kind.result
     lister_is peers_are c.kind.ensures.kind c.mirror_from.result c.mirror_from.ensures.mirrored
+
+pub returns-clause-limited : goal.returns-clause-limited
+returns-clause-limited g c =
+    let few : IsFew c.args.options.workers = search rules in
+    let d : Data = data_of c.args.store.now c.args.refs.now in
+    let lister_is = c.new-lister.ensures ∙ ap (λ (s : Serving). fresh s.served) (c.fresh.ensures ∙ ap (λ (s : Serving). unfed s.served) c.in-Ok.ensures.server) in
+    let peers_are = c.as_mut_slice.ensures.value ∙ c.in_ok-peers.ensures ∙ ap (λ (s : Serving). replicate c.args.options.workers (fresh s.served)) c.in-Ok.ensures.server in
+    limited_so d c.args.options.committer c.args.options.workers c.args.options.max_reply_bytes c.args.border.now c.mirror_from.result
+    (uncopied_so d c.in-Ok.ensures.servable c.args.border.now c.args.options.committer c.args.options.workers c.args.options.max_reply_bytes few c.new-lister.result c.mirror_from.new.lister c.as_mut_slice.result.now c.mirror_from.new.peers c.kind.result
+    lister_is peers_are c.kind.ensures.kind c.mirror_from.result c.mirror_from.ensures.refused)
 
 pub returns-clause-mirrored : goal.returns-clause-mirrored
 returns-clause-mirrored g c =
