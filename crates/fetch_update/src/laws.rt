@@ -26,7 +26,7 @@ ghost use Rattle.fetch_update.specs.declared.update.Error.{Error};
 ghost use Rattle.fetch_update.specs.declared.update.Outcome.{Outcome};
 ghost use Rattle.fetch_update.specs.declared.verdict.Verdict.{Verdict};
 
-pub use crate::dated::is_dated_ancestor;
+pub use crate::dated::{has_dated_path, is_dated_ancestor};
 use crate::judge::Judge;
 use crate::message::RefLogMessage;
 use crate::settling::settled_outcome;
