@@ -152,7 +152,12 @@ fn fetch_one<R: Threads + Wait + Sync, P: Peer>(
 }
 
 /// Puts a pass that came back and what became of the job beside the job.
-fn arrive(job_run: &mut JobRun<()>, pass: Pass, receipt: Receipt, answer: Result<Outcome, SharedError>)
+fn arrive(
+    job_run: &mut JobRun<()>,
+    pass: Pass,
+    receipt: Receipt,
+    answer: Result<Outcome, SharedError>,
+)
     ensures job { job_run.new.job ≡ job_run.old.job }
     ensures pass { job_run.new.pass ≡ Some pass }
     ensures answer { job_run.new.answer ≡ Some (receipt, answer) }

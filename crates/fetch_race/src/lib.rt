@@ -3,10 +3,10 @@
 
 mod fetching;
 mod job;
-mod racing;
 mod passes;
+mod racing;
 
 pub use fetching::fetch_by_pass;
-pub use job::{Job, Raced, JobRun};
+pub use job::{Job, JobRun, Raced};
+pub use passes::{closed, gather, give_passes, opened, race_with};
 pub use racing::race_over;
-pub use passes::{closed, gather, opened, race_with, give_passes};

@@ -13,7 +13,7 @@ ghost use Rattle.fetch_shared.specs.Passes.{Holder};
 ghost use Rattle.fetch_shared.specs.Shared.{IsKept};
 ghost use Rattle.fetch_shared.specs.declared.error.SharedError.TheVariants as errors;
 
-use crate::job::{Job, Raced, JobRun};
+use crate::job::{Job, JobRun, Raced};
 use crate::racing::race_over;
 use fetch_remote::{Outcome, Repository};
 use fetch_shared::{Entry, Pass, SharedError, SharedRepository};
@@ -229,7 +229,11 @@ fn race_among<R: Threads + Wait + Sync, P: Peer + Drop + Send>(
 
 /// Gives each job a pass of its own, job `i` that with the number `i`, and answers a pass for the numbers that are left.
 /// The jobs may be anything: who lends peers has jobs without them.
-pub fn give_passes<P: Drop>(shared: &SharedRepository, pass: Pass, job_runs: &mut [JobRun<P>]) -> Pass
+pub fn give_passes<P: Drop>(
+    shared: &SharedRepository,
+    pass: Pass,
+    job_runs: &mut [JobRun<P>],
+) -> Pass
     requires few { length job_runs.old ≤ 8 }
     requires all { IsRest shared.now 0 pass }
     ensures given_passes { HavePasses shared.now (map (λ r. r.job) job_runs.old) job_runs.new }

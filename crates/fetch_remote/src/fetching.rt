@@ -1,6 +1,8 @@
 //! The whole fetch.
 
+pub mod applying;
 pub mod connection;
+pub mod exchange;
 pub mod fetch_error;
 pub mod judging;
 pub mod keep;
@@ -8,8 +10,6 @@ pub mod options;
 pub mod outcome;
 pub mod prepared;
 pub mod preparing;
-pub mod applying;
-pub mod exchange;
 
 ghost use Rattle.std.specs.Prelude.{◌≡◌, true, Some, None, IfOk, IfErr};
 ghost use Rattle.fetch_conversation.specs.Receiving.{last_question};
@@ -23,12 +23,12 @@ ghost use Rattle.fetch_conversation.specs.Blame.{BlamesPeer, BlamesInterrupt, is
 ghost use Rattle.fetch_remote.specs.Blame.{BlamesFiles, BlamesWorktrees, SparesFiles, fault_told, keep_fault_told};
 ghost use Rattle.fetch_remote.specs.Blame.{lent_files, lent_trees, told_by};
 
+use crate::fetching::applying::ApplyOptions;
 use crate::fetching::connection::listed_for;
 use crate::fetching::fetch_error::FetchError;
 use crate::fetching::options::FetchOptions;
 use crate::fetching::outcome::Outcome;
 use crate::fetching::preparing::fetch_on;
-use crate::fetching::applying::ApplyOptions;
 use crate::remote::Remote;
 use crate::repository::Repository;
 use fetch_conversation::NoProgress;
@@ -115,7 +115,11 @@ impl Remote {
 }
 
 /// How what a fetch receives is applied by these options.
-pub fn apply_options(alloc: Global, tags: Tags, options: &FetchOptions) -> Result<ApplyOptions, NoMemory>
+pub fn apply_options(
+    alloc: Global,
+    tags: Tags,
+    options: &FetchOptions,
+) -> Result<ApplyOptions, NoMemory>
     ensures { IfOk result (λ how. how ≡ apply_options_of tags options.now) }
 {
     Ok(ApplyOptions {

@@ -12,12 +12,12 @@ ghost use Rattle.fetch_conversation.specs.Errors.{asks_nothing};
 ghost use Rattle.fetch_conversation.specs.ListStage.{list_stage, answer_shown, left_by, IsReady, shown, pending_of};
 ghost use Rattle.fetch_remote.specs.Stages.{inquiry_of};
 
+pub use crate::fetching::apply_options;
+pub use crate::fetching::applying::{ApplyOptions, TakenReply, status};
 pub use crate::fetching::connection::{inquired, listed_for};
 pub use crate::fetching::judging::judge;
 pub use crate::fetching::keep::{Kept, keep, make_keep, remove_keep};
-pub use crate::fetching::apply_options;
 pub use crate::fetching::preparing::fetch_on;
-pub use crate::fetching::applying::{ApplyOptions, TakenReply, status};
 use crate::ref_map::Options;
 use crate::remote::Remote;
 use crate::remotes::direction::Direction;

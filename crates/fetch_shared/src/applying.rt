@@ -17,14 +17,14 @@ ghost use Rattle.fetch_shared.specs.Applying as spec;
 ghost use Rattle.fetch_shared.specs.Applying.{HasVerdicts, IsApplied, IsStop, IsUnmoved, IsUnapplied, Moves};
 ghost use Rattle.fetch_shared.specs.Applying.{course_of, is_early, matter_of};
 
-use crate::pack_taken::{PackTaken, take_pack};
 use crate::error::SharedError;
+use crate::exchange::{Exchange, unreceived};
+use crate::pack_taken::{PackTaken, take_pack};
 use crate::pass::Pass;
 use crate::shared::SharedRepository;
-use crate::exchange::{Exchange, unreceived};
 use fetch_conversation::{Listed, Negotiate, Settings};
 use fetch_refs::{RefEdit, Signature};
-use fetch_remote::phases::{Kept, ApplyOptions, TakenReply, judge, keep, status};
+use fetch_remote::phases::{ApplyOptions, Kept, TakenReply, judge, keep, status};
 use fetch_remote::{Outcome, fetch};
 use fetch_store::{Files, NoMemory};
 use fetch_update::{Worktrees, update};
@@ -94,7 +94,9 @@ pub(crate) fn apply_in_turns<R: Wait, F: Files, W: Worktrees>(
         Err((pass, e)) => return Err((pass, None, None, e)),
     };
     let settings = shared.settings();
-    let verdicts = match judge_over(alloc, settings, options, &ref_map, pack_taken, files, worktrees) {
+    let verdicts = match judge_over(
+        alloc, settings, options, &ref_map, pack_taken, files, worktrees,
+    ) {
         Ok(verdicts) => verdicts,
         Err(stop) => return Err((pass, stop.judged, None, unreceived(stop.cause))),
     };

@@ -12,12 +12,12 @@ ghost use Rattle.fetch_shared.specs.Applying.{is_early};
 ghost use Rattle.fetch_shared.specs.Conversed.{line_of};
 ghost use Rattle.fetch_shared.specs.Valid.{HasValidInput, is_free};
 
+use crate::applying::apply_in_turns;
 use crate::error::SharedError;
+use crate::exchange::list_and_receive;
 use crate::pass::Pass;
 use crate::receipt::Receipt;
-use crate::applying::apply_in_turns;
 use crate::shared::SharedRepository;
-use crate::exchange::list_and_receive;
 use fetch_remote::phases::apply_options;
 use fetch_remote::{FetchOptions, Outcome, Remote};
 use fetch_store::{Files, NoMemory};

@@ -124,7 +124,7 @@ pub fn valid_replies_are_never_refused_there()
     ensures judging { (line : Line) (c : Call) (receipt : Receipt) (cause : UpdateError)
         (h : IsStopped line c receipt (Fetch (Receive (UpdateRefs cause)))) →
         AreJudgeable (policy_in h.unapplied.taken.seen.repository.state (apply_options_in c.given) h.unapplied.by.trees)
-            h.told.listed.ref_map
+        h.told.listed.ref_map
         → is_worktree_fault cause ≡ true }
 {}
 

@@ -7,9 +7,9 @@ ghost use Rattle.fetch_shared.specs.Journals.{pass_of};
 ghost use Rattle.fetch_shared.specs.Shared.{IsKept};
 ghost use Rattle.fetch_shared.specs.LockRule.{turning, resting, Finds};
 
+use crate::lock_rule::{Load, Place, Record, Release, Try};
 use crate::shared::SharedRepository;
 use crate::state::SharedState;
-use crate::lock_rule::{Load, Place, Record, Release, Try};
 use std::sync::Wait;
 use std::thread::yield_now;
 

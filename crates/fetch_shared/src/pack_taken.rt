@@ -9,10 +9,10 @@ ghost use Rattle.fetch_shared.specs.Passes.{IsBack};
 ghost use Rattle.fetch_shared.specs.declared.error.SharedError.TheVariants as errors;
 
 use crate::error::SharedError;
+use crate::events::ReceivedPack;
 use crate::pass::Pass;
 use crate::plan::Taken;
 use crate::shared::SharedRepository;
-use crate::events::ReceivedPack;
 use fetch_conversation::{Negotiate, Received};
 use fetch_store::ObjectId;
 use std::alloc::Global;

@@ -12,10 +12,10 @@ ghost use Rattle.fetch_shared.specs.LockRule.{left_part, right_part};
 
 use crate::entry::Entry;
 use crate::error::SharedError;
+use crate::lock::TURN;
+use crate::lock_rule::{Cut, Desk, Glue, Learn, Place, Settle, Share};
 use crate::pass::Pass;
 use crate::state::SharedState;
-use crate::lock_rule::{Cut, Desk, Glue, Learn, Place, Settle, Share};
-use crate::lock::TURN;
 use crate::view::Span;
 use fetch_conversation::Settings;
 use fetch_remote::Repository;

@@ -21,10 +21,10 @@ ghost use Rattle.fetch_remote.specs.Blame.{BlamesFiles, BlamesWorktrees, SparesF
 ghost use Rattle.fetch_remote.specs.Blame.{lent_files, lent_trees, told_by};
 
 use crate::fetch;
+use crate::fetching::exchange::Exchange;
 use crate::fetching::judging::judge;
 use crate::fetching::keep::{Kept, keep, release};
 use crate::fetching::outcome::{Outcome, Status};
-use crate::fetching::exchange::Exchange;
 use crate::repository::Repository;
 use fetch_conversation::{Listed, Negotiate, Received};
 use fetch_refs::{PackedRefs, RefEdit};
@@ -92,7 +92,14 @@ pub(crate) fn apply_reply<F: Files, W: Worktrees>(
         received,
     } = exchange;
     let (ref_map, handshake) = found(listed);
-    let taken = take_reply(alloc, repo, options.dry_run, wants.as_slice(), received, files)?;
+    let taken = take_reply(
+        alloc,
+        repo,
+        options.dry_run,
+        wants.as_slice(),
+        received,
+        files,
+    )?;
     let updates = judged(alloc, repo, &ref_map, options, worktrees)?;
     move_refs(repo, options, updates.edits.as_slice())?;
     let status = status(files, options.dry_run, taken, updates)?;
@@ -285,7 +292,11 @@ fn judged<W: Worktrees>(
 }
 
 /// Moves the references, but in a dry run. The edits find what they expect, so that memory alone may refuse them.
-fn move_refs(repo: &mut Repository, options: &ApplyOptions, edits: &[RefEdit]) -> Result<(), NoMemory>
+fn move_refs(
+    repo: &mut Repository,
+    options: &ApplyOptions,
+    edits: &[RefEdit],
+) -> Result<(), NoMemory>
     requires found { refusal_of (state_of repo.old).refs.names edits.now ≡ None }
     ensures ok { OnOk result (state_of repo.new
         ≡ spec.moved options.now.dry_run options.now.packed (setup_of repo.old) (state_of repo.old) edits.now) }

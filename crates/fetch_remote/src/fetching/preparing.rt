@@ -17,10 +17,10 @@ ghost use Rattle.fetch_remote.specs.Blame.{lent_files, lent_trees, told_by};
 
 use crate::fetch;
 use crate::fetching::apply_options;
-use crate::fetching::outcome::Outcome;
-use crate::fetching::prepared::Prepared;
 use crate::fetching::applying::apply_reply;
 use crate::fetching::exchange::negotiate_and_receive;
+use crate::fetching::outcome::Outcome;
+use crate::fetching::prepared::Prepared;
 use crate::remote::Remote;
 use crate::repository::Repository;
 use fetch_conversation::Progress;
