@@ -2,7 +2,7 @@
 
 use crate::said::maker_of;
 use crate::served::{ServedConnect, repository_of};
-use crate::setting::{Setting, agrees, as_it_is, committer, options};
+use crate::setting::{Setting, agrees, as_it_is, options};
 use crate::standing::say_place;
 use crate::trying::{Course, Ending, tell_clone};
 use fetch_clone::create::Options;
@@ -11,7 +11,7 @@ use fetch_remote::Repository;
 use fetch_remote::connect::Connect;
 use fetch_serve::{ServeError, Server};
 use fetch_store::{Files, MemoryFiles, NoMemory, decimal};
-use rows::{lines, say, say_printed, split_word};
+use rows::{lines, say, say_printed, somebody, split_word};
 use std::alloc::{Alloc, Global};
 use std::fs::Files as HostCalls;
 use std::thread::Threads;
@@ -41,7 +41,7 @@ fn clone_over<T: Threads + Sync, F: Files + Drop, C: Connect + Drop>(
     out: &mut Vec<u8>,
 ) -> Result<(), NoMemory> {
     let options = options(alloc, false)?;
-    let committer = committer(alloc)?;
+    let committer = somebody(alloc)?;
     let clone = PrepareFetch::new(
         alloc,
         setting.url.as_bytes(),

@@ -1,10 +1,9 @@
 //! Repositories that are created.
 
-use crate::setting::committer;
 use fetch_clone::create::{self, Error, Kind, Options};
 use fetch_clone::init;
 use fetch_store::{Files, NoMemory};
-use rows::{say, split_word};
+use rows::{say, somebody, split_word};
 use std::alloc::Global;
 
 /// How a refusal is called.
@@ -99,7 +98,7 @@ pub(crate) fn tell_opened<F: Files>(
     directory: &[u8],
     out: &mut Vec<u8>,
 ) -> Result<(), NoMemory> {
-    let committer = committer(alloc)?;
+    let committer = somebody(alloc)?;
     match init::init(
         alloc,
         files,

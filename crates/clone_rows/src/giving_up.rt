@@ -1,13 +1,13 @@
 //! Clones that are given up, or dropped.
 
-use crate::setting::{agrees, as_it_is, committer, options};
+use crate::setting::{agrees, as_it_is, options};
 use crate::standing::say_place;
 use fetch_clone::create::{Kind, Options};
 use fetch_clone::{HostFiles, PrepareFetch};
 use fetch_remote::ScriptedConnect;
 use fetch_store::{MemoryFiles, NoMemory};
 use fetch_wire::ScriptedPeer;
-use rows::say;
+use rows::{say, somebody};
 use std::alloc::{Alloc, Global};
 use std::fs::Files as HostCalls;
 
@@ -19,7 +19,7 @@ pub(crate) fn give_up(
     out: &mut Vec<u8>,
 ) -> Result<MemoryFiles, NoMemory> {
     let options = options(alloc, true)?;
-    let committer = committer(alloc)?;
+    let committer = somebody(alloc)?;
     let clone = PrepareFetch::new(
         alloc,
         b"/srv/a.git",
@@ -50,7 +50,7 @@ pub(crate) fn tell_dropped<R: HostCalls + Alloc<A = Global> + Clone + Drop>(
     out: &mut Vec<u8>,
 ) -> Result<(), NoMemory> {
     let options = options(alloc, true)?;
-    let committer = committer(alloc)?;
+    let committer = somebody(alloc)?;
     let clone = PrepareFetch::new(
         alloc,
         b"/srv/a.git",

@@ -5,7 +5,6 @@ use fetch_clone::ConfigureFault;
 use fetch_clone::create::Kind;
 use fetch_config::{File, Meta, Origin};
 use fetch_negotiate::{Depth, Shallow};
-use fetch_refs::Signature;
 use fetch_remote::{OpenOptions, Remote};
 use fetch_specs::{NameError, PartialName};
 use fetch_store::{List, NoMemory, Text, decimal};
@@ -73,15 +72,6 @@ pub(crate) fn options(alloc: Global, is_lenient: bool) -> Result<OpenOptions, No
         }),
         Err(_) => Err(NoMemory),
     }
-}
-
-pub(crate) fn committer(alloc: Global) -> Result<Signature, NoMemory> {
-    Ok(Signature {
-        name: Text::new(alloc, b"A")?,
-        email: Text::new(alloc, b"a@x")?,
-        seconds: 1,
-        offset_minutes: 0,
-    })
 }
 
 /// The remote as it is.

@@ -13,7 +13,7 @@ use Rattle.hex.proofs.HexLemmas.{decode_of-even, decode_sized-ok, decode_sized-t
 use Rattle.fetch_refs.proofs.LowerHex.{written_again, no_capital}
 use Rattle.fetch_wire.specs.declared.lines.line.Line.{Line}
 use Rattle.fetch_wire.specs.declared.lines.line.Line.TheVariants.{Payload, Flush, Delim, End}
-use Rattle.fetch_wire.specs.declared.lines.section.Trouble.{Trouble}
+use Rattle.fetch_wire.specs.declared.lines.section.LineError.{LineError}
 use Rattle.fetch_wire.specs.Lines.{number_in, line_at, line_len}
 use Rattle.fetch_wire.specs.LineLaws.{line_at-is}
 use Rattle.fetch_wire.specs.Written.{four_digits, count_of, payload_of, line_text, too_long_in}
@@ -110,7 +110,7 @@ capital_none bytes high line rest written is =
     true≢false (sym high ∙ ap (list_any is_ascii_uppercase) front ∙ lower_digits_only (count_of line))
 
 -- what isn't read as a line isn't written as one
-pub refused_none : (bytes : List ℕ) (e : Trouble) → line_at 65520 0 bytes ≡ Err e → BeginsNone bytes
+pub refused_none : (bytes : List ℕ) (e : LineError) → line_at 65520 0 bytes ≡ Err e → BeginsNone bytes
 refused_none bytes e refused line rest written is =
     let read : line_at 65520 0 (line_text line ++ rest) ≡ Ok (line, rest) = written-line_at 65520 0 line rest written.proper written.fits (within_longest line written.fits) in
-    let both : ◌≡◌ {A = Result (Line × List ℕ) Trouble} (Err e) (Ok (line, rest)) = sym refused ∙ ap (line_at 65520 0) is ∙ read in absurd cc
+    let both : ◌≡◌ {A = Result (Line × List ℕ) LineError} (Err e) (Ok (line, rest)) = sym refused ∙ ap (line_at 65520 0) is ∙ read in absurd cc

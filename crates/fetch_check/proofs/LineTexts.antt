@@ -3,7 +3,7 @@ use Rattle.std.proofs.Common.{◌≡◌, ℕ, ◌≤◌, ◌⊎◌, inl, inr, Li
 use Rattle.std.specs.List.{AllByRecursion}
 use Rattle.std.proofs.lemmas.List.{length-append}
 use Rattle.fetch_wire.specs.declared.lines.line.Line.{Line}
-use Rattle.fetch_wire.specs.declared.lines.section.Trouble.{Trouble}
+use Rattle.fetch_wire.specs.declared.lines.section.LineError.{LineError}
 use Rattle.fetch_wire.specs.Lines.{line_at}
 use Rattle.fetch_wire.specs.Written.{line_text, lines_text}
 use Rattle.fetch_wire.specs.WrittenLaws.{written-line_at}
@@ -11,10 +11,10 @@ use Rattle.fetch_check.specs.Scanning.{IsWritten, Stands, Stand}
 use Rattle.fetch_check.proofs.Digits.{within_longest}
 use Rattle.fetch_check.proofs.Lines.{lines_more}
 
-abbrev read_of : Line → List ℕ → Result (Line × List ℕ) Trouble
+abbrev read_of : Line → List ℕ → Result (Line × List ℕ) LineError
 read_of line rest = Ok (line, rest)
 
-abbrev from_ok : {A : Type 0} → A → Result A Trouble → A
+abbrev from_ok : {A : Type 0} → A → Result A LineError → A
 from_ok other (Ok x) = x
 from_ok other (Err e) = other
 

@@ -31,7 +31,7 @@ use Rattle.fetch_remote.specs.Form.{Given}
 use Rattle.fetch_remote.specs.Keeping.{made, with_keep}
 use Rattle.fetch_remote.specs.Paths.{in_directory, keep_path}
 use Rattle.fetch_remote.specs.Repositories.{State}
-use Rattle.fetch_remote.specs.Settling.{pack_read, standing}
+use Rattle.fetch_remote.specs.Applying.{pack_read, standing}
 use Rattle.fetch_remote.specs.Stages.{Told, bound_of, conversation}
 use Rattle.fetch_remote.specs.declared.fetching.fetch_error.FetchError.{FetchError}
 use Rattle.fetch_cli.specs.KeepFiles.{packs_of, first_kept}

@@ -8,11 +8,11 @@ use Rattle.fetch_store.specs.Graph.{Graph, graph_of}
 use Rattle.fetch_store.specs.declared.id.ObjectId.{ObjectId}
 use Rattle.fetch_negotiate.specs.declared.algorithm.Algorithm.{Algorithm}
 use Rattle.fetch_wire.specs.Awaited.{told_at}
-use Rattle.fetch_wire.specs.declared.replies.awaited.Await.{Await}
-use Rattle.fetch_wire.specs.declared.replies.awaited.Await.TheVariants as awaits
-use Rattle.fetch_wire.specs.declared.replies.awaited.Fault.{Fault}
-use Rattle.fetch_wire.specs.declared.replies.awaited.Told.{Told}
-use Rattle.fetch_wire.specs.declared.replies.awaited.Told.TheVariants as told
+use Rattle.fetch_wire.specs.declared.replies.reply.ReplyKind.{ReplyKind}
+use Rattle.fetch_wire.specs.declared.replies.reply.ReplyKind.TheVariants as awaits
+use Rattle.fetch_wire.specs.declared.replies.reply.ReplyError.{ReplyError}
+use Rattle.fetch_wire.specs.declared.replies.reply.ParsedReply.{ParsedReply}
+use Rattle.fetch_wire.specs.declared.replies.reply.ParsedReply.TheVariants as told
 use Rattle.fetch_wire.specs.declared.greetings.handshake.Handshake.{Handshake}
 use Rattle.fetch_wire.specs.declared.lines.line.Line.{Line}
 use Rattle.fetch_wire.specs.declared.lines.line.Line.TheVariants.{Payload, Flush, Delim, End}
@@ -23,10 +23,10 @@ use Rattle.fetch_wire.specs.Written.{too_long_in, first_too_long}
 use Rattle.fetch_negotiate.specs.Requests.{Asked, fetch_request, head_of, asked_of, pack_word}
 use Rattle.fetch_conversation.specs.Conversation.{Conversation, ends, asks, asking, asks_unless, sent_in, after_reply, told_as, and_then}
 use Rattle.fetch_conversation.specs.ConverseStage.{converse_stage, wanting, fetching, algorithm_in}
-use Rattle.fetch_conversation.specs.Exchange.{TermsValue, asked_by, reply_to, replied, exchange}
+use Rattle.fetch_conversation.specs.Exchange.{FetchArgumentsValue, asked_by, reply_to, replied, exchange}
 use Rattle.fetch_conversation.specs.Exchange as exchanging
-use Rattle.fetch_conversation.specs.Rounds.{CourseValue, first_course, next_window, course_after, negotiating}
-use Rattle.fetch_conversation.specs.ListStage.{InquiryValue, ListedValue, list_stage, inquiry_stage, greeted, listing, listed, unless, unlisted, unsendable, no_specs, prefixes_asked}
+use Rattle.fetch_conversation.specs.Rounds.{RoundsStateValue, first_rounds_state, next_window, rounds_state_after, negotiating}
+use Rattle.fetch_conversation.specs.ListStage.{LsRefsValue, ListedValue, list_stage, ls_refs_stage, greeted, listing, listed, unless, unlisted, unsendable, no_specs, prefixes_asked}
 use Rattle.fetch_conversation.specs.ListStage as list
 use Rattle.fetch_remote.specs.Errors.{preparing, receiving}
 use Rattle.fetch_remote.specs.Fetching.{requests_in}
@@ -94,14 +94,14 @@ fetch_sent a haves done =
 -- each question is lines that fit
 IsFit : {X E : Type 0} → Conversation X E → Type 0
 IsFit (ends answer) = ⊤
-IsFit (asks lines awaited failed next) = AreSent lines × ((t : Told) → IsFit (next t))
+IsFit (asks lines awaited failed next) = AreSent lines × ((t : ParsedReply) → IsFit (next t))
 
 fit_ends : {X E : Type 0} (answer : Result X E) → IsFit (ends answer)
 unfolding IsFit
 fit_ends answer = tt
 
-fit_behind : {X E : Type 0} (bound : ℕ) (next : Told → Conversation X E) (found : Result (Told × List ℕ) Fault)
-    → ((t : Told) (rest : List ℕ) → AreSent (sent_in bound (next t) rest)) → AreSent (after_reply (λ _. []) (λ t rest. sent_in bound (next t) rest) found)
+fit_behind : {X E : Type 0} (bound : ℕ) (next : ParsedReply → Conversation X E) (found : Result (ParsedReply × List ℕ) ReplyError)
+    → ((t : ParsedReply) (rest : List ℕ) → AreSent (sent_in bound (next t) rest)) → AreSent (after_reply (λ _. []) (λ t rest. sent_in bound (next t) rest) found)
 fit_behind bound next (Err fault) h = none_are
 fit_behind bound next (Ok x) h = h x.0 x.1
 
@@ -131,47 +131,47 @@ fit_long : {X E : Type 0} (o : Option ℕ) (long : ℕ → E) (c : Conversation 
 fit_long None long c h = h refl
 fit_long (Some n) long c h = fit_ends _
 
-fit_asks : {X E : Type 0} (lines : List Line) (awaited : Await) (failed : Fault → E) (next : Told → Conversation X E) → AllSent lines → first_too_long lines ≡ None → ((t : Told) → IsFit (next t)) → IsFit (asks lines awaited failed next)
+fit_asks : {X E : Type 0} (lines : List Line) (awaited : ReplyKind) (failed : ReplyError → E) (next : ParsedReply → Conversation X E) → AllSent lines → first_too_long lines ≡ None → ((t : ParsedReply) → IsFit (next t)) → IsFit (asks lines awaited failed next)
 unfolding IsFit
 fit_asks lines awaited failed next sent fit k = (record { sent = sent; fit = fit }, k)
 
-fit_asking : {X E : Type 0} (long : ℕ → E) (lines : List Line) (awaited : Await) (failed : Fault → E) (next : Told → Conversation X E) → AllSent lines → ((t : Told) → IsFit (next t)) → IsFit (asking long lines awaited failed next)
+fit_asking : {X E : Type 0} (long : ℕ → E) (lines : List Line) (awaited : ReplyKind) (failed : ReplyError → E) (next : ParsedReply → Conversation X E) → AllSent lines → ((t : ParsedReply) → IsFit (next t)) → IsFit (asking long lines awaited failed next)
 fit_asking long lines awaited failed next sent k = fit_long (first_too_long lines) long _ (λ fit. fit_asks lines awaited failed next sent fit k)
 
 -- ---- the two stages
 
-fit_listed : (q : InquiryValue) (h : Handshake) (t : Told) → IsFit (listed q h t)
+fit_listed : (q : LsRefsValue) (h : Handshake) (t : ParsedReply) → IsFit (listed q h t)
 fit_listed q h (told.Listing refs) = fit_ends _
 fit_listed q h (told.Greeting other) = fit_ends _
 fit_listed q h (told.Advertisement other refs) = fit_ends _
 fit_listed q h (told.Reply reply) = fit_ends _
 
-fit_listing : (bound : ℕ) (q : InquiryValue) (h : Handshake) → IsFit (listing bound q h)
+fit_listing : (bound : ℕ) (q : LsRefsValue) (h : Handshake) → IsFit (listing bound q h)
 unfolding listing
 fit_listing bound q h =
     fit_long (first_too_long (listing_lines h q.agent (prefixes_asked q))) list.too_long _ (λ fit. fit_unless (unlisted h) _
     (fit_asks (listing_lines h q.agent (prefixes_asked q)) (awaits.Listing h.object_hash) (list.failed bound) (λ t. listed q h t) (listing_sent h q.agent (prefixes_asked q)) fit (λ t. fit_listed q h t)))
 
-fit_greeted : (bound : ℕ) (q : InquiryValue) (t : Told) → IsFit (greeted bound q t)
+fit_greeted : (bound : ℕ) (q : LsRefsValue) (t : ParsedReply) → IsFit (greeted bound q t)
 fit_greeted bound q (told.Greeting h) = fit_listing bound q h
 fit_greeted bound q (told.Advertisement h refs) = fit_ends _
 fit_greeted bound q (told.Listing refs) = fit_ends _
 fit_greeted bound q (told.Reply reply) = fit_ends _
 
-fit_list : (bound : ℕ) (q : InquiryValue) → IsFit (list_stage bound q)
-unfolding list_stage inquiry_stage
+fit_list : (bound : ℕ) (q : LsRefsValue) → IsFit (list_stage bound q)
+unfolding list_stage ls_refs_stage
 fit_list bound q =
     fit_unless (no_specs q) _ (fit_unless (unsendable q) _
     (fit_asking list.too_long (first_line q.address q.options.handshake_parameters ∷ []) awaits.Greeting (list.failed bound) (λ t. greeted bound q t)
     (first_sent q.address q.options.handshake_parameters) (λ t. fit_greeted bound q t)))
 
-fit_replied : (x : Told) → IsFit (replied x)
+fit_replied : (x : ParsedReply) → IsFit (replied x)
 fit_replied (told.Reply reply) = fit_ends _
 fit_replied (told.Greeting h) = fit_ends _
 fit_replied (told.Advertisement h refs) = fit_ends _
 fit_replied (told.Listing refs) = fit_ends _
 
-fit_exchange : (bound : ℕ) (t : TermsValue) (haves : List ObjectId) (done : Bool) → IsFit (exchange bound t haves done)
+fit_exchange : (bound : ℕ) (t : FetchArgumentsValue) (haves : List ObjectId) (done : Bool) → IsFit (exchange bound t haves done)
 unfolding exchange
 fit_exchange bound t haves done =
     fit_asking exchanging.too_long (fetch_request (asked_by t) haves done) (awaits.Reply (reply_to t haves done)) (exchanging.failed bound) (λ x. replied x) (fetch_sent (asked_by t) haves done) (λ x. fit_replied x)
@@ -180,18 +180,18 @@ fit_either : {X E : Type 0} (b : Bool) (c d : Conversation X E) → IsFit c → 
 fit_either true c d h k = h
 fit_either false c d h k = k
 
-fit_negotiating : (more bound : ℕ) (t : TermsValue) (g : Graph) (algorithm : Algorithm) (c : CourseValue) → IsFit (negotiating more bound t g algorithm c)
+fit_negotiating : (more bound : ℕ) (t : FetchArgumentsValue) (g : Graph) (algorithm : Algorithm) (c : RoundsStateValue) → IsFit (negotiating more bound t g algorithm c)
 unfolding negotiating
 fit_negotiating zero bound t g algorithm c = fit_ends _
 fit_negotiating (suc more) bound t g algorithm c =
-    fit_then _ _ (fit_exchange bound t _ _) (λ reply. fit_either _ _ _ (fit_ends _) (fit_negotiating more bound t g algorithm (course_after algorithm c (next_window g algorithm c) reply)))
+    fit_then _ _ (fit_exchange bound t _ _) (λ reply. fit_either _ _ _ (fit_ends _) (fit_negotiating more bound t g algorithm (rounds_state_after algorithm c (next_window g algorithm c) reply)))
 
-fit_wanting : (bound : ℕ) (g : Graph) (t : TermsValue) (wants : List ObjectId) → IsFit (wanting bound g t wants)
+fit_wanting : (bound : ℕ) (g : Graph) (t : FetchArgumentsValue) (wants : List ObjectId) → IsFit (wanting bound g t wants)
 unfolding fetching
 fit_wanting bound g t [] = fit_ends _
-fit_wanting bound g t (id ∷ ids) = fit_then _ _ (fit_negotiating (suc (finmap.len g)) bound t g (algorithm_in t.settings) (first_course (algorithm_in t.settings) t.view)) (λ n. fit_ends _)
+fit_wanting bound g t (id ∷ ids) = fit_then _ _ (fit_negotiating (suc (finmap.len g)) bound t g (algorithm_in t.settings) (first_rounds_state (algorithm_in t.settings) t.view)) (λ n. fit_ends _)
 
-fit_converse : (bound : ℕ) (g : Graph) (t : TermsValue) → IsFit (converse_stage bound g t)
+fit_converse : (bound : ℕ) (g : Graph) (t : FetchArgumentsValue) → IsFit (converse_stage bound g t)
 unfolding converse_stage
 fit_converse bound g t = fit_unless _ _ (fit_wanting bound g t t.view.wants)
 

@@ -12,7 +12,7 @@ use Rattle.fetch_wire.specs.Lines.{line_counted, announced, number_in, line_at}
 use Rattle.fetch_wire.specs.Written.{four_digits, count_of, payload_of, line_text, lines_text, too_long_in, first_too_long}
 use Rattle.fetch_wire.specs.declared.lines.line.Line.{Line}
 use Rattle.fetch_wire.specs.declared.lines.line.Line.TheVariants.{Payload, Flush, Delim, End}
-use Rattle.fetch_wire.specs.declared.lines.section.Trouble.{Trouble}
+use Rattle.fetch_wire.specs.declared.lines.section.LineError.{LineError}
 use Rattle.fetch_cli.specs.Heard.{heard_within, lines_heard, is_sent, AreSent}
 use Rattle.fetch_scene.specs.SceneLines.{unbounded, line_found}
 
@@ -83,7 +83,7 @@ reads_at line rest sent few =
 
 reads : (line : Line) (rest : List ℕ) → is_sent line ≡ true → too_long_in line ≡ None → line_found 0 (line_text line ++ rest) ≡ Some (line, rest)
 unfolding line_found
-reads line rest sent fits = ap (λ (r : Result (Line × List ℕ) Trouble). result_ok r) (reads_at line rest sent (short line fits))
+reads line rest sent fits = ap (λ (r : Result (Line × List ℕ) LineError). result_ok r) (reads_at line rest sent (short line fits))
 
 -- ---- all lines
 

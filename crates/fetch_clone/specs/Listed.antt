@@ -10,7 +10,7 @@ use Rattle.fetch_specs.specs.Parses.{parsed}
 use Rattle.fetch_specs.specs.Specs.{Spec}
 use Rattle.fetch_specs.specs.declared.conflict.Conflict.{Conflict}
 use Rattle.fetch_specs.specs.declared.operation.Operation.TheVariants.{Fetch}
-use Rattle.fetch_conversation.specs.ListStage.{InquiryValue}
+use Rattle.fetch_conversation.specs.ListStage.{LsRefsValue}
 use Rattle.fetch_conversation.specs.declared.prepare.Error.{Error as PrepareError}
 use Rattle.fetch_conversation.specs.declared.prepare.Error.TheVariants as prepare
 use Rattle.fetch_conversation.specs.declared.ref_map.Error.TheVariants as ref_map
@@ -87,7 +87,7 @@ pub record AreOptions (with_head : Bool) (place : List ℕ) (choices : Choices) 
 -- ---- the listing
 
 -- what the remote is asked
-abbrev pub asked : RemoteValue → Setup → Options → InquiryValue
+abbrev pub asked : RemoteValue → Setup → Options → LsRefsValue
 asked remote setup options = inquiry_of remote setup.settings options
 
 -- whether there is one conflict, and it is at this place

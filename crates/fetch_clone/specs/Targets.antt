@@ -6,7 +6,7 @@ use Rattle.fetch_wire.specs.declared.listings.mapping.RefMap.{RefMap}
 use Rattle.fetch_specs.specs.Specs.{Spec}
 use Rattle.fetch_specs.specs.declared.operation.Operation.TheVariants.{Fetch}
 use Rattle.fetch_specs.specs.declared.tags.Tags.TheVariants as tags
-use Rattle.fetch_conversation.specs.ListStage.{InquiryValue, ListedValue}
+use Rattle.fetch_conversation.specs.ListStage.{LsRefsValue, ListedValue}
 use Rattle.fetch_conversation.specs.declared.ref_map.Error.{Error as MapError}
 use Rattle.fetch_conversation.specs.declared.ref_map.Options.{Options}
 use Rattle.fetch_conversation.specs.declared.settings.Settings.{Settings}
@@ -50,7 +50,7 @@ abbrev pub AreFirstOptions : Choices → Options → Type 0
 AreFirstOptions choices options = (spec : Spec) × (parsed Fetch (first_text choices) ≡ Ok spec) × (options ≡ first_options choices spec)
 
 -- what the first peer is asked
-abbrev pub first_inquiry : List ℕ → Choices → Settings → Spec → InquiryValue
+abbrev pub first_inquiry : List ℕ → Choices → Settings → Spec → LsRefsValue
 first_inquiry url choices settings spec = inquiry_of (bare url) settings (first_options choices spec)
 
 -- ---- what is found

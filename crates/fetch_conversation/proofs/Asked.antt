@@ -6,21 +6,21 @@ use Rattle.fetch_wire.specs.Talks.{Talk}
 use Rattle.fetch_wire.specs.Written.{first_too_long, TellsTooLong}
 use Rattle.fetch_wire.specs.declared.error.WireError.{WireError}
 use Rattle.fetch_wire.specs.declared.error.WireError.TheVariants as wire
-use Rattle.fetch_wire.specs.declared.replies.awaited.Await.TheVariants as awaits
-use Rattle.fetch_wire.specs.declared.replies.awaited.Fault.{Fault}
-use Rattle.fetch_wire.specs.declared.replies.awaited.Fault.TheVariants as faults
-use Rattle.fetch_wire.specs.declared.replies.awaited.Told.{Told}
-use Rattle.fetch_wire.specs.declared.replies.awaited.Told.TheVariants as told
+use Rattle.fetch_wire.specs.declared.replies.reply.ReplyKind.TheVariants as awaits
+use Rattle.fetch_wire.specs.declared.replies.reply.ReplyError.{ReplyError}
+use Rattle.fetch_wire.specs.declared.replies.reply.ReplyError.TheVariants as faults
+use Rattle.fetch_wire.specs.declared.replies.reply.ParsedReply.{ParsedReply}
+use Rattle.fetch_wire.specs.declared.replies.reply.ParsedReply.TheVariants as told
 use Rattle.fetch_negotiate.specs.Requests.{fetch_request}
 use Rattle.fetch_conversation.specs.Conversation.{asks, answer_in, after_reply, asks_unless, IsRefusedBy, Breaks}
 use Rattle.fetch_conversation.specs.Errors.{is_free_receiving, is_stopped, is_unasked, fetch_of_wire}
-use Rattle.fetch_conversation.specs.Exchange.{TermsValue, asked_by, reply_to, failed, too_long, replied, exchange}
+use Rattle.fetch_conversation.specs.Exchange.{FetchArgumentsValue, asked_by, reply_to, failed, too_long, replied, exchange}
 use Rattle.fetch_conversation.specs.declared.fetch.Error.{Error}
 use Rattle.fetch_conversation.specs.declared.fetch.Error.TheVariants as errors
 
 -- ---- the refusals of an exchange
 
-fault_asked : (bound : ℕ) (fault : Fault) → is_unasked (failed bound fault) ≡ false
+fault_asked : (bound : ℕ) (fault : ReplyError) → is_unasked (failed bound fault) ≡ false
 fault_asked bound (faults.Short place) = refl
 fault_asked bound (faults.Broken place) = refl
 fault_asked bound faults.TooLong = refl
@@ -32,24 +32,24 @@ same_error a b is = cc
 by_error : {X : Type 0} (a b : Error) → is_unasked a ≡ false → ◌≡◌ {A = Result X Error} (Err a) (Err b) → is_unasked b ≡ false
 by_error {X} a b asked is = ap is_unasked (sym (same_error {X = X} a b is)) ∙ asked
 
-reply_asked : (bound : ℕ) (x : Told) (rest : List ℕ) (e : Error) → answer_in bound (replied x) rest ≡ Err e → is_unasked e ≡ false
+reply_asked : (bound : ℕ) (x : ParsedReply) (rest : List ℕ) (e : Error) → answer_in bound (replied x) rest ≡ Err e → is_unasked e ≡ false
 unfolding answer_in
 reply_asked bound (told.Reply reply) rest e is = absurd (cc)
 reply_asked bound (told.Greeting h) rest e is = by_error (errors.Fetch (wire.Malformed 0)) e refl is
 reply_asked bound (told.Advertisement h refs) rest e is = by_error (errors.Fetch (wire.Malformed 0)) e refl is
 reply_asked bound (told.Listing refs) rest e is = by_error (errors.Fetch (wire.Malformed 0)) e refl is
 
-reading_asked : (bound : ℕ) (e : Error) (found : Result (Told × List ℕ) Fault) → after_reply (λ fault. Err (failed bound fault)) (λ x rest. answer_in bound (replied x) rest) found ≡ Err e → is_unasked e ≡ false
+reading_asked : (bound : ℕ) (e : Error) (found : Result (ParsedReply × List ℕ) ReplyError) → after_reply (λ fault. Err (failed bound fault)) (λ x rest. answer_in bound (replied x) rest) found ≡ Err e → is_unasked e ≡ false
 reading_asked bound e (Ok x) is = reply_asked bound x.0 x.1 e is
 reading_asked bound e (Err fault) is = by_error (failed bound fault) e (fault_asked bound fault) is
 
-unless_asked : (bound : ℕ) (t : TermsValue) (haves : List ObjectId) (done : Bool) (stream : List ℕ) (e : Error) (long : Option ℕ)
+unless_asked : (bound : ℕ) (t : FetchArgumentsValue) (haves : List ObjectId) (done : Bool) (stream : List ℕ) (e : Error) (long : Option ℕ)
     → answer_in bound (asks_unless long too_long (asks (fetch_request (asked_by t) haves done) (awaits.Reply (reply_to t haves done)) (failed bound) (λ x. replied x))) stream ≡ Err e → is_unasked e ≡ false
 unfolding answer_in
 unless_asked bound t haves done stream e (Some n) is = by_error (too_long n) e refl is
 unless_asked bound t haves done stream e None is = reading_asked bound e (told_at bound (awaits.Reply (reply_to t haves done)) stream) is
 
-exchange_asked : (bound : ℕ) (t : TermsValue) (haves : List ObjectId) (done : Bool) (stream : List ℕ) (e : Error) → answer_in bound (exchange bound t haves done) stream ≡ Err e → is_unasked e ≡ false
+exchange_asked : (bound : ℕ) (t : FetchArgumentsValue) (haves : List ObjectId) (done : Bool) (stream : List ℕ) (e : Error) → answer_in bound (exchange bound t haves done) stream ≡ Err e → is_unasked e ≡ false
 unfolding exchange
 exchange_asked bound t haves done stream e is = unless_asked bound t haves done stream e (first_too_long (fetch_request (asked_by t) haves done)) is
 
@@ -73,11 +73,11 @@ not_free (errors.UpdateRefs e) is = refl
 not_free (errors.RemovePackKeepFile path) is = refl
 not_free errors.NoMemory is = absurd (cc)
 
-refused_asked : (bound : ℕ) (now : Option Talk) (t : TermsValue) (haves : List ObjectId) (done : Bool) (stream heard : List ℕ) (e : Error) → IsRefusedBy bound now (exchange bound t haves done) stream heard e → is_unasked e ≡ false
+refused_asked : (bound : ℕ) (now : Option Talk) (t : FetchArgumentsValue) (haves : List ObjectId) (done : Bool) (stream heard : List ℕ) (e : Error) → IsRefusedBy bound now (exchange bound t haves done) stream heard e → is_unasked e ≡ false
 refused_asked bound now t haves done stream heard e (inl all) = exchange_asked bound t haves done (stream ++ []) e (all []).answer
 refused_asked bound now t haves done stream heard e (inr last) = exchange_asked bound t haves done stream e last.1.answer
 
-pub breaks_asked : (answers : Bool) (bound : ℕ) (old new : Option Talk) (pending : List ℕ) (t : TermsValue) (haves : List ObjectId) (done : Bool) (e : Error) → Breaks is_free_receiving is_stopped answers bound old new pending (exchange bound t haves done) e → is_unasked e ≡ false
+pub breaks_asked : (answers : Bool) (bound : ℕ) (old new : Option Talk) (pending : List ℕ) (t : FetchArgumentsValue) (haves : List ObjectId) (done : Bool) (e : Error) → Breaks is_free_receiving is_stopped answers bound old new pending (exchange bound t haves done) e → is_unasked e ≡ false
 breaks_asked answers bound old new pending t haves done e h = by (is_unasked e) refl
   where
     by : (b : Bool) → is_unasked e ≡ b → b ≡ false

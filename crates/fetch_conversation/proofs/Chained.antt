@@ -5,9 +5,9 @@ use Rattle.std.proofs.lemmas.List.Concat.{flat_map-append}
 use Rattle.std.specs.Prelude.{map}
 use Rattle.fetch_wire.specs.Talks.{Talk, Talks, Receive, behind, IsFront}
 use Rattle.fetch_wire.specs.Talks.{Talks-then, Makes-then}
-use Rattle.fetch_wire.specs.declared.replies.awaited.Fault.{Fault}
-use Rattle.fetch_wire.specs.declared.replies.awaited.Fault.TheVariants as faults
-use Rattle.fetch_wire.specs.declared.replies.awaited.Told.{Told}
+use Rattle.fetch_wire.specs.declared.replies.reply.ReplyError.{ReplyError}
+use Rattle.fetch_wire.specs.declared.replies.reply.ReplyError.TheVariants as faults
+use Rattle.fetch_wire.specs.declared.replies.reply.ParsedReply.{ParsedReply}
 use Rattle.fetch_wire.specs.declared.lines.line.Line.{Line}
 use Rattle.fetch_wire.specs.Awaited.{told_at}
 use Rattle.fetch_wire.specs.Written.{line_text, lines_text}
@@ -33,8 +33,8 @@ unfolding answer_in
 answer_at_end bound f (Ok x) stream = refl
 answer_at_end bound f (Err e) stream = refl
 
-sent_asking : {X Y E : Type 0} (bound : ℕ) (f : X → Conversation Y E) (lines : List Line) (failed : Fault → E) (next : Told → Conversation X E) (reading : Result (Told × List ℕ) Fault)
-    → ((told : Told) (rest : List ℕ) → sent_in bound (and_then (next told) f) rest ≡ sent_in bound (next told) rest ++ sent_behind bound f (answer_in bound (next told) rest))
+sent_asking : {X Y E : Type 0} (bound : ℕ) (f : X → Conversation Y E) (lines : List Line) (failed : ReplyError → E) (next : ParsedReply → Conversation X E) (reading : Result (ParsedReply × List ℕ) ReplyError)
+    → ((told : ParsedReply) (rest : List ℕ) → sent_in bound (and_then (next told) f) rest ≡ sent_in bound (next told) rest ++ sent_behind bound f (answer_in bound (next told) rest))
     → lines ++ after_reply (λ _. []) (λ told rest. sent_in bound (and_then (next told) f) rest) reading
     ≡ (lines ++ after_reply (λ _. []) (λ told rest. sent_in bound (next told) rest) reading) ++ sent_behind bound f (after_reply (λ fault. Err (failed fault)) (λ told rest. answer_in bound (next told) rest) reading)
 sent_asking bound f lines failed next (Err fault) again = sym (append-nil (lines ++ []))
@@ -45,8 +45,8 @@ unfolding sent_in answer_in and_then
 sent_then bound (ends answer) f stream = sent_at_end bound f answer stream
 sent_then bound (asks lines awaited failed next) f stream = sent_asking bound f lines failed next (told_at bound awaited stream) (λ told rest. sent_then bound (next told) f rest)
 
-answer_asking : {X Y E : Type 0} (bound : ℕ) (f : X → Conversation Y E) (failed : Fault → E) (next : Told → Conversation X E) (reading : Result (Told × List ℕ) Fault)
-    → ((told : Told) (rest : List ℕ) → answer_in bound (and_then (next told) f) rest ≡ answer_behind bound f (answer_in bound (next told) rest))
+answer_asking : {X Y E : Type 0} (bound : ℕ) (f : X → Conversation Y E) (failed : ReplyError → E) (next : ParsedReply → Conversation X E) (reading : Result (ParsedReply × List ℕ) ReplyError)
+    → ((told : ParsedReply) (rest : List ℕ) → answer_in bound (and_then (next told) f) rest ≡ answer_behind bound f (answer_in bound (next told) rest))
     → after_reply (λ fault. Err (failed fault)) (λ told rest. answer_in bound (and_then (next told) f) rest) reading ≡ answer_behind bound f (after_reply (λ fault. Err (failed fault)) (λ told rest. answer_in bound (next told) rest) reading)
 answer_asking bound f failed next (Err fault) again = refl
 answer_asking bound f failed next (Ok x) again = again x.0 x.1
@@ -77,8 +77,8 @@ unfolding awaits_more
 awaits_at_end bound f (Ok x) stream = refl
 awaits_at_end bound f (Err e) stream = refl
 
-awaits_asking : {X Y E : Type 0} (bound : ℕ) (f : X → Conversation Y E) (failed : Fault → E) (next : Told → Conversation X E) (reading : Result (Told × List ℕ) Fault) (x : X) (rest : List ℕ)
-    → ((told : Told) (left : List ℕ) → answer_in bound (next told) left ≡ Ok (x, rest) → awaits_more bound (and_then (next told) f) left ≡ awaits_more bound (f x) rest)
+awaits_asking : {X Y E : Type 0} (bound : ℕ) (f : X → Conversation Y E) (failed : ReplyError → E) (next : ParsedReply → Conversation X E) (reading : Result (ParsedReply × List ℕ) ReplyError) (x : X) (rest : List ℕ)
+    → ((told : ParsedReply) (left : List ℕ) → answer_in bound (next told) left ≡ Ok (x, rest) → awaits_more bound (and_then (next told) f) left ≡ awaits_more bound (f x) rest)
     → after_reply (λ fault. Err (failed fault)) (λ told left. answer_in bound (next told) left) reading ≡ Ok (x, rest) → ends_in (λ told left. awaits_more bound (and_then (next told) f) left) reading ≡ awaits_more bound (f x) rest
 awaits_asking bound f failed next (Err fault) x rest again is = absurd (cc)
 awaits_asking bound f failed next (Ok y) x rest again is = again y.0 y.1 is
@@ -90,7 +90,7 @@ awaits_late bound (ends answer) f stream x rest is = awaits_at_end bound f answe
 awaits_late bound (asks lines awaited failed next) f stream x rest is =
     awaits_asking bound f failed next (told_at bound awaited stream) x rest (λ told left same. awaits_late bound (next told) f left x rest same) is
 
-ends_asking : (go go' : Told → List ℕ → Bool) (reading : Result (Told × List ℕ) Fault) → ((told : Told) (left : List ℕ) → go told left ≡ true → go' told left ≡ true) → ends_in go reading ≡ true → ends_in go' reading ≡ true
+ends_asking : (go go' : ParsedReply → List ℕ → Bool) (reading : Result (ParsedReply × List ℕ) ReplyError) → ((told : ParsedReply) (left : List ℕ) → go told left ≡ true → go' told left ≡ true) → ends_in go reading ≡ true → ends_in go' reading ≡ true
 ends_asking go go' (Ok x) again is = again x.0 x.1 is
 ends_asking go go' (Err (faults.Short place)) again is = refl
 ends_asking go go' (Err (faults.Broken place)) again is = is
@@ -109,8 +109,8 @@ awaits_as bound g (ends answer) stream is = absurd (cc)
 awaits_as bound g (asks lines awaited failed next) stream is = ends_asking _ _ (told_at bound awaited stream) (λ told left more. awaits_as bound g (next told) left more) is
 
 -- while the first awaits, nothing of the second is sent
-nothing_behind : {X Y E : Type 0} (bound : ℕ) (f : X → Conversation Y E) (failed : Fault → E) (next : Told → Conversation X E) (reading : Result (Told × List ℕ) Fault)
-    → ((told : Told) (left : List ℕ) → awaits_more bound (next told) left ≡ true → sent_behind bound f (answer_in bound (next told) left) ≡ [])
+nothing_behind : {X Y E : Type 0} (bound : ℕ) (f : X → Conversation Y E) (failed : ReplyError → E) (next : ParsedReply → Conversation X E) (reading : Result (ParsedReply × List ℕ) ReplyError)
+    → ((told : ParsedReply) (left : List ℕ) → awaits_more bound (next told) left ≡ true → sent_behind bound f (answer_in bound (next told) left) ≡ [])
     → ends_in (λ told left. awaits_more bound (next told) left) reading ≡ true → sent_behind bound f (after_reply (λ fault. Err (failed fault)) (λ told left. answer_in bound (next told) left) reading) ≡ []
 nothing_behind bound f failed next (Ok x) again is = again x.0 x.1 is
 nothing_behind bound f failed next (Err fault) again is = refl
@@ -217,8 +217,8 @@ breaks_early free stopped answers bound old new pending c f e h = record {
   due = λ is. due_early bound c f pending (record { heard = h.heard; given = h.said }) (h.due is);
 }
 
-sent_asking_as : {X E F : Type 0} (bound : ℕ) (g : E → F) (next : Told → Conversation X E) (reading : Result (Told × List ℕ) Fault)
-    → ((told : Told) (rest : List ℕ) → sent_in bound (told_as g (next told)) rest ≡ sent_in bound (next told) rest)
+sent_asking_as : {X E F : Type 0} (bound : ℕ) (g : E → F) (next : ParsedReply → Conversation X E) (reading : Result (ParsedReply × List ℕ) ReplyError)
+    → ((told : ParsedReply) (rest : List ℕ) → sent_in bound (told_as g (next told)) rest ≡ sent_in bound (next told) rest)
     → after_reply (λ _. []) (λ told rest. sent_in bound (told_as g (next told)) rest) reading ≡ after_reply (λ _. []) (λ told rest. sent_in bound (next told) rest) reading
 sent_asking_as bound g next (Err fault) again = refl
 sent_asking_as bound g next (Ok x) again = again x.0 x.1
@@ -238,8 +238,8 @@ end_as : {X E F : Type 0} (g : E → F) (answer : Result X E) (stream : List ℕ
 end_as g (Ok x) stream = refl
 end_as g (Err e) stream = refl
 
-answer_asking_as : {X E F : Type 0} (bound : ℕ) (g : E → F) (failed : Fault → E) (next : Told → Conversation X E) (reading : Result (Told × List ℕ) Fault)
-    → ((told : Told) (rest : List ℕ) → answer_in bound (told_as g (next told)) rest ≡ map_refusal g (answer_in bound (next told) rest))
+answer_asking_as : {X E F : Type 0} (bound : ℕ) (g : E → F) (failed : ReplyError → E) (next : ParsedReply → Conversation X E) (reading : Result (ParsedReply × List ℕ) ReplyError)
+    → ((told : ParsedReply) (rest : List ℕ) → answer_in bound (told_as g (next told)) rest ≡ map_refusal g (answer_in bound (next told) rest))
     → after_reply (λ fault. Err (g (failed fault))) (λ told rest. answer_in bound (told_as g (next told)) rest) reading ≡ map_refusal g (after_reply (λ fault. Err (failed fault)) (λ told rest. answer_in bound (next told) rest) reading)
 answer_asking_as bound g failed next (Err fault) again = refl
 answer_asking_as bound g failed next (Ok x) again = again x.0 x.1

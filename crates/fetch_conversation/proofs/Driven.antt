@@ -4,17 +4,17 @@ use Rattle.std.specs.Prelude.{is_some, map, ◌⊎◌, ◌||◌, ◌==◌}
 use Rattle.std.specs.List.{AllByRecursion}
 use Rattle.std.proofs.lemmas.Bool.{eqb-true}
 use Rattle.std.proofs.lemmas.List.{append-nil, nil_from_length}
-use Rattle.fetch_wire.specs.declared.replies.awaited.Fault.{Fault}
-use Rattle.fetch_wire.specs.declared.replies.awaited.Fault.TheVariants as faults
-use Rattle.fetch_wire.specs.declared.replies.awaited.Told.{Told}
-use Rattle.fetch_wire.specs.declared.replies.awaited.Told.TheVariants as told
+use Rattle.fetch_wire.specs.declared.replies.reply.ReplyError.{ReplyError}
+use Rattle.fetch_wire.specs.declared.replies.reply.ReplyError.TheVariants as faults
+use Rattle.fetch_wire.specs.declared.replies.reply.ParsedReply.{ParsedReply}
+use Rattle.fetch_wire.specs.declared.replies.reply.ParsedReply.TheVariants as told
 use Rattle.fetch_wire.specs.declared.error.WireError.{WireError}
 use Rattle.fetch_wire.specs.declared.error.WireError.TheVariants as wire
 use Rattle.fetch_wire.specs.declared.greetings.handshake.Handshake.{Handshake}
 use Rattle.fetch_wire.specs.declared.lines.line.Line.{Line}
 use Rattle.fetch_wire.specs.declared.session.turn.Turn.TheVariants as turns
 use Rattle.fetch_wire.specs.Greetings.{offers}
-use Rattle.fetch_wire.specs.Intakes.{Intake, told_with, taking}
+use Rattle.fetch_wire.specs.Intakes.{ReplyBuffer, told_with, taking}
 use Rattle.fetch_wire.specs.Intakes as intakes
 use Rattle.fetch_wire.specs.Requests.{listing_lines}
 use Rattle.fetch_store.specs.Answers.{RefusesUnless}
@@ -25,8 +25,8 @@ use Rattle.fetch_wire.proofs.Conversing.{same, fed_is}
 use Rattle.fetch_wire.proofs.SessionAlike.{stays_alike, alike_then}
 use Rattle.fetch_wire.proofs.SessionPieces.{pieces, stuck}
 use Rattle.fetch_conversation.specs.Drives.{IsDrivable, IsWaiting, IsItsTurn, IsFed, with_heard, GoesOn, Finishes, Refuses, Explains, Stops, IsUnsent, Takes, made_by}
-use Rattle.fetch_conversation.specs.declared.drive.Stop.{Stop}
-use Rattle.fetch_conversation.specs.declared.drive.Stop.TheVariants as stops
+use Rattle.fetch_conversation.specs.declared.drive.DriveError.{DriveError}
+use Rattle.fetch_conversation.specs.declared.drive.DriveError.TheVariants as stops
 use Rattle.fetch_conversation.specs.Conversation.{AllButLastGave, AllGave}
 use Rattle.fetch_conversation.proofs.Due.{all_both, gave_then, all_gave_then}
 use Rattle.fetch_conversation.proofs.Sending.{heard_stays}
@@ -49,13 +49,13 @@ same_refused : (a b : SessionState) → IsAlike a b → a.refused ≡ b.refused
 same_refused a b h = ap (λ (s : SessionState). s.refused) h.others
 
 -- the trouble at the end
-abbrev pub trouble_at_end : ℕ → Option WireError → Option (Result (Told × List ℕ) Fault) → Option WireError
+abbrev pub trouble_at_end : ℕ → Option WireError → Option (Result (ParsedReply × List ℕ) ReplyError) → Option WireError
 trouble_at_end bound (Some e) found = Some e
 trouble_at_end bound None None = None
 trouble_at_end bound None (Some (Ok x)) = None
 trouble_at_end bound None (Some (Err fault)) = Some (error_of bound fault)
 
-end_by : (s : SessionState) (trouble : Option WireError) (found : Option (Result (Told × List ℕ) Fault)) → s.trouble ≡ trouble → (after_end s trouble found).trouble ≡ trouble_at_end s.intake.bound trouble found
+end_by : (s : SessionState) (trouble : Option WireError) (found : Option (Result (ParsedReply × List ℕ) ReplyError)) → s.trouble ≡ trouble → (after_end s trouble found).trouble ≡ trouble_at_end s.intake.bound trouble found
 end_by s (Some e) found is = is
 end_by s None None is = is
 end_by s None (Some (Ok x)) is = is
@@ -76,7 +76,7 @@ same_refusal now a b e h (inr x) = inr (x.0, sym (same_trouble a b h) ∙ x.1, s
 
 -- ---- what stays
 
-pub told_refused : (s : SessionState) (found : Option (Result (Told × List ℕ) Fault)) → (after_told rests s found).refused ≡ s.refused
+pub told_refused : (s : SessionState) (found : Option (Result (ParsedReply × List ℕ) ReplyError)) → (after_told rests s found).refused ≡ s.refused
 told_refused s None = refl
 told_refused s (Some (Ok (told.Greeting h, rest))) = refl
 told_refused s (Some (Ok (told.Advertisement h refs, rest))) = refl
@@ -92,7 +92,7 @@ listing_refused s h lines (Some n) offered = refl
 listing_refused s h lines None false = refl
 listing_refused s h lines None true = refl
 
-asked_refused : (s : SessionState) (found : Option (Result (Told × List ℕ) Fault)) → (after_told asks s found).refused ≡ s.refused
+asked_refused : (s : SessionState) (found : Option (Result (ParsedReply × List ℕ) ReplyError)) → (after_told asks s found).refused ≡ s.refused
 asked_refused s None = refl
 asked_refused s (Some (Ok (told.Greeting h, rest))) =
     let lines = listing_lines h s.agent s.prefixes in
@@ -204,13 +204,13 @@ goes_fed answers old mid new s now next piece h awaited gave talk is = record {
 
 -- ---- stops
 
-unsent_explains : (now : Option Talk) (heard : List ℕ) (s : SessionState) (e : Stop) → IsUnsent e → Explains now heard s e
+unsent_explains : (now : Option Talk) (heard : List ℕ) (s : SessionState) (e : DriveError) → IsUnsent e → Explains now heard s e
 unsent_explains now heard s (stops.Refused w) is = λ isnt. absurd (isnt is)
 unsent_explains now heard s stops.Failed is = tt
 unsent_explains now heard s stops.Interrupted is = absurd is
 
 -- a prefix of what was to be sent was heard
-pub stops_sending : (answers : Bool) (old mid new : Option Talk) (s now : SessionState) (front : List ℕ) (e : Stop) → GoesOn answers old mid s now → IsFront front now.outgoing → Talks answers mid new front [] → Makes mid new [] → IsUnsent e → Stops answers old new s e
+pub stops_sending : (answers : Bool) (old mid new : Option Talk) (s now : SessionState) (front : List ℕ) (e : DriveError) → GoesOn answers old mid s now → IsFront front now.outgoing → Talks answers mid new front [] → Makes mid new [] → IsUnsent e → Stops answers old new s e
 stops_sending answers old mid new s now front e h is talk made free = record {
   heard = h.heard ++ front;
   said = h.said;
@@ -224,14 +224,14 @@ behind_refuses : (now : Option Talk) (heard : List ℕ) (a : SessionState) (e : 
 behind_refuses now heard a e (inl is) = inl is
 behind_refuses now heard a e (inr x) = inr (x.0, x.1, end_is (with_heard heard a) ∙ sym (end_is a) ∙ x.2)
 
-explains_behind : (now : Option Talk) (heard : List ℕ) (a b : SessionState) (e : Stop) → IsAlike (with_heard heard a) b → Explains now [] a e → Explains now heard b e
+explains_behind : (now : Option Talk) (heard : List ℕ) (a b : SessionState) (e : DriveError) → IsAlike (with_heard heard a) b → Explains now [] a e → Explains now heard b e
 explains_behind now heard a b (stops.Refused w) h why = λ isnt.
     let x = why isnt in
     (sym (append-nil heard) ∙ ap (λ (l : List ℕ). heard ++ l) x.0 ∙ same_outgoing (with_heard heard a) b h, same_refusal now (with_heard heard a) b w h (behind_refuses now heard a w x.1))
 explains_behind now heard a b stops.Failed h why = tt
 explains_behind now heard a b stops.Interrupted h why = (sym (append-nil heard) ∙ ap (λ (l : List ℕ). heard ++ l) why.0 ∙ same_outgoing (with_heard heard a) b h, waits_behind heard a b h why.1)
 
-stops_at : (answers : Bool) (old new : Option Talk) (s a : SessionState) (heard said : List ℕ) (e : Stop) → Talks answers old new heard said → IsFed old new s → IsAlike (with_heard heard a) (fed s said) → Explains new [] a e → Stops answers old new s e
+stops_at : (answers : Bool) (old new : Option Talk) (s a : SessionState) (heard said : List ℕ) (e : DriveError) → Talks answers old new heard said → IsFed old new s → IsAlike (with_heard heard a) (fed s said) → Explains new [] a e → Stops answers old new s e
 stops_at answers old new s a heard said e talk awaited h why = record {
   heard = heard;
   said = said;
@@ -241,7 +241,7 @@ stops_at answers old new s a heard said e talk awaited h why = record {
   why = explains_behind new heard a (fed s said) e h why;
 }
 
-stops_said : (answers : Bool) (old mid new : Option Talk) (s now : SessionState) (piece : List ℕ) (e : Stop) → GoesOn answers old mid s now → IsFed old new s → Talks false mid new [] piece → (Explains new [] (fed now piece) e ⊎ ((piece ≡ []) × Explains new [] now e)) → Stops answers old new s e
+stops_said : (answers : Bool) (old mid new : Option Talk) (s now : SessionState) (piece : List ℕ) (e : DriveError) → GoesOn answers old mid s now → IsFed old new s → Talks false mid new [] piece → (Explains new [] (fed now piece) e ⊎ ((piece ≡ []) × Explains new [] now e)) → Stops answers old new s e
 stops_said answers old mid new s now piece e h awaited talk (inl why) =
     let passed : Talks answers old new h.heard (h.said ++ piece) = subst (λ (l : List ℕ). Talks answers old new l (h.said ++ piece)) (append-nil h.heard) (Talks-then answers old mid new h.heard h.said [] piece h.passed (Talks-stay answers mid new [] piece talk)) in
     stops_at answers old new s (fed now piece) h.heard (h.said ++ piece) e passed awaited (heard_fed s now (fed now piece) h.heard h.said piece h.is (same (fed now piece))) why
@@ -251,7 +251,7 @@ stops_said answers old mid new s now piece e h awaited talk (inr x) =
     stops_at answers old new s now h.heard h.said e (subst (λ (l : List ℕ). Talks answers old new l h.said) (append-nil h.heard) (subst (Talks answers old new (h.heard ++ [])) same_said passed)) awaited h.is x.1
 
 -- what came is refused, or a receive is
-stops_receiving : (T : Type 0) (answers : Bool) (old mid new : Option Talk) (s now next : SessionState) (e : Stop) → GoesOn answers old mid s now → IsFed old new s → Takes {T = T} mid new now next (Err e) → Stops answers old new s e
+stops_receiving : (T : Type 0) (answers : Bool) (old mid new : Option Talk) (s now next : SessionState) (e : DriveError) → GoesOn answers old mid s now → IsFed old new s → Takes {T = T} mid new now next (Err e) → Stops answers old new s e
 stops_receiving T answers old mid new s now next e h awaited x = stops_said answers old mid new s now x.0 e h awaited x.1 x.2
 
 -- ---- turns
@@ -307,13 +307,13 @@ pub goes_received : (answers : Bool) (old mid new : Option Talk) (s now next : S
 goes_received answers old mid new s now next h turn short took made =
     goes_fed answers old mid new s now next took.0 h (fed_more answers old mid new s now h (receiving now turn).sent (waiting now turn short) made) (gave_one answers old mid s now took.0 h took.1) took.2 took.3
 
-fed_by_stop : (T : Type 0) (answers : Bool) (old mid new : Option Talk) (s now : SessionState) (e : Stop) → GoesOn answers old mid s now → turn_of now ≡ turns.Receive → IsAwaiting now → Makes mid new (made_by {T = T} (Err e)) → IsFed old new s
+fed_by_stop : (T : Type 0) (answers : Bool) (old mid new : Option Talk) (s now : SessionState) (e : DriveError) → GoesOn answers old mid s now → turn_of now ≡ turns.Receive → IsAwaiting now → Makes mid new (made_by {T = T} (Err e)) → IsFed old new s
 fed_by_stop T answers old mid new s now (stops.Refused e) h turn short made = fed_more answers old mid new s now h (receiving now turn).sent (waiting now turn short) made
 fed_by_stop T answers old mid new s now stops.Failed h turn short made = fed_more answers old mid new s now h (receiving now turn).sent (waiting now turn short) made
 fed_by_stop T answers old mid new s now stops.Interrupted h turn short made = fed_still answers old mid new s now h made
 
 -- what came is refused, or the receive is, or the interrupt says yes before it
-pub stops_in_turn : (T : Type 0) (answers : Bool) (old mid new : Option Talk) (s now next : SessionState) (e : Stop) → GoesOn answers old mid s now → turn_of now ≡ turns.Receive → IsAwaiting now → Takes {T = T} mid new now next (Err e) → Makes mid new (made_by {T = T} (Err e))
+pub stops_in_turn : (T : Type 0) (answers : Bool) (old mid new : Option Talk) (s now next : SessionState) (e : DriveError) → GoesOn answers old mid s now → turn_of now ≡ turns.Receive → IsAwaiting now → Takes {T = T} mid new now next (Err e) → Makes mid new (made_by {T = T} (Err e))
     → Stops answers old new s e
 stops_in_turn T answers old mid new s now next e h turn short took made = stops_receiving T answers old mid new s now next e h (fed_by_stop T answers old mid new s now e h turn short made) took
 
@@ -329,7 +329,7 @@ sends_some None outgoing false is none = absurd (let told = rw none at is in cc)
 pub sending_some : (s : SessionState) → turn_of s ≡ turns.Send → s.outgoing ≢ []
 sending_some s turn = sends_some (refusal_of s) s.outgoing (is_some s.intake.reading) turn
 
-stays_troubled : (s : SessionState) (e : WireError) (trouble : Option WireError) (found : Option (Result (Told × List ℕ) Fault)) → s.trouble ≡ trouble → trouble ≡ Some e → (after_end s trouble found).trouble ≢ None
+stays_troubled : (s : SessionState) (e : WireError) (trouble : Option WireError) (found : Option (Result (ParsedReply × List ℕ) ReplyError)) → s.trouble ≡ trouble → trouble ≡ Some e → (after_end s trouble found).trouble ≢ None
 stays_troubled s e (Some f) found is some = λ none. absurd (cc)
 stays_troubled s e None found is some = absurd (cc)
 
@@ -375,7 +375,7 @@ takes_refusal now s piece f isnt h = λ other.
     let x = stands (fed s piece) f (fed_refused s piece ∙ isnt) (refuses_with (refusal_of (fed s piece)) f h other) in
     (sym x.sent, inl x.trouble)
 
-end_at : (s : SessionState) (place : ℕ) (trouble : Option WireError) (found : Option (Result (Told × List ℕ) Fault)) → trouble ≡ None → found ≡ Some (Err (faults.Short place))
+end_at : (s : SessionState) (place : ℕ) (trouble : Option WireError) (found : Option (Result (ParsedReply × List ℕ) ReplyError)) → trouble ≡ None → found ≡ Some (Err (faults.Short place))
     → (refusal_of (after_end s trouble found) ≡ Some (wire.Malformed place)) × ((after_end s trouble found).trouble ≡ Some (wire.Malformed place))
 end_at s place trouble found none is = rw (none, is) (refl, refl)
 
@@ -407,7 +407,7 @@ end_refuses s turn short h =
     let end = end_at s short.0 s.trouble (told_with s.intake []) well.trouble short.1 in
     no_answer (wire.Malformed short.0) (refusal_of (ended s)) end.0 h
 
-stuck_end : (s : SessionState) (e : WireError) (trouble : Option WireError) (found : Option (Result (Told × List ℕ) Fault)) → trouble ≡ Some e → s.trouble ≡ Some e → refusal_of (after_end s trouble found) ≡ Some e
+stuck_end : (s : SessionState) (e : WireError) (trouble : Option WireError) (found : Option (Result (ParsedReply × List ℕ) ReplyError)) → trouble ≡ Some e → s.trouble ≡ Some e → refusal_of (after_end s trouble found) ≡ Some e
 stuck_end s e trouble found is also = rw is also
 
 -- a refusal stands, and the peer heard all

@@ -14,16 +14,16 @@ use Rattle.fetch_negotiate.specs.declared.algorithm.Algorithm.{Algorithm}
 use Rattle.fetch_negotiate.specs.declared.algorithm.Round.{Round}
 use Rattle.fetch_negotiate.proofs.Rounding.{are_few}
 use Rattle.fetch_conversation.specs.Conversation.{Conversation, and_then, sent_in, answer_in}
-use Rattle.fetch_conversation.specs.Exchange.{TermsValue}
-use Rattle.fetch_conversation.specs.Rounds.{CourseValue, Negotiated, first_course, next_window, is_short, is_end, round_of, course_after, negotiating}
+use Rattle.fetch_conversation.specs.Exchange.{FetchArgumentsValue}
+use Rattle.fetch_conversation.specs.Rounds.{RoundsStateValue, Negotiated, first_rounds_state, next_window, is_short, is_end, round_of, rounds_state_after, negotiating}
 use Rattle.fetch_conversation.specs.declared.conversing.View.{View}
 use Rattle.fetch_conversation.specs.declared.fetch.Error.{Error}
 use Rattle.fetch_conversation.proofs.Chained.{sent_behind, answer_behind, sent_then, answer_then}
 use Rattle.fetch_conversation.proofs.Held.{round_in, behind_round, negotiating_is, goes_on, ends_here}
 
-module _ (bound : ℕ) (t : TermsValue) (g : Graph) (algorithm : Algorithm) (view : View) where
-  -- a course that open rounds lead to
-  pub record IsCourse (c : CourseValue) : Type 0 where
+module _ (bound : ℕ) (t : FetchArgumentsValue) (g : Graph) (algorithm : Algorithm) (view : View) where
+  -- a state that open rounds lead to
+  pub record IsRoundsState (c : RoundsStateValue) : Type 0 where
     pub are : (more : List Round) → AreRounds g algorithm c.size c.so_far more → AreRounds g algorithm first_size (begun algorithm view.tips view.border) (c.rounds ++ more)
     pub going : AllByRecursion (λ (r : Round). r.done ≡ false) c.rounds
 
@@ -35,8 +35,8 @@ module _ (bound : ℕ) (t : TermsValue) (g : Graph) (algorithm : Algorithm) (vie
   or_left false b is = refl
   or_left true b is = absurd (cc)
 
-  pub course_on : (c : CourseValue) (reply : FetchReply) → IsCourse c → is_end c (next_window g algorithm c) reply ≡ false → IsCourse (course_after algorithm c (next_window g algorithm c) reply)
-  course_on c reply h going =
+  pub rounds_state_on : (c : RoundsStateValue) (reply : FetchReply) → IsRoundsState c → is_end c (next_window g algorithm c) reply ≡ false → IsRoundsState (rounds_state_after algorithm c (next_window g algorithm c) reply)
+  rounds_state_on c reply h going =
       let w : Window = next_window g algorithm c in
       let r : Round = round_of c w reply in
       record {
@@ -44,7 +44,7 @@ module _ (bound : ℕ) (t : TermsValue) (g : Graph) (algorithm : Algorithm) (vie
         going = open_more c.rounds r h.going (or_left (is_short c w) reply.last going);
       }
 
-  pub few : (c : CourseValue) → IsCourse c → 16 * length c.rounds ≤ map.len g
+  pub few : (c : RoundsStateValue) → IsRoundsState c → 16 * length c.rounds ≤ map.len g
   few c h =
       are_few g algorithm view.tips view.border c.rounds (subst (λ (l : List Round). AreRounds g algorithm first_size (begun algorithm view.tips view.border) l) (append-nil c.rounds) (h.are [] tt))
       (All-from_recursion (λ (r : Round). r.done ≡ false) c.rounds h.going)
@@ -74,26 +74,26 @@ module _ (bound : ℕ) (t : TermsValue) (g : Graph) (algorithm : Algorithm) (vie
   same_by : (a b c d : Conversation Negotiated Error) → a ≡ b → c ≡ d → IsSame b d → IsSame a c
   same_by a b c d is at h = rw (is, at) h
 
-  same_behind : (left more : ℕ) (c : CourseValue) (reply : FetchReply) (end : Bool) → is_end c (next_window g algorithm c) reply ≡ end
-      → (is_end c (next_window g algorithm c) reply ≡ false → IsSame (negotiating (left + more) bound t g algorithm (course_after algorithm c (next_window g algorithm c) reply)) (negotiating left bound t g algorithm (course_after algorithm c (next_window g algorithm c) reply)))
+  same_behind : (left more : ℕ) (c : RoundsStateValue) (reply : FetchReply) (end : Bool) → is_end c (next_window g algorithm c) reply ≡ end
+      → (is_end c (next_window g algorithm c) reply ≡ false → IsSame (negotiating (left + more) bound t g algorithm (rounds_state_after algorithm c (next_window g algorithm c) reply)) (negotiating left bound t g algorithm (rounds_state_after algorithm c (next_window g algorithm c) reply)))
       → IsSame (behind_round bound t g algorithm (left + more) c reply) (behind_round bound t g algorithm left c reply)
   same_behind left more c reply true end again =
       same_by _ _ _ _ (ends_here bound t g algorithm (left + more) c reply end) (ends_here bound t g algorithm left c reply end) (same_none _)
   same_behind left more c reply false end again =
       same_by _ _ _ _ (goes_on bound t g algorithm (left + more) c reply end) (goes_on bound t g algorithm left c reply end) (again end)
 
-  same_rounds : (left more : ℕ) (c : CourseValue) → IsCourse c → map.len g < left + length c.rounds → IsSame (negotiating (left + more) bound t g algorithm c) (negotiating left bound t g algorithm c)
+  same_rounds : (left more : ℕ) (c : RoundsStateValue) → IsRoundsState c → map.len g < left + length c.rounds → IsSame (negotiating (left + more) bound t g algorithm c) (negotiating left bound t g algorithm c)
   same_rounds zero more c h less = let le = few c h in absurd (omega arith)
   same_rounds (suc left) more c h less =
       let sum : suc left + more ≡ suc (left + more) = omega arith in
       same_by _ _ _ _ (ap (λ (n : ℕ). negotiating n bound t g algorithm c) sum ∙ negotiating_is bound t g algorithm (left + more) c) (negotiating_is bound t g algorithm left c)
       (same_then (round_in bound t g algorithm c) (λ reply. behind_round bound t g algorithm (left + more) c reply) (λ reply. behind_round bound t g algorithm left c reply)
       (λ reply. same_behind left more c reply (is_end c (next_window g algorithm c) reply) refl
-      (λ going. same_rounds left more (course_after algorithm c (next_window g algorithm c) reply) (course_on c reply h going)
+      (λ going. same_rounds left more (rounds_state_after algorithm c (next_window g algorithm c) reply) (rounds_state_on c reply h going)
       (let l = length-append c.rounds (round_of c (next_window g algorithm c) reply ∷ []) in omega arith))))
 
-  pub first_is : IsCourse (first_course algorithm view)
+  pub first_is : IsRoundsState (first_rounds_state algorithm view)
   first_is = record { are = λ more h. h; going = tt }
 
-  pub never_used_up : (more : ℕ) → IsSame (negotiating (suc (map.len g) + more) bound t g algorithm (first_course algorithm view)) (negotiating (suc (map.len g)) bound t g algorithm (first_course algorithm view))
-  never_used_up more = same_rounds (suc (map.len g)) more (first_course algorithm view) first_is (omega arith)
+  pub never_used_up : (more : ℕ) → IsSame (negotiating (suc (map.len g) + more) bound t g algorithm (first_rounds_state algorithm view)) (negotiating (suc (map.len g)) bound t g algorithm (first_rounds_state algorithm view))
+  never_used_up more = same_rounds (suc (map.len g)) more (first_rounds_state algorithm view) first_is (omega arith)

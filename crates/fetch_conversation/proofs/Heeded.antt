@@ -8,8 +8,8 @@ use Rattle.fetch_wire.specs.declared.error.WireError.{WireError}
 use Rattle.fetch_wire.specs.declared.error.WireError.TheVariants as wire
 use Rattle.fetch_conversation.specs.Errors.{is_yes, is_interrupted, is_stopped, prepare_of_wire, prepare_of_stop, fetch_of_wire, fetch_of_stop}
 use Rattle.fetch_conversation.specs.Receiving.{HasReceived, last_question, IsHeeded}
-use Rattle.fetch_conversation.specs.declared.drive.Stop.{Stop}
-use Rattle.fetch_conversation.specs.declared.drive.Stop.TheVariants as stops
+use Rattle.fetch_conversation.specs.declared.drive.DriveError.{DriveError}
+use Rattle.fetch_conversation.specs.declared.drive.DriveError.TheVariants as stops
 
 -- ---- how many receives were made
 
@@ -138,12 +138,12 @@ fetches (wire.LineTooLong length) = refl
 fetches (wire.BadParameter text place) = refl
 fetches wire.NoMemory = refl
 
-stop_prepares : (stop : Stop) → is_yes stop ≡ is_interrupted (prepare_of_stop stop)
+stop_prepares : (stop : DriveError) → is_yes stop ≡ is_interrupted (prepare_of_stop stop)
 stop_prepares (stops.Refused e) = prepares e
 stop_prepares stops.Failed = refl
 stop_prepares stops.Interrupted = refl
 
-stop_fetches : (stop : Stop) → is_yes stop ≡ is_stopped (fetch_of_stop stop)
+stop_fetches : (stop : DriveError) → is_yes stop ≡ is_stopped (fetch_of_stop stop)
 stop_fetches (stops.Refused e) = fetches e
 stop_fetches stops.Failed = refl
 stop_fetches stops.Interrupted = refl
@@ -156,8 +156,8 @@ pub fetch_asks : (T : Type 0) (e : WireError) → last_question {T = T} is_stopp
 fetch_asks T e = no_question T is_stopped (fetch_of_wire e) (sym (fetches e))
 
 -- a stop, told by each stage
-pub stop_prepared : (S T : Type 0) (stop : Stop) → last_question {T = S} is_yes (Err stop) ≡ last_question {T = T} is_interrupted (Err (prepare_of_stop stop))
+pub stop_prepared : (S T : Type 0) (stop : DriveError) → last_question {T = S} is_yes (Err stop) ≡ last_question {T = T} is_interrupted (Err (prepare_of_stop stop))
 stop_prepared S T stop = same_question S T is_yes is_interrupted stop (prepare_of_stop stop) (stop_prepares stop)
 
-pub stop_fetched : (S T : Type 0) (stop : Stop) → last_question {T = S} is_yes (Err stop) ≡ last_question {T = T} is_stopped (Err (fetch_of_stop stop))
+pub stop_fetched : (S T : Type 0) (stop : DriveError) → last_question {T = S} is_yes (Err stop) ≡ last_question {T = T} is_stopped (Err (fetch_of_stop stop))
 stop_fetched S T stop = same_question S T is_yes is_stopped stop (fetch_of_stop stop) (stop_fetches stop)

@@ -7,7 +7,7 @@ pub mod Sending
 pub mod Driven
 pub mod Tied
 pub mod AwaitedTold
-pub mod Inquired
+pub mod LsRefsStage
 pub mod Replied
 pub mod Keeping
 pub mod Listings

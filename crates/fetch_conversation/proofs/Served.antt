@@ -6,10 +6,10 @@ use Rattle.std.proofs.lemmas.List.Concat.{flat_map-append}
 use Rattle.fetch_wire.specs.Awaited.{step_of, start_of, told_at}
 use Rattle.fetch_wire.specs.StepLaws.{read_by-more, with_more, IsSettled}
 use Rattle.fetch_wire.specs.Talks.{Talk, Talks, Passes, IsFront}
-use Rattle.fetch_wire.specs.declared.replies.awaited.Await.{Await}
-use Rattle.fetch_wire.specs.declared.replies.awaited.Fault.{Fault}
-use Rattle.fetch_wire.specs.declared.replies.awaited.Fault.TheVariants.{Short}
-use Rattle.fetch_wire.specs.declared.replies.awaited.Told.{Told}
+use Rattle.fetch_wire.specs.declared.replies.reply.ReplyKind.{ReplyKind}
+use Rattle.fetch_wire.specs.declared.replies.reply.ReplyError.{ReplyError}
+use Rattle.fetch_wire.specs.declared.replies.reply.ReplyError.TheVariants.{Short}
+use Rattle.fetch_wire.specs.declared.replies.reply.ParsedReply.{ParsedReply}
 use Rattle.fetch_wire.specs.declared.lines.line.Line.{Line}
 use Rattle.fetch_wire.specs.Written.{line_text, lines_text}
 use Rattle.fetch_conversation.specs.Conversation.{Conversation, ends, asks, sent_in, answer_in, after_reply, beside, RefusesWith, IsRefusedBy, Concludes, Breaks}
@@ -50,24 +50,24 @@ others_next is_request rule serve s before lines others tail all one is =
     ∙ ap (λ (l : List ℕ). l ++ tail) (sym (s.each before lines all one)) ∙ ap (λ (l : List ℕ). rule l ++ tail) (sym text)
 
 -- what a reply told, read alone, is told where more is after it
-stays : (bound : ℕ) (awaited : Await) (reply tail : List ℕ) (reading : Result (Told × List ℕ) Fault) → told_at bound awaited reply ≡ reading → IsSettled reading → told_at bound awaited (reply ++ tail) ≡ with_more reading tail
+stays : (bound : ℕ) (awaited : ReplyKind) (reply tail : List ℕ) (reading : Result (ParsedReply × List ℕ) ReplyError) → told_at bound awaited reply ≡ reading → IsSettled reading → told_at bound awaited (reply ++ tail) ≡ with_more reading tail
 stays bound awaited reply tail reading is settled =
     let h : IsSettled (told_at bound awaited reply) = subst IsSettled (sym is) settled in
-    read_by-more step_of bound 0 (start_of awaited) reply tail h ∙ ap (λ (r : Result (Told × List ℕ) Fault). with_more r tail) is
+    read_by-more step_of bound 0 (start_of awaited) reply tail h ∙ ap (λ (r : Result (ParsedReply × List ℕ) ReplyError). with_more r tail) is
 
-settled_refusal : (fault : Fault) → ((place : ℕ) → fault ≢ Short place) → IsSettled {A = Told × List ℕ} (Err fault)
+settled_refusal : (fault : ReplyError) → ((place : ℕ) → fault ≢ Short place) → IsSettled {A = ParsedReply × List ℕ} (Err fault)
 settled_refusal fault h place is = h place cc
 
-settled_told : (x : Told × List ℕ) → IsSettled (Ok x)
+settled_told : (x : ParsedReply × List ℕ) → IsSettled (Ok x)
 settled_told x place is = absurd cc
 
 abbrev Next : Type 0 → Type 0 → Type 0
-Next X E = Told → Conversation X E
+Next X E = ParsedReply → Conversation X E
 
 -- the rest of a conversation by the reply to its first request
-by_reply : {X E : Type 0} (bound : ℕ) (serve : List Line → List ℕ) (awaited : Await) (failed : Fault → E) (next : Next X E) (reply tail : List ℕ) (reading : Result (Told × List ℕ) Fault)
+by_reply : {X E : Type 0} (bound : ℕ) (serve : List Line → List ℕ) (awaited : ReplyKind) (failed : ReplyError → E) (next : Next X E) (reply tail : List ℕ) (reading : Result (ParsedReply × List ℕ) ReplyError)
     → told_at bound awaited reply ≡ reading → IsReadWhole (λ told. IsAnswered bound serve (next told)) next reading
-    → ((told : Told) → told_at bound awaited (reply ++ tail) ≡ Ok (told, tail) → IsAnswered bound serve (next told) → without_rest (answer_in bound (next told) tail) ≡ answer_with bound serve (next told))
+    → ((told : ParsedReply) → told_at bound awaited (reply ++ tail) ≡ Ok (told, tail) → IsAnswered bound serve (next told) → without_rest (answer_in bound (next told) tail) ≡ answer_with bound serve (next told))
     → without_rest (after_reply (λ fault. Err (failed fault)) (λ told rest. answer_in bound (next told) rest) (told_at bound awaited (reply ++ tail)))
     ≡ after_reply (λ fault. Err (failed fault)) (λ told rest. answer_with bound serve (next told)) reading
 by_reply bound serve awaited failed next reply tail (Err fault) is whole again = rw (stays bound awaited reply tail (Err fault) is (settled_refusal fault whole)) refl
@@ -77,7 +77,7 @@ by_reply bound serve awaited failed next reply tail (Ok x) is (inl more) again =
 by_reply bound serve awaited failed next reply tail (Ok x) is (inr no_more) again =
     rw (stays bound awaited reply tail (Ok x) is (settled_told x)) (over bound serve (next x.0) (x.1 ++ tail) no_more)
 
-sent_more : {X E : Type 0} (bound : ℕ) (next : Next X E) (told : Told) (rest : List ℕ) (reading : Result (Told × List ℕ) Fault) → reading ≡ Ok (told, rest)
+sent_more : {X E : Type 0} (bound : ℕ) (next : Next X E) (told : ParsedReply) (rest : List ℕ) (reading : Result (ParsedReply × List ℕ) ReplyError) → reading ≡ Ok (told, rest)
     → lines_text (after_reply (λ _. []) (λ told rest. sent_in bound (next told) rest) reading) ≡ lines_text (sent_in bound (next told) rest)
 sent_more bound next told rest reading is = rw is refl
 

@@ -2,16 +2,16 @@
 use Rattle.std.proofs.Common.{◌≡◌, ◌≢◌, ℕ, Bool, true, false, List, [], ◌++◌, Option, Some, None, Result, Ok, Err, refl, sym, ap, ◌∙◌, subst, append_assoc, inl, inr}
 use Rattle.std.specs.Prelude.{is_some}
 use Rattle.std.proofs.lemmas.List.{append-nil}
-use Rattle.fetch_wire.specs.declared.replies.awaited.Fault.{Fault}
-use Rattle.fetch_wire.specs.declared.replies.awaited.Fault.TheVariants as faults
-use Rattle.fetch_wire.specs.declared.replies.awaited.Told.{Told}
+use Rattle.fetch_wire.specs.declared.replies.reply.ReplyError.{ReplyError}
+use Rattle.fetch_wire.specs.declared.replies.reply.ReplyError.TheVariants as faults
+use Rattle.fetch_wire.specs.declared.replies.reply.ParsedReply.{ParsedReply}
 use Rattle.fetch_wire.specs.declared.error.WireError.{WireError}
 use Rattle.fetch_wire.specs.declared.error.WireError.TheVariants as wire
 use Rattle.fetch_wire.specs.declared.greetings.handshake.Handshake.{Handshake}
-use Rattle.fetch_wire.specs.declared.replies.reading.Reading.{Reading}
+use Rattle.fetch_wire.specs.declared.replies.parser.ReplyParser.{ReplyParser}
 use Rattle.fetch_wire.specs.declared.requests.records.FetchReply.{FetchReply}
 use Rattle.fetch_wire.specs.declared.listings.reference.Ref.{Ref}
-use Rattle.fetch_wire.specs.Intakes.{Intake, told_with, taking}
+use Rattle.fetch_wire.specs.Intakes.{ReplyBuffer, told_with, taking}
 use Rattle.fetch_wire.specs.Intakes as intakes
 use Rattle.fetch_wire.specs.SessionStates.{SessionState, IsAlike, fed, error_of, after_told, read_one, rests, asks}
 use Rattle.fetch_wire.specs.Talks.{Talk, Talks, Receive, Talks-none, Makes-none}
@@ -21,8 +21,8 @@ use Rattle.fetch_wire.proofs.SessionAlike.{stays_alike}
 use Rattle.fetch_wire.proofs.SessionPieces.{pieces, stuck}
 use Rattle.fetch_conversation.specs.Conversation.{Conversation, sent_in, answer_in, awaits_more, IsDue, AllGave, IsAwaited, beside, Concludes, RefusesWith, IsRefusedBy, Breaks}
 use Rattle.fetch_conversation.specs.Drives.{IsWaiting, IsItsTurn, IsFed, with_heard, Finishes, Refuses, Stops}
-use Rattle.fetch_conversation.specs.declared.drive.Stop.{Stop}
-use Rattle.fetch_conversation.specs.declared.drive.Stop.TheVariants as stops
+use Rattle.fetch_conversation.specs.declared.drive.DriveError.{DriveError}
+use Rattle.fetch_conversation.specs.declared.drive.DriveError.TheVariants as stops
 use Rattle.fetch_conversation.proofs.Due.{all_as}
 use Rattle.fetch_conversation.proofs.Driven.{waits_alike, resting, end_is, trouble_at_end, same_outgoing}
 
@@ -31,7 +31,7 @@ abbrev pub Finding : (X E : Type 0) → Type 0
 Finding X E = Option Handshake → Option (List Ref) → Option FetchReply → Result X E
 
 -- How a session is answered to which nothing more comes: by its trouble, by the reply that isn't whole, or by what is found.
-abbrev pub answer_by : {X E : Type 0} → (WireError → E) → ℕ → List ℕ → Result X E → Option WireError → Option (Result (Told × List ℕ) Fault) → Result (X × List ℕ) E
+abbrev pub answer_by : {X E : Type 0} → (WireError → E) → ℕ → List ℕ → Result X E → Option WireError → Option (Result (ParsedReply × List ℕ) ReplyError) → Result (X × List ℕ) E
 answer_by refused bound pending found (Some e) told = Err (refused e)
 answer_by refused bound pending found None None = beside pending found
 answer_by refused bound pending found None (Some (Ok x)) = beside x.1 found
@@ -47,25 +47,25 @@ pub record IsTied {X E : Type 0} (refused : WireError → E) (finding : Finding 
   pub bounded : (stream : List ℕ) → (fed s stream).intake.bound ≡ bound
   pub awaited : (stream : List ℕ) → IsWaiting (fed s stream) → awaits_more bound c (pending ++ stream) ≡ true
 
-none_by : (i : Intake) (reading : Option Reading) → i.reading ≡ reading → told_with i [] ≡ None → i.reading ≡ None
+none_by : (i : ReplyBuffer) (reading : Option ReplyParser) → i.reading ≡ reading → told_with i [] ≡ None → i.reading ≡ None
 none_by i None is none = is
 none_by i (Some r) is none = absurd (cc)
 
-pub not_awaiting : (i : Intake) → told_with i [] ≡ None → i.reading ≡ None
+pub not_awaiting : (i : ReplyBuffer) → told_with i [] ≡ None → i.reading ≡ None
 not_awaiting i none = none_by i i.reading refl none
 
-same_pending : {X E : Type 0} (refused : WireError → E) (bound : ℕ) (a b : List ℕ) (found : Result X E) (trouble : Option WireError) (told : Option (Result (Told × List ℕ) Fault)) → (told ≡ None → a ≡ b)
+same_pending : {X E : Type 0} (refused : WireError → E) (bound : ℕ) (a b : List ℕ) (found : Result X E) (trouble : Option WireError) (told : Option (Result (ParsedReply × List ℕ) ReplyError)) → (told ≡ None → a ≡ b)
     → answer_by refused bound a found trouble told ≡ answer_by refused bound b found trouble told
 same_pending refused bound a b found (Some e) told h = refl
 same_pending refused bound a b found None None h = ap (λ (l : List ℕ). beside l found) (h refl)
 same_pending refused bound a b found None (Some (Ok x)) h = refl
 same_pending refused bound a b found None (Some (Err fault)) h = refl
 
-alike_answers : {X E : Type 0} (refused : WireError → E) (finding : Finding X E) (s : SessionState) (i : Intake) → intakes.IsAlike s.intake i → answer_of refused finding s ≡ answer_of refused finding (record s { intake = i })
+alike_answers : {X E : Type 0} (refused : WireError → E) (finding : Finding X E) (s : SessionState) (i : ReplyBuffer) → intakes.IsAlike s.intake i → answer_of refused finding s ≡ answer_of refused finding (record s { intake = i })
 alike_answers refused finding s i h =
     ap (λ (n : ℕ). answer_by refused n s.intake.pending (finding s.handshake s.refs s.reply) s.trouble (told_with s.intake [])) h.bound
     ∙ ap (answer_by refused i.bound s.intake.pending (finding s.handshake s.refs s.reply) s.trouble) (h.told [])
-    ∙ same_pending refused i.bound s.intake.pending i.pending (finding s.handshake s.refs s.reply) s.trouble (told_with i []) (λ none. ap (λ (j : Intake). j.pending) (h.resting (not_awaiting s.intake (h.told [] ∙ none))))
+    ∙ same_pending refused i.bound s.intake.pending i.pending (finding s.handshake s.refs s.reply) s.trouble (told_with i []) (λ none. ap (λ (j : ReplyBuffer). j.pending) (h.resting (not_awaiting s.intake (h.told [] ∙ none))))
 
 same_answers : {X E : Type 0} (refused : WireError → E) (finding : Finding X E) (a b : SessionState) → IsAlike a b → answer_of refused finding a ≡ answer_of refused finding b
 same_answers refused finding a b h = alike_answers refused finding a b.intake h.intake ∙ ap (answer_of refused finding) h.others
@@ -97,7 +97,7 @@ awaited_first bound old pending c = record { receives = []; made = Makes-none ol
 
 -- ---- nothing is awaited, or something is wrong
 
-not_short : (found : Option (Result (Told × List ℕ) Fault)) (place : ℕ) → found ≡ None → found ≡ Some (Err (faults.Short place)) → ⊥
+not_short : (found : Option (Result (ParsedReply × List ℕ) ReplyError)) (place : ℕ) → found ≡ None → found ≡ Some (Err (faults.Short place)) → ⊥
 not_short found place none short = absurd (cc)
 
 pub rests_by : (s : SessionState) (more : Bool) → told_with s.intake [] ≡ None → IsWaiting s → more ≡ true
@@ -115,14 +115,14 @@ pub not_some : {A : Type 0} (x : Option A) → is_some x ≡ false → x ≡ Non
 not_some None is = refl
 not_some (Some a) is = absurd (cc)
 
-nothing_told : (i : Intake) (more : List ℕ) → i.reading ≡ None → told_with i more ≡ None
+nothing_told : (i : ReplyBuffer) (more : List ℕ) → i.reading ≡ None → told_with i more ≡ None
 nothing_told i more none = rw none refl
 
 -- it takes bytes alone
 pub at_rest : (s : SessionState) (others : List ℕ) → s.trouble ≡ None → s.intake.reading ≡ None → fed s others ≡ record s { intake = taking others s.intake }
 at_rest s others well none =
     let t : SessionState = record s { intake = taking others s.intake } in
-    fed_is s others s.trouble well ∙ ap (λ (f : Option (Result (Told × List ℕ) Fault)). read_one rests (after_told asks t f)) (nothing_told t.intake [] none) ∙ ap (after_told rests t) (nothing_told t.intake [] none)
+    fed_is s others s.trouble well ∙ ap (λ (f : Option (Result (ParsedReply × List ℕ) ReplyError)). read_one rests (after_told asks t f)) (nothing_told t.intake [] none) ∙ ap (after_told rests t) (nothing_told t.intake [] none)
 
 -- which isn't read any more
 record Rests (answers : Bool) (old new : Option Talk) (s now : SessionState) : Type 0 where
@@ -140,7 +140,7 @@ rests_after answers old new s now h =
     let well = resting now h.idle in
     let g : SessionState = with_heard h.went.heard now in
     let none : now.intake.reading ≡ None = not_some now.intake.reading well.awaited in
-    let same : g ≡ fed s h.went.said = ap (λ (i : Intake). record g { intake = i }) (h.went.is.intake.resting none) ∙ h.went.is.others in
+    let same : g ≡ fed s h.went.said = ap (λ (i : ReplyBuffer). record g { intake = i }) (h.went.is.intake.resting none) ∙ h.went.is.others in
     let out : h.went.heard ++ now.outgoing ≡ h.went.heard = ap (λ (l : List ℕ). h.went.heard ++ l) well.sent ∙ append-nil h.went.heard in
     record {
       heard = h.went.heard;
@@ -154,7 +154,7 @@ rests_after answers old new s now h =
       none = none;
     }
 
-found_by : {X E : Type 0} (refused : WireError → E) (bound : ℕ) (pending : List ℕ) (found : Result X E) (trouble : Option WireError) (told : Option (Result (Told × List ℕ) Fault)) → trouble ≡ None → told ≡ None
+found_by : {X E : Type 0} (refused : WireError → E) (bound : ℕ) (pending : List ℕ) (found : Result X E) (trouble : Option WireError) (told : Option (Result (ParsedReply × List ℕ) ReplyError)) → trouble ≡ None → told ≡ None
     → answer_by refused bound pending found trouble told ≡ beside pending found
 found_by refused bound pending found trouble told well none = rw (well, none) refl
 
@@ -202,16 +202,16 @@ refused_at_end refused finding free stopped answers bound old new s now c pendin
 -- ---- a session that was stopped
 
 -- how a stop is told: a refusal as it is, unless memory ran out; a yes alone by an error that tells one
-abbrev pub IsWord : {E : Type 0} → (E → Bool) → (E → Bool) → (WireError → E) → Stop → E → Type 0
+abbrev pub IsWord : {E : Type 0} → (E → Bool) → (E → Bool) → (WireError → E) → DriveError → E → Type 0
 IsWord free stopped refused (stops.Refused w) e = (free e ≡ false → (w ≢ wire.NoMemory) × (e ≡ refused w)) × (stopped e ≡ false)
 IsWord free stopped refused stops.Failed e = (free e ≡ true) × (stopped e ≡ false)
 IsWord free stopped refused stops.Interrupted e = free e ≡ true
 
-troubled : {X E : Type 0} (refused : WireError → E) (bound : ℕ) (pending : List ℕ) (found : Result X E) (w : WireError) (trouble : Option WireError) (told : Option (Result (Told × List ℕ) Fault)) → trouble ≡ Some w
+troubled : {X E : Type 0} (refused : WireError → E) (bound : ℕ) (pending : List ℕ) (found : Result X E) (w : WireError) (trouble : Option WireError) (told : Option (Result (ParsedReply × List ℕ) ReplyError)) → trouble ≡ Some w
     → answer_by refused bound pending found trouble told ≡ Err (refused w)
 troubled refused bound pending found w trouble told is = rw is refl
 
-short_by : {X E : Type 0} (refused : WireError → E) (bound : ℕ) (pending : List ℕ) (found : Result X E) (w : WireError) (trouble : Option WireError) (told : Option (Result (Told × List ℕ) Fault)) → trouble ≡ None → trouble_at_end bound trouble told ≡ Some w
+short_by : {X E : Type 0} (refused : WireError → E) (bound : ℕ) (pending : List ℕ) (found : Result X E) (w : WireError) (trouble : Option WireError) (told : Option (Result (ParsedReply × List ℕ) ReplyError)) → trouble ≡ None → trouble_at_end bound trouble told ≡ Some w
     → answer_by refused bound pending found trouble told ≡ Err (refused w)
 short_by refused bound pending found w (Some v) told none is = absurd (cc)
 short_by refused bound pending found w None None none is = absurd (cc)
@@ -237,7 +237,7 @@ refuses_by refused finding bound new s c pending said heard w tied all (inr x) =
       },
     )
 
-stop_why : {X E : Type 0} (refused : WireError → E) (finding : Finding X E) (free stopped : E → Bool) (answers : Bool) (bound : ℕ) (old new : Option Talk) (s : SessionState) (c : Conversation X E) (pending : List ℕ) (stop : Stop) (e : E) → IsTied refused finding bound s c pending
+stop_why : {X E : Type 0} (refused : WireError → E) (finding : Finding X E) (free stopped : E → Bool) (answers : Bool) (bound : ℕ) (old new : Option Talk) (s : SessionState) (c : Conversation X E) (pending : List ℕ) (stop : DriveError) (e : E) → IsTied refused finding bound s c pending
     → (h : Stops answers old new s stop) → IsWord free stopped refused stop e → free e ≡ false → IsRefusedBy bound new c (pending ++ h.said) h.heard e
 stop_why refused finding free stopped answers bound old new s c pending (stops.Refused w) e tied h word isnt =
     let is = word.0 isnt in
@@ -246,7 +246,7 @@ stop_why refused finding free stopped answers bound old new s c pending (stops.R
 stop_why refused finding free stopped answers bound old new s c pending stops.Failed e tied h word isnt = let is = word.0 in absurd (cc)
 stop_why refused finding free stopped answers bound old new s c pending stops.Interrupted e tied h word isnt = absurd (cc)
 
-stop_due : {X E : Type 0} (refused : WireError → E) (finding : Finding X E) (free stopped : E → Bool) (answers : Bool) (bound : ℕ) (old new : Option Talk) (s : SessionState) (c : Conversation X E) (pending : List ℕ) (stop : Stop) (e : E) → IsTied refused finding bound s c pending
+stop_due : {X E : Type 0} (refused : WireError → E) (finding : Finding X E) (free stopped : E → Bool) (answers : Bool) (bound : ℕ) (old new : Option Talk) (s : SessionState) (c : Conversation X E) (pending : List ℕ) (stop : DriveError) (e : E) → IsTied refused finding bound s c pending
     → (h : Stops answers old new s stop) → IsWord free stopped refused stop e → stopped e ≡ true → IsDue bound c pending (record { heard = h.heard; given = h.said })
 stop_due refused finding free stopped answers bound old new s c pending (stops.Refused w) e tied h word is = let isnt = word.1 in absurd (cc)
 stop_due refused finding free stopped answers bound old new s c pending stops.Failed e tied h word is = let isnt = word.1 in absurd (cc)
@@ -254,7 +254,7 @@ stop_due refused finding free stopped answers bound old new s c pending stops.In
     let due = h.why in due_by refused finding bound s c pending tied (record { heard = h.heard; given = h.said }) (record { heard = due.0; waits = due.1 })
 
 -- It broke off.
-pub broken : {X E : Type 0} (refused : WireError → E) (finding : Finding X E) (free stopped : E → Bool) (answers : Bool) (bound : ℕ) (old new : Option Talk) (s : SessionState) (c : Conversation X E) (pending : List ℕ) (stop : Stop) (e : E) → IsTied refused finding bound s c pending
+pub broken : {X E : Type 0} (refused : WireError → E) (finding : Finding X E) (free stopped : E → Bool) (answers : Bool) (bound : ℕ) (old new : Option Talk) (s : SessionState) (c : Conversation X E) (pending : List ℕ) (stop : DriveError) (e : E) → IsTied refused finding bound s c pending
     → Stops answers old new s stop → IsWord free stopped refused stop e → Breaks free stopped answers bound old new pending c e
 broken refused finding free stopped answers bound old new s c pending stop e tied h word = record {
   said = h.said;

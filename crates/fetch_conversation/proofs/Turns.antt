@@ -14,8 +14,8 @@ use Rattle.fetch_conversation.specs.Errors.{is_failed, is_yes}
 use Rattle.fetch_conversation.specs.Blame.{BlamesPeer, BlamesInterrupt, is_told}
 use Rattle.fetch_conversation.proofs.Blame.{peer_then, interrupt_still, interrupt_sent, interrupt_then}
 use Rattle.fetch_conversation.specs.Receiving.{last_question}
-use Rattle.fetch_conversation.specs.declared.drive.Stop.{Stop}
-use Rattle.fetch_conversation.specs.declared.drive.Stop.TheVariants as stops
+use Rattle.fetch_conversation.specs.declared.drive.DriveError.{DriveError}
+use Rattle.fetch_conversation.specs.declared.drive.DriveError.TheVariants as stops
 use Rattle.fetch_conversation.proofs.Driven.{goes_none, goes_sent, goes_received, stops_sending, stops_in_turn, stops_refused, taken_refused, receiving, sending_some, failed_end}
 
 -- what holds before each turn
@@ -42,26 +42,26 @@ sent_on answers old mid new s a f f' f'' y y' will will' h talk made more = reco
   interrupt = interrupt_then y y' y' will will' will' old mid new 0 h.interrupt (interrupt_sent y' will' mid new made);
 }
 
-no_question : (T : Type 0) (e : Stop) → IsUnsent e → last_question {T = T} is_yes (Err e) ≡ 0
+no_question : (T : Type 0) (e : DriveError) → IsUnsent e → last_question {T = T} is_yes (Err e) ≡ 0
 no_question T (stops.Refused w) is = refl
 no_question T stops.Failed is = refl
 no_question T stops.Interrupted is = absurd is
 
 -- ---- where out of memory is told
 
-unsent_out : (T : Type 0) (s a b : SessionState) (e : Stop) → turn_of a ≡ turns.Send → b ≡ a → RunsOut {T = T} s b (Err e)
+unsent_out : (T : Type 0) (s a b : SessionState) (e : DriveError) → turn_of a ≡ turns.Send → b ≡ a → RunsOut {T = T} s b (Err e)
 unsent_out T s a b (stops.Refused w) turn same = λ _. inr (inl (subst (λ (t : SessionState). t.outgoing ≢ []) (sym same) (sending_some a turn)))
 unsent_out T s a b stops.Failed turn same = tt
 unsent_out T s a b stops.Interrupted turn same = tt
 
-refused_out : (T : Type 0) (s b : SessionState) (e : Stop) → (e ≡ stops.Refused wire.NoMemory → b.trouble ≢ None) → RunsOut {T = T} s b (Err e)
+refused_out : (T : Type 0) (s b : SessionState) (e : DriveError) → (e ≡ stops.Refused wire.NoMemory → b.trouble ≢ None) → RunsOut {T = T} s b (Err e)
 refused_out T s b (stops.Refused w) refused = λ is. inl (refused (ap stops.Refused is))
 refused_out T s b stops.Failed refused = tt
 refused_out T s b stops.Interrupted refused = tt
 
 -- ---- a turn
 
-pub unsent : {T : Type 0} (answers : Bool) (old mid new : Option Talk) (s a b : SessionState) (f f' f'' y y' : Faults) (will will' : ℕ → Type 0) (e : Stop) → Holds answers old mid s a f f' y y' will will'
+pub unsent : {T : Type 0} (answers : Bool) (old mid new : Option Talk) (s a b : SessionState) (f f' f'' y y' : Faults) (will will' : ℕ → Type 0) (e : DriveError) → Holds answers old mid s a f f' y y' will will'
     → turn_of a ≡ turns.Send → b ≡ a → ((front : List ℕ) × IsFront front a.outgoing × Talks answers mid new front []) → Makes mid new [] → IsUnsent e → BlamesPeer f' f'' (is_told {T = T} is_failed (Err e))
     → IsDriven {T = T} answers old new s b f f'' y y' will will' (Err e)
 unsent {T} answers old mid new s a b f f' f'' y y' will will' e h turn same x made free peer = record {
@@ -81,7 +81,7 @@ received_on answers old mid new s a b f f' f'' y y' y'' will will' will'' h turn
   interrupt = interrupt_then y y' y'' will will' will'' old mid new 0 h.interrupt interrupt;
 }
 
-pub unreceived : {T : Type 0} (answers : Bool) (old mid new : Option Talk) (s a b : SessionState) (f f' f'' y y' y'' : Faults) (will will' will'' : ℕ → Type 0) (e : Stop) → Holds answers old mid s a f f' y y' will will'
+pub unreceived : {T : Type 0} (answers : Bool) (old mid new : Option Talk) (s a b : SessionState) (f f' f'' y y' y'' : Faults) (will will' will'' : ℕ → Type 0) (e : DriveError) → Holds answers old mid s a f f' y y' will will'
     → turn_of a ≡ turns.Receive → IsAwaiting a → Takes {T = T} mid new a b (Err e) → (e ≡ stops.Refused wire.NoMemory → b.trouble ≢ None) → Makes mid new (made_by {T = T} (Err e)) → BlamesPeer f' f'' (is_told {T = T} is_failed (Err e))
     → BlamesInterrupt y' y'' will' will'' mid new (last_question {T = T} is_yes (Err e)) → IsDriven {T = T} answers old new s b f f'' y y'' will will'' (Err e)
 unreceived {T} answers old mid new s a b f f' f'' y y' y'' will will' will'' e h turn short took refused made peer interrupt = record {

@@ -13,10 +13,10 @@ use Rattle.fetch_wire.specs.References.{name_in}
 use Rattle.fetch_wire.specs.Requests.{listing_lines}
 use Rattle.fetch_wire.specs.ServerLines.{greeting_lines, listing_lines_of}
 use Rattle.fetch_wire.specs.Written.{lines_text, first_too_long}
-use Rattle.fetch_wire.specs.declared.replies.awaited.Await.TheVariants as awaits
-use Rattle.fetch_wire.specs.declared.replies.awaited.Fault.{Fault}
-use Rattle.fetch_wire.specs.declared.replies.awaited.Told.{Told}
-use Rattle.fetch_wire.specs.declared.replies.awaited.Told.TheVariants as told
+use Rattle.fetch_wire.specs.declared.replies.reply.ReplyKind.TheVariants as awaits
+use Rattle.fetch_wire.specs.declared.replies.reply.ReplyError.{ReplyError}
+use Rattle.fetch_wire.specs.declared.replies.reply.ParsedReply.{ParsedReply}
+use Rattle.fetch_wire.specs.declared.replies.reply.ParsedReply.TheVariants as told
 use Rattle.fetch_wire.specs.declared.greetings.handshake.Capability.{Capability}
 use Rattle.fetch_wire.specs.declared.greetings.handshake.Handshake.{Handshake}
 use Rattle.fetch_wire.specs.declared.lines.line.Line.{Line}
@@ -30,11 +30,11 @@ use Rattle.fetch_negotiate.specs.declared.algorithm.Algorithm.{Algorithm}
 use Rattle.fetch_conversation.specs.Conversation.{Conversation, ends, asks, after_reply, beside, answer_in}
 use Rattle.fetch_conversation.specs.ConverseStage.{algorithm_in, rejected, result_unless, unpacked, read_of, received, with_pack, fetching, wanting, converse_stage}
 use Rattle.fetch_conversation.specs.Conversing.{IsClear}
-use Rattle.fetch_conversation.specs.Exchange.{TermsValue, failed, replied, exchange}
+use Rattle.fetch_conversation.specs.Exchange.{FetchArgumentsValue, failed, replied, exchange}
 use Rattle.fetch_conversation.specs.Listing.{first_of}
-use Rattle.fetch_conversation.specs.ListStage.{InquiryValue, ListedValue, prefixes_asked, all_specs, mapped, mapped_unless, map_of, unless, listed, listing, greeted, list_stage, inquiry_stage}
+use Rattle.fetch_conversation.specs.ListStage.{LsRefsValue, ListedValue, prefixes_asked, all_specs, mapped, mapped_unless, map_of, unless, listed, listing, greeted, list_stage, ls_refs_stage}
 use Rattle.fetch_conversation.specs.ListStage as stage
-use Rattle.fetch_conversation.specs.Rounds.{CourseValue, Negotiated, first_course, negotiating}
+use Rattle.fetch_conversation.specs.Rounds.{RoundsStateValue, Negotiated, first_rounds_state, negotiating}
 use Rattle.fetch_conversation.specs.Writing.{AreWithin, IsAskable, IsListing, listing_text, Answer, acknowledges, packs, readies, lines_of, reply_of, MayBe, asked_in, request_in, AnswersRound, after, AnswerRounds, negotiated_by, negotiated_in, answers_text, IsPacking}
 use Rattle.fetch_conversation.specs.declared.conversing.Received.{Received}
 use Rattle.fetch_conversation.specs.declared.fetch.Error.{Error}
@@ -46,32 +46,32 @@ use Rattle.fetch_conversation.proofs.Held.{round_in, behind_round, negotiating_i
 -- ---- a question whose reply is written
 
 -- it goes on by what is told
-asked_by_told : {X E : Type 0} (bound : ℕ) (lines : List Line) (awaited : _) (none : Fault → E) (next : Told → Conversation X E) (stream rest : List ℕ) (t : Told) → told_at bound awaited stream ≡ Ok (t, rest)
+asked_by_told : {X E : Type 0} (bound : ℕ) (lines : List Line) (awaited : _) (none : ReplyError → E) (next : ParsedReply → Conversation X E) (stream rest : List ℕ) (t : ParsedReply) → told_at bound awaited stream ≡ Ok (t, rest)
     → answer_in bound (asks lines awaited none next) stream ≡ answer_in bound (next t) rest
 unfolding answer_in
 asked_by_told bound lines awaited none next stream rest t is = ap (after_reply (λ fault. Err (none fault)) (λ u left. answer_in bound (next u) left)) is
 
 -- ---- the references
 
-mapped_is : (q : InquiryValue) (h : Handshake) (refs : List Ref) → conflicts_of (mappings_of (all_specs q) (map name_in refs) h.object_hash) ≡ [] → mapped q h refs ≡ Ok (record { ref_map = map_of q h refs; handshake = h })
+mapped_is : (q : LsRefsValue) (h : Handshake) (refs : List Ref) → conflicts_of (mappings_of (all_specs q) (map name_in refs) h.object_hash) ≡ [] → mapped q h refs ≡ Ok (record { ref_map = map_of q h refs; handshake = h })
 unfolding mapped
 mapped_is q h refs clear = ap (λ (c : List Conflict). mapped_unless c q h refs) clear
 
-listed_is : (bound : ℕ) (q : InquiryValue) (h : Handshake) (refs : List Ref) (rest : List ℕ) → conflicts_of (mappings_of (all_specs q) (map name_in refs) h.object_hash) ≡ []
+listed_is : (bound : ℕ) (q : LsRefsValue) (h : Handshake) (refs : List Ref) (rest : List ℕ) → conflicts_of (mappings_of (all_specs q) (map name_in refs) h.object_hash) ≡ []
     → answer_in bound (listed q h (told.Listing refs)) rest ≡ Ok (record { ref_map = map_of q h refs; handshake = h }, rest)
 unfolding answer_in
 listed_is bound q h refs rest clear = ap (beside rest) (mapped_is q h refs clear)
 
-listing_is : (bound : ℕ) (q : InquiryValue) (h : Handshake) → IsAskable q h → listing bound q h ≡ asks (listing_lines h q.agent (prefixes_asked q)) (awaits.Listing h.object_hash) (stage.failed bound) (λ t. listed q h t)
+listing_is : (bound : ℕ) (q : LsRefsValue) (h : Handshake) → IsAskable q h → listing bound q h ≡ asks (listing_lines h q.agent (prefixes_asked q)) (awaits.Listing h.object_hash) (stage.failed bound) (λ t. listed q h t)
 unfolding listing
 listing_is bound q h can = rw (can.request, can.offered) refl
 
-stage_is : (bound : ℕ) (q : InquiryValue) (h : Handshake) → IsAskable q h → list_stage bound q ≡ asks (first_of q ∷ []) awaits.Greeting (stage.failed bound) (λ t. greeted bound q t)
-unfolding list_stage inquiry_stage
+stage_is : (bound : ℕ) (q : LsRefsValue) (h : Handshake) → IsAskable q h → list_stage bound q ≡ asks (first_of q ∷ []) awaits.Greeting (stage.failed bound) (λ t. greeted bound q t)
+unfolding list_stage ls_refs_stage
 stage_is bound q h can = rw (can.some, can.sendable, can.first) refl
 
 -- What a server lists is mapped.
-pub written_listing : (bound : ℕ) (q : InquiryValue) (capabilities : List Capability) (refs : List Ref) (rest : List ℕ) → IsAskable q (handshake_of capabilities) → IsListing bound q capabilities refs
+pub written_listing : (bound : ℕ) (q : LsRefsValue) (capabilities : List Capability) (refs : List Ref) (rest : List ℕ) → IsAskable q (handshake_of capabilities) → IsListing bound q capabilities refs
     → answer_in bound (list_stage bound q) (listing_text capabilities refs ++ rest) ≡ Ok (record { ref_map = map_of q (handshake_of capabilities) refs; handshake = handshake_of capabilities }, rest)
 written_listing bound q capabilities refs rest can h =
     let hs : Handshake = handshake_of capabilities in
@@ -89,9 +89,9 @@ written_listing bound q capabilities refs rest can h =
 
 -- ---- one round
 
-module _ (bound : ℕ) (t : TermsValue) (g : Graph) (algorithm : Algorithm) (whole : t.dry_run ≡ false) where
+module _ (bound : ℕ) (t : FetchArgumentsValue) (g : Graph) (algorithm : Algorithm) (whole : t.dry_run ≡ false) where
   -- an answer tells its reply
-  tells : (c : CourseValue) (a : Answer) (rest : List ℕ) → MayBe (asked_in t g algorithm c) a → AreWithin bound (lines_of a) → told_at bound (awaits.Reply (asked_in t g algorithm c)) (lines_text (lines_of a) ++ rest) ≡ Ok (told.Reply (reply_of a), rest)
+  tells : (c : RoundsStateValue) (a : Answer) (rest : List ℕ) → MayBe (asked_in t g algorithm c) a → AreWithin bound (lines_of a) → told_at bound (awaits.Reply (asked_in t g algorithm c)) (lines_text (lines_of a) ++ rest) ≡ Ok (told.Reply (reply_of a), rest)
   tells c (acknowledges ids) rest may h =
       let asked = asked_in t g algorithm c in
       text_tells bound (awaits.Reply asked) (lines_of (acknowledges ids)) (told.Reply (reply_of (acknowledges ids))) rest (round_tells asked ids may.0 may.1.kind may.1.told) h.fit h.bounded
@@ -102,7 +102,7 @@ module _ (bound : ℕ) (t : TermsValue) (g : Graph) (algorithm : Algorithm) (who
       let asked = asked_in t g algorithm c in
       text_tells bound (awaits.Reply asked) (lines_of (readies ids change bands)) (told.Reply (reply_of (readies ids change bands))) rest (ready_tells asked ids change bands may.0 (ap not whole) may.1.kind may.1.told may.2) h.fit h.bounded
 
-  exchange_is : (c : CourseValue) → first_too_long (request_in t g algorithm c) ≡ None → round_in bound t g algorithm c ≡ asks (request_in t g algorithm c) (awaits.Reply (asked_in t g algorithm c)) (failed bound) (λ x. replied x)
+  exchange_is : (c : RoundsStateValue) → first_too_long (request_in t g algorithm c) ≡ None → round_in bound t g algorithm c ≡ asks (request_in t g algorithm c) (awaits.Reply (asked_in t g algorithm c)) (failed bound) (λ x. replied x)
   unfolding exchange
   exchange_is c fits = rw fits refl
 
@@ -111,7 +111,7 @@ module _ (bound : ℕ) (t : TermsValue) (g : Graph) (algorithm : Algorithm) (who
   reply_ends reply rest = refl
 
   -- the request of a round is answered
-  round_is : (c : CourseValue) (a : Answer) (rest : List ℕ) → AnswersRound bound t g algorithm c a → answer_in bound (round_in bound t g algorithm c) (lines_text (lines_of a) ++ rest) ≡ Ok (reply_of a, rest)
+  round_is : (c : RoundsStateValue) (a : Answer) (rest : List ℕ) → AnswersRound bound t g algorithm c a → answer_in bound (round_in bound t g algorithm c) (lines_text (lines_of a) ++ rest) ≡ Ok (reply_of a, rest)
   round_is c a rest h =
       ap (λ (x : Conversation FetchReply Error). answer_in bound x (lines_text (lines_of a) ++ rest)) (exchange_is c h.request)
       ∙ asked_by_told bound (request_in t g algorithm c) (awaits.Reply (asked_in t g algorithm c)) (failed bound) (λ x. replied x) (lines_text (lines_of a) ++ rest) rest (told.Reply (reply_of a)) (tells c a rest h.answer h.written)
@@ -121,7 +121,7 @@ module _ (bound : ℕ) (t : TermsValue) (g : Graph) (algorithm : Algorithm) (who
   unfolding answer_in
   ended c n rest is = rw is refl
 
-  round_then : (more : ℕ) (c : CourseValue) (a : Answer) (rest : List ℕ) → AnswersRound bound t g algorithm c a
+  round_then : (more : ℕ) (c : RoundsStateValue) (a : Answer) (rest : List ℕ) → AnswersRound bound t g algorithm c a
       → answer_in bound (negotiating (suc more) bound t g algorithm c) (lines_text (lines_of a) ++ rest) ≡ answer_in bound (behind_round bound t g algorithm more c (reply_of a)) rest
   round_then more c a rest h =
       ap (λ (x : Conversation Negotiated Error). answer_in bound x (lines_text (lines_of a) ++ rest)) (negotiating_is bound t g algorithm more c)
@@ -129,7 +129,7 @@ module _ (bound : ℕ) (t : TermsValue) (g : Graph) (algorithm : Algorithm) (who
       ∙ ap (answer_behind bound (λ reply. behind_round bound t g algorithm more c reply)) (round_is c a rest h)
 
   -- and those after it
-  rounds_are : (more : ℕ) (c : CourseValue) (a : Answer) (answers : List Answer) (rest : List ℕ) → length answers < more → AnswerRounds bound t g algorithm c a answers
+  rounds_are : (more : ℕ) (c : RoundsStateValue) (a : Answer) (answers : List Answer) (rest : List ℕ) → length answers < more → AnswerRounds bound t g algorithm c a answers
       → answer_in bound (negotiating more bound t g algorithm c) (answers_text a answers ++ rest) ≡ Ok (negotiated_by g algorithm c a answers, rest)
   rounds_are zero c a answers rest few h = absurd (omega arith)
   rounds_are (suc more) c a [] rest few h =
@@ -142,40 +142,40 @@ module _ (bound : ℕ) (t : TermsValue) (g : Graph) (algorithm : Algorithm) (who
 
 -- ---- the pack
 
-received_is : (t : TermsValue) (n : Negotiated) (contents : Contents) → t.dry_run ≡ false → rejected t.settings t.view t.shallow n.reply ≡ None → read t.listed.handshake.object_hash (unwrap_or n.reply.pack []) ≡ Ok contents → received t n ≡ Ok (Some (with_pack n contents))
+received_is : (t : FetchArgumentsValue) (n : Negotiated) (contents : Contents) → t.dry_run ≡ false → rejected t.settings t.view t.shallow n.reply ≡ None → read t.listed.handshake.object_hash (unwrap_or n.reply.pack []) ≡ Ok contents → received t n ≡ Ok (Some (with_pack n contents))
 unfolding received
 received_is t n contents whole border pack =
     ap (λ (e : Option Error). result_unless e (read_of t.listed.handshake.object_hash t.dry_run n)) border
     ∙ ap (λ (dry : Bool). read_of t.listed.handshake.object_hash dry n) whole
     ∙ ap (unpacked n) pack
 
-clear_stage : (bound : ℕ) (g : Graph) (t : TermsValue) → IsClear t → converse_stage bound g t ≡ wanting bound g t t.view.wants
+clear_stage : (bound : ℕ) (g : Graph) (t : FetchArgumentsValue) → IsClear t → converse_stage bound g t ≡ wanting bound g t t.view.wants
 unfolding converse_stage
 clear_stage bound g t clear = rw (clear.mapped, clear.alike, clear.fit, clear.offered) refl
 
-wanting_is : (bound : ℕ) (g : Graph) (t : TermsValue) (wants : List ObjectId) → wants ≢ [] → wanting bound g t wants ≡ fetching bound g t
+wanting_is : (bound : ℕ) (g : Graph) (t : FetchArgumentsValue) (wants : List ObjectId) → wants ≢ [] → wanting bound g t wants ≡ fetching bound g t
 wanting_is bound g t [] some = absurd (some refl)
 wanting_is bound g t (id ∷ ids) some = refl
 
-brings : (bound : ℕ) (t : TermsValue) (n : Negotiated) (rest : List ℕ) (contents : Contents) → received t n ≡ Ok (Some (with_pack n contents)) → answer_in bound (ends (received t n)) rest ≡ Ok (Some (with_pack n contents), rest)
+brings : (bound : ℕ) (t : FetchArgumentsValue) (n : Negotiated) (rest : List ℕ) (contents : Contents) → received t n ≡ Ok (Some (with_pack n contents)) → answer_in bound (ends (received t n)) rest ≡ Ok (Some (with_pack n contents), rest)
 unfolding answer_in
 brings bound t n rest contents is = ap (beside rest) is
 
-fetching_is : (bound : ℕ) (t : TermsValue) (g : Graph) (n : Negotiated) (stream rest : List ℕ) (contents : Contents)
-    → answer_in bound (negotiating (suc (map.len g)) bound t g (algorithm_in t.settings) (first_course (algorithm_in t.settings) t.view)) stream ≡ Ok (n, rest) → received t n ≡ Ok (Some (with_pack n contents))
+fetching_is : (bound : ℕ) (t : FetchArgumentsValue) (g : Graph) (n : Negotiated) (stream rest : List ℕ) (contents : Contents)
+    → answer_in bound (negotiating (suc (map.len g)) bound t g (algorithm_in t.settings) (first_rounds_state (algorithm_in t.settings) t.view)) stream ≡ Ok (n, rest) → received t n ≡ Ok (Some (with_pack n contents))
     → answer_in bound (fetching bound g t) stream ≡ Ok (Some (with_pack n contents), rest)
 unfolding fetching
 fetching_is bound t g n stream rest contents is brought =
-    answer_then bound (negotiating (suc (map.len g)) bound t g (algorithm_in t.settings) (first_course (algorithm_in t.settings) t.view)) (λ m. ends (received t m)) stream
+    answer_then bound (negotiating (suc (map.len g)) bound t g (algorithm_in t.settings) (first_rounds_state (algorithm_in t.settings) t.view)) (λ m. ends (received t m)) stream
     ∙ ap (answer_behind bound (λ (m : Negotiated). ends (received t m))) is
     ∙ brings bound t n rest contents brought
 
 -- What a server answers is received.
-pub written_pack : (bound : ℕ) (t : TermsValue) (g : Graph) (a : Answer) (answers : List Answer) (contents : Contents) (rest : List ℕ) → IsPacking bound t g a answers contents
+pub written_pack : (bound : ℕ) (t : FetchArgumentsValue) (g : Graph) (a : Answer) (answers : List Answer) (contents : Contents) (rest : List ℕ) → IsPacking bound t g a answers contents
     → answer_in bound (converse_stage bound g t) (answers_text a answers ++ rest) ≡ Ok (Some (with_pack (negotiated_in t g a answers) contents), rest)
 written_pack bound t g a answers contents rest h =
     let algorithm : Algorithm = algorithm_in t.settings in
-    let first : CourseValue = first_course algorithm t.view in
+    let first : RoundsStateValue = first_rounds_state algorithm t.view in
     let n : Negotiated = negotiated_in t g a answers in
     let stream : List ℕ = answers_text a answers ++ rest in
     let enough : answer_in bound (negotiating (suc (map.len g) + length answers) bound t g algorithm first) stream ≡ Ok (n, rest) =

@@ -4,17 +4,17 @@ use Rattle.std.specs.List.{AllByRecursion}
 use Rattle.fetch_wire.specs.Awaited.{told_at}
 use Rattle.fetch_wire.specs.Talks.{Talk, Talks, Receive, Makes, IsDrained, IsFront}
 use Rattle.fetch_wire.specs.Written.{lines_text, first_too_long}
-use Rattle.fetch_wire.specs.declared.replies.awaited.Await.{Await}
-use Rattle.fetch_wire.specs.declared.replies.awaited.Fault.{Fault}
-use Rattle.fetch_wire.specs.declared.replies.awaited.Fault.TheVariants as faults
-use Rattle.fetch_wire.specs.declared.replies.awaited.Told.{Told}
+use Rattle.fetch_wire.specs.declared.replies.reply.ReplyKind.{ReplyKind}
+use Rattle.fetch_wire.specs.declared.replies.reply.ReplyError.{ReplyError}
+use Rattle.fetch_wire.specs.declared.replies.reply.ReplyError.TheVariants as faults
+use Rattle.fetch_wire.specs.declared.replies.reply.ParsedReply.{ParsedReply}
 use Rattle.fetch_wire.specs.declared.lines.line.Line.{Line}
 
 -- It ends with an answer, or it asks: it sends lines, awaits a reply, and goes on by what the reply tells. Where the
 -- bytes of the peer hold no such reply, it ends with a refusal by what is wrong with them.
 pub data Conversation (X E : Type 0) : Type 0 where
   ends : Result X E → Conversation X E
-  asks : List Line → Await → (Fault → E) → (Told → Conversation X E) → Conversation X E
+  asks : List Line → ReplyKind → (ReplyError → E) → (ParsedReply → Conversation X E) → Conversation X E
 
 -- a question whose lines fit, or the refusal of the first one that is too long
 abbrev pub asks_unless : {X E : Type 0} → Option ℕ → (ℕ → E) → Conversation X E → Conversation X E
@@ -22,11 +22,12 @@ asks_unless None long c = c
 asks_unless (Some length) long c = ends (Err (long length))
 
 -- asks these lines, unless one is too long
-abbrev pub asking : {X E : Type 0} → (ℕ → E) → List Line → Await → (Fault → E) → (Told → Conversation X E) → Conversation X E
+abbrev pub asking : {X E : Type 0} → (ℕ → E) → List Line → ReplyKind → (ReplyError → E) → (ParsedReply → Conversation X E)
+    → Conversation X E
 asking long lines awaited failed next = asks_unless (first_too_long lines) long (asks lines awaited failed next)
 
 -- what follows a reply, or a fault in its place
-abbrev pub after_reply : {A : Type 0} → (Fault → A) → (Told → List ℕ → A) → Result (Told × List ℕ) Fault → A
+abbrev pub after_reply : {A : Type 0} → (ReplyError → A) → (ParsedReply → List ℕ → A) → Result (ParsedReply × List ℕ) ReplyError → A
 after_reply none go (Err fault) = none fault
 after_reply none go (Ok x) = go x.0 x.1
 
@@ -48,7 +49,7 @@ answer_in bound (asks lines awaited failed next) stream =
     after_reply (λ fault. Err (failed fault)) (λ told rest. answer_in bound (next told) rest) (told_at bound awaited stream)
 
 -- Whether the bytes end in a reply, with nothing wrong in it, or go on after whole ones.
-abbrev pub ends_in : (Told → List ℕ → Bool) → Result (Told × List ℕ) Fault → Bool
+abbrev pub ends_in : (ParsedReply → List ℕ → Bool) → Result (ParsedReply × List ℕ) ReplyError → Bool
 ends_in go (Ok x) = go x.0 x.1
 ends_in go (Err (faults.Short place)) = true
 ends_in go (Err (faults.Broken place)) = false

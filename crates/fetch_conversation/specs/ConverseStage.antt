@@ -30,10 +30,10 @@ use Rattle.fetch_negotiate.specs.declared.algorithm.Shallow.{Shallow}
 use Rattle.fetch_negotiate.specs.declared.algorithm.Shallow.TheVariants as depth
 use Rattle.fetch_conversation.specs.Conversation.{Conversation, ends, and_then}
 use Rattle.fetch_conversation.specs.Errors.{fetch_of_pack}
-use Rattle.fetch_conversation.specs.Exchange.{TermsValue}
+use Rattle.fetch_conversation.specs.Exchange.{FetchArgumentsValue}
 use Rattle.fetch_conversation.specs.ListStage.{is_nil, unless}
 use Rattle.fetch_conversation.specs.ReadSettings.{rejects_shallow_of, algorithm_of_config, threads_of}
-use Rattle.fetch_conversation.specs.Rounds.{Negotiated, first_course, negotiating}
+use Rattle.fetch_conversation.specs.Rounds.{Negotiated, first_rounds_state, negotiating}
 use Rattle.fetch_conversation.specs.declared.conversing.Received.{Received}
 use Rattle.fetch_conversation.specs.declared.conversing.View.{View}
 use Rattle.fetch_conversation.specs.declared.settings.Settings.{Settings}
@@ -70,7 +70,7 @@ abbrev pub unmapped : RefMap → Option Error
 unmapped m = if is_unmapped m then Some (errors.NoMapping (specs_of m) (length m.remote_refs)) else None
 
 -- the same, of what was listed
-abbrev pub no_mapping : TermsValue → Option Error
+abbrev pub no_mapping : FetchArgumentsValue → Option Error
 no_mapping t = unmapped t.listed.ref_map
 
 -- whether two hashes are one
@@ -85,7 +85,7 @@ abbrev pub unlike : Kind → Kind → Option Error
 unlike local remote = if is_same_kind local remote then None else Some (errors.IncompatibleObjectHash local remote)
 
 -- the same, of what was listed
-abbrev pub other_hash : TermsValue → Option Error
+abbrev pub other_hash : FetchArgumentsValue → Option Error
 other_hash t = unlike t.settings.kind t.listed.handshake.object_hash
 
 -- a setting that can't be read, told so
@@ -134,7 +134,7 @@ abbrev pub is_border_needed : IdSet → Shallow → Bool
 is_border_needed border shallow = not (is_nil (ids_of border)) || not (is_no_change shallow)
 
 -- whether a border or a depth is to be sent
-abbrev pub needs_shallow : TermsValue → Bool
+abbrev pub needs_shallow : FetchArgumentsValue → Bool
 needs_shallow t = is_border_needed t.view.border t.shallow
 
 -- a feature that isn't offered
@@ -149,7 +149,7 @@ lacked h border_needed =
     (lacks (not border_needed || fetches shallow_feature h) shallow_feature))
 
 -- the first feature that the server lacks
-abbrev pub lacking : TermsValue → Option Error
+abbrev pub lacking : FetchArgumentsValue → Option Error
 lacking t = lacked t.listed.handshake (needs_shallow t)
 
 -- ---- what the rounds bring
@@ -205,7 +205,7 @@ abbrev pub read_of : Kind → Bool → Negotiated → Result (Option Received) E
 read_of kind dry_run n = if dry_run then Ok (Some (without_pack n)) else unpacked n (read kind (unwrap_or n.reply.pack []))
 
 -- what the rounds bring; a border that is refused comes before the pack
-unfoldable pub received : TermsValue → Negotiated → Result (Option Received) Error
+unfoldable pub received : FetchArgumentsValue → Negotiated → Result (Option Received) Error
 received t n = result_unless (rejected t.settings t.view t.shallow n.reply) (read_of t.listed.handshake.object_hash t.dry_run n)
 
 -- ---- the conversation
@@ -220,17 +220,17 @@ abbrev pub algorithm_in : Settings → Algorithm
 algorithm_in s = algorithm_told (algorithm_of_config s.config s.lenient)
 
 -- the rounds, and what they bring
-unfoldable pub fetching : ℕ → Graph → TermsValue → Conversation (Option Received) Error
+unfoldable pub fetching : ℕ → Graph → FetchArgumentsValue → Conversation (Option Received) Error
 fetching bound g t =
     let algorithm : Algorithm = algorithm_in t.settings in
-    and_then (negotiating (suc (map.len g)) bound t g algorithm (first_course algorithm t.view)) (λ n. ends (received t n))
+    and_then (negotiating (suc (map.len g)) bound t g algorithm (first_rounds_state algorithm t.view)) (λ n. ends (received t n))
 
 -- nothing is asked for where nothing is wanted
-abbrev pub wanting : ℕ → Graph → TermsValue → List ObjectId → Conversation (Option Received) Error
+abbrev pub wanting : ℕ → Graph → FetchArgumentsValue → List ObjectId → Conversation (Option Received) Error
 wanting bound g t [] = ends (Ok None)
 wanting bound g t (id ∷ ids) = fetching bound g t
 
 -- the whole stage, over the objects that are stored
-unfoldable pub converse_stage : ℕ → Graph → TermsValue → Conversation (Option Received) Error
+unfoldable pub converse_stage : ℕ → Graph → FetchArgumentsValue → Conversation (Option Received) Error
 converse_stage bound g t = unless (option_or (no_mapping t) (option_or (other_hash t) (option_or (unfit t.settings) (lacking t))))
     (wanting bound g t t.view.wants)

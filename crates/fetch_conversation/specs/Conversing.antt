@@ -15,18 +15,19 @@ use Rattle.fetch_wire.specs.declared.requests.records.Request.{Request}
 use Rattle.fetch_conversation.specs.Conversation.{ends, Concludes, Breaks}
 use Rattle.fetch_conversation.specs.ConverseStage.{unmapped, unlike, unfit, lacked, is_border_needed, converse_stage}
 use Rattle.fetch_conversation.specs.Errors.{is_free_receiving, is_client, is_stopped}
-use Rattle.fetch_conversation.specs.Exchange.{TermsValue, asked_by, haves_told, reply_to, other_reply, exchange}
+use Rattle.fetch_conversation.specs.Exchange.{FetchArgumentsValue, asked_by, haves_told, reply_to, other_reply, exchange}
 use Rattle.fetch_conversation.specs.ListStage.{ListedValue}
-use Rattle.fetch_conversation.specs.Rounds.{CourseValue, Negotiated, next_window, is_short, is_end, rounds_with, course_after, negotiating}
-use Rattle.fetch_conversation.specs.declared.conversing.Terms.{Terms}
+use Rattle.fetch_conversation.specs.Rounds.{RoundsStateValue, Negotiated, next_window, is_short, is_end, rounds_with, rounds_state_after}
+use Rattle.fetch_conversation.specs.Rounds.{negotiating}
+use Rattle.fetch_conversation.specs.declared.conversing.FetchArguments.{FetchArguments}
 use Rattle.fetch_conversation.specs.declared.fetch.Error.{Error}
 use Rattle.fetch_conversation.specs.declared.fetch.Error.TheVariants as errors
 use Rattle.fetch_conversation.specs.declared.negotiate.Negotiate.{Negotiate}
-use Rattle.fetch_conversation.specs.declared.rounds.Course.{Course}
+use Rattle.fetch_conversation.specs.declared.rounds.RoundsState.{RoundsState}
 
 -- what a pack is asked for by, which was lent
-abbrev pub terms_told : ListedValue → Terms → TermsValue
-terms_told l t = record {
+abbrev pub arguments_told : ListedValue → FetchArguments → FetchArgumentsValue
+arguments_told l t = record {
   listed = l;
   settings = t.settings.now;
   view = t.view.now;
@@ -43,14 +44,14 @@ Tells (Some e) (Ok x) = ⊥
 Tells (Some e) (Err f) = f ≢ errors.NoMemory → f ≡ e
 
 -- nothing is refused before anything is sent
-pub record IsClear (t : TermsValue) : Type 0 where
+pub record IsClear (t : FetchArgumentsValue) : Type 0 where
   pub mapped : unmapped t.listed.ref_map ≡ None
   pub alike : unlike t.settings.kind t.listed.handshake.object_hash ≡ None
   pub fit : unfit t.settings ≡ None
   pub offered : lacked t.listed.handshake (is_border_needed t.view.border t.shallow) ≡ None
 
 -- The stage is this refusal, unless it is a free one.
-abbrev pub IsRefusal : TermsValue → Error → Type 0
+abbrev pub IsRefusal : FetchArgumentsValue → Error → Type 0
 IsRefusal t e = is_free_receiving e ≡ false → (bound : ℕ) (g : Graph) → converse_stage bound g t ≡ ends (Err e)
 
 -- neither a fault of the peer nor a yes of the interrupt
@@ -60,7 +61,7 @@ IsOwn e = (is_client e ≡ false) × (is_stopped e ≡ false)
 -- ---- one request
 
 -- The request with these haves is to be sent, and its reply is awaited.
-pub record IsAsked (t : TermsValue) (haves : List ObjectId) (done : Bool) (before now : SessionState) : Type 0 where
+pub record IsAsked (t : FetchArgumentsValue) (haves : List ObjectId) (done : Bool) (before now : SessionState) : Type 0 where
   pub request : Request
   pub lines : request_lines request ≡ fetch_request (asked_by t) haves done
   pub reply : session.asked_by before request (not t.dry_run) ≡ reply_to t haves done
@@ -80,23 +81,24 @@ reply_of (Err e) reply = Err e
 -- ---- the rounds
 
 -- how far the rounds are, as a value
-abbrev pub course_of : Course → CourseValue
-course_of c = record { so_far = so_far_of c.negotiator; shared = c.shared.items; rounds = c.rounds; size = c.size }
+abbrev pub rounds_state_of : RoundsState → RoundsStateValue
+rounds_state_of c = record { so_far = so_far_of c.negotiator; shared = c.shared.items; rounds = c.rounds; size = c.size }
 
 -- A round was held: the request of its window was answered by the reply that is kept, and it is told whether that ends
 -- the rounds.
-pub record IsHeld (answers : Bool) (bound : ℕ) (old new : Option Talk) (pending rest : List ℕ) (t : TermsValue) (g : Graph)
-    (algorithm : Algorithm) (c now : CourseValue) (stored : Option FetchReply) (last : Bool) : Type 0 where
+pub record IsHeld (answers : Bool) (bound : ℕ) (old new : Option Talk) (pending rest : List ℕ) (t : FetchArgumentsValue) (g : Graph)
+    (algorithm : Algorithm) (c now : RoundsStateValue) (stored : Option FetchReply) (last : Bool) : Type 0 where
   pub reply : FetchReply
   pub kept : stored ≡ Some reply
   pub held : Concludes answers bound old new pending
       (exchange bound t (haves_told c.shared (next_window g algorithm c).haves) (is_short c (next_window g algorithm c))) reply rest
   pub ends : last ≡ is_end c (next_window g algorithm c) reply
   pub rounds : now.rounds ≡ rounds_with c (next_window g algorithm c) reply
-  pub goes : last ≡ false → now ≡ course_after algorithm c (next_window g algorithm c) reply
+  pub goes : last ≡ false → now ≡ rounds_state_after algorithm c (next_window g algorithm c) reply
 
 -- A round is held, or the rounds break off.
-abbrev pub Holds : Bool → ℕ → Option Talk → Option Talk → List ℕ → List ℕ → TermsValue → Graph → Algorithm → CourseValue → CourseValue
+abbrev pub Holds : Bool → ℕ → Option Talk → Option Talk → List ℕ → List ℕ → FetchArgumentsValue → Graph → Algorithm → RoundsStateValue
+    → RoundsStateValue
     → Option FetchReply → Result Bool Error → Type 0
 Holds answers bound old new pending rest t g algorithm c now kept (Ok last) =
     IsHeld answers bound old new pending rest t g algorithm c now kept last

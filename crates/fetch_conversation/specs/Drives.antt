@@ -11,8 +11,8 @@ use Rattle.fetch_conversation.specs.Conversation.{AllButLastGave, AllGave}
 use Rattle.fetch_conversation.specs.Errors.{is_failed, is_yes}
 use Rattle.fetch_conversation.specs.Blame.{BlamesPeer, BlamesInterrupt, is_told}
 use Rattle.fetch_conversation.specs.Receiving.{last_question}
-use Rattle.fetch_conversation.specs.declared.drive.Stop.{Stop}
-use Rattle.fetch_conversation.specs.declared.drive.Stop.TheVariants as stops
+use Rattle.fetch_conversation.specs.declared.drive.DriveError.{DriveError}
+use Rattle.fetch_conversation.specs.declared.drive.DriveError.TheVariants as stops
 
 -- All that it was fed was read as far as it goes, and no refusal was answered yet.
 pub record IsDrivable (s : SessionState) : Type 0 where
@@ -61,13 +61,13 @@ Refuses now s e = (s.trouble ≡ Some e) ⊎ (IsDrained now × (s.trouble ≡ No
 
 -- A refusal that isn't out of memory is that of the session, and all that is to be sent was heard. At a yes it is the
 -- session's turn to receive.
-abbrev pub Explains : Option Talk → List ℕ → SessionState → Stop → Type 0
+abbrev pub Explains : Option Talk → List ℕ → SessionState → DriveError → Type 0
 Explains now heard s (stops.Refused e) = e ≢ wire.NoMemory → (heard ≡ s.outgoing) × Refuses now s e
 Explains now heard s stops.Failed = ⊤
 Explains now heard s stops.Interrupted = (heard ≡ s.outgoing) × IsWaiting s
 
 -- It broke off, and the peer heard a prefix of what is to be sent to one who says this.
-pub record Stops (answers : Bool) (old new : Option Talk) (s : SessionState) (e : Stop) : Type 0 where
+pub record Stops (answers : Bool) (old new : Option Talk) (s : SessionState) (e : DriveError) : Type 0 where
   pub heard : List ℕ
   pub said : List ℕ
   pub passed : Talks answers old new heard said
@@ -76,12 +76,12 @@ pub record Stops (answers : Bool) (old new : Option Talk) (s : SessionState) (e 
   pub why : Explains new heard (fed s said) e
 
 -- What driving a session gives: it is idle, or where it stopped.
-abbrev pub Drives : {T : Type 0} → Bool → Option Talk → Option Talk → SessionState → SessionState → Result T Stop → Type 0
+abbrev pub Drives : {T : Type 0} → Bool → Option Talk → Option Talk → SessionState → SessionState → Result T DriveError → Type 0
 Drives answers old new s now (Ok x) = Finishes answers old new s now
 Drives answers old new s now (Err e) = Stops answers old new s e
 
 -- Where out of memory is told, the session refuses for it, or something is still to be sent, or nothing happened.
-abbrev pub RunsOut : {T : Type 0} → SessionState → SessionState → Result T Stop → Type 0
+abbrev pub RunsOut : {T : Type 0} → SessionState → SessionState → Result T DriveError → Type 0
 RunsOut s now (Ok x) = ⊤
 RunsOut s now (Err (stops.Refused e)) = e ≡ wire.NoMemory → (now.trouble ≢ None) ⊎ ((now.outgoing ≢ []) ⊎ (now ≡ s))
 RunsOut s now (Err stops.Failed) = ⊤
@@ -90,7 +90,7 @@ RunsOut s now (Err stops.Interrupted) = ⊤
 -- The same, with the peer's count of faults and the interrupt's of yes answers: neither falls, each rose where its stop
 -- is told, and no Ok follows a yes. The interrupt was asked once before each receive.
 pub record IsDriven {T : Type 0} (answers : Bool) (old new : Option Talk) (s now : SessionState) (faults faults' yes yes' : Faults)
-    (will will' : ℕ → Type 0) (result : Result T Stop) : Type 0 where
+    (will will' : ℕ → Type 0) (result : Result T DriveError) : Type 0 where
   pub driven : Drives answers old new s now result
   pub memory : RunsOut s now result
   pub peer : BlamesPeer faults faults' (is_told is_failed result)
@@ -99,19 +99,19 @@ pub record IsDriven {T : Type 0} (answers : Bool) (old new : Option Talk) (s now
 -- ---- one step
 
 -- a fault of the peer, or out of memory
-abbrev pub IsUnsent : Stop → Type 0
+abbrev pub IsUnsent : DriveError → Type 0
 IsUnsent (stops.Refused e) = e ≡ wire.NoMemory
 IsUnsent stops.Failed = ⊤
 IsUnsent stops.Interrupted = ⊥
 
 -- A piece came that isn't empty, and was fed; or it is refused, or the end of the peer's bytes is.
-abbrev pub Takes : {T : Type 0} → Option Talk → Option Talk → SessionState → SessionState → Result T Stop → Type 0
+abbrev pub Takes : {T : Type 0} → Option Talk → Option Talk → SessionState → SessionState → Result T DriveError → Type 0
 Takes old new s now (Ok x) = (piece : List ℕ) × (0 < length piece) × Talks false old new [] piece × IsAlike now (fed s piece)
 Takes old new s now (Err e) = (piece : List ℕ) × Talks false old new [] piece
     × (Explains new [] (fed s piece) e ⊎ ((piece ≡ []) × Explains new [] s e))
 
 -- one receive is made, and none where the interrupt says yes
-abbrev pub made_by : {T : Type 0} → Result T Stop → List Receive
+abbrev pub made_by : {T : Type 0} → Result T DriveError → List Receive
 made_by (Ok x) = at_once ∷ []
 made_by (Err (stops.Refused e)) = at_once ∷ []
 made_by (Err stops.Failed) = at_once ∷ []

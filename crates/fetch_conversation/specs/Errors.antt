@@ -6,8 +6,8 @@ use Rattle.fetch_update.specs.declared.update.Error.{Error as UpdateError}
 use Rattle.fetch_update.specs.declared.update.Error.TheVariants as update
 use Rattle.fetch_wire.specs.declared.error.WireError.{WireError}
 use Rattle.fetch_wire.specs.declared.error.WireError.TheVariants as wire
-use Rattle.fetch_conversation.specs.declared.drive.Stop.{Stop}
-use Rattle.fetch_conversation.specs.declared.drive.Stop.TheVariants as stops
+use Rattle.fetch_conversation.specs.declared.drive.DriveError.{DriveError}
+use Rattle.fetch_conversation.specs.declared.drive.DriveError.TheVariants as stops
 use Rattle.fetch_conversation.specs.declared.fetch.Error.{Error as ReceiveError}
 use Rattle.fetch_conversation.specs.declared.fetch.Error.TheVariants as fetch
 use Rattle.fetch_conversation.specs.declared.prepare.Error.{Error as PrepareError}
@@ -46,25 +46,25 @@ prepare_of_wire e = prepare.RefMap (ref_map.Handshake e)
 -- ---- why a session was driven no further
 
 -- why a session stopped, as a refusal of the preparation
-abbrev pub prepare_of_stop : Stop → PrepareError
+abbrev pub prepare_of_stop : DriveError → PrepareError
 prepare_of_stop (stops.Refused e) = prepare_of_wire e
 prepare_of_stop stops.Failed = prepare.RefMap ref_map.Transport
 prepare_of_stop stops.Interrupted = prepare.RefMap ref_map.Interrupted
 
 -- why a session stopped, as a refusal of the fetch
-abbrev pub fetch_of_stop : Stop → ReceiveError
+abbrev pub fetch_of_stop : DriveError → ReceiveError
 fetch_of_stop (stops.Refused e) = fetch_of_wire e
 fetch_of_stop stops.Failed = fetch.Client
 fetch_of_stop stops.Interrupted = fetch.Interrupted
 
 -- a fault of the peer
-abbrev pub is_failed : Stop → Bool
+abbrev pub is_failed : DriveError → Bool
 is_failed (stops.Refused e) = false
 is_failed stops.Failed = true
 is_failed stops.Interrupted = false
 
 -- a yes of the interrupt
-abbrev pub is_yes : Stop → Bool
+abbrev pub is_yes : DriveError → Bool
 is_yes (stops.Refused e) = false
 is_yes stops.Failed = false
 is_yes stops.Interrupted = true

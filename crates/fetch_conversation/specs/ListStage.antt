@@ -16,10 +16,10 @@ use Rattle.fetch_wire.specs.References.{name_in}
 use Rattle.fetch_wire.specs.Requests.{first_line, listing_lines}
 use Rattle.fetch_wire.specs.SessionStates.{error_of, listing_feature, turn_of, kind_of}
 use Rattle.fetch_wire.specs.Written.{first_too_long}
-use Rattle.fetch_wire.specs.declared.replies.awaited.Await.TheVariants as awaits
-use Rattle.fetch_wire.specs.declared.replies.awaited.Fault.{Fault}
-use Rattle.fetch_wire.specs.declared.replies.awaited.Told.{Told}
-use Rattle.fetch_wire.specs.declared.replies.awaited.Told.TheVariants as told
+use Rattle.fetch_wire.specs.declared.replies.reply.ReplyKind.TheVariants as awaits
+use Rattle.fetch_wire.specs.declared.replies.reply.ReplyError.{ReplyError}
+use Rattle.fetch_wire.specs.declared.replies.reply.ParsedReply.{ParsedReply}
+use Rattle.fetch_wire.specs.declared.replies.reply.ParsedReply.TheVariants as told
 use Rattle.fetch_wire.specs.declared.error.WireError.{WireError}
 use Rattle.fetch_wire.specs.declared.error.WireError.TheVariants as wire
 use Rattle.fetch_wire.specs.declared.greetings.handshake.Handshake.{Handshake}
@@ -35,7 +35,7 @@ use Rattle.fetch_conversation.specs.declared.ref_map.Error.TheVariants as ref_ma
 use Rattle.fetch_conversation.specs.declared.ref_map.Options.{Options}
 
 -- what is asked: the server's address and who asks, the remote's refspecs, what is done with tags, and the options
-pub record InquiryValue : Type 0 where
+pub record LsRefsValue : Type 0 where
   pub address : List ℕ
   pub agent : List ℕ
   pub specs : List Spec
@@ -58,16 +58,16 @@ with_spec (Some spec) extra = if list_any is_tag_spec extra then extra else extr
 abbrev pub with_tags : Tags → List Spec → List Spec
 with_tags tags extra = with_spec (tag_spec_of tags) extra
 
--- the extra refspecs of an inquiry, with that of the tags
-abbrev pub extra_specs : InquiryValue → List Spec
+-- the extra refspecs of an query, with that of the tags
+abbrev pub extra_specs : LsRefsValue → List Spec
 extra_specs q = with_tags q.tags q.options.extra_refspecs
 
 -- the refspecs of the remote, then the extra ones
-abbrev pub all_specs : InquiryValue → List Spec
+abbrev pub all_specs : LsRefsValue → List Spec
 all_specs q = q.specs ++ extra_specs q
 
 -- the prefixes that the listing is asked for: none where it isn't filtered
-abbrev pub prefixes_asked : InquiryValue → List (List ℕ)
+abbrev pub prefixes_asked : LsRefsValue → List (List ℕ)
 prefixes_asked q = if q.options.prefix_from_spec_as_filter_on_remote then prefixes_of (all_specs q) else []
 
 -- ---- refusals before anything is sent
@@ -86,15 +86,15 @@ abbrev pub too_long : ℕ → Error
 too_long length = handshaking (wire.LineTooLong length)
 
 -- what is wrong with a reply
-abbrev pub failed : ℕ → Fault → Error
+abbrev pub failed : ℕ → ReplyError → Error
 failed bound fault = handshaking (error_of bound fault)
 
 -- neither the remote nor the options name a refspec; the one of the tags doesn't count
-abbrev pub no_specs : InquiryValue → Option Error
+abbrev pub no_specs : LsRefsValue → Option Error
 no_specs q = if is_nil q.specs && is_nil q.options.extra_refspecs then Some errors.MissingRefSpecs else None
 
 -- address, parameters and agent hold neither a NUL nor a line feed
-abbrev pub unsendable : InquiryValue → Option Error
+abbrev pub unsendable : LsRefsValue → Option Error
 unsendable q = option_map (λ (bad : List ℕ × ℕ). handshaking (wire.BadParameter bad.0 bad.1))
     (first_bad (texts_told q.address q.options.handshake_parameters q.agent))
 
@@ -106,7 +106,7 @@ unless None c = c
 unless (Some e) c = ends (Err e)
 
 -- the references with what they are mapped to
-abbrev pub map_of : InquiryValue → Handshake → List Ref → RefMap
+abbrev pub map_of : LsRefsValue → Handshake → List Ref → RefMap
 map_of q h refs = record {
   mappings = ref_mappings (length q.specs) (all_specs q) h.object_hash refs;
   refspecs = q.specs;
@@ -116,12 +116,12 @@ map_of q h refs = record {
 }
 
 -- what is listed, unless destinations have two sources
-abbrev pub mapped_unless : List Conflict → InquiryValue → Handshake → List Ref → Result ListedValue Error
+abbrev pub mapped_unless : List Conflict → LsRefsValue → Handshake → List Ref → Result ListedValue Error
 mapped_unless [] q h refs = Ok (record { ref_map = map_of q h refs; handshake = h })
 mapped_unless (c ∷ cs) q h refs = Err (errors.RefMap (ref_map.InitRefMap (c ∷ cs)))
 
 -- The references that were listed, mapped. Two different sources may not lead to one destination.
-unfoldable pub mapped : InquiryValue → Handshake → List Ref → Result ListedValue Error
+unfoldable pub mapped : LsRefsValue → Handshake → List Ref → Result ListedValue Error
 mapped q h refs = mapped_unless (conflicts_of (mappings_of (all_specs q) (map name_in refs) h.object_hash)) q h refs
 
 -- a reply of another kind than the one that is awaited; none tells it
@@ -129,7 +129,7 @@ abbrev pub other_reply : Error
 other_reply = handshaking (wire.Malformed 0)
 
 -- the end of the stage, by what the listing tells
-abbrev pub listed : InquiryValue → Handshake → Told → Conversation ListedValue Error
+abbrev pub listed : LsRefsValue → Handshake → ParsedReply → Conversation ListedValue Error
 listed q h (told.Listing refs) = ends (mapped q h refs)
 listed q h (told.Greeting other) = ends (Err other_reply)
 listed q h (told.Advertisement other refs) = ends (Err other_reply)
@@ -140,28 +140,28 @@ abbrev pub unlisted : Handshake → Option Error
 unlisted h = if offers listing_feature h.capabilities then None else Some (handshaking (wire.MissingFeature listing_feature))
 
 -- the listing request, and the listing; a line of the request that is too long comes before a server that doesn't list
-unfoldable pub listing : ℕ → InquiryValue → Handshake → Conversation ListedValue Error
+unfoldable pub listing : ℕ → LsRefsValue → Handshake → Conversation ListedValue Error
 listing bound q h =
     let lines = listing_lines h q.agent (prefixes_asked q) in
     asks_unless (first_too_long lines) too_long
     (unless (unlisted h) (asks lines (awaits.Listing h.object_hash) (failed bound) (λ t. listed q h t)))
 
 -- a server of version 1 lists in its greeting
-abbrev pub greeted : ℕ → InquiryValue → Told → Conversation ListedValue Error
+abbrev pub greeted : ℕ → LsRefsValue → ParsedReply → Conversation ListedValue Error
 greeted bound q (told.Greeting h) = listing bound q h
 greeted bound q (told.Advertisement h refs) = ends (mapped q h refs)
 greeted bound q (told.Listing refs) = ends (Err other_reply)
 greeted bound q (told.Reply reply) = ends (Err other_reply)
 
 -- the first line, the greeting, the listing request, and the listing
-unfoldable pub inquiry_stage : ℕ → InquiryValue → Conversation ListedValue Error
-inquiry_stage bound q =
+unfoldable pub ls_refs_stage : ℕ → LsRefsValue → Conversation ListedValue Error
+ls_refs_stage bound q =
     unless (unsendable q) (asking too_long (first_line q.address q.options.handshake_parameters ∷ []) awaits.Greeting (failed bound)
     (λ t. greeted bound q t))
 
 -- the whole stage: without a refspec nothing is asked
-unfoldable pub list_stage : ℕ → InquiryValue → Conversation ListedValue Error
-list_stage bound q = unless (no_specs q) (inquiry_stage bound q)
+unfoldable pub list_stage : ℕ → LsRefsValue → Conversation ListedValue Error
+list_stage bound q = unless (no_specs q) (ls_refs_stage bound q)
 
 -- ---- what the call answers
 

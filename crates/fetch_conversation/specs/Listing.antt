@@ -10,29 +10,29 @@ use Rattle.fetch_wire.specs.declared.greetings.handshake.Handshake.{Handshake}
 use Rattle.fetch_wire.specs.declared.lines.line.Line.{Line}
 use Rattle.fetch_wire.specs.declared.listings.reference.Ref.{Ref}
 use Rattle.fetch_conversation.specs.Errors.{is_free_listing}
-use Rattle.fetch_conversation.specs.ListStage.{InquiryValue, ListedValue, prefixes_asked, mapped, other_reply, shown, unsendable, is_nil}
+use Rattle.fetch_conversation.specs.ListStage.{LsRefsValue, ListedValue, prefixes_asked, mapped, other_reply, shown, unsendable, is_nil}
 use Rattle.fetch_conversation.specs.declared.listing.Listed.{Listed}
 use Rattle.fetch_conversation.specs.declared.prepare.Error.{Error}
 use Rattle.fetch_conversation.specs.declared.ref_map.Error.{Error as MapError}
 use Rattle.fetch_conversation.specs.declared.ref_map.Error.TheVariants as ref_map
 
--- the first line of an inquiry
-abbrev pub first_of : InquiryValue → Line
+-- the first line of an query
+abbrev pub first_of : LsRefsValue → Line
 first_of q = first_line q.address q.options.handshake_parameters
 
--- Nothing of the inquiry is refused before it is sent, and the session is its.
-pub record IsOpened (q : InquiryValue) (s : SessionState) : Type 0 where
+-- Nothing of the query is refused before it is sent, and the session is its.
+pub record IsOpened (q : LsRefsValue) (s : SessionState) : Type 0 where
   pub sendable : unsendable q ≡ None
   pub fits : first_too_long (first_of q ∷ []) ≡ None
   pub is : s ≡ opened q.options.max_reply_bytes q.agent (prefixes_asked q) (first_of q)
 
--- why the inquiry can't be sent
-abbrev pub TellsUnopened : InquiryValue → WireError → Type 0
+-- why the query can't be sent
+abbrev pub TellsUnopened : LsRefsValue → WireError → Type 0
 TellsUnopened q e = TellsUnsent (first_bad (texts_told q.address q.options.handshake_parameters q.agent))
     (first_too_long (first_of q ∷ [])) e
 
 -- what is found, once greeting and references are there
-abbrev pub found_in : InquiryValue → Option Handshake → Option (List Ref) → Result ListedValue Error
+abbrev pub found_in : LsRefsValue → Option Handshake → Option (List Ref) → Result ListedValue Error
 found_in q None refs = Err other_reply
 found_in q (Some h) None = Err other_reply
 found_in q (Some h) (Some refs) = mapped q h refs
@@ -46,6 +46,6 @@ TellsConflicts found (ref_map.InitRefMap conflicts) = (found ≡ conflicts) × (
 TellsConflicts found ref_map.NoMemory = ⊤
 
 -- What a session was told is mapped, or refused. It hands its references over.
-abbrev pub Answers : InquiryValue → SessionState → Result Listed Error → Type 0
+abbrev pub Answers : LsRefsValue → SessionState → Result Listed Error → Type 0
 Answers q s (Ok l) = (found_in q s.handshake s.refs ≡ Ok (shown l)) × (l.session ≡ record s { refs = None })
 Answers q s (Err e) = is_free_listing e ≡ false → found_in q s.handshake s.refs ≡ Err e

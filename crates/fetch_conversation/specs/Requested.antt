@@ -10,7 +10,7 @@ use Rattle.fetch_negotiate.specs.Rounds.{AreRounds}
 use Rattle.fetch_negotiate.specs.Windows.{first_size}
 use Rattle.fetch_negotiate.specs.declared.algorithm.Round.{Round}
 use Rattle.fetch_conversation.specs.ConverseStage.{algorithm_in}
-use Rattle.fetch_conversation.specs.Exchange.{TermsValue, asked_by, haves_told}
+use Rattle.fetch_conversation.specs.Exchange.{FetchArgumentsValue, asked_by, haves_told}
 
 -- The requests of rounds, one after another. Each has the ids acknowledged before it, in the order in which each first
 -- was, and then its window; and `done` where its round has that.
@@ -25,7 +25,7 @@ AreOpen [] = ⊤
 AreOpen (r ∷ rounds) = (rounds ≢ [] → r.done ≡ false) × AreOpen rounds
 
 -- These lines are the requests of these rounds, of which each tells the next window of the settings' algorithm.
-pub record TellsRounds (g : Graph) (t : TermsValue) (sent : List Line) (rounds : List Round) : Type 0 where
+pub record TellsRounds (g : Graph) (t : FetchArgumentsValue) (sent : List Line) (rounds : List Round) : Type 0 where
   pub are : AreRounds g (algorithm_in t.settings) first_size (begun (algorithm_in t.settings) t.view.tips t.view.border) rounds
   pub going : AreOpen rounds
   pub lines : sent ≡ requests_of (asked_by t) [] rounds

@@ -11,41 +11,41 @@ use Rattle.fetch_negotiate.specs.Windows.{Window, window_of, first_size, next_si
 use Rattle.fetch_negotiate.specs.declared.algorithm.Algorithm.{Algorithm}
 use Rattle.fetch_negotiate.specs.declared.algorithm.Round.{Round}
 use Rattle.fetch_conversation.specs.Conversation.{Conversation, ends, and_then}
-use Rattle.fetch_conversation.specs.Exchange.{TermsValue, haves_told, other_reply, exchange}
+use Rattle.fetch_conversation.specs.Exchange.{FetchArgumentsValue, haves_told, other_reply, exchange}
 use Rattle.fetch_conversation.specs.declared.conversing.View.{View}
 use Rattle.fetch_conversation.specs.declared.fetch.Error.{Error}
 
 -- How far the rounds are: the negotiation, the ids that were acknowledged, each once, the rounds that were held, and how many
 -- commits the next window may have.
-pub record CourseValue : Type 0 where
+pub record RoundsStateValue : Type 0 where
   pub so_far : Negotiation
   pub shared : List ObjectId
   pub rounds : List Round
   pub size : ℕ
 
 -- before the first round
-abbrev pub first_course : Algorithm → View → CourseValue
-first_course algorithm view = record { so_far = begun algorithm view.tips view.border; shared = []; rounds = []; size = first_size }
+abbrev pub first_rounds_state : Algorithm → View → RoundsStateValue
+first_rounds_state algorithm view = record { so_far = begun algorithm view.tips view.border; shared = []; rounds = []; size = first_size }
 
 -- the window of the next round
-abbrev pub next_window : Graph → Algorithm → CourseValue → Window
+abbrev pub next_window : Graph → Algorithm → RoundsStateValue → Window
 next_window g algorithm c = window_of g algorithm c.size c.so_far
 
 -- a window that isn't full, which ends the rounds
-abbrev pub is_short : CourseValue → Window → Bool
+abbrev pub is_short : RoundsStateValue → Window → Bool
 is_short c w = nat_lt (length w.haves) c.size
 
 -- the round of a window that was answered so
-abbrev pub round_of : CourseValue → Window → FetchReply → Round
+abbrev pub round_of : RoundsStateValue → Window → FetchReply → Round
 round_of c w reply = record { haves = w.haves; acknowledged = reply.acknowledged; done = is_short c w }
 
 -- the rounds with this one at the end
-abbrev pub rounds_with : CourseValue → Window → FetchReply → List Round
+abbrev pub rounds_with : RoundsStateValue → Window → FetchReply → List Round
 rounds_with c w reply = c.rounds ++ round_of c w reply ∷ []
 
 -- The negotiator is told what was acknowledged, and the next window is twice as large.
-abbrev pub course_after : Algorithm → CourseValue → Window → FetchReply → CourseValue
-course_after algorithm c w reply = record {
+abbrev pub rounds_state_after : Algorithm → RoundsStateValue → Window → FetchReply → RoundsStateValue
+rounds_state_after algorithm c w reply = record {
   so_far = sharing_all algorithm w.later reply.acknowledged;
   shared = each_once (c.shared ++ reply.acknowledged);
   rounds = rounds_with c w reply;
@@ -58,14 +58,14 @@ pub record Negotiated : Type 0 where
   pub reply : FetchReply
 
 -- The rounds end with a request that says `done`, and with a reply that is the last.
-abbrev pub is_end : CourseValue → Window → FetchReply → Bool
+abbrev pub is_end : RoundsStateValue → Window → FetchReply → Bool
 is_end c w reply = is_short c w || reply.last
 
 -- That many rounds at most, from here on. They are never used up where they are more than the stored objects.
-unfoldable pub negotiating : ℕ → ℕ → TermsValue → Graph → Algorithm → CourseValue → Conversation Negotiated Error
+unfoldable pub negotiating : ℕ → ℕ → FetchArgumentsValue → Graph → Algorithm → RoundsStateValue → Conversation Negotiated Error
 negotiating zero bound t g algorithm c = ends (Err other_reply)
 negotiating (suc more) bound t g algorithm c =
     let w : Window = next_window g algorithm c in
     and_then (exchange bound t (haves_told c.shared w.haves) (is_short c w)) (λ reply.
     if is_end c w reply then ends (Ok (record { rounds = rounds_with c w reply; reply = reply }))
-    else negotiating more bound t g algorithm (course_after algorithm c w reply))
+    else negotiating more bound t g algorithm (rounds_state_after algorithm c w reply))

@@ -4,9 +4,9 @@ use Rattle.std.specs.List.{AllByRecursion, flat_map}
 use Rattle.fetch_wire.specs.Awaited.{told_at}
 use Rattle.fetch_wire.specs.Talks.{Talk, IsFront}
 use Rattle.fetch_wire.specs.Written.{lines_text}
-use Rattle.fetch_wire.specs.declared.replies.awaited.Fault.{Fault}
-use Rattle.fetch_wire.specs.declared.replies.awaited.Fault.TheVariants.{Short}
-use Rattle.fetch_wire.specs.declared.replies.awaited.Told.{Told}
+use Rattle.fetch_wire.specs.declared.replies.reply.ReplyError.{ReplyError}
+use Rattle.fetch_wire.specs.declared.replies.reply.ReplyError.TheVariants.{Short}
+use Rattle.fetch_wire.specs.declared.replies.reply.ParsedReply.{ParsedReply}
 use Rattle.fetch_wire.specs.declared.lines.line.Line.{Line}
 use Rattle.fetch_conversation.specs.Conversation.{Conversation, ends, asks, after_reply}
 
@@ -19,7 +19,7 @@ answer_with bound serve (asks lines awaited failed next) =
 -- All that it asks are requests of this kind, whatever it is told.
 unfoldable pub AsksOnly : {X E : Type 0} → (List Line → Bool) → Conversation X E → Type 0
 AsksOnly is_request (ends answer) = ⊤
-AsksOnly is_request (asks lines awaited failed next) = IsTrue (is_request lines) × ((told : Told) → AsksOnly is_request (next told))
+AsksOnly is_request (asks lines awaited failed next) = IsTrue (is_request lines) × ((told : ParsedReply) → AsksOnly is_request (next told))
 
 -- requests, one after another
 abbrev pub requests_text : List (List Line) → List ℕ
@@ -42,7 +42,8 @@ abbrev pub IsOver : {X E : Type 0} → Conversation X E → Type 0
 IsOver {X} c = (answer : Result X _) × (c ≡ ends answer)
 
 -- A reply is read to its end, or it is read in part and no more is asked, or it breaks whatever comes after.
-abbrev pub IsReadWhole : {X E : Type 0} → (Told → Type 0) → (Told → Conversation X E) → Result (Told × List ℕ) Fault → Type 0
+abbrev pub IsReadWhole : {X E : Type 0} → (ParsedReply → Type 0) → (ParsedReply → Conversation X E)
+    → Result (ParsedReply × List ℕ) ReplyError → Type 0
 IsReadWhole again next (Err fault) = (place : ℕ) → fault ≢ Short place
 IsReadWhole again next (Ok x) = ((x.1 ≡ []) × again x.0) ⊎ IsOver (next x.0)
 

@@ -7,7 +7,7 @@ ghost use Rattle.fetch_store.specs.Collisions.{HasDistinctIds};
 ghost use Rattle.fetch_store.specs.Stores.{AreOf};
 ghost use Rattle.fetch_conversation.specs.Conversation.{Converses};
 ghost use Rattle.fetch_conversation.specs.ConverseStage.{converse_stage};
-ghost use Rattle.fetch_conversation.specs.Conversing.{IsClear, IsRefusal, IsOwn, terms_told};
+ghost use Rattle.fetch_conversation.specs.Conversing.{IsClear, IsRefusal, IsOwn, arguments_told};
 ghost use Rattle.fetch_conversation.specs.Errors.{is_free_receiving, is_client, is_stopped, asks_nothing};
 ghost use Rattle.fetch_conversation.specs.ListStage.{IsReady, shown, pending_of};
 ghost use Rattle.fetch_conversation.specs.declared.fetch.Error.TheVariants as errors;
@@ -87,7 +87,7 @@ impl Received {
 
 /// What a pack is asked for by, lent. Who asks, and with how many threads the pack is read, the settings say.
 #[derive(Clone, Copy)]
-pub struct Terms<'a> {
+pub struct FetchArguments<'a> {
     /// What is read of the repository: its hash, and its configuration with agent and algorithm.
     pub settings: &'a Settings,
     /// What is wanted, with the repository's border and tips.
@@ -101,15 +101,24 @@ pub struct Terms<'a> {
 }
 
 /// Refuses before anything is sent.
-fn refuse(alloc: Global, listed: &Listed, terms: &Terms<'_>) -> Result<(), fetch::Error>
-    ensures clear { OnOk result (IsClear (terms_told (shown listed.now) terms.now)) }
-    ensures refused { IfErr result (λ e. IsRefusal (terms_told (shown listed.now) terms.now) e) }
+fn refuse(
+    alloc: Global,
+    listed: &Listed,
+    arguments: &FetchArguments<'_>,
+) -> Result<(), fetch::Error>
+    ensures clear { OnOk result (IsClear (arguments_told (shown listed.now) arguments.now)) }
+    ensures refused { IfErr result (λ e. IsRefusal (arguments_told (shown listed.now) arguments.now) e) }
     ensures own { IfErr result (λ e. IsOwn e) }
 {
     refuse_unmapped(alloc, &listed.ref_map)?;
-    refuse_other_hash(terms.settings.kind, listed.handshake.object_hash)?;
-    refuse_settings(alloc, terms.settings)?;
-    refuse_lacking(alloc, &listed.handshake, &terms.view.border, terms.shallow)
+    refuse_other_hash(arguments.settings.kind, listed.handshake.object_hash)?;
+    refuse_settings(alloc, arguments.settings)?;
+    refuse_lacking(
+        alloc,
+        &listed.handshake,
+        &arguments.view.border,
+        arguments.shallow,
+    )
 }
 
 /// Asks for the pack of what is wanted, in rounds that tell which commits are there, and reads it. Where nothing is
@@ -122,7 +131,7 @@ pub fn converse<R: Threads + Sync, P: Peer, I: Interrupt, Q: Progress, O: Object
     rt: &R,
     alloc: Global,
     listed: &mut Listed,
-    terms: &Terms<'_>,
+    arguments: &FetchArguments<'_>,
     objects: &O,
     peer: &mut P,
     progress: &mut Q,
@@ -131,7 +140,7 @@ pub fn converse<R: Threads + Sync, P: Peer, I: Interrupt, Q: Progress, O: Object
     requires { IsReady listed.old }
     ensures held { Converses is_free_receiving is_stopped P.answers listed.old.session.intake.bound (P.told peer.old) (P.told peer.new)
         (pending_of listed.old) (pending_of listed.new)
-        (converse_stage listed.old.session.intake.bound (O.graph objects.now) (terms_told (shown listed.old) terms.now)) result }
+        (converse_stage listed.old.session.intake.bound (O.graph objects.now) (arguments_told (shown listed.old) arguments.now)) result }
     ensures of_kind { IfOk result (λ found. IfSome found (λ r. AreOf listed.old.handshake.object_hash r.objects)) }
     ensures distinct { IfOk result (λ found. IfSome found (λ r. HasDistinctIds r.objects)) }
     ensures kept { shown listed.new ≡ shown listed.old }
@@ -140,14 +149,14 @@ pub fn converse<R: Threads + Sync, P: Peer, I: Interrupt, Q: Progress, O: Object
     ensures interrupt { BlamesInterrupt (I.yes interrupt.old) (I.yes interrupt.new) (I.will_stop interrupt.old) (I.will_stop interrupt.new)
         (P.told peer.old) (P.told peer.new) (last_question is_stopped result) }
 {
-    refuse(alloc, listed, terms)?;
-    if terms.view.wants.is_empty() {
+    refuse(alloc, listed, arguments)?;
+    if arguments.view.wants.is_empty() {
         return Ok(None);
     }
-    let negotiate = negotiate(alloc, listed, terms, objects, peer, interrupt, progress)?;
+    let negotiate = negotiate(alloc, listed, arguments, objects, peer, interrupt, progress)?;
     let Some(reply) = listed.session.take_reply() else {
         unreachable!()
     };
-    let received = received(rt, alloc, listed, terms, negotiate, &reply)?;
+    let received = received(rt, alloc, listed, arguments, negotiate, &reply)?;
     Ok(Some(received))
 }

@@ -4,7 +4,7 @@ ghost use Rattle.std.specs.Prelude.{◌≡◌, ◌≢◌, ◌<◌, [], false, No
 ghost use Rattle.fetch_conversation.specs.Blame.{BlamesPeer, BlamesInterrupt, is_told};
 ghost use Rattle.fetch_conversation.specs.Receiving.{last_question};
 ghost use Rattle.fetch_conversation.specs.Drives.{IsDrivable, Drives, IsDriven, IsUnsent, RunsOut, Takes, made_by};
-ghost use Rattle.fetch_conversation.specs.declared.drive.Stop.TheVariants as stops;
+ghost use Rattle.fetch_conversation.specs.declared.drive.DriveError.TheVariants as stops;
 ghost use Rattle.fetch_wire.specs.declared.error.WireError.TheVariants as wire;
 ghost use Rattle.fetch_conversation.specs.Errors.{is_failed, is_yes};
 ghost use Rattle.fetch_wire.specs.SessionStates.{turn_of, IsAwaiting};
@@ -21,7 +21,7 @@ const PIECE: usize = 65_536;
 
 /// Why a session was driven no further.
 #[derive(Debug, Drop)]
-pub(crate) enum Stop {
+pub(crate) enum DriveError {
     /// What the peer says is refused, or memory ran out.
     Refused(WireError),
     /// The peer failed.
@@ -30,19 +30,19 @@ pub(crate) enum Stop {
     Interrupted,
 }
 
-impl From<WireError> for Stop {
+impl From<WireError> for DriveError {
     ghost use Rattle.std.specs.Prelude.{◌≡◌};
-    ghost use Rattle.fetch_conversation.specs.declared.drive.Stop.TheVariants as stops;
+    ghost use Rattle.fetch_conversation.specs.declared.drive.DriveError.TheVariants as stops;
 
     ghost from_gives = { λ e s. s ≡ stops.Refused e };
 
-    fn from(e: WireError) -> Stop {
-        Stop::Refused(e)
+    fn from(e: WireError) -> DriveError {
+        DriveError::Refused(e)
     }
 }
 
 /// Sends what is to be sent.
-fn send<P: Peer>(session: &mut Session, peer: &mut P) -> Result<(), Stop>
+fn send<P: Peer>(session: &mut Session, peer: &mut P) -> Result<(), DriveError>
     ensures session { OnOk result (session.new ≡ record session.old { outgoing = [] }) }
     ensures unsent { OnErr result (session.new ≡ session.old) }
     ensures talk { Sends P.answers (P.told peer.old) (P.told peer.new) result session.old.outgoing }
@@ -55,8 +55,8 @@ fn send<P: Peer>(session: &mut Session, peer: &mut P) -> Result<(), Stop>
             session.sent(session.outgoing().len());
             Ok(())
         }
-        Err(SendFault::Failed) => Err(Stop::Failed),
-        Err(SendFault::NoMemory) => Err(Stop::Refused(WireError::NoMemory)),
+        Err(SendFault::Failed) => Err(DriveError::Failed),
+        Err(SendFault::NoMemory) => Err(DriveError::Refused(WireError::NoMemory)),
     }
 }
 
@@ -66,7 +66,7 @@ fn receive<P: Peer, I: Interrupt>(
     peer: &mut P,
     interrupt: &mut I,
     buffer: &mut [u8],
-) -> Result<(), Stop>
+) -> Result<(), DriveError>
     requires turn { turn_of session.old ≡ turns.Receive }
     requires awaits { IsAwaiting session.old }
     requires unrefused { session.old.refused ≡ false }
@@ -79,10 +79,10 @@ fn receive<P: Peer, I: Interrupt>(
         (P.told peer.old) (P.told peer.new) (last_question is_yes result) }
 {
     if interrupt.asked() {
-        return Err(Stop::Interrupted);
+        return Err(DriveError::Interrupted);
     }
     let Ok(count) = peer.receive(buffer) else {
-        return Err(Stop::Failed);
+        return Err(DriveError::Failed);
     };
     if count == 0 {
         session.end()?;
@@ -120,7 +120,7 @@ fn take_turns<P: Peer, I: Interrupt, Q: Progress>(
     progress: &mut Q,
     told: &mut usize,
     buffer: &mut [u8],
-) -> Result<(), Stop>
+) -> Result<(), DriveError>
     requires drivable { IsDrivable session.old }
     requires room { 0 < length buffer.old }
     ensures { IsDriven P.answers (P.told peer.old) (P.told peer.new) session.old session.new (P.faults peer.old) (P.faults peer.new)
@@ -145,7 +145,7 @@ pub(crate) fn drive<P: Peer, I: Interrupt, Q: Progress>(
     interrupt: &mut I,
     progress: &mut Q,
     buffer: &mut [u8],
-) -> Result<(), Stop>
+) -> Result<(), DriveError>
     requires drivable { IsDrivable session.old }
     requires room { 0 < length buffer.old }
     ensures driven { Drives P.answers (P.told peer.old) (P.told peer.new) session.old session.new result }

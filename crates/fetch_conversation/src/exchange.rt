@@ -4,7 +4,7 @@ ghost use Rattle.std.specs.Prelude.{◌≡◌, ◌<◌, IfErr, OnOk, true, false
 ghost use Rattle.fetch_conversation.specs.Blame.{BlamesPeer, BlamesInterrupt, is_told};
 ghost use Rattle.fetch_conversation.specs.Receiving.{last_question};
 ghost use Rattle.fetch_conversation.specs.Conversation.{Converses};
-ghost use Rattle.fetch_conversation.specs.Conversing.{IsAsked, reply_of, terms_told};
+ghost use Rattle.fetch_conversation.specs.Conversing.{IsAsked, reply_of, arguments_told};
 ghost use Rattle.fetch_conversation.specs.Errors.{is_free_receiving, is_client, is_stopped, is_unasked};
 ghost use Rattle.fetch_conversation.specs.Exchange as spec;
 ghost use Rattle.fetch_conversation.specs.Exchange.{asked_by, haves_told};
@@ -13,7 +13,7 @@ ghost use Rattle.fetch_conversation.specs.declared.fetch.Error.TheVariants as er
 ghost use Rattle.fetch_negotiate.specs.Requests.{fetch_request};
 ghost use Rattle.fetch_wire.specs.Written.{first_too_long, TellsTooLong};
 
-use crate::conversing::Terms;
+use crate::conversing::FetchArguments;
 use crate::drive::drive;
 use crate::fetch;
 use crate::listing::Listed;
@@ -28,31 +28,31 @@ use std::alloc::Global;
 fn ask(
     alloc: Global,
     listed: &mut Listed,
-    terms: &Terms<'_>,
+    arguments: &FetchArguments<'_>,
     shared: &[ObjectId],
     round: &Round,
 ) -> Result<(), WireError>
     requires { IsReady listed.old }
-    ensures asked { OnOk result (IsAsked (terms_told (shown listed.old) terms.now)
+    ensures asked { OnOk result (IsAsked (arguments_told (shown listed.old) arguments.now)
         (haves_told shared.now round.now.haves) round.now.done listed.old.session listed.new.session) }
     ensures too_long { IfErr result (λ e. TellsTooLong
-        (first_too_long (fetch_request (asked_by (terms_told (shown listed.old) terms.now))
+        (first_too_long (fetch_request (asked_by (arguments_told (shown listed.old) arguments.now))
         (haves_told shared.now round.now.haves) round.now.done)) e) }
     ensures kept { shown listed.new ≡ shown listed.old }
 {
     let request = request_of(
         alloc,
         &listed.handshake,
-        agent(terms.settings),
-        terms.tags,
-        terms.shallow,
-        &terms.view.border,
-        terms.view.wants.as_slice(),
+        agent(arguments.settings),
+        arguments.tags,
+        arguments.shallow,
+        &arguments.view.border,
+        arguments.view.wants.as_slice(),
         shared,
         round.haves.as_slice(),
         round.done,
     )?;
-    listed.session.request(&request, !terms.dry_run)
+    listed.session.request(&request, !arguments.dry_run)
 }
 
 /// Asks for the pack in a round, and reads the reply by this buffer. The session keeps it where nothing is refused, and the
@@ -60,7 +60,7 @@ fn ask(
 // Many arguments: each is lent by itself, so that a clause speaks of each before and after the call.
 pub(crate) fn exchange<P: Peer, I: Interrupt, Q: Progress>(
     listed: &mut Listed,
-    terms: &Terms<'_>,
+    arguments: &FetchArguments<'_>,
     shared: &[ObjectId],
     round: &Round,
     peer: &mut P,
@@ -72,7 +72,7 @@ pub(crate) fn exchange<P: Peer, I: Interrupt, Q: Progress>(
     requires room { 0 < length buffer.old }
     ensures held { Converses is_free_receiving is_stopped P.answers listed.old.session.intake.bound (P.told peer.old) (P.told peer.new)
         (pending_of listed.old) (pending_of listed.new)
-        (spec.exchange listed.old.session.intake.bound (terms_told (shown listed.old) terms.now)
+        (spec.exchange listed.old.session.intake.bound (arguments_told (shown listed.old) arguments.now)
         (haves_told shared.now round.now.haves) round.now.done) (reply_of result listed.new.session.reply) }
     ensures replied { OnOk result (is_some listed.new.session.reply ≡ true) }
     ensures asked { IfErr result (λ e. is_unasked e ≡ false) }
@@ -84,7 +84,7 @@ pub(crate) fn exchange<P: Peer, I: Interrupt, Q: Progress>(
         (P.told peer.old) (P.told peer.new) (last_question is_stopped result) }
 {
     let alloc = round.haves.allocator();
-    ask(alloc, listed, terms, shared, round)?;
+    ask(alloc, listed, arguments, shared, round)?;
     drive(&mut listed.session, peer, interrupt, progress, buffer)?;
     Ok(())
 }

@@ -1,6 +1,6 @@
 //! Why a fetch request, or what was received, had no effect.
 
-use crate::drive::Stop;
+use crate::drive::DriveError;
 use fetch_pack::PackError;
 use fetch_specs::RefSpec;
 use fetch_store::{Kind, List, Missing, NoMemory, ObjectId, Text};
@@ -208,17 +208,17 @@ impl From<NoMemory> for Error {
     }
 }
 
-impl From<Stop> for Error {
+impl From<DriveError> for Error {
     ghost use Rattle.std.specs.Prelude.{◌≡◌};
     ghost use Rattle.fetch_conversation.specs.Errors.{fetch_of_stop};
 
     ghost from_gives = { λ e f. f ≡ fetch_of_stop e };
 
-    fn from(e: Stop) -> Error {
+    fn from(e: DriveError) -> Error {
         match e {
-            Stop::Refused(e) => Error::from(e),
-            Stop::Failed => Error::Client,
-            Stop::Interrupted => Error::Interrupted,
+            DriveError::Refused(e) => Error::from(e),
+            DriveError::Failed => Error::Client,
+            DriveError::Interrupted => Error::Interrupted,
         }
     }
 }

@@ -13,10 +13,10 @@ ghost use Rattle.fetch_wire.specs.declared.greetings.handshake.Capability.{Capab
 ghost use Rattle.fetch_wire.specs.declared.listings.reference.Ref.{Ref};
 ghost use Rattle.fetch_conversation.specs.Conversation.{Conversation, Concludes, Breaks, HasValidReplies, sent_in, answer_in};
 ghost use Rattle.fetch_conversation.specs.ConverseStage.{converse_stage, with_pack};
-ghost use Rattle.fetch_conversation.specs.Exchange.{TermsValue};
-ghost use Rattle.fetch_conversation.specs.ListStage.{InquiryValue, list_stage, map_of};
+ghost use Rattle.fetch_conversation.specs.Exchange.{FetchArgumentsValue};
+ghost use Rattle.fetch_conversation.specs.ListStage.{LsRefsValue, list_stage, map_of};
 ghost use Rattle.fetch_conversation.specs.Requested.{TellsRounds};
-ghost use Rattle.fetch_conversation.specs.Rounds.{first_course, negotiating};
+ghost use Rattle.fetch_conversation.specs.Rounds.{first_rounds_state, negotiating};
 ghost use Rattle.fetch_conversation.specs.declared.conversing.Received.{Received};
 ghost use Rattle.fetch_conversation.specs.declared.conversing.View.{View};
 ghost use Rattle.fetch_conversation.specs.Served.{answer_with, AsksOnly, Serves, IsAnswered, IsFresh, Follows};
@@ -45,9 +45,9 @@ pub fn valid_replies_are_never_refused<X, E>()
 /// it, in the order in which each first was, and then the next window of the algorithm, and has `done` exactly where that
 /// window isn't full; a request with `done` is the last. Where something is received, it tells these rounds.
 pub fn requests_tell_rounds()
-    ensures sent { (bound : ℕ) (g : Graph) (t : TermsValue) (stream : List ℕ) → (rounds : List Round)
+    ensures sent { (bound : ℕ) (g : Graph) (t : FetchArgumentsValue) (stream : List ℕ) → (rounds : List Round)
         × TellsRounds g t (sent_in bound (converse_stage bound g t) stream) rounds }
-    ensures received { (bound : ℕ) (g : Graph) (t : TermsValue) (stream : List ℕ) (r : Received) (rest : List ℕ)
+    ensures received { (bound : ℕ) (g : Graph) (t : FetchArgumentsValue) (stream : List ℕ) (r : Received) (rest : List ℕ)
         → answer_in bound (converse_stage bound g t) stream ≡ Ok (Some r, rest)
         → TellsRounds g t (sent_in bound (converse_stage bound g t) stream) r.negotiate.rounds }
 {}
@@ -55,22 +55,23 @@ pub fn requests_tell_rounds()
 /// As many rounds as there are stored objects, and one, are never used up: were more allowed, the same would be sent and
 /// answered.
 pub fn rounds_are_never_used_up()
-    ensures sent { (bound more : ℕ) (t : TermsValue) (g : Graph) (algorithm : Algorithm) (view : View) (stream : List ℕ)
-        → sent_in bound (negotiating (suc (map.len g) + more) bound t g algorithm (first_course algorithm view)) stream
-        ≡ sent_in bound (negotiating (suc (map.len g)) bound t g algorithm (first_course algorithm view)) stream }
-    ensures answered { (bound more : ℕ) (t : TermsValue) (g : Graph) (algorithm : Algorithm) (view : View) (stream : List ℕ)
-        → answer_in bound (negotiating (suc (map.len g) + more) bound t g algorithm (first_course algorithm view)) stream
-        ≡ answer_in bound (negotiating (suc (map.len g)) bound t g algorithm (first_course algorithm view)) stream }
+    ensures sent { (bound more : ℕ) (t : FetchArgumentsValue) (g : Graph) (algorithm : Algorithm) (view : View) (stream : List ℕ)
+        → sent_in bound (negotiating (suc (map.len g) + more) bound t g algorithm (first_rounds_state algorithm view)) stream
+        ≡ sent_in bound (negotiating (suc (map.len g)) bound t g algorithm (first_rounds_state algorithm view)) stream }
+    ensures answered { (bound more : ℕ) (t : FetchArgumentsValue) (g : Graph) (algorithm : Algorithm) (view : View) (stream : List ℕ)
+        → answer_in bound (negotiating (suc (map.len g) + more) bound t g algorithm (first_rounds_state algorithm view)) stream
+        ≡ answer_in bound (negotiating (suc (map.len g)) bound t g algorithm (first_rounds_state algorithm view)) stream }
 {}
 
 /// What a server writes is read to its end: its greeting and its references are listed, and its answers to the requests
 /// bring the pack, whatever comes after.
 pub fn what_a_server_writes_is_heard()
-    ensures listed { (bound : ℕ) (q : InquiryValue) (capabilities : List Capability) (refs : List Ref) (rest : List ℕ)
+    ensures listed { (bound : ℕ) (q : LsRefsValue) (capabilities : List Capability) (refs : List Ref) (rest : List ℕ)
         → IsAskable q (handshake_of capabilities) → IsListing bound q capabilities refs
         → answer_in bound (list_stage bound q) (listing_text capabilities refs ++ rest)
         ≡ Ok (record { ref_map = map_of q (handshake_of capabilities) refs; handshake = handshake_of capabilities }, rest) }
-    ensures received { (bound : ℕ) (g : Graph) (t : TermsValue) (a : Answer) (answers : List Answer) (contents : Contents) (rest : List ℕ)
+    ensures received { (bound : ℕ) (g : Graph) (t : FetchArgumentsValue) (a : Answer) (answers : List Answer) (contents : Contents)
+        (rest : List ℕ)
         → IsPacking bound t g a answers contents
         → answer_in bound (converse_stage bound g t) (answers_text a answers ++ rest)
         ≡ Ok (Some (with_pack (negotiated_in t g a answers) contents), rest) }

@@ -21,8 +21,8 @@ mod refusals;
 mod rounds;
 mod settings;
 
-pub use conversing::{Received, Terms, View, converse};
-pub use listing::{Inquiry, Listed, inquire, list};
+pub use conversing::{FetchArguments, Received, View, converse};
+pub use listing::{Listed, LsRefs, list, ls_refs};
 pub use negotiate::Negotiate;
 pub use progress::{NoProgress, Progress};
 pub use reading_settings::{agent, algorithm, rejects_shallow, threads};

@@ -5,7 +5,7 @@ ghost use Rattle.fetch_conversation.specs.Blame.{BlamesPeer, BlamesInterrupt, is
 ghost use Rattle.fetch_conversation.specs.Receiving.{last_question};
 ghost use Rattle.fetch_conversation.specs.Conversation.{Converses};
 ghost use Rattle.fetch_conversation.specs.Errors.{is_free_listing, is_transport, is_interrupted};
-ghost use Rattle.fetch_conversation.specs.ListStage.{InquiryValue, inquiry_stage, list_stage, answer_shown, left_by, IsReady, all_specs};
+ghost use Rattle.fetch_conversation.specs.ListStage.{LsRefsValue, ls_refs_stage, list_stage, answer_shown, left_by, IsReady, all_specs};
 ghost use Rattle.fetch_conversation.specs.ListStage.{with_tags, is_nil};
 ghost use Rattle.fetch_conversation.specs.Listing.{IsOpened, TellsUnopened, Answers};
 ghost use Rattle.fetch_wire.specs.SessionStates.{turn_of};
@@ -26,7 +26,7 @@ use std::alloc::Global;
 
 /// What a server is asked for its references, lent.
 #[derive(Clone, Copy, Debug)]
-pub struct Inquiry<'a> {
+pub struct LsRefs<'a> {
     /// Where the repository is on the server.
     pub address: &'a [u8],
     /// Who asks. `git/` is put before it where it lacks that.
@@ -49,34 +49,34 @@ pub struct Listed {
     pub handshake: Handshake,
 }
 
-/// A session that is opened for the inquiry.
+/// A session that is opened for the query.
 fn open(
     alloc: Global,
-    inquiry: &Inquiry<'_>,
+    query: &LsRefs<'_>,
     options: &Options,
     specs: &[RefSpec],
 ) -> Result<Session, WireError>
     requires { specs.now ≡ all_specs (record {
-      address = inquiry.now.address.now;
-      agent = inquiry.now.agent.now;
-      specs = inquiry.now.specs.now;
-      tags = inquiry.now.tags;
+      address = query.now.address.now;
+      agent = query.now.agent.now;
+      specs = query.now.specs.now;
+      tags = query.now.tags;
       options = options.now;
     }) }
     ensures opened { IfOk result (λ s. IsOpened
         (record {
-          address = inquiry.now.address.now;
-          agent = inquiry.now.agent.now;
-          specs = inquiry.now.specs.now;
-          tags = inquiry.now.tags;
+          address = query.now.address.now;
+          agent = query.now.agent.now;
+          specs = query.now.specs.now;
+          tags = query.now.tags;
           options = options.now;
         }) s) }
     ensures refused { IfErr result (λ e. TellsUnopened
         (record {
-          address = inquiry.now.address.now;
-          agent = inquiry.now.agent.now;
-          specs = inquiry.now.specs.now;
-          tags = inquiry.now.tags;
+          address = query.now.address.now;
+          agent = query.now.agent.now;
+          specs = query.now.specs.now;
+          tags = query.now.tags;
           options = options.now;
         }) e) }
 {
@@ -84,9 +84,9 @@ fn open(
     let prefixes = prefixes_for(alloc, filtered, specs)?;
     Session::new(
         alloc,
-        inquiry.address,
+        query.address,
         options.handshake_parameters.as_slice(),
-        inquiry.agent,
+        query.agent,
         &prefixes,
         options.max_reply_bytes,
     )
@@ -111,23 +111,23 @@ fn told(session: &mut Session) -> Result<(Handshake, List<Ref>), NoMemory>
 /// Maps what was listed.
 fn map_listed(
     alloc: Global,
-    inquiry: &Inquiry<'_>,
+    query: &LsRefs<'_>,
     options: &Options,
     session: Session,
     extra: Vec<RefSpec>,
     specs: &[RefSpec],
 ) -> Result<Listed, prepare::Error>
-    requires extra { extra.items ≡ with_tags inquiry.now.tags options.now.extra_refspecs }
-    requires specs { specs.now ≡ inquiry.now.specs.now ++ extra.items }
+    requires extra { extra.items ≡ with_tags query.now.tags options.now.extra_refspecs }
+    requires specs { specs.now ≡ query.now.specs.now ++ extra.items }
     requires idle { turn_of session ≡ turns.Idle }
     requires handshake { is_some session.handshake ≡ true }
     requires refs { is_some session.refs ≡ true }
     requires unrefused { session.refused ≡ false }
     ensures answer { Answers (record {
-      address = inquiry.now.address.now;
-      agent = inquiry.now.agent.now;
-      specs = inquiry.now.specs.now;
-      tags = inquiry.now.tags;
+      address = query.now.address.now;
+      agent = query.now.agent.now;
+      specs = query.now.specs.now;
+      tags = query.now.tags;
       options = options.now;
     }) session result }
     ensures ready { IfOk result (λ l. IsReady l) }
@@ -136,7 +136,7 @@ fn map_listed(
 {
     let mut session = session;
     let (handshake, refs) = told(&mut session)?;
-    let own = inquiry.specs;
+    let own = query.specs;
     let object_hash = handshake.object_hash;
     let mappings = map_refs(alloc, own.len(), specs, object_hash, refs.as_slice())?;
     let ref_map = RefMap {
@@ -160,30 +160,30 @@ fn are_none(specs: &[RefSpec]) -> bool
 }
 
 /// Whether neither the remote nor the options name a refspec.
-fn names_none(inquiry: &Inquiry<'_>, options: &Options) -> bool
-    ensures { result ≡ (is_nil inquiry.now.specs.now && is_nil options.now.extra_refspecs) }
+fn names_none(query: &LsRefs<'_>, options: &Options) -> bool
+    ensures { result ≡ (is_nil query.now.specs.now && is_nil options.now.extra_refspecs) }
 {
-    are_none(inquiry.specs) && are_none(options.extra_refspecs.as_slice())
+    are_none(query.specs) && are_none(options.extra_refspecs.as_slice())
 }
 
 /// Asks for the greeting, then for the listing, and maps what is listed, also where no refspec is named. The interrupt
 /// is asked once before each receive. `Transport` comes only where the peer's faults rose, and `Interrupted` only where
 /// the interrupt said yes; two sources of one destination are refused last.
-pub fn inquire<P: Peer, I: Interrupt>(
+pub fn ls_refs<P: Peer, I: Interrupt>(
     alloc: Global,
-    inquiry: &Inquiry<'_>,
+    query: &LsRefs<'_>,
     peer: &mut P,
     interrupt: &mut I,
     options: Options,
 ) -> Result<Listed, prepare::Error>
     ensures held { Converses is_free_listing is_interrupted P.answers options.max_reply_bytes (P.told peer.old) (P.told peer.new) []
         (left_by result)
-        (inquiry_stage options.max_reply_bytes
+        (ls_refs_stage options.max_reply_bytes
         (record {
-          address = inquiry.now.address.now;
-          agent = inquiry.now.agent.now;
-          specs = inquiry.now.specs.now;
-          tags = inquiry.now.tags;
+          address = query.now.address.now;
+          agent = query.now.agent.now;
+          specs = query.now.specs.now;
+          tags = query.now.tags;
           options = options;
         })) (answer_shown result) }
     ensures ready { IfOk result (λ l. IsReady l) }
@@ -192,19 +192,19 @@ pub fn inquire<P: Peer, I: Interrupt>(
     ensures interrupt { BlamesInterrupt (I.yes interrupt.old) (I.yes interrupt.new) (I.will_stop interrupt.old) (I.will_stop interrupt.new)
         (P.told peer.old) (P.told peer.new) (last_question is_interrupted result) }
 {
-    let extra = specs_with_tags(alloc, inquiry.tags, options.extra_refspecs.as_slice())?;
-    let specs = joined_specs(alloc, inquiry.specs, &extra)?;
-    let mut session = open(alloc, inquiry, &options, &specs)?;
+    let extra = specs_with_tags(alloc, query.tags, options.extra_refspecs.as_slice())?;
+    let specs = joined_specs(alloc, query.specs, &extra)?;
+    let mut session = open(alloc, query, &options, &specs)?;
     let mut buffer = receive_buffer(alloc)?;
     drive(&mut session, peer, interrupt, &mut NoProgress, &mut buffer)?;
-    map_listed(alloc, inquiry, &options, session, extra, &specs)
+    map_listed(alloc, query, &options, session, extra, &specs)
 }
 
 /// The same, where the remote or the options name a refspec. Where neither does, `MissingRefSpecs` comes before
 /// anything is sent.
 pub fn list<P: Peer, I: Interrupt>(
     alloc: Global,
-    inquiry: &Inquiry<'_>,
+    query: &LsRefs<'_>,
     peer: &mut P,
     interrupt: &mut I,
     options: Options,
@@ -212,10 +212,10 @@ pub fn list<P: Peer, I: Interrupt>(
     ensures held { Converses is_free_listing is_interrupted P.answers options.max_reply_bytes (P.told peer.old) (P.told peer.new) []
         (left_by result)
         (list_stage options.max_reply_bytes (record {
-          address = inquiry.now.address.now;
-          agent = inquiry.now.agent.now;
-          specs = inquiry.now.specs.now;
-          tags = inquiry.now.tags;
+          address = query.now.address.now;
+          agent = query.now.agent.now;
+          specs = query.now.specs.now;
+          tags = query.now.tags;
           options = options;
         })) (answer_shown result) }
     ensures ready { IfOk result (λ l. IsReady l) }
@@ -224,8 +224,8 @@ pub fn list<P: Peer, I: Interrupt>(
     ensures interrupt { BlamesInterrupt (I.yes interrupt.old) (I.yes interrupt.new) (I.will_stop interrupt.old) (I.will_stop interrupt.new)
         (P.told peer.old) (P.told peer.new) (last_question is_interrupted result) }
 {
-    if names_none(inquiry, &options) {
+    if names_none(query, &options) {
         return Err(prepare::Error::MissingRefSpecs);
     }
-    inquire(alloc, inquiry, peer, interrupt, options)
+    ls_refs(alloc, query, peer, interrupt, options)
 }

@@ -1,6 +1,6 @@
 //! Why a fetch wasn't prepared.
 
-use crate::drive::Stop;
+use crate::drive::DriveError;
 use crate::ref_map;
 use fetch_store::NoMemory;
 use fetch_wire::WireError;
@@ -87,17 +87,17 @@ impl From<WireError> for Error {
     }
 }
 
-impl From<Stop> for Error {
+impl From<DriveError> for Error {
     ghost use Rattle.std.specs.Prelude.{◌≡◌};
     ghost use Rattle.fetch_conversation.specs.Errors.{prepare_of_stop};
 
     ghost from_gives = { λ e p. p ≡ prepare_of_stop e };
 
-    fn from(e: Stop) -> Error {
+    fn from(e: DriveError) -> Error {
         match e {
-            Stop::Refused(e) => Error::from(e),
-            Stop::Failed => Error::RefMap(ref_map::Error::Transport),
-            Stop::Interrupted => Error::RefMap(ref_map::Error::Interrupted),
+            DriveError::Refused(e) => Error::from(e),
+            DriveError::Failed => Error::RefMap(ref_map::Error::Transport),
+            DriveError::Interrupted => Error::RefMap(ref_map::Error::Interrupted),
         }
     }
 }

@@ -5,12 +5,12 @@ ghost use Rattle.fetch_store.specs.Collisions.{HasDistinctIds};
 ghost use Rattle.fetch_store.specs.Stores.{AreOf};
 ghost use Rattle.fetch_conversation.specs.ConverseStage as spec;
 ghost use Rattle.fetch_conversation.specs.ConverseStage.{rejected, without_pack, read_of};
-ghost use Rattle.fetch_conversation.specs.Conversing.{Tells, IsOwn, terms_told};
+ghost use Rattle.fetch_conversation.specs.Conversing.{Tells, IsOwn, arguments_told};
 ghost use Rattle.fetch_conversation.specs.Errors.{is_free_receiving, is_unasked};
 ghost use Rattle.fetch_conversation.specs.ListStage.{shown};
 ghost use Rattle.fetch_conversation.specs.ReadSettings.{rejects_shallow_of};
 
-use crate::conversing::{Received, Terms};
+use crate::conversing::{FetchArguments, Received};
 use crate::copies::copied_ids;
 use crate::fetch;
 use crate::listing::Listed;
@@ -33,15 +33,15 @@ pub(crate) fn thread_count(settings: &Settings) -> usize {
 }
 
 /// Refuses a border of the server's that the request's lacks, where the settings say so and the depth isn't to change.
-fn refuse_border(terms: &Terms<'_>, reply: &FetchReply) -> Result<(), fetch::Error>
-    ensures told { Tells (rejected terms.now.settings.now terms.now.view.now terms.now.shallow.now reply.now) result }
+fn refuse_border(arguments: &FetchArguments<'_>, reply: &FetchReply) -> Result<(), fetch::Error>
+    ensures told { Tells (rejected arguments.now.settings.now arguments.now.view.now arguments.now.shallow.now reply.now) result }
     ensures own { IfErr result (λ e. IsOwn e) }
     ensures asked { IfErr result (λ e. is_unasked e ≡ false) }
 {
-    if !is_rejecting(terms.settings) || !is_no_change(terms.shallow) {
+    if !is_rejecting(arguments.settings) || !is_no_change(arguments.shallow) {
         return Ok(());
     }
-    match first_outside(&terms.view.border, reply.shallow.as_slice()) {
+    match first_outside(&arguments.view.border, reply.shallow.as_slice()) {
         Some(id) => Err(fetch::Error::RejectShallowRemote { id }),
         None => Ok(()),
     }
@@ -93,28 +93,28 @@ fn unpack<R: Threads + Sync>(
     rt: &R,
     alloc: Global,
     kind: Kind,
-    terms: &Terms<'_>,
+    arguments: &FetchArguments<'_>,
     negotiate: Negotiate,
     reply: &FetchReply,
 ) -> Result<Received, fetch::Error>
-    ensures received { IfOk result (λ r. read_of kind terms.now.dry_run (record { rounds = negotiate.rounds; reply = reply.now })
+    ensures received { IfOk result (λ r. read_of kind arguments.now.dry_run (record { rounds = negotiate.rounds; reply = reply.now })
         ≡ Ok (Some r)) }
     ensures refused { IfErr result (λ e. is_free_receiving e ≡ false
-        → read_of kind terms.now.dry_run (record { rounds = negotiate.rounds; reply = reply.now }) ≡ Err e) }
+        → read_of kind arguments.now.dry_run (record { rounds = negotiate.rounds; reply = reply.now }) ≡ Err e) }
     ensures of_kind { IfOk result (λ r. AreOf kind r.objects) }
     ensures distinct { IfOk result (λ r. HasDistinctIds r.objects) }
     ensures own { IfErr result (λ e. IsOwn e) }
     ensures asked { IfErr result (λ e. is_unasked e ≡ false) }
 {
     let mut received = unpacked(alloc, negotiate, reply)?;
-    if terms.dry_run {
+    if arguments.dry_run {
         return Ok(received);
     }
     let bytes = match &reply.pack {
         Some(bytes) => bytes.as_bytes(),
         None => &[],
     };
-    let pack = read_pack(rt, alloc, kind, bytes, thread_count(terms.settings))?;
+    let pack = read_pack(rt, alloc, kind, bytes, thread_count(arguments.settings))?;
     received.objects = pack.objects;
     received.pack = Some((pack.count, pack.digest));
     Ok(received)
@@ -125,25 +125,26 @@ pub(crate) fn received<R: Threads + Sync>(
     rt: &R,
     alloc: Global,
     listed: &Listed,
-    terms: &Terms<'_>,
+    arguments: &FetchArguments<'_>,
     negotiate: Negotiate,
     reply: &FetchReply,
 ) -> Result<Received, fetch::Error>
-    ensures received { IfOk result (λ r. spec.received (terms_told (shown listed.now) terms.now)
+    ensures received { IfOk result (λ r. spec.received (arguments_told (shown listed.now) arguments.now)
         (record { rounds = negotiate.rounds; reply = reply.now }) ≡ Ok (Some r)) }
     ensures refused { IfErr result (λ e. is_free_receiving e ≡ false
-        → spec.received (terms_told (shown listed.now) terms.now) (record { rounds = negotiate.rounds; reply = reply.now }) ≡ Err e) }
+        → spec.received (arguments_told (shown listed.now) arguments.now)
+        (record { rounds = negotiate.rounds; reply = reply.now }) ≡ Err e) }
     ensures of_kind { IfOk result (λ r. AreOf listed.now.handshake.object_hash r.objects) }
     ensures distinct { IfOk result (λ r. HasDistinctIds r.objects) }
     ensures own { IfErr result (λ e. IsOwn e) }
     ensures asked { IfErr result (λ e. is_unasked e ≡ false) }
 {
-    refuse_border(terms, reply)?;
+    refuse_border(arguments, reply)?;
     unpack(
         rt,
         alloc,
         listed.handshake.object_hash,
-        terms,
+        arguments,
         negotiate,
         reply,
     )

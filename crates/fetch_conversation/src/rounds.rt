@@ -12,13 +12,13 @@ ghost use Rattle.fetch_negotiate.specs.Rounds.{sharing_all};
 ghost use Rattle.fetch_negotiate.specs.Windows.{next_size};
 ghost use Rattle.fetch_conversation.specs.Conversation.{Converses};
 ghost use Rattle.fetch_conversation.specs.ConverseStage.{algorithm_in};
-ghost use Rattle.fetch_conversation.specs.Conversing.{Holds, course_of, negotiated_of, terms_told};
+ghost use Rattle.fetch_conversation.specs.Conversing.{Holds, rounds_state_of, negotiated_of, arguments_told};
 ghost use Rattle.fetch_conversation.specs.Errors.{is_free_receiving, is_client, is_stopped, is_unasked};
 ghost use Rattle.fetch_conversation.specs.ListStage.{IsReady, shown, pending_of};
 ghost use Rattle.fetch_conversation.specs.Rounds as spec;
 ghost use Rattle.fetch_conversation.specs.declared.fetch.Error.TheVariants as errors;
 
-use crate::conversing::Terms;
+use crate::conversing::FetchArguments;
 use crate::copies::copied_ids;
 use crate::drive::receive_buffer;
 use crate::exchange::exchange;
@@ -41,7 +41,7 @@ const LARGEST_SIZE: usize = 1024;
 
 /// How far the rounds of a fetch are.
 #[derive(Debug, Drop)]
-pub(crate) struct Course {
+pub(crate) struct RoundsState {
     negotiator: AnyNegotiator,
     /// The ids acknowledged so far, each once, in the order in which each first was.
     shared: Vec<ObjectId>,
@@ -71,17 +71,18 @@ fn next_size(size: usize) -> usize
     }
 }
 
-impl Course {
+impl RoundsState {
     /// Before the first round.
-    fn new(alloc: Global, terms: &Terms<'_>) -> Result<Course, NoMemory>
-        ensures course { IfOk result (λ c. course_of c ≡ spec.first_course (algorithm_in terms.now.settings.now) terms.now.view.now) }
-        ensures algorithm { IfOk result (λ c. algorithm_of c.negotiator ≡ algorithm_in terms.now.settings.now) }
+    fn new(alloc: Global, arguments: &FetchArguments<'_>) -> Result<RoundsState, NoMemory>
+        ensures state { IfOk result (λ c. rounds_state_of c
+            ≡ spec.first_rounds_state (algorithm_in arguments.now.settings.now) arguments.now.view.now) }
+        ensures algorithm { IfOk result (λ c. algorithm_of c.negotiator ≡ algorithm_in arguments.now.settings.now) }
         ensures unread { IfOk result (λ c. (id : Id) → known_by c.negotiator id ≡ None) }
     {
-        let algorithm = chosen(terms.settings);
-        let tips = terms.view.tips.as_slice();
-        Ok(Course {
-            negotiator: AnyNegotiator::new(alloc, algorithm, tips, &terms.view.border)?,
+        let algorithm = chosen(arguments.settings);
+        let tips = arguments.view.tips.as_slice();
+        Ok(RoundsState {
+            negotiator: AnyNegotiator::new(alloc, algorithm, tips, &arguments.view.border)?,
             shared: Vec::new(alloc),
             rounds: List::new(alloc),
             size: FIRST_SIZE,
@@ -92,15 +93,15 @@ impl Course {
     fn next<O: Objects>(&mut self, objects: &O) -> Result<Round, NoMemory>
         requires { IsTold (known_by self.old.negotiator) (O.graph objects.now) }
         ensures round { IfOk result (λ r. r ≡ record {
-          haves = (spec.next_window (O.graph objects.now) (algorithm_of self.old.negotiator) (course_of self.old)).haves;
+          haves = (spec.next_window (O.graph objects.now) (algorithm_of self.old.negotiator) (rounds_state_of self.old)).haves;
           acknowledged = [];
-          done = spec.is_short (course_of self.old)
-              (spec.next_window (O.graph objects.now) (algorithm_of self.old.negotiator) (course_of self.old));
+          done = spec.is_short (rounds_state_of self.old)
+              (spec.next_window (O.graph objects.now) (algorithm_of self.old.negotiator) (rounds_state_of self.old));
         }) }
-        ensures course { OnOk result (course_of self.new
-            ≡ record (course_of self.old) {
+        ensures state { OnOk result (rounds_state_of self.new
+            ≡ record (rounds_state_of self.old) {
               so_far = (spec.next_window (O.graph objects.now) (algorithm_of self.old.negotiator)
-                  (course_of self.old)).later;
+                  (rounds_state_of self.old)).later;
             }) }
         ensures algorithm { algorithm_of self.new.negotiator ≡ algorithm_of self.old.negotiator }
         ensures told { IsTold (known_by self.new.negotiator) (O.graph objects.now) }
@@ -118,8 +119,11 @@ impl Course {
     /// Tells the negotiator what the other side has.
     fn tell<O: Objects>(&mut self, objects: &O, ids: &[ObjectId]) -> Result<(), NoMemory>
         requires { IsTold (known_by self.old.negotiator) (O.graph objects.now) }
-        ensures course { OnOk result (course_of self.new
-            ≡ record (course_of self.old) { so_far = sharing_all (algorithm_of self.old.negotiator) (course_of self.old).so_far ids.now }) }
+        ensures state { OnOk result (rounds_state_of self.new
+            ≡ record (rounds_state_of self.old) {
+              so_far = sharing_all (algorithm_of self.old.negotiator)
+                  (rounds_state_of self.old).so_far ids.now;
+            }) }
         ensures algorithm { algorithm_of self.new.negotiator ≡ algorithm_of self.old.negotiator }
         ensures told { IsTold (known_by self.new.negotiator) (O.graph objects.now) }
     {
@@ -133,8 +137,8 @@ impl Course {
     /// Takes in what a reply acknowledges, before the next round.
     fn share<O: Objects>(&mut self, objects: &O, ids: &[ObjectId]) -> Result<(), NoMemory>
         requires { IsTold (known_by self.old.negotiator) (O.graph objects.now) }
-        ensures course { OnOk result (course_of self.new ≡ record {
-          so_far = sharing_all (algorithm_of self.old.negotiator) (course_of self.old).so_far ids.now;
+        ensures state { OnOk result (rounds_state_of self.new ≡ record {
+          so_far = sharing_all (algorithm_of self.old.negotiator) (rounds_state_of self.old).so_far ids.now;
           shared = each_once (self.old.shared.items ++ ids.now);
           rounds = self.old.rounds;
           size = next_size self.old.size;
@@ -160,8 +164,8 @@ impl Course {
         ensures ends { IfOk result (λ last. last ≡ (round.done || reply.now.last)) }
         ensures rounds { OnOk result (self.new.rounds ≡ self.old.rounds
             ++ (record { haves = round.haves; acknowledged = reply.now.acknowledged; done = round.done }) ∷ []) }
-        ensures goes { IfOk result (λ last. last ≡ false → course_of self.new ≡ record {
-          so_far = sharing_all (algorithm_of self.old.negotiator) (course_of self.old).so_far reply.now.acknowledged;
+        ensures goes { IfOk result (λ last. last ≡ false → rounds_state_of self.new ≡ record {
+          so_far = sharing_all (algorithm_of self.old.negotiator) (rounds_state_of self.old).so_far reply.now.acknowledged;
           shared = each_once (self.old.shared.items ++ reply.now.acknowledged);
           rounds = self.old.rounds ++ (record { haves = round.haves; acknowledged = reply.now.acknowledged; done = round.done }) ∷ [];
           size = next_size self.old.size;
@@ -187,8 +191,8 @@ impl Course {
 // Many arguments: each is lent by itself, so that a clause speaks of each before and after the call.
 fn hold_round<P: Peer, I: Interrupt, Q: Progress, O: Objects>(
     listed: &mut Listed,
-    terms: &Terms<'_>,
-    course: &mut Course,
+    arguments: &FetchArguments<'_>,
+    state: &mut RoundsState,
     objects: &O,
     peer: &mut P,
     interrupt: &mut I,
@@ -197,14 +201,15 @@ fn hold_round<P: Peer, I: Interrupt, Q: Progress, O: Objects>(
 ) -> Result<bool, fetch::Error>
     requires ready { IsReady listed.old }
     requires room { 0 < length buffer.old }
-    requires told { IsTold (known_by course.old.negotiator) (O.graph objects.now) }
+    requires told { IsTold (known_by state.old.negotiator) (O.graph objects.now) }
     ensures held { Holds P.answers listed.old.session.intake.bound (P.told peer.old) (P.told peer.new) (pending_of listed.old)
         (pending_of listed.new)
-        (terms_told (shown listed.old) terms.now) (O.graph objects.now) (algorithm_of course.old.negotiator) (course_of course.old)
-        (course_of course.new) listed.new.session.reply result }
+        (arguments_told (shown listed.old) arguments.now) (O.graph objects.now) (algorithm_of state.old.negotiator)
+        (rounds_state_of state.old)
+        (rounds_state_of state.new) listed.new.session.reply result }
     ensures asked { IfErr result (λ e. is_unasked e ≡ false) }
-    ensures algorithm { OnOk result (algorithm_of course.new.negotiator ≡ algorithm_of course.old.negotiator) }
-    ensures told { OnOk result (IsTold (known_by course.new.negotiator) (O.graph objects.now)) }
+    ensures algorithm { OnOk result (algorithm_of state.new.negotiator ≡ algorithm_of state.old.negotiator) }
+    ensures told { OnOk result (IsTold (known_by state.new.negotiator) (O.graph objects.now)) }
     ensures ready { OnOk result (IsReady listed.new) }
     ensures bound { OnOk result (listed.new.session.intake.bound ≡ listed.old.session.intake.bound) }
     ensures kept { shown listed.new ≡ shown listed.old }
@@ -212,11 +217,11 @@ fn hold_round<P: Peer, I: Interrupt, Q: Progress, O: Objects>(
     ensures interrupt { BlamesInterrupt (I.yes interrupt.old) (I.yes interrupt.new) (I.will_stop interrupt.old) (I.will_stop interrupt.new)
         (P.told peer.old) (P.told peer.new) (last_question is_stopped result) }
 {
-    let round = course.next(objects)?;
+    let round = state.next(objects)?;
     exchange(
         listed,
-        terms,
-        course.shared.as_slice(),
+        arguments,
+        state.shared.as_slice(),
         &round,
         peer,
         interrupt,
@@ -224,7 +229,7 @@ fn hold_round<P: Peer, I: Interrupt, Q: Progress, O: Objects>(
         buffer,
     )?;
     match listed.session.reply() {
-        Some(reply) => Ok(course.take_in(objects, round, reply)?),
+        Some(reply) => Ok(state.take_in(objects, round, reply)?),
         None => unreachable!(),
     }
 }
@@ -246,7 +251,7 @@ fn most_rounds<O: Objects>(objects: &O) -> Result<usize, NoMemory>
 pub(crate) fn negotiate<P: Peer, I: Interrupt, Q: Progress, O: Objects>(
     alloc: Global,
     listed: &mut Listed,
-    terms: &Terms<'_>,
+    arguments: &FetchArguments<'_>,
     objects: &O,
     peer: &mut P,
     interrupt: &mut I,
@@ -255,9 +260,11 @@ pub(crate) fn negotiate<P: Peer, I: Interrupt, Q: Progress, O: Objects>(
     requires { IsReady listed.old }
     ensures held { Converses is_free_receiving is_stopped P.answers listed.old.session.intake.bound (P.told peer.old) (P.told peer.new)
         (pending_of listed.old) (pending_of listed.new)
-        (spec.negotiating (suc (map.len (O.graph objects.now))) listed.old.session.intake.bound (terms_told (shown listed.old) terms.now)
-        (O.graph objects.now) (algorithm_in terms.now.settings.now)
-        (spec.first_course (algorithm_in terms.now.settings.now) terms.now.view.now)) (negotiated_of result listed.new.session.reply) }
+        (spec.negotiating (suc (map.len (O.graph objects.now))) listed.old.session.intake.bound
+        (arguments_told (shown listed.old) arguments.now)
+        (O.graph objects.now) (algorithm_in arguments.now.settings.now)
+        (spec.first_rounds_state (algorithm_in arguments.now.settings.now) arguments.now.view.now))
+        (negotiated_of result listed.new.session.reply) }
     ensures replied { OnOk result (is_some listed.new.session.reply ≡ true) }
     ensures asked { IfErr result (λ e. is_unasked e ≡ false) }
     ensures kept { shown listed.new ≡ shown listed.old }
@@ -266,22 +273,15 @@ pub(crate) fn negotiate<P: Peer, I: Interrupt, Q: Progress, O: Objects>(
         (P.told peer.old) (P.told peer.new) (last_question is_stopped result) }
 {
     let most = most_rounds(objects)?;
-    let mut course = Course::new(alloc, terms)?;
+    let mut state = RoundsState::new(alloc, arguments)?;
     let mut bytes = receive_buffer(alloc)?;
     let buffer = bytes.as_mut_slice();
     for _ in 0..most {
         if hold_round(
-            listed,
-            terms,
-            &mut course,
-            objects,
-            peer,
-            interrupt,
-            progress,
-            buffer,
+            listed, arguments, &mut state, objects, peer, interrupt, progress, buffer,
         )? {
             return Ok(Negotiate {
-                rounds: course.rounds,
+                rounds: state.rounds,
             });
         }
     }

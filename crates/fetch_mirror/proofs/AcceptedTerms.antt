@@ -13,7 +13,7 @@ use Rattle.fetch_negotiate.specs.declared.algorithm.Algorithm.{Algorithm}
 use Rattle.fetch_negotiate.specs.declared.algorithm.Algorithm.TheVariants.{Noop}
 use Rattle.fetch_negotiate.specs.declared.algorithm.Shallow.{Shallow}
 use Rattle.fetch_conversation.specs.ConverseStage.{algorithm_in, algorithm_told, fetch_feature, is_no_change, lacked, lacking, names_one, needs_shallow, no_mapping, other_hash, shallow_feature, specs_of, unfit, unlike, unread_as}
-use Rattle.fetch_conversation.specs.Exchange.{TermsValue}
+use Rattle.fetch_conversation.specs.Exchange.{FetchArgumentsValue}
 use Rattle.fetch_conversation.specs.ListStage.{is_nil}
 use Rattle.fetch_conversation.specs.ReadSettings.{algorithm_of_config, rejects_shallow_of, threads_of}
 use Rattle.fetch_conversation.specs.declared.fetch.Error.{Error}
@@ -32,7 +32,7 @@ unfolding capabilities_of kind_text fetch_feature shallow_feature plain_pack pla
 lacks_nothing Sha1 = refl
 lacks_nothing Sha256 = refl
 
-module _ (hash : Kind) (t : TermsValue) (h : AreTerms hash t) where
+module _ (hash : Kind) (t : FetchArgumentsValue) (h : AreTerms hash t) where
   is_mapped : no_mapping t ≡ None
   is_mapped =
       let m = t.listed.ref_map in

@@ -6,13 +6,13 @@ use Rattle.std.proofs.lemmas.List.Concat.{flat_map-append}
 use Rattle.std.proofs.Math.Seq.{drop-append_seam}
 use Rattle.fetch_mirror.specs.Along.{added, Grows, IsDead, answer_along, IsReadAlong, IsAlong}
 use Rattle.fetch_wire.specs.Awaited.{step_of, start_of, told_at}
-use Rattle.fetch_wire.specs.declared.replies.awaited.Await.{Await}
-use Rattle.fetch_wire.specs.declared.replies.awaited.Told.{Told}
+use Rattle.fetch_wire.specs.declared.replies.reply.ReplyKind.{ReplyKind}
+use Rattle.fetch_wire.specs.declared.replies.reply.ParsedReply.{ParsedReply}
 use Rattle.fetch_conversation.specs.Conversation.{Conversation, ends, asks, sent_in, answer_in, after_reply, beside, RefusesWith, IsRefusedBy, Concludes, Breaks}
 use Rattle.fetch_wire.specs.Written.{line_text, lines_text}
 use Rattle.fetch_conversation.specs.Served.{IsOver, without_rest, IsFresh, Follows}
-use Rattle.fetch_wire.specs.declared.replies.awaited.Fault.{Fault}
-use Rattle.fetch_wire.specs.declared.replies.awaited.Fault.TheVariants.{Short}
+use Rattle.fetch_wire.specs.declared.replies.reply.ReplyError.{ReplyError}
+use Rattle.fetch_wire.specs.declared.replies.reply.ReplyError.TheVariants.{Short}
 use Rattle.fetch_wire.specs.StepLaws.{read_by-more, with_more, IsSettled}
 use Rattle.fetch_wire.specs.Talks.{Talk, Talks, Passes}
 
@@ -26,15 +26,15 @@ unfolding answer_in answer_along
 over bound rule before c stream (answer, is) = rw is (at_end stream answer)
 
 -- what a reply told, read alone, is told where more is after it
-pub stays : (bound : ℕ) (awaited : Await) (reply tail : List ℕ) (reading : Result (Told × List ℕ) Fault) → told_at bound awaited reply ≡ reading → IsSettled reading → told_at bound awaited (reply ++ tail) ≡ with_more reading tail
+pub stays : (bound : ℕ) (awaited : ReplyKind) (reply tail : List ℕ) (reading : Result (ParsedReply × List ℕ) ReplyError) → told_at bound awaited reply ≡ reading → IsSettled reading → told_at bound awaited (reply ++ tail) ≡ with_more reading tail
 stays bound awaited reply tail reading is settled =
     let h : IsSettled (told_at bound awaited reply) = subst IsSettled (sym is) settled in
-    read_by-more step_of bound 0 (start_of awaited) reply tail h ∙ ap (λ (r : Result (Told × List ℕ) Fault). with_more r tail) is
+    read_by-more step_of bound 0 (start_of awaited) reply tail h ∙ ap (λ (r : Result (ParsedReply × List ℕ) ReplyError). with_more r tail) is
 
-pub settled_refusal : (fault : Fault) → ((place : ℕ) → fault ≢ Short place) → IsSettled {A = Told × List ℕ} (Err fault)
+pub settled_refusal : (fault : ReplyError) → ((place : ℕ) → fault ≢ Short place) → IsSettled {A = ParsedReply × List ℕ} (Err fault)
 settled_refusal fault h place is = h place cc
 
-pub settled_told : (x : Told × List ℕ) → IsSettled (Ok x)
+pub settled_told : (x : ParsedReply × List ℕ) → IsSettled (Ok x)
 settled_told x place is = absurd cc
 
 -- ---- what a rule adds
@@ -65,12 +65,12 @@ nothing_next rule heard others tail dead is = append_cancel_left (rule heard) ta
 -- ---- one reply
 
 abbrev Next : Type 0 → Type 0 → Type 0
-Next X E = Told → Conversation X E
+Next X E = ParsedReply → Conversation X E
 
 -- the rest of a conversation by the reply to its first request
-by_reply : {X E : Type 0} (bound : ℕ) (rule : List ℕ → List ℕ) (now : List ℕ) (awaited : Await) (failed : Fault → E) (next : Next X E) (reply tail : List ℕ) (reading : Result (Told × List ℕ) Fault)
+by_reply : {X E : Type 0} (bound : ℕ) (rule : List ℕ → List ℕ) (now : List ℕ) (awaited : ReplyKind) (failed : ReplyError → E) (next : Next X E) (reply tail : List ℕ) (reading : Result (ParsedReply × List ℕ) ReplyError)
     → told_at bound awaited reply ≡ reading → (IsDead rule now → tail ≡ []) → IsReadAlong (λ told. IsAlong bound rule now (next told)) next (IsDead rule now) reading
-    → ((told : Told) → told_at bound awaited (reply ++ tail) ≡ Ok (told, tail) → IsAlong bound rule now (next told) → without_rest (answer_in bound (next told) tail) ≡ answer_along bound rule now (next told))
+    → ((told : ParsedReply) → told_at bound awaited (reply ++ tail) ≡ Ok (told, tail) → IsAlong bound rule now (next told) → without_rest (answer_in bound (next told) tail) ≡ answer_along bound rule now (next told))
     → without_rest (after_reply (λ fault. Err (failed fault)) (λ told rest. answer_in bound (next told) rest) (told_at bound awaited (reply ++ tail)))
     ≡ after_reply (λ fault. Err (failed fault)) (λ told rest. answer_along bound rule now (next told)) reading
 by_reply bound rule now awaited failed next reply tail (Ok x) is none (inl more) again =
@@ -84,7 +84,7 @@ by_reply bound rule now awaited failed next reply tail (Err fault) is none (inr 
     let found : told_at bound awaited (reply ++ tail) ≡ Err fault = ap (λ (l : List ℕ). told_at bound awaited (reply ++ l)) (none dead) ∙ ap (told_at bound awaited) (append-nil reply) ∙ is in
     rw found refl
 
-pub sent_more : {X E : Type 0} (bound : ℕ) (next : Next X E) (told : Told) (rest : List ℕ) (reading : Result (Told × List ℕ) Fault) → reading ≡ Ok (told, rest)
+pub sent_more : {X E : Type 0} (bound : ℕ) (next : Next X E) (told : ParsedReply) (rest : List ℕ) (reading : Result (ParsedReply × List ℕ) ReplyError) → reading ≡ Ok (told, rest)
     → lines_text (after_reply (λ _. []) (λ told rest. sent_in bound (next told) rest) reading) ≡ lines_text (sent_in bound (next told) rest)
 sent_more bound next told rest reading is = rw is refl
 

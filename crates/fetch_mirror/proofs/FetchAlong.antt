@@ -10,7 +10,7 @@ use Rattle.fetch_remote.specs.Form.{Given}
 use Rattle.fetch_remote.specs.Refused.{HasEnded}
 use Rattle.fetch_remote.specs.Repositories.{State}
 use Rattle.fetch_remote.specs.Stages.{Told, bound_of, conversation}
-use Rattle.fetch_remote.specs.Talking.{BreaksListing, BreaksReceiving}
+use Rattle.fetch_remote.specs.Conversed.{BreaksListing, BreaksReceiving}
 use Rattle.fetch_remote.specs.declared.fetching.fetch_error.FetchError.{FetchError}
 use Rattle.fetch_remote.proofs.Broken.{whole_listing, whole_receiving}
 use Rattle.fetch_mirror.specs.Along.{Grows, IsAlong, answer_along}

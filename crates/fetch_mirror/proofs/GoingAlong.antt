@@ -5,13 +5,13 @@ use Rattle.std.proofs.lemmas.List.{append-nil}
 use Rattle.fetch_mirror.proofs.Along.{added-is}
 use Rattle.fetch_mirror.specs.Along.{added, IsDead, answer_along, sent_along, IsReadAlong, IsAlong}
 use Rattle.fetch_wire.specs.Awaited.{step_of, start_of, told_at}
-use Rattle.fetch_wire.specs.declared.replies.awaited.Await.{Await}
-use Rattle.fetch_wire.specs.declared.replies.awaited.Told.{Told}
+use Rattle.fetch_wire.specs.declared.replies.reply.ReplyKind.{ReplyKind}
+use Rattle.fetch_wire.specs.declared.replies.reply.ParsedReply.{ParsedReply}
 use Rattle.fetch_conversation.specs.Conversation.{Conversation, ends, asks, after_reply}
 use Rattle.fetch_wire.specs.Written.{lines_text}
 use Rattle.fetch_wire.specs.declared.lines.line.Line.{Line}
-use Rattle.fetch_wire.specs.declared.replies.awaited.Fault.{Fault}
-use Rattle.fetch_wire.specs.declared.replies.awaited.Fault.TheVariants.{Short}
+use Rattle.fetch_wire.specs.declared.replies.reply.ReplyError.{ReplyError}
+use Rattle.fetch_wire.specs.declared.replies.reply.ReplyError.TheVariants.{Short}
 use Rattle.fetch_wire.specs.Lines.{line_at}
 use Rattle.fetch_wire.specs.Stepping.{Step, read_within, read_by}
 use Rattle.fetch_mirror.specs.GoingAlong.{GoesAlong, IsAlongByCases}
@@ -22,7 +22,7 @@ unfolding read_within line_at
 nothing_is_short step bound place s = refl
 
 abbrev Next : Type 0 → Type 0 → Type 0
-Next X E = Told → Conversation X E
+Next X E = ParsedReply → Conversation X E
 
 -- no more is asked
 pub goes_end : {X E : Type 0} (bound : ℕ) (rule : List ℕ → List ℕ) (before : List ℕ) (answer : Result X E) → GoesAlong bound rule before (ends answer) [] answer
@@ -30,12 +30,12 @@ unfolding answer_along sent_along IsAlong
 goes_end bound rule before answer = record { so = tt; is = refl; asked = refl }
 
 -- what the reply to the first request tells
-told_by : (bound : ℕ) (rule : List ℕ → List ℕ) (before : List ℕ) (lines : List Line) (awaited : Await) (reply : List ℕ) (reading : Result (Told × List ℕ) Fault) → rule (before ++ lines_text lines) ≡ rule before ++ reply
+told_by : (bound : ℕ) (rule : List ℕ → List ℕ) (before : List ℕ) (lines : List Line) (awaited : ReplyKind) (reply : List ℕ) (reading : Result (ParsedReply × List ℕ) ReplyError) → rule (before ++ lines_text lines) ≡ rule before ++ reply
     → told_at bound awaited reply ≡ reading → told_at bound awaited (added rule before (lines_text lines)) ≡ reading
 told_by bound rule before lines awaited reply reading adds is = ap (told_at bound awaited) (added-is rule before (lines_text lines) reply adds) ∙ is
 
 -- by what the reply to the first request tells
-pub goes_by : {X E : Type 0} (bound : ℕ) (rule : List ℕ → List ℕ) (before : List ℕ) (lines : List Line) (awaited : Await) (failed : Fault → E) (next : Next X E) (reading : Result (Told × List ℕ) Fault) (others : List Line) (answer : Result X E)
+pub goes_by : {X E : Type 0} (bound : ℕ) (rule : List ℕ → List ℕ) (before : List ℕ) (lines : List Line) (awaited : ReplyKind) (failed : ReplyError → E) (next : Next X E) (reading : Result (ParsedReply × List ℕ) ReplyError) (others : List Line) (answer : Result X E)
     → told_at bound awaited (added rule before (lines_text lines)) ≡ reading
     → IsReadAlong (λ told. IsAlong bound rule (before ++ lines_text lines) (next told)) next (IsDead rule (before ++ lines_text lines)) reading
     → after_reply (λ fault. Err (failed fault)) (λ told rest. answer_along bound rule (before ++ lines_text lines) (next told)) reading ≡ answer
@@ -49,14 +49,14 @@ goes_by bound rule before lines awaited failed next reading others answer is so 
 }
 
 -- the reply is whole, and it goes on
-pub goes_on : {X E : Type 0} (bound : ℕ) (rule : List ℕ → List ℕ) (before : List ℕ) (lines : List Line) (awaited : Await) (failed : Fault → E) (next : Next X E) (reply : List ℕ) (told : Told) (others : List Line) (answer : Result X E)
+pub goes_on : {X E : Type 0} (bound : ℕ) (rule : List ℕ → List ℕ) (before : List ℕ) (lines : List Line) (awaited : ReplyKind) (failed : ReplyError → E) (next : Next X E) (reply : List ℕ) (told : ParsedReply) (others : List Line) (answer : Result X E)
     → rule (before ++ lines_text lines) ≡ rule before ++ reply → told_at bound awaited reply ≡ Ok (told, []) → GoesAlong bound rule (before ++ lines_text lines) (next told) others answer
     → GoesAlong bound rule before (asks lines awaited failed next) (lines ++ others) answer
 goes_on bound rule before lines awaited failed next reply told others answer adds is more =
     goes_by bound rule before lines awaited failed next (Ok (told, [])) others answer (told_by bound rule before lines awaited reply (Ok (told, [])) adds is) (inl (refl, more.so)) more.is more.asked
 
 -- the reply is read in part, and no more is asked
-pub goes_over : {X E : Type 0} (bound : ℕ) (rule : List ℕ → List ℕ) (before : List ℕ) (lines : List Line) (awaited : Await) (failed : Fault → E) (next : Next X E) (reply rest : List ℕ) (told : Told) (answer : Result X E)
+pub goes_over : {X E : Type 0} (bound : ℕ) (rule : List ℕ → List ℕ) (before : List ℕ) (lines : List Line) (awaited : ReplyKind) (failed : ReplyError → E) (next : Next X E) (reply rest : List ℕ) (told : ParsedReply) (answer : Result X E)
     → rule (before ++ lines_text lines) ≡ rule before ++ reply → told_at bound awaited reply ≡ Ok (told, rest) → next told ≡ ends answer → GoesAlong bound rule before (asks lines awaited failed next) (lines ++ []) answer
 unfolding answer_along sent_along
 goes_over bound rule before lines awaited failed next reply rest told answer adds is no_more =
@@ -64,13 +64,13 @@ goes_over bound rule before lines awaited failed next reply rest told answer add
     (ap (answer_along bound rule (before ++ lines_text lines)) no_more) (ap (sent_along bound rule (before ++ lines_text lines)) no_more)
 
 -- the reply breaks, whatever follows
-pub goes_broken : {X E : Type 0} (bound : ℕ) (rule : List ℕ → List ℕ) (before : List ℕ) (lines : List Line) (awaited : Await) (failed : Fault → E) (next : Next X E) (reply : List ℕ) (fault : Fault)
+pub goes_broken : {X E : Type 0} (bound : ℕ) (rule : List ℕ → List ℕ) (before : List ℕ) (lines : List Line) (awaited : ReplyKind) (failed : ReplyError → E) (next : Next X E) (reply : List ℕ) (fault : ReplyError)
     → rule (before ++ lines_text lines) ≡ rule before ++ reply → told_at bound awaited reply ≡ Err fault → ((place : ℕ) → fault ≢ Short place) → GoesAlong bound rule before (asks lines awaited failed next) (lines ++ []) (Err (failed fault))
 goes_broken bound rule before lines awaited failed next reply fault adds is broken =
     goes_by bound rule before lines awaited failed next (Err fault) [] (Err (failed fault)) (told_by bound rule before lines awaited reply (Err fault) adds is) (inl broken) refl refl
 
 -- The request isn't answered, and nothing is from there on.
-pub goes_dead : {X E : Type 0} (bound : ℕ) (rule : List ℕ → List ℕ) (before : List ℕ) (lines : List Line) (awaited : Await) (failed : Fault → E) (next : Next X E)
+pub goes_dead : {X E : Type 0} (bound : ℕ) (rule : List ℕ → List ℕ) (before : List ℕ) (lines : List Line) (awaited : ReplyKind) (failed : ReplyError → E) (next : Next X E)
     → rule (before ++ lines_text lines) ≡ rule before → IsDead rule (before ++ lines_text lines) → GoesAlong bound rule before (asks lines awaited failed next) (lines ++ []) (Err (failed (Short 0)))
 goes_dead bound rule before lines awaited failed next adds dead =
     goes_by bound rule before lines awaited failed next (Err (Short 0)) [] (Err (failed (Short 0)))

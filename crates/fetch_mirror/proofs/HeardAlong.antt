@@ -6,13 +6,13 @@ use Rattle.std.proofs.lemmas.List.Concat.{flat_map-append}
 use Rattle.fetch_mirror.proofs.Along.{given_by, sent_more, others_next, nothing_next, stays, settled_refusal, settled_told}
 use Rattle.fetch_mirror.specs.Along.{added, Grows, IsDead, IsReadAlong, IsAlong, sent_along}
 use Rattle.fetch_wire.specs.Awaited.{told_at}
-use Rattle.fetch_wire.specs.declared.replies.awaited.Await.{Await}
-use Rattle.fetch_wire.specs.declared.replies.awaited.Told.{Told}
+use Rattle.fetch_wire.specs.declared.replies.reply.ReplyKind.{ReplyKind}
+use Rattle.fetch_wire.specs.declared.replies.reply.ParsedReply.{ParsedReply}
 use Rattle.fetch_conversation.specs.Conversation.{Conversation, ends, asks, sent_in, after_reply, IsRefusedBy, Concludes, Breaks}
 use Rattle.fetch_wire.specs.Written.{line_text, lines_text}
 use Rattle.fetch_wire.specs.declared.lines.line.Line.{Line}
 use Rattle.fetch_conversation.specs.Served.{IsOver, IsFresh, Follows}
-use Rattle.fetch_wire.specs.declared.replies.awaited.Fault.{Fault}
+use Rattle.fetch_wire.specs.declared.replies.reply.ReplyError.{ReplyError}
 use Rattle.fetch_wire.specs.Talks.{Talk, Talks, Passes, IsFront}
 
 -- ---- fronts
@@ -44,32 +44,32 @@ nothing_front (byte ∷ later) others front = let is = front.1 in absurd cc
 -- ---- behind one reply
 
 abbrev Next : Type 0 → Type 0 → Type 0
-Next X E = Told → Conversation X E
+Next X E = ParsedReply → Conversation X E
 
 over_front : {X E : Type 0} (bound : ℕ) (c : Conversation X E) (rest later others : List ℕ) → IsOver c → IsFront later (lines_text (sent_in bound c rest)) → IsFront later others
 unfolding sent_in
 over_front bound c rest later others (answer, is) front =
     let front' : IsFront later [] = subst (λ (l : _). IsFront later (lines_text (sent_in bound l rest))) is front in nothing_front later others front'
 
-ok_parts : (a b : Told × List ℕ) (found : Result (Told × List ℕ) Fault) → found ≡ Ok a → found ≡ Ok b → a ≡ b
+ok_parts : (a b : ParsedReply × List ℕ) (found : Result (ParsedReply × List ℕ) ReplyError) → found ≡ Ok a → found ≡ Ok b → a ≡ b
 ok_parts a b found is is' = cc
 
 -- what was told of a part is told of the whole
-same_told : (bound : ℕ) (awaited : Await) (said to_come reply tail rest : List ℕ) (told : Told) (x : Told × List ℕ) → told_at bound awaited said ≡ Ok (told, rest) → told_at bound awaited reply ≡ Ok x → said ++ to_come ≡ reply ++ tail
+same_told : (bound : ℕ) (awaited : ReplyKind) (said to_come reply tail rest : List ℕ) (told : ParsedReply) (x : ParsedReply × List ℕ) → told_at bound awaited said ≡ Ok (told, rest) → told_at bound awaited reply ≡ Ok x → said ++ to_come ≡ reply ++ tail
     → (told ≡ x.0) × (rest ++ to_come ≡ x.1 ++ tail)
 same_told bound awaited said to_come reply tail rest told x is is' same =
     let a : told_at bound awaited (said ++ to_come) ≡ Ok (told, rest ++ to_come) = stays bound awaited said to_come (Ok (told, rest)) is (settled_told (told, rest)) in
     let b : told_at bound awaited (reply ++ tail) ≡ Ok (x.0, x.1 ++ tail) = stays bound awaited reply tail (Ok x) is' (settled_told x) in
     let e = ok_parts (told, rest ++ to_come) (x.0, x.1 ++ tail) (told_at bound awaited (said ++ to_come)) a (ap (told_at bound awaited) same ∙ b) in
-    (ap (λ (y : Told × List ℕ). y.0) e, ap (λ (y : Told × List ℕ). y.1) e)
+    (ap (λ (y : ParsedReply × List ℕ). y.0) e, ap (λ (y : ParsedReply × List ℕ). y.1) e)
 
 -- what was told of a part isn't refused of the whole
-not_refused : (bound : ℕ) (awaited : Await) (said to_come rest : List ℕ) (told : Told) (fault : Fault) → told_at bound awaited said ≡ Ok (told, rest) → told_at bound awaited (said ++ to_come) ≡ Err fault → ⊥
+not_refused : (bound : ℕ) (awaited : ReplyKind) (said to_come rest : List ℕ) (told : ParsedReply) (fault : ReplyError) → told_at bound awaited said ≡ Ok (told, rest) → told_at bound awaited (said ++ to_come) ≡ Err fault → ⊥
 not_refused bound awaited said to_come rest told fault is is' =
     let a : told_at bound awaited (said ++ to_come) ≡ Ok (told, rest ++ to_come) = stays bound awaited said to_come (Ok (told, rest)) is (settled_told (told, rest)) in cc
 
 -- by the reply to the first request, where what was said tells something
-behind_reply : {X E : Type 0} (bound : ℕ) (rule : List ℕ → List ℕ) (now : List ℕ) (awaited : Await) (next : Next X E) (said to_come reply tail later rest : List ℕ) (told : Told) (reading : Result (Told × List ℕ) Fault)
+behind_reply : {X E : Type 0} (bound : ℕ) (rule : List ℕ → List ℕ) (now : List ℕ) (awaited : ReplyKind) (next : Next X E) (said to_come reply tail later rest : List ℕ) (told : ParsedReply) (reading : Result (ParsedReply × List ℕ) ReplyError)
     → told_at bound awaited said ≡ Ok (told, rest) → told_at bound awaited reply ≡ reading → said ++ to_come ≡ reply ++ tail → (IsDead rule now → tail ≡ [])
     → IsReadAlong (λ told. IsAlong bound rule now (next told)) next (IsDead rule now) reading → IsFront later (lines_text (sent_in bound (next told) rest))
     → (rest ++ to_come ≡ tail → IsAlong bound rule now (next told) → IsFront later (lines_text (sent_along bound rule now (next told))))
@@ -77,10 +77,10 @@ behind_reply : {X E : Type 0} (bound : ℕ) (rule : List ℕ → List ℕ) (now 
 behind_reply bound rule now awaited next said to_come reply tail later rest told (Ok x) is is' same none (inl more) front again =
     let p = same_told bound awaited said to_come reply tail rest told x is is' same in
     let whole : rest ++ to_come ≡ tail = p.1 ∙ ap (λ (l : List ℕ). l ++ tail) more.0 in
-    subst (λ (t : Told). IsFront later (lines_text (sent_along bound rule now (next t)))) p.0 (again whole (subst (λ (t : Told). IsAlong bound rule now (next t)) (sym p.0) more.1))
+    subst (λ (t : ParsedReply). IsFront later (lines_text (sent_along bound rule now (next t)))) p.0 (again whole (subst (λ (t : ParsedReply). IsAlong bound rule now (next t)) (sym p.0) more.1))
 behind_reply bound rule now awaited next said to_come reply tail later rest told (Ok x) is is' same none (inr no_more) front again =
     let p = same_told bound awaited said to_come reply tail rest told x is is' same in
-    over_front bound (next x.0) rest later _ no_more (subst (λ (t : Told). IsFront later (lines_text (sent_in bound (next t) rest))) p.0 front)
+    over_front bound (next x.0) rest later _ no_more (subst (λ (t : ParsedReply). IsFront later (lines_text (sent_in bound (next t) rest))) p.0 front)
 behind_reply bound rule now awaited next said to_come reply tail later rest told (Err fault) is is' same none (inl broken) front again =
     absurd (not_refused bound awaited said to_come rest told fault is (ap (told_at bound awaited) same ∙ stays bound awaited reply tail (Err fault) is' (settled_refusal fault broken)))
 behind_reply bound rule now awaited next said to_come reply tail later rest told (Err fault) is is' same none (inr dead) front again =
@@ -88,8 +88,8 @@ behind_reply bound rule now awaited next said to_come reply tail later rest told
     (ap (told_at bound awaited) (same ∙ ap (λ (l : List ℕ). reply ++ l) (none dead) ∙ append-nil reply) ∙ is'))
 
 -- by what was said
-behind_said : {X E : Type 0} (bound : ℕ) (next : Next X E) (later others : List ℕ) (reading : Result (Told × List ℕ) Fault) → IsFront later (lines_text (after_reply (λ _. []) (λ told rest. sent_in bound (next told) rest) reading))
-    → ((told : Told) (rest : List ℕ) → reading ≡ Ok (told, rest) → IsFront later (lines_text (sent_in bound (next told) rest)) → IsFront later others) → IsFront later others
+behind_said : {X E : Type 0} (bound : ℕ) (next : Next X E) (later others : List ℕ) (reading : Result (ParsedReply × List ℕ) ReplyError) → IsFront later (lines_text (after_reply (λ _. []) (λ told rest. sent_in bound (next told) rest) reading))
+    → ((told : ParsedReply) (rest : List ℕ) → reading ≡ Ok (told, rest) → IsFront later (lines_text (sent_in bound (next told) rest)) → IsFront later others) → IsFront later others
 behind_said bound next later others (Ok x) front again = again x.0 x.1 refl front
 behind_said bound next later others (Err fault) front again = nothing_front later others front
 
@@ -139,9 +139,9 @@ unfolding sent_in sent_along
 over_sends bound rule now c rest (answer, is) = rw is refl
 
 -- what is sent behind the first request, by the reply to it
-sends_by : {X E : Type 0} (bound : ℕ) (rule : List ℕ → List ℕ) (now : List ℕ) (awaited : Await) (next : Next X E) (reply tail : List ℕ) (reading : Result (Told × List ℕ) Fault)
+sends_by : {X E : Type 0} (bound : ℕ) (rule : List ℕ → List ℕ) (now : List ℕ) (awaited : ReplyKind) (next : Next X E) (reply tail : List ℕ) (reading : Result (ParsedReply × List ℕ) ReplyError)
     → told_at bound awaited reply ≡ reading → (IsDead rule now → tail ≡ []) → IsReadAlong (λ told. IsAlong bound rule now (next told)) next (IsDead rule now) reading
-    → ((told : Told) → told_at bound awaited (reply ++ tail) ≡ Ok (told, tail) → IsAlong bound rule now (next told) → sent_in bound (next told) tail ≡ sent_along bound rule now (next told))
+    → ((told : ParsedReply) → told_at bound awaited (reply ++ tail) ≡ Ok (told, tail) → IsAlong bound rule now (next told) → sent_in bound (next told) tail ≡ sent_along bound rule now (next told))
     → after_reply (λ _. []) (λ told rest. sent_in bound (next told) rest) (told_at bound awaited (reply ++ tail)) ≡ after_reply (λ _. []) (λ told rest. sent_along bound rule now (next told)) reading
 sends_by bound rule now awaited next reply tail (Ok x) is none (inl more) again =
     let found : told_at bound awaited (reply ++ tail) ≡ Ok (x.0, tail) = stays bound awaited reply tail (Ok x) is (settled_told x) ∙ ap (λ (l : List ℕ). Ok (x.0, l ++ tail)) more.0 in

@@ -13,7 +13,7 @@ use Rattle.fetch_wire.specs.Talks.{Talk}
 use Rattle.fetch_wire.specs.Written.{first_too_long}
 use Rattle.fetch_wire.specs.declared.listings.mapping.RefMap.{RefMap}
 use Rattle.fetch_conversation.specs.Conversation.{Concludes}
-use Rattle.fetch_conversation.specs.ListStage.{ListedValue, inquiry_stage, mapped, prefixes_asked, unsendable}
+use Rattle.fetch_conversation.specs.ListStage.{ListedValue, ls_refs_stage, mapped, prefixes_asked, unsendable}
 use Rattle.fetch_conversation.specs.Served.{Follows, IsFresh}
 use Rattle.fetch_conversation.specs.declared.prepare.Error.{Error}
 use Rattle.fetch_serve.specs.Offered.{capabilities_of, offered_of}
@@ -78,10 +78,10 @@ module _ (d : Data) (servable : IsServable d) (bound : ℕ) where
       ∙ names_are_born d true
 
   module _ (old : Option Talk) (new : Talk) (l : ListedValue) (rest : List ℕ) (fresh : IsFresh (replies_of d) old) (follows : Follows (replies_of d) new)
-      (held : Concludes true bound old (Some new) [] (inquiry_stage bound (inquiry_by bound)) l rest) where
-    along_it : (sent : _) (answer : Result ListedValue Error) → GoesAlong bound (replies_of d) [] (inquiry_stage bound (inquiry_by bound)) sent answer → answer ≡ Ok l
+      (held : Concludes true bound old (Some new) [] (ls_refs_stage bound (inquiry_by bound)) l rest) where
+    along_it : (sent : _) (answer : Result ListedValue Error) → GoesAlong bound (replies_of d) [] (ls_refs_stage bound (inquiry_by bound)) sent answer → answer ≡ Ok l
     along_it sent answer g =
-        sym g.is ∙ along.concluded (replies_of d) true bound old new (inquiry_stage bound (inquiry_by bound)) l rest (grows d) (nothing_first d) g.so fresh follows held
+        sym g.is ∙ along.concluded (replies_of d) true bound old new (ls_refs_stage bound (inquiry_by bound)) l rest (grows d) (nothing_first d) g.so fresh follows held
 
     never_so : (e : Error) → Err e ≡ Ok l → names_of l.ref_map.remote_refs ≡ born_names d
     never_so e is = absurd cc

@@ -15,15 +15,15 @@ use Rattle.fetch_wire.specs.Talks.{IsFront, Talk}
 use Rattle.fetch_wire.specs.Written.{first_too_long, line_text, lines_text}
 use Rattle.fetch_wire.specs.declared.error.WireError.TheVariants.{ReplyTooLong}
 use Rattle.fetch_wire.specs.declared.lines.line.Line.{Line}
-use Rattle.fetch_wire.specs.declared.replies.awaited.Await.TheVariants as await
-use Rattle.fetch_wire.specs.declared.replies.awaited.Fault.{Fault}
-use Rattle.fetch_wire.specs.declared.replies.awaited.Fault.TheVariants.{TooLong}
-use Rattle.fetch_wire.specs.declared.replies.awaited.Told.{Told}
-use Rattle.fetch_wire.specs.declared.replies.awaited.Told.TheVariants as told
+use Rattle.fetch_wire.specs.declared.replies.reply.ReplyKind.TheVariants as await
+use Rattle.fetch_wire.specs.declared.replies.reply.ReplyError.{ReplyError}
+use Rattle.fetch_wire.specs.declared.replies.reply.ReplyError.TheVariants.{TooLong}
+use Rattle.fetch_wire.specs.declared.replies.reply.ParsedReply.{ParsedReply}
+use Rattle.fetch_wire.specs.declared.replies.reply.ParsedReply.TheVariants as told
 use Rattle.fetch_wire.proofs.GreetingLines.{greeting_tells}
 use Rattle.fetch_conversation.specs.Errors.{is_free_listing, is_interrupted, is_transport}
 use Rattle.fetch_conversation.specs.Served.{Follows}
-use Rattle.fetch_conversation.specs.ListStage.{InquiryValue, ListedValue, failed, inquiry_stage, prefixes_asked}
+use Rattle.fetch_conversation.specs.ListStage.{LsRefsValue, ListedValue, failed, ls_refs_stage, prefixes_asked}
 use Rattle.fetch_conversation.specs.declared.prepare.Error.{Error}
 use Rattle.fetch_conversation.specs.declared.prepare.Error.TheVariants.{RefMap}
 use Rattle.fetch_conversation.specs.declared.ref_map.Error.{Error as ListError}
@@ -79,13 +79,13 @@ greeting_told d bound within =
     ∙ text_tells step_of no_end bound (start_of await.Greeting) (reply_lines d First) (told.Greeting (greeting_of d.hash)) [] (greeting_tells (capabilities_of d.hash) (greeting d.hash)) (greeting_fits d.hash) within
 
 -- the hash of a greeting that is told
-abbrev kind_told : Told → Kind
+abbrev kind_told : ParsedReply → Kind
 kind_told (told.Greeting h) = h.object_hash
 kind_told (told.Advertisement h refs) = h.object_hash
 kind_told (told.Listing refs) = Sha1
 kind_told (told.Reply reply) = Sha1
 
-abbrev kind_read : Result (Told × List ℕ) Fault → Kind
+abbrev kind_read : Result (ParsedReply × List ℕ) ReplyError → Kind
 kind_read (Ok x) = kind_told x.0
 kind_read (Err fault) = Sha1
 
@@ -129,7 +129,7 @@ module _ (d : Data) (p : ServedPeer) (same_hash : p.served.hash ≡ d.hash) (tex
 
 module _ (d : Data) (servable : IsServable d) (committer : Signature) (workers bound : ℕ) (lister : ServedPeer) (peers : List ServedPeer) (e : ListError)
     (h : IsUnlisted (given_by d committer workers bound lister peers).asking e) where
-  abbrev q : InquiryValue
+  abbrev q : LsRefsValue
   q = inquiry_by bound
 
   abbrev talk : Talk
@@ -141,14 +141,14 @@ module _ (d : Data) (servable : IsServable d) (committer : Signature) (workers b
   hash_is : lister.served.hash ≡ d.hash
   hash_is = one_hash lister.served d (let rules : Some (replies_of lister.served) ≡ Some (replies_of d) = h.broke.passed.same_rule in cc)
 
-  front_of : (sent : List Line) (answer : Result ListedValue Error) → GoesAlong bound (replies_of d) [] (inquiry_stage bound q) sent answer → IsFront (heard_by lister.served lister.heard) (lines_text sent)
+  front_of : (sent : List Line) (answer : Result ListedValue Error) → GoesAlong bound (replies_of d) [] (ls_refs_stage bound q) sent answer → IsFront (heard_by lister.served lister.heard) (lines_text sent)
   front_of sent answer g =
       subst (λ (l : List ℕ). IsFront l (lines_text sent)) (sym (heard_now (replies_of d) true (told_by (fresh d)) talk h.broke.heard h.broke.said (fresh_peer d) h.broke.passed))
       (subst (λ (l : List Line). IsFront h.broke.heard (lines_text l)) g.asked
-      (broken_heard (replies_of d) true bound (told_by (fresh d)) talk (inquiry_stage bound q) is_free_listing is_interrupted (RefMap e) (grows d) (nothing_first d) g.so (fresh_peer d) follows h.broke))
+      (broken_heard (replies_of d) true bound (told_by (fresh d)) talk (ls_refs_stage bound q) is_free_listing is_interrupted (RefMap e) (grows d) (nothing_first d) g.so (fresh_peer d) follows h.broke))
 
   -- the refusal is that along the server's replies
-  refused_as : (sent : List Line) (answer : Result ListedValue Error) → GoesAlong bound (replies_of d) [] (inquiry_stage bound q) sent answer → AreWhole d.hash true (lines_text sent) → answer ≡ Err (RefMap e)
+  refused_as : (sent : List Line) (answer : Result ListedValue Error) → GoesAlong bound (replies_of d) [] (ls_refs_stage bound q) sent answer → AreWhole d.hash true (lines_text sent) → answer ≡ Err (RefMap e)
   refused_as sent answer g whole = by (is_free_listing (RefMap e)) refl (is_transport (RefMap e)) refl
     where
       never_free : (x : ListError) → is_free_listing (RefMap x) ≡ true → is_transport (RefMap x) ≡ false → is_interrupted (RefMap x) ≡ false → ⊥
@@ -160,7 +160,7 @@ module _ (d : Data) (servable : IsServable d) (committer : Signature) (workers b
 
       by : (free : Bool) → is_free_listing (RefMap e) ≡ free → (fault : Bool) → is_transport (RefMap e) ≡ fault → answer ≡ Err (RefMap e)
       by false bound_to fault is =
-          sym g.is ∙ along.broken (replies_of d) true bound (told_by (fresh d)) talk (inquiry_stage bound q) is_free_listing is_interrupted (RefMap e) (grows d) (nothing_first d) g.so (fresh_peer d) follows h.broke bound_to
+          sym g.is ∙ along.broken (replies_of d) true bound (told_by (fresh d)) talk (ls_refs_stage bound q) is_free_listing is_interrupted (RefMap e) (grows d) (nothing_first d) g.so (fresh_peer d) follows h.broke bound_to
       by true free true is = absurd (no_fault d lister hash_is (lines_text sent) whole (front_of sent answer g) (faults_of (fresh d)) (h.blames.cause is))
       by true free false is = absurd (never_free e free is h.never)
 

@@ -8,12 +8,12 @@ use Rattle.fetch_wire.specs.Requests.{first_line, kind_text, listing_lines}
 use Rattle.fetch_wire.specs.SessionStates.{listing_feature}
 use Rattle.fetch_wire.specs.Written.{first_too_long, lines_text}
 use Rattle.fetch_wire.specs.declared.lines.line.Line.{Line}
-use Rattle.fetch_wire.specs.declared.replies.awaited.Await.TheVariants as await
-use Rattle.fetch_wire.specs.declared.replies.awaited.Fault.TheVariants.{Short, TooLong}
-use Rattle.fetch_wire.specs.declared.replies.awaited.Told.{Told}
-use Rattle.fetch_wire.specs.declared.replies.awaited.Told.TheVariants as told
+use Rattle.fetch_wire.specs.declared.replies.reply.ReplyKind.TheVariants as await
+use Rattle.fetch_wire.specs.declared.replies.reply.ReplyError.TheVariants.{Short, TooLong}
+use Rattle.fetch_wire.specs.declared.replies.reply.ParsedReply.{ParsedReply}
+use Rattle.fetch_wire.specs.declared.replies.reply.ParsedReply.TheVariants as told
 use Rattle.fetch_conversation.specs.Conversation.{Conversation, ends, asks, asks_unless}
-use Rattle.fetch_conversation.specs.ListStage.{InquiryValue, ListedValue, failed, greeted, inquiry_stage, listed, listing, mapped, prefixes_asked, too_long, unless, unlisted}
+use Rattle.fetch_conversation.specs.ListStage.{LsRefsValue, ListedValue, failed, greeted, ls_refs_stage, listed, listing, mapped, prefixes_asked, too_long, unless, unlisted}
 use Rattle.fetch_conversation.specs.declared.prepare.Error.{Error}
 use Rattle.fetch_serve.specs.declared.asked.Asked.TheVariants.{First, Listing}
 use Rattle.fetch_serve.specs.Offered.{capabilities_of, offered_of}
@@ -40,8 +40,8 @@ unfolding first_line
 first_short = omega arith
 
 -- what is asked first
-asks_first : (bound : ℕ) (q : InquiryValue) → IsInquiry q → inquiry_stage bound q ≡ asks (first_line (codes ".") [] ∷ []) await.Greeting (failed bound) (λ t. greeted bound q t)
-unfolding inquiry_stage
+asks_first : (bound : ℕ) (q : LsRefsValue) → IsInquiry q → ls_refs_stage bound q ≡ asks (first_line (codes ".") [] ∷ []) await.Greeting (failed bound) (λ t. greeted bound q t)
+unfolding ls_refs_stage
 asks_first bound q is =
     ap (λ (o : Option Error). unless o (asks_unless (first_too_long (first_line q.address q.options.handshake_parameters ∷ [])) too_long (asks (first_line q.address q.options.handshake_parameters ∷ []) await.Greeting (failed bound) (λ t. greeted bound q t)))) is.sendable
     ∙ ap (λ (l : List ℕ). asks_unless (first_too_long (first_line l q.options.handshake_parameters ∷ [])) too_long (asks (first_line l q.options.handshake_parameters ∷ []) await.Greeting (failed bound) (λ t. greeted bound q t))) is.address
@@ -59,7 +59,7 @@ same_hash Sha1 = refl
 same_hash Sha256 = refl
 
 -- and then
-asks_next : (bound : ℕ) (q : InquiryValue) (hash : Kind) → first_too_long (listing_lines (greeting_of hash) q.agent (prefixes_asked q)) ≡ None
+asks_next : (bound : ℕ) (q : LsRefsValue) (hash : Kind) → first_too_long (listing_lines (greeting_of hash) q.agent (prefixes_asked q)) ≡ None
     → greeted bound q (told.Greeting (greeting_of hash)) ≡ asks (listing_lines (greeting_of hash) q.agent (prefixes_asked q)) (await.Listing hash) (failed bound) (λ t. listed q (greeting_of hash) t)
 unfolding listing
 asks_next bound q hash fits =
@@ -95,15 +95,15 @@ next_served d agent prefixes says servable rising fits short = record {
 
 -- ---- the listing
 
-module _ (d : Data) (bound : ℕ) (q : InquiryValue) (h : IsHeard d q) where
+module _ (d : Data) (bound : ℕ) (q : LsRefsValue) (h : IsHeard d q) where
   tree : Conversation ListedValue Error
   tree = asks (first_line (codes ".") [] ∷ []) await.Greeting (failed bound) (λ t. greeted bound q t)
 
-  next : Told → Conversation ListedValue Error
+  next : ParsedReply → Conversation ListedValue Error
   next = λ t. listed q (greeting_of d.hash) t
 
   -- The greeting passes the bound.
-  pub greeting_too_long : bound < sum_by line_len (reply_lines d First) → GoesAlong bound (replies_of d) [] (inquiry_stage bound q) ((first_line (codes ".") [] ∷ []) ++ []) (Err (failed bound TooLong))
+  pub greeting_too_long : bound < sum_by line_len (reply_lines d First) → GoesAlong bound (replies_of d) [] (ls_refs_stage bound q) ((first_line (codes ".") [] ∷ []) ++ []) (Err (failed bound TooLong))
   greeting_too_long far =
       subst (λ (c : Conversation ListedValue Error). GoesAlong bound (replies_of d) [] c ((first_line (codes ".") [] ∷ []) ++ []) (Err (failed bound TooLong))) (sym (asks_first bound q h.inquiry))
       (served_too_long d bound false [] (first_line (codes ".") [] ∷ []) await.Greeting (failed bound) (λ t. greeted bound q t) First (told.Greeting (greeting_of d.hash)) (first_served d (prefixes_asked q) h.told) far)
@@ -113,7 +113,7 @@ module _ (d : Data) (bound : ℕ) (q : InquiryValue) (h : IsHeard d q) where
 
   -- The listing passes the bound.
   pub listing_too_long : sum_by line_len (reply_lines d First) ≤ bound → bound < sum_by line_len (reply_lines d (Listing true (prefixes_asked q)))
-      → GoesAlong bound (replies_of d) [] (inquiry_stage bound q) (asked_lines d q) (Err (failed bound TooLong))
+      → GoesAlong bound (replies_of d) [] (ls_refs_stage bound q) (asked_lines d q) (Err (failed bound TooLong))
   unfolding next
   listing_too_long within far =
       subst (λ (c : Conversation ListedValue Error). GoesAlong bound (replies_of d) [] c (asked_lines d q) (Err (failed bound TooLong))) (sym (asks_first bound q h.inquiry))
@@ -124,7 +124,7 @@ module _ (d : Data) (bound : ℕ) (q : InquiryValue) (h : IsHeard d q) where
 
   -- Both are read: what is offered is mapped.
   pub listing_along : sum_by line_len (reply_lines d First) ≤ bound → sum_by line_len (reply_lines d (Listing true (prefixes_asked q))) ≤ bound
-      → GoesAlong bound (replies_of d) [] (inquiry_stage bound q) (asked_lines d q) (mapped q (greeting_of d.hash) (offered_of d true (prefixes_asked q)))
+      → GoesAlong bound (replies_of d) [] (ls_refs_stage bound q) (asked_lines d q) (mapped q (greeting_of d.hash) (offered_of d true (prefixes_asked q)))
   unfolding next
   listing_along within fits =
       subst (λ (c : Conversation ListedValue Error). GoesAlong bound (replies_of d) [] c (asked_lines d q) (mapped q (greeting_of d.hash) (offered_of d true (prefixes_asked q)))) (sym (asks_first bound q h.inquiry))
@@ -138,7 +138,7 @@ module _ (d : Data) (bound : ℕ) (q : InquiryValue) (h : IsHeard d q) where
   -- The same as a stage behind which the conversation goes on.
   pub listing_to : (x : ListedValue) → sum_by line_len (reply_lines d First) ≤ bound → sum_by line_len (reply_lines d (Listing true (prefixes_asked q))) ≤ bound
       → mapped q (greeting_of d.hash) (offered_of d true (prefixes_asked q)) ≡ Ok x
-      → GoesTo bound (replies_of d) [] (first_text ++ lines_text (listing_lines (greeting_of d.hash) q.agent (prefixes_asked q))) (inquiry_stage bound q) (asked_lines d q) x
+      → GoesTo bound (replies_of d) [] (first_text ++ lines_text (listing_lines (greeting_of d.hash) q.agent (prefixes_asked q))) (ls_refs_stage bound q) (asked_lines d q) x
   unfolding next
   listing_to x within fits is =
       let after = first_text ++ lines_text (listing_lines (greeting_of d.hash) q.agent (prefixes_asked q)) in
@@ -156,24 +156,24 @@ module _ (d : Data) (bound : ℕ) (q : InquiryValue) (h : IsHeard d q) where
 -- ---- a listing request that isn't sent, or isn't read
 
 -- An inquiry whose prefixes rise, of a server that can be served.
-pub record IsAskable (d : Data) (q : InquiryValue) : Type 0 where
+pub record IsAskable (d : Data) (q : LsRefsValue) : Type 0 where
   pub servable : IsServable d
   pub told : AreTold d (prefixes_asked q)
   pub inquiry : IsInquiry q
   pub rising : AreRising [] (prefixes_asked q)
 
-module _ (d : Data) (bound : ℕ) (q : InquiryValue) (h : IsAskable d q) where
+module _ (d : Data) (bound : ℕ) (q : LsRefsValue) (h : IsAskable d q) where
   abbrev lines : List Line
   lines = listing_lines (greeting_of d.hash) q.agent (prefixes_asked q)
 
   after_greeting : (others : List Line) (answer : Result ListedValue Error) → sum_by line_len (reply_lines d First) ≤ bound → GoesAlong bound (replies_of d) first_text (greeted bound q (told.Greeting (greeting_of d.hash))) others answer
-      → GoesAlong bound (replies_of d) [] (inquiry_stage bound q) ((first_line (codes ".") [] ∷ []) ++ others) answer
+      → GoesAlong bound (replies_of d) [] (ls_refs_stage bound q) ((first_line (codes ".") [] ∷ []) ++ others) answer
   after_greeting others answer within more =
       subst (λ (c : Conversation ListedValue Error). GoesAlong bound (replies_of d) [] c ((first_line (codes ".") [] ∷ []) ++ others) answer) (sym (asks_first bound q h.inquiry))
       (served_on d bound false [] (first_line (codes ".") [] ∷ []) await.Greeting (failed bound) (λ t. greeted bound q t) First (told.Greeting (greeting_of d.hash)) others answer (first_served d (prefixes_asked q) h.told) within more)
 
   -- The greeting passes the bound.
-  pub ungreeted : bound < sum_by line_len (reply_lines d First) → GoesAlong bound (replies_of d) [] (inquiry_stage bound q) ((first_line (codes ".") [] ∷ []) ++ []) (Err (failed bound TooLong))
+  pub ungreeted : bound < sum_by line_len (reply_lines d First) → GoesAlong bound (replies_of d) [] (ls_refs_stage bound q) ((first_line (codes ".") [] ∷ []) ++ []) (Err (failed bound TooLong))
   ungreeted far =
       subst (λ (c : Conversation ListedValue Error). GoesAlong bound (replies_of d) [] c ((first_line (codes ".") [] ∷ []) ++ []) (Err (failed bound TooLong))) (sym (asks_first bound q h.inquiry))
       (served_too_long d bound false [] (first_line (codes ".") [] ∷ []) await.Greeting (failed bound) (λ t. greeted bound q t) First (told.Greeting (greeting_of d.hash)) (first_served d (prefixes_asked q) h.told) far)
@@ -184,16 +184,16 @@ module _ (d : Data) (bound : ℕ) (q : InquiryValue) (h : IsAskable d q) where
 
   -- A line of the request is too long.
   pub request_unfit : (n : ℕ) → first_too_long lines ≡ Some n → sum_by line_len (reply_lines d First) ≤ bound
-      → GoesAlong bound (replies_of d) [] (inquiry_stage bound q) ((first_line (codes ".") [] ∷ []) ++ []) (Err (too_long n))
+      → GoesAlong bound (replies_of d) [] (ls_refs_stage bound q) ((first_line (codes ".") [] ∷ []) ++ []) (Err (too_long n))
   request_unfit n is within =
       after_greeting [] (Err (too_long n)) within
       (subst (λ (c : Conversation ListedValue Error). GoesAlong bound (replies_of d) first_text c [] (Err (too_long n))) (sym (ends_unfit n is)) (goes_end bound (replies_of d) first_text (Err (too_long n))))
 
   -- The request is longer than a server reads: it is dead.
   pub request_unread : first_too_long lines ≡ None → request_bound < sum_by line_len lines → sum_by line_len (reply_lines d First) ≤ bound
-      → GoesAlong bound (replies_of d) [] (inquiry_stage bound q) ((first_line (codes ".") [] ∷ []) ++ (lines ++ [])) (Err (failed bound (Short 0)))
+      → GoesAlong bound (replies_of d) [] (ls_refs_stage bound q) ((first_line (codes ".") [] ∷ []) ++ (lines ++ [])) (Err (failed bound (Short 0)))
   request_unread fits long within =
-      let next : Told → Conversation ListedValue Error = λ t. listed q (greeting_of d.hash) t in
+      let next : ParsedReply → Conversation ListedValue Error = λ t. listed q (greeting_of d.hash) t in
       let whole : AreWhole d.hash true first_text = whole_more d.hash false [] first_text First (whole_none d.hash) (asked_whole d.hash false (first_line (codes ".") [] ∷ []) First (first_read d.hash) first_fits first_short) in
       after_greeting (lines ++ []) (Err (failed bound (Short 0))) within
       (subst (λ (c : Conversation ListedValue Error). GoesAlong bound (replies_of d) first_text c (lines ++ []) (Err (failed bound (Short 0)))) (sym (asks_next bound q d.hash fits))

@@ -10,7 +10,7 @@ use Rattle.fetch_conversation.specs.declared.prepare.Error.TheVariants as prepar
 use Rattle.fetch_conversation.specs.declared.ref_map.Error.{Error as ListError}
 use Rattle.fetch_conversation.specs.Errors.{is_interrupted, is_transport}
 use Rattle.fetch_remote.specs.Form.{Given}
-use Rattle.fetch_remote.specs.Talking.{BreaksListing}
+use Rattle.fetch_remote.specs.Conversed.{BreaksListing}
 use Rattle.fetch_remote.specs.declared.fetching.fetch_error.FetchError.TheVariants as fetch
 use Rattle.fetch_race.specs.Racing.{HasRaced}
 use Rattle.fetch_race.specs.declared.job.Job.{Job}
@@ -20,7 +20,7 @@ use Rattle.fetch_serve.specs.Replies.{replies_of, reply_lines}
 use Rattle.fetch_serve.specs.Servable.{IsServable}
 use Rattle.fetch_serve.specs.Served.{Data}
 use Rattle.fetch_serve.specs.declared.asked.Asked.TheVariants.{First, Listing}
-use Rattle.fetch_shared.specs.Talking.{given_to}
+use Rattle.fetch_shared.specs.Conversed.{given_to}
 use Rattle.fetch_shared.specs.declared.entry.Entry.{Entry}
 use Rattle.fetch_shared.specs.declared.error.SharedError.TheVariants as shared
 use Rattle.fetch_mirror.specs.Born.{born_names, born_of}

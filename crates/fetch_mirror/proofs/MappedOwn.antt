@@ -21,7 +21,7 @@ use Rattle.fetch_wire.specs.declared.listings.mapping.SpecIndex.TheVariants.{Exp
 use Rattle.fetch_wire.specs.declared.listings.reference.Ref.{Ref}
 use Rattle.fetch_wire.specs.declared.listings.reference.Source.{Source}
 use Rattle.fetch_wire.specs.declared.listings.reference.Source.TheVariants as sources
-use Rattle.fetch_conversation.specs.ListStage.{InquiryValue, ListedValue, all_specs, map_of, mapped, mapped_unless}
+use Rattle.fetch_conversation.specs.ListStage.{LsRefsValue, ListedValue, all_specs, map_of, mapped, mapped_unless}
 use Rattle.fetch_conversation.specs.Mapped.{index_among, mapping_by, ref_mappings}
 use Rattle.fetch_serve.proofs.Lists.{from_one}
 use Rattle.fetch_mirror.specs.Shares.{AreOnce, AreOwnNames, IsOwnMatch, as_itself}
@@ -113,15 +113,15 @@ module _ (names : List (List ℕ)) (own : AreOwnNames names) (kind : Kind) (refs
 -- ---- what was mapped
 
 -- what is mapped tells the greeting
-greeted_unless : (cs : List Conflict) (q : InquiryValue) (h : Handshake) (refs : List Ref) (l : ListedValue) → mapped_unless cs q h refs ≡ Ok l → h ≡ l.handshake
+greeted_unless : (cs : List Conflict) (q : LsRefsValue) (h : Handshake) (refs : List Ref) (l : ListedValue) → mapped_unless cs q h refs ≡ Ok l → h ≡ l.handshake
 greeted_unless [] q h refs l is = let same : record { ref_map = map_of q h refs; handshake = h } ≡ l = cc in ap (λ (x : ListedValue). x.handshake) same
 greeted_unless (c ∷ cs) q h refs l is = absurd cc
 
-pub greeted_is : (q : InquiryValue) (h : Handshake) (refs : List Ref) (l : ListedValue) → mapped q h refs ≡ Ok l → h ≡ l.handshake
+pub greeted_is : (q : LsRefsValue) (h : Handshake) (refs : List Ref) (l : ListedValue) → mapped q h refs ≡ Ok l → h ≡ l.handshake
 unfolding mapped
 greeted_is q h refs l is = greeted_unless (conflicts_of (mappings_of (all_specs q) (map name_in refs) h.object_hash)) q h refs l is
 
-module _ (names : List (List ℕ)) (q : InquiryValue) (specs_are : q.specs ≡ map as_itself names) (all_are : all_specs q ≡ map as_itself names) where
+module _ (names : List (List ℕ)) (q : LsRefsValue) (specs_are : q.specs ≡ map as_itself names) (all_are : all_specs q ≡ map as_itself names) where
   -- the mappings of a share
   pub mappings_are : (h : Handshake) (refs : List Ref) (l : ListedValue) → mapped q h refs ≡ Ok l → l.ref_map.mappings ≡ ref_mappings (length names) (map as_itself names) h.object_hash refs
   mappings_are h refs l is =

@@ -7,12 +7,12 @@ use Rattle.fetch_wire.specs.Lines.{line_len}
 use Rattle.fetch_wire.specs.Requests.{listing_lines}
 use Rattle.fetch_wire.specs.Written.{lines_text}
 use Rattle.fetch_wire.specs.declared.lines.line.Line.{Line}
-use Rattle.fetch_wire.specs.declared.replies.awaited.Fault.TheVariants.{Short, TooLong}
+use Rattle.fetch_wire.specs.declared.replies.reply.ReplyError.TheVariants.{Short, TooLong}
 use Rattle.fetch_wire.specs.declared.requests.records.FetchReply.{FetchReply}
 use Rattle.fetch_negotiate.specs.Requests.{fetch_request}
 use Rattle.fetch_conversation.specs.ConverseStage.{lacking, no_mapping, other_hash, received, unfit}
 use Rattle.fetch_conversation.specs.Exchange.{asked_by, failed}
-use Rattle.fetch_conversation.specs.ListStage.{InquiryValue, ListedValue, inquiry_stage, prefixes_asked}
+use Rattle.fetch_conversation.specs.ListStage.{LsRefsValue, ListedValue, ls_refs_stage, prefixes_asked}
 use Rattle.fetch_conversation.specs.declared.conversing.Received.{Received}
 use Rattle.fetch_conversation.specs.declared.fetch.Error.{Error as ReceiveError}
 use Rattle.fetch_remote.specs.Errors.{receiving}
@@ -33,10 +33,10 @@ use Rattle.fetch_mirror.proofs.ServedAlong.{AreWhole}
 use Rattle.fetch_mirror.proofs.WorkerAlong.{fetched_along, unreceived_along}
 
 -- all that was heard with the listing request
-abbrev heard_by : Data → InquiryValue → List ℕ
+abbrev heard_by : Data → LsRefsValue → List ℕ
 heard_by d q = first_text ++ lines_text (listing_lines (greeting_of d.hash) q.agent (prefixes_asked q))
 
-listed_to : (d : Data) (g : Given) (l : ListedValue) → IsListed d g l → GoesTo (bound_of g) (replies_of d) [] (heard_by d (inquiry_in g)) (inquiry_stage (bound_of g) (inquiry_in g)) (asked_lines d (inquiry_in g)) l
+listed_to : (d : Data) (g : Given) (l : ListedValue) → IsListed d g l → GoesTo (bound_of g) (replies_of d) [] (heard_by d (inquiry_in g)) (ls_refs_stage (bound_of g) (inquiry_in g)) (asked_lines d (inquiry_in g)) l
 listed_to d g l h = listing_to d (bound_of g) (inquiry_in g) h.heard l h.greeting h.listing h.maps
 
 whole : (d : Data) (g : Given) (l : ListedValue) → IsListed d g l → AreWhole d.hash true (heard_by d (inquiry_in g))

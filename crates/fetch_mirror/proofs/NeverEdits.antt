@@ -11,7 +11,7 @@ use Rattle.fetch_refs.specs.declared.edit.RefEdit.{RefEdit}
 use Rattle.fetch_refs.specs.declared.target.Target.{Target}
 use Rattle.fetch_update.proofs.Wholes.{none_refused}
 use Rattle.fetch_remote.specs.RepositoryValues.{RepositoryValue}
-use Rattle.fetch_remote.specs.Settling.{policy_in}
+use Rattle.fetch_remote.specs.Applying.{policy_in}
 use Rattle.fetch_remote.specs.declared.fetching.outcome.Outcome.{Outcome}
 use Rattle.fetch_shared.specs.declared.entry.Entry.{Entry}
 use Rattle.fetch_shared.specs.declared.entry.Entry.TheVariants.{Take, Commit, Delete}
@@ -20,9 +20,9 @@ use Rattle.fetch_shared.specs.declared.error.SharedError.TheVariants as errors
 use Rattle.fetch_shared.specs.Fetching.{Call, IsStopped, course_in, matter_in}
 use Rattle.fetch_shared.specs.Journals.{entries_of, pass_of}
 use Rattle.fetch_shared.specs.Replays.{Outline, outline, replay}
-use Rattle.fetch_shared.specs.Settling.{Course, IsUncommitted, Matter}
+use Rattle.fetch_shared.specs.Applying.{Course, IsUncommitted, Matter}
 use Rattle.fetch_shared.specs.Shared.{IsKept, SharedValue}
-use Rattle.fetch_shared.specs.Talking.{Line, given_to}
+use Rattle.fetch_shared.specs.Conversed.{Line, given_to}
 use Rattle.fetch_shared.proofs.Refusals.{met_commit}
 use Rattle.fetch_race.specs.Racing.{AreRaced, HasRaced, Race}
 use Rattle.fetch_race.specs.declared.job.Job.{Job}
@@ -157,7 +157,7 @@ module _ {P : Type 0} (race : Race P) (workers bound : ℕ) (names : List (List 
     k = course_in call stopped.conversed.seen.journal
 
     abbrev u : IsUncommitted m k stopped.judged stopped.place (errors.EditReferences name found)
-    u = stopped.unsettled
+    u = stopped.unapplied
 
     mine : IsWorkerCall (share i) bound call
     mine =
@@ -221,8 +221,8 @@ module _ {P : Type 0} (race : Race P) (workers bound : ℕ) (names : List (List 
     met =
         still_met saw.repository.state.refs.names now.repository.state.refs.names edits (λ q e at. still e.name (edits_mine q e at))
         (met_commit saw.repository.state.refs.names edits
-        (none_refused (policy_in saw.repository.state m.how u.by.trees) stopped.told.listed.ref_map.refspecs stopped.told.listed.ref_map.extra_refspecs stopped.told.listed.ref_map.mappings u.updates
-        (judged_so (policy_in saw.repository.state m.how u.by.trees) stopped.told.listed.ref_map u.updates u.by.verdicts)))
+        (none_refused (policy_in saw.repository.state m.options u.by.trees) stopped.told.listed.ref_map.refspecs stopped.told.listed.ref_map.extra_refspecs stopped.told.listed.ref_map.mappings u.updates
+        (judged_so (policy_in saw.repository.state m.options u.by.trees) stopped.told.listed.ref_map u.updates u.by.verdicts)))
 
     pub never : ⊥
     never = nothing_fails (find (fails now.repository.state.refs.names) edits) met u.refused.1.cause

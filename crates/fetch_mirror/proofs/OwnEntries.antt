@@ -28,11 +28,11 @@ use Rattle.fetch_shared.specs.declared.entry.Entry.TheVariants.{Take, Commit, De
 use Rattle.fetch_shared.specs.declared.error.SharedError.{SharedError}
 use Rattle.fetch_shared.specs.declared.error.SharedError.TheVariants as errors
 use Rattle.fetch_shared.specs.declared.receipt.Receipt.{Receipt}
-use Rattle.fetch_shared.specs.Bringing.{take_entries}
+use Rattle.fetch_shared.specs.PackTaken.{take_entries}
 use Rattle.fetch_shared.specs.Fetching.{Call, HasConversed, IsSharedFetch, IsSharedRefused, IsStopped, RanOut, course_in, matter_in, own}
 use Rattle.fetch_shared.specs.Journals.{entries_of}
-use Rattle.fetch_shared.specs.Settling.{Commits, Course, ForgotEarly, ForgotLate, ForgotMaking, HasCommitted, HasJudged, HasTaken, IsForgotten, IsUncommitted, IsUnjudged, IsUnkept, IsUnremoved, IsUntaken, Matter, commit_entry, reply_in}
-use Rattle.fetch_shared.specs.Talking.{Line, given_to}
+use Rattle.fetch_shared.specs.Applying.{Commits, Course, ForgotEarly, ForgotLate, ForgotMaking, HasCommitted, HasJudged, HasTaken, IsForgotten, IsUncommitted, IsUnjudged, IsUnkept, IsUnremoved, IsUntaken, Matter, commit_entry, reply_in}
+use Rattle.fetch_shared.specs.Conversed.{Line, given_to}
 use Rattle.fetch_race.specs.Racing.{HasRaced, IsAnswered, Race}
 use Rattle.fetch_race.specs.declared.job.Job.{Job}
 use Rattle.fetch_mirror.specs.Shares.{AreOwnNames, as_itself}
@@ -117,40 +117,40 @@ module _ (share : List (List ℕ)) (bound : ℕ) (line : Line) (c : Call) (w : I
 
     disconnected : (link : Missing) → IsStopped line c receipt (errors.Disconnected link) → AreOwnEntries share front
     disconnected link h =
-        let u : IsUntaken (matter_in c.given h.conversed.seen.repository.state h.told) (course_in c h.conversed.seen.journal) h.judged h.place (errors.Disconnected link) = h.unsettled in
+        let u : IsUntaken (matter_in c.given h.conversed.seen.repository.state h.told) (course_in c h.conversed.seen.journal) h.judged h.place (errors.Disconnected link) = h.unapplied in
         nothing front u.none
 
     collided : (id : ObjectId) → IsStopped line c receipt (errors.Collision id) → AreOwnEntries share front
     collided id h =
-        let u : IsUntaken (matter_in c.given h.conversed.seen.repository.state h.told) (course_in c h.conversed.seen.journal) h.judged h.place (errors.Collision id) = h.unsettled in
+        let u : IsUntaken (matter_in c.given h.conversed.seen.repository.state h.told) (course_in c h.conversed.seen.journal) h.judged h.place (errors.Collision id) = h.unapplied in
         nothing front u.none
 
     uncommitted : (name : List ℕ) (found : Option Target) → IsStopped line c receipt (errors.EditReferences name found) → AreOwnEntries share front
     uncommitted name found h =
         let m = matter_in c.given h.conversed.seen.repository.state h.told in
         let k = course_in c h.conversed.seen.journal in
-        let u : IsUncommitted m k h.judged h.place (errors.EditReferences name found) = h.unsettled in
+        let u : IsUncommitted m k h.judged h.place (errors.EditReferences name found) = h.unapplied in
         behind m k u.count u.by.taken refl refl u.none
 
     unkept : (path : List ℕ) → IsStopped line c receipt (errors.Fetch (fetch.Receive (receive.KeepFile path))) → AreOwnEntries share front
     unkept path h =
         let m = matter_in c.given h.conversed.seen.repository.state h.told in
-        let u : IsUnkept m (course_in c h.conversed.seen.journal) h.judged h.place path = h.unsettled in
+        let u : IsUnkept m (course_in c h.conversed.seen.journal) h.judged h.place path = h.unapplied in
         taken front (reply_in m) u.added
 
     unjudged : (cause : UpdateError) → IsStopped line c receipt (errors.Fetch (fetch.Receive (receive.UpdateRefs cause))) → AreOwnEntries share front
     unjudged cause h =
         let m = matter_in c.given h.conversed.seen.repository.state h.told in
         let k = course_in c h.conversed.seen.journal in
-        let u : IsUnjudged m k h.judged h.place cause = h.unsettled in
+        let u : IsUnjudged m k h.judged h.place cause = h.unapplied in
         behind m k u.count u.taken refl refl u.none
 
     wet : c.given.options.dry_run ≡ false
     wet = ap (λ (o : FetchOptions). o.dry_run) w.options
 
-    settled : (count : ℕ) (told : Told) (h : HasConversed line c count told) (judged : ℕ) (updates : Updates) (place : Option ℕ) (by : HasJudged (matter_in c.given h.seen.repository.state told) (course_in c h.seen.journal) judged updates)
+    applied : (count : ℕ) (told : Told) (h : HasConversed line c count told) (judged : ℕ) (updates : Updates) (place : Option ℕ) (by : HasJudged (matter_in c.given h.seen.repository.state told) (course_in c h.seen.journal) judged updates)
         → Commits c.given.options.dry_run c.before.number judged (entries_of c.before.number by.taken.seen.journal) c.after.front (commit_entry (matter_in c.given h.seen.repository.state told) c.before.number updates) place → AreOwnEntries share front
-    settled count told h judged updates place by commits =
+    applied count told h judged updates place by commits =
         let seen = entries_of c.before.number by.taken.seen.journal in
         let m = matter_in c.given h.seen.repository.state told in
         let done : HasCommitted c.before.number judged seen c.after.front (commit_entry m c.before.number updates) place = subst (λ (dry : Bool). Commits dry c.before.number judged seen c.after.front (commit_entry m c.before.number updates) place) wet commits in
@@ -158,14 +158,14 @@ module _ (share : List (List ℕ)) (bound : ℕ) (line : Line) (c : Call) (w : I
 
     unremoved : (path : List ℕ) → IsStopped line c receipt (errors.Fetch (fetch.Receive (receive.RemovePackKeepFile path))) → AreOwnEntries share front
     unremoved path h =
-        let u : IsUnremoved (matter_in c.given h.conversed.seen.repository.state h.told) (course_in c h.conversed.seen.journal) h.judged h.place path = h.unsettled in
-        settled h.count h.told h.conversed u.count u.updates h.place u.by u.commits
+        let u : IsUnremoved (matter_in c.given h.conversed.seen.repository.state h.told) (course_in c h.conversed.seen.journal) h.judged h.place path = h.unapplied in
+        applied h.count h.told h.conversed u.count u.updates h.place u.by u.commits
 
     forgotten : IsStopped line c receipt errors.NoMemory → AreOwnEntries share front
     forgotten h =
         let m = matter_in c.given h.conversed.seen.repository.state h.told in
         let k = course_in c h.conversed.seen.journal in
-        let u : IsForgotten m k h.judged h.place = h.unsettled in
+        let u : IsForgotten m k h.judged h.place = h.unapplied in
         ⊎_elim
         (λ (early : ForgotEarly k h.judged). nothing front early.none)
         (λ (others : ForgotMaking m k h.judged ⊎ ForgotLate m k h.judged). ⊎_elim
@@ -209,7 +209,7 @@ module _ (share : List (List ℕ)) (bound : ℕ) (line : Line) (c : Call) (w : I
     refused errors.NoMemory h = ⊎_elim (λ (r : RanOut line c receipt). nothing front r.none) (λ (s : IsStopped line c receipt errors.NoMemory). forgotten s) h
 
     fetched : (outcome : Outcome) → IsSharedFetch line c receipt outcome → AreOwnEntries share front
-    fetched outcome f = settled f.count f.told f.conversed f.judged f.settled.updates f.place f.settled.by f.settled.commits
+    fetched outcome f = applied f.count f.told f.conversed f.judged f.applied.updates f.place f.applied.by f.applied.commits
 
     pub answered : (answer : Result Outcome SharedError) → IsAnswered line c receipt answer → AreOwnEntries share (entries_of c.before.number c.after.front)
     answered (Ok outcome) h = fetched outcome h

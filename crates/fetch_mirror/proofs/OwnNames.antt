@@ -18,7 +18,7 @@ use Rattle.fetch_wire.specs.declared.listings.mapping.Mapping.{Mapping}
 use Rattle.fetch_wire.specs.declared.listings.mapping.RefMap.{RefMap}
 use Rattle.fetch_wire.specs.declared.listings.reference.Ref.{Ref}
 use Rattle.fetch_wire.specs.declared.listings.reference.Source.{Source}
-use Rattle.fetch_conversation.specs.ListStage.{InquiryValue, ListedValue, all_specs, map_of, mapped, mapped_unless, with_tags}
+use Rattle.fetch_conversation.specs.ListStage.{LsRefsValue, ListedValue, all_specs, map_of, mapped, mapped_unless, with_tags}
 use Rattle.fetch_conversation.specs.Mapped.{index_among, mapping_by, ref_mappings, taken_by}
 use Rattle.fetch_mirror.specs.Shares.{AreOnce, AreOwnNames, as_itself}
 use Rattle.fetch_mirror.proofs.EditsNamed.{IsNamedBy}
@@ -54,20 +54,20 @@ module _ (names : List (List ℕ)) (own : AreOwnNames names) (kind : Kind) (refs
   named_in remote name h = mapping_in remote h.at h.mapping name h.there h.local
 
 -- what is mapped is the map of it
-map_unless : (cs : List Conflict) (q : InquiryValue) (h : Handshake) (refs : List Ref) (l : ListedValue) → mapped_unless cs q h refs ≡ Ok l → map_of q h refs ≡ l.ref_map
+map_unless : (cs : List Conflict) (q : LsRefsValue) (h : Handshake) (refs : List Ref) (l : ListedValue) → mapped_unless cs q h refs ≡ Ok l → map_of q h refs ≡ l.ref_map
 map_unless [] q h refs l is = let same : record { ref_map = map_of q h refs; handshake = h } ≡ l = cc in ap (λ (x : ListedValue). x.ref_map) same
 map_unless (c ∷ cs) q h refs l is = absurd cc
 
-pub map_is : (q : InquiryValue) (h : Handshake) (refs : List Ref) (l : ListedValue) → mapped q h refs ≡ Ok l → map_of q h refs ≡ l.ref_map
+pub map_is : (q : LsRefsValue) (h : Handshake) (refs : List Ref) (l : ListedValue) → mapped q h refs ≡ Ok l → map_of q h refs ≡ l.ref_map
 unfolding mapped
 map_is q h refs l is = map_unless (conflicts_of (mappings_of (all_specs q) (map name_in refs) h.object_hash)) q h refs l is
 
 -- the names of a listing, as it is mapped
-pub listed_once : (q : InquiryValue) (l : ListedValue) → IsMappedOnce q l → AreOnce (map name_in l.ref_map.remote_refs)
+pub listed_once : (q : LsRefsValue) (l : ListedValue) → IsMappedOnce q l → AreOnce (map name_in l.ref_map.remote_refs)
 listed_once q l h = subst (λ (refs : List Ref). AreOnce (map name_in refs)) (ap (λ (m : RefMap). m.remote_refs) (map_is q h.handshake h.refs l h.is)) (once_at (map name_in h.refs) h.once)
 
 -- the destinations of a listing that is asked for a share
-pub share_named : (names : List (List ℕ)) → AreOwnNames names → (q : InquiryValue) (l : ListedValue) → q.specs ≡ map as_itself names → q.tags ≡ tags.None → q.options.extra_refspecs ≡ [] → IsMappedOnce q l
+pub share_named : (names : List (List ℕ)) → AreOwnNames names → (q : LsRefsValue) (l : ListedValue) → q.specs ≡ map as_itself names → q.tags ≡ tags.None → q.options.extra_refspecs ≡ [] → IsMappedOnce q l
     → (name : List ℕ) → IsNamedBy l.ref_map.mappings name → IsIn names name
 share_named names own q l specs_are none extra h name is =
     let shown : map_of q h.handshake h.refs ≡ l.ref_map = map_is q h.handshake h.refs l h.is in

@@ -12,10 +12,10 @@ use Rattle.fetch_wire.specs.Steps.{error_text}
 use Rattle.fetch_wire.specs.Texts.{is_error}
 use Rattle.fetch_wire.specs.Written.{first_too_long, lines_text, too_long_in}
 use Rattle.fetch_wire.specs.declared.lines.line.Line.{Line}
-use Rattle.fetch_wire.specs.declared.replies.awaited.Await.TheVariants as await
-use Rattle.fetch_wire.specs.declared.replies.awaited.Fault.TheVariants.{Short, TooLong}
-use Rattle.fetch_wire.specs.declared.replies.awaited.Told.{Told}
-use Rattle.fetch_wire.specs.declared.replies.awaited.Told.TheVariants as told
+use Rattle.fetch_wire.specs.declared.replies.reply.ReplyKind.TheVariants as await
+use Rattle.fetch_wire.specs.declared.replies.reply.ReplyError.TheVariants.{Short, TooLong}
+use Rattle.fetch_wire.specs.declared.replies.reply.ParsedReply.{ParsedReply}
+use Rattle.fetch_wire.specs.declared.replies.reply.ParsedReply.TheVariants as told
 use Rattle.fetch_wire.specs.declared.requests.records.FetchReply.{FetchReply}
 use Rattle.fetch_negotiate.specs.Requests.{fetch_request}
 use Rattle.fetch_negotiate.specs.Windows.{window_of}
@@ -23,9 +23,9 @@ use Rattle.fetch_negotiate.specs.declared.algorithm.Algorithm.{Algorithm}
 use Rattle.fetch_negotiate.specs.declared.algorithm.Algorithm.TheVariants as algorithms
 use Rattle.fetch_conversation.specs.Conversation.{Conversation, ends, asks, asks_unless, and_then}
 use Rattle.fetch_conversation.specs.ConverseStage.{algorithm_in, converse_stage, fetching, lacking, no_mapping, other_hash, received, unfit, wanting}
-use Rattle.fetch_conversation.specs.Exchange.{TermsValue, asked_by, exchange, failed, replied, reply_to, too_long}
+use Rattle.fetch_conversation.specs.Exchange.{FetchArgumentsValue, asked_by, exchange, failed, replied, reply_to, too_long}
 use Rattle.fetch_conversation.specs.ListStage.{unless}
-use Rattle.fetch_conversation.specs.Rounds.{Negotiated, first_course, negotiating}
+use Rattle.fetch_conversation.specs.Rounds.{Negotiated, first_rounds_state, negotiating}
 use Rattle.fetch_conversation.specs.declared.conversing.Received.{Received}
 use Rattle.fetch_conversation.specs.declared.fetch.Error.{Error}
 use Rattle.fetch_serve.specs.declared.asked.Asked.TheVariants.{Fetch}
@@ -42,12 +42,12 @@ use Rattle.fetch_mirror.proofs.StagesAlong.{to_end}
 
 -- ---- the tree
 
-module _ (d : Data) (bound : ℕ) (g : Graph) (t : TermsValue) (id : ObjectId) (wants : List ObjectId) (reply : FetchReply) (h : IsFetching d t id wants reply) where
+module _ (d : Data) (bound : ℕ) (g : Graph) (t : FetchArgumentsValue) (id : ObjectId) (wants : List ObjectId) (reply : FetchReply) (h : IsFetching d t id wants reply) where
   request : List Line
   request = fetch_request (asked_by t) [] true
 
   -- what follows a reply
-  next : Told → Conversation (Option Received) Error
+  next : ParsedReply → Conversation (Option Received) Error
   next = λ x. and_then (and_then (replied x) (λ reply. ends (Ok (one_round reply)))) (λ n. ends (received t n))
 
   tree : Conversation (Option Received) Error
@@ -57,7 +57,7 @@ module _ (d : Data) (bound : ℕ) (g : Graph) (t : TermsValue) (id : ObjectId) (
   unfolding exchange request
   asks_it = ap (λ (o : Option ℕ). asks_unless o too_long (asks (fetch_request (asked_by t) [] true) (await.Reply (reply_to t [] true)) (failed bound) (λ x. replied x))) h.fits
 
-  one : (more : ℕ) → negotiating (suc more) bound t g algorithms.Noop (first_course algorithms.Noop t.view) ≡ and_then (exchange bound t [] true) (λ reply. ends (Ok (one_round reply)))
+  one : (more : ℕ) → negotiating (suc more) bound t g algorithms.Noop (first_rounds_state algorithms.Noop t.view) ≡ and_then (exchange bound t [] true) (λ reply. ends (Ok (one_round reply)))
   unfolding negotiating window_of
   one more = refl
 
@@ -66,7 +66,7 @@ module _ (d : Data) (bound : ℕ) (g : Graph) (t : TermsValue) (id : ObjectId) (
   stage =
       ap (λ (o : Option Error). unless o (wanting bound g t t.view.wants)) h.accepted
       ∙ ap (wanting bound g t) h.wanted
-      ∙ ap (λ (a : Algorithm). and_then (negotiating (suc (map.len g)) bound t g a (first_course a t.view)) (λ n. ends (received t n))) h.noop
+      ∙ ap (λ (a : Algorithm). and_then (negotiating (suc (map.len g)) bound t g a (first_rounds_state a t.view)) (λ n. ends (received t n))) h.noop
       ∙ ap (λ (c : Conversation Negotiated Error). and_then c (λ n. ends (received t n))) (one (map.len g))
       ∙ ap (λ (c : Conversation FetchReply Error). and_then (and_then c (λ reply. ends (Ok (one_round reply)))) (λ n. ends (received t n))) asks_it
 
@@ -123,12 +123,12 @@ module _ (d : Data) (bound : ℕ) (g : Graph) (t : TermsValue) (id : ObjectId) (
       (asked_too_long d.hash true (fetch_request (asked_by t) [] true) (Fetch (wanting_all (id ∷ wants))) (fetch_read d.hash (asked_by t) id wants h.asked h.new) h.fits long))
 
 -- where nothing is wanted nothing is asked
-no_request : (bound : ℕ) (g : Graph) (t : TermsValue) → option_or (no_mapping t) (option_or (other_hash t) (option_or (unfit t.settings) (lacking t))) ≡ None → t.view.wants ≡ [] → converse_stage bound g t ≡ ends (Ok None)
+no_request : (bound : ℕ) (g : Graph) (t : FetchArgumentsValue) → option_or (no_mapping t) (option_or (other_hash t) (option_or (unfit t.settings) (lacking t))) ≡ None → t.view.wants ≡ [] → converse_stage bound g t ≡ ends (Ok None)
 unfolding converse_stage
 no_request bound g t accepted none = ap (λ (o : Option Error). unless o (wanting bound g t t.view.wants)) accepted ∙ ap (wanting bound g t) none
 
 -- Nothing is wanted: nothing is asked.
-pub nothing_to : (d : Data) (bound : ℕ) (g : Graph) (t : TermsValue) (heard : List ℕ) → option_or (no_mapping t) (option_or (other_hash t) (option_or (unfit t.settings) (lacking t))) ≡ None → t.view.wants ≡ []
+pub nothing_to : (d : Data) (bound : ℕ) (g : Graph) (t : FetchArgumentsValue) (heard : List ℕ) → option_or (no_mapping t) (option_or (other_hash t) (option_or (unfit t.settings) (lacking t))) ≡ None → t.view.wants ≡ []
     → GoesTo bound (replies_of d) heard heard (converse_stage bound g t) [] None
 nothing_to d bound g t heard accepted none =
     subst (λ (c : Conversation (Option Received) Error). GoesTo bound (replies_of d) heard heard c [] None) (sym (no_request bound g t accepted none)) (to_end bound (replies_of d) heard (Ok None) None refl)
@@ -136,19 +136,19 @@ nothing_to d bound g t heard accepted none =
 -- ---- a pack that is too large
 
 -- What is asked stands but for the pack: nothing is refused before the request, which the server reads.
-pub record IsRequesting (d : Data) (t : TermsValue) (id : ObjectId) (wants : List ObjectId) : Type 0 where
+pub record IsRequesting (d : Data) (t : FetchArgumentsValue) (id : ObjectId) (wants : List ObjectId) : Type 0 where
   pub accepted : option_or (no_mapping t) (option_or (other_hash t) (option_or (unfit t.settings) (lacking t))) ≡ None
   pub wanted : t.view.wants ≡ id ∷ wants
   pub noop : algorithm_in t.settings ≡ algorithms.Noop
   pub asked : IsWanting d.hash (asked_by t) id wants
   pub new : AreNew d.hash [] (id ∷ wants)
 
-module _ (d : Data) (bound : ℕ) (g : Graph) (t : TermsValue) (id : ObjectId) (wants : List ObjectId) (h : IsRequesting d t id wants) where
+module _ (d : Data) (bound : ℕ) (g : Graph) (t : FetchArgumentsValue) (id : ObjectId) (wants : List ObjectId) (h : IsRequesting d t id wants) where
   -- what follows a reply
-  abbrev behind : Told → Conversation (Option Received) Error
+  abbrev behind : ParsedReply → Conversation (Option Received) Error
   behind = λ x. and_then (and_then (replied x) (λ reply. ends (Ok (one_round reply)))) (λ n. ends (received t n))
 
-  once_asked : (more : ℕ) → negotiating (suc more) bound t g algorithms.Noop (first_course algorithms.Noop t.view) ≡ and_then (exchange bound t [] true) (λ reply. ends (Ok (one_round reply)))
+  once_asked : (more : ℕ) → negotiating (suc more) bound t g algorithms.Noop (first_rounds_state algorithms.Noop t.view) ≡ and_then (exchange bound t [] true) (λ reply. ends (Ok (one_round reply)))
   unfolding negotiating window_of
   once_asked more = refl
 
@@ -157,7 +157,7 @@ module _ (d : Data) (bound : ℕ) (g : Graph) (t : TermsValue) (id : ObjectId) (
   exchanges =
       ap (λ (o : Option Error). unless o (wanting bound g t t.view.wants)) h.accepted
       ∙ ap (wanting bound g t) h.wanted
-      ∙ ap (λ (a : Algorithm). and_then (negotiating (suc (map.len g)) bound t g a (first_course a t.view)) (λ n. ends (received t n))) h.noop
+      ∙ ap (λ (a : Algorithm). and_then (negotiating (suc (map.len g)) bound t g a (first_rounds_state a t.view)) (λ n. ends (received t n))) h.noop
       ∙ ap (λ (c : Conversation Negotiated Error). and_then c (λ n. ends (received t n))) (once_asked (map.len g))
 
   -- by whether a line of the request is too long

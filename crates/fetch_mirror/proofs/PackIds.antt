@@ -16,7 +16,7 @@ use Rattle.fetch_reach.specs.Stored.{entry_at}
 use Rattle.fetch_conversation.specs.declared.conversing.Received.{Received}
 use Rattle.fetch_shared.specs.declared.entry.Entry.{Entry}
 use Rattle.fetch_shared.specs.declared.entry.Entry.TheVariants.{Take, Commit}
-use Rattle.fetch_shared.specs.Bringing.{take_entries}
+use Rattle.fetch_shared.specs.PackTaken.{take_entries}
 use Rattle.fetch_serve.specs.declared.asked.FetchAsked.{FetchAsked}
 use Rattle.fetch_serve.specs.Depths.{depth_of}
 use Rattle.fetch_serve.specs.Packs.{IsNeeded, IsTagOnTheWay, pack_of, served_of}

@@ -3,12 +3,12 @@ use Rattle.std.proofs.Common.{◌≡◌, refl}
 use Rattle.fetch_wire.specs.Awaited.{step_of}
 use Rattle.fetch_wire.specs.Stepping.{breaks}
 use Rattle.fetch_wire.specs.declared.lines.line.Line.TheVariants.{End}
-use Rattle.fetch_wire.specs.declared.replies.reading.Part.TheVariants as parts
-use Rattle.fetch_wire.specs.declared.replies.reading.Reading.{Reading}
-use Rattle.fetch_wire.specs.declared.replies.reading.Reading.TheVariants as reading
+use Rattle.fetch_wire.specs.declared.replies.parser.Part.TheVariants as parts
+use Rattle.fetch_wire.specs.declared.replies.parser.ReplyParser.{ReplyParser}
+use Rattle.fetch_wire.specs.declared.replies.parser.ReplyParser.TheVariants as reading
 use Rattle.fetch_mirror.proofs.Written.{HasNoEnd}
 
-ends_break : (r : Reading) → step_of r End ≡ breaks
+ends_break : (r : ReplyParser) → step_of r End ≡ breaks
 unfolding step_of
 ends_break reading.Greeting = refl
 ends_break (reading.Capabilities before) = refl

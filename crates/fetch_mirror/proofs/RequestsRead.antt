@@ -17,7 +17,7 @@ use Rattle.fetch_wire.specs.Texts.{without_lf}
 use Rattle.fetch_wire.specs.Written.{first_too_long, lines_text}
 use Rattle.fetch_wire.specs.declared.lines.line.Line.{Line}
 use Rattle.fetch_wire.specs.declared.lines.line.Line.TheVariants.{Flush, End}
-use Rattle.fetch_wire.specs.declared.replies.awaited.Fault.TheVariants.{TooLong}
+use Rattle.fetch_wire.specs.declared.replies.reply.ReplyError.TheVariants.{TooLong}
 use Rattle.fetch_wire.proofs.Moving.{Moves, first_tells, lf_last, moves_tell}
 use Rattle.fetch_serve.specs.declared.asked.Asked.{Asked}
 use Rattle.fetch_serve.specs.declared.asked.Asked.TheVariants.{First, Listing}

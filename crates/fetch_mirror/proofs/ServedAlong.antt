@@ -8,10 +8,10 @@ use Rattle.fetch_wire.specs.LinesTold.{Tells}
 use Rattle.fetch_wire.specs.Stepping.{says}
 use Rattle.fetch_wire.specs.Written.{lines_text, first_too_long, too_long_in}
 use Rattle.fetch_wire.specs.declared.lines.line.Line.{Line}
-use Rattle.fetch_wire.specs.declared.replies.awaited.Await.{Await}
-use Rattle.fetch_wire.specs.declared.replies.awaited.Fault.{Fault}
-use Rattle.fetch_wire.specs.declared.replies.awaited.Fault.TheVariants.{Short, TooLong}
-use Rattle.fetch_wire.specs.declared.replies.awaited.Told.{Told}
+use Rattle.fetch_wire.specs.declared.replies.reply.ReplyKind.{ReplyKind}
+use Rattle.fetch_wire.specs.declared.replies.reply.ReplyError.{ReplyError}
+use Rattle.fetch_wire.specs.declared.replies.reply.ReplyError.TheVariants.{Short, TooLong}
+use Rattle.fetch_wire.specs.declared.replies.reply.ParsedReply.{ParsedReply}
 use Rattle.fetch_conversation.specs.Conversation.{Conversation, asks}
 use Rattle.fetch_serve.specs.declared.asked.Asked.{Asked}
 use Rattle.fetch_serve.specs.declared.error.ServeError.TheVariants as errors
@@ -93,13 +93,13 @@ is_dead d begun heard text h read =
 -- ---- one request of a conversation
 
 -- A request that a server read behind whole ones, and whose reply tells this.
-pub record IsServed (d : Data) (begun : Bool) (heard : List ℕ) (lines : List Line) (awaited : Await) (asked : Asked) (told : Told) : Type 0 where
+pub record IsServed (d : Data) (begun : Bool) (heard : List ℕ) (lines : List Line) (awaited : ReplyKind) (asked : Asked) (told : ParsedReply) : Type 0 where
   pub whole : AreWhole d.hash begun heard
   pub read : request_at d.hash begun (lines_text lines) ≡ Ok (asked, [])
   pub tells : Tells step_of (start_of awaited) (reply_lines d asked) told
   pub fits : first_too_long (reply_lines d asked) ≡ None
 
-module _ {X E : Type 0} (d : Data) (bound : ℕ) (begun : Bool) (heard : List ℕ) (lines : List Line) (awaited : Await) (failed : Fault → E) (next : Told → Conversation X E) (asked : Asked) (told : Told) where
+module _ {X E : Type 0} (d : Data) (bound : ℕ) (begun : Bool) (heard : List ℕ) (lines : List Line) (awaited : ReplyKind) (failed : ReplyError → E) (next : ParsedReply → Conversation X E) (asked : Asked) (told : ParsedReply) where
   -- its reply is within the bound, and the conversation goes on
   pub served_on : (others : List Line) (answer : Result X E) → IsServed d begun heard lines awaited asked told → sum_by line_len (reply_lines d asked) ≤ bound
       → GoesAlong bound (replies_of d) (heard ++ lines_text lines) (next told) others answer → GoesAlong bound (replies_of d) heard (asks lines awaited failed next) (lines ++ others) answer
@@ -121,15 +121,15 @@ module _ {X E : Type 0} (d : Data) (bound : ℕ) (begun : Bool) (heard : List �
       (ap (told_at bound awaited) (sym (append-nil (reply_text d asked))) ∙ text_too_long step_of no_end bound (start_of awaited) (reply_lines d asked) [] told s.tells s.fits far) (λ place e. cc)
 
 -- a request that the server doesn't read, since it is too long
-pub unserved : {X E : Type 0} (d : Data) (bound : ℕ) (begun : Bool) (heard : List ℕ) (lines : List Line) (awaited : Await) (failed : Fault → E) (next : Told → Conversation X E) → AreWhole d.hash begun heard
+pub unserved : {X E : Type 0} (d : Data) (bound : ℕ) (begun : Bool) (heard : List ℕ) (lines : List Line) (awaited : ReplyKind) (failed : ReplyError → E) (next : ParsedReply → Conversation X E) → AreWhole d.hash begun heard
     → request_at d.hash begun (lines_text lines) ≡ Err TooLong → GoesAlong bound (replies_of d) heard (asks lines awaited failed next) (lines ++ []) (Err (failed (Short 0)))
 unserved d bound begun heard lines awaited failed next whole read =
     let dead = is_dead d begun heard (lines_text lines) whole read in goes_dead bound (replies_of d) heard lines awaited failed next dead.0 dead.1
 
 -- a request that is answered by the line of a server that fails
-pub served_refused : {X E : Type 0} (d : Data) (bound : ℕ) (begun : Bool) (heard : List ℕ) (lines : List Line) (awaited : Await) (failed : Fault → E) (next : Told → Conversation X E) (asked : Asked) (line : Line) (text : List ℕ)
+pub served_refused : {X E : Type 0} (d : Data) (bound : ℕ) (begun : Bool) (heard : List ℕ) (lines : List Line) (awaited : ReplyKind) (failed : ReplyError → E) (next : ParsedReply → Conversation X E) (asked : Asked) (line : Line) (text : List ℕ)
     → AreWhole d.hash begun heard → request_at d.hash begun (lines_text lines) ≡ Ok (asked, []) → reply_lines d asked ≡ line ∷ [] → step_of (start_of awaited) line ≡ says text → too_long_in line ≡ None
-    → (fault : Fault) × GoesAlong bound (replies_of d) heard (asks lines awaited failed next) (lines ++ []) (Err (failed fault))
+    → (fault : ReplyError) × GoesAlong bound (replies_of d) heard (asks lines awaited failed next) (lines ++ []) (Err (failed fault))
 served_refused d bound begun heard lines awaited failed next asked line text whole read is says_so fits =
     let t = text_says step_of no_end bound (start_of awaited) line [] text says_so fits in (
       t.0,

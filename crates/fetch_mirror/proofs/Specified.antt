@@ -10,11 +10,11 @@ use Rattle.fetch_wire.specs.Written.{first_too_long}
 use Rattle.fetch_wire.specs.declared.greetings.handshake.Handshake.{Handshake}
 use Rattle.fetch_wire.specs.declared.lines.line.Line.{Line}
 use Rattle.fetch_wire.specs.declared.listings.reference.Ref.{Ref}
-use Rattle.fetch_wire.specs.declared.replies.awaited.Await.{Await}
-use Rattle.fetch_wire.specs.declared.replies.awaited.Await.TheVariants as awaits
-use Rattle.fetch_wire.specs.declared.replies.awaited.Fault.{Fault}
-use Rattle.fetch_wire.specs.declared.replies.awaited.Told.{Told}
-use Rattle.fetch_wire.specs.declared.replies.awaited.Told.TheVariants as told
+use Rattle.fetch_wire.specs.declared.replies.reply.ReplyKind.{ReplyKind}
+use Rattle.fetch_wire.specs.declared.replies.reply.ReplyKind.TheVariants as awaits
+use Rattle.fetch_wire.specs.declared.replies.reply.ReplyError.{ReplyError}
+use Rattle.fetch_wire.specs.declared.replies.reply.ParsedReply.{ParsedReply}
+use Rattle.fetch_wire.specs.declared.replies.reply.ParsedReply.TheVariants as told
 use Rattle.fetch_specs.specs.Conflicts.{conflicts_of}
 use Rattle.fetch_specs.specs.Matches.{mappings_of}
 use Rattle.fetch_specs.specs.declared.conflict.Conflict.{Conflict}
@@ -25,7 +25,7 @@ use Rattle.fetch_wire.specs.declared.error.WireError.TheVariants as wire
 use Rattle.fetch_conversation.specs.Conversation.{Breaks, Conversation, Converses, RefusesWith, after_reply, answer_in, asks, asks_unless, beside}
 use Rattle.fetch_conversation.specs.Errors.{is_free_listing, is_interrupted}
 use Rattle.fetch_conversation.specs.declared.listing.Listed.{Listed}
-use Rattle.fetch_conversation.specs.ListStage.{InquiryValue, ListedValue, all_specs, answer_shown, failed, greeted, handshaking, inquiry_stage, listed, listing, mapped, mapped_unless, prefixes_asked, too_long, unless, unlisted, unsendable}
+use Rattle.fetch_conversation.specs.ListStage.{LsRefsValue, ListedValue, all_specs, answer_shown, failed, greeted, handshaking, ls_refs_stage, listed, listing, mapped, mapped_unless, prefixes_asked, too_long, unless, unlisted, unsendable}
 use Rattle.fetch_conversation.specs.declared.prepare.Error.{Error}
 use Rattle.fetch_conversation.specs.declared.prepare.Error.TheVariants.{MissingRefSpecs}
 
@@ -36,7 +36,7 @@ Answer = Result (ListedValue × List ℕ) Error
 abbrev IsOther : Answer → Type 0
 IsOther r = r ≡ Err MissingRefSpecs → ⊥
 
-module _ (bound : ℕ) (q : InquiryValue) where
+module _ (bound : ℕ) (q : LsRefsValue) where
   besides : (stream : List ℕ) (r : Result ListedValue Error) → ((e : Error) → r ≡ Err e → e ≢ MissingRefSpecs) → IsOther (beside stream r)
   besides stream (Ok l) other is = absurd cc
   besides stream (Err e) other is = other e refl (let same : e ≡ MissingRefSpecs = cc in same)
@@ -50,18 +50,18 @@ module _ (bound : ℕ) (q : InquiryValue) where
   maps_other h refs e is = mapped_other (conflicts_of (mappings_of (all_specs q) (map name_in refs) h.object_hash)) h refs e is
 
   -- a question that is asked, and what its reply leads to
-  asked_other : (long : Option ℕ) (stop : Option Error) (lines : List Line) (awaited : Await) (next : Told → Conversation ListedValue Error) (stream : List ℕ) → ((e : Error) → stop ≡ Some e → e ≢ MissingRefSpecs)
-      → ((t : Told) (behind : List ℕ) → IsOther (answer_in bound (next t) behind)) → IsOther (answer_in bound (asks_unless long too_long (unless stop (asks lines awaited (failed bound) next))) stream)
+  asked_other : (long : Option ℕ) (stop : Option Error) (lines : List Line) (awaited : ReplyKind) (next : ParsedReply → Conversation ListedValue Error) (stream : List ℕ) → ((e : Error) → stop ≡ Some e → e ≢ MissingRefSpecs)
+      → ((t : ParsedReply) (behind : List ℕ) → IsOther (answer_in bound (next t) behind)) → IsOther (answer_in bound (asks_unless long too_long (unless stop (asks lines awaited (failed bound) next))) stream)
   unfolding answer_in
   asked_other (Some length) stop lines awaited next stream stops on is = absurd cc
   asked_other None (Some e) lines awaited next stream stops on is = stops e refl (let same : e ≡ MissingRefSpecs = cc in same)
   asked_other None None lines awaited next stream stops on is = by (told_at bound awaited stream) is
     where
-      by : (reading : Result (Told × List ℕ) Fault) → IsOther (after_reply (λ fault. Err (failed bound fault)) (λ t behind. answer_in bound (next t) behind) reading)
+      by : (reading : Result (ParsedReply × List ℕ) ReplyError) → IsOther (after_reply (λ fault. Err (failed bound fault)) (λ t behind. answer_in bound (next t) behind) reading)
       by (Err fault) is = absurd cc
       by (Ok x) is = on x.0 x.1 is
 
-  listed_other : (h : Handshake) (t : Told) (stream : List ℕ) → IsOther (answer_in bound (listed q h t) stream)
+  listed_other : (h : Handshake) (t : ParsedReply) (stream : List ℕ) → IsOther (answer_in bound (listed q h t) stream)
   unfolding answer_in
   listed_other h (told.Listing refs) stream is = besides stream (mapped q h refs) (maps_other h refs) is
   listed_other h (told.Greeting other) stream is = absurd cc
@@ -81,7 +81,7 @@ module _ (bound : ℕ) (q : InquiryValue) where
       asked_other (first_too_long (listing_lines h q.agent (prefixes_asked q))) (unlisted h) (listing_lines h q.agent (prefixes_asked q)) (awaits.Listing h.object_hash) (λ t. listed q h t) stream (unlisted_other h)
       (λ t behind at. listed_other h t behind at) is
 
-  greeted_other : (t : Told) (stream : List ℕ) → IsOther (answer_in bound (greeted bound q t) stream)
+  greeted_other : (t : ParsedReply) (stream : List ℕ) → IsOther (answer_in bound (greeted bound q t) stream)
   unfolding answer_in
   greeted_other (told.Greeting h) stream is = listing_other h stream is
   greeted_other (told.Advertisement h refs) stream is = besides stream (mapped q h refs) (maps_other h refs) is
@@ -102,19 +102,19 @@ module _ (bound : ℕ) (q : InquiryValue) where
   first_other None long stream stops is =
       asked_other long None (first_line q.address q.options.handshake_parameters ∷ []) awaits.Greeting (λ t. greeted bound q t) stream (λ e none. absurd cc) (λ t behind at. greeted_other t behind at) is
 
-  inquired_other : (stream : List ℕ) → IsOther (answer_in bound (inquiry_stage bound q) stream)
-  unfolding inquiry_stage
+  inquired_other : (stream : List ℕ) → IsOther (answer_in bound (ls_refs_stage bound q) stream)
+  unfolding ls_refs_stage
   inquired_other stream is = first_other (unsendable q) (first_too_long (first_line q.address q.options.handshake_parameters ∷ [])) stream unsendable_other is
 
-  pub specified : (answers : Bool) (old new : Option Talk) (rest : List ℕ) (result : Result ListedValue Error) → Converses is_free_listing is_interrupted answers bound old new [] rest (inquiry_stage bound q) result
+  pub specified : (answers : Bool) (old new : Option Talk) (rest : List ℕ) (result : Result ListedValue Error) → Converses is_free_listing is_interrupted answers bound old new [] rest (ls_refs_stage bound q) result
       → IfErr result (λ e. e ≢ MissingRefSpecs)
   specified answers old new rest (Ok l) h = tt
   specified answers old new rest (Err e) h = λ same.
-      let broke : Breaks is_free_listing is_interrupted answers bound old new [] (inquiry_stage bound q) e = h.held in
+      let broke : Breaks is_free_listing is_interrupted answers bound old new [] (ls_refs_stage bound q) e = h.held in
       let why = broke.why (ap is_free_listing same) in
       ⊎_elim
-      (λ (always : (more : List ℕ) → RefusesWith bound (inquiry_stage bound q) (broke.said ++ more) broke.heard e). inquired_other (broke.said ++ []) ((always []).answer ∙ ap (λ (x : Error). Err x) same))
-      (λ (drained : IsDrained new × RefusesWith bound (inquiry_stage bound q) broke.said broke.heard e). inquired_other broke.said (drained.1.answer ∙ ap (λ (x : Error). Err x) same))
+      (λ (always : (more : List ℕ) → RefusesWith bound (ls_refs_stage bound q) (broke.said ++ more) broke.heard e). inquired_other (broke.said ++ []) ((always []).answer ∙ ap (λ (x : Error). Err x) same))
+      (λ (drained : IsDrained new × RefusesWith bound (ls_refs_stage bound q) broke.said broke.heard e). inquired_other broke.said (drained.1.answer ∙ ap (λ (x : Error). Err x) same))
       why
 
   -- so it is of a call that shows that
@@ -122,6 +122,6 @@ module _ (bound : ℕ) (q : InquiryValue) where
   shown_so (Ok l) h = tt
   shown_so (Err e) h = h
 
-  pub always_specified : (answers : Bool) (old new : Option Talk) (rest : List ℕ) (result : Result Listed Error) → Converses is_free_listing is_interrupted answers bound old new [] rest (inquiry_stage bound q) (answer_shown result)
+  pub always_specified : (answers : Bool) (old new : Option Talk) (rest : List ℕ) (result : Result Listed Error) → Converses is_free_listing is_interrupted answers bound old new [] rest (ls_refs_stage bound q) (answer_shown result)
       → IfErr result (λ e. e ≢ MissingRefSpecs)
   always_specified answers old new rest result h = shown_so result (specified answers old new rest (answer_shown result) h)

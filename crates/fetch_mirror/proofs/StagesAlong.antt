@@ -4,17 +4,17 @@ use Rattle.fetch_mirror.proofs.Along.{added-is}
 use Rattle.fetch_mirror.proofs.GoingAlong.{goes_by, goes_end}
 use Rattle.fetch_mirror.specs.Along.{added, IsDead, answer_along, sent_along, IsReadAlong, IsAlong}
 use Rattle.fetch_wire.specs.Awaited.{told_at}
-use Rattle.fetch_wire.specs.declared.replies.awaited.Await.{Await}
-use Rattle.fetch_wire.specs.declared.replies.awaited.Told.{Told}
+use Rattle.fetch_wire.specs.declared.replies.reply.ReplyKind.{ReplyKind}
+use Rattle.fetch_wire.specs.declared.replies.reply.ParsedReply.{ParsedReply}
 use Rattle.fetch_conversation.specs.Conversation.{Conversation, ends, asks, after_reply, after_answer, and_then, map_refusal, told_as}
 use Rattle.fetch_wire.specs.Written.{lines_text}
 use Rattle.fetch_wire.specs.declared.lines.line.Line.{Line}
 use Rattle.fetch_conversation.specs.Served.{IsOver}
-use Rattle.fetch_wire.specs.declared.replies.awaited.Fault.{Fault}
+use Rattle.fetch_wire.specs.declared.replies.reply.ReplyError.{ReplyError}
 use Rattle.fetch_mirror.specs.GoingAlong.{GoesAlong, GoesTo}
 
 abbrev Next : Type 0 → Type 0 → Type 0
-Next X E = Told → Conversation X E
+Next X E = ParsedReply → Conversation X E
 
 -- ---- whole replies alone
 
@@ -24,7 +24,7 @@ unfolding GoesTo
 to_end bound rule before answer x is = (is, refl, refl)
 
 -- one more request, whose reply is whole
-pub to_on : {X E : Type 0} (bound : ℕ) (rule : List ℕ → List ℕ) (before after : List ℕ) (lines : List Line) (awaited : Await) (failed : Fault → E) (next : Next X E) (reply : List ℕ) (told : Told) (others : List Line) (x : X)
+pub to_on : {X E : Type 0} (bound : ℕ) (rule : List ℕ → List ℕ) (before after : List ℕ) (lines : List Line) (awaited : ReplyKind) (failed : ReplyError → E) (next : Next X E) (reply : List ℕ) (told : ParsedReply) (others : List Line) (x : X)
     → rule (before ++ lines_text lines) ≡ rule before ++ reply → told_at bound awaited reply ≡ Ok (told, []) → GoesTo bound rule (before ++ lines_text lines) after (next told) others x → GoesTo bound rule before after (asks lines awaited failed next) (lines ++ others) x
 unfolding GoesTo
 to_on bound rule before after lines awaited failed next reply told others x adds is more = (told, ap (told_at bound awaited) (added-is rule before (lines_text lines) reply adds) ∙ is, others, refl, more)
@@ -82,11 +82,11 @@ over_then bound rule now c f e (found, is) refused =
 refused_is : {X E : Type 0} (found : Result X E) (e e' : E) → found ≡ Err e' → found ≡ Err e → e' ≡ e
 refused_is found e e' is is' = cc
 
-early_by : {X Y E : Type 0} (bound : ℕ) (rule : List ℕ → List ℕ) (before : List ℕ) (lines : List Line) (awaited : Await) (failed : Fault → E) (next : Next X E) (f : X → Conversation Y E) (e : E) (reading : Result (Told × List ℕ) Fault)
+early_by : {X Y E : Type 0} (bound : ℕ) (rule : List ℕ → List ℕ) (before : List ℕ) (lines : List Line) (awaited : ReplyKind) (failed : ReplyError → E) (next : Next X E) (f : X → Conversation Y E) (e : E) (reading : Result (ParsedReply × List ℕ) ReplyError)
     → told_at bound awaited (added rule before (lines_text lines)) ≡ reading
     → IsReadAlong (λ told. IsAlong bound rule (before ++ lines_text lines) (next told)) next (IsDead rule (before ++ lines_text lines)) reading
     → after_reply (λ fault. Err (failed fault)) (λ told rest. answer_along bound rule (before ++ lines_text lines) (next told)) reading ≡ Err e
-    → ((told : Told) → IsAlong bound rule (before ++ lines_text lines) (next told) → answer_along bound rule (before ++ lines_text lines) (next told) ≡ Err e
+    → ((told : ParsedReply) → IsAlong bound rule (before ++ lines_text lines) (next told) → answer_along bound rule (before ++ lines_text lines) (next told) ≡ Err e
     → GoesAlong bound rule (before ++ lines_text lines) (and_then (next told) f) (sent_along bound rule (before ++ lines_text lines) (next told)) (Err e))
     → GoesAlong bound rule before (asks lines awaited failed (λ told. and_then (next told) f)) (lines ++ after_reply (λ fault. []) (λ told rest. sent_along bound rule (before ++ lines_text lines) (next told)) reading) (Err e)
 unfolding answer_along sent_along
@@ -116,10 +116,10 @@ early_along bound rule before c f sent e h = sent_as bound rule before (and_then
 
 -- ---- refusals told in another type
 
-as_by : {X E F : Type 0} (bound : ℕ) (rule : List ℕ → List ℕ) (before : List ℕ) (lines : List Line) (awaited : Await) (failed : Fault → E) (next : Next X E) (g : E → F) (reading : Result (Told × List ℕ) Fault)
+as_by : {X E F : Type 0} (bound : ℕ) (rule : List ℕ → List ℕ) (before : List ℕ) (lines : List Line) (awaited : ReplyKind) (failed : ReplyError → E) (next : Next X E) (g : E → F) (reading : Result (ParsedReply × List ℕ) ReplyError)
     → told_at bound awaited (added rule before (lines_text lines)) ≡ reading
     → IsReadAlong (λ told. IsAlong bound rule (before ++ lines_text lines) (next told)) next (IsDead rule (before ++ lines_text lines)) reading
-    → ((told : Told) → IsAlong bound rule (before ++ lines_text lines) (next told)
+    → ((told : ParsedReply) → IsAlong bound rule (before ++ lines_text lines) (next told)
     → GoesAlong bound rule (before ++ lines_text lines) (told_as g (next told)) (sent_along bound rule (before ++ lines_text lines) (next told)) (map_refusal g (answer_along bound rule (before ++ lines_text lines) (next told))))
     → GoesAlong bound rule before (asks lines awaited (λ fault. g (failed fault)) (λ told. told_as g (next told)))
     (lines ++ after_reply (λ fault. []) (λ told rest. sent_along bound rule (before ++ lines_text lines) (next told)) reading)

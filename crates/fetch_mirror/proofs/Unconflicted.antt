@@ -19,7 +19,7 @@ use Rattle.fetch_specs.proofs.Places.{each_mapping}
 use Rattle.fetch_wire.specs.References.{name_in}
 use Rattle.fetch_wire.specs.declared.greetings.handshake.Handshake.{Handshake}
 use Rattle.fetch_wire.specs.declared.listings.reference.Ref.{Ref}
-use Rattle.fetch_conversation.specs.ListStage.{InquiryValue, all_specs, map_of, mapped, mapped_unless}
+use Rattle.fetch_conversation.specs.ListStage.{LsRefsValue, all_specs, map_of, mapped, mapped_unless}
 use Rattle.fetch_mirror.specs.Naming.{everything, inquiry_by}
 use Rattle.fetch_mirror.specs.Shares.{AreOnce, AreOwnNames, as_itself}
 use Rattle.fetch_mirror.proofs.OwnMatches.{own_matches}
@@ -52,7 +52,7 @@ unconflicted ms selves = by (conflicts_of ms) refl
     by (c ∷ cs) is = absurd (one_source ms selves c ((each_conflict ms c).0 (subst (λ (l : List Conflict). Contains l c) (sym is) (first_in c cs))))
 
 -- so they are mapped
-pub maps_selves : (q : InquiryValue) (h : Handshake) (listed : List Ref) → ((m : Match) → Contains (mappings_of (all_specs q) (map name_in listed) h.object_hash) m → IsSelf m)
+pub maps_selves : (q : LsRefsValue) (h : Handshake) (listed : List Ref) → ((m : Match) → Contains (mappings_of (all_specs q) (map name_in listed) h.object_hash) m → IsSelf m)
     → mapped q h listed ≡ Ok (record { ref_map = map_of q h listed; handshake = h })
 unfolding mapped
 maps_selves q h listed selves = ap (λ (cs : List Conflict). mapped_unless cs q h listed) (unconflicted (mappings_of (all_specs q) (map name_in listed) h.object_hash) selves)

@@ -31,7 +31,7 @@ use Rattle.fetch_remote.specs.declared.fetching.outcome.Outcome.{Outcome}
 use Rattle.fetch_shared.specs.declared.entry.Entry.{Entry}
 use Rattle.fetch_shared.specs.declared.entry.Entry.TheVariants.{Take, Commit}
 use Rattle.fetch_shared.specs.declared.error.SharedError.{SharedError}
-use Rattle.fetch_shared.specs.Bringing.{take_entries}
+use Rattle.fetch_shared.specs.PackTaken.{take_entries}
 use Rattle.fetch_shared.specs.Journals.{entries_of, pass_of}
 use Rattle.fetch_shared.specs.Replays.{Outline, outline}
 use Rattle.fetch_shared.proofs.Replays.{contains-ids, replay_hash}

@@ -2,7 +2,7 @@
 use Rattle.std.proofs.Common.{◌≡◌, ℕ, List, [], ◌++◌, Option, None, Result, Ok, Err, sym, ap, subst}
 use Rattle.fetch_wire.specs.declared.lines.line.Line.{Line}
 use Rattle.fetch_conversation.specs.Conversation.{Conversation, ends, told_as}
-use Rattle.fetch_conversation.specs.ListStage.{ListedValue, inquiry_stage, list_stage, no_specs, unless}
+use Rattle.fetch_conversation.specs.ListStage.{ListedValue, ls_refs_stage, list_stage, no_specs, unless}
 use Rattle.fetch_conversation.specs.declared.conversing.Received.{Received}
 use Rattle.fetch_conversation.specs.declared.fetch.Error.{Error as ReceiveError}
 use Rattle.fetch_conversation.specs.declared.prepare.Error.{Error as PrepareError}
@@ -16,13 +16,13 @@ use Rattle.fetch_mirror.proofs.GoingAlong.{goes_end}
 use Rattle.fetch_mirror.proofs.StagesAlong.{as_along, as_to, early_along, then_along}
 
 -- a remote with refspecs is asked
-pub lists_so : (g : Given) → no_specs (inquiry_in g) ≡ None → listing_stage g ≡ inquiry_stage (bound_of g) (inquiry_in g)
+pub lists_so : (g : Given) → no_specs (inquiry_in g) ≡ None → listing_stage g ≡ ls_refs_stage (bound_of g) (inquiry_in g)
 unfolding list_stage
-lists_so g some = ap (λ (o : Option PrepareError). unless o (inquiry_stage (bound_of g) (inquiry_in g))) some
+lists_so g some = ap (λ (o : Option PrepareError). unless o (ls_refs_stage (bound_of g) (inquiry_in g))) some
 
 -- The listing is refused: so is the fetch.
 pub unlisted_along : (rule : List ℕ → List ℕ) (g : Given) (s : State) (sent : List Line) (e : PrepareError) → no_specs (inquiry_in g) ≡ None
-    → GoesAlong (bound_of g) rule [] (inquiry_stage (bound_of g) (inquiry_in g)) sent (Err e) → GoesAlong (bound_of g) rule [] (conversation g s) sent (Err (preparing e))
+    → GoesAlong (bound_of g) rule [] (ls_refs_stage (bound_of g) (inquiry_in g)) sent (Err e) → GoesAlong (bound_of g) rule [] (conversation g s) sent (Err (preparing e))
 unfolding conversation
 unlisted_along rule g s sent e some h =
     early_along (bound_of g) rule [] (told_as preparing (listing_stage g)) (receiving_stage g s) sent (preparing e)
@@ -30,7 +30,7 @@ unlisted_along rule g s sent e some h =
 
 -- behind a listing
 listed_along : (rule : List ℕ → List ℕ) (g : Given) (s : State) (after : List ℕ) (sent others : List Line) (l : ListedValue) (answer : Result Told FetchError) → no_specs (inquiry_in g) ≡ None
-    → GoesTo (bound_of g) rule [] after (inquiry_stage (bound_of g) (inquiry_in g)) sent l → GoesAlong (bound_of g) rule after (receiving_stage g s l) others answer
+    → GoesTo (bound_of g) rule [] after (ls_refs_stage (bound_of g) (inquiry_in g)) sent l → GoesAlong (bound_of g) rule after (receiving_stage g s l) others answer
     → GoesAlong (bound_of g) rule [] (conversation g s) (sent ++ others) answer
 unfolding conversation
 listed_along rule g s after sent others l answer some h k =
@@ -46,7 +46,7 @@ refused rule g s after others l e k =
 
 -- The pack is refused: so is the fetch.
 pub unreceived_along : (rule : List ℕ → List ℕ) (g : Given) (s : State) (after : List ℕ) (sent others : List Line) (l : ListedValue) (e : ReceiveError) → no_specs (inquiry_in g) ≡ None
-    → GoesTo (bound_of g) rule [] after (inquiry_stage (bound_of g) (inquiry_in g)) sent l → GoesAlong (bound_of g) rule after (pack_stage g s l) others (Err e)
+    → GoesTo (bound_of g) rule [] after (ls_refs_stage (bound_of g) (inquiry_in g)) sent l → GoesAlong (bound_of g) rule after (pack_stage g s l) others (Err e)
     → GoesAlong (bound_of g) rule [] (conversation g s) (sent ++ others) (Err (receiving e))
 unreceived_along rule g s after sent others l e some h k = listed_along rule g s after sent others l (Err (receiving e)) some h (refused rule g s after others l e k)
 
@@ -60,7 +60,7 @@ had rule g s after last others l r k =
 
 -- Both are had.
 pub fetched_along : (rule : List ℕ → List ℕ) (g : Given) (s : State) (after last : List ℕ) (sent others : List Line) (l : ListedValue) (r : Option Received) → no_specs (inquiry_in g) ≡ None
-    → GoesTo (bound_of g) rule [] after (inquiry_stage (bound_of g) (inquiry_in g)) sent l → GoesTo (bound_of g) rule after last (pack_stage g s l) others r
+    → GoesTo (bound_of g) rule [] after (ls_refs_stage (bound_of g) (inquiry_in g)) sent l → GoesTo (bound_of g) rule after last (pack_stage g s l) others r
     → GoesAlong (bound_of g) rule [] (conversation g s) (sent ++ (others ++ [])) (Ok (record { listed = l; received = r }))
 fetched_along rule g s after last sent others l r some h k =
     listed_along rule g s after sent (others ++ []) l (Ok (record { listed = l; received = r })) some h (had rule g s after last others l r k)

@@ -19,8 +19,8 @@ use Rattle.fetch_wire.specs.declared.lines.line.Line.{Line}
 use Rattle.fetch_wire.specs.declared.listings.reference.Ref.{Ref}
 use Rattle.fetch_negotiate.specs.Requests.{fetch_request}
 use Rattle.fetch_negotiate.specs.declared.algorithm.Shallow.TheVariants.{NoChange}
-use Rattle.fetch_conversation.specs.Exchange.{TermsValue, asked_by}
-use Rattle.fetch_conversation.specs.ListStage.{InquiryValue, ListedValue, map_of, mapped, prefixes_asked}
+use Rattle.fetch_conversation.specs.Exchange.{FetchArgumentsValue, asked_by}
+use Rattle.fetch_conversation.specs.ListStage.{LsRefsValue, ListedValue, map_of, mapped, prefixes_asked}
 use Rattle.fetch_remote.specs.Form.{Given}
 use Rattle.fetch_remote.specs.Repositories.{State}
 use Rattle.fetch_remote.specs.Stages.{Told, conversation}
@@ -60,7 +60,7 @@ module _ (d : Data) (servable : IsServable d) (committer : Signature) (bound : â
   abbrev given : Given
   given = worker_given d committer bound share
 
-  abbrev q : InquiryValue
+  abbrev q : LsRefsValue
   q = worker.q d servable committer bound share sh.own sh.born sh.first sh.some
 
   abbrev refs : List Ref
@@ -112,7 +112,7 @@ module _ (d : Data) (servable : IsServable d) (committer : Signature) (bound : â
   whole_listing = subst (AreWhole d.hash true) (sym listing_text) (listed_whole d bound q is_heard)
 
   module _ (s : State) (border : s.border â‰¡ set.empty) where
-    abbrev t : TermsValue
+    abbrev t : FetchArgumentsValue
     t = worker.t d servable committer bound share sh.own sh.born sh.first sh.some l maps s border
 
     -- the request for these

@@ -25,20 +25,20 @@ use Rattle.fetch_remote.specs.Form.{Given}
 use Rattle.fetch_remote.specs.Refused.{HasEnded}
 use Rattle.fetch_remote.specs.Repositories.{State}
 use Rattle.fetch_remote.specs.RepositoryValues.{RepositoryValue}
-use Rattle.fetch_remote.specs.Settling.{policy_in}
+use Rattle.fetch_remote.specs.Applying.{policy_in}
 use Rattle.fetch_remote.specs.Stages.{Told, conversation, inquiry_in}
 use Rattle.fetch_remote.specs.declared.fetching.fetch_error.FetchError.{FetchError}
 use Rattle.fetch_remote.specs.declared.fetching.outcome.Outcome.{Outcome}
 use Rattle.fetch_shared.specs.declared.entry.Entry.{Entry}
 use Rattle.fetch_shared.specs.declared.entry.Entry.TheVariants.{Take, Commit}
-use Rattle.fetch_shared.specs.Bringing.{take_entries}
+use Rattle.fetch_shared.specs.PackTaken.{take_entries}
 use Rattle.fetch_shared.specs.Fetching.{Call, IsSharedFetch, matter_in, own}
 use Rattle.fetch_shared.specs.Journals.{Begins, entries_of, pass_of}
 use Rattle.fetch_shared.specs.Replays.{Outline, outline, replay}
 use Rattle.fetch_shared.specs.Seen.{AllowsTake}
-use Rattle.fetch_shared.specs.Settling.{HasCommitted}
+use Rattle.fetch_shared.specs.Applying.{HasCommitted}
 use Rattle.fetch_shared.specs.Shared.{SharedValue}
-use Rattle.fetch_shared.specs.Talking.{Line, given_to}
+use Rattle.fetch_shared.specs.Conversed.{Line, given_to}
 use Rattle.fetch_race.specs.Racing.{HasRaced, Race}
 use Rattle.fetch_serve.specs.Peers.{ServedPeer, faults_of, heard_by, talk_with, told_by}
 use Rattle.fetch_serve.specs.Replies.{replies_of}
@@ -115,11 +115,11 @@ module _ (d : Data) (committer : Signature) (bound : ℕ) (share : List (List �
   told = fetch.told
 
   abbrev pub updates : Updates
-  updates = fetch.settled.updates
+  updates = fetch.applied.updates
 
   -- what the verdicts saw
   abbrev judged : SharedValue
-  judged = fetch.settled.by.taken.seen
+  judged = fetch.applied.by.taken.seen
 
   given_is : call.given ≡ worker_given d committer bound share
   given_is = λ i. record {
@@ -142,10 +142,10 @@ module _ (d : Data) (committer : Signature) (bound : ℕ) (share : List (List �
   none_before = ap (entries_of h.before.number) h.fresh.front_is
 
   taken_entries : entries_of h.before.number judged.journal ≡ take_entries h.before.number told.received
-  taken_entries = fetch.settled.by.taken.added ∙ ap (λ (l : List Entry). l ++ take_entries h.before.number told.received) none_before
+  taken_entries = fetch.applied.by.taken.added ∙ ap (λ (l : List Entry). l ++ take_entries h.before.number told.received) none_before
 
   committed : HasCommitted h.before.number fetch.judged (entries_of h.before.number judged.journal) h.after.front (Commit h.before.number updates.edits call.given.setup.settings.committer) fetch.place
-  committed = fetch.settled.commits
+  committed = fetch.applied.commits
 
   committer_is : call.given.setup.settings.committer ≡ committer
   committer_is = ap (λ (g : Given). g.setup.settings.committer) given_is
@@ -169,8 +169,8 @@ module _ (d : Data) (committer : Signature) (bound : ℕ) (share : List (List �
   -- and so is what the verdicts saw
   pub judged_begins : Begins judged.journal journal
   judged_begins = record {
-    rest = fetch.settled.by.taken.at.begins.rest ++ h.seen.rest;
-    is = sym (append_assoc judged.journal fetch.settled.by.taken.at.begins.rest h.seen.rest) ∙ ap (λ (l : List Entry). l ++ h.seen.rest) fetch.settled.by.taken.at.begins.is ∙ h.seen.is;
+    rest = fetch.applied.by.taken.at.begins.rest ++ h.seen.rest;
+    is = sym (append_assoc judged.journal fetch.applied.by.taken.at.begins.rest h.seen.rest) ∙ ap (λ (l : List Entry). l ++ h.seen.rest) fetch.applied.by.taken.at.begins.is ∙ h.seen.is;
   }
 
   pub planned_tells : outline planned.repository ≡ replay (outline (empty_mirror d.hash committer)) planned.journal
@@ -179,11 +179,11 @@ module _ (d : Data) (committer : Signature) (bound : ℕ) (share : List (List �
 
   judged_tells : outline judged.repository ≡ replay (outline (empty_mirror d.hash committer)) judged.journal
   judged_tells =
-      fetch.settled.by.taken.at.kept.state.told ∙ ap (λ (r : RepositoryValue). replay (outline r) judged.journal) (fetch.settled.by.taken.at.opened ∙ h.fresh.opened)
+      fetch.applied.by.taken.at.kept.state.told ∙ ap (λ (r : RepositoryValue). replay (outline r) judged.journal) (fetch.applied.by.taken.at.opened ∙ h.fresh.opened)
 
   -- where it took something, it had no entry in what the plan saw
   pub none_planned : (x : Received) → told.received ≡ Some x → entries_of number planned.journal ≡ []
-  none_planned x is = ap (λ (n : ℕ). entries_of n planned.journal) (sym h.fresh.number_is) ∙ by told.received is fetch.settled.by.taken.allowed taken_entries
+  none_planned x is = ap (λ (n : ℕ). entries_of n planned.journal) (sym h.fresh.number_is) ∙ by told.received is fetch.applied.by.taken.allowed taken_entries
     where
       by : (r : Option Received) → r ≡ Some x → AllowsTake call.before.shared.opening planned.journal h.after.front h.before.number (matter_in call.given seen told).wants r judged
           → entries_of h.before.number judged.journal ≡ take_entries h.before.number r → entries_of h.before.number planned.journal ≡ []
@@ -221,7 +221,7 @@ module _ (d : Data) (committer : Signature) (bound : ℕ) (share : List (List �
 
   -- what the verdicts went by
   abbrev pub policy : Policy
-  policy = policy_in judged.repository.state (matter_in call.given seen told).how fetch.settled.by.trees
+  policy = policy_in judged.repository.state (matter_in call.given seen told).options fetch.applied.by.trees
 
   -- ---- where all of it is the server's
 
@@ -240,14 +240,14 @@ module _ (d : Data) (committer : Signature) (bound : ℕ) (share : List (List �
     specs_are = sym (ap (λ (m : RefMap). m.refspecs) (map_is (inquiry_in (worker_given d committer bound share)) (greeting_of d.hash) (offered_to d committer bound share) told.listed has_told.maps))
 
     pub verdicts : outcome_of policy (map as_itself share) told.listed.ref_map.extra_refspecs mappings ≡ Ok updates
-    verdicts = subst (λ (specs : List Spec). outcome_of policy specs told.listed.ref_map.extra_refspecs mappings ≡ Ok updates) specs_are (judged_so policy told.listed.ref_map updates fetch.settled.by.verdicts)
+    verdicts = subst (λ (specs : List Spec). outcome_of policy specs told.listed.ref_map.extra_refspecs mappings ≡ Ok updates) specs_are (judged_so policy told.listed.ref_map updates fetch.applied.by.verdicts)
 
     -- each id that is mapped is held
     pub held_each : (y : Mapping) (id : ObjectId) → Contains mappings y → value_of y.remote ≡ Object id → is_stored policy.graph id ≡ true
     held_each y id among value =
         let b = born_each y among in
         let same : b.id ≡ id = (let both : Object b.id ≡ Object id = sym b.value ∙ value in cc) in
-        let map_same : w.outcome.ref_map ≡ told.listed.ref_map = ap (λ (o : Outcome). o.ref_map) fetch.settled.outcome_is in
+        let map_same : w.outcome.ref_map ≡ told.listed.ref_map = ap (λ (o : Outcome). o.ref_map) fetch.applied.outcome_is in
         let there : IsStored judged.repository.state.objects id =
         (fetch.tells.held refl).each y id (subst (λ (m : RefMap). Contains m.mappings y) (sym map_same) among) refl (b.source ∙ ap (λ (i : ObjectId). Some i) same) in
         ap (λ (o : Option Node). is_some o) (get-graph_of judged.repository.state.objects id) ∙ by (finmap.get judged.repository.state.objects id) there

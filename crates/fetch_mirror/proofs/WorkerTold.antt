@@ -37,13 +37,13 @@ use Rattle.fetch_wire.specs.declared.lines.line.Line.{Line}
 use Rattle.fetch_wire.specs.declared.listings.mapping.Mapping.{Mapping}
 use Rattle.fetch_wire.specs.declared.listings.mapping.SpecIndex.TheVariants.{ExplicitInRemote}
 use Rattle.fetch_wire.specs.declared.listings.reference.Ref.{Ref}
-use Rattle.fetch_wire.specs.declared.replies.awaited.Await.TheVariants as await
-use Rattle.fetch_wire.specs.declared.replies.awaited.Fault.TheVariants.{Short}
-use Rattle.fetch_wire.specs.declared.replies.awaited.Told.TheVariants as telling
+use Rattle.fetch_wire.specs.declared.replies.reply.ReplyKind.TheVariants as await
+use Rattle.fetch_wire.specs.declared.replies.reply.ReplyError.TheVariants.{Short}
+use Rattle.fetch_wire.specs.declared.replies.reply.ParsedReply.TheVariants as telling
 use Rattle.fetch_negotiate.specs.Requests.{fetch_request}
 use Rattle.fetch_conversation.specs.ConverseStage.{is_no_change, is_rejecting, first_outside, read_of, received, result_unless, unpacked, with_pack}
-use Rattle.fetch_conversation.specs.Exchange.{TermsValue, asked_by, failed as unreceived_by, reply_to, too_long as unsendable_by}
-use Rattle.fetch_conversation.specs.ListStage.{InquiryValue, ListedValue, all_specs, handshaking, inquiry_stage, is_nil, mapped, no_specs, prefixes_asked, unsendable}
+use Rattle.fetch_conversation.specs.Exchange.{FetchArgumentsValue, asked_by, failed as unreceived_by, reply_to, too_long as unsendable_by}
+use Rattle.fetch_conversation.specs.ListStage.{LsRefsValue, ListedValue, all_specs, handshaking, ls_refs_stage, is_nil, mapped, no_specs, prefixes_asked, unsendable}
 use Rattle.fetch_conversation.specs.Mapped.{ref_mappings}
 use Rattle.fetch_conversation.specs.declared.conversing.Received.{Received}
 use Rattle.fetch_conversation.specs.declared.fetch.Error.{Error as ReceiveError}
@@ -154,7 +154,7 @@ module _ (d : Data) (servable : IsServable d) (committer : Signature) (bound : �
   abbrev pub given : Given
   given = worker_given d committer bound share
 
-  abbrev pub q : InquiryValue
+  abbrev pub q : LsRefsValue
   q = inquiry_in given
 
   pub all_are : all_specs q ≡ map as_itself share
@@ -239,7 +239,7 @@ module _ (d : Data) (servable : IsServable d) (committer : Signature) (bound : �
         stored_is d id servable (subst (IsStored d.objects) same (id_stored d b.entry m.id servable b.among b.id_is))
 
     module _ (s : State) (border : s.border ≡ set.empty) where
-      abbrev pub t : TermsValue
+      abbrev pub t : FetchArgumentsValue
       t = terms_in given s l
 
       pub terms : AreTerms d.hash t
@@ -402,7 +402,7 @@ module _ (d : Data) (servable : IsServable d) (committer : Signature) (bound : �
   -- ---- the listing
 
   module _ (s : State) (border : s.border ≡ set.empty) (told : Told) (along : (sent : List Line) (answer : Result Told FetchError) → GoesAlong bound (replies_of d) [] (conversation given s) sent answer → answer ≡ Ok told) where
-    unlisted : (sent : List Line) (e : PrepareError) → GoesAlong bound (replies_of d) [] (inquiry_stage bound q) sent (Err e) → HasTold d committer bound share s told
+    unlisted : (sent : List Line) (e : PrepareError) → GoesAlong bound (replies_of d) [] (ls_refs_stage bound q) sent (Err e) → HasTold d committer bound share s told
     unlisted sent e g = let is = along sent (Err (preparing e)) (unlisted_along (replies_of d) given s sent e named g) in absurd cc
 
     abbrev listing : List Line
@@ -410,7 +410,7 @@ module _ (d : Data) (servable : IsServable d) (committer : Signature) (bound : �
 
     module _ (heard : IsHeard d q) (greeted : sum_by line_len (reply_lines d First) ≤ bound) (listed : sum_by line_len (reply_lines d (Listing true (prefixes_asked q))) ≤ bound) where
       by_map : (answer : Result ListedValue PrepareError) → mapped q (greeting_of d.hash) refs ≡ answer → HasTold d committer bound share s told
-      by_map (Err e) is = unlisted _ e (subst (λ (a : Result ListedValue PrepareError). GoesAlong bound (replies_of d) [] (inquiry_stage bound q) (asked_lines d q) a) is (listing_along d bound q heard greeted listed))
+      by_map (Err e) is = unlisted _ e (subst (λ (a : Result ListedValue PrepareError). GoesAlong bound (replies_of d) [] (ls_refs_stage bound q) (asked_lines d q) a) is (listing_along d bound q heard greeted listed))
       by_map (Ok l) is =
           let so = told_so l is s border (record { named = named; heard = heard; greeting = greeted; listing = listed; maps = is }) told along in
           record {

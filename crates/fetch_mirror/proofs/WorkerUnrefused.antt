@@ -11,7 +11,7 @@ use Rattle.fetch_remote.specs.Errors.{is_free, is_yes}
 use Rattle.fetch_remote.specs.Form.{Given}
 use Rattle.fetch_remote.specs.Repositories.{State}
 use Rattle.fetch_remote.specs.Stages.{bound_of, conversation}
-use Rattle.fetch_remote.specs.Talking.{BreaksListing, BreaksReceiving}
+use Rattle.fetch_remote.specs.Conversed.{BreaksListing, BreaksReceiving}
 use Rattle.fetch_remote.specs.declared.fetching.fetch_error.FetchError.{FetchError}
 use Rattle.fetch_remote.proofs.Broken.{whole_listing, whole_receiving}
 use Rattle.fetch_serve.specs.Peers.{ServedPeer, faults_of, heard_by, talk_with, told_by}

@@ -5,8 +5,8 @@ use Rattle.std.proofs.lemmas.Bool.{cases_lt}
 use Rattle.std.proofs.lemmas.List.Sums.{sum_by-cons}
 use Rattle.fetch_wire.specs.declared.lines.line.Line.{Line}
 use Rattle.fetch_wire.specs.declared.lines.line.Line.TheVariants.{Payload, Flush, Delim, End}
-use Rattle.fetch_wire.specs.declared.replies.awaited.Fault.{Fault}
-use Rattle.fetch_wire.specs.declared.replies.awaited.Fault.TheVariants.{Said, Short, TooLong}
+use Rattle.fetch_wire.specs.declared.replies.reply.ReplyError.{ReplyError}
+use Rattle.fetch_wire.specs.declared.replies.reply.ReplyError.TheVariants.{Said, Short, TooLong}
 use Rattle.fetch_wire.specs.Bounds.{Moves, PassesBound, IsTooLong}
 use Rattle.fetch_wire.specs.Lines.{line_len}
 use Rattle.fetch_wire.specs.LineLaws.{IsLine}
@@ -149,7 +149,7 @@ moving_too_long step h bound s t lines rest moves fits far = too_long step bound
 
 -- A line that says that the server fails says so as it is written, or it passes the bound, whatever comes after.
 pub text_says : {S T : Type 0} (step : S → Line → Step S T) → HasNoEnd step → (bound : ℕ) (s : S) (line : Line) (rest text : List ℕ) → step s line ≡ says text → too_long_in line ≡ None
-    → (fault : Fault) × (read_by step bound s 0 (lines_text (line ∷ []) ++ rest) ≡ Err fault) × ((place : ℕ) → fault ≢ Short place)
+    → (fault : ReplyError) × (read_by step bound s 0 (lines_text (line ∷ []) ++ rest) ≡ Err fault) × ((place : ℕ) → fault ≢ Short place)
 text_says {S} {T} step h bound s line rest text is fits =
     let proper = no_end step h s line (says text) is (λ e. cc) in
     ⊎_elim

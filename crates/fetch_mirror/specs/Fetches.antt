@@ -10,14 +10,14 @@ use Rattle.fetch_wire.specs.Awaited.{step_of, start_of}
 use Rattle.fetch_wire.specs.LinesTold.{Tells}
 use Rattle.fetch_wire.specs.ServerLines.{IsIdOf}
 use Rattle.fetch_wire.specs.Written.{first_too_long}
-use Rattle.fetch_wire.specs.declared.replies.awaited.Await.TheVariants as await
-use Rattle.fetch_wire.specs.declared.replies.awaited.Told.TheVariants as told
+use Rattle.fetch_wire.specs.declared.replies.reply.ReplyKind.TheVariants as await
+use Rattle.fetch_wire.specs.declared.replies.reply.ParsedReply.TheVariants as told
 use Rattle.fetch_wire.specs.declared.requests.records.FetchReply.{FetchReply}
 use Rattle.fetch_negotiate.specs.Requests.{Asked, fetch_request}
 use Rattle.fetch_negotiate.specs.declared.algorithm.Algorithm.TheVariants as algorithms
 use Rattle.fetch_negotiate.specs.declared.algorithm.Shallow.TheVariants.{NoChange}
 use Rattle.fetch_conversation.specs.ConverseStage.{algorithm_in, lacking, no_mapping, other_hash, unfit}
-use Rattle.fetch_conversation.specs.Exchange.{TermsValue, asked_by, reply_to}
+use Rattle.fetch_conversation.specs.Exchange.{FetchArgumentsValue, asked_by, reply_to}
 use Rattle.fetch_conversation.specs.ListStage.{is_nil}
 use Rattle.fetch_conversation.specs.Rounds.{Negotiated}
 use Rattle.fetch_serve.specs.declared.asked.Asked.TheVariants.{Fetch}
@@ -47,7 +47,7 @@ pub record IsWanting (hash : Kind) (a : Asked) (id : ObjectId) (wants : List Obj
 
 -- The second stage of a worker, behind a listing: nothing is refused before it, some ids are wanted, no haves are told, and the
 -- server reads the request, whose reply tells this.
-pub record IsFetching (d : Data) (t : TermsValue) (id : ObjectId) (wants : List ObjectId) (reply : FetchReply) : Type 0 where
+pub record IsFetching (d : Data) (t : FetchArgumentsValue) (id : ObjectId) (wants : List ObjectId) (reply : FetchReply) : Type 0 where
   pub accepted : option_or (no_mapping t) (option_or (other_hash t) (option_or (unfit t.settings) (lacking t))) ≡ None
   pub wanted : t.view.wants ≡ id ∷ wants
   pub noop : algorithm_in t.settings ≡ algorithms.Noop
@@ -64,7 +64,7 @@ one_round reply = record { rounds = record { haves = []; acknowledged = reply.ac
 
 -- What a worker asks by, behind its server's greeting: the settings of a mirror, some reference mapped, and nothing of a border or a
 -- depth.
-pub record AreTerms (hash : Kind) (t : TermsValue) : Type 0 where
+pub record AreTerms (hash : Kind) (t : FetchArgumentsValue) : Type 0 where
   pub read : IsRead t.settings.config
   pub strict : t.settings.lenient ≡ false
   pub kind : t.settings.kind ≡ hash

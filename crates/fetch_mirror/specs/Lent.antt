@@ -1,17 +1,17 @@
--- Racers whose peers are lent.
+-- Jobs whose peers are lent.
 use Rattle.std.specs.Prelude.{List, [], ◌∷◌}
-use Rattle.fetch_race.specs.declared.job.Racer.{Racer}
+use Rattle.fetch_race.specs.declared.job.JobRun.{JobRun}
 
--- a racer as if it had the peer that is lent to it
-abbrev pub owning : {P : Type 0} → Racer (Unit {0}) → P → Racer P
-owning racer peer = record {
-  job = record { remote = racer.job.remote; peer = peer; options = racer.job.options };
-  pass = racer.pass;
-  answer = racer.answer;
+-- a job as if it had the peer that is lent to it
+abbrev pub owning : {P : Type 0} → JobRun (Unit {0}) → P → JobRun P
+owning job_run peer = record {
+  job = record { remote = job_run.job.remote; peer = peer; options = job_run.job.options };
+  pass = job_run.pass;
+  answer = job_run.answer;
 }
 
 -- so each of a row
-abbrev pub all_owning : {P : Type 0} → List (Racer (Unit {0})) → List P → List (Racer P)
+abbrev pub all_owning : {P : Type 0} → List (JobRun (Unit {0})) → List P → List (JobRun P)
 all_owning [] peers = []
-all_owning (racer ∷ racers) [] = []
-all_owning (racer ∷ racers) (peer ∷ peers) = owning racer peer ∷ all_owning racers peers
+all_owning (job_run ∷ job_runs) [] = []
+all_owning (job_run ∷ job_runs) (peer ∷ peers) = owning job_run peer ∷ all_owning job_runs peers

@@ -11,9 +11,9 @@ use Rattle.fetch_wire.specs.Requests.{first_line, listing_lines}
 use Rattle.fetch_wire.specs.Written.{first_too_long}
 use Rattle.fetch_wire.specs.declared.greetings.handshake.Handshake.{Handshake}
 use Rattle.fetch_wire.specs.declared.lines.line.Line.{Line}
-use Rattle.fetch_wire.specs.declared.replies.awaited.Await.TheVariants as await
-use Rattle.fetch_wire.specs.declared.replies.awaited.Told.TheVariants as told
-use Rattle.fetch_conversation.specs.ListStage.{InquiryValue, prefixes_asked, unsendable}
+use Rattle.fetch_wire.specs.declared.replies.reply.ReplyKind.TheVariants as await
+use Rattle.fetch_wire.specs.declared.replies.reply.ParsedReply.TheVariants as told
+use Rattle.fetch_conversation.specs.ListStage.{LsRefsValue, prefixes_asked, unsendable}
 use Rattle.fetch_serve.specs.declared.asked.Asked.TheVariants.{First, Listing}
 use Rattle.fetch_serve.specs.Offered.{capabilities_of, offered_of}
 use Rattle.fetch_serve.specs.Replies.{reply_lines}
@@ -32,7 +32,7 @@ AreRising before [] = ⊤
 AreRising before (prefix ∷ prefixes) = (is_lt (name_cmp (last_of before) prefix) ≡ true) × AreRising (before ++ prefix ∷ []) prefixes
 
 -- An inquiry of a mirror: at its server's own place, without parameters, and with nothing that can't be sent.
-pub record IsInquiry (q : InquiryValue) : Type 0 where
+pub record IsInquiry (q : LsRefsValue) : Type 0 where
   pub address : q.address ≡ codes "."
   pub plain : q.options.handshake_parameters ≡ []
   pub sendable : unsendable q ≡ None
@@ -44,12 +44,12 @@ pub record AreTold (d : Data) (prefixes : List (List ℕ)) : Type 0 where
       (told.Listing (offered_of d true prefixes))
 
 -- The requests of an inquiry: the first line, and the listing request.
-abbrev pub asked_lines : Data → InquiryValue → List Line
+abbrev pub asked_lines : Data → LsRefsValue → List Line
 asked_lines d q = (first_line (codes ".") [] ∷ []) ++ (listing_lines (greeting_of d.hash) q.agent (prefixes_asked q) ++ [])
 
 -- A server that can be served reads the requests of an inquiry: its prefixes ascend, each line of the listing request fits, and the
 -- request isn't longer than a server reads.
-pub record IsHeard (d : Data) (q : InquiryValue) : Type 0 where
+pub record IsHeard (d : Data) (q : LsRefsValue) : Type 0 where
   pub servable : IsServable d
   pub told : AreTold d (prefixes_asked q)
   pub inquiry : IsInquiry q

@@ -14,7 +14,7 @@ use Rattle.fetch_wire.specs.Talks.{Talk}
 use Rattle.fetch_conversation.specs.Blame.{BlamesPeer}
 use Rattle.fetch_conversation.specs.Conversation.{Breaks, Concludes}
 use Rattle.fetch_conversation.specs.Errors.{is_free_listing, is_interrupted, is_transport}
-use Rattle.fetch_conversation.specs.ListStage.{ListedValue, inquiry_stage}
+use Rattle.fetch_conversation.specs.ListStage.{ListedValue, ls_refs_stage}
 use Rattle.fetch_conversation.specs.declared.prepare.Error.TheVariants as prepare
 use Rattle.fetch_conversation.specs.declared.ref_map.Error.{Error as ListError}
 use Rattle.fetch_remote.specs.Remotes.{RemoteValue, nameless}
@@ -25,8 +25,8 @@ use Rattle.fetch_shared.specs.declared.entry.Entry.{Entry}
 use Rattle.fetch_shared.specs.declared.error.SharedError.{SharedError}
 use Rattle.fetch_race.specs.Racing.{IsRaced, Race}
 use Rattle.fetch_race.specs.declared.job.Job.{Job}
-use Rattle.fetch_race.specs.declared.job.Racer.{Racer}
-use Rattle.fetch_race.specs.Seats.{answer_in}
+use Rattle.fetch_race.specs.declared.job.JobRun.{JobRun}
+use Rattle.fetch_race.specs.Passes.{answer_in}
 use Rattle.fetch_shared.specs.declared.error.SharedError.TheVariants as shared
 use Rattle.fetch_mirror.specs.declared.error.MirrorError.{MirrorError}
 use Rattle.fetch_mirror.specs.declared.error.MirrorError.TheVariants as errors
@@ -61,13 +61,13 @@ pub record AreJobs {P : Type 0} (workers bound : ℕ) (names : List (List ℕ)) 
       × (job ≡ worker_job bound (share_of workers i names) peer)
 
 -- a worker without a pass and a peer
-abbrev pub worker : ℕ → List Spec → Racer (Unit {0})
+abbrev pub worker : ℕ → List Spec → JobRun (Unit {0})
 worker bound specs = record { job = worker_job bound specs tt; pass = None; answer = None }
 
 -- The workers that have a share, none of which has fetched yet.
-pub record AreWorkers (workers bound : ℕ) (names : List (List ℕ)) (racers : List (Racer (Unit {0}))) : Type 0 where
-  pub count : length racers ≡ min workers (length names)
-  pub each : (i : ℕ) (racer : Racer (Unit {0})) → slice_get racers i ≡ Some racer → racer ≡ worker bound (share_of workers i names)
+pub record AreWorkers (workers bound : ℕ) (names : List (List ℕ)) (job_runs : List (JobRun (Unit {0}))) : Type 0 where
+  pub count : length job_runs ≡ min workers (length names)
+  pub each : (i : ℕ) (job_run : JobRun (Unit {0})) → slice_get job_runs i ≡ Some job_run → job_run ≡ worker bound (share_of workers i names)
 
 -- ---- a listing
 
@@ -85,13 +85,13 @@ pub record HasListed {P : Type 0} (a : Asking P) (names : List (List ℕ)) : Typ
   pub listed : ListedValue
   pub behind : List ℕ
   pub heard : Concludes a.answers a.bound (a.told a.lister) (a.told a.lister_now) []
-      (inquiry_stage a.bound (inquiry_by a.bound)) listed behind
+      (ls_refs_stage a.bound (inquiry_by a.bound)) listed behind
   pub names_are : names ≡ names_of listed.ref_map.remote_refs
 
 -- The references weren't listed: the peer's fault is told only where its count rose, and never a yes of an interrupt.
 pub record IsUnlisted {P : Type 0} (a : Asking P) (e : ListError) : Type 0 where
   pub broke : Breaks is_free_listing is_interrupted a.answers a.bound (a.told a.lister) (a.told a.lister_now) []
-      (inquiry_stage a.bound (inquiry_by a.bound)) (prepare.RefMap e)
+      (ls_refs_stage a.bound (inquiry_by a.bound)) (prepare.RefMap e)
   pub blames : BlamesPeer (a.faults a.lister) (a.faults a.lister_now) (is_transport (prepare.RefMap e))
   pub never : is_interrupted (prepare.RefMap e) ≡ false
 
@@ -192,13 +192,13 @@ IsUnrefused None = ⊤
 IsUnrefused (Some answer) = IsOk answer
 
 -- none of them was refused
-abbrev pub AreUnrefused : List (Racer (Unit {0})) → Type 0
-AreUnrefused racers = (i : ℕ) (racer : Racer (Unit {0})) → slice_get racers i ≡ Some racer → IsUnrefused (answer_in racer)
+abbrev pub AreUnrefused : List (JobRun (Unit {0})) → Type 0
+AreUnrefused job_runs = (i : ℕ) (job_run : JobRun (Unit {0})) → slice_get job_runs i ≡ Some job_run → IsUnrefused (answer_in job_run)
 
 -- This is the first of them that was refused.
-pub record TellsFirst (racers : List (Racer (Unit {0}))) (e : MirrorError) : Type 0 where
+pub record TellsFirst (job_runs : List (JobRun (Unit {0}))) (e : MirrorError) : Type 0 where
   pub index : ℕ
-  pub racer : Racer (Unit {0})
-  pub at : slice_get racers index ≡ Some racer
-  pub refused : IsToldOf index (answer_in racer) e
-  pub before : AreUnrefused (take index racers)
+  pub job_run : JobRun (Unit {0})
+  pub at : slice_get job_runs index ≡ Some job_run
+  pub refused : IsToldOf index (answer_in job_run) e
+  pub before : AreUnrefused (take index job_runs)

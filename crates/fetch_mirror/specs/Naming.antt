@@ -7,7 +7,7 @@ use Rattle.fetch_specs.specs.Specs.{Spec}
 use Rattle.fetch_specs.specs.declared.tags.Tags.TheVariants as tags
 use Rattle.fetch_wire.specs.References.{id_in, name_in}
 use Rattle.fetch_wire.specs.declared.listings.reference.Ref.{Ref}
-use Rattle.fetch_conversation.specs.ListStage.{InquiryValue}
+use Rattle.fetch_conversation.specs.ListStage.{LsRefsValue}
 use Rattle.fetch_conversation.specs.declared.ref_map.Options.{Options}
 use Rattle.fetch_mirror.specs.Shares.{as_itself}
 
@@ -25,7 +25,7 @@ abbrev pub everything : Spec
 everything = as_itself (refs ++ codes "*")
 
 -- what a server is asked for all its references, at its own place
-abbrev pub inquiry_by : ℕ → InquiryValue
+abbrev pub inquiry_by : ℕ → LsRefsValue
 inquiry_by bound = record {
   address = codes ".";
   agent = codes "oxide-0.87.1";

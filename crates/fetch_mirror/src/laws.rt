@@ -38,17 +38,17 @@ ghost use Rattle.fetch_wire.specs.declared.greetings.handshake.Handshake.{Handsh
 ghost use Rattle.fetch_wire.specs.declared.lines.line.Line.{Line};
 ghost use Rattle.fetch_wire.specs.declared.listings.mapping.Mapping.{Mapping};
 ghost use Rattle.fetch_wire.specs.declared.listings.reference.Ref.{Ref};
-ghost use Rattle.fetch_wire.specs.declared.replies.awaited.Await.{Await};
-ghost use Rattle.fetch_wire.specs.declared.replies.awaited.Fault.TheVariants.{Short, TooLong};
-ghost use Rattle.fetch_wire.specs.declared.replies.awaited.Told.{Told};
+ghost use Rattle.fetch_wire.specs.declared.replies.reply.ReplyKind.{ReplyKind};
+ghost use Rattle.fetch_wire.specs.declared.replies.reply.ReplyError.TheVariants.{Short, TooLong};
+ghost use Rattle.fetch_wire.specs.declared.replies.reply.ParsedReply.{ParsedReply};
 ghost use Rattle.fetch_wire.specs.declared.requests.records.FetchReply.{FetchReply};
 ghost use Rattle.fetch_negotiate.specs.Requests.{Asked as Request, fetch_request};
 ghost use Rattle.fetch_negotiate.specs.declared.algorithm.Algorithm.TheVariants.{Noop};
 ghost use Rattle.fetch_conversation.specs.Conversation.{Conversation, sent_in, answer_in, and_then, map_refusal, told_as, Concludes};
 ghost use Rattle.fetch_conversation.specs.Conversation.{Breaks};
 ghost use Rattle.fetch_conversation.specs.ConverseStage.{algorithm_in, lacking, no_mapping, other_hash, received, unfit};
-ghost use Rattle.fetch_conversation.specs.Exchange.{TermsValue, asked_by, failed as unreceived_by};
-ghost use Rattle.fetch_conversation.specs.ListStage.{ListedValue, inquiry_stage, no_specs, InquiryValue, failed as unlisted_by, mapped};
+ghost use Rattle.fetch_conversation.specs.Exchange.{FetchArgumentsValue, asked_by, failed as unreceived_by};
+ghost use Rattle.fetch_conversation.specs.ListStage.{ListedValue, ls_refs_stage, no_specs, LsRefsValue, failed as unlisted_by, mapped};
 ghost use Rattle.fetch_conversation.specs.ListStage.{map_of, prefixes_asked};
 ghost use Rattle.fetch_conversation.specs.Served.{without_rest, IsFresh, Follows};
 ghost use Rattle.fetch_conversation.specs.declared.conversing.Received.{Received};
@@ -61,7 +61,7 @@ ghost use Rattle.fetch_remote.specs.Form.{Given};
 ghost use Rattle.fetch_remote.specs.Refused.{HasEnded};
 ghost use Rattle.fetch_remote.specs.Repositories.{State};
 ghost use Rattle.fetch_remote.specs.Stages.{Told as ToldInAll, bound_of, conversation, inquiry_in, pack_stage, terms_in};
-ghost use Rattle.fetch_remote.specs.Talking.{BreaksListing, BreaksReceiving};
+ghost use Rattle.fetch_remote.specs.Conversed.{BreaksListing, BreaksReceiving};
 ghost use Rattle.fetch_remote.specs.declared.fetching.fetch_error.FetchError.{FetchError};
 ghost use Rattle.fetch_remote.specs.declared.fetching.fetch_error.FetchError.TheVariants.{Prepare};
 ghost use Rattle.fetch_serve.specs.Offered.{offered_of};
@@ -163,31 +163,31 @@ pub fn a_fetch_goes_along()
 pub fn a_fetch_goes_along_by_stages()
     ensures fetched { (rule : List ℕ → List ℕ) (g : Given) (s : State) (after last : List ℕ) (sent others : List Line) (l : ListedValue)
         (r : Option Received) → no_specs (inquiry_in g) ≡ None
-        → GoesTo (bound_of g) rule [] after (inquiry_stage (bound_of g) (inquiry_in g)) sent l
+        → GoesTo (bound_of g) rule [] after (ls_refs_stage (bound_of g) (inquiry_in g)) sent l
         → GoesTo (bound_of g) rule after last (pack_stage g s l) others r
         → GoesAlong (bound_of g) rule [] (conversation g s) (sent ++ (others ++ [])) (Ok (record { listed = l; received = r })) }
     ensures unlisted { (rule : List ℕ → List ℕ) (g : Given) (s : State) (sent : List Line) (e : PrepareError)
         → no_specs (inquiry_in g) ≡ None
-        → GoesAlong (bound_of g) rule [] (inquiry_stage (bound_of g) (inquiry_in g)) sent (Err e)
+        → GoesAlong (bound_of g) rule [] (ls_refs_stage (bound_of g) (inquiry_in g)) sent (Err e)
         → GoesAlong (bound_of g) rule [] (conversation g s) sent (Err (preparing e)) }
     ensures unreceived { (rule : List ℕ → List ℕ) (g : Given) (s : State) (after : List ℕ) (sent others : List Line) (l : ListedValue)
         (e : ReceiveError) → no_specs (inquiry_in g) ≡ None
-        → GoesTo (bound_of g) rule [] after (inquiry_stage (bound_of g) (inquiry_in g)) sent l
+        → GoesTo (bound_of g) rule [] after (ls_refs_stage (bound_of g) (inquiry_in g)) sent l
         → GoesAlong (bound_of g) rule after (pack_stage g s l) others (Err e)
         → GoesAlong (bound_of g) rule [] (conversation g s) (sent ++ others) (Err (receiving e)) }
 {}
 
 /// A listing goes along what its server gives: its references are mapped, or the greeting or else the listing passes the bound.
 pub fn a_listing_goes_along_its_server()
-    ensures mapped { (d : Data) (bound : ℕ) (q : InquiryValue) → IsHeard d q → sum_by line_len (reply_lines d First) ≤ bound
+    ensures mapped { (d : Data) (bound : ℕ) (q : LsRefsValue) → IsHeard d q → sum_by line_len (reply_lines d First) ≤ bound
         → sum_by line_len (reply_lines d (Listing true (prefixes_asked q))) ≤ bound
-        → GoesAlong bound (replies_of d) [] (inquiry_stage bound q) (asked_lines d q)
+        → GoesAlong bound (replies_of d) [] (ls_refs_stage bound q) (asked_lines d q)
         (mapped q (greeting_of d.hash) (offered_of d true (prefixes_asked q))) }
-    ensures long_listing { (d : Data) (bound : ℕ) (q : InquiryValue) → IsHeard d q → sum_by line_len (reply_lines d First) ≤ bound
+    ensures long_listing { (d : Data) (bound : ℕ) (q : LsRefsValue) → IsHeard d q → sum_by line_len (reply_lines d First) ≤ bound
         → bound < sum_by line_len (reply_lines d (Listing true (prefixes_asked q)))
-        → GoesAlong bound (replies_of d) [] (inquiry_stage bound q) (asked_lines d q) (Err (unlisted_by bound TooLong)) }
-    ensures long_greeting { (d : Data) (bound : ℕ) (q : InquiryValue) → IsHeard d q → bound < sum_by line_len (reply_lines d First)
-        → GoesAlong bound (replies_of d) [] (inquiry_stage bound q) ((first_line (codes ".") [] ∷ []) ++ [])
+        → GoesAlong bound (replies_of d) [] (ls_refs_stage bound q) (asked_lines d q) (Err (unlisted_by bound TooLong)) }
+    ensures long_greeting { (d : Data) (bound : ℕ) (q : LsRefsValue) → IsHeard d q → bound < sum_by line_len (reply_lines d First)
+        → GoesAlong bound (replies_of d) [] (ls_refs_stage bound q) ((first_line (codes ".") [] ∷ []) ++ [])
         (Err (unlisted_by bound TooLong)) }
 {}
 
@@ -234,9 +234,9 @@ pub fn a_worker_goes_along_its_server()
 
 /// Nothing is refused before the request of a worker, and it tells no haves.
 pub fn requests_of_workers_are_made()
-    ensures accepted { (hash : Kind) (t : TermsValue) → AreTerms hash t
+    ensures accepted { (hash : Kind) (t : FetchArgumentsValue) → AreTerms hash t
         → option_or (no_mapping t) (option_or (other_hash t) (option_or (unfit t.settings) (lacking t))) ≡ None }
-    ensures noop { (hash : Kind) (t : TermsValue) → AreTerms hash t → algorithm_in t.settings ≡ Noop }
+    ensures noop { (hash : Kind) (t : FetchArgumentsValue) → AreTerms hash t → algorithm_in t.settings ≡ Noop }
 {}
 
 /// Each full name makes a refspec that fetches it as itself, by force.
@@ -257,7 +257,8 @@ pub fn shares_divide_the_names()
 
 /// A reply whose lines pass the bound is told as too long, whatever follows.
 pub fn replies_that_pass_the_bound_are_too_long()
-    ensures { (bound : ℕ) (awaited : Await) (lines : List Line) (rest : List ℕ) (told : Told) → Tells step_of (start_of awaited) lines told
+    ensures { (bound : ℕ) (awaited : ReplyKind) (lines : List Line) (rest : List ℕ) (told : ParsedReply)
+        → Tells step_of (start_of awaited) lines told
         → first_too_long lines ≡ None
         → bound < sum_by line_len lines → told_at bound awaited (lines_text lines ++ rest) ≡ Err TooLong }
 {}

@@ -6,12 +6,12 @@ ghost use Rattle.std.specs.List.{filter_map};
 ghost use Rattle.fetch_conversation.specs.Blame.{BlamesPeer, is_told};
 ghost use Rattle.fetch_conversation.specs.Errors.{is_free_listing, is_interrupted, is_transport};
 ghost use Rattle.fetch_conversation.specs.Conversation.{Converses};
-ghost use Rattle.fetch_conversation.specs.ListStage.{answer_shown, inquiry_stage, left_by};
+ghost use Rattle.fetch_conversation.specs.ListStage.{answer_shown, ls_refs_stage, left_by};
 ghost use Rattle.fetch_conversation.specs.declared.prepare.Error.TheVariants as refusals;
 ghost use Rattle.fetch_mirror.specs.Naming as spec;
 ghost use Rattle.fetch_mirror.specs.Naming.{everything, inquiry_by, own_name};
 
-use fetch_conversation::{Inquiry, Listed, inquire, prepare, ref_map};
+use fetch_conversation::{Listed, LsRefs, ls_refs, prepare, ref_map};
 use fetch_specs::{FullName, Operation, RefSpec, Tags, parse};
 use fetch_store::NoMemory;
 use fetch_wire::{Peer, Ref, ReplyBound, ScriptedInterrupt};
@@ -36,22 +36,22 @@ pub(crate) fn list<P: Peer>(
     bound: ReplyBound,
 ) -> Result<Listed, prepare::Error>
     ensures held { Converses is_free_listing is_interrupted P.answers bound (P.told lister.old) (P.told lister.new) [] (left_by result)
-        (inquiry_stage bound (inquiry_by bound)) (answer_shown result) }
+        (ls_refs_stage bound (inquiry_by bound)) (answer_shown result) }
     ensures peer { BlamesPeer (P.faults lister.old) (P.faults lister.new) (is_told is_transport result) }
     ensures never { IfErr result (λ e. is_interrupted e ≡ false) }
     ensures specified { IfErr result (λ e. e ≢ refusals.MissingRefSpecs) }
 {
     let specs = [everything(alloc)?];
-    let inquiry = Inquiry {
+    let query = LsRefs {
         address: b".",
         agent: AGENT,
         specs: &specs,
         tags: Tags::None,
     };
     let mut interrupt = ScriptedInterrupt::new(Vec::new(alloc));
-    inquire(
+    ls_refs(
         alloc,
-        &inquiry,
+        &query,
         lister,
         &mut interrupt,
         map_options(alloc, bound),

@@ -1,12 +1,12 @@
 //! A mirror of what any peers tell.
 
 ghost use Rattle.std.specs.Prelude.{◌≡◌, ◌↔◌, ◌≤◌, [], None, length, IfOk, IfErr, IfSome, IsTrue, OnOk};
-ghost use Rattle.fetch_race.specs.Seats.{IsRest};
+ghost use Rattle.fetch_race.specs.Passes.{IsRest};
 ghost use Rattle.fetch_shared.specs.Machine.{held};
 ghost use Rattle.fetch_store.specs.Missing.{unclosed};
 ghost use Rattle.fetch_mirror.specs.Mirroring.{AreUnrefused, HasListed, HasMirrored, IsFew, IsRefusalOf, IsToldOf, IsUnmirrored, IsUnnamed};
 ghost use Rattle.fetch_mirror.specs.Mirroring.{IsUnrefused, TellsFirst};
-ghost use Rattle.fetch_race.specs.Seats.{answer_in};
+ghost use Rattle.fetch_race.specs.Passes.{answer_in};
 
 use crate::error::MirrorError;
 use crate::listing::{list, names_of};
@@ -14,7 +14,7 @@ use crate::opening::empty_mirror;
 use crate::options::{MirrorOptions, Mirrored};
 use crate::working::{fetch_in, workers_for};
 use fetch_conversation::prepare;
-use fetch_race::{Racer, opened};
+use fetch_race::{JobRun, opened};
 use fetch_remote::Repository;
 use fetch_shared::{Entry, Pass, SharedError, SharedRepository};
 use fetch_specs::FullName;
@@ -83,11 +83,11 @@ pub fn mirror_from<R: Threads + Wait + Sync, P: Peer + Send>(
     }
     let names = listed_names(alloc, lister, max_reply_bytes)?;
     let repo = empty_mirror(alloc, kind, committer)?;
-    let mut racers = workers_for(alloc, &names, workers, max_reply_bytes)?;
+    let mut job_runs = workers_for(alloc, &names, workers, max_reply_bytes)?;
     let (shared, pass) = share_closed(alloc, repo)?;
-    let (asked, _) = peers.split_at_mut(racers.len());
-    let (repo, journal) = fetch_in(rt, alloc, shared, pass, racers.as_mut_slice(), asked);
-    told(repo, List::from(journal), racers.as_slice())
+    let (asked, _) = peers.split_at_mut(job_runs.len());
+    let (repo, journal) = fetch_in(rt, alloc, shared, pass, job_runs.as_mut_slice(), asked);
+    told(repo, List::from(journal), job_runs.as_slice())
 }
 
 /// Shares a closed repository, and gives the pass that holds every number. Memory alone may refuse it.
@@ -136,27 +136,27 @@ fn listed_names<P: Peer>(
 fn told(
     repo: Repository,
     journal: List<Entry>,
-    racers: &[Racer<()>],
+    job_runs: &[JobRun<()>],
 ) -> Result<Mirrored, MirrorError>
-    requires few { length racers.now ≤ 8 }
+    requires few { length job_runs.now ≤ 8 }
     ensures mirror { IfOk result (λ m. (m.repo ≡ repo) × (m.journal ≡ journal)) }
-    ensures unrefused { OnOk result (AreUnrefused racers.now) }
-    ensures refused { IfErr result (λ e. TellsFirst racers.now e) }
+    ensures unrefused { OnOk result (AreUnrefused job_runs.now) }
+    ensures refused { IfErr result (λ e. TellsFirst job_runs.now e) }
 {
-    match first_refused(racers) {
+    match first_refused(job_runs) {
         Some(e) => Err(e),
         None => Ok(Mirrored { repo, journal }),
     }
 }
 
 /// The refusal of the first worker that was refused.
-fn first_refused(racers: &[Racer<()>]) -> Option<MirrorError>
-    requires few { length racers.now ≤ 8 }
-    ensures some { IfSome result (λ e. TellsFirst racers.now e) }
-    ensures none { result ≡ None → AreUnrefused racers.now }
+fn first_refused(job_runs: &[JobRun<()>]) -> Option<MirrorError>
+    requires few { length job_runs.now ≤ 8 }
+    ensures some { IfSome result (λ e. TellsFirst job_runs.now e) }
+    ensures none { result ≡ None → AreUnrefused job_runs.now }
 {
-    for (i, racer) in racers.iter().enumerate() {
-        if let Some(e) = refused(i as u32, racer) {
+    for (i, job_run) in job_runs.iter().enumerate() {
+        if let Some(e) = refused(i as u32, job_run) {
             return Some(e);
         }
     }
@@ -164,11 +164,11 @@ fn first_refused(racers: &[Racer<()>]) -> Option<MirrorError>
 }
 
 /// A worker's refusal, where it was refused.
-fn refused(index: u32, racer: &Racer<()>) -> Option<MirrorError>
-    ensures some { IfSome result (λ e. IsToldOf index (answer_in racer.now) e) }
-    ensures none { result ≡ None → IsUnrefused (answer_in racer.now) }
+fn refused(index: u32, job_run: &JobRun<()>) -> Option<MirrorError>
+    ensures some { IfSome result (λ e. IsToldOf index (answer_in job_run.now) e) }
+    ensures none { result ≡ None → IsUnrefused (answer_in job_run.now) }
 {
-    match &racer.answer {
+    match &job_run.answer {
         Some((_, Err(error))) => Some(refusal(index, error)),
         Some((_, Ok(_))) => None,
         None => None,

@@ -2,7 +2,7 @@
 
 ghost use Rattle.std.specs.Prelude.{◌≡◌, ℕ, ◌<◌, ◌≤◌, All, [], IfOk, IfSome, Some, length, map, slice_index_or};
 ghost use Rattle.fetch_race.specs.Racing.{IsRun};
-ghost use Rattle.fetch_race.specs.Seats.{HaveRaced, IsRest};
+ghost use Rattle.fetch_race.specs.Passes.{HaveRaced, IsRest};
 ghost use Rattle.fetch_shared.specs.Journals.{pass_of};
 ghost use Rattle.fetch_shared.specs.Shared.{IsKept};
 ghost use Rattle.fetch_mirror.specs.Lent.{all_owning, owning};
@@ -12,7 +12,7 @@ ghost use Rattle.fetch_mirror.specs.Mirroring.{AreWorkers};
 use crate::listing::map_options;
 use crate::pairs::for_each_pair_mut;
 use crate::sharing::share;
-use fetch_race::{Job, Racer, closed, fetch_by_pass, gather, seat_all};
+use fetch_race::{Job, JobRun, closed, fetch_by_pass, gather, give_passes};
 use fetch_remote::{FetchOptions, Outcome, Remote, Repository};
 use fetch_shared::{Entry, Pass, Receipt, SharedError, SharedRepository};
 use fetch_specs::{FullName, RefSpec, Tags};
@@ -28,32 +28,32 @@ pub(crate) fn workers_for(
     names: &[FullName],
     workers: u32,
     bound: ReplyBound,
-) -> Result<Vec<Racer<()>>, NoMemory>
+) -> Result<Vec<JobRun<()>>, NoMemory>
     requires some { 1 ≤ workers }
-    ensures { IfOk result (λ racers. AreWorkers workers bound names.now racers.items) }
+    ensures { IfOk result (λ job_runs. AreWorkers workers bound names.now job_runs.items) }
 {
     let mut shares = share(alloc, names, workers)?.into_vec();
     shares.truncate(names.len());
-    Ok(racers_of(alloc, shares, bound)?)
+    Ok(job_runs_of(alloc, shares, bound)?)
 }
 
-fn racers_of(
+fn job_runs_of(
     alloc: Global,
     shares: Vec<List<RefSpec>>,
     bound: ReplyBound,
-) -> Result<Vec<Racer<()>>, NoMemory>
-    ensures { IfOk result (λ racers. racers.items ≡ map (spec.worker bound) shares.items) }
+) -> Result<Vec<JobRun<()>>, NoMemory>
+    ensures { IfOk result (λ job_runs. job_runs.items ≡ map (spec.worker bound) shares.items) }
 {
-    let mut racers = Vec::with_capacity(alloc, shares.len())?;
+    let mut job_runs = Vec::with_capacity(alloc, shares.len())?;
     for specs in shares {
-        racers.push(worker(alloc, specs, bound)?)?;
+        job_runs.push(worker(alloc, specs, bound)?)?;
     }
-    Ok(racers)
+    Ok(job_runs)
 }
 
 /// A worker that fetches by these refspecs.
-fn worker(alloc: Global, specs: List<RefSpec>, bound: ReplyBound) -> Result<Racer<()>, NoMemory>
-    ensures { IfOk result (λ racer. racer ≡ spec.worker bound specs) }
+fn worker(alloc: Global, specs: List<RefSpec>, bound: ReplyBound) -> Result<JobRun<()>, NoMemory>
+    ensures { IfOk result (λ job_run. job_run ≡ spec.worker bound specs) }
 {
     let mut urls = List::new(alloc);
     urls.push(Text::new(alloc, b".")?)?;
@@ -64,7 +64,7 @@ fn worker(alloc: Global, specs: List<RefSpec>, bound: ReplyBound) -> Result<Race
         peer: (),
         options,
     };
-    Ok(Racer {
+    Ok(JobRun {
         job,
         pass: None,
         answer: None,
@@ -78,20 +78,20 @@ pub(crate) fn fetch_in<R: Threads + Wait + Sync, P: Peer + Send>(
     alloc: Global,
     shared: SharedRepository,
     pass: Pass,
-    racers: &mut [Racer<()>],
+    job_runs: &mut [JobRun<()>],
     peers: &mut [P],
 ) -> (Repository, Vec<Entry>)
     requires all { IsRest shared 0 pass }
-    requires few { length racers.old ≤ 8 }
-    requires same { length racers.old ≡ length peers.old }
+    requires few { length job_runs.old ≤ 8 }
+    requires same { length job_runs.old ≡ length peers.old }
     ensures kept { IsKept (record { opening = shared.opening; repository = result.0; journal = result.1.items }) }
     ensures numbered { All (λ e. pass_of e < 18446744073709551615) result.1.items }
     ensures raced { HaveRaced (record { answers = P.answers; told = P.told; faults = P.faults; trees = []; opening = shared.opening })
-        result.1.items (map (λ r. r.job) (all_owning racers.old peers.old)) (all_owning racers.new peers.new) }
+        result.1.items (map (λ r. r.job) (all_owning job_runs.old peers.old)) (all_owning job_runs.new peers.new) }
 {
-    let rest = seat_all(&shared, pass, racers);
-    fetch_all(rt, alloc, &shared, racers, peers);
-    let pass = gather(&shared, rest, racers);
+    let rest = give_passes(&shared, pass, job_runs);
+    fetch_all(rt, alloc, &shared, job_runs, peers);
+    let pass = gather(&shared, rest, job_runs);
     closed(rt, shared, pass)
 }
 
@@ -100,24 +100,24 @@ fn fetch_all<R: Threads + Wait + Sync, P: Peer + Send>(
     rt: &R,
     alloc: Global,
     shared: &SharedRepository,
-    racers: &mut [Racer<()>],
+    job_runs: &mut [JobRun<()>],
     peers: &mut [P],
 )
-    requires same { length racers.old ≡ length peers.old }
-    requires shared { All (λ r. IfSome r.pass (λ p. p.shared ≡ shared.now)) racers.old }
-    ensures ran { (i : ℕ) (d : _) → i < length (all_owning racers.old peers.old)
-        → IfSome (slice_index_or (all_owning racers.old peers.old) i d).pass (λ pass. IsRun
+    requires same { length job_runs.old ≡ length peers.old }
+    requires shared { All (λ r. IfSome r.pass (λ p. p.shared ≡ shared.now)) job_runs.old }
+    ensures ran { (i : ℕ) (d : _) → i < length (all_owning job_runs.old peers.old)
+        → IfSome (slice_index_or (all_owning job_runs.old peers.old) i d).pass (λ pass. IsRun
         (record { answers = P.answers; told = P.told; faults = P.faults; trees = []; opening = shared.now.opening }) pass
-        (slice_index_or (all_owning racers.old peers.old) i d) (slice_index_or (all_owning racers.new peers.new) i d)) }
-    ensures racer_count { length racers.new ≡ length racers.old }
+        (slice_index_or (all_owning job_runs.old peers.old) i d) (slice_index_or (all_owning job_runs.new peers.new) i d)) }
+    ensures job_run_count { length job_runs.new ≡ length job_runs.old }
     ensures peer_count { length peers.new ≡ length peers.old }
 {
     for_each_pair_mut(
         rt,
-        &|racer, peer|
-            requires { IfSome racer.old.pass (λ p. p.shared ≡ shared.now) }
-        { fetch_one(rt, alloc, shared, racer, peer) },
-        racers,
+        &|job_run, peer|
+            requires { IfSome job_run.old.pass (λ p. p.shared ≡ shared.now) }
+        { fetch_one(rt, alloc, shared, job_run, peer) },
+        job_runs,
         peers,
     );
 }
@@ -127,15 +127,15 @@ fn fetch_one<R: Threads + Wait + Sync, P: Peer>(
     rt: &R,
     alloc: Global,
     shared: &SharedRepository,
-    racer: &mut Racer<()>,
+    job_run: &mut JobRun<()>,
     peer: &mut P,
 )
-    requires shared { IfSome racer.old.pass (λ p. p.shared ≡ shared.now) }
-    ensures ran { IfSome racer.old.pass (λ pass. IsRun
+    requires shared { IfSome job_run.old.pass (λ p. p.shared ≡ shared.now) }
+    ensures ran { IfSome job_run.old.pass (λ pass. IsRun
         (record { answers = P.answers; told = P.told; faults = P.faults; trees = []; opening = shared.now.opening }) pass
-        (owning racer.old peer.old) (owning racer.new peer.new)) }
+        (owning job_run.old peer.old) (owning job_run.new peer.new)) }
 {
-    let Some(pass) = racer.pass.take() else {
+    let Some(pass) = job_run.pass.take() else {
         return;
     };
     let (pass, receipt, answer) = fetch_by_pass(
@@ -143,20 +143,20 @@ fn fetch_one<R: Threads + Wait + Sync, P: Peer>(
         alloc,
         shared,
         pass,
-        &racer.job.remote,
+        &job_run.job.remote,
         peer,
-        &racer.job.options,
+        &job_run.job.options,
         &[],
     );
-    arrive(racer, pass, receipt, answer)
+    arrive(job_run, pass, receipt, answer)
 }
 
 /// Puts a pass that came back and what became of the job beside the job.
-fn arrive(racer: &mut Racer<()>, pass: Pass, receipt: Receipt, answer: Result<Outcome, SharedError>)
-    ensures job { racer.new.job ≡ racer.old.job }
-    ensures pass { racer.new.pass ≡ Some pass }
-    ensures answer { racer.new.answer ≡ Some (receipt, answer) }
+fn arrive(job_run: &mut JobRun<()>, pass: Pass, receipt: Receipt, answer: Result<Outcome, SharedError>)
+    ensures job { job_run.new.job ≡ job_run.old.job }
+    ensures pass { job_run.new.pass ≡ Some pass }
+    ensures answer { job_run.new.answer ≡ Some (receipt, answer) }
 {
-    drop(racer.pass.replace(pass));
-    drop(racer.answer.replace((receipt, answer)));
+    drop(job_run.pass.replace(pass));
+    drop(job_run.answer.replace((receipt, answer)));
 }

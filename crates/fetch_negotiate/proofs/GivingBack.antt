@@ -16,13 +16,13 @@ use Rattle.fetch_store.specs.Graph.{Graph}
 use Rattle.fetch_store.specs.Stores.{id_cmp}
 use Rattle.fetch_store.proofs.Ids.{id_cmp_exact, id_cmp_total}
 use Rattle.fetch_store.proofs.Orders.{cmp_is}
-use Rattle.fetch_negotiate.specs.declared.line.Line.{Line}
+use Rattle.fetch_negotiate.specs.declared.frontier.Frontier.{Frontier}
 use Rattle.fetch_negotiate.specs.declared.skips.Skips.{Skips}
 use Rattle.fetch_negotiate.specs.declared.walk.HaveWalk.{HaveWalk}
 use Rattle.fetch_negotiate.specs.Commits.{has}
 use Rattle.fetch_negotiate.specs.Haves.{Negotiation}
 use Rattle.fetch_negotiate.specs.Paired.{IsPaired}
-use Rattle.fetch_negotiate.specs.Queues.{Rank, IsLine, IsLineIn, in_queue, tips_in}
+use Rattle.fetch_negotiate.specs.Queues.{Rank, IsFrontier, IsFrontierIn, in_queue, tips_in}
 use Rattle.fetch_negotiate.specs.Reading.{Table, Grows, IsTold, links_at, read_in}
 use Rattle.fetch_negotiate.specs.Sharing.{IsMarked}
 use Rattle.fetch_negotiate.specs.Skipped.{IsSkipping}
@@ -64,7 +64,7 @@ lost told more others id m apart updates =
     step q false e = ap (λ (t : Bool). t || has others q) (turned q id ∙ e)
 
 -- ---- one after the other
-pub record IsUntaking (count : ℕ) (before now : Line) : Type 0 where
+pub record IsUntaking (count : ℕ) (before now : Frontier) : Type 0 where
   pub tips : now.tips ≡ before.tips
   pub candidates : now.candidates ≡ before.candidates
   pub told : IsMarked now.told now.taken.items
@@ -116,59 +116,59 @@ pub record IsBack (w v x : HaveWalk) (s t u : Skips) : Type 0 where
   pub border : x.border ≡ v.border
   pub table : x.table ≡ v.table
   pub common : x.common ≡ v.common
-  pub tips : x.line.tips ≡ v.line.tips
-  pub candidates : x.line.candidates.items ≡ take (length w.line.candidates.items) v.line.candidates.items
-  pub entered : x.line.entered ≡ 0
-  pub queue : x.line.queue.keys ≡ []
-  pub taken : x.line.taken.items ≡ take (length w.line.taken.items) v.line.taken.items
-  pub told : IsMarked x.line.told x.line.taken.items
+  pub tips : x.frontier.tips ≡ v.frontier.tips
+  pub candidates : x.frontier.candidates.items ≡ take (length w.frontier.candidates.items) v.frontier.candidates.items
+  pub entered : x.frontier.entered ≡ 0
+  pub queue : x.frontier.queue.keys ≡ []
+  pub taken : x.frontier.taken.items ≡ take (length w.frontier.taken.items) v.frontier.taken.items
+  pub told : IsMarked x.frontier.told x.frontier.taken.items
   pub handed : u.handed.items ≡ take (length s.handed.items) t.handed.items
   pub paired : IsPaired u
 
 module _ (w v x : HaveWalk) (s t u : Skips) (g : Graph) (told : IsTold (read_in v.table) g) (was : IsSkipping w s) (now : IsSkipping v t) (goes : GoesOn w v) (back : IsBack w v x s t u) where
-  taken_is : x.line.taken.items ≡ w.line.taken.items
-  taken_is = back.taken ∙ front w.line.taken.items v.line.taken.items goes.taken.more goes.taken.is
+  taken_is : x.frontier.taken.items ≡ w.frontier.taken.items
+  taken_is = back.taken ∙ front w.frontier.taken.items v.frontier.taken.items goes.taken.more goes.taken.is
 
-  tips_is : v.line.tips ≡ w.line.tips
+  tips_is : v.frontier.tips ≡ w.frontier.tips
   tips_is =
-      sym (length-take-le v.line.tips v.line.candidates.items now.walk.line.1.tips_in) ∙ ap (length {A = ObjectId}) goes.tips ∙ length-take-le w.line.tips w.line.candidates.items was.walk.line.1.tips_in
+      sym (length-take-le v.frontier.tips v.frontier.candidates.items now.walk.frontier.1.tips_in) ∙ ap (length {A = ObjectId}) goes.tips ∙ length-take-le w.frontier.tips w.frontier.candidates.items was.walk.frontier.1.tips_in
 
   abbrev links : ObjectId → List ObjectId
   links = links_at (read_in v.table) w.border
 
-  links_same : flat_map (links_at (read_in w.table) w.border) w.line.taken.items ≡ flat_map links w.line.taken.items
-  links_same = flat_map_same (links_at (read_in w.table) w.border) links w.line.taken.items (λ q h. sym (links_grown (read_in w.table) (read_in v.table) goes.grows w.border q (was.walk.line.1.known q h)))
+  links_same : flat_map (links_at (read_in w.table) w.border) w.frontier.taken.items ≡ flat_map links w.frontier.taken.items
+  links_same = flat_map_same (links_at (read_in w.table) w.border) links w.frontier.taken.items (λ q h. sym (links_grown (read_in w.table) (read_in v.table) goes.grows w.border q (was.walk.frontier.1.known q h)))
 
-  candidates_more : v.line.candidates.items ≡ w.line.candidates.items ++ flat_map links goes.taken.more
+  candidates_more : v.frontier.candidates.items ≡ w.frontier.candidates.items ++ flat_map links goes.taken.more
   candidates_more =
-      now.walk.line.1.all
-      ∙ ap (λ (ts : List ObjectId). ts ++ flat_map (links_at (read_in v.table) v.border) v.line.taken.items) goes.tips
-      ∙ ap (λ (b : set.FinSet id_cmp). tips_in w.line ++ flat_map (links_at (read_in v.table) b) v.line.taken.items) goes.border
-      ∙ ap (λ (ts : List ObjectId). tips_in w.line ++ flat_map links ts) goes.taken.is
-      ∙ ap (λ (ts : List ObjectId). tips_in w.line ++ ts) (flat_map-append links w.line.taken.items goes.taken.more)
-      ∙ sym (append_assoc (tips_in w.line) (flat_map links w.line.taken.items) (flat_map links goes.taken.more))
-      ∙ ap (λ (ts : List ObjectId). (tips_in w.line ++ ts) ++ flat_map links goes.taken.more) (sym links_same)
-      ∙ ap (λ (ts : List ObjectId). ts ++ flat_map links goes.taken.more) (sym was.walk.line.1.all)
+      now.walk.frontier.1.all
+      ∙ ap (λ (ts : List ObjectId). ts ++ flat_map (links_at (read_in v.table) v.border) v.frontier.taken.items) goes.tips
+      ∙ ap (λ (b : set.FinSet id_cmp). tips_in w.frontier ++ flat_map (links_at (read_in v.table) b) v.frontier.taken.items) goes.border
+      ∙ ap (λ (ts : List ObjectId). tips_in w.frontier ++ flat_map links ts) goes.taken.is
+      ∙ ap (λ (ts : List ObjectId). tips_in w.frontier ++ ts) (flat_map-append links w.frontier.taken.items goes.taken.more)
+      ∙ sym (append_assoc (tips_in w.frontier) (flat_map links w.frontier.taken.items) (flat_map links goes.taken.more))
+      ∙ ap (λ (ts : List ObjectId). (tips_in w.frontier ++ ts) ++ flat_map links goes.taken.more) (sym links_same)
+      ∙ ap (λ (ts : List ObjectId). ts ++ flat_map links goes.taken.more) (sym was.walk.frontier.1.all)
 
-  candidates_is : x.line.candidates.items ≡ w.line.candidates.items
-  candidates_is = back.candidates ∙ front w.line.candidates.items v.line.candidates.items (flat_map links goes.taken.more) candidates_more
+  candidates_is : x.frontier.candidates.items ≡ w.frontier.candidates.items
+  candidates_is = back.candidates ∙ front w.frontier.candidates.items v.frontier.candidates.items (flat_map links goes.taken.more) candidates_more
 
   pub so_far_back : so_far_in x ≡ so_far_in w
   so_far_back = rw (back.tips, tips_is, candidates_is, back.border, goes.border, taken_is, back.common, goes.acknowledged) refl
 
-  no_queue : (r : Rank) → in_queue x.line.queue r ≡ false
+  no_queue : (r : Rank) → in_queue x.frontier.queue r ≡ false
   no_queue r = ap (λ (keys : List Rank). Rattle.std.specs.List.list_any (λ k. eq_by_cmp Rattle.fetch_negotiate.specs.Queues.rank_cmp r k) keys) back.queue
 
-  line_back : IsLineIn (read_in v.table) v.border v.common.commits.items x.line
+  line_back : IsFrontierIn (read_in v.table) v.border v.common.commits.items x.frontier
   line_back =
-      let grown = line_grown (read_in w.table) (read_in v.table) w.border w.common.commits.items w.line.tips w.line.candidates.items w.line.entered w.line.queue w.line.taken.items goes.grows was.walk.line.1 in (
+      let grown = line_grown (read_in w.table) (read_in v.table) w.border w.common.commits.items w.frontier.tips w.frontier.candidates.items w.frontier.entered w.frontier.queue w.frontier.taken.items goes.grows was.walk.frontier.1 in (
         back.told,
         record {
           tips_in = rw (back.tips, tips_is, candidates_is) grown.tips_in;
           entered_in = rw back.entered (omega arith);
           all = rw (back.tips, tips_is, candidates_is, taken_is, goes.border) grown.all;
           known = rw taken_is grown.known;
-          each = λ q h. absurd (true≢false (sym h ∙ ap (λ (n : ℕ). has (take n x.line.candidates.items) q) back.entered));
+          each = λ q h. absurd (true≢false (sym h ∙ ap (λ (n : ℕ). has (take n x.frontier.candidates.items) q) back.entered));
           queued = λ r h. absurd (true≢false (sym h ∙ no_queue r));
         },
       )
@@ -177,7 +177,7 @@ module _ (w v x : HaveWalk) (s t u : Skips) (g : Graph) (told : IsTold (read_in 
   walk_back =
       record {
         common = rw (back.table, back.border, back.common) now.walk.common;
-        line = rw (back.table, back.border, back.common) line_back;
+        frontier = rw (back.table, back.border, back.common) line_back;
       }
 
   handed_is : u.handed.items ≡ s.handed.items
@@ -205,7 +205,7 @@ here w =
       tips = refl;
       border = refl;
       acknowledged = refl;
-      taken = record { more = []; is = sym (nothing w.line.taken.items) };
+      taken = record { more = []; is = sym (nothing w.frontier.taken.items) };
     }
   where
     nothing : (xs : List ObjectId) → xs ++ [] ≡ xs
@@ -233,6 +233,6 @@ goes_one w v x id goes grows same =
       acknowledged = ap (λ (n : Negotiation). n.acknowledged) same ∙ goes.acknowledged;
       taken = record {
         more = goes.taken.more ++ id ∷ [];
-        is = ap (λ (n : Negotiation). n.taken) same ∙ ap (λ (xs : List ObjectId). xs ++ id ∷ []) goes.taken.is ∙ append_assoc w.line.taken.items goes.taken.more (id ∷ []);
+        is = ap (λ (n : Negotiation). n.taken) same ∙ ap (λ (xs : List ObjectId). xs ++ id ∷ []) goes.taken.is ∙ append_assoc w.frontier.taken.items goes.taken.more (id ∷ []);
       };
     }

@@ -44,7 +44,7 @@ pub walk_grown : (w : HaveWalk) (t : Table) → Grows (read_in w.table) (read_in
 walk_grown w t grows walk =
     record {
       common = common_in_grown (read_in w.table) (read_in t) w.border w.common grows walk.common;
-      line = line_in_grown (read_in w.table) (read_in t) w.border w.common.commits.items w.line grows walk.line;
+      frontier = line_in_grown (read_in w.table) (read_in t) w.border w.common.commits.items w.frontier grows walk.frontier;
     }
 
 stored_says : (k : Read) (g h : Graph) (id : ObjectId) → k id ≡ Some (commit_of h id) → IsTold k g → is_some (commit_of g id) ≡ is_some (commit_of h id)

@@ -22,7 +22,7 @@ use Rattle.fetch_negotiate.specs.Ancestors.{links_of}
 use Rattle.fetch_negotiate.specs.Commits.{has, commit_of}
 use Rattle.fetch_negotiate.specs.Exact.{IsExact}
 use Rattle.fetch_negotiate.specs.Haves.{Negotiation, candidates, is_common, is_open, seconds_of, comes_before, first_among, next_taken}
-use Rattle.fetch_negotiate.specs.Queues.{Rank, IsEntered, IsLine, IsChosen, IsNone, in_queue, rank_at, seconds_at}
+use Rattle.fetch_negotiate.specs.Queues.{Rank, IsEntered, IsFrontier, IsChosen, IsNone, in_queue, rank_at, seconds_at}
 use Rattle.fetch_negotiate.specs.Reading.{Read, IsTold, commit_at, links_at}
 use Rattle.fetch_negotiate.proofs.Choosing.{told_at, links_told}
 use Rattle.fetch_negotiate.proofs.Commons.{take_all}
@@ -173,7 +173,7 @@ ok_fresh g n (Ok next) e = next_fresh g n next e
 ok_fresh g n (Err m) e = tt
 
 module _ (k : Read) (g : Graph) (border : set.FinSet id_cmp) (acknowledged commits : List ObjectId) (tips : ℕ) (cands : List ObjectId) (entered : ℕ) (queue : BTreeSet Rank) (taken : List ObjectId)
-    (told : IsTold k g) (exact : IsExact g border acknowledged commits) (all : length cands ≤ entered) (line : IsLine k border commits tips cands entered queue taken) where
+    (told : IsTold k g) (exact : IsExact g border acknowledged commits) (all : length cands ≤ entered) (frontier : IsFrontier k border commits tips cands entered queue taken) where
   abbrev the : Negotiation
   the = record { tips = take tips cands; border = border; taken = taken; acknowledged = acknowledged }
 
@@ -181,10 +181,10 @@ module _ (k : Read) (g : Graph) (border : set.FinSet id_cmp) (acknowledged commi
   opened = filter (is_open g the) (candidates g the)
 
   candidates_are : candidates g the ≡ cands
-  candidates_are = sym (line.all ∙ ap (λ (m : List ObjectId). take tips cands ++ m) (flat_map_same (links_at k border) (links_of g border) taken (λ q h. sym (links_told k g told border q (read_of k q (line.known q h))))))
+  candidates_are = sym (frontier.all ∙ ap (λ (m : List ObjectId). take tips cands ++ m) (flat_map_same (links_at k border) (links_of g border) taken (λ q h. sym (links_told k g told border q (read_of k q (frontier.known q h))))))
 
   each : (q : ObjectId) → has cands q ≡ true → IsEntered k commits taken queue q
-  each q h = line.each q (ap (λ (l : List ObjectId). has l q) (take_all cands entered all) ∙ h)
+  each q h = frontier.each q (ap (λ (l : List ObjectId). has l q) (take_all cands entered all) ∙ h)
 
   seconds_told : (q : ObjectId) → is_some (k q) ≡ true → seconds_of g q ≡ seconds_at k q
   seconds_told q h = ap (λ (c : Option Commit). option_map_or (λ (c : Commit). c.seconds) c 0) (told_at k g told q h)
@@ -209,7 +209,7 @@ module _ (k : Read) (g : Graph) (border : set.FinSet id_cmp) (acknowledged commi
 
   chosen_in : (id : ObjectId) → IsChosen k commits taken queue id → has opened id ≡ true
   chosen_in id c =
-      let e = line.queued (rank_at k id) c.waits in
+      let e = frontier.queued (rank_at k id) c.waits in
       let stored = stored_told id (read_of k id e.stored) ∙ e.stored in
       any-filter id (is_open g the) (candidates g the)
       ∙ and_of (has (candidates g the) id) (is_open g the id) (ap (λ (l : List ObjectId). has l id) candidates_are ∙ e.candidate)

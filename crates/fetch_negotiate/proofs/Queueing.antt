@@ -1,4 +1,4 @@
--- The line of candidates, step by step.
+-- The frontier of candidates, step by step.
 use Rattle.std.proofs.Common.{◌≡◌, ℕ, ◌+◌, ◌<◌, Bool, true, false, List, [], ◌∷◌, ◌++◌, take, get_or, length, Option, Some, true≢false, ⊎_elim, refl, sym, ap, subst, ◌∙◌, append_assoc, length-append, arith}
 use Rattle.std.specs.Prelude.{is_some, ◌||◌}
 use Rattle.std.specs.BTreeSet.{BTreeSet}
@@ -15,11 +15,11 @@ use Rattle.fetch_store.specs.Graph.{Graph}
 use Rattle.fetch_store.specs.Stores.{id_cmp}
 use Rattle.fetch_store.proofs.Finds.{ties}
 use Rattle.fetch_negotiate.specs.declared.commits.Commit.{Commit}
-use Rattle.fetch_negotiate.specs.declared.line.Line.{Line}
+use Rattle.fetch_negotiate.specs.declared.frontier.Frontier.{Frontier}
 use Rattle.fetch_negotiate.specs.Commits.{has}
 use Rattle.fetch_negotiate.specs.Reading.{Read, Grows, IsTold, commit_at, links_at}
 use Rattle.fetch_negotiate.specs.Sharing.{IsMarked, Covers}
-use Rattle.fetch_negotiate.specs.Queues.{Rank, IsEntered, IsQueued, IsLine, IsLineIn, in_queue, rank_at, rank_cmp}
+use Rattle.fetch_negotiate.specs.Queues.{Rank, IsEntered, IsQueued, IsFrontier, IsFrontierIn, in_queue, rank_at, rank_cmp}
 use Rattle.fetch_negotiate.proofs.Growing.{grown_at, commit_grown, commit_stays, links_grown, read_of, grows_then, grows_none}
 use Rattle.fetch_negotiate.proofs.Onces.{has_push, grown}
 use Rattle.fetch_negotiate.proofs.Commons.{split, has_append, has_at, found_at}
@@ -43,7 +43,7 @@ flat_map_same f g (x ∷ xs) same =
 
 -- more is read
 pub line_grown : (k l : Read) (border : set.FinSet id_cmp) (commits : List ObjectId) (tips : ℕ) (candidates : List ObjectId) (entered : ℕ) (queue : BTreeSet Rank) (taken : List ObjectId) → Grows k l
-    → IsLine k border commits tips candidates entered queue taken → IsLine l border commits tips candidates entered queue taken
+    → IsFrontier k border commits tips candidates entered queue taken → IsFrontier l border commits tips candidates entered queue taken
 line_grown k l border commits tips candidates entered queue taken grows c =
     record {
       tips_in = c.tips_in;
@@ -63,7 +63,7 @@ line_grown k l border commits tips candidates entered queue taken grows c =
 
 -- more commits are common
 pub line_covered : (k : Read) (border : set.FinSet id_cmp) (commits more : List ObjectId) (tips : ℕ) (candidates : List ObjectId) (entered : ℕ) (queue : BTreeSet Rank) (taken : List ObjectId) → Covers commits more
-    → IsLine k border commits tips candidates entered queue taken → IsLine k border more tips candidates entered queue taken
+    → IsFrontier k border commits tips candidates entered queue taken → IsFrontier k border more tips candidates entered queue taken
 line_covered k border commits more tips candidates entered queue taken covers c =
     record {
       tips_in = c.tips_in;
@@ -81,7 +81,7 @@ line_covered k border commits more tips candidates entered queue taken covers c 
 -- one more candidate was entered
 pub line_entered : (k : Read) (border : set.FinSet id_cmp) (commits : List ObjectId) (tips : ℕ) (candidates : List ObjectId) (entered : ℕ) (queue more : BTreeSet Rank) (taken : List ObjectId) (d id : ObjectId)
     → entered < length candidates → id ≡ get_or candidates entered d → is_some (k id) ≡ true → is_some (commit_at k id) ≡ true → Puts queue more (rank_at k id)
-    → IsLine k border commits tips candidates entered queue taken → IsLine k border commits tips candidates (entered + 1) more taken
+    → IsFrontier k border commits tips candidates entered queue taken → IsFrontier k border commits tips candidates (entered + 1) more taken
 line_entered k border commits tips candidates entered queue more taken d id lt is read stored puts c =
     record {
       tips_in = c.tips_in;
@@ -98,7 +98,7 @@ line_entered k border commits tips candidates entered queue more taken d id lt i
 -- one that is no stored commit
 pub line_passed : (k : Read) (border : set.FinSet id_cmp) (commits : List ObjectId) (tips : ℕ) (candidates : List ObjectId) (entered : ℕ) (queue : BTreeSet Rank) (taken : List ObjectId) (d id : ObjectId)
     → entered < length candidates → id ≡ get_or candidates entered d → is_some (k id) ≡ true → is_some (commit_at k id) ≡ false
-    → IsLine k border commits tips candidates entered queue taken → IsLine k border commits tips candidates (entered + 1) queue taken
+    → IsFrontier k border commits tips candidates entered queue taken → IsFrontier k border commits tips candidates (entered + 1) queue taken
 line_passed k border commits tips candidates entered queue taken d id lt is read absent c =
     record {
       tips_in = c.tips_in;
@@ -115,7 +115,7 @@ line_passed k border commits tips candidates entered queue taken d id lt is read
 -- one that is taken or common leaves the queue
 pub line_dropped : (k : Read) (border : set.FinSet id_cmp) (commits : List ObjectId) (tips : ℕ) (candidates : List ObjectId) (entered : ℕ) (queue less : BTreeSet Rank) (taken : List ObjectId) (r : Rank)
     → Drops queue less r → (has taken r.1 ≡ false → has commits r.1 ≡ false → ⊥)
-    → IsLine k border commits tips candidates entered queue taken → IsLine k border commits tips candidates entered less taken
+    → IsFrontier k border commits tips candidates entered queue taken → IsFrontier k border commits tips candidates entered less taken
 line_dropped k border commits tips candidates entered queue less taken r drops closed c =
     record {
       tips_in = c.tips_in;
@@ -136,7 +136,7 @@ no_more (x ∷ l) = ap (λ (m : List ObjectId). x ∷ m) (no_more l)
 -- one commit is taken: its parents are candidates
 pub line_taken : (k : Read) (border : set.FinSet id_cmp) (commits : List ObjectId) (tips : ℕ) (candidates : List ObjectId) (entered : ℕ) (queue : BTreeSet Rank) (taken links : List ObjectId) (id : ObjectId)
     → links ≡ links_at k border id → is_some (commit_at k id) ≡ true
-    → IsLine k border commits tips candidates entered queue taken → IsLine k border commits tips (candidates ++ links) entered queue (taken ++ id ∷ [])
+    → IsFrontier k border commits tips candidates entered queue taken → IsFrontier k border commits tips (candidates ++ links) entered queue (taken ++ id ∷ [])
 line_taken k border commits tips candidates entered queue taken links id is stored c =
     record {
       tips_in = omega (arith, c.tips_in, length-append candidates links);
@@ -162,12 +162,12 @@ line_taken k border commits tips candidates entered queue taken links id is stor
     before q false h f = refl
 
 -- ---- the same, of the record
-pub line_in_grown : (k l : Read) (border : set.FinSet id_cmp) (commits : List ObjectId) (x : Line) → Grows k l → IsLineIn k border commits x → IsLineIn l border commits x
+pub line_in_grown : (k l : Read) (border : set.FinSet id_cmp) (commits : List ObjectId) (x : Frontier) → Grows k l → IsFrontierIn k border commits x → IsFrontierIn l border commits x
 line_in_grown k l border commits x grows is = (is.0, line_grown k l border commits x.tips x.candidates.items x.entered x.queue x.taken.items grows is.1)
 
 -- a queue with the same entries
-pub line_in_requeued : (k : Read) (border : set.FinSet id_cmp) (commits : List ObjectId) (x : Line) (queue : BTreeSet Rank) → queue.keys ≡ x.queue.keys → IsLineIn k border commits x
-    → IsMarked x.told x.taken.items × IsLine k border commits x.tips x.candidates.items x.entered queue x.taken.items
+pub line_in_requeued : (k : Read) (border : set.FinSet id_cmp) (commits : List ObjectId) (x : Frontier) (queue : BTreeSet Rank) → queue.keys ≡ x.queue.keys → IsFrontierIn k border commits x
+    → IsMarked x.told x.taken.items × IsFrontier k border commits x.tips x.candidates.items x.entered queue x.taken.items
 line_in_requeued k border commits x queue same is =
     let at : (r : Rank) → in_queue queue r ≡ in_queue x.queue r = λ r. ap (λ (ks : List Rank). list_any (is_at (rank_cmp r)) ks) same in (
       is.0,
@@ -181,8 +181,8 @@ line_in_requeued k border commits x queue same is =
       },
     )
 
-abbrev pub IsLineNext : Read → set.FinSet id_cmp → List ObjectId → Line → Type 0
-IsLineNext k border commits x = IsMarked x.told x.taken.items × IsLine k border commits x.tips x.candidates.items (x.entered + 1) x.queue x.taken.items
+abbrev pub IsFrontierNext : Read → set.FinSet id_cmp → List ObjectId → Frontier → Type 0
+IsFrontierNext k border commits x = IsMarked x.told x.taken.items × IsFrontier k border commits x.tips x.candidates.items (x.entered + 1) x.queue x.taken.items
 
 read_at : (o : Option (Option Commit)) (c : Option Commit) → o ≡ Some c → is_some o ≡ true
 read_at o c is = ap (λ (o : Option (Option Commit)). is_some o) is
@@ -190,29 +190,29 @@ read_at o c is = ap (λ (o : Option (Option Commit)). is_some o) is
 commit_is : (o : Option (Option Commit)) (c : Option Commit) (b : Bool) → o ≡ Some c → is_some c ≡ b → is_some (option_and_then (λ (c : Option Commit). c) o) ≡ b
 commit_is o c b is stored = ap (λ (c : Option Commit). is_some c) (found_at o c is) ∙ stored
 
-pub line_in_entered : (k : Read) (border : set.FinSet id_cmp) (commits : List ObjectId) (x : Line) (queue : BTreeSet Rank) (id : ObjectId) (c : Option Commit) → x.entered < length x.candidates.items → id ≡ get_or x.candidates.items x.entered id
-    → k id ≡ Some c → is_some c ≡ true → Puts x.queue queue (rank_at k id) → IsLineIn k border commits x → IsMarked x.told x.taken.items × IsLine k border commits x.tips x.candidates.items (x.entered + 1) queue x.taken.items
+pub line_in_entered : (k : Read) (border : set.FinSet id_cmp) (commits : List ObjectId) (x : Frontier) (queue : BTreeSet Rank) (id : ObjectId) (c : Option Commit) → x.entered < length x.candidates.items → id ≡ get_or x.candidates.items x.entered id
+    → k id ≡ Some c → is_some c ≡ true → Puts x.queue queue (rank_at k id) → IsFrontierIn k border commits x → IsMarked x.told x.taken.items × IsFrontier k border commits x.tips x.candidates.items (x.entered + 1) queue x.taken.items
 line_in_entered k border commits x queue id c lt at found stored puts is =
     (is.0, line_entered k border commits x.tips x.candidates.items x.entered x.queue queue x.taken.items id id lt at (read_at (k id) c found) (commit_is (k id) c true found stored) puts is.1)
 
-pub line_in_passed : (k : Read) (border : set.FinSet id_cmp) (commits : List ObjectId) (x : Line) (id : ObjectId) (c : Option Commit) → x.entered < length x.candidates.items → id ≡ get_or x.candidates.items x.entered id
-    → k id ≡ Some c → is_some c ≡ false → IsLineIn k border commits x → IsLineNext k border commits x
+pub line_in_passed : (k : Read) (border : set.FinSet id_cmp) (commits : List ObjectId) (x : Frontier) (id : ObjectId) (c : Option Commit) → x.entered < length x.candidates.items → id ≡ get_or x.candidates.items x.entered id
+    → k id ≡ Some c → is_some c ≡ false → IsFrontierIn k border commits x → IsFrontierNext k border commits x
 line_in_passed k border commits x id c lt at found absent is =
     (is.0, line_passed k border commits x.tips x.candidates.items x.entered x.queue x.taken.items id id lt at (read_at (k id) c found) (commit_is (k id) c false found absent) is.1)
 
 -- ---- the loop that enters candidates
-pub record IsEntering (k l : Read) (border : set.FinSet id_cmp) (commits : List ObjectId) (before now : Line) (g : Graph) : Type 0 where
-  pub line : IsLineIn l border commits now
+pub record IsEntering (k l : Read) (border : set.FinSet id_cmp) (commits : List ObjectId) (before now : Frontier) (g : Graph) : Type 0 where
+  pub frontier : IsFrontierIn l border commits now
   pub told : IsTold l g
   pub grows : Grows k l
   pub tips : now.tips ≡ before.tips
   pub candidates : now.candidates ≡ before.candidates
   pub taken : now.taken ≡ before.taken
 
-pub entering_further : (k l m : Read) (border : set.FinSet id_cmp) (commits : List ObjectId) (before now after : Line) (g : Graph) → IsEntering k l border commits before now g → IsLineIn m border commits after → IsTold m g → Grows l m
+pub entering_further : (k l m : Read) (border : set.FinSet id_cmp) (commits : List ObjectId) (before now after : Frontier) (g : Graph) → IsEntering k l border commits before now g → IsFrontierIn m border commits after → IsTold m g → Grows l m
     → after.tips ≡ now.tips → after.candidates ≡ now.candidates → after.taken ≡ now.taken → IsEntering k m border commits before after g
-entering_further k l m border commits before now after g so_far line told grows tips candidates taken =
-    record { line = line; told = told; grows = grows_then k l m so_far.grows grows; tips = tips ∙ so_far.tips; candidates = candidates ∙ so_far.candidates; taken = taken ∙ so_far.taken }
+entering_further k l m border commits before now after g so_far frontier told grows tips candidates taken =
+    record { frontier = frontier; told = told; grows = grows_then k l m so_far.grows grows; tips = tips ∙ so_far.tips; candidates = candidates ∙ so_far.candidates; taken = taken ∙ so_far.taken }
 
-pub entering_none : (k : Read) (border : set.FinSet id_cmp) (commits : List ObjectId) (x : Line) (g : Graph) → IsLineIn k border commits x → IsTold k g → IsEntering k k border commits x x g
-entering_none k border commits x g line told = record { line = line; told = told; grows = grows_none k; tips = refl; candidates = refl; taken = refl }
+pub entering_none : (k : Read) (border : set.FinSet id_cmp) (commits : List ObjectId) (x : Frontier) (g : Graph) → IsFrontierIn k border commits x → IsTold k g → IsEntering k k border commits x x g
+entering_none k border commits x g frontier told = record { frontier = frontier; told = told; grows = grows_none k; tips = refl; candidates = refl; taken = refl }

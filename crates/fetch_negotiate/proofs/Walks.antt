@@ -17,10 +17,10 @@ pub record IsChoosing (before now : HaveWalk) : Type 0 where
   pub table : now.table ≡ before.table
   pub border : now.border ≡ before.border
   pub common : now.common ≡ before.common
-  pub tips : now.line.tips ≡ before.line.tips
-  pub candidates : now.line.candidates ≡ before.line.candidates
-  pub entered : now.line.entered ≡ before.line.entered
-  pub taken : now.line.taken ≡ before.line.taken
+  pub tips : now.frontier.tips ≡ before.frontier.tips
+  pub candidates : now.frontier.candidates ≡ before.frontier.candidates
+  pub entered : now.frontier.entered ≡ before.frontier.entered
+  pub taken : now.frontier.taken ≡ before.frontier.taken
 
 neither : (a b : Bool) → (not a && not b) ≡ true → (a ≡ false) × (b ≡ false)
 neither true b h = absurd (true≢false (sym h))
@@ -42,18 +42,18 @@ clash : (a b c : Bool) → c ≡ (not a && not b) → c ≡ false → b ≡ fals
 clash a b c is closed fresh other = true≢false (sym (is ∙ ap (λ (x : Bool). not x && not b) other ∙ ap not fresh) ∙ closed)
 
 -- a commit that isn't open leaves the queue
-pub choosing_further : (before now : HaveWalk) (queue : BTreeSet Rank) (r : Rank) (b : Bool) → IsChoosing before now → Drops now.line.queue queue r → b ≡ (not (has now.common.commits.items r.1) && not (has now.line.taken.items r.1)) → b ≡ false
-    → IsChoosing before (record now { line = record now.line { queue = queue } })
+pub choosing_further : (before now : HaveWalk) (queue : BTreeSet Rank) (r : Rank) (b : Bool) → IsChoosing before now → Drops now.frontier.queue queue r → b ≡ (not (has now.common.commits.items r.1) && not (has now.frontier.taken.items r.1)) → b ≡ false
+    → IsChoosing before (record now { frontier = record now.frontier { queue = queue } })
 choosing_further before now queue r b so_far drops opened closed =
     let w = so_far.walk in
     let k = read_in now.table in
     record {
       walk = record {
         common = w.common;
-        line = (
-          w.line.0,
-          line_dropped k now.border now.common.commits.items now.line.tips now.line.candidates.items now.line.entered now.line.queue queue now.line.taken.items r drops
-              (clash (has now.common.commits.items r.1) (has now.line.taken.items r.1) b opened closed) w.line.1,
+        frontier = (
+          w.frontier.0,
+          line_dropped k now.border now.common.commits.items now.frontier.tips now.frontier.candidates.items now.frontier.entered now.frontier.queue queue now.frontier.taken.items r drops
+              (clash (has now.common.commits.items r.1) (has now.frontier.taken.items r.1) b opened closed) w.frontier.1,
         );
       };
       table = so_far.table;

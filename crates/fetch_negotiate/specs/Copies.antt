@@ -1,7 +1,7 @@
 -- What a copy of a walk has in common with it.
 use Rattle.std.specs.Prelude.{◌≡◌}
 use Rattle.fetch_negotiate.specs.declared.common.Common.{Common}
-use Rattle.fetch_negotiate.specs.declared.line.Line.{Line}
+use Rattle.fetch_negotiate.specs.declared.frontier.Frontier.{Frontier}
 use Rattle.fetch_negotiate.specs.declared.skips.Skips.{Skips}
 use Rattle.fetch_negotiate.specs.declared.walk.HaveWalk.{HaveWalk}
 
@@ -14,7 +14,7 @@ pub record IsSameCommon (a b : Common) : Type 0 where
   pub marked : a.marked ≡ b.marked
 
 -- Both have the same candidates, queue and commits taken.
-pub record IsSameLine (a b : Line) : Type 0 where
+pub record IsSameFrontier (a b : Frontier) : Type 0 where
   pub tips : a.tips ≡ b.tips
   pub candidates : a.candidates.items ≡ b.candidates.items
   pub entered : a.entered ≡ b.entered
@@ -27,7 +27,7 @@ pub record IsSameWalk (a b : HaveWalk) : Type 0 where
   pub border : a.border ≡ b.border
   pub table : a.table.entries ≡ b.table.entries
   pub common : IsSameCommon a.common b.common
-  pub line : IsSameLine a.line b.line
+  pub frontier : IsSameFrontier a.frontier b.frontier
 
 -- Both have handed on the same pairs.
 pub record IsSameSkips (a b : Skips) : Type 0 where

@@ -1,4 +1,4 @@
--- What the line of candidates keeps, step by step.
+-- What the frontier of candidates keeps, step by step.
 use Rattle.std.specs.Prelude.{◌≡◌, ℕ, ◌≤◌, Bool, true, false, List, ◌++◌, length, take, is_some}
 use Rattle.std.specs.BTreeSet as tree
 use Rattle.std.specs.BTreeSet.{BTreeSet}
@@ -11,7 +11,7 @@ use Rattle.std.specs.declared.cmp.Reverse.{Reverse}
 use Rattle.fetch_store.specs.declared.id.ObjectId.{ObjectId}
 use Rattle.fetch_store.specs.Stores.{id_cmp}
 use Rattle.fetch_negotiate.specs.declared.commits.Commit.{Commit}
-use Rattle.fetch_negotiate.specs.declared.line.Line.{Line}
+use Rattle.fetch_negotiate.specs.declared.frontier.Frontier.{Frontier}
 use Rattle.fetch_negotiate.specs.Commits.{has}
 use Rattle.fetch_negotiate.specs.Reading.{Read, commit_at, links_at}
 use Rattle.fetch_negotiate.specs.Sharing.{IsMarked}
@@ -48,7 +48,8 @@ pub record IsQueued (k : Read) (candidates : List ObjectId) (r : Rank) : Type 0 
   pub seconds : r ≡ rank_at k r.1
 
 -- What a walk keeps of its candidates: where they come from, which entered the queue, and which were taken.
-pub record IsLine (k : Read) (border : set.FinSet id_cmp) (commits : List ObjectId) (tips : ℕ) (candidates : List ObjectId) (entered : ℕ)
+pub record IsFrontier (k : Read) (border : set.FinSet id_cmp) (commits : List ObjectId) (tips : ℕ) (candidates : List ObjectId)
+    (entered : ℕ)
     (queue : BTreeSet Rank) (taken : List ObjectId) : Type 0 where
   pub tips_in : tips ≤ length candidates
   pub entered_in : entered ≤ length candidates
@@ -57,10 +58,10 @@ pub record IsLine (k : Read) (border : set.FinSet id_cmp) (commits : List Object
   pub each : (q : ObjectId) → has (take entered candidates) q ≡ true → IsEntered k commits taken queue q
   pub queued : (r : Rank) → in_queue queue r ≡ true → IsQueued k candidates r
 
--- the same, of the line of a walk
-abbrev pub IsLineIn : Read → set.FinSet id_cmp → List ObjectId → Line → Type 0
-IsLineIn k border commits l = IsMarked l.told l.taken.items
-    × IsLine k border commits l.tips l.candidates.items l.entered l.queue l.taken.items
+-- the same, of the frontier of a walk
+abbrev pub IsFrontierIn : Read → set.FinSet id_cmp → List ObjectId → Frontier → Type 0
+IsFrontierIn k border commits l = IsMarked l.told l.taken.items
+    × IsFrontier k border commits l.tips l.candidates.items l.entered l.queue l.taken.items
 
 -- The commit is in the queue and open, and nothing in the queue comes before it.
 pub record IsChosen (k : Read) (commits taken : List ObjectId) (queue : BTreeSet Rank) (id : ObjectId) : Type 0 where
@@ -78,6 +79,6 @@ pub record IsFront (queue : BTreeSet Rank) (r : Rank) : Type 0 where
   pub here : in_queue queue r ≡ true
   pub first : (q : Rank) → in_queue queue q ≡ true → is_gt (rank_cmp r q) ≡ false
 
--- the tips that a line began with
-abbrev pub tips_in : Line → List ObjectId
+-- the tips that a frontier began with
+abbrev pub tips_in : Frontier → List ObjectId
 tips_in l = take l.tips l.candidates.items

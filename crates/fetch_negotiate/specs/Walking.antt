@@ -7,18 +7,23 @@ use Rattle.fetch_negotiate.specs.declared.walk.HaveWalk.{HaveWalk}
 use Rattle.fetch_negotiate.specs.Commits.{Known}
 use Rattle.fetch_negotiate.specs.Exact.{IsExact}
 use Rattle.fetch_negotiate.specs.Haves.{Negotiation}
-use Rattle.fetch_negotiate.specs.Queues.{IsLineIn, tips_in}
+use Rattle.fetch_negotiate.specs.Queues.{IsFrontierIn, tips_in}
 use Rattle.fetch_negotiate.specs.Reading.{Table, Grows, read_in, commit_at}
 use Rattle.fetch_negotiate.specs.Sharing.{IsCommonIn, Extends}
 
--- What a walk keeps, of what is shared and of its line.
+-- What a walk keeps, of what is shared and of its frontier.
 pub record IsWalk (w : HaveWalk) : Type 0 where
   pub common : IsCommonIn (read_in w.table) w.border w.common
-  pub line : IsLineIn (read_in w.table) w.border w.common.commits.items w.line
+  pub frontier : IsFrontierIn (read_in w.table) w.border w.common.commits.items w.frontier
 
 -- what a walk has told so far
 abbrev pub so_far_in : HaveWalk → Negotiation
-so_far_in w = record { tips = tips_in w.line; border = w.border; taken = w.line.taken.items; acknowledged = w.common.acknowledged.items }
+so_far_in w = record {
+  tips = tips_in w.frontier;
+  border = w.border;
+  taken = w.frontier.taken.items;
+  acknowledged = w.common.acknowledged.items;
+}
 
 -- what a table knows, as a finite map
 abbrev pub known_in : Table → Known
@@ -27,7 +32,7 @@ known_in t = map.from_entries t.entries
 -- What is common is marked, and each candidate went into the queue.
 pub record IsReady (g : Graph) (w : HaveWalk) : Type 0 where
   pub exact : IsExact g w.border w.common.acknowledged.items w.common.commits.items
-  pub entered : length w.line.candidates.items ≤ w.line.entered
+  pub entered : length w.frontier.candidates.items ≤ w.frontier.entered
 
 -- The commit was read.
 abbrev pub IsRead : HaveWalk → ObjectId → Type 0
@@ -36,7 +41,7 @@ IsRead w id = is_some (commit_at (read_in w.table) id) ≡ true
 -- Commits were taken in between, after those before, and more may have been read.
 pub record GoesOn (w v : HaveWalk) : Type 0 where
   pub grows : Grows (read_in w.table) (read_in v.table)
-  pub tips : tips_in v.line ≡ tips_in w.line
+  pub tips : tips_in v.frontier ≡ tips_in w.frontier
   pub border : v.border ≡ w.border
   pub acknowledged : v.common.acknowledged.items ≡ w.common.acknowledged.items
-  pub taken : Extends w.line.taken.items v.line.taken.items
+  pub taken : Extends w.frontier.taken.items v.frontier.taken.items

@@ -7,7 +7,7 @@ ghost use Rattle.fetch_negotiate.specs.Commits.{has};
 ghost use Rattle.fetch_negotiate.specs.Paired.{IsPaired};
 ghost use Rattle.fetch_negotiate.specs.Sharing.{IsMarked};
 
-use crate::line::Line;
+use crate::frontier::Frontier;
 use crate::skips::Skips;
 use crate::walk::HaveWalk;
 use fetch_store::ObjectId;
@@ -24,13 +24,13 @@ pub(crate) struct Mark {
 impl Mark {
     /// How much was taken and handed on so far.
     pub(crate) fn of(walk: &HaveWalk, skips: &Skips) -> Mark
-        ensures taken { result.taken ≡ length walk.now.line.taken.items }
-        ensures candidates { result.candidates ≡ length walk.now.line.candidates.items }
+        ensures taken { result.taken ≡ length walk.now.frontier.taken.items }
+        ensures candidates { result.candidates ≡ length walk.now.frontier.candidates.items }
         ensures handed { result.handed ≡ length skips.now.handed.items }
     {
         Mark {
-            taken: walk.line.taken.len(),
-            candidates: walk.line.candidates.len(),
+            taken: walk.frontier.taken.len(),
+            candidates: walk.frontier.candidates.len(),
             handed: skips.handed.len(),
         }
     }
@@ -39,49 +39,49 @@ impl Mark {
 /// What was taken and handed on since goes. What was read stays, and candidates go into the queue anew. This takes no
 /// memory.
 pub(crate) fn give_back(walk: &mut HaveWalk, skips: &mut Skips, mark: Mark)
-    requires { IsMarked walk.old.line.told walk.old.line.taken.items }
+    requires { IsMarked walk.old.frontier.told walk.old.frontier.taken.items }
     ensures border { walk.new.border ≡ walk.old.border }
     ensures table { walk.new.table ≡ walk.old.table }
     ensures common { walk.new.common ≡ walk.old.common }
-    ensures tips { walk.new.line.tips ≡ walk.old.line.tips }
-    ensures candidates { walk.new.line.candidates.items ≡ take mark.candidates walk.old.line.candidates.items }
-    ensures entered { walk.new.line.entered ≡ 0 }
-    ensures queue { walk.new.line.queue.keys ≡ [] }
-    ensures taken { walk.new.line.taken.items ≡ take mark.taken walk.old.line.taken.items }
-    ensures told { IsMarked walk.new.line.told walk.new.line.taken.items }
+    ensures tips { walk.new.frontier.tips ≡ walk.old.frontier.tips }
+    ensures candidates { walk.new.frontier.candidates.items ≡ take mark.candidates walk.old.frontier.candidates.items }
+    ensures entered { walk.new.frontier.entered ≡ 0 }
+    ensures queue { walk.new.frontier.queue.keys ≡ [] }
+    ensures taken { walk.new.frontier.taken.items ≡ take mark.taken walk.old.frontier.taken.items }
+    ensures told { IsMarked walk.new.frontier.told walk.new.frontier.taken.items }
     ensures handed { skips.new.handed.items ≡ take mark.handed skips.old.handed.items }
     ensures paired { IsPaired skips.new }
 {
-    untake(&mut walk.line, mark.taken);
-    walk.line.candidates.truncate(mark.candidates);
-    walk.line.entered = 0;
-    walk.line.queue.clear();
+    untake(&mut walk.frontier, mark.taken);
+    walk.frontier.candidates.truncate(mark.candidates);
+    walk.frontier.entered = 0;
+    walk.frontier.queue.clear();
     skips.cut(mark.handed);
 }
 
 /// The commits after the first ones aren't taken any more.
-fn untake(line: &mut Line, count: usize)
-    requires { IsMarked line.old.told line.old.taken.items }
-    ensures tips { line.new.tips ≡ line.old.tips }
-    ensures candidates { line.new.candidates ≡ line.old.candidates }
-    ensures taken { line.new.taken.items ≡ take count line.old.taken.items }
-    ensures told { IsMarked line.new.told line.new.taken.items }
+fn untake(frontier: &mut Frontier, count: usize)
+    requires { IsMarked frontier.old.told frontier.old.taken.items }
+    ensures tips { frontier.new.tips ≡ frontier.old.tips }
+    ensures candidates { frontier.new.candidates ≡ frontier.old.candidates }
+    ensures taken { frontier.new.taken.items ≡ take count frontier.old.taken.items }
+    ensures told { IsMarked frontier.new.told frontier.new.taken.items }
 {
-    'taken: while line.taken.len() > count {
-        untake_last(line);
+    'taken: while frontier.taken.len() > count {
+        untake_last(frontier);
     }
 }
 
 /// The last commit isn't taken any more.
-fn untake_last(line: &mut Line)
-    requires { IsMarked line.old.told line.old.taken.items }
-    ensures tips { line.new.tips ≡ line.old.tips }
-    ensures candidates { line.new.candidates ≡ line.old.candidates }
-    ensures taken { line.new.taken.items ≡ take (length line.old.taken.items - 1) line.old.taken.items }
-    ensures told { IsMarked line.new.told line.new.taken.items }
+fn untake_last(frontier: &mut Frontier)
+    requires { IsMarked frontier.old.told frontier.old.taken.items }
+    ensures tips { frontier.new.tips ≡ frontier.old.tips }
+    ensures candidates { frontier.new.candidates ≡ frontier.old.candidates }
+    ensures taken { frontier.new.taken.items ≡ take (length frontier.old.taken.items - 1) frontier.old.taken.items }
+    ensures told { IsMarked frontier.new.told frontier.new.taken.items }
 {
-    match line.taken.pop() {
-        Some(id) => forget(&mut line.told, line.taken.as_slice(), &id),
+    match frontier.taken.pop() {
+        Some(id) => forget(&mut frontier.told, frontier.taken.as_slice(), &id),
         None => {}
     }
 }

@@ -47,7 +47,7 @@ impl Model for Skipping {
 
     ghost view = { λ s. record { known = known_in s.walk.table; so_far = so_far_in s.walk; offered = s.offered.items } };
 
-    ghost invariant = { λ s. record { skipping : IsSkipping s.walk s.skips; taken : Covers s.offered.items s.walk.line.taken.items } };
+    ghost invariant = { λ s. record { skipping : IsSkipping s.walk s.skips; taken : Covers s.offered.items s.walk.frontier.taken.items } };
 }
 
 impl Skipping {
@@ -134,7 +134,7 @@ fn skip_or_stay<O: Objects>(
     ensures next { IfOk result (λ next. next ≡ (next_offered (O.graph objects.now) (so_far_in walk.old)).have) }
     ensures ok { OnOk result (so_far_in walk.new ≡ (next_offered (O.graph objects.now) (so_far_in walk.old)).later) }
     ensures err { OnErr result (so_far_in walk.new ≡ so_far_in walk.old) }
-    ensures more { Covers walk.old.line.taken.items walk.new.line.taken.items }
+    ensures more { Covers walk.old.frontier.taken.items walk.new.frontier.taken.items }
 {
     let mark = Mark::of(walk, skips);
     match skip_on(walk, skips, alloc, objects) {
@@ -160,7 +160,7 @@ fn skip_on<O: Objects>(
     ensures next { IfOk result (λ next. next ≡ (next_offered (O.graph objects.now) (so_far_in walk.old)).have) }
     ensures ok { OnOk result (so_far_in walk.new ≡ (next_offered (O.graph objects.now) (so_far_in walk.old)).later) }
     ensures goes { GoesOn walk.old walk.new }
-    ensures more { Covers walk.old.line.taken.items walk.new.line.taken.items }
+    ensures more { Covers walk.old.frontier.taken.items walk.new.frontier.taken.items }
 {
     while let Some(id) = come_next(walk, alloc, objects)? {
         if pass(walk, skips, alloc, objects, &id)? {

@@ -11,7 +11,7 @@ ghost use Rattle.fetch_negotiate.specs.Walking.{IsWalk, IsReady, IsRead, so_far_
 
 use crate::commits::{Table, copy_table};
 use crate::common::{Common, acknowledge, mark_acknowledged};
-use crate::line::{Line, enter, front, take_one};
+use crate::frontier::{Frontier, enter, front, take_one};
 use fetch_store::{Border, NoMemory, ObjectId, Objects};
 use std::alloc::Global;
 use std::collections::BTreeMap;
@@ -22,7 +22,7 @@ pub(crate) struct HaveWalk {
     pub(crate) border: Border,
     pub(crate) table: Table,
     pub(crate) common: Common,
-    pub(crate) line: Line,
+    pub(crate) frontier: Frontier,
 }
 
 impl HaveWalk {
@@ -40,7 +40,7 @@ impl HaveWalk {
             border: border.try_clone()?,
             table: BTreeMap::new(alloc),
             common: Common::new(alloc),
-            line: Line::new(alloc, tips)?,
+            frontier: Frontier::new(alloc, tips)?,
         })
     }
 
@@ -52,7 +52,7 @@ impl HaveWalk {
             border: self.border.try_clone()?,
             table: copy_table(alloc, &self.table)?,
             common: self.common.try_clone()?,
-            line: self.line.try_clone()?,
+            frontier: self.frontier.try_clone()?,
         })
     }
 }
@@ -85,7 +85,13 @@ pub(crate) fn take(walk: &mut HaveWalk, id: &ObjectId) -> Result<(), NoMemory>
     ensures ok { OnOk result (so_far_in walk.new ≡ taking (so_far_in walk.old) (Some id.now)) }
     ensures err { OnErr result (so_far_in walk.new ≡ so_far_in walk.old) }
 {
-    take_one(&mut walk.line, &walk.table, &walk.border, &walk.common, id)
+    take_one(
+        &mut walk.frontier,
+        &walk.table,
+        &walk.border,
+        &walk.common,
+        id,
+    )
 }
 
 /// Takes the commit that comes next, if there is one.
@@ -140,7 +146,7 @@ fn prepare<O: Objects>(walk: &mut HaveWalk, alloc: Global, objects: &O) -> Resul
         objects,
     )?;
     enter(
-        &mut walk.line,
+        &mut walk.frontier,
         &mut walk.table,
         &walk.border,
         &walk.common,
@@ -156,21 +162,21 @@ fn choose(walk: &mut HaveWalk) -> Option<ObjectId>
     ensures table { walk.new.table ≡ walk.old.table }
     ensures border { walk.new.border ≡ walk.old.border }
     ensures common { walk.new.common ≡ walk.old.common }
-    ensures tips { walk.new.line.tips ≡ walk.old.line.tips }
-    ensures candidates { walk.new.line.candidates ≡ walk.old.line.candidates }
-    ensures entered { walk.new.line.entered ≡ walk.old.line.entered }
-    ensures taken { walk.new.line.taken ≡ walk.old.line.taken }
-    ensures chosen { IfSome result (IsChosen (read_in walk.new.table) walk.new.common.commits.items walk.new.line.taken.items
-        walk.new.line.queue) }
-    ensures none { IfNone result (IsNone walk.new.line.queue) }
+    ensures tips { walk.new.frontier.tips ≡ walk.old.frontier.tips }
+    ensures candidates { walk.new.frontier.candidates ≡ walk.old.frontier.candidates }
+    ensures entered { walk.new.frontier.entered ≡ walk.old.frontier.entered }
+    ensures taken { walk.new.frontier.taken ≡ walk.old.frontier.taken }
+    ensures chosen { IfSome result (IsChosen (read_in walk.new.table) walk.new.common.commits.items walk.new.frontier.taken.items
+        walk.new.frontier.queue) }
+    ensures none { IfNone result (IsNone walk.new.frontier.queue) }
     ensures read { IfSome result (IsRead walk.new) }
 {
-    while let Some(rank) = front(&walk.line.queue) {
+    while let Some(rank) = front(&walk.frontier.queue) {
         let id = rank.1;
         if is_open(walk, &id) {
             return Some(id);
         }
-        let _ = walk.line.queue.remove(&rank);
+        let _ = walk.frontier.queue.remove(&rank);
     }
     None
 }
@@ -178,7 +184,7 @@ fn choose(walk: &mut HaveWalk) -> Option<ObjectId>
 /// Whether a commit is neither common nor taken.
 fn is_open(walk: &HaveWalk, id: &ObjectId) -> bool
     requires { IsWalk walk.now }
-    ensures { result ≡ (not (has walk.now.common.commits.items id.now) && not (has walk.now.line.taken.items id.now)) }
+    ensures { result ≡ (not (has walk.now.common.commits.items id.now) && not (has walk.now.frontier.taken.items id.now)) }
 {
-    !walk.common.contains(id) && !walk.line.told.contains(id)
+    !walk.common.contains(id) && !walk.frontier.told.contains(id)
 }

@@ -12,16 +12,16 @@ use Rattle.fetch_conversation.specs.Blame.{BlamesInterrupt}
 use Rattle.fetch_conversation.specs.declared.fetch.Error.{Error as ReceiveError}
 use Rattle.fetch_conversation.specs.declared.fetch.Error.TheVariants as receive
 use Rattle.fetch_remote.specs.Keeping.{with_keep}
-use Rattle.fetch_remote.specs.Settling.{pack_read}
+use Rattle.fetch_remote.specs.Applying.{pack_read}
 use Rattle.fetch_remote.specs.declared.fetching.fetch_error.FetchError.TheVariants as fetch
 use Rattle.fetch_shared.specs.declared.error.SharedError.{SharedError}
 use Rattle.fetch_shared.specs.declared.error.SharedError.TheVariants as errors
 use Rattle.fetch_shared.specs.declared.receipt.Receipt.{Receipt}
 use Rattle.fetch_shared.specs.Errors.{is_yes}
 use Rattle.fetch_shared.specs.Fetching.{Call, IsSharedRefused, course_in, matter_in, IsStopped}
-use Rattle.fetch_shared.specs.Settling as settling
-use Rattle.fetch_shared.specs.Settling.{IsUnkept}
-use Rattle.fetch_shared.specs.Talking.{Line}
+use Rattle.fetch_shared.specs.Applying as settling
+use Rattle.fetch_shared.specs.Applying.{IsUnkept}
+use Rattle.fetch_shared.specs.Conversed.{Line}
 use Rattle.fetch_race.specs.Racing.{is_of_files}
 use Rattle.fetch_race.proofs.Keeps.{never_unmade}
 
@@ -97,5 +97,5 @@ never_kept line c receipt e files nothing h path is blocked = kept (subst (λ (x
     kept : IsStopped line c receipt (settling.unmade path) → with_keep (Some path) finmap.empty ≡ None → ⊥
     kept s none =
         let m = matter_in c.given s.conversed.seen.repository.state s.told in
-        let u : IsUnkept m (course_in c s.conversed.seen.journal) s.judged s.place path = s.unsettled in
-        never_unmade m.setup.settings.git_dir path (pack_read m.how.dry_run m.told.received) u.keep none
+        let u : IsUnkept m (course_in c s.conversed.seen.journal) s.judged s.place path = s.unapplied in
+        never_unmade m.setup.settings.git_dir path (pack_read m.options.dry_run m.told.received) u.keep none

@@ -14,7 +14,7 @@ use Rattle.fetch_shared.specs.Errors.{is_of_peer, is_yes}
 use Rattle.fetch_shared.specs.Fetching.{Call, IsSharedFetch, IsSharedRefused, receipt_of}
 use Rattle.fetch_shared.specs.Passes.{Holder, IsBack}
 use Rattle.fetch_shared.specs.Receipts.{IsReceipt}
-use Rattle.fetch_shared.specs.Talking.{Line, given_to}
+use Rattle.fetch_shared.specs.Conversed.{Line, given_to}
 use Rattle.fetch_shared.specs.Valid.{HasValidInput, is_free}
 use Rattle.fetch_shared.proofs.Fetched.{silent, ran_out}
 use Rattle.fetch_shared.proofs.Places.{receipt_none}

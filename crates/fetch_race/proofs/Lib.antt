@@ -5,4 +5,4 @@ pub mod Fetched
 pub mod Keeps
 pub mod Races
 pub mod Rows
-pub mod Seated
+pub mod GivenPasses

@@ -1,3 +1,3 @@
 pub mod Racing
-pub mod Seats
+pub mod Passes
 pub mod Rooms

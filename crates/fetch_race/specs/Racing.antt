@@ -20,11 +20,11 @@ use Rattle.fetch_shared.specs.Journals.{Begins, entries_of}
 use Rattle.fetch_shared.specs.Passes.{Holder, IsBack}
 use Rattle.fetch_shared.specs.Receipts.{IsReceipt}
 use Rattle.fetch_shared.specs.Shared.{IsKept}
-use Rattle.fetch_shared.specs.Talking.{Line, given_to}
+use Rattle.fetch_shared.specs.Conversed.{Line, given_to}
 use Rattle.fetch_shared.specs.Valid.{HasValidInput, is_free}
 use Rattle.fetch_race.specs.declared.job.Job.{Job}
 use Rattle.fetch_race.specs.declared.job.Raced.{Raced}
-use Rattle.fetch_race.specs.declared.job.Racer.{Racer}
+use Rattle.fetch_race.specs.declared.job.JobRun.{JobRun}
 
 -- What the jobs of a race have in common: how their peers are seen, the list of work trees, and the repository that is
 -- shared, as it was opened.
@@ -79,7 +79,7 @@ pub record IsDone {P : Type 0} (race : Race P) (job : Job P) (peer : P) (before 
 
 -- A job that has a pass was done by it: the rest of the job is as it was, and what became of it stands beside it, with the
 -- pass as it came back.
-pub record IsRun {P : Type 0} (race : Race P) (before : Holder) (old new : Racer P) : Type 0 where
+pub record IsRun {P : Type 0} (race : Race P) (before : Holder) (old new : JobRun P) : Type 0 where
   pub after : Holder
   pub receipt : Receipt
   pub answer : Result Outcome SharedError

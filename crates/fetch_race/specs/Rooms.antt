@@ -1,6 +1,6 @@
 -- Room for what becomes of the jobs of a race.
 use Rattle.std.specs.Prelude.{◌≡◌, ℕ, ◌+◌, ◌≤◌, [], vec_len, vec_capacity}
-use Rattle.fetch_race.specs.declared.seats.Room.{Room}
+use Rattle.fetch_race.specs.declared.passes.Room.{Room}
 
 -- There is room for so many answers and peers, and nothing yet.
 pub record HasRoom {P : Type 0} (count : ℕ) (room : Room P) : Type 0 where

@@ -19,7 +19,7 @@ pub struct Job<P> {
 /// A job with the pass by which it is done.
 // Not copied: it owns its caller's peer.
 #[derive(Drop)]
-pub struct Racer<P> {
+pub struct JobRun<P> {
     /// The job.
     pub job: Job<P>,
     /// Its pass. A job without one isn't done.

@@ -4,9 +4,9 @@
 mod fetching;
 mod job;
 mod racing;
-mod seats;
+mod passes;
 
 pub use fetching::fetch_by_pass;
-pub use job::{Job, Raced, Racer};
+pub use job::{Job, Raced, JobRun};
 pub use racing::race_over;
-pub use seats::{closed, gather, opened, race_with, seat_all};
+pub use passes::{closed, gather, opened, race_with, give_passes};

@@ -14,23 +14,23 @@ pub receiving_yes : (e : ReceiveError) → is_stopped e ≡ is_yes (receiving e)
 receiving_yes e = as_received is_yes e refl
 
 -- where no conversation is held
-pub settling_yes : (e : ReceiveError) → e ≢ fetch.Interrupted → is_yes (receiving e) ≡ false
-settling_yes fetch.NoMemory isnt = refl
-settling_yes fetch.Client isnt = refl
-settling_yes fetch.Interrupted isnt = absurd (isnt refl)
-settling_yes (fetch.NoMapping specs count) isnt = refl
-settling_yes (fetch.IncompatibleObjectHash local remote) isnt = refl
-settling_yes (fetch.Disconnected link) isnt = refl
-settling_yes (fetch.RejectShallowRemoteConfig value) isnt = refl
-settling_yes (fetch.NegotiationAlgorithmConfig value) isnt = refl
-settling_yes (fetch.PackThreads value) isnt = refl
-settling_yes (fetch.Fetch e) isnt = refl
-settling_yes (fetch.RejectShallowRemote id) isnt = refl
-settling_yes (fetch.Pack e) isnt = refl
-settling_yes (fetch.Collision id) isnt = refl
-settling_yes (fetch.KeepFile path) isnt = refl
-settling_yes (fetch.UpdateRefs e) isnt = refl
-settling_yes (fetch.RemovePackKeepFile path) isnt = refl
+pub applying_yes : (e : ReceiveError) → e ≢ fetch.Interrupted → is_yes (receiving e) ≡ false
+applying_yes fetch.NoMemory isnt = refl
+applying_yes fetch.Client isnt = refl
+applying_yes fetch.Interrupted isnt = absurd (isnt refl)
+applying_yes (fetch.NoMapping specs count) isnt = refl
+applying_yes (fetch.IncompatibleObjectHash local remote) isnt = refl
+applying_yes (fetch.Disconnected link) isnt = refl
+applying_yes (fetch.RejectShallowRemoteConfig value) isnt = refl
+applying_yes (fetch.NegotiationAlgorithmConfig value) isnt = refl
+applying_yes (fetch.PackThreads value) isnt = refl
+applying_yes (fetch.Fetch e) isnt = refl
+applying_yes (fetch.RejectShallowRemote id) isnt = refl
+applying_yes (fetch.Pack e) isnt = refl
+applying_yes (fetch.Collision id) isnt = refl
+applying_yes (fetch.KeepFile path) isnt = refl
+applying_yes (fetch.UpdateRefs e) isnt = refl
+applying_yes (fetch.RemovePackKeepFile path) isnt = refl
 
 -- nor the peer
 pub spares_peer : (e : ReceiveError) → e ≢ fetch.Client → is_client e ≡ false

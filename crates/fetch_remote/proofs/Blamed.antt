@@ -15,7 +15,7 @@ use Rattle.fetch_conversation.specs.declared.prepare.Error.TheVariants as prepar
 use Rattle.fetch_remote.specs.Blame.{LentFiles, LentTrees, KeepFault, BlamesFiles, BlamesWorktrees, told_by, keep_fault_in, fault_in, fault_deleting}
 use Rattle.fetch_remote.specs.DeletionSteps.{IsHeldIn, IsNotGone, IsUnlocal, listing_refusal}
 use Rattle.fetch_remote.specs.Errors.{preparing, receiving}
-use Rattle.fetch_remote.specs.Settling.{IsOfJudging}
+use Rattle.fetch_remote.specs.Applying.{IsOfJudging}
 use Rattle.fetch_remote.specs.declared.delete.Error.{Error as DeleteError}
 use Rattle.fetch_remote.specs.declared.delete.Error.TheVariants as delete
 use Rattle.fetch_remote.specs.declared.fetching.fetch_error.FetchError.{FetchError}

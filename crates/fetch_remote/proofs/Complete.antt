@@ -16,18 +16,18 @@ use Rattle.fetch_wire.specs.declared.listings.mapping.RefMap.{RefMap}
 use Rattle.fetch_conversation.specs.declared.conversing.Received.{Received}
 use Rattle.fetch_conversation.specs.Conversation.{map_refusal, sent_in, IsUnheard}
 use Rattle.fetch_remote.specs.Errors.{is_free, receiving}
-use Rattle.fetch_remote.specs.Fetching.{manner_in, taken_in, fetched_in}
+use Rattle.fetch_remote.specs.Fetching.{apply_options_in, taken_in, fetched_in}
 use Rattle.fetch_remote.specs.Form.{Given}
 use Rattle.fetch_remote.specs.Judging.{judged_of}
 use Rattle.fetch_remote.specs.Refused.{IsRefusedBy, IsRefused}
 use Rattle.fetch_remote.specs.Repositories.{State}
-use Rattle.fetch_remote.specs.Settling.{brought, taken, pack_of, after_take, policy_in, done}
+use Rattle.fetch_remote.specs.Applying.{to_take, taken, pack_of, after_take, policy_in, done}
 use Rattle.fetch_remote.specs.Stages.{Told, bound_of, wants_in, conversation}
 use Rattle.fetch_remote.specs.Valid.{IsTakeable, AreJudgeable, policy_with, IsValidInput, HasValidInput}
 use Rattle.fetch_remote.specs.declared.fetching.fetch_error.FetchError.{FetchError}
 use Rattle.fetch_remote.specs.declared.fetching.outcome.Outcome.{Outcome}
 use Rattle.fetch_store.specs.Trees.{Tree}
-use Rattle.fetch_remote.proofs.Fetched.{fetched_is, in_form, settled_from}
+use Rattle.fetch_remote.proofs.Fetched.{fetched_is, in_form, applied_from}
 use Rattle.fetch_remote.proofs.Judged.{judged_yes}
 use Rattle.fetch_remote.proofs.Wanted.{first_in, later_in}
 
@@ -42,7 +42,7 @@ takes_it : (s : State) (wants : List ObjectId) (r : Option Received) → IfSome 
 takes_it s wants None h = refl
 takes_it s wants (Some r) h = rw (h.one_object, h.linked) refl
 
-same_policy : (g : Given) (trees : List Worktree) (s : State) (told : Told) (r : Option Received) → brought g.options.dry_run told.received ≡ r → policy_with g trees s told ≡ policy_in (state_with s r) (manner_in g) trees
+same_policy : (g : Given) (trees : List Worktree) (s : State) (told : Told) (r : Option Received) → to_take g.options.dry_run told.received ≡ r → policy_with g trees s told ≡ policy_in (state_with s r) (apply_options_in g) trees
 same_policy g trees s told None is = rw is refl
 same_policy g trees s told (Some r) is = rw is refl
 
@@ -63,12 +63,12 @@ judges_it p m h = by (outcome_of p m.refspecs m.extra_refspecs m.mappings) refl
 
 pub fetches_it : (g : Given) (trees : List Worktree) (s : State) (stream : List ℕ) → IsValidInput g trees s stream → (x : Outcome × State) × (fetched_in g trees s stream ≡ Ok x)
 fetches_it g trees s stream v =
-    let r = brought g.options.dry_run v.told.received in
+    let r = to_take g.options.dry_run v.told.received in
     let state = state_with s r in
     let took : taken_in g s v.told ≡ Ok state = takes_it s (wants_in g s v.told.listed.ref_map) r v.pack in
-    let j = judges_it (policy_in state (manner_in g) trees) v.told.listed.ref_map (subst (λ (p : Policy). AreJudgeable p v.told.listed.ref_map) (same_policy g trees s v.told r refl) v.mappings) in
-    let is = settled_from g trees s v.told.listed v.told.received state j.0 took j.1 in
-    let x : Outcome × State = done g.setup (manner_in g) v.told.listed v.told.received state j.0 in
+    let j = judges_it (policy_in state (apply_options_in g) trees) v.told.listed.ref_map (subst (λ (p : Policy). AreJudgeable p v.told.listed.ref_map) (same_policy g trees s v.told r refl) v.mappings) in
+    let is = applied_from g trees s v.told.listed v.told.received state j.0 took j.1 in
+    let x : Outcome × State = done g.setup (apply_options_in g) v.told.listed v.told.received state j.0 in
     (x, fetched_is g trees s stream (Ok (v.told, v.behind)) (Ok x) v.replies (ap (map_refusal receiving) is))
 
 refused_no : (now : Talk) (g : Given) (trees : List Worktree) (before after : State) (files left : Option Tree) (said heard : List ℕ) (e : FetchError) → IsRefusedBy (Some now) g trees before after files left said heard e

@@ -19,20 +19,20 @@ use Rattle.fetch_remote.specs.declared.fetching.fetch_error.FetchError.{FetchErr
 use Rattle.fetch_remote.specs.declared.fetching.outcome.Outcome.{Outcome}
 use Rattle.fetch_store.specs.Trees.{Tree}
 use Rattle.fetch_remote.specs.Fetched.{HasHeard, HasRead, IsJudged, IsWritten, IsLeft, IsKept, IsSafe, IsCarriedOut, IsFetched, policy_at}
-use Rattle.fetch_remote.specs.Fetching.{manner_in, taken_in, settled_in, settled_by, fetched_in, requests_in}
+use Rattle.fetch_remote.specs.Fetching.{apply_options_in, taken_in, applied_in, applied_by, fetched_in, requests_in}
 use Rattle.fetch_remote.specs.Form.{Given}
 use Rattle.fetch_remote.specs.Judging.{IsTold, judged_of}
 use Rattle.fetch_remote.specs.Keeping.{AreFiles, left_tree}
 use Rattle.fetch_remote.specs.Repositories.{State, Setup, held}
-use Rattle.fetch_remote.specs.Settling.{brought, taken, settled, policy_in, moved, outcome_in, done, IsSettled}
+use Rattle.fetch_remote.specs.Applying.{to_take, taken, applied, policy_in, moved, outcome_in, done, IsApplied}
 use Rattle.fetch_remote.specs.Stages.{Told, bound_of, wants_in, inquiry_in, terms_in, listing_stage, conversation}
-use Rattle.fetch_remote.specs.Talking.{HasTold}
+use Rattle.fetch_remote.specs.Conversed.{HasTold}
 use Rattle.fetch_remote.proofs.Negotiated.{are_held}
 use Rattle.fetch_remote.proofs.Keeping.{keep_is}
 use Rattle.fetch_remote.proofs.Mapped.{each_found}
 use Rattle.fetch_remote.proofs.Received.{is_mapped, is_received}
 use Rattle.fetch_remote.proofs.Spoken.{said_in, heard_in, told_spoken}
-use Rattle.fetch_remote.proofs.Settled.{settled_as, takes, judged_is, stays_closed, holds_mapped}
+use Rattle.fetch_remote.proofs.Applied.{applied_as, takes, judged_is, stays_closed, holds_mapped}
 
 -- ---- the whole fetch
 
@@ -40,14 +40,14 @@ pub in_form : (g : Given) (before : State) (stream : List ℕ) → requests_in g
 unfolding requests_in
 in_form g before stream = refl
 
-pub fetched_is : (g : Given) (trees : List Worktree) (before : State) (stream : List ℕ) (answer : Result (Told × List ℕ) FetchError) (result : Result (Outcome × State) FetchError) → answer_in (bound_of g) (conversation g before) stream ≡ answer → settled_by g trees before answer ≡ result → fetched_in g trees before stream ≡ result
+pub fetched_is : (g : Given) (trees : List Worktree) (before : State) (stream : List ℕ) (answer : Result (Told × List ℕ) FetchError) (result : Result (Outcome × State) FetchError) → answer_in (bound_of g) (conversation g before) stream ≡ answer → applied_by g trees before answer ≡ result → fetched_in g trees before stream ≡ result
 unfolding fetched_in
 fetched_is g trees before stream answer result is by = rw is by
 
-pub settled_from : (g : Given) (trees : List Worktree) (before : State) (l : ListedValue) (r : Option Received) (s : State) (u : Updates) → taken_in g before (record { listed = l; received = r }) ≡ Ok s → judged_of (policy_in s (manner_in g) trees) l.ref_map ≡ Ok u
-    → settled_in g trees before (record { listed = l; received = r }) ≡ Ok (done g.setup (manner_in g) l r s u)
-unfolding settled
-settled_from g trees before l r s u took judged = rw (took, judged) refl
+pub applied_from : (g : Given) (trees : List Worktree) (before : State) (l : ListedValue) (r : Option Received) (s : State) (u : Updates) → taken_in g before (record { listed = l; received = r }) ≡ Ok s → judged_of (policy_in s (apply_options_in g) trees) l.ref_map ≡ Ok u
+    → applied_in g trees before (record { listed = l; received = r }) ≡ Ok (done g.setup (apply_options_in g) l r s u)
+unfolding applied
+applied_from g trees before l r s u took judged = rw (took, judged) refl
 
 pub listed_in_all : {X : Type 0} (read : List ℕ → X) (found : List ℕ → X) (first second behind more : List ℕ) → read (first ++ (second ++ more)) ≡ found (behind ++ (second ++ more))
     → read ((first ++ (second ++ [])) ++ more) ≡ found ((behind ++ second) ++ more)
@@ -67,7 +67,7 @@ has_heard answers old new g before l r rest told =
     record { passed = rw same k.passed; same_requests = λ more. heard more ∙ sym same; needed = k.needed }
 
 abbrev pub at_outcome : Given → ListedValue → Option Received → Updates → Outcome
-at_outcome g l r u = outcome_in g.setup.settings.git_dir (manner_in g) l r u
+at_outcome g l r u = outcome_in g.setup.settings.git_dir (apply_options_in g) l r u
 
 unfoldable pub has_read : (answers : Bool) (old new : Option Talk) (g : Given) (before : State) (l : ListedValue) (r : Option Received) (rest : List ℕ) (u : Updates) → (told : HasTold answers old new g before l r rest)
     → HasRead g before (said_in answers old new g before l r rest told) (at_outcome g l r u)
@@ -90,16 +90,16 @@ moved_objects false packed setup s edits = refl
 
 -- the state after the edits of a fetch
 abbrev pub moved_in : Given → State → List RefEdit → State
-moved_in g s edits = moved g.options.dry_run (manner_in g).packed g.setup s edits
+moved_in g s edits = moved g.options.dry_run (apply_options_in g).packed g.setup s edits
 
-pub policy_same : (g : Given) (trees : List Worktree) (before s : State) (edits : List RefEdit) → s.refs ≡ before.refs → policy_at g trees before (moved_in g s edits) ≡ policy_in s (manner_in g) trees
-policy_same g trees before s edits same = rw (moved_objects g.options.dry_run (manner_in g).packed g.setup s edits, ← same) refl
+pub policy_same : (g : Given) (trees : List Worktree) (before s : State) (edits : List RefEdit) → s.refs ≡ before.refs → policy_at g trees before (moved_in g s edits) ≡ policy_in s (apply_options_in g) trees
+policy_same g trees before s edits same = rw (moved_objects g.options.dry_run (apply_options_in g).packed g.setup s edits, ← same) refl
 
-unfoldable pub is_judged : (g : Given) (trees : List Worktree) (before : State) (l : ListedValue) (r : Option Received) (s : State) (u : Updates) → s.refs ≡ before.refs → judged_of (policy_in s (manner_in g) trees) l.ref_map ≡ Ok u
+unfoldable pub is_judged : (g : Given) (trees : List Worktree) (before : State) (l : ListedValue) (r : Option Received) (s : State) (u : Updates) → s.refs ≡ before.refs → judged_of (policy_in s (apply_options_in g) trees) l.ref_map ≡ Ok u
     → IsJudged g trees before (moved_in g s u.edits) r (at_outcome g l r u)
 is_judged g trees before l r s u same judged =
     let p = policy_same g trees before s u.edits same in
-    let outcome = judged_is (policy_in s (manner_in g) trees) l.ref_map u judged in
+    let outcome = judged_is (policy_in s (apply_options_in g) trees) l.ref_map u judged in
     record {
       updates = u;
       verdicts = rw p outcome;
@@ -110,18 +110,18 @@ is_judged g trees before l r s u same judged =
       status = refl;
     }
 
-pub is_written : (g : Given) (trees : List Worktree) (before : State) (l : ListedValue) (r : Option Received) (s : State) (u : Updates) → s.refs ≡ before.refs → judged_of (policy_in s (manner_in g) trees) l.ref_map ≡ Ok u
+pub is_written : (g : Given) (trees : List Worktree) (before : State) (l : ListedValue) (r : Option Received) (s : State) (u : Updates) → s.refs ≡ before.refs → judged_of (policy_in s (apply_options_in g) trees) l.ref_map ≡ Ok u
     → IsWritten g trees before (moved_in g s u.edits) (at_outcome g l r u) u
 is_written g trees before l r s u same judged =
     let p = policy_same g trees before s u.edits same in
-    let outcome = judged_is (policy_in s (manner_in g) trees) l.ref_map u judged in
+    let outcome = judged_is (policy_in s (apply_options_in g) trees) l.ref_map u judged in
     record {
       carried = rw p (edits_carry_out _ _ _ _ _ outcome);
       says = rw p (edits_say _ _ _ _ _ outcome);
       turns = rw p (tells_type_changes _ _ _ _ _ outcome);
     }
 
-pub has_left : (dry : Bool) (packed : PackedRefs) (g : Given) (before : State) (wants : List ObjectId) (r : Option Received) (s : State) (u : Updates) → taken before wants (brought dry r) ≡ Ok s
+pub has_left : (dry : Bool) (packed : PackedRefs) (g : Given) (before : State) (wants : List ObjectId) (r : Option Received) (s : State) (u : Updates) → taken before wants (to_take dry r) ≡ Ok s
     → IsLeft dry packed g.setup before (moved dry packed g.setup s u.edits) r u
 has_left true packed g before wants r s u took =
     let e : before ≡ s = cc in
@@ -134,11 +134,11 @@ moved_closed : (dry : Bool) (packed : PackedRefs) (g : Given) (s : State) (edits
 moved_closed true packed g s edits h = h
 moved_closed false packed g s edits h = h
 
-pub is_safe : (g : Given) (before : State) (m : RefMap) (r : Option Received) (s : State) (u : Updates) → taken before (wants_in g before m) (brought g.options.dry_run r) ≡ Ok s → (r ≡ None → wants_in g before m ≡ [])
+pub is_safe : (g : Given) (before : State) (m : RefMap) (r : Option Received) (s : State) (u : Updates) → taken before (wants_in g before m) (to_take g.options.dry_run r) ≡ Ok s → (r ≡ None → wants_in g before m ≡ [])
     → IsSafe g before (moved_in g s u.edits) m
 is_safe g before m r s u took none = record {
-  closed = λ closed. moved_closed g.options.dry_run (manner_in g).packed g s u.edits (stays_closed before (wants_in g before m) (brought g.options.dry_run r) s took closed);
-  holds = λ wet. rw (moved_objects g.options.dry_run (manner_in g).packed g.setup s u.edits) (holds_mapped g before m (brought g.options.dry_run r) s took (λ e. none (rw wet at e)));
+  closed = λ closed. moved_closed g.options.dry_run (apply_options_in g).packed g s u.edits (stays_closed before (wants_in g before m) (to_take g.options.dry_run r) s took closed);
+  holds = λ wet. rw (moved_objects g.options.dry_run (apply_options_in g).packed g.setup s u.edits) (holds_mapped g before m (to_take g.options.dry_run r) s took (λ e. none (rw wet at e)));
 }
 
 pub is_kept : (g : Given) (files left : Option Tree) (l : ListedValue) (r : Option Received) (u : Updates) → AreFiles files left (left_tree g.setup.settings.git_dir (at_outcome g l r u).status) → IsKept g files left r u (at_outcome g l r u)
@@ -146,7 +146,7 @@ is_kept g files left l r u h = record { keep = keep_is g.setup.settings.git_dir 
 
 -- what became of what was received
 pub is_carried_out : (known : Option (List Worktree)) (files left : Option Tree) (g : Given) (trees : List Worktree) (before : State) (l : ListedValue) (r : Option Received) (s : State) (u : Updates) → IsTold known trees
-    → taken_in g before (record { listed = l; received = r }) ≡ Ok s → judged_of (policy_in s (manner_in g) trees) l.ref_map ≡ Ok u → AreFiles files left (left_tree g.setup.settings.git_dir (at_outcome g l r u).status)
+    → taken_in g before (record { listed = l; received = r }) ≡ Ok s → judged_of (policy_in s (apply_options_in g) trees) l.ref_map ≡ Ok u → AreFiles files left (left_tree g.setup.settings.git_dir (at_outcome g l r u).status)
     → (r ≡ None → wants_in g before l.ref_map ≡ []) → IsCarriedOut known files left g before (moved_in g s u.edits) r (at_outcome g l r u)
 unfolding is_judged
 is_carried_out known files left g trees before l r s u listed took judged kept none = record {
@@ -154,19 +154,19 @@ is_carried_out known files left g trees before l r s u listed took judged kept n
   listed_trees = listed;
   judged = is_judged g trees before l r s u (takes before _ _ s took).refs judged;
   written = is_written g trees before l r s u (takes before _ _ s took).refs judged;
-  left = has_left g.options.dry_run (manner_in g).packed g before _ r s u took;
+  left = has_left g.options.dry_run (apply_options_in g).packed g before _ r s u took;
   kept = is_kept g files left l r u kept;
   safe = is_safe g before l.ref_map r s u took none;
 }
 
 fetched_with : (answers : Bool) (old new : Option Talk) (known : Option (List Worktree)) (files left : Option Tree) (g : Given) (trees : List Worktree) (before : State) (l : ListedValue) (r : Option Received) (rest : List ℕ) (s : State) (u : Updates) → IsTold known trees
-    → HasTold answers old new g before l r rest → taken_in g before (record { listed = l; received = r }) ≡ Ok s → judged_of (policy_in s (manner_in g) trees) l.ref_map ≡ Ok u
+    → HasTold answers old new g before l r rest → taken_in g before (record { listed = l; received = r }) ≡ Ok s → judged_of (policy_in s (apply_options_in g) trees) l.ref_map ≡ Ok u
     → AreFiles files left (left_tree g.setup.settings.git_dir (at_outcome g l r u).status) → IsFetched answers old new known files left g before (moved_in g s u.edits) (at_outcome g l r u)
 unfolding has_read is_judged is_carried_out
 fetched_with answers old new known files left g trees before l r rest s u listed told took judged kept =
     let k = told_spoken answers old new g before l r rest told in
     let said = said_in answers old new g before l r rest told in
-    let is = settled_from g trees before l r s u took judged in
+    let is = applied_from g trees before l r s u took judged in
     let none = (is_received (bound_of g) (graph_of before.objects) (terms_in g before l) _ r _ (told.pack.answered [])).none in
     let read : HasRead g before said (at_outcome g l r u) = has_read answers old new g before l r rest u told in
     let found = each_found (inquiry_in g) l (is_mapped (bound_of g) (inquiry_in g) _ l _ (told.list.answered [])) in
@@ -182,9 +182,9 @@ fetched_with answers old new known files left g trees before l r rest s u listed
     }
 
 pub is_fetched : (answers : Bool) (old new : Option Talk) (known : Option (List Worktree)) (files left : Option Tree) (g : Given) (before after : State) (outcome : Outcome) (l : ListedValue) (r : Option Received) (rest : List ℕ) → HasTold answers old new g before l r rest
-    → IsSettled known g.setup (manner_in g) before (wants_in g before l.ref_map) l r outcome after → AreFiles files left (left_tree g.setup.settings.git_dir outcome.status) → IsFetched answers old new known files left g before after outcome
+    → IsApplied known g.setup (apply_options_in g) before (wants_in g before l.ref_map) l r outcome after → AreFiles files left (left_tree g.setup.settings.git_dir outcome.status) → IsFetched answers old new known files left g before after outcome
 is_fetched answers old new known files left g before after outcome l r rest told is kept =
-    let p = settled_as g.setup (manner_in g) is.trees before (wants_in g before l.ref_map) l r outcome after is.by in
+    let p = applied_as g.setup (apply_options_in g) is.trees before (wants_in g before l.ref_map) l r outcome after is.by in
     let there = subst (λ (o : Outcome). AreFiles files left (left_tree g.setup.settings.git_dir o.status)) p.outcome_is kept in
     let f = fetched_with answers old new known files left g is.trees before l r rest p.state p.updates is.listed_trees told p.took p.judged there in
     subst (λ (x : State). IsFetched answers old new known files left g before x outcome) (sym p.after_is)

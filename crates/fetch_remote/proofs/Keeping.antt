@@ -17,10 +17,10 @@ use Rattle.fetch_update.specs.declared.update.Outcome.{Outcome as Updates}
 use Rattle.fetch_conversation.specs.declared.conversing.Received.{Received}
 use Rattle.fetch_remote.specs.Keeping.{AreFiles, stays, kept, made, keep_in, made_in, removed_in, with_keep, without_keep, left_tree}
 use Rattle.fetch_remote.specs.Paths.{keep_path}
-use Rattle.fetch_remote.specs.Settling.{pack_read, status_of, status_by, told_of, kept_of, released_of, IsUnreleased}
+use Rattle.fetch_remote.specs.Applying.{pack_read, status_of, status_by, told_of, kept_of, released_of, IsUnreleased}
 use Rattle.fetch_conversation.specs.declared.fetch.Error.{Error}
 use Rattle.fetch_remote.specs.declared.fetching.outcome.Status.{Status}
-use Rattle.fetch_remote.specs.declared.fetching.settling.Taken.{Taken}
+use Rattle.fetch_remote.specs.declared.fetching.applying.TakenReply.{TakenReply}
 
 -- ---- trees
 
@@ -148,10 +148,10 @@ left_files files mid left git_dir dry_run r u status is h k =
     (subst (λ (y : Option (List ℕ)). AreFiles files left (λ t. option_and_then (without_keep y) (with_keep (made git_dir (pack_read dry_run r)) t))) (sym b) all)
 
 -- files that tell a tree refuse no removal of a keep file
-pub removable : (files mid : Option Tree) (may_fail : Bool) (git_dir : List ℕ) (dry_run : Bool) (r : Option Received) (u : Updates) (taken : Option Taken) (e : Error) → taken ≡ told_of git_dir dry_run r
+pub removable : (files mid : Option Tree) (may_fail : Bool) (git_dir : List ℕ) (dry_run : Bool) (r : Option Received) (u : Updates) (taken : Option TakenReply) (e : Error) → taken ≡ told_of git_dir dry_run r
     → AreFiles files mid (with_keep (made git_dir (pack_read dry_run r))) → IsRefused may_fail mid (without_keep (released_of u taken)) → IsUnreleased (released_of u taken) e → may_fail ≡ false → files ≡ None
 removable files mid may_fail git_dir dry_run r u taken e is h k gone never =
-    let goes : released_of u (told_of git_dir dry_run r) ≡ Some gone.0 = ap (λ (x : Option Taken). released_of u x) (sym is) ∙ gone.2 in
+    let goes : released_of u (told_of git_dir dry_run r) ≡ Some gone.0 = ap (λ (x : Option TakenReply). released_of u x) (sym is) ∙ gone.2 in
     let was : made git_dir (pack_read dry_run r) ≡ Some gone.0 = gone_made git_dir dry_run r u gone.0 goes in
     no_refusal files mid may_fail gone.0 (subst (λ (x : Option (List ℕ)). AreFiles files mid (with_keep x)) was h) (subst (λ (x : Option (List ℕ)). IsRefused may_fail mid (without_keep x)) gone.2 k) never
 

@@ -13,7 +13,7 @@ use Rattle.fetch_conversation.specs.declared.conversing.Received.{Received}
 use Rattle.fetch_remote.specs.Fetched.{objects_with, request_in}
 use Rattle.fetch_remote.specs.Form.{Given}
 use Rattle.fetch_remote.specs.Repositories.{State, held}
-use Rattle.fetch_remote.specs.Settling.{connected, pack_of}
+use Rattle.fetch_remote.specs.Applying.{connected, pack_of}
 use Rattle.fetch_remote.specs.Stages.{wants_in}
 
 pub grows_with : (objects : ObjectMap) (r : Option Received) → Grows objects (objects_with objects r)

@@ -62,15 +62,15 @@ use Rattle.fetch_conversation.specs.declared.fetch.Error.{Error as ReceiveError}
 use Rattle.fetch_remote.specs.declared.fetching.outcome.Outcome.{Outcome}
 use Rattle.fetch_remote.specs.Errors.{receiving}
 use Rattle.fetch_remote.specs.Fetched.{IsFetched, IsSafe, carried_out, policy_at, is_aside}
-use Rattle.fetch_remote.specs.Fetching.{manner_in, places_of, settled_in, settled_by, fetched_in}
+use Rattle.fetch_remote.specs.Fetching.{apply_options_in, places_of, applied_in, applied_by, fetched_in}
 use Rattle.fetch_remote.specs.Form.{Given}
 use Rattle.fetch_remote.specs.Lasting.{updates_in, AcceptsNone, AreAlike, with_packed}
 use Rattle.fetch_remote.specs.Repositories.{State, Setup}
-use Rattle.fetch_remote.specs.Settling.{told_with, status_of, moved, outcome_in, settled}
+use Rattle.fetch_remote.specs.Applying.{told_with, status_of, moved, outcome_in, applied}
 use Rattle.fetch_remote.specs.Stages.{Told, bound_of, conversation, receiving_stage}
 use Rattle.fetch_remote.specs.declared.fetching.fetch_error.FetchError.{FetchError}
-use Rattle.fetch_remote.specs.declared.fetching.settling.Manner.{Manner}
-use Rattle.fetch_remote.proofs.Settled.{SettledAs, settled_as}
+use Rattle.fetch_remote.specs.declared.fetching.applying.ApplyOptions.{ApplyOptions}
+use Rattle.fetch_remote.proofs.Applied.{AppliedAs, applied_as}
 use Rattle.fetch_remote.proofs.Wanted.{first_in, later_in, cases_in, either, stored_node}
 
 -- ---- lists
@@ -321,39 +321,39 @@ alike_moved : (dry : Bool) (a b : PackedRefs) (setup : Setup) (s : State) (edits
 alike_moved true a b setup s edits = record { hash = refl; objects = refl; border = refl; refs = record { hash = refl; names = refl; logs = refl } }
 alike_moved false a b setup s edits = record { hash = refl; objects = refl; border = refl; refs = record { hash = refl; names = refl; logs = refl } }
 
--- a settled fetch, with references written elsewhere
-record SettlesAlike (setup : Setup) (how : Manner) (trees : List Worktree) (before : State) (wants : List ObjectId) (l : ListedValue) (r : Option Received) (outcome : Outcome) (a : State) : Type 0 where
+-- an applied fetch, with references written elsewhere
+record AppliesAlike (setup : Setup) (how : ApplyOptions) (trees : List Worktree) (before : State) (wants : List ObjectId) (l : ListedValue) (r : Option Received) (outcome : Outcome) (a : State) : Type 0 where
   pub state : State
-  pub is : settled setup how trees before wants l r ≡ Ok (outcome, state)
+  pub is : applied setup how trees before wants l r ≡ Ok (outcome, state)
   pub alike : AreAlike a state
 
-settled_elsewhere : (setup : Setup) (how : Manner) (packed : PackedRefs) (trees : List Worktree) (before : State) (wants : List ObjectId) (l : ListedValue) (r : Option Received) (outcome : Outcome) (a : State)
-    → SettledAs setup how trees before wants l r outcome a → SettlesAlike setup (record how { packed = packed }) trees before wants l r outcome a
-unfolding settled
-settled_elsewhere setup how packed trees before wants l r outcome a p =
+applied_elsewhere : (setup : Setup) (how : ApplyOptions) (packed : PackedRefs) (trees : List Worktree) (before : State) (wants : List ObjectId) (l : ListedValue) (r : Option Received) (outcome : Outcome) (a : State)
+    → AppliedAs setup how trees before wants l r outcome a → AppliesAlike setup (record how { packed = packed }) trees before wants l r outcome a
+unfolding applied
+applied_elsewhere setup how packed trees before wants l r outcome a p =
     let state = moved how.dry_run packed setup p.state p.updates.edits in
-    let is : settled setup (record how { packed = packed }) trees before wants l r ≡ Ok (outcome_in setup.settings.git_dir how l r p.updates, state) = rw (p.took, p.judged) refl in
+    let is : applied setup (record how { packed = packed }) trees before wants l r ≡ Ok (outcome_in setup.settings.git_dir how l r p.updates, state) = rw (p.took, p.judged) refl in
     record {
       state = state;
       is = is ∙ ap (λ (o : Outcome). Ok (o, state)) (sym p.outcome_is);
       alike = subst (λ (x : State). AreAlike x state) (sym p.after_is) (alike_moved how.dry_run how.packed packed setup p.state p.updates.edits);
     }
 
-settled_alike : (setup : Setup) (how : Manner) (packed : PackedRefs) (trees : List Worktree) (before : State) (wants : List ObjectId) (l : ListedValue) (r : Option Received) (outcome : Outcome) (a : State)
-    → settled setup how trees before wants l r ≡ Ok (outcome, a) → SettlesAlike setup (record how { packed = packed }) trees before wants l r outcome a
-settled_alike setup how packed trees before wants l r outcome a is =
-    settled_elsewhere setup how packed trees before wants l r outcome a (settled_as setup how trees before wants l r outcome a is)
+applied_alike : (setup : Setup) (how : ApplyOptions) (packed : PackedRefs) (trees : List Worktree) (before : State) (wants : List ObjectId) (l : ListedValue) (r : Option Received) (outcome : Outcome) (a : State)
+    → applied setup how trees before wants l r ≡ Ok (outcome, a) → AppliesAlike setup (record how { packed = packed }) trees before wants l r outcome a
+applied_alike setup how packed trees before wants l r outcome a is =
+    applied_elsewhere setup how packed trees before wants l r outcome a (applied_as setup how trees before wants l r outcome a is)
 
-alike_by : (g : Given) (only other : Bool) (trees : List Worktree) (s : State) (answer : Result (Told × List ℕ) FetchError) (outcome : Outcome) (a : State) → settled_by (with_packed only g) trees s answer ≡ Ok (outcome, a)
-    → (b : State) × (settled_by (with_packed other g) trees s answer ≡ Ok (outcome, b)) × AreAlike a b
+alike_by : (g : Given) (only other : Bool) (trees : List Worktree) (s : State) (answer : Result (Told × List ℕ) FetchError) (outcome : Outcome) (a : State) → applied_by (with_packed only g) trees s answer ≡ Ok (outcome, a)
+    → (b : State) × (applied_by (with_packed other g) trees s answer ≡ Ok (outcome, b)) × AreAlike a b
 alike_by g only other trees s (Err e) outcome a is = absurd (cc)
-alike_by g only other trees s (Ok x) outcome a is = by (settled_in (with_packed only g) trees s x.0) refl is
+alike_by g only other trees s (Ok x) outcome a is = by (applied_in (with_packed only g) trees s x.0) refl is
   where
-    by : (found : Result (Outcome × State) ReceiveError) → settled_in (with_packed only g) trees s x.0 ≡ found → map_refusal receiving found ≡ Ok (outcome, a) → (b : State) × (settled_by (with_packed other g) trees s (Ok x) ≡ Ok (outcome, b)) × AreAlike a b
+    by : (found : Result (Outcome × State) ReceiveError) → applied_in (with_packed only g) trees s x.0 ≡ found → map_refusal receiving found ≡ Ok (outcome, a) → (b : State) × (applied_by (with_packed other g) trees s (Ok x) ≡ Ok (outcome, b)) × AreAlike a b
     by (Err e) found told = absurd (cc)
     by (Ok y) found told =
         let same : y ≡ (outcome, a) = cc in
-        let h = settled_alike g.setup (manner_in (with_packed only g)) (places_of other) trees s _ x.0.listed x.0.received outcome a (found ∙ ap (λ (k : Outcome × State). Ok k) same) in
+        let h = applied_alike g.setup (apply_options_in (with_packed only g)) (places_of other) trees s _ x.0.listed x.0.received outcome a (found ∙ ap (λ (k : Outcome × State). Ok k) same) in
         (h.state, ap (map_refusal receiving) h.is, h.alike)
 
 pub fetched_alike : (g : Given) (only other : Bool) (trees : List Worktree) (s : State) (stream : List ℕ) (outcome : Outcome) (a : State) → fetched_in (with_packed only g) trees s stream ≡ Ok (outcome, a)

@@ -6,7 +6,7 @@ pub mod Mapped
 pub mod Bordered
 pub mod Negotiated
 pub mod Keeping
-pub mod Settled
+pub mod Applied
 pub mod Fetched
 pub mod Refused
 pub mod Ordered

@@ -23,7 +23,7 @@ use Rattle.fetch_wire.specs.declared.listings.reference.Ref.{Ref}
 use Rattle.fetch_wire.specs.declared.listings.reference.Source.{Source}
 use Rattle.fetch_wire.specs.declared.listings.reference.Source.TheVariants as sources
 use Rattle.fetch_update.specs.Accepted.{is_found}
-use Rattle.fetch_conversation.specs.ListStage.{InquiryValue, ListedValue, extra_specs}
+use Rattle.fetch_conversation.specs.ListStage.{LsRefsValue, ListedValue, extra_specs}
 use Rattle.fetch_conversation.specs.Mapped.{index_among, mapping_by, ref_mappings, taken_by}
 use Rattle.fetch_remote.specs.Mapped.{MapsEach, matched_of}
 use Rattle.fetch_remote.proofs.Received.{IsMapped}
@@ -173,5 +173,5 @@ every_refspec own extra kind refs =
     keep_all _ 0 _ (λ i more less. found_at own extra _ all i (omega (arith, less)))
 
 -- what was listed has a refspec for each mapping
-pub each_found : (q : InquiryValue) (l : ListedValue) → IsMapped q l → AllFound l.ref_map.refspecs l.ref_map.extra_refspecs l.ref_map.mappings
+pub each_found : (q : LsRefsValue) (l : ListedValue) → IsMapped q l → AllFound l.ref_map.refspecs l.ref_map.extra_refspecs l.ref_map.mappings
 each_found q l h = subst (λ (m : RefMap). AllFound m.refspecs m.extra_refspecs m.mappings) (sym h.map) (every_refspec q.specs (extra_specs q) l.handshake.object_hash l.ref_map.remote_refs)

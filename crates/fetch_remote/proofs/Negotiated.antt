@@ -11,7 +11,7 @@ use Rattle.fetch_negotiate.proofs.Rounding.{all_told, are_full}
 use Rattle.fetch_wire.specs.declared.lines.line.Line.{Line}
 use Rattle.fetch_conversation.specs.Conversation.{Conversation, ends, sent_in, answer_in}
 use Rattle.fetch_conversation.specs.ConverseStage.{algorithm_in, no_mapping, other_hash, unfit, lacking, wanting, converse_stage}
-use Rattle.fetch_conversation.specs.Exchange.{TermsValue, asked_by}
+use Rattle.fetch_conversation.specs.Exchange.{FetchArgumentsValue, asked_by}
 use Rattle.fetch_conversation.specs.ListStage.{ListedValue, unless}
 use Rattle.fetch_conversation.specs.Requested.{TellsRounds}
 use Rattle.fetch_conversation.specs.declared.conversing.Received.{Received}
@@ -33,10 +33,10 @@ unless_none : {X E : Type 0} (bound : ℕ) (o : Option E) (c : Conversation X E)
 unless_none bound None c stream h = h
 unless_none bound (Some e) c stream h = sent_end bound (Err e) stream
 
-wanting_none : (bound : ℕ) (g : Graph) (t : TermsValue) (wants : List ObjectId) (stream : List ℕ) → wants ≡ [] → sent_in bound (wanting bound g t wants) stream ≡ []
+wanting_none : (bound : ℕ) (g : Graph) (t : FetchArgumentsValue) (wants : List ObjectId) (stream : List ℕ) → wants ≡ [] → sent_in bound (wanting bound g t wants) stream ≡ []
 wanting_none bound g t wants stream is = rw is (sent_end bound (Ok None) stream)
 
-stage_none : (bound : ℕ) (g : Graph) (t : TermsValue) (stream : List ℕ) → t.view.wants ≡ [] → sent_in bound (converse_stage bound g t) stream ≡ []
+stage_none : (bound : ℕ) (g : Graph) (t : FetchArgumentsValue) (stream : List ℕ) → t.view.wants ≡ [] → sent_in bound (converse_stage bound g t) stream ≡ []
 unfolding converse_stage
 stage_none bound g t stream is = unless_none bound (option_or (no_mapping t) (option_or (other_hash t) (option_or (unfit t.settings) (lacking t)))) (wanting bound g t t.view.wants) stream (wanting_none bound g t t.view.wants stream is)
 
@@ -45,7 +45,7 @@ stage_none bound g t stream is = unless_none bound (option_or (no_mapping t) (op
 negotiated : (g : Given) (before : State) (l : ListedValue) (lines : List Line) (rounds : List Round) → TellsRounds (graph_of before.objects) (terms_in g before l) lines rounds → HasNegotiated g before l lines rounds
 negotiated g before l lines rounds tells =
     let graph : Graph = graph_of before.objects in
-    let t : TermsValue = terms_in g before l in
+    let t : FetchArgumentsValue = terms_in g before l in
     let algorithm : Algorithm = algorithm_in t.settings in
     let told = all_told graph algorithm t.view.tips t.view.border rounds tells.are in
     record {

@@ -9,17 +9,17 @@ use Rattle.fetch_negotiate.specs.Requests.{Asked, fetch_request}
 use Rattle.fetch_negotiate.specs.declared.algorithm.Round.{Round}
 use Rattle.fetch_wire.specs.Awaited.{told_at}
 use Rattle.fetch_wire.specs.Written.{first_too_long}
-use Rattle.fetch_wire.specs.declared.replies.awaited.Await.{Await}
-use Rattle.fetch_wire.specs.declared.replies.awaited.Await.TheVariants as awaits
-use Rattle.fetch_wire.specs.declared.replies.awaited.Fault.{Fault}
-use Rattle.fetch_wire.specs.declared.replies.awaited.Told.{Told as Reply}
-use Rattle.fetch_wire.specs.declared.replies.awaited.Told.TheVariants as told
+use Rattle.fetch_wire.specs.declared.replies.reply.ReplyKind.{ReplyKind}
+use Rattle.fetch_wire.specs.declared.replies.reply.ReplyKind.TheVariants as awaits
+use Rattle.fetch_wire.specs.declared.replies.reply.ReplyError.{ReplyError}
+use Rattle.fetch_wire.specs.declared.replies.reply.ParsedReply.{ParsedReply as Reply}
+use Rattle.fetch_wire.specs.declared.replies.reply.ParsedReply.TheVariants as told
 use Rattle.fetch_wire.specs.declared.greetings.handshake.Handshake.{Handshake}
 use Rattle.fetch_wire.specs.declared.lines.line.Line.{Line}
 use Rattle.fetch_conversation.specs.Conversation.{Conversation, ends, asks, asks_unless, after_reply, sent_in, answer_in, and_then, told_as, map_refusal}
 use Rattle.fetch_conversation.specs.ConverseStage.{converse_stage, fetching, wanting}
 use Rattle.fetch_conversation.specs.Exchange.{asked_by, exchange}
-use Rattle.fetch_conversation.specs.ListStage.{ListedValue, is_nil, list_stage, inquiry_stage, greeted, listing, listed, unless, unlisted, unsendable, no_specs}
+use Rattle.fetch_conversation.specs.ListStage.{ListedValue, is_nil, list_stage, ls_refs_stage, greeted, listing, listed, unless, unlisted, unsendable, no_specs}
 use Rattle.fetch_conversation.specs.ListStage as list
 use Rattle.fetch_conversation.specs.Requested.{requests_of}
 use Rattle.fetch_conversation.specs.Rounds.{negotiating}
@@ -55,17 +55,17 @@ sent_long bound (Some n) long c stream = refl
 -- ---- the listing
 
 -- what is sent of a conversation that ends after its question
-sent_once : {X E : Type 0} (bound : ℕ) (next : Reply → Conversation X E) (found : Result (Reply × List ℕ) Fault) → ((t : Reply) (rest : List ℕ) → sent_in bound (next t) rest ≡ []) → (lines : List Line)
+sent_once : {X E : Type 0} (bound : ℕ) (next : Reply → Conversation X E) (found : Result (Reply × List ℕ) ReplyError) → ((t : Reply) (rest : List ℕ) → sent_in bound (next t) rest ≡ []) → (lines : List Line)
     → lines ++ after_reply (λ _. []) (λ t rest. sent_in bound (next t) rest) found ≡ lines
 sent_once bound next (Ok x) none lines = rw (none x.0 x.1) (append-nil lines)
 sent_once bound next (Err fault) none lines = append-nil lines
 
-sent_asking : {X E : Type 0} (bound : ℕ) (lines : List Line) (awaited : Await) (failed : Fault → E) (next : Reply → Conversation X E) (stream : List ℕ) → ((t : Reply) (rest : List ℕ) → sent_in bound (next t) rest ≡ [])
+sent_asking : {X E : Type 0} (bound : ℕ) (lines : List Line) (awaited : ReplyKind) (failed : ReplyError → E) (next : Reply → Conversation X E) (stream : List ℕ) → ((t : Reply) (rest : List ℕ) → sent_in bound (next t) rest ≡ [])
     → sent_in bound (asks lines awaited failed next) stream ≡ lines
 unfolding sent_in
 sent_asking bound lines awaited failed next stream none = sent_once bound next (told_at bound awaited stream) none lines
 
-listed_none : (bound : ℕ) (q : list.InquiryValue) (h : Handshake) (t : Reply) (rest : List ℕ) → sent_in bound (listed q h t) rest ≡ []
+listed_none : (bound : ℕ) (q : list.LsRefsValue) (h : Handshake) (t : Reply) (rest : List ℕ) → sent_in bound (listed q h t) rest ≡ []
 unfolding sent_in
 listed_none bound q h (told.Listing refs) rest = refl
 listed_none bound q h (told.Greeting other) rest = refl
@@ -89,7 +89,7 @@ greeted_asks g (told.Advertisement h refs) rest = refl
 greeted_asks g (told.Listing refs) rest = refl
 greeted_asks g (told.Reply reply) rest = refl
 
-behind_greeting : (g : Given) (found : Result (Reply × List ℕ) Fault) → after_reply (λ _. []) (λ t rest. sent_in (bound_of g) (greeted (bound_of g) (inquiry_in g) t) rest) found ≡ listing_behind g found
+behind_greeting : (g : Given) (found : Result (Reply × List ℕ) ReplyError) → after_reply (λ _. []) (λ t rest. sent_in (bound_of g) (greeted (bound_of g) (inquiry_in g) t) rest) found ≡ listing_behind g found
 behind_greeting g (Ok x) = greeted_asks g x.0 x.1
 behind_greeting g (Err fault) = refl
 
@@ -101,7 +101,7 @@ unfolding sent_in
 greeting_asks g stream = ap (λ (l : List Line). first_request g ++ l) (behind_greeting g (told_at (bound_of g) awaits.Greeting stream))
 
 lists : (g : Given) (stream : List ℕ) → sent_in (bound_of g) (listing_stage g) stream ≡ unless_refused (first_refusal g) (first_request g ++ listing_sent g stream)
-unfolding list_stage inquiry_stage
+unfolding list_stage ls_refs_stage
 lists g stream =
     let q = inquiry_in g in
     let long = first_too_long (first_request g) in
@@ -130,7 +130,7 @@ requests_some a shared [] = refl
 requests_some a shared (r ∷ rounds) = some_append (fetch_request a _ r.done) _ (request_some a _ r.done)
 
 -- what is sent by a conversation that begins with a question, unless that is too long
-sent_begins : {X Y Z E : Type 0} (bound : ℕ) (o : Option ℕ) (long : ℕ → E) (lines : List Line) (awaited : Await) (failed : Fault → E) (next : Reply → Conversation X E) (f : X → Conversation Y E) (k : Y → Conversation Z E) (stream : List ℕ) → is_nil lines ≡ false
+sent_begins : {X Y Z E : Type 0} (bound : ℕ) (o : Option ℕ) (long : ℕ → E) (lines : List Line) (awaited : ReplyKind) (failed : ReplyError → E) (next : Reply → Conversation X E) (f : X → Conversation Y E) (k : Y → Conversation Z E) (stream : List ℕ) → is_nil lines ≡ false
     → is_nil (sent_in bound (and_then (and_then (asks_unless o long (asks lines awaited failed next)) f) k) stream) ≡ is_some o
 unfolding sent_in and_then
 sent_begins bound None long lines awaited failed next f k stream some = some_append lines _ some

@@ -17,20 +17,20 @@ use Rattle.fetch_conversation.specs.declared.prepare.Error.TheVariants as prepar
 use Rattle.fetch_remote.specs.declared.fetching.fetch_error.FetchError.{FetchError}
 use Rattle.fetch_remote.specs.declared.fetching.fetch_error.FetchError.TheVariants as errors
 use Rattle.fetch_remote.specs.Errors.{preparing, receiving, is_free, is_yes}
-use Rattle.fetch_remote.specs.Fetching.{manner_in, taken_in, keep_made, settled_in, requests_in, left_by, left_in, keep_left_by, keep_left_in}
+use Rattle.fetch_remote.specs.Fetching.{apply_options_in, taken_in, keep_made, applied_in, requests_in, left_by, left_in, keep_left_by, keep_left_in}
 use Rattle.fetch_remote.specs.Form.{Given}
 use Rattle.fetch_remote.specs.Keeping.{AreFiles, with_keep}
 use Rattle.fetch_remote.specs.Refused.{RefusesWith, IsRefusedBy, HasEnded, IsFound, IsMaking, IsMade, IsTaken, IsStanding, unjudged, unmade, unremoved, is_late, IsCutListing, IsCutReceiving, IsCounted, IsRefused}
 use Rattle.fetch_remote.specs.Repositories.{State}
 use Rattle.fetch_store.specs.Trees.{Tree}
-use Rattle.fetch_remote.specs.Settling.{kept_or, standing, is_free_settling, IsLeft, IsUnsettled}
-use Rattle.fetch_remote.specs.Settling as settling
+use Rattle.fetch_remote.specs.Applying.{kept_or, standing, is_free_applying, IsLeftBy, IsUnapplied}
+use Rattle.fetch_remote.specs.Applying as applying
 use Rattle.fetch_remote.specs.Stages.{Told, bound_of, wants_in, listing_stage, conversation}
-use Rattle.fetch_remote.specs.Talking.{HasTold, BreaksListing, BreaksReceiving}
+use Rattle.fetch_remote.specs.Conversed.{HasTold, BreaksListing, BreaksReceiving}
 use Rattle.fetch_remote.proofs.Broken.{whole_listing, whole_receiving, front_listing, front_receiving, Later}
 use Rattle.fetch_remote.proofs.Fetched.{in_form, fetched_is}
 use Rattle.fetch_remote.proofs.Keeping.{same_files}
-use Rattle.fetch_remote.proofs.Settled.{takes, list_of, list_told}
+use Rattle.fetch_remote.proofs.Applied.{takes, list_of, list_told}
 use Rattle.fetch_remote.proofs.Spoken.{said_in, heard_in, told_spoken, needed_listing, needed_receiving}
 use Rattle.fetch_remote.proofs.Unjudged.{refusal_is, receives_no_other}
 
@@ -189,7 +189,7 @@ broken_off answers old new known files g before e (inr h) = broken_receiving ans
 -- the refusal's cause, and what it leaves
 abbrev IsLate : Given → List Worktree → State → State → Option Tree → Option Tree → Told → ReceiveError → Type 0
 IsLate g trees before after files left t e =
-    (settled_in g trees before t ≡ Err e) × (after ≡ kept_or before (taken_in g before t)) × AreFiles files left (with_keep (standing (taken_in g before t) (keep_made g t)))
+    (applied_in g trees before t ≡ Err e) × (after ≡ kept_or before (taken_in g before t)) × AreFiles files left (with_keep (standing (taken_in g before t) (keep_made g t)))
 
 late_with : (g : Given) (trees : List Worktree) (before after : State) (files left : Option Tree) (stream heard : List ℕ) (t : Told) (rest : List ℕ) (e : ReceiveError) → answer_in (bound_of g) (conversation g before) stream ≡ Ok (t, rest)
     → lines_text (held.sent_in (bound_of g) (conversation g before) stream) ≡ heard → IsLate g trees before after files left t e → RefusesWith g trees before after files left stream heard (receiving e)
@@ -205,27 +205,27 @@ front_all g before said heard asked =
     let same : lines_text (requests_in g before said) ≡ heard = ap lines_text (in_form g before said) ∙ rw append-nil at (asked []) in
     ([], same ∙ sym (append-nil heard))
 
-taken_at : (g : Given) (before after : State) (files left : Option Tree) (said : List ℕ) (t : Told) → HasEnded g before said t → settling.IsTaken (taken_in g before t) (keep_made g t) files left after → IsTaken g before after files left said
+taken_at : (g : Given) (before after : State) (files left : Option Tree) (said : List ℕ) (t : Told) → HasEnded g before said t → applying.IsReplyTaken (taken_in g before t) (keep_made g t) files left after → IsTaken g before after files left said
 taken_at g before after files left said t ended h = record { told = t; ended = ended; state = h.took; kept = h.kept; refs = (takes before _ _ after h.took).refs }
 
-making_at : (g : Given) (before after : State) (files left : Option Tree) (said path : List ℕ) (t : Told) → HasEnded g before said t → after ≡ before → settling.IsMaking (taken_in g before t) (keep_made g t) path files left → IsMaking g before after files left said path
+making_at : (g : Given) (before after : State) (files left : Option Tree) (said path : List ℕ) (t : Told) → HasEnded g before said t → after ≡ before → applying.LacksKeepFile (taken_in g before t) (keep_made g t) path files left → IsMaking g before after files left said path
 making_at g before after files left said path t ended is h = record { told = t; ended = ended; state = h.state; took = h.took; keep = h.made; found = record { same_state = is; same_files = h.same_files } }
 
-made_at : (g : Given) (before after : State) (files left : Option Tree) (said path : List ℕ) (t : Told) → HasEnded g before said t → after ≡ before → settling.IsMade (taken_in g before t) (keep_made g t) path files left → IsMade g before after files left said path
+made_at : (g : Given) (before after : State) (files left : Option Tree) (said path : List ℕ) (t : Told) → HasEnded g before said t → after ≡ before → applying.HasKeepFile (taken_in g before t) (keep_made g t) path files left → IsMade g before after files left said path
 made_at g before after files left said path t ended is h = record { told = t; ended = ended; state = h.state; took = h.took; keep = h.made; found = is; stands = h.stands }
 
-stands_at : (g : Given) (before after : State) (files left : Option Tree) (said : List ℕ) (t : Told) → HasEnded g before said t → IsLeft before (taken_in g before t) (keep_made g t) files left after → IsStanding g before after files left said
+stands_at : (g : Given) (before after : State) (files left : Option Tree) (said : List ℕ) (t : Told) → HasEnded g before said t → IsLeftBy before (taken_in g before t) (keep_made g t) files left after → IsStanding g before after files left said
 stands_at g before after files left said t ended (inl h) = unmoved h.0 h.1
   where
-    unmoved : after ≡ before → (left ≡ files) ⊎ ((path : List ℕ) × settling.IsMade (taken_in g before t) (keep_made g t) path files left) → IsStanding g before after files left said
+    unmoved : after ≡ before → (left ≡ files) ⊎ ((path : List ℕ) × applying.HasKeepFile (taken_in g before t) (keep_made g t) path files left) → IsStanding g before after files left said
     unmoved is (inl same) = inl (record { same_state = is; same_files = same })
     unmoved is (inr m) = inr (inl (m.0, made_at g before after files left said m.0 t ended is m.1))
 stands_at g before after files left said t ended (inr h) = inr (inr (taken_at g before after files left said t ended h))
 
--- the refusals of the settling, seen from the fetch
+-- the refusals of the applying, seen from the fetch
 record SaysSame (e : ReceiveError) : Type 0 where
-  sure : is_free (receiving e) ≡ false → is_free_settling e ≡ false
-  early : is_late (receiving e) ≡ false → settling.is_late e ≡ false
+  sure : is_free (receiving e) ≡ false → is_free_applying e ≡ false
+  early : is_late (receiving e) ≡ false → applying.is_late e ≡ false
 
 told_as : (e : ReceiveError) → SaysSame e
 told_as (receive.NoMapping specs count) = record { sure = λ h. refl; early = λ h. refl }
@@ -245,9 +245,9 @@ told_as (receive.UpdateRefs e) = record { sure = λ h. h; early = λ h. refl }
 told_as (receive.RemovePackKeepFile path) = record { sure = λ h. absurd (cc); early = λ h. absurd (cc) }
 told_as receive.NoMemory = record { sure = λ h. absurd (cc); early = λ h. refl }
 
-pub not_settled : (answers : Bool) (old new : Option Talk) (known : Option (List Worktree)) (files left : Option Tree) (g : Given) (before after : State) (l : ListedValue) (r : Option Received) (rest : List ℕ) (e : ReceiveError) → HasTold answers old new g before l r rest
-    → IsUnsettled known files left g.setup (manner_in g) before (wants_in g before l.ref_map) l r after e → IsRefused answers old new known files left g before after (receiving e)
-not_settled answers old new known files left g before after l r rest e told u =
+pub not_applied : (answers : Bool) (old new : Option Talk) (known : Option (List Worktree)) (files left : Option Tree) (g : Given) (before after : State) (l : ListedValue) (r : Option Received) (rest : List ℕ) (e : ReceiveError) → HasTold answers old new g before l r rest
+    → IsUnapplied known files left g.setup (apply_options_in g) before (wants_in g before l.ref_map) l r after e → IsRefused answers old new known files left g before after (receiving e)
+not_applied answers old new known files left g before after l r rest e told u =
     let h = told_spoken answers old new g before l r rest told in
     let t : Told = record { listed = l; received = r } in
     let said = said_in answers old new g before l r rest told in

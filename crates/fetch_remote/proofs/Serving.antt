@@ -9,7 +9,7 @@ use Rattle.fetch_wire.specs.declared.listings.reference.Ref.{Ref}
 use Rattle.fetch_conversation.specs.Conversation.{Conversation, ends, answer_in, map_refusal, told_as}
 use Rattle.fetch_conversation.specs.ConverseStage.{converse_stage, with_pack}
 use Rattle.fetch_conversation.specs.Conversing.{IsClear}
-use Rattle.fetch_conversation.specs.Exchange.{TermsValue}
+use Rattle.fetch_conversation.specs.Exchange.{FetchArgumentsValue}
 use Rattle.fetch_conversation.specs.ListStage.{ListedValue}
 use Rattle.fetch_conversation.specs.Writing.{Answer, listing_text, answers_text, negotiated_in}
 use Rattle.fetch_conversation.specs.declared.conversing.Received.{Received}
@@ -19,7 +19,7 @@ use Rattle.fetch_remote.specs.Errors.{preparing, receiving}
 use Rattle.fetch_remote.specs.Form.{Given}
 use Rattle.fetch_remote.specs.Repositories.{State}
 use Rattle.fetch_remote.specs.Serving.{listed_by, IsAllStored, IsServed, told_listed, told_served, as_dry_run, but_its_pack, told_dry}
-use Rattle.fetch_remote.specs.Settling.{brought}
+use Rattle.fetch_remote.specs.Applying.{to_take}
 use Rattle.fetch_remote.specs.Stages.{Told, bound_of, wants_in, terms_in, listing_stage, pack_stage, receiving_stage, conversation}
 use Rattle.fetch_remote.specs.Valid.{IsTakeable, AreJudgeable, policy_with, IsValidInput}
 use Rattle.fetch_remote.specs.declared.fetching.fetch_error.FetchError.{FetchError}
@@ -50,14 +50,14 @@ both g s l r stream mid rest first second =
 
 -- ---- nothing is wanted
 
-nothing_asked : (bound : ℕ) (g : Graph) (t : TermsValue) (rest : List ℕ) → IsClear t → t.view.wants ≡ [] → answer_in bound (converse_stage bound g t) rest ≡ Ok (None, rest)
+nothing_asked : (bound : ℕ) (g : Graph) (t : FetchArgumentsValue) (rest : List ℕ) → IsClear t → t.view.wants ≡ [] → answer_in bound (converse_stage bound g t) rest ≡ Ok (None, rest)
 unfolding converse_stage answer_in
 nothing_asked bound g t rest clear none = rw (clear.mapped, clear.alike, clear.fit, clear.offered, none) refl
 
-none_brought : (dry_run : Bool) (p : Received → Type 0) → IfSome (brought dry_run None) p
+none_brought : (dry_run : Bool) (p : Received → Type 0) → IfSome (to_take dry_run None) p
 none_brought dry_run p = by dry_run
   where
-    by : (b : Bool) → IfSome (brought b None) p
+    by : (b : Bool) → IfSome (to_take b None) p
     by true = tt
     by false = tt
 
@@ -76,7 +76,7 @@ listed_is_valid g trees s capabilities refs rest h judged =
 
 -- ---- a pack comes
 
-is_brought : (dry_run : Bool) (r : Received) (p : Received → Type 0) → dry_run ≡ false → p r → IfSome (brought dry_run (Some r)) p
+is_brought : (dry_run : Bool) (r : Received) (p : Received → Type 0) → dry_run ≡ false → p r → IfSome (to_take dry_run (Some r)) p
 is_brought dry_run r p kept x = rw kept x
 
 pub served_is_valid : (g : Given) (trees : List Worktree) (s : State) (capabilities : List Capability) (refs : List Ref) (a : Answer) (answers : List Answer) (contents : Contents) (rest : List ℕ) → IsServed g s capabilities refs a answers contents
@@ -85,7 +85,7 @@ pub served_is_valid : (g : Given) (trees : List Worktree) (s : State) (capabilit
     → IsValidInput g trees s (listing_text capabilities refs ++ (answers_text a answers ++ rest))
 served_is_valid g trees s capabilities refs a answers contents rest h taken judged =
     let l = listed_by g capabilities refs in
-    let t : TermsValue = terms_in g s l in
+    let t : FetchArgumentsValue = terms_in g s l in
     let r : Received = with_pack (negotiated_in t (graph_of s.objects) a answers) contents in
     let answered : List ℕ = answers_text a answers ++ rest in
     record {
@@ -104,7 +104,7 @@ pub dry_is_valid : (g : Given) (trees : List Worktree) (s : State) (capabilities
     → IsValidInput (as_dry_run g) trees s (listing_text capabilities refs ++ (answers_text a answers ++ rest))
 dry_is_valid g trees s capabilities refs a answers contents rest h judged =
     let l = listed_by g capabilities refs in
-    let t : TermsValue = terms_in g s l in
+    let t : FetchArgumentsValue = terms_in g s l in
     let r : Received = with_pack (negotiated_in t (graph_of s.objects) a answers) contents in
     let answered : List ℕ = answers_text a answers ++ rest in
     let d = stage_dry (bound_of g) (graph_of s.objects) t answered rest (Some r) (written_pack (bound_of g) t (graph_of s.objects) a answers contents rest h.packed) in

@@ -13,9 +13,9 @@ use Rattle.fetch_negotiate.specs.declared.algorithm.Algorithm.TheVariants as alg
 use Rattle.fetch_conversation.specs.Conversation.{Conversation, Converses, ends, and_then}
 use Rattle.fetch_conversation.specs.ConverseStage.{algorithm_in, converse_stage, fetching, lacking, no_mapping, other_hash, received, unfit, wanting}
 use Rattle.fetch_conversation.specs.Errors.{is_free_receiving, is_stopped}
-use Rattle.fetch_conversation.specs.Exchange.{TermsValue, haves_told, exchange}
+use Rattle.fetch_conversation.specs.Exchange.{FetchArgumentsValue, haves_told, exchange}
 use Rattle.fetch_conversation.specs.ListStage.{ListedValue, unless}
-use Rattle.fetch_conversation.specs.Rounds.{CourseValue, Negotiated, course_after, first_course, is_end, is_short, negotiating, next_window, rounds_with}
+use Rattle.fetch_conversation.specs.Rounds.{RoundsStateValue, Negotiated, rounds_state_after, first_rounds_state, is_end, is_short, negotiating, next_window, rounds_with}
 use Rattle.fetch_conversation.specs.declared.conversing.Received.{Received}
 use Rattle.fetch_conversation.specs.declared.conversing.View.{View}
 use Rattle.fetch_conversation.specs.declared.fetch.Error.{Error}
@@ -25,51 +25,51 @@ use Rattle.fetch_remote.specs.Showing.{Shows, needs_tips, walks}
 use Rattle.fetch_remote.specs.Stages.{bound_of, pack_stage, terms_in, view_with}
 
 -- the same terms with other tips
-abbrev with_tips : List ObjectId → TermsValue → TermsValue
+abbrev with_tips : List ObjectId → FetchArgumentsValue → FetchArgumentsValue
 with_tips tips t = record t { view = record t.view { tips = tips } }
 
 -- a request and its reply are the same
-same_exchange : (bound : ℕ) (t : TermsValue) (tips haves : List ObjectId) (done : Bool) → exchange bound (with_tips tips t) haves done ≡ exchange bound t haves done
+same_exchange : (bound : ℕ) (t : FetchArgumentsValue) (tips haves : List ObjectId) (done : Bool) → exchange bound (with_tips tips t) haves done ≡ exchange bound t haves done
 unfolding exchange
 same_exchange bound t tips haves done = refl
 
 -- what follows a reply
-abbrev behind_reply : ℕ → ℕ → Graph → Algorithm → CourseValue → Window → TermsValue → FetchReply → Conversation Negotiated Error
+abbrev behind_reply : ℕ → ℕ → Graph → Algorithm → RoundsStateValue → Window → FetchArgumentsValue → FetchReply → Conversation Negotiated Error
 behind_reply more bound g algorithm c w t reply =
-    if is_end c w reply then ends (Ok (record { rounds = rounds_with c w reply; reply = reply })) else negotiating more bound t g algorithm (course_after algorithm c w reply)
+    if is_end c w reply then ends (Ok (record { rounds = rounds_with c w reply; reply = reply })) else negotiating more bound t g algorithm (rounds_state_after algorithm c w reply)
 
 -- the rounds are the same
-same_rounds : (more bound : ℕ) (t : TermsValue) (tips : List ObjectId) (g : Graph) (algorithm : Algorithm) (c : CourseValue) → negotiating more bound (with_tips tips t) g algorithm c ≡ negotiating more bound t g algorithm c
+same_rounds : (more bound : ℕ) (t : FetchArgumentsValue) (tips : List ObjectId) (g : Graph) (algorithm : Algorithm) (c : RoundsStateValue) → negotiating more bound (with_tips tips t) g algorithm c ≡ negotiating more bound t g algorithm c
 unfolding negotiating
 same_rounds zero bound t tips g algorithm c = refl
 same_rounds (suc more) bound t tips g algorithm c =
     let w : Window = next_window g algorithm c in
     let later : behind_reply more bound g algorithm c w (with_tips tips t) ≡ behind_reply more bound g algorithm c w t =
-    λ i reply. if is_end c w reply then ends (Ok (record { rounds = rounds_with c w reply; reply = reply })) else same_rounds more bound t tips g algorithm (course_after algorithm c w reply) i in
+    λ i reply. if is_end c w reply then ends (Ok (record { rounds = rounds_with c w reply; reply = reply })) else same_rounds more bound t tips g algorithm (rounds_state_after algorithm c w reply) i in
     ap (λ (x : Conversation FetchReply Error). and_then x (behind_reply more bound g algorithm c w (with_tips tips t))) (same_exchange bound t tips (haves_told c.shared w.haves) (is_short c w))
     ∙ ap (λ (go : FetchReply → Conversation Negotiated Error). and_then (exchange bound t (haves_told c.shared w.haves) (is_short c w)) go) later
 
 -- ---- where nothing walks from the tips
 
 -- the rounds by an algorithm, and what they bring
-abbrev fetching_by : ℕ → Graph → Algorithm → TermsValue → Conversation (Option Received) Error
-fetching_by bound g algorithm t = and_then (negotiating (suc (map.len g)) bound t g algorithm (first_course algorithm t.view)) (λ n. ends (received t n))
+abbrev fetching_by : ℕ → Graph → Algorithm → FetchArgumentsValue → Conversation (Option Received) Error
+fetching_by bound g algorithm t = and_then (negotiating (suc (map.len g)) bound t g algorithm (first_rounds_state algorithm t.view)) (λ n. ends (received t n))
 
-unwalked : (bound : ℕ) (g : Graph) (t : TermsValue) (tips : List ObjectId) (algorithm : Algorithm) → walks algorithm ≡ false → fetching_by bound g algorithm (with_tips tips t) ≡ fetching_by bound g algorithm t
+unwalked : (bound : ℕ) (g : Graph) (t : FetchArgumentsValue) (tips : List ObjectId) (algorithm : Algorithm) → walks algorithm ≡ false → fetching_by bound g algorithm (with_tips tips t) ≡ fetching_by bound g algorithm t
 unfolding received
-unwalked bound g t tips algorithms.Noop idle = ap (λ (x : Conversation Negotiated Error). and_then x (λ n. ends (received t n))) (same_rounds (suc (map.len g)) bound t tips g algorithms.Noop (first_course algorithms.Noop t.view))
+unwalked bound g t tips algorithms.Noop idle = ap (λ (x : Conversation Negotiated Error). and_then x (λ n. ends (received t n))) (same_rounds (suc (map.len g)) bound t tips g algorithms.Noop (first_rounds_state algorithms.Noop t.view))
 unwalked bound g t tips algorithms.Consecutive idle = absurd (cc)
 unwalked bound g t tips algorithms.Skipping idle = absurd (cc)
 
-same_fetching : (bound : ℕ) (g : Graph) (t : TermsValue) (tips : List ObjectId) → walks (algorithm_in t.settings) ≡ false → fetching bound g (with_tips tips t) ≡ fetching bound g t
+same_fetching : (bound : ℕ) (g : Graph) (t : FetchArgumentsValue) (tips : List ObjectId) → walks (algorithm_in t.settings) ≡ false → fetching bound g (with_tips tips t) ≡ fetching bound g t
 unfolding fetching
 same_fetching bound g t tips idle = unwalked bound g t tips (algorithm_in t.settings) idle
 
-same_wanting : (bound : ℕ) (g : Graph) (t : TermsValue) (tips wants : List ObjectId) → needs_tips (algorithm_in t.settings) wants ≡ false → wanting bound g (with_tips tips t) wants ≡ wanting bound g t wants
+same_wanting : (bound : ℕ) (g : Graph) (t : FetchArgumentsValue) (tips wants : List ObjectId) → needs_tips (algorithm_in t.settings) wants ≡ false → wanting bound g (with_tips tips t) wants ≡ wanting bound g t wants
 same_wanting bound g t tips [] idle = refl
 same_wanting bound g t tips (id ∷ ids) idle = same_fetching bound g t tips idle
 
-same_stage : (bound : ℕ) (g : Graph) (t : TermsValue) (tips : List ObjectId) → needs_tips (algorithm_in t.settings) t.view.wants ≡ false → converse_stage bound g (with_tips tips t) ≡ converse_stage bound g t
+same_stage : (bound : ℕ) (g : Graph) (t : FetchArgumentsValue) (tips : List ObjectId) → needs_tips (algorithm_in t.settings) t.view.wants ≡ false → converse_stage bound g (with_tips tips t) ≡ converse_stage bound g t
 unfolding converse_stage
 same_stage bound g t tips idle =
     ap (λ (x : Conversation (Option Received) Error). unless (option_or (no_mapping t) (option_or (other_hash t) (option_or (unfit t.settings) (lacking t)))) x) (same_wanting bound g t tips t.view.wants idle)

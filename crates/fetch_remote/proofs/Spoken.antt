@@ -12,7 +12,7 @@ use Rattle.fetch_remote.specs.Errors.{preparing, receiving}
 use Rattle.fetch_remote.specs.Form.{Given}
 use Rattle.fetch_remote.specs.Repositories.{State}
 use Rattle.fetch_remote.specs.Stages.{bound_of, listing_stage, pack_stage, receiving_stage, conversation}
-use Rattle.fetch_remote.specs.Talking.{HasTold}
+use Rattle.fetch_remote.specs.Conversed.{HasTold}
 
 pub record Spoke {X E : Type 0} (answers : Bool) (bound : ℕ) (old new : Option Talk) (pending : List ℕ) (c : Conversation X E) (x : X) (rest said heard : List ℕ) : Type 0 where
   pub passed : Talks answers old new heard said

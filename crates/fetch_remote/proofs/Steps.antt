@@ -17,18 +17,18 @@ use Rattle.fetch_wire.specs.Requests.{first_line}
 use Rattle.fetch_wire.specs.SessionStates.{listing_feature}
 use Rattle.fetch_wire.specs.Talks.{Talk}
 use Rattle.fetch_wire.specs.Written.{first_too_long}
-use Rattle.fetch_wire.specs.declared.replies.awaited.Await.{Await}
-use Rattle.fetch_wire.specs.declared.replies.awaited.Await.TheVariants as awaits
-use Rattle.fetch_wire.specs.declared.replies.awaited.Fault.{Fault}
-use Rattle.fetch_wire.specs.declared.replies.awaited.Told.{Told}
-use Rattle.fetch_wire.specs.declared.replies.awaited.Told.TheVariants as told
+use Rattle.fetch_wire.specs.declared.replies.reply.ReplyKind.{ReplyKind}
+use Rattle.fetch_wire.specs.declared.replies.reply.ReplyKind.TheVariants as awaits
+use Rattle.fetch_wire.specs.declared.replies.reply.ReplyError.{ReplyError}
+use Rattle.fetch_wire.specs.declared.replies.reply.ParsedReply.{ParsedReply}
+use Rattle.fetch_wire.specs.declared.replies.reply.ParsedReply.TheVariants as told
 use Rattle.fetch_wire.specs.declared.error.WireError.TheVariants as wire
 use Rattle.fetch_wire.specs.declared.greetings.handshake.Handshake.{Handshake}
 use Rattle.fetch_wire.specs.declared.lines.line.Line.{Line}
 use Rattle.fetch_wire.specs.declared.listings.reference.Ref.{Ref}
 use Rattle.fetch_conversation.specs.Conversation.{Conversation, ends, asks, asks_unless, answer_in, after_reply, Concludes, Breaks, IsRefusedBy}
 use Rattle.fetch_conversation.specs.Errors.{is_free_listing, is_free_receiving, prepare_of, is_interrupted, is_stopped}
-use Rattle.fetch_conversation.specs.ListStage.{InquiryValue, ListedValue, all_specs, handshaking, too_long, failed, inquiry_stage, listing, listed, greeted, mapped, mapped_unless, unless, unlisted, unsendable, shown, pending_of}
+use Rattle.fetch_conversation.specs.ListStage.{LsRefsValue, ListedValue, all_specs, handshaking, too_long, failed, ls_refs_stage, listing, listed, greeted, mapped, mapped_unless, unless, unlisted, unsendable, shown, pending_of}
 use Rattle.fetch_conversation.specs.declared.conversing.Received.{Received}
 use Rattle.fetch_conversation.specs.declared.fetch.Error.{Error as ReceiveError}
 use Rattle.fetch_conversation.specs.declared.fetch.Error.TheVariants as receive
@@ -38,22 +38,22 @@ use Rattle.fetch_conversation.specs.declared.prepare.Error.TheVariants as prepar
 use Rattle.fetch_conversation.specs.declared.ref_map.Error.{Error as MapError}
 use Rattle.fetch_conversation.specs.declared.ref_map.Error.TheVariants as ref_map
 use Rattle.fetch_remote.specs.Errors.{preparing, receiving}
-use Rattle.fetch_remote.specs.Fetching.{manner_in, taken_in}
+use Rattle.fetch_remote.specs.Fetching.{apply_options_in, taken_in}
 use Rattle.fetch_remote.specs.Form.{Given}
 use Rattle.fetch_remote.specs.Judging.{IsTold, judged_of}
 use Rattle.fetch_remote.specs.Keeping.{AreFiles, left_tree}
 use Rattle.fetch_remote.specs.Refused.{IsRefused}
 use Rattle.fetch_remote.specs.Repositories.{State}
-use Rattle.fetch_remote.specs.Settling.{policy_in, IsSettled}
+use Rattle.fetch_remote.specs.Applying.{policy_in, IsApplied}
 use Rattle.fetch_remote.specs.Stages.{bound_of, wants_in, inquiry_in, terms_in, pack_stage}
 use Rattle.fetch_remote.specs.Steps.{HasListed, BreaksOff, HasReceived, IsReceived, IsUnreceived, ReceivesBy, listing_error, is_missing}
-use Rattle.fetch_remote.specs.Talking.{HasEnded, BreaksListing, BreaksReceiving}
+use Rattle.fetch_remote.specs.Conversed.{HasEnded, BreaksListing, BreaksReceiving}
 use Rattle.fetch_remote.specs.declared.fetching.fetch_error.FetchError.TheVariants as errors
 use Rattle.fetch_remote.specs.declared.fetching.outcome.Outcome.{Outcome}
-use Rattle.fetch_remote.specs.declared.fetching.talking.Talked.{Talked}
+use Rattle.fetch_remote.specs.declared.fetching.exchange.Exchange.{Exchange}
 use Rattle.fetch_remote.proofs.Fetched.{at_outcome, moved_in, is_carried_out}
 use Rattle.fetch_remote.proofs.Negotiated.{are_held}
-use Rattle.fetch_remote.proofs.Settled.{settled_as}
+use Rattle.fetch_remote.proofs.Applied.{applied_as}
 use Rattle.fetch_conversation.proofs.Tied.{broken_free}
 use Rattle.fetch_remote.proofs.Received.{is_received}
 use Rattle.fetch_remote.proofs.Refused.{broken_off}
@@ -64,8 +64,8 @@ use Rattle.fetch_remote.proofs.Unjudged.{IsOther, refused_as}
 -- ---- the second stage after the first
 
 -- both are held to their ends
-pub talked_on : (answers : Bool) (old mid new : Option Talk) (g : Given) (s : State) (listed : Listed) (t : Talked) → HasListed answers old mid (inquiry_in g) listed → HasReceived answers mid new g s listed t → HasEnded answers old new g s t
-talked_on answers old mid new g s listed t h k = record {
+pub exchanged_on : (answers : Bool) (old mid new : Option Talk) (g : Given) (s : State) (listed : Listed) (t : Exchange) → HasListed answers old mid (inquiry_in g) listed → HasReceived answers mid new g s listed t → HasEnded answers old new g s t
+exchanged_on answers old mid new g s listed t h k = record {
   told = rw k.kept (record { between = mid; behind = pending_of listed; list = h.list; pack = k.pack });
   wants = k.wants ∙ sym (ap (λ (l : ListedValue). wants_in g s l.ref_map) k.kept);
 }
@@ -114,7 +114,7 @@ forgot_on answers old now known files g before listed h = broken_off answers old
 -- ---- what it leaves that was done
 
 received_with : (answers : Bool) (mid new : Option Talk) (known : Option (List Worktree)) (files left : Option Tree) (g : Given) (trees : List Worktree) (before : State) (listed : Listed) (r : Option Received) (rest : List ℕ) (s : State) (u : Updates) → IsTold known trees
-    → Concludes answers (bound_of g) mid new (pending_of listed) (pack_stage g before (shown listed)) r rest → taken_in g before (record { listed = shown listed; received = r }) ≡ Ok s → judged_of (policy_in s (manner_in g) trees) listed.ref_map ≡ Ok u
+    → Concludes answers (bound_of g) mid new (pending_of listed) (pack_stage g before (shown listed)) r rest → taken_in g before (record { listed = shown listed; received = r }) ≡ Ok s → judged_of (policy_in s (apply_options_in g) trees) listed.ref_map ≡ Ok u
     → AreFiles files left (left_tree g.setup.settings.git_dir (at_outcome g (shown listed) r u).status) → IsReceived answers mid new known files left g before (moved_in g s u.edits) listed (at_outcome g (shown listed) r u)
 received_with answers mid new known files left g trees before listed r rest s u told pack took judged kept =
     let none = (is_received (bound_of g) (graph_of before.objects) (terms_in g before (shown listed)) _ r _ (pack.answered [])).none in
@@ -128,10 +128,10 @@ received_with answers mid new known files left g trees before listed r rest s u 
     }
 
 pub has_received : (answers : Bool) (mid new : Option Talk) (known : Option (List Worktree)) (files left : Option Tree) (g : Given) (before after : State) (listed : Listed) (outcome : Outcome) (r : Option Received) (rest : List ℕ)
-    → Concludes answers (bound_of g) mid new (pending_of listed) (pack_stage g before (shown listed)) r rest → IsSettled known g.setup (manner_in g) before (wants_in g before listed.ref_map) (shown listed) r outcome after
+    → Concludes answers (bound_of g) mid new (pending_of listed) (pack_stage g before (shown listed)) r rest → IsApplied known g.setup (apply_options_in g) before (wants_in g before listed.ref_map) (shown listed) r outcome after
     → AreFiles files left (left_tree g.setup.settings.git_dir outcome.status) → IsReceived answers mid new known files left g before after listed outcome
 has_received answers mid new known files left g before after listed outcome r rest pack is kept =
-    let p = settled_as g.setup (manner_in g) is.trees before (wants_in g before listed.ref_map) (shown listed) r outcome after is.by in
+    let p = applied_as g.setup (apply_options_in g) is.trees before (wants_in g before listed.ref_map) (shown listed) r outcome after is.by in
     let there = subst (λ (o : Outcome). AreFiles files left (left_tree g.setup.settings.git_dir o.status)) p.outcome_is kept in
     let f = received_with answers mid new known files left g is.trees before listed r rest p.state p.updates is.listed_trees pack p.took p.judged there in
     subst (λ (x : State). IsReceived answers mid new known files left g before x listed outcome) (sym p.after_is)
@@ -164,10 +164,10 @@ IsNamed prepare.NoMemory = ⊤
 unfoldable Names : {X : Type 0} → Conversation X PrepareError → Type 0
 Names (ends (Ok x)) = ⊤
 Names (ends (Err e)) = IsNamed e
-Names (asks lines awaited failed next) = ((fault : Fault) → IsNamed (failed fault)) × ((t : Told) → Names (next t))
+Names (asks lines awaited failed next) = ((fault : ReplyError) → IsNamed (failed fault)) × ((t : ParsedReply) → Names (next t))
 
-named_after : {X : Type 0} (bound : ℕ) (failed : Fault → PrepareError) (next : Told → Conversation X PrepareError) (reading : Result (Told × List ℕ) Fault) → ((fault : Fault) → IsNamed (failed fault))
-    → ((t : Told) (stream : List ℕ) → answer_in bound (next t) stream ≡ Err prepare.MissingRefSpecs → ⊥)
+named_after : {X : Type 0} (bound : ℕ) (failed : ReplyError → PrepareError) (next : ParsedReply → Conversation X PrepareError) (reading : Result (ParsedReply × List ℕ) ReplyError) → ((fault : ReplyError) → IsNamed (failed fault))
+    → ((t : ParsedReply) (stream : List ℕ) → answer_in bound (next t) stream ≡ Err prepare.MissingRefSpecs → ⊥)
     → after_reply (λ fault. Err (failed fault)) (λ told rest. answer_in bound (next told) rest) reading ≡ Err prepare.MissingRefSpecs → ⊥
 named_after bound failed next (Ok y) named again is = again y.0 y.1 is
 named_after {X} bound failed next (Err fault) named again is = let h : failed fault ≡ prepare.MissingRefSpecs = cc in subst IsNamed h (named fault)
@@ -186,7 +186,7 @@ names_err : (X : Type 0) (e : PrepareError) → IsNamed e → Names {X = X} (end
 unfolding Names
 names_err X e h = h
 
-names_asks : {X : Type 0} (lines : List Line) (awaited : Await) (failed : Fault → PrepareError) (next : Told → Conversation X PrepareError) → ((fault : Fault) → IsNamed (failed fault)) → ((t : Told) → Names (next t)) → Names (asks lines awaited failed next)
+names_asks : {X : Type 0} (lines : List Line) (awaited : ReplyKind) (failed : ReplyError → PrepareError) (next : ParsedReply → Conversation X PrepareError) → ((fault : ReplyError) → IsNamed (failed fault)) → ((t : ParsedReply) → Names (next t)) → Names (asks lines awaited failed next)
 unfolding Names
 names_asks lines awaited failed next h k = (h, k)
 
@@ -206,7 +206,7 @@ named_unsendable : (o : Option (List ℕ × ℕ)) → IfSome (option_map (λ (ba
 named_unsendable None = tt
 named_unsendable (Some bad) = tt
 
-names_mapped : (q : InquiryValue) (h : Handshake) (refs : List Ref) → Names (ends (mapped q h refs))
+names_mapped : (q : LsRefsValue) (h : Handshake) (refs : List Ref) → Names (ends (mapped q h refs))
 unfolding mapped
 names_mapped q h refs = by (conflicts_of (mappings_of (all_specs q) (map name_in refs) h.object_hash))
   where
@@ -214,36 +214,36 @@ names_mapped q h refs = by (conflicts_of (mappings_of (all_specs q) (map name_in
     by [] = names_ok _
     by (c ∷ cs) = names_err _ _ tt
 
-names_listed : (q : InquiryValue) (h : Handshake) (t : Told) → Names (listed q h t)
+names_listed : (q : LsRefsValue) (h : Handshake) (t : ParsedReply) → Names (listed q h t)
 names_listed q h (told.Listing refs) = names_mapped q h refs
 names_listed q h (told.Greeting other) = names_err _ _ tt
 names_listed q h (told.Advertisement other refs) = names_err _ _ tt
 names_listed q h (told.Reply reply) = names_err _ _ tt
 
-names_listing : (bound : ℕ) (q : InquiryValue) (h : Handshake) → Names (listing bound q h)
+names_listing : (bound : ℕ) (q : LsRefsValue) (h : Handshake) → Names (listing bound q h)
 unfolding listing
 names_listing bound q h = names_long _ _ (names_unless (unlisted h) _ (named_unlisted (offers listing_feature h.capabilities) (handshaking (wire.MissingFeature listing_feature)) tt) (names_asks _ _ _ _ (λ fault. tt) (λ t. names_listed q h t)))
 
-names_greeted : (bound : ℕ) (q : InquiryValue) (t : Told) → Names (greeted bound q t)
+names_greeted : (bound : ℕ) (q : LsRefsValue) (t : ParsedReply) → Names (greeted bound q t)
 names_greeted bound q (told.Greeting h) = names_listing bound q h
 names_greeted bound q (told.Advertisement h refs) = names_mapped q h refs
 names_greeted bound q (told.Listing refs) = names_err _ _ tt
 names_greeted bound q (told.Reply reply) = names_err _ _ tt
 
-names_inquiry : (bound : ℕ) (q : InquiryValue) → Names (inquiry_stage bound q)
-unfolding inquiry_stage
+names_inquiry : (bound : ℕ) (q : LsRefsValue) → Names (ls_refs_stage bound q)
+unfolding ls_refs_stage
 names_inquiry bound q =
     names_unless (unsendable q) _ (named_unsendable (first_bad (texts_told q.address q.options.handshake_parameters q.agent)))
     (names_long (first_too_long (first_line q.address q.options.handshake_parameters ∷ [])) _ (names_asks _ awaits.Greeting (failed bound) (greeted bound q) (λ fault. tt) (λ t. names_greeted bound q t)))
 
-never_missing : (answers : Bool) (old new : Option Talk) (bound : ℕ) (q : InquiryValue) → Breaks is_free_listing is_interrupted answers bound old new [] (inquiry_stage bound q) prepare.MissingRefSpecs → ⊥
+never_missing : (answers : Bool) (old new : Option Talk) (bound : ℕ) (q : LsRefsValue) → Breaks is_free_listing is_interrupted answers bound old new [] (ls_refs_stage bound q) prepare.MissingRefSpecs → ⊥
 never_missing answers old new bound q b = by (b.why refl)
   where
-    by : IsRefusedBy bound new (inquiry_stage bound q) ([] ++ b.said) b.heard prepare.MissingRefSpecs → ⊥
-    by (inl all) = is_named bound (inquiry_stage bound q) (([] ++ b.said) ++ []) (names_inquiry bound q) (all []).answer
-    by (inr last) = is_named bound (inquiry_stage bound q) ([] ++ b.said) (names_inquiry bound q) last.1.answer
+    by : IsRefusedBy bound new (ls_refs_stage bound q) ([] ++ b.said) b.heard prepare.MissingRefSpecs → ⊥
+    by (inl all) = is_named bound (ls_refs_stage bound q) (([] ++ b.said) ++ []) (names_inquiry bound q) (all []).answer
+    by (inr last) = is_named bound (ls_refs_stage bound q) ([] ++ b.said) (names_inquiry bound q) last.1.answer
 
-pub is_not_missing : (answers : Bool) (old new : Option Talk) (bound : ℕ) (q : InquiryValue) (e : PrepareError) → Breaks is_free_listing is_interrupted answers bound old new [] (inquiry_stage bound q) e → is_missing e ≡ false
+pub is_not_missing : (answers : Bool) (old new : Option Talk) (bound : ℕ) (q : LsRefsValue) (e : PrepareError) → Breaks is_free_listing is_interrupted answers bound old new [] (ls_refs_stage bound q) e → is_missing e ≡ false
 is_not_missing answers old new bound q prepare.MissingRefSpecs b = absurd (never_missing answers old new bound q b)
 is_not_missing answers old new bound q (prepare.RefMap e) b = refl
 is_not_missing answers old new bound q prepare.NoMemory b = refl

@@ -15,24 +15,24 @@ use Rattle.fetch_conversation.specs.ReadSettings.{rejects_shallow_of, algorithm_
 use Rattle.fetch_conversation.specs.declared.settings.Settings.{Settings}
 use Rattle.fetch_wire.specs.Greetings.{offers}
 use Rattle.fetch_wire.specs.RequestWords.{plain_pack, plain_pack_2}
-use Rattle.fetch_wire.specs.declared.replies.awaited.Await.{Await}
-use Rattle.fetch_wire.specs.declared.replies.awaited.Await.TheVariants as awaits
+use Rattle.fetch_wire.specs.declared.replies.reply.ReplyKind.{ReplyKind}
+use Rattle.fetch_wire.specs.declared.replies.reply.ReplyKind.TheVariants as awaits
 use Rattle.fetch_wire.specs.declared.lines.line.Line.{Line}
 use Rattle.fetch_store.specs.declared.id.ObjectId.{ObjectId}
 use Rattle.fetch_wire.specs.Awaited.{told_at}
 use Rattle.fetch_wire.specs.Talks.{Talk}
 use Rattle.fetch_wire.specs.Written.{first_too_long}
-use Rattle.fetch_wire.specs.declared.replies.awaited.Fault.{Fault}
-use Rattle.fetch_wire.specs.declared.replies.awaited.Told.{Told}
-use Rattle.fetch_wire.specs.declared.replies.awaited.Told.TheVariants as told
+use Rattle.fetch_wire.specs.declared.replies.reply.ReplyError.{ReplyError}
+use Rattle.fetch_wire.specs.declared.replies.reply.ParsedReply.{ParsedReply}
+use Rattle.fetch_wire.specs.declared.replies.reply.ParsedReply.TheVariants as told
 use Rattle.fetch_wire.specs.declared.greetings.handshake.Handshake.{Handshake}
 use Rattle.fetch_wire.specs.declared.listings.mapping.RefMap.{RefMap}
 use Rattle.fetch_conversation.specs.Conversation.{Conversation, ends, asks, asks_unless, asking, and_then, after_reply, answer_in, IsRefusedBy}
 use Rattle.fetch_conversation.specs.ConverseStage as converse
 use Rattle.fetch_conversation.specs.ConverseStage.{converse_stage, wanting, fetching, algorithm_in, received, rejected, result_unless, unpacked, is_unmapped, unmapped, unlike, unread_as, unfit, lacks, lacked, lacking, no_mapping, other_hash}
 use Rattle.fetch_conversation.specs.Exchange as exchanging
-use Rattle.fetch_conversation.specs.Exchange.{TermsValue, replied, exchange}
-use Rattle.fetch_conversation.specs.Rounds.{CourseValue, Negotiated, first_course, next_window, course_after, negotiating}
+use Rattle.fetch_conversation.specs.Exchange.{FetchArgumentsValue, replied, exchange}
+use Rattle.fetch_conversation.specs.Rounds.{RoundsStateValue, Negotiated, first_rounds_state, next_window, rounds_state_after, negotiating}
 use Rattle.fetch_conversation.specs.Errors.{fetch_of_pack, is_free_receiving}
 use Rattle.fetch_conversation.specs.ListStage.{ListedValue, unless}
 use Rattle.fetch_conversation.specs.declared.fetch.Error.{Error}
@@ -41,7 +41,7 @@ use Rattle.fetch_remote.specs.Errors.{receiving}
 use Rattle.fetch_remote.specs.Form.{Given}
 use Rattle.fetch_remote.specs.Repositories.{State}
 use Rattle.fetch_remote.specs.Stages.{bound_of, terms_in, pack_stage}
-use Rattle.fetch_remote.specs.Talking.{BreaksReceiving}
+use Rattle.fetch_remote.specs.Conversed.{BreaksReceiving}
 use Rattle.fetch_remote.specs.declared.fetching.fetch_error.FetchError.{FetchError}
 use Rattle.fetch_remote.specs.declared.fetching.fetch_error.FetchError.TheVariants as fetch
 
@@ -57,10 +57,10 @@ IsOther e = ⊤
 unfoldable Spares : {X : Type 0} → Conversation X Error → Type 0
 Spares (ends (Ok x)) = ⊤
 Spares (ends (Err e)) = IsOther e
-Spares (asks lines awaited failed next) = ((fault : Fault) → IsOther (failed fault)) × ((t : Told) → Spares (next t))
+Spares (asks lines awaited failed next) = ((fault : ReplyError) → IsOther (failed fault)) × ((t : ParsedReply) → Spares (next t))
 
-spared_after : {X : Type 0} (bound : ℕ) (failed : Fault → Error) (next : Told → Conversation X Error) (reading : Result (Told × List ℕ) Fault) (e : Error) → (IsOther e → ⊥) → ((fault : Fault) → IsOther (failed fault))
-    → ((t : Told) (stream : List ℕ) → answer_in bound (next t) stream ≡ Err e → ⊥)
+spared_after : {X : Type 0} (bound : ℕ) (failed : ReplyError → Error) (next : ParsedReply → Conversation X Error) (reading : Result (ParsedReply × List ℕ) ReplyError) (e : Error) → (IsOther e → ⊥) → ((fault : ReplyError) → IsOther (failed fault))
+    → ((t : ParsedReply) (stream : List ℕ) → answer_in bound (next t) stream ≡ Err e → ⊥)
     → after_reply (λ fault. Err (failed fault)) (λ told rest. answer_in bound (next told) rest) reading ≡ Err e → ⊥
 spared_after bound failed next (Ok y) e apart other again is = again y.0 y.1 is
 spared_after {X} bound failed next (Err fault) e apart other again is = let h : failed fault ≡ e = cc in apart (subst IsOther h (other fault))
@@ -122,16 +122,16 @@ other_when : (b : Bool) (o : Option Error) → IfSome o IsOther → IfSome (if b
 other_when true o h = h
 other_when false o h = tt
 
-other_rejected : (t : TermsValue) (n : Negotiated) → IfSome (rejected t.settings t.view t.shallow n.reply) IsOther
+other_rejected : (t : FetchArgumentsValue) (n : Negotiated) → IfSome (rejected t.settings t.view t.shallow n.reply) IsOther
 other_rejected t n =
     other_when (converse.is_rejecting (rejects_shallow_of t.settings.config) && converse.is_no_change t.shallow) (option_map (λ (id : ObjectId). errors.RejectShallowRemote id) (converse.first_outside t.view.border n.reply.shallow))
     (other_outside (converse.first_outside t.view.border n.reply.shallow))
 
-spares_received : (t : TermsValue) (n : Negotiated) → Spares (ends (received t n))
+spares_received : (t : FetchArgumentsValue) (n : Negotiated) → Spares (ends (received t n))
 unfolding received
 spares_received t n = spares_result (rejected t.settings t.view t.shallow n.reply) _ (other_rejected t n) (spares_dry t.dry_run _ _ (spares_unpacked n _))
 
-spares_replied : (x : Told) → Spares (replied x)
+spares_replied : (x : ParsedReply) → Spares (replied x)
 spares_replied (told.Reply reply) = spares_ok reply
 spares_replied (told.Greeting h) = spares_err _ _ tt
 spares_replied (told.Advertisement h refs) = spares_err _ _ tt
@@ -143,15 +143,15 @@ spares_then (ends (Ok x)) f h k = k x
 spares_then (ends (Err e)) f h k = h
 spares_then (asks lines awaited failed next) f h k = (h.0, λ t. spares_then (next t) f (h.1 t) k)
 
-spares_asks : {X : Type 0} (lines : List Line) (awaited : Await) (failed : Fault → Error) (next : Told → Conversation X Error) → ((fault : Fault) → IsOther (failed fault)) → ((t : Told) → Spares (next t)) → Spares (asks lines awaited failed next)
+spares_asks : {X : Type 0} (lines : List Line) (awaited : ReplyKind) (failed : ReplyError → Error) (next : ParsedReply → Conversation X Error) → ((fault : ReplyError) → IsOther (failed fault)) → ((t : ParsedReply) → Spares (next t)) → Spares (asks lines awaited failed next)
 unfolding Spares
 spares_asks lines awaited failed next h k = (h, k)
 
-spares_asking : {X : Type 0} (long : ℕ → Error) (lines : List Line) (awaited : Await) (failed : Fault → Error) (next : Told → Conversation X Error) → ((n : ℕ) → IsOther (long n)) → ((fault : Fault) → IsOther (failed fault)) → ((t : Told) → Spares (next t))
+spares_asking : {X : Type 0} (long : ℕ → Error) (lines : List Line) (awaited : ReplyKind) (failed : ReplyError → Error) (next : ParsedReply → Conversation X Error) → ((n : ℕ) → IsOther (long n)) → ((fault : ReplyError) → IsOther (failed fault)) → ((t : ParsedReply) → Spares (next t))
     → Spares (asking long lines awaited failed next)
 spares_asking long lines awaited failed next a h k = spares_long (first_too_long lines) long (asks lines awaited failed next) a (spares_asks lines awaited failed next h k)
 
-spares_exchange : (bound : ℕ) (t : TermsValue) (haves : List ObjectId) (done : Bool) → Spares (exchange bound t haves done)
+spares_exchange : (bound : ℕ) (t : FetchArgumentsValue) (haves : List ObjectId) (done : Bool) → Spares (exchange bound t haves done)
 unfolding exchange
 spares_exchange bound t haves done =
     spares_asking exchanging.too_long (fetch_request (exchanging.asked_by t) haves done) (awaits.Reply (exchanging.reply_to t haves done)) (exchanging.failed bound) (λ x. replied x) (λ n. tt) (λ fault. tt) (λ x. spares_replied x)
@@ -160,17 +160,17 @@ spares_either : {X : Type 0} (b : Bool) (c d : Conversation X Error) → Spares 
 spares_either true c d h k = h
 spares_either false c d h k = k
 
-spares_negotiating : (more bound : ℕ) (t : TermsValue) (g : Graph) (algorithm : Algorithm) (c : CourseValue) → Spares (negotiating more bound t g algorithm c)
+spares_negotiating : (more bound : ℕ) (t : FetchArgumentsValue) (g : Graph) (algorithm : Algorithm) (c : RoundsStateValue) → Spares (negotiating more bound t g algorithm c)
 unfolding negotiating
 spares_negotiating zero bound t g algorithm c = spares_err _ _ tt
 spares_negotiating (suc more) bound t g algorithm c =
-    spares_then _ _ (spares_exchange bound t _ _) (λ reply. spares_either _ _ _ (spares_ok _) (spares_negotiating more bound t g algorithm (course_after algorithm c (next_window g algorithm c) reply)))
+    spares_then _ _ (spares_exchange bound t _ _) (λ reply. spares_either _ _ _ (spares_ok _) (spares_negotiating more bound t g algorithm (rounds_state_after algorithm c (next_window g algorithm c) reply)))
 
-spares_fetching : (bound : ℕ) (g : Graph) (t : TermsValue) → Spares (fetching bound g t)
+spares_fetching : (bound : ℕ) (g : Graph) (t : FetchArgumentsValue) → Spares (fetching bound g t)
 unfolding fetching
-spares_fetching bound g t = spares_then _ _ (spares_negotiating (suc (map.len g)) bound t g (algorithm_in t.settings) (first_course (algorithm_in t.settings) t.view)) (λ n. spares_received t n)
+spares_fetching bound g t = spares_then _ _ (spares_negotiating (suc (map.len g)) bound t g (algorithm_in t.settings) (first_rounds_state (algorithm_in t.settings) t.view)) (λ n. spares_received t n)
 
-spares_wanting : (bound : ℕ) (g : Graph) (t : TermsValue) (wants : List ObjectId) → Spares (wanting bound g t wants)
+spares_wanting : (bound : ℕ) (g : Graph) (t : FetchArgumentsValue) (wants : List ObjectId) → Spares (wanting bound g t wants)
 spares_wanting bound g t [] = spares_ok _
 spares_wanting bound g t (id ∷ ids) = spares_fetching bound g t
 
@@ -205,7 +205,7 @@ other_unfit s =
     other_or shallow (option_or algorithm threads) (other_unread errors.RejectShallowRemoteConfig (rejects_shallow_of s.config) (λ value. tt))
     (other_or algorithm threads (other_unread errors.NegotiationAlgorithmConfig (algorithm_of_config s.config s.lenient) (λ value. tt)) (other_unread errors.PackThreads (threads_of s.config s.lenient) (λ value. tt)))
 
-spares_converse : (bound : ℕ) (g : Graph) (t : TermsValue) → Spares (converse_stage bound g t)
+spares_converse : (bound : ℕ) (g : Graph) (t : FetchArgumentsValue) → Spares (converse_stage bound g t)
 unfolding converse_stage
 spares_converse bound g t =
     spares_unless (option_or (no_mapping t) (option_or (other_hash t) (option_or (unfit t.settings) (lacking t)))) (wanting bound g t t.view.wants)

@@ -30,13 +30,13 @@ use Rattle.fetch_conversation.specs.Conversation.{answer_in, IsAwaited}
 use Rattle.fetch_conversation.specs.ListStage.{ListedValue, all_specs, extra_specs}
 use Rattle.fetch_conversation.specs.Mapped.{ref_mappings}
 use Rattle.fetch_conversation.specs.declared.conversing.Received.{Received}
-use Rattle.fetch_remote.specs.Fetching.{manner_in, fetched_in, requests_in}
+use Rattle.fetch_remote.specs.Fetching.{apply_options_in, fetched_in, requests_in}
 use Rattle.fetch_remote.specs.Form.{Given}
 use Rattle.fetch_remote.specs.Judging.{IsTold}
 use Rattle.fetch_remote.specs.Negotiated.{AreHeld}
 use Rattle.fetch_remote.specs.Keeping.{AreFiles, kept, keep_in, left_tree}
 use Rattle.fetch_remote.specs.Repositories.{State, Setup, held}
-use Rattle.fetch_remote.specs.Settling.{brought, pack_read, policy_in, status_of}
+use Rattle.fetch_remote.specs.Applying.{to_take, pack_read, policy_in, status_of}
 use Rattle.fetch_remote.specs.Stages.{bound_of, wants_in, inquiry_in, listing_stage, pack_stage, conversation}
 use Rattle.fetch_remote.specs.declared.fetching.outcome.Outcome.{Outcome}
 
@@ -75,7 +75,7 @@ pub record HasRead (g : Given) (before : State) (said : List ℕ) (outcome : Out
 
 -- the policy of the fetch, over the references found, the objects left and these worktrees
 abbrev pub policy_at : Given → List Worktree → State → State → Policy
-policy_at g trees before after = policy_in (record before { objects = after.objects }) (manner_in g) trees
+policy_at g trees before after = policy_in (record before { objects = after.objects }) (apply_options_in g) trees
 
 -- What became of the mappings, by the policy.
 pub record IsJudged (g : Given) (trees : List Worktree) (before after : State) (received : Option Received)
@@ -128,8 +128,8 @@ carried_out false edits = edits
 pub record IsLeft (dry_run : Bool) (packed_refs : PackedRefs) (setup : Setup) (before after : State) (received : Option Received)
     (updates : Updates) : Type 0 where
   -- The objects and the border are those found with the reply's objects and shallow lines; in a dry run those found.
-  pub objects : after.objects ≡ objects_with before.objects (brought dry_run received)
-  pub border : after.border ≡ border_with before.border (brought dry_run received)
+  pub objects : after.objects ≡ objects_with before.objects (to_take dry_run received)
+  pub border : after.border ≡ border_with before.border (to_take dry_run received)
   pub hash : after.hash ≡ before.hash
   -- The references are those found with the edits, and so are their logs; in a dry run those found.
   pub refs : after.refs.names ≡ refs_after before.refs.names (carried_out dry_run updates.edits)
@@ -178,7 +178,7 @@ pub record IsCarriedOut (known : Option (List Worktree)) (files files_left : Opt
   pub listed_trees : IsTold known trees
   pub judged : IsJudged g trees before after received outcome
   pub written : IsWritten g trees before after outcome judged.updates
-  pub left : IsLeft g.options.dry_run (manner_in g).packed g.setup before after received judged.updates
+  pub left : IsLeft g.options.dry_run (apply_options_in g).packed g.setup before after received judged.updates
   pub kept : IsKept g files files_left received judged.updates outcome
   pub safe : IsSafe g before after outcome.ref_map
 

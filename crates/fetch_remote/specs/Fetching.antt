@@ -11,12 +11,12 @@ use Rattle.fetch_conversation.specs.declared.fetch.Error.{Error as ReceiveError}
 use Rattle.fetch_remote.specs.Errors.{receiving}
 use Rattle.fetch_remote.specs.Form.{Given}
 use Rattle.fetch_remote.specs.Repositories.{State}
-use Rattle.fetch_remote.specs.Settling.{brought, keep_of, taken, settled, kept_or, standing, usual_message}
+use Rattle.fetch_remote.specs.Applying.{to_take, keep_of, taken, applied, kept_or, standing, usual_message}
 use Rattle.fetch_remote.specs.Stages.{Told, bound_of, wants_in, conversation}
 use Rattle.fetch_remote.specs.declared.fetching.fetch_error.FetchError.{FetchError}
 use Rattle.fetch_remote.specs.declared.fetching.options.FetchOptions.{FetchOptions}
 use Rattle.fetch_remote.specs.declared.fetching.outcome.Outcome.{Outcome}
-use Rattle.fetch_remote.specs.declared.fetching.settling.Manner.{Manner}
+use Rattle.fetch_remote.specs.declared.fetching.applying.ApplyOptions.{ApplyOptions}
 
 -- where references are written
 abbrev pub places_of : Bool → PackedRefs
@@ -27,39 +27,39 @@ places_of false = places.Never
 abbrev pub message_of : Option RefLogMessage → RefLogMessage
 message_of message = unwrap_or message usual_message
 
--- how it is to be settled
-abbrev pub manner_of : Tags → FetchOptions → Manner
-manner_of tags o = record {
+-- how what is received is to be applied
+abbrev pub apply_options_of : Tags → FetchOptions → ApplyOptions
+apply_options_of tags o = record {
   tags = tags;
   dry_run = o.dry_run;
   packed = places_of o.write_packed_refs_only;
   message = message_of o.reflog_message;
 }
 
--- how a fetch is settled
-abbrev pub manner_in : Given → Manner
-manner_in g = manner_of g.remote.tags g.options
+-- how what a fetch receives is applied
+abbrev pub apply_options_in : Given → ApplyOptions
+apply_options_in g = apply_options_of g.remote.tags g.options
 
 -- the state once what was received is taken
 abbrev pub taken_in : Given → State → Told → Result State ReceiveError
-taken_in g s t = taken s (wants_in g s t.listed.ref_map) (brought g.options.dry_run t.received)
+taken_in g s t = taken s (wants_in g s t.listed.ref_map) (to_take g.options.dry_run t.received)
 
 -- the keep file that is made
 abbrev pub keep_made : Given → Told → Option (List ℕ)
-keep_made g t = keep_of g.setup (manner_in g) t.received
+keep_made g t = keep_of g.setup (apply_options_in g) t.received
 
 -- what is done with what was told, and what is left
-abbrev pub settled_in : Given → List Worktree → State → Told → Result (Outcome × State) ReceiveError
-settled_in g trees s t = settled g.setup (manner_in g) trees s (wants_in g s t.listed.ref_map) t.listed t.received
+abbrev pub applied_in : Given → List Worktree → State → Told → Result (Outcome × State) ReceiveError
+applied_in g trees s t = applied g.setup (apply_options_in g) trees s (wants_in g s t.listed.ref_map) t.listed t.received
 
 -- the same, of a conversation's answer
-abbrev pub settled_by : Given → List Worktree → State → Result (Told × List ℕ) FetchError → Result (Outcome × State) FetchError
-settled_by g trees s (Err e) = Err e
-settled_by g trees s (Ok x) = map_refusal receiving (settled_in g trees s x.0)
+abbrev pub applied_by : Given → List Worktree → State → Result (Told × List ℕ) FetchError → Result (Outcome × State) FetchError
+applied_by g trees s (Err e) = Err e
+applied_by g trees s (Ok x) = map_refusal receiving (applied_in g trees s x.0)
 
 -- the outcome and the state that is left, or the refusal, where these worktrees are checked out
 unfoldable pub fetched_in : Given → List Worktree → State → List ℕ → Result (Outcome × State) FetchError
-fetched_in g trees s stream = settled_by g trees s (answer_in (bound_of g) (conversation g s) stream)
+fetched_in g trees s stream = applied_by g trees s (answer_in (bound_of g) (conversation g s) stream)
 
 -- the lines that are sent to it
 unfoldable pub requests_in : Given → State → List ℕ → List Line

@@ -17,7 +17,7 @@ use Rattle.fetch_remote.specs.Form.{Given}
 use Rattle.fetch_remote.specs.Judging.{IsTold}
 use Rattle.fetch_remote.specs.Keeping.{AreFiles, with_keep, removed_in}
 use Rattle.fetch_remote.specs.Repositories.{State}
-use Rattle.fetch_remote.specs.Settling as settling
+use Rattle.fetch_remote.specs.Applying as applying
 use Rattle.fetch_remote.specs.Stages.{Told, bound_of, listing_stage, pack_stage, conversation}
 use Rattle.fetch_remote.specs.declared.fetching.outcome.Outcome.{Outcome}
 use Rattle.fetch_remote.specs.declared.fetching.fetch_error.FetchError.{FetchError}
@@ -134,13 +134,13 @@ unremoved path = errors.Receive (receive.RemovePackKeepFile path)
 -- a refusal after the references' move
 abbrev pub is_late : FetchError → Bool
 is_late (errors.Prepare e) = false
-is_late (errors.Receive e) = settling.is_late e
+is_late (errors.Receive e) = applying.is_late e
 is_late errors.NoMemory = false
 
 -- a refusal before the keep file is made
 abbrev pub is_early : FetchError → Bool
 is_early (errors.Prepare e) = true
-is_early (errors.Receive e) = settling.is_early e
+is_early (errors.Receive e) = applying.is_early e
 is_early errors.NoMemory = false
 
 -- What is said of a counted refusal in place of a cause. Where the worktrees fail, all that was received is taken.

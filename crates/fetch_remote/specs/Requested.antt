@@ -10,10 +10,10 @@ use Rattle.fetch_negotiate.specs.declared.algorithm.Round.{Round}
 use Rattle.fetch_wire.specs.Awaited.{told_at}
 use Rattle.fetch_wire.specs.Requests.{first_line, listing_lines}
 use Rattle.fetch_wire.specs.Written.{first_too_long}
-use Rattle.fetch_wire.specs.declared.replies.awaited.Await.TheVariants as awaits
-use Rattle.fetch_wire.specs.declared.replies.awaited.Fault.{Fault}
-use Rattle.fetch_wire.specs.declared.replies.awaited.Told.{Told}
-use Rattle.fetch_wire.specs.declared.replies.awaited.Told.TheVariants as told
+use Rattle.fetch_wire.specs.declared.replies.reply.ReplyKind.TheVariants as awaits
+use Rattle.fetch_wire.specs.declared.replies.reply.ReplyError.{ReplyError}
+use Rattle.fetch_wire.specs.declared.replies.reply.ParsedReply.{ParsedReply}
+use Rattle.fetch_wire.specs.declared.replies.reply.ParsedReply.TheVariants as told
 use Rattle.fetch_wire.specs.declared.greetings.handshake.Handshake.{Handshake}
 use Rattle.fetch_wire.specs.declared.lines.line.Line.{Line}
 use Rattle.fetch_conversation.specs.Conversation.{answer_in}
@@ -56,14 +56,14 @@ abbrev pub listing_refusal : Given → Handshake → Option PrepareError
 listing_refusal g greeting = option_or (option_map too_long (first_too_long (listing_request g greeting))) (unlisted greeting)
 
 -- A greeting of version 2 is answered by the listing request; a server of version 1 has listed already.
-abbrev pub listing_to : Given → Told → List Line
+abbrev pub listing_to : Given → ParsedReply → List Line
 listing_to g (told.Greeting greeting) = unless_refused (listing_refusal g greeting) (listing_request g greeting)
 listing_to g (told.Advertisement greeting refs) = []
 listing_to g (told.Listing refs) = []
 listing_to g (told.Reply reply) = []
 
 -- what is sent after the greeting; nothing where it wasn't read
-abbrev pub listing_behind : Given → Result (Told × List ℕ) Fault → List Line
+abbrev pub listing_behind : Given → Result (ParsedReply × List ℕ) ReplyError → List Line
 listing_behind g (Ok x) = listing_to g x.0
 listing_behind g (Err fault) = []
 

@@ -9,8 +9,8 @@ use Rattle.fetch_negotiate.specs.declared.algorithm.Shallow.{Shallow}
 use Rattle.fetch_wire.specs.declared.listings.mapping.RefMap.{RefMap}
 use Rattle.fetch_conversation.specs.Conversation.{Conversation, ends, and_then, told_as}
 use Rattle.fetch_conversation.specs.ConverseStage.{converse_stage}
-use Rattle.fetch_conversation.specs.Exchange.{TermsValue}
-use Rattle.fetch_conversation.specs.ListStage.{InquiryValue, ListedValue, list_stage}
+use Rattle.fetch_conversation.specs.Exchange.{FetchArgumentsValue}
+use Rattle.fetch_conversation.specs.ListStage.{LsRefsValue, ListedValue, list_stage}
 use Rattle.fetch_conversation.specs.ReadSettings.{agent_of}
 use Rattle.fetch_conversation.specs.declared.conversing.Received.{Received}
 use Rattle.fetch_conversation.specs.declared.conversing.View.{View}
@@ -27,7 +27,7 @@ use Rattle.fetch_remote.specs.declared.fetching.fetch_error.FetchError.{FetchErr
 -- ---- what is asked
 
 -- what a remote is asked for its references
-abbrev pub inquiry_of : RemoteValue → Settings → Options → InquiryValue
+abbrev pub inquiry_of : RemoteValue → Settings → Options → LsRefsValue
 inquiry_of r settings options = record {
   address = address_of r;
   agent = agent_of settings.config;
@@ -37,7 +37,7 @@ inquiry_of r settings options = record {
 }
 
 -- what the server is asked for its references
-abbrev pub inquiry_in : Given → InquiryValue
+abbrev pub inquiry_in : Given → LsRefsValue
 inquiry_in g = inquiry_of g.remote g.setup.settings g.options.map
 
 -- how many bytes a reply may have
@@ -57,7 +57,7 @@ view_with s m tags shallow = record {
 }
 
 -- what the pack is asked for by
-abbrev pub terms_in : Given → State → ListedValue → TermsValue
+abbrev pub terms_in : Given → State → ListedValue → FetchArgumentsValue
 terms_in g s l = record {
   listed = l;
   settings = g.setup.settings;

@@ -10,7 +10,7 @@ use Rattle.fetch_wire.specs.Talks.{Talk}
 use Rattle.fetch_conversation.specs.Blame.{BlamesPeer, BlamesInterrupt}
 use Rattle.fetch_conversation.specs.Conversation.{Concludes, Breaks}
 use Rattle.fetch_conversation.specs.Errors.{is_free_listing, is_free_receiving, is_interrupted, is_transport, prepare_of, is_stopped}
-use Rattle.fetch_conversation.specs.ListStage.{InquiryValue, ListedValue, list_stage, inquiry_stage, shown, pending_of}
+use Rattle.fetch_conversation.specs.ListStage.{LsRefsValue, ListedValue, list_stage, ls_refs_stage, shown, pending_of}
 use Rattle.fetch_conversation.specs.Receiving.{last_question}
 use Rattle.fetch_conversation.specs.declared.conversing.Received.{Received}
 use Rattle.fetch_conversation.specs.declared.fetch.Error.{Error as ReceiveError}
@@ -21,12 +21,12 @@ use Rattle.fetch_conversation.specs.declared.ref_map.Error.{Error as MapError}
 use Rattle.fetch_conversation.specs.declared.ref_map.Error.TheVariants as ref_map
 use Rattle.fetch_conversation.specs.declared.ref_map.Options.{Options}
 use Rattle.fetch_remote.specs.Fetched.{listed_in, IsCarriedOut}
-use Rattle.fetch_remote.specs.Fetching.{manner_in}
+use Rattle.fetch_remote.specs.Fetching.{apply_options_in}
 use Rattle.fetch_remote.specs.Form.{Given}
 use Rattle.fetch_remote.specs.Negotiated.{AreHeld}
 use Rattle.fetch_remote.specs.Remotes.{RemoteValue}
 use Rattle.fetch_remote.specs.Repositories.{State, Setup}
-use Rattle.fetch_remote.specs.Settling.{IsUnsettled}
+use Rattle.fetch_remote.specs.Applying.{IsUnapplied}
 use Rattle.fetch_remote.specs.Stages.{inquiry_of, bound_of, wants_in, pack_stage}
 use Rattle.fetch_remote.specs.contracts.fetching.connection.Connection.{the_row}
 use Rattle.fetch_remote.specs.declared.fetching.connection.Connection.{Connection}
@@ -34,7 +34,7 @@ use Rattle.fetch_remote.specs.declared.fetching.options.FetchOptions.{FetchOptio
 use Rattle.fetch_remote.specs.declared.fetching.outcome.Outcome.{Outcome}
 use Rattle.fetch_remote.specs.declared.fetching.prepared.Prepared.{Prepared}
 use Rattle.fetch_remote.specs.declared.fetching.preparing.Prepare.{Prepare}
-use Rattle.fetch_remote.specs.declared.fetching.talking.Talked.{Talked}
+use Rattle.fetch_remote.specs.declared.fetching.exchange.Exchange.{Exchange}
 
 -- ---- a remote with its peer
 
@@ -75,7 +75,7 @@ abbrev pub given_by : PreparedValue → Setup → Given
 given_by p setup = record { remote = p.remote; options = p.options; setup = setup }
 
 -- what its references were asked for by
-abbrev pub asked_by : PreparedValue → Setup → InquiryValue
+abbrev pub asked_by : PreparedValue → Setup → LsRefsValue
 asked_by p setup = inquiry_of p.remote setup.settings p.options.map
 
 -- no dry run, loose references, the usual message, and no change of depth
@@ -85,16 +85,16 @@ options_with map = record { map = map; dry_run = false; write_packed_refs_only =
 -- ---- the first stage
 
 -- The references were listed, in a conversation that goes on with what was received and not read.
-pub record HasListed (answers : Bool) (old now : Option Talk) (q : InquiryValue) (l : Listed) : Type 0 where
+pub record HasListed (answers : Bool) (old now : Option Talk) (q : LsRefsValue) (l : Listed) : Type 0 where
   pub list : Concludes answers q.options.max_reply_bytes old now [] (list_stage q.options.max_reply_bytes q) (shown l) (pending_of l)
 
 -- The listing broke off.
-pub record BreaksOff (answers : Bool) (old now : Option Talk) (q : InquiryValue) (e : PrepareError) : Type 0 where
+pub record BreaksOff (answers : Bool) (old now : Option Talk) (q : LsRefsValue) (e : PrepareError) : Type 0 where
   pub broke : Breaks is_free_listing is_interrupted answers q.options.max_reply_bytes old now [] (list_stage q.options.max_reply_bytes q) e
 
 -- The listing broke off, with the peer left so. Peer and interrupt are blamed only where their counts rose.
 pub record IsUnlisted {P : Type 0} (told : P → Option Talk) (faults : P → Faults) (answers : Bool) (yes yes' : Faults)
-    (will will' : ℕ → Type 0) (q : InquiryValue) (before last : P) (e : PrepareError) : Type 0 where
+    (will will' : ℕ → Type 0) (q : LsRefsValue) (before last : P) (e : PrepareError) : Type 0 where
   pub off : BreaksOff answers (told before) (told last) q e
   pub peer : BlamesPeer (faults before) (faults last) (is_transport e)
   pub interrupt : BlamesInterrupt yes yes' will will' (told before) (told last) (last_question {T = Listed} is_interrupted (Err e))
@@ -102,9 +102,9 @@ pub record IsUnlisted {P : Type 0} (told : P → Option Talk) (faults : P → Fa
 -- ---- the first stage by itself
 
 -- The references were listed, whether or not a refspec was named. What was received after that is let go.
-pub record HasInquired (answers : Bool) (old now : Option Talk) (q : InquiryValue) (l : ListedValue) : Type 0 where
+pub record HasInquired (answers : Bool) (old now : Option Talk) (q : LsRefsValue) (l : ListedValue) : Type 0 where
   pub behind : List ℕ
-  pub list : Concludes answers q.options.max_reply_bytes old now [] (inquiry_stage q.options.max_reply_bytes q) l behind
+  pub list : Concludes answers q.options.max_reply_bytes old now [] (ls_refs_stage q.options.max_reply_bytes q) l behind
 
 -- that no refspec is named, which this stage doesn't test
 abbrev pub is_missing : PrepareError → Bool
@@ -119,28 +119,28 @@ listing_error (prepare.RefMap e) = e
 listing_error prepare.NoMemory = ref_map.NoMemory
 
 -- The listing broke off.
-pub record IsUninquired (answers : Bool) (old now : Option Talk) (q : InquiryValue) (e : MapError) : Type 0 where
-  pub broke : Breaks is_free_listing is_interrupted answers q.options.max_reply_bytes old now [] (inquiry_stage q.options.max_reply_bytes q)
+pub record IsUninquired (answers : Bool) (old now : Option Talk) (q : LsRefsValue) (e : MapError) : Type 0 where
+  pub broke : Breaks is_free_listing is_interrupted answers q.options.max_reply_bytes old now [] (ls_refs_stage q.options.max_reply_bytes q)
       (prepare_of e)
 
 -- ---- the second stage
 
 -- It was held to its end, with these wants asked for; what was listed stays.
-pub record HasReceived (answers : Bool) (mid new : Option Talk) (g : Given) (s : State) (listed : Listed) (t : Talked) : Type 0 where
+pub record HasReceived (answers : Bool) (mid new : Option Talk) (g : Given) (s : State) (listed : Listed) (t : Exchange) : Type 0 where
   pub kept : shown t.listed ≡ shown listed
   pub wants : t.wants ≡ wants_in g s listed.ref_map
   pub pack : Concludes answers (bound_of g) mid new (pending_of listed) (pack_stage g s (shown listed)) t.received (pending_of t.listed)
 
 -- What was received after the listing, or where that broke off.
-abbrev pub TalksOnBy : Bool → Option Talk → Option Talk → Given → State → Listed → Result Talked ReceiveError → Type 0
-TalksOnBy answers mid new g s listed (Ok t) = HasReceived answers mid new g s listed t
-TalksOnBy answers mid new g s listed (Err e) =
+abbrev pub NegotiatesAndReceivesBy : Bool → Option Talk → Option Talk → Given → State → Listed → Result Exchange ReceiveError → Type 0
+NegotiatesAndReceivesBy answers mid new g s listed (Ok t) = HasReceived answers mid new g s listed t
+NegotiatesAndReceivesBy answers mid new g s listed (Err e) =
     Breaks is_free_receiving is_stopped answers (bound_of g) mid new (pending_of listed) (pack_stage g s (shown listed)) e
 
 -- What the call leaves that holds the second stage, once this was listed.
-pub record TalksOn (answers : Bool) (mid new : Option Talk) (g : Given) (s : State) (listed : Listed)
-    (result : Result Talked ReceiveError) : Type 0 where
-  pub held : TalksOnBy answers mid new g s listed result
+pub record NegotiatesAndReceives (answers : Bool) (mid new : Option Talk) (g : Given) (s : State) (listed : Listed)
+    (result : Result Exchange ReceiveError) : Type 0 where
+  pub held : NegotiatesAndReceivesBy answers mid new g s listed result
 
 -- What a call leaves that goes on with what was listed. In it the peer heard the fetch requests for what it said, and no
 -- more, whatever comes after, and the reply is read in that; the rest is as in the whole fetch.
@@ -166,7 +166,7 @@ pub record IsTurnedDown (answers : Bool) (mid new : Option Talk) (known : Option
   pub received : Option Received
   pub rest : List ℕ
   pub pack : Concludes answers (bound_of g) mid new (pending_of listed) (pack_stage g before (shown listed)) received rest
-  pub unsettled : IsUnsettled known files files_left g.setup (manner_in g) before (wants_in g before listed.ref_map)
+  pub unapplied : IsUnapplied known files files_left g.setup (apply_options_in g) before (wants_in g before listed.ref_map)
       (shown listed) received after e
 
 -- Why a call that goes on with what was listed was refused, and what it leaves.

@@ -13,11 +13,11 @@ use Rattle.fetch_wire.specs.declared.listings.mapping.RefMap.{RefMap}
 use Rattle.fetch_conversation.specs.Conversation.{answer_in, IsUnheard}
 use Rattle.fetch_conversation.specs.declared.conversing.Received.{Received}
 use Rattle.fetch_remote.specs.Fetched.{objects_with}
-use Rattle.fetch_remote.specs.Fetching.{manner_in}
+use Rattle.fetch_remote.specs.Fetching.{apply_options_in}
 use Rattle.fetch_remote.specs.Form.{Given}
 use Rattle.fetch_remote.specs.Judging.{IsTold}
 use Rattle.fetch_remote.specs.Repositories.{State, held}
-use Rattle.fetch_remote.specs.Settling.{brought, pack_of, policy_in}
+use Rattle.fetch_remote.specs.Applying.{to_take, pack_of, policy_in}
 use Rattle.fetch_remote.specs.Stages.{Told, bound_of, wants_in, conversation}
 
 -- What was received may be taken: no id of it has another object, and nothing is missing of what was wanted and of what
@@ -33,8 +33,8 @@ pub record AreJudgeable (p : Policy) (m : RefMap) : Type 0 where
 
 -- what is judged by: the references found, and the objects with what was received
 abbrev pub policy_with : Given → List Worktree → State → Told → Policy
-policy_with g trees s told = policy_in (record s { objects = objects_with s.objects (brought g.options.dry_run told.received) })
-    (manner_in g) trees
+policy_with g trees s told = policy_in (record s { objects = objects_with s.objects (to_take g.options.dry_run told.received) })
+    (apply_options_in g) trees
 
 -- What the peer says is valid input of this fetch.
 pub record IsValidInput (g : Given) (trees : List Worktree) (s : State) (stream : List ℕ) : Type 0 where
@@ -44,7 +44,7 @@ pub record IsValidInput (g : Given) (trees : List Worktree) (s : State) (stream 
   pub behind : List ℕ
   pub replies : answer_in (bound_of g) (conversation g s) stream ≡ Ok (told, behind)
   -- Outside a dry run what was received may be taken.
-  pub pack : IfSome (brought g.options.dry_run told.received) (IsTakeable s (wants_in g s told.listed.ref_map))
+  pub pack : IfSome (to_take g.options.dry_run told.received) (IsTakeable s (wants_in g s told.listed.ref_map))
   pub mappings : AreJudgeable (policy_with g trees s told) told.listed.ref_map
 
 -- In a call the peer heard this and gave this, and stands so at its end.

@@ -29,7 +29,7 @@ pub enum Error {
 
 impl From<fetch_lookup::branch::Error> for Error {
     ghost use Rattle.std.specs.Prelude.{◌≡◌};
-    ghost use Rattle.fetch_remote.specs.Following.{name_refusal};
+    ghost use Rattle.fetch_remote.specs.Upstream.{name_refusal};
 
     ghost from_gives = { λ e f. f ≡ name_refusal e };
 
@@ -45,7 +45,7 @@ impl From<fetch_lookup::branch::Error> for Error {
 /// Out of memory stays out of memory.
 impl From<existing::Error> for Error {
     ghost use Rattle.std.specs.Prelude.{◌≡◌};
-    ghost use Rattle.fetch_remote.specs.Following.{remote_refusal};
+    ghost use Rattle.fetch_remote.specs.Upstream.{remote_refusal};
 
     ghost from_gives = { λ e f. f ≡ remote_refusal e };
 

@@ -8,14 +8,14 @@ pub mod options;
 pub mod outcome;
 pub mod prepared;
 pub mod preparing;
-pub mod settling;
-pub mod talking;
+pub mod applying;
+pub mod exchange;
 
 ghost use Rattle.std.specs.Prelude.{◌≡◌, true, Some, None, IfOk, IfErr};
 ghost use Rattle.fetch_conversation.specs.Receiving.{last_question};
 ghost use Rattle.fetch_remote.specs.Errors.{is_free, is_yes, is_of_peer};
 ghost use Rattle.fetch_remote.specs.Fetched.{IsFetched};
-ghost use Rattle.fetch_remote.specs.Fetching.{manner_of, message_of, places_of};
+ghost use Rattle.fetch_remote.specs.Fetching.{apply_options_of, message_of, places_of};
 ghost use Rattle.fetch_remote.specs.Refused.{IsRefused, is_early};
 ghost use Rattle.fetch_remote.specs.Repositories.{state_of, setup_of};
 ghost use Rattle.fetch_remote.specs.Valid.{HasValidInput};
@@ -28,7 +28,7 @@ use crate::fetching::fetch_error::FetchError;
 use crate::fetching::options::FetchOptions;
 use crate::fetching::outcome::Outcome;
 use crate::fetching::preparing::fetch_on;
-use crate::fetching::settling::Manner;
+use crate::fetching::applying::ApplyOptions;
 use crate::remote::Remote;
 use crate::repository::Repository;
 use fetch_conversation::NoProgress;
@@ -114,11 +114,11 @@ impl Remote {
     }
 }
 
-/// How a fetch by these options is settled.
-pub fn manner(alloc: Global, tags: Tags, options: &FetchOptions) -> Result<Manner, NoMemory>
-    ensures { IfOk result (λ how. how ≡ manner_of tags options.now) }
+/// How what a fetch receives is applied by these options.
+pub fn apply_options(alloc: Global, tags: Tags, options: &FetchOptions) -> Result<ApplyOptions, NoMemory>
+    ensures { IfOk result (λ how. how ≡ apply_options_of tags options.now) }
 {
-    Ok(Manner {
+    Ok(ApplyOptions {
         tags,
         dry_run: options.dry_run,
         packed: places(options.write_packed_refs_only),
@@ -138,7 +138,7 @@ fn places(packed_only: bool) -> PackedRefs
 }
 
 /// What reflogs say; where nothing is told, the usual.
-#[tactic(auto, unfolding(crate::specs::Settling::usual_action))]
+#[tactic(auto, unfolding(crate::specs::Applying::usual_action))]
 fn message(alloc: Global, told: &Option<RefLogMessage>) -> Result<RefLogMessage, NoMemory>
     ensures { IfOk result (λ message. message ≡ message_of told.now) }
 {

@@ -37,7 +37,7 @@ ghost use Rattle.fetch_remote.specs.Mapped.{MapsEach};
 ghost use Rattle.fetch_remote.specs.Repositories.{RepositoryValue, State, held};
 ghost use Rattle.fetch_remote.specs.Requested.{AsksInOrder};
 ghost use Rattle.fetch_remote.specs.Serving.{listed_by, IsAllStored, IsServed, told_listed, told_served, as_dry_run, told_dry};
-ghost use Rattle.fetch_remote.specs.Settling.{connected, pack_of};
+ghost use Rattle.fetch_remote.specs.Applying.{connected, pack_of};
 ghost use Rattle.fetch_remote.specs.Stages.{wants_in};
 ghost use Rattle.fetch_remote.specs.Valid.{IsTakeable, AreJudgeable, policy_with, IsValidInput};
 ghost use Rattle.fetch_remote.specs.declared.fetching.outcome.Outcome.{Outcome};

@@ -15,14 +15,14 @@ ghost use Rattle.fetch_remote.specs.Stages.{inquiry_of};
 pub use crate::fetching::connection::{inquired, listed_for};
 pub use crate::fetching::judging::judge;
 pub use crate::fetching::keep::{Kept, keep, make_keep, remove_keep};
-pub use crate::fetching::manner;
+pub use crate::fetching::apply_options;
 pub use crate::fetching::preparing::fetch_on;
-pub use crate::fetching::settling::{Manner, Taken, status};
+pub use crate::fetching::applying::{ApplyOptions, TakenReply, status};
 use crate::ref_map::Options;
 use crate::remote::Remote;
 use crate::remotes::direction::Direction;
 use crate::{fetch, prepare};
-use fetch_conversation::{Inquiry, Terms, agent};
+use fetch_conversation::{FetchArguments, LsRefs, agent};
 pub use fetch_conversation::{Listed, NoProgress, Progress, Received, Settings, View};
 use fetch_negotiate::Shallow;
 use fetch_specs::Tags;
@@ -50,13 +50,13 @@ pub fn list<P: Peer, I: Interrupt>(
     ensures interrupt { BlamesInterrupt (I.yes interrupt.old) (I.yes interrupt.new) (I.will_stop interrupt.old) (I.will_stop interrupt.new)
         (P.told peer.old) (P.told peer.new) (last_question is_interrupted result) }
 {
-    let inquiry = Inquiry {
+    let query = LsRefs {
         address: remote.address(),
         agent: agent(settings),
         specs: remote.refspecs(Direction::Fetch),
         tags: remote.fetch_tags(),
     };
-    fetch_conversation::list(alloc, &inquiry, peer, interrupt, options)
+    fetch_conversation::list(alloc, &query, peer, interrupt, options)
 }
 
 /// Asks for the pack of what is wanted, in rounds that tell which commits are there, and reads it. Where nothing is wanted,
@@ -95,7 +95,7 @@ pub fn converse<R: Threads + Sync, P: Peer, I: Interrupt, Q: Progress, O: Object
     ensures interrupt { BlamesInterrupt (I.yes interrupt.old) (I.yes interrupt.new) (I.will_stop interrupt.old) (I.will_stop interrupt.new)
         (P.told peer.old) (P.told peer.new) (last_question is_stopped result) }
 {
-    let terms = Terms {
+    let arguments = FetchArguments {
         settings,
         view,
         tags,
@@ -103,6 +103,6 @@ pub fn converse<R: Threads + Sync, P: Peer, I: Interrupt, Q: Progress, O: Object
         dry_run,
     };
     fetch_conversation::converse(
-        rt, alloc, listed, &terms, objects, peer, progress, interrupt,
+        rt, alloc, listed, &arguments, objects, peer, progress, interrupt,
     )
 }

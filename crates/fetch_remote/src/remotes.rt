@@ -3,7 +3,7 @@
 pub mod changing;
 pub mod direction;
 pub mod finding;
-pub mod following;
+pub mod upstream;
 pub mod naming;
 pub mod resolving;
 pub mod scripted_connect;

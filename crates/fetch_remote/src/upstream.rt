@@ -36,7 +36,7 @@ pub enum Error {
 
 impl From<fetch_lookup::upstream::Error> for Error {
     ghost use Rattle.std.specs.Prelude.{◌≡◌};
-    ghost use Rattle.fetch_remote.specs.Following.{upstream_refusal};
+    ghost use Rattle.fetch_remote.specs.Upstream.{upstream_refusal};
 
     ghost from_gives = { λ e f. f ≡ upstream_refusal e };
 

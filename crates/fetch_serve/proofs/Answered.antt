@@ -31,9 +31,9 @@ use Rattle.fetch_wire.specs.ServerLines.{IsChangeOf, IsIdOf, IsListable, IsTella
 use Rattle.fetch_wire.specs.Texts.{is_error}
 use Rattle.fetch_wire.specs.Written.{first_too_long}
 use Rattle.fetch_wire.specs.declared.listings.reference.Ref.{Ref}
-use Rattle.fetch_wire.specs.declared.replies.awaited.AskedReply.{AskedReply}
-use Rattle.fetch_wire.specs.declared.replies.awaited.Await.TheVariants as await
-use Rattle.fetch_wire.specs.declared.replies.awaited.Told.TheVariants as told
+use Rattle.fetch_wire.specs.declared.replies.reply.ReplyContext.{ReplyContext}
+use Rattle.fetch_wire.specs.declared.replies.reply.ReplyKind.TheVariants as await
+use Rattle.fetch_wire.specs.declared.replies.reply.ParsedReply.TheVariants as told
 use Rattle.fetch_wire.proofs.GreetingLines.{greeting_tells}
 use Rattle.fetch_wire.proofs.ListingLines.{listing_tells}
 use Rattle.fetch_wire.proofs.ReplyLines.{bands_hold, last_tells, round_tells}
@@ -131,7 +131,7 @@ known_among : (d : Data) (r : FetchAsked) → All (λ id. has_id id r.haves ≡ 
 known_among d r = λ k e lt.
     named-Contains (get_or (known_haves d r) k e) r.haves (filtered (finmap.contains_key d.objects) (get_or (known_haves d r) k e) r.haves (Contains-get_or (known_haves d r) k e lt)).0
 
-abbrev asked_of : Data → FetchAsked → AskedReply
+abbrev asked_of : Data → FetchAsked → ReplyContext
 asked_of d r = record { kind = d.hash; haves = r.haves; done = r.done; read_pack = true }
 
 -- ---- a pack

@@ -1,8 +1,8 @@
 -- The requests of a text, one after another, and what more bytes do to them.
 use Rattle.std.proofs.Common.{◌≡◌, ℕ, zero, suc, ◌+◌, ◌≤◌, Bool, true, List, [], ◌∷◌, ◌++◌, length, Option, Some, None, Result, Ok, Err, refl, sym, ap, ◌∙◌, arith, length-append}
 use Rattle.fetch_store.specs.declared.id.Kind.{Kind}
-use Rattle.fetch_wire.specs.declared.replies.awaited.Fault.{Fault}
-use Rattle.fetch_wire.specs.declared.replies.awaited.Fault.TheVariants.{Short, Broken, TooLong, Said}
+use Rattle.fetch_wire.specs.declared.replies.reply.ReplyError.{ReplyError}
+use Rattle.fetch_wire.specs.declared.replies.reply.ReplyError.TheVariants.{Short, Broken, TooLong, Said}
 use Rattle.fetch_wire.specs.Lines.{line_at}
 use Rattle.fetch_wire.specs.StepLaws.{IsSettled, with_more, read_by-more}
 use Rattle.fetch_wire.specs.Stepping.{read_within}
@@ -35,7 +35,7 @@ shorter hash begun text rest asked read =
     let some = some_byte hash begun asked o.front (o.others []) in
     let l = ap length o.is ∙ length-append o.front rest in omega arith
 
-others_same : (hash : Kind) (begun : Bool) (text : List ℕ) (f g : List ℕ → AskedIn) (found : Result (Asked × List ℕ) Fault) → request_at hash begun text ≡ found
+others_same : (hash : Kind) (begun : Bool) (text : List ℕ) (f g : List ℕ → AskedIn) (found : Result (Asked × List ℕ) ReplyError) → request_at hash begun text ≡ found
     → ((rest : List ℕ) → length rest + 1 ≤ length text → f rest ≡ g rest) → and_others begun text f found ≡ and_others begun text g found
 others_same hash begun text f g (Ok x) is same = ap (with_first x.0) (same x.1 (shorter hash begun text x.1 x.0 is))
 others_same hash begun text f g (Err (Short place)) is same = refl
@@ -91,7 +91,7 @@ first_more hash more asked found (Some e) = refl
 request-more : (hash : Kind) (begun : Bool) (text more : List ℕ) → IsSettled (request_at hash begun text) → request_at hash begun (text ++ more) ≡ with_more (request_at hash begun text) more
 request-more hash begun text more settled = read_by-more (asked_step hash) request_bound 0 (start_of begun) text more settled
 
-more_by : (n : ℕ) (hash : Kind) (begun : Bool) (text more : List ℕ) (found : Result (Asked × List ℕ) Fault) → request_at hash begun text ≡ found → length text ≤ n
+more_by : (n : ℕ) (hash : Kind) (begun : Bool) (text more : List ℕ) (found : Result (Asked × List ℕ) ReplyError) → request_at hash begun text ≡ found → length text ≤ n
     → ((rest : List ℕ) → length rest + 1 ≤ length text → asked_in hash true (rest ++ more) ≡ and_more hash more (asked_in hash true rest) (asked_in hash true rest).trouble)
     → and_others begun (text ++ more) (asked_in hash true) (request_at hash begun (text ++ more))
     ≡ and_more hash more (and_others begun text (asked_in hash true) found) (and_others begun text (asked_in hash true) found).trouble

@@ -8,8 +8,8 @@ use Rattle.fetch_wire.specs.LinesTold.{Tells, Writes}
 use Rattle.fetch_wire.specs.Talks.{IsFront}
 use Rattle.fetch_wire.specs.Written.{payload_of}
 use Rattle.fetch_wire.specs.declared.lines.line.Line.{Line}
-use Rattle.fetch_wire.specs.declared.replies.awaited.Fault.{Fault}
-use Rattle.fetch_wire.specs.declared.replies.awaited.Fault.TheVariants.{Short, Broken, TooLong, Said}
+use Rattle.fetch_wire.specs.declared.replies.reply.ReplyError.{ReplyError}
+use Rattle.fetch_wire.specs.declared.replies.reply.ReplyError.TheVariants.{Short, Broken, TooLong, Said}
 use Rattle.fetch_wire.specs.declared.session.peer.SendFault.{SendFault}
 use Rattle.fetch_wire.specs.declared.session.peer.SendFault.TheVariants as sending
 use Rattle.fetch_wire.proofs.ReadBack.{told_were}
@@ -79,7 +79,7 @@ four_bytes hash begun text rest asked read = let were = told_were (asked_step ha
 
 no_prefix : (hash : Kind) (begun : Bool) (pending front : List ℕ) (place : ℕ) (asked : Asked) (tail : List ℕ) → request_at hash begun pending ≡ Err (Short place) → ((other : List ℕ) → request_at hash begun (front ++ other) ≡ Ok (asked, other)) → pending ≡ front ++ tail → ⊥
 no_prefix hash begun pending front place asked tail short others is =
-    let e : ◌≡◌ {A = Result (Asked × List ℕ) Fault} (Err (Short place)) (Ok (asked, tail)) = sym short ∙ ap (request_at hash begun) is ∙ others tail in cc
+    let e : ◌≡◌ {A = Result (Asked × List ℕ) ReplyError} (Err (Short place)) (Ok (asked, tail)) = sym short ∙ ap (request_at hash begun) is ∙ others tail in cc
 
 -- the byte that completes a request ends it
 pub at_its_end : (hash : Kind) (begun : Bool) (pending rest : List ℕ) (b : ℕ) (asked : Asked) → IsBegun hash begun pending → request_at hash begun (pending ++ b ∷ []) ≡ Ok (asked, rest) → rest ≡ []
@@ -96,7 +96,7 @@ at_its_end hash begun pending (r ∷ rest) b asked (place, short) read =
     past (x ∷ xs) ys k = let n : length (x ∷ xs) + k ≡ suc (length xs + k) = omega arith in ap (λ (m : ℕ). take m (x ∷ (xs ++ ys))) n ∙ ap (λ (l : List ℕ). x ∷ l) (past xs ys k)
 
 -- with a byte more, other bytes are pending
-moved : (hash : Kind) (begun : Bool) (pending : List ℕ) (b : ℕ) (found : Result (Asked × List ℕ) Fault) → request_at hash begun (pending ++ b ∷ []) ≡ found → IsBegun hash begun pending
+moved : (hash : Kind) (begun : Bool) (pending : List ℕ) (b : ℕ) (found : Result (Asked × List ℕ) ReplyError) → request_at hash begun (pending ++ b ∷ []) ≡ found → IsBegun hash begun pending
     → length (and_others begun (pending ++ b ∷ []) (asked_in hash true) found).rest ≡ length pending → ⊥
 moved hash begun pending b (Ok (asked, rest)) is start same =
     let ends = at_its_end hash begun pending rest b asked start is in

@@ -3,9 +3,9 @@ use Rattle.std.proofs.Common.{◌≡◌, ℕ, ◌+◌, ◌≤◌, Bool, List, []
 use Rattle.std.proofs.lemmas.List.{append-nil, drop-append-le, drop-drop}
 use Rattle.fetch_store.specs.declared.id.Kind.{Kind}
 use Rattle.fetch_wire.specs.declared.lines.line.Line.{Line}
-use Rattle.fetch_wire.specs.declared.lines.section.Trouble.{Trouble}
-use Rattle.fetch_wire.specs.declared.lines.section.Trouble.TheVariants as lines
-use Rattle.fetch_wire.specs.declared.replies.awaited.Fault.TheVariants.{Short, Broken}
+use Rattle.fetch_wire.specs.declared.lines.section.LineError.{LineError}
+use Rattle.fetch_wire.specs.declared.lines.section.LineError.TheVariants as lines
+use Rattle.fetch_wire.specs.declared.replies.reply.ReplyError.TheVariants.{Short, Broken}
 use Rattle.fetch_wire.specs.Lines.{line_at, line_len}
 use Rattle.fetch_wire.specs.LineLaws.{line_at-is, line_at-short}
 use Rattle.fetch_wire.specs.SectionLaws.{line_at-more}
@@ -19,10 +19,10 @@ use Rattle.fetch_serve.specs.Intakes.{IsRead, IsReadUpTo, IsShortBehind, IsWhole
 use Rattle.fetch_serve.specs.Requests.{asked_step}
 use Rattle.fetch_serve.specs.Texts.{IsBegun, request_at, request_bound}
 
-told_by : (hash : Kind) (bytes : List ℕ) (place : ℕ) (reading : Reading) (more : List ℕ) (found : Result (Line × List ℕ) Trouble) → line_at request_bound place (drop place bytes ++ more) ≡ found
+told_by : (hash : Kind) (bytes : List ℕ) (place : ℕ) (reading : Reading) (more : List ℕ) (found : Result (Line × List ℕ) LineError) → line_at request_bound place (drop place bytes ++ more) ≡ found
     → told_of hash bytes place reading more ≡ after_line found (line_then (asked_step hash) request_bound reading place)
 told_by hash bytes place reading more found is =
-    read_by-step (asked_step hash) request_bound place reading (drop place bytes ++ more) ∙ ap (λ (l : Result (Line × List ℕ) Trouble). after_line l (line_then (asked_step hash) request_bound reading place)) is
+    read_by-step (asked_step hash) request_bound place reading (drop place bytes ++ more) ∙ ap (λ (l : Result (Line × List ℕ) LineError). after_line l (line_then (asked_step hash) request_bound reading place)) is
 
 -- a line that is there is a step
 pub turned : (hash : Kind) (bytes : List ℕ) (place count : ℕ) (reading : Reading) (line : Line) (more : List ℕ) → line_at request_bound place (drop place bytes) ≡ Ok (line, drop count (drop place bytes)) → count ≡ line_len line
@@ -32,7 +32,7 @@ turned hash bytes place count reading line more is len =
     ∙ rw (← len, drop-drop count place bytes) refl
 
 -- a line that can't be read
-pub stopped : (hash : Kind) (bytes : List ℕ) (place : ℕ) (reading : Reading) (trouble : Trouble) (refusal : Refusal) → line_at request_bound place (drop place bytes) ≡ Err trouble → refusal_of trouble ≡ Some refusal
+pub stopped : (hash : Kind) (bytes : List ℕ) (place : ℕ) (reading : Reading) (trouble : LineError) (refusal : Refusal) → line_at request_bound place (drop place bytes) ≡ Err trouble → refusal_of trouble ≡ Some refusal
     → (more : List ℕ) → StopsAt (told_of hash bytes place reading more) refusal
 stopped hash bytes place reading (lines.Short p) refusal is named more = absurd (cc)
 stopped hash bytes place reading (lines.Broken p) refusal is named more =
@@ -45,7 +45,7 @@ stopped hash bytes place reading lines.TooLong refusal is named more =
     (told_by hash bytes place reading more (Err lines.TooLong) (line_at-more request_bound place (drop place bytes) more (λ q e. cc) ∙ rw is refl))
 
 -- a line that isn't whole
-pub short : (hash : Kind) (bytes : List ℕ) (place : ℕ) (reading : Reading) (trouble : Trouble) → place ≤ request_bound → line_at request_bound place (drop place bytes) ≡ Err trouble → refusal_of trouble ≡ None
+pub short : (hash : Kind) (bytes : List ℕ) (place : ℕ) (reading : Reading) (trouble : LineError) → place ≤ request_bound → line_at request_bound place (drop place bytes) ≡ Err trouble → refusal_of trouble ≡ None
     → told_of hash bytes place reading [] ≡ Err (Short place)
 short hash bytes place reading (lines.Short p) within is named =
     told_by hash bytes place reading [] (Err (lines.Short p)) (ap (line_at request_bound place) (append-nil (drop place bytes)) ∙ is)

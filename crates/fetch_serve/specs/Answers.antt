@@ -3,10 +3,10 @@ use Rattle.std.specs.Prelude.{ℕ, List, Bool, true, false, ◌||◌, ◌&&◌, 
 use Rattle.fetch_wire.specs.Greetings.{handshake_of}
 use Rattle.fetch_wire.specs.FetchReplies.{no_reply}
 use Rattle.fetch_wire.specs.ServerLines.{in_round, with_change}
-use Rattle.fetch_wire.specs.declared.replies.awaited.Await.{Await}
-use Rattle.fetch_wire.specs.declared.replies.awaited.Await.TheVariants as await
-use Rattle.fetch_wire.specs.declared.replies.awaited.Told.{Told}
-use Rattle.fetch_wire.specs.declared.replies.awaited.Told.TheVariants as told
+use Rattle.fetch_wire.specs.declared.replies.reply.ReplyKind.{ReplyKind}
+use Rattle.fetch_wire.specs.declared.replies.reply.ReplyKind.TheVariants as await
+use Rattle.fetch_wire.specs.declared.replies.reply.ParsedReply.{ParsedReply}
+use Rattle.fetch_wire.specs.declared.replies.reply.ParsedReply.TheVariants as told
 use Rattle.fetch_wire.specs.declared.requests.records.FetchReply.{FetchReply}
 use Rattle.fetch_serve.specs.declared.asked.Asked.{Asked}
 use Rattle.fetch_serve.specs.declared.asked.Asked.TheVariants.{First, Listing, Fetch}
@@ -28,7 +28,7 @@ fails d (Listing unborn prefixes) = false
 fails d (Fetch r) = is_refused d r
 
 -- the reply that a request awaits
-abbrev pub awaits : Data → Asked → Await
+abbrev pub awaits : Data → Asked → ReplyKind
 awaits d First = await.Greeting
 awaits d (Listing unborn prefixes) = await.Listing d.hash
 awaits d (Fetch r) = await.Reply (record { kind = d.hash; haves = r.haves; done = r.done; read_pack = true })
@@ -43,7 +43,7 @@ fetched d r =
     if r.done then with_change (change_in d r r.depth) (record no_reply { pack = Some (pack_bytes d r) }) else in_round (known_haves d r)
 
 -- what a reply tells
-abbrev pub told_of : Data → Asked → Told
+abbrev pub told_of : Data → Asked → ParsedReply
 told_of d First = told.Greeting (handshake_of (capabilities_of d.hash))
 told_of d (Listing unborn prefixes) = told.Listing (offered_of d unborn prefixes)
 told_of d (Fetch r) = told.Reply (fetched d r)

@@ -1,10 +1,10 @@
 -- Requests, read while their bytes come in pieces.
 use Rattle.std.specs.Prelude.{◌≡◌, ℕ, ◌≤◌, Bool, true, false, List, [], ◌++◌, length, take, drop, Option, Some, None, Result, Ok, Err, ⊤}
 use Rattle.fetch_store.specs.declared.id.Kind.{Kind}
-use Rattle.fetch_wire.specs.declared.replies.awaited.Fault.{Fault}
-use Rattle.fetch_wire.specs.declared.replies.awaited.Fault.TheVariants.{Short, Broken, TooLong}
-use Rattle.fetch_wire.specs.declared.lines.section.Trouble.{Trouble}
-use Rattle.fetch_wire.specs.declared.lines.section.Trouble.TheVariants as lines
+use Rattle.fetch_wire.specs.declared.replies.reply.ReplyError.{ReplyError}
+use Rattle.fetch_wire.specs.declared.replies.reply.ReplyError.TheVariants.{Short, Broken, TooLong}
+use Rattle.fetch_wire.specs.declared.lines.section.LineError.{LineError}
+use Rattle.fetch_wire.specs.declared.lines.section.LineError.TheVariants as lines
 use Rattle.fetch_wire.specs.Stepping.{read_by}
 use Rattle.fetch_serve.specs.declared.asked.Asked.{Asked}
 use Rattle.fetch_serve.specs.declared.error.ServeError.{ServeError}
@@ -30,13 +30,13 @@ is_memory refusals.TooLong = false
 is_memory refusals.NoMemory = true
 
 -- why a line can't be read, whatever comes next
-abbrev pub refusal_of : Trouble → Option Refusal
+abbrev pub refusal_of : LineError → Option Refusal
 refusal_of (lines.Short place) = None
 refusal_of (lines.Broken place) = Some (refusals.Malformed place)
 refusal_of lines.TooLong = Some refusals.TooLong
 
 -- what the bytes of a request tell from a place on, after what was read before it, where these come behind them
-abbrev pub told_of : Kind → List ℕ → ℕ → Reading → List ℕ → Result (Asked × List ℕ) Fault
+abbrev pub told_of : Kind → List ℕ → ℕ → Reading → List ℕ → Result (Asked × List ℕ) ReplyError
 told_of hash bytes place reading more = read_by (asked_step hash) request_bound reading place (drop place bytes ++ more)
 
 -- The lines that are there were read up to a later place: nothing is whole yet, and whatever comes next is told as before.
@@ -57,7 +57,7 @@ GoesTo hash bytes place reading (On next, later) = IsShortBehind hash bytes plac
 GoesTo hash bytes place reading (Whole asked, later) = IsWholeBehind hash bytes place reading later asked
 
 -- why a reading is refused, whatever comes next
-abbrev pub StopsAt : Result (Asked × List ℕ) Fault → Refusal → Type 0
+abbrev pub StopsAt : Result (Asked × List ℕ) ReplyError → Refusal → Type 0
 StopsAt found (refusals.Malformed place) = found ≡ Err (Broken place)
 StopsAt found refusals.TooLong = found ≡ Err TooLong
 StopsAt found refusals.NoMemory = ⊤

@@ -1,8 +1,8 @@
 -- The requests of a text, one after another.
 use Rattle.std.specs.Prelude.{◌≡◌, ℕ, zero, suc, Bool, true, List, [], ◌∷◌, ◌++◌, length, Option, Some, None, Result, Ok, Err}
 use Rattle.fetch_store.specs.declared.id.Kind.{Kind}
-use Rattle.fetch_wire.specs.declared.replies.awaited.Fault.{Fault}
-use Rattle.fetch_wire.specs.declared.replies.awaited.Fault.TheVariants.{Short, Broken, TooLong, Said}
+use Rattle.fetch_wire.specs.declared.replies.reply.ReplyError.{ReplyError}
+use Rattle.fetch_wire.specs.declared.replies.reply.ReplyError.TheVariants.{Short, Broken, TooLong, Said}
 use Rattle.fetch_wire.specs.Stepping.{read_by}
 use Rattle.fetch_serve.specs.declared.asked.Asked.{Asked}
 use Rattle.fetch_serve.specs.declared.error.ServeError.{ServeError}
@@ -14,7 +14,7 @@ abbrev pub request_bound : ℕ
 request_bound = 268435456
 
 -- what a text gives as one request, which begins with the text, and what follows it
-abbrev pub request_at : Kind → Bool → List ℕ → Result (Asked × List ℕ) Fault
+abbrev pub request_at : Kind → Bool → List ℕ → Result (Asked × List ℕ) ReplyError
 request_at hash begun text = read_by (asked_step hash) request_bound (start_of begun) 0 text
 
 -- The whole requests of a text, whether the first line of the conversation was read by then, what stands behind them, and
@@ -38,7 +38,7 @@ abbrev pub joined : List Asked → AskedIn → AskedIn
 joined whole others = record others { whole = whole ++ others.whole }
 
 -- a request and those behind it, or nothing more
-abbrev pub and_others : Bool → List ℕ → (List ℕ → AskedIn) → Result (Asked × List ℕ) Fault → AskedIn
+abbrev pub and_others : Bool → List ℕ → (List ℕ → AskedIn) → Result (Asked × List ℕ) ReplyError → AskedIn
 and_others begun text others (Ok x) = with_first x.0 (others x.1)
 and_others begun text others (Err (Short place)) = ends_at begun text None
 and_others begun text others (Err (Broken place)) = ends_at begun text (Some (errors.Malformed place))

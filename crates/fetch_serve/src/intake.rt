@@ -9,7 +9,7 @@ use crate::asked::Asked;
 use crate::error::ServeError;
 use crate::reading::{Read, Reading};
 use fetch_store::{Kind, NoMemory};
-use fetch_wire::{Trouble, line_in};
+use fetch_wire::{LineError, line_in};
 use std::alloc::Global;
 use std::marker::Model;
 
@@ -59,13 +59,13 @@ impl From<NoMemory> for Refusal {
 }
 
 /// Why a line can't be read, whatever comes next; nothing where more bytes may make one.
-fn refusal_of(trouble: Trouble) -> Option<Refusal>
+fn refusal_of(trouble: LineError) -> Option<Refusal>
     ensures { result ≡ refusal_of trouble }
 {
     match trouble {
-        Trouble::Short { .. } => None,
-        Trouble::Broken { place } => Some(Refusal::Malformed(place)),
-        Trouble::TooLong => Some(Refusal::TooLong),
+        LineError::Short { .. } => None,
+        LineError::Broken { place } => Some(Refusal::Malformed(place)),
+        LineError::TooLong => Some(Refusal::TooLong),
     }
 }
 

@@ -10,7 +10,7 @@ use Rattle.fetch_shared.specs.declared.view.View.{View}
 use Rattle.fetch_shared.specs.declared.view.Stage.TheVariants.{Resting}
 use Rattle.fetch_shared.specs.Journals.{Begins, entries_of, pass_of}
 use Rattle.fetch_shared.specs.Numbers.{times_held, Holds}
-use Rattle.fetch_shared.specs.Turns.{own_at, own, turning, resting, settled, both_parts, AreJoined}
+use Rattle.fetch_shared.specs.LockRule.{own_at, own, turning, resting, settled, both_parts, AreJoined}
 use Rattle.fetch_shared.specs.Passes.{Holder, holder_of, IsBack}
 use Rattle.fetch_shared.proofs.Journals.{begins_trans, begins_more, entries_of-other, entries_of-append}
 use Rattle.fetch_shared.proofs.Held.{times_held-append}

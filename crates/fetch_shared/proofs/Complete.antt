@@ -4,18 +4,18 @@ use Rattle.std.proofs.lemmas.List.{append_cancel_left}
 use Rattle.fetch_update.specs.declared.update.Error.{Error as UpdateError}
 use Rattle.fetch_wire.specs.Talks.{Talks}
 use Rattle.fetch_wire.specs.Written.{lines_text}
-use Rattle.fetch_wire.specs.declared.replies.awaited.Fault.{Fault}
-use Rattle.fetch_wire.specs.declared.replies.awaited.Told.{Told as Reply}
+use Rattle.fetch_wire.specs.declared.replies.reply.ReplyError.{ReplyError}
+use Rattle.fetch_wire.specs.declared.replies.reply.ParsedReply.{ParsedReply as Reply}
 use Rattle.fetch_wire.specs.Awaited.{told_at}
 use Rattle.fetch_conversation.specs.Conversation.{Conversation, ends, asks, after_reply, ends_in, answer_in, awaits_more, IsUnheard, HasValidReplies}
 use Rattle.fetch_conversation.specs.Errors.{is_worktree_fault}
 use Rattle.fetch_conversation.specs.declared.fetch.Error.TheVariants as receive
 use Rattle.fetch_conversation.specs.declared.prepare.Error.TheVariants as prepare
 use Rattle.fetch_remote.specs.Errors as remote
-use Rattle.fetch_remote.specs.Fetching.{manner_in, requests_in}
+use Rattle.fetch_remote.specs.Fetching.{apply_options_in, requests_in}
 use Rattle.fetch_remote.specs.Valid.{AreJudgeable}
 use Rattle.fetch_remote.specs.Repositories.{State}
-use Rattle.fetch_remote.specs.Settling.{policy_in}
+use Rattle.fetch_remote.specs.Applying.{policy_in}
 use Rattle.fetch_remote.specs.Stages.{Told, bound_of, listing_stage, conversation}
 use Rattle.fetch_remote.specs.declared.fetching.fetch_error.FetchError.{FetchError}
 use Rattle.fetch_remote.specs.declared.fetching.fetch_error.FetchError.TheVariants as fetch
@@ -24,15 +24,15 @@ use Rattle.fetch_shared.specs.declared.error.SharedError.TheVariants as errors
 use Rattle.fetch_shared.specs.declared.receipt.Receipt.{Receipt}
 use Rattle.fetch_shared.specs.Fetching.{Call, course_in, matter_in, IsUnlisted, IsUnanswered, IsStopped, IsSharedRefused}
 use Rattle.fetch_shared.specs.Seen.{IsStateAt}
-use Rattle.fetch_shared.specs.Settling.{IsUnjudged}
-use Rattle.fetch_shared.specs.Talking.{Line}
+use Rattle.fetch_shared.specs.Applying.{IsUnjudged}
+use Rattle.fetch_shared.specs.Conversed.{Line}
 use Rattle.fetch_shared.specs.Valid.{HasListing, HasReplies, AreJudgeableAt, IsValidFrom, HasValidInput, is_free}
 use Rattle.fetch_shared.proofs.Journals.{begins_trans}
 use Rattle.fetch_shared.proofs.Replied.{listing_free, receiving_free, unjudged_free}
 
 -- ---- one conversation
 
-awaited_after : {X E : Type 0} (bound : ℕ) (failed : Fault → E) (next : Reply → Conversation X E) (reading : Result (Reply × List ℕ) Fault) (x : X × List ℕ) → ((t : Reply) (rest : List ℕ) → awaits_more bound (next t) rest ≡ true → answer_in bound (next t) rest ≡ Ok x → ⊥)
+awaited_after : {X E : Type 0} (bound : ℕ) (failed : ReplyError → E) (next : Reply → Conversation X E) (reading : Result (Reply × List ℕ) ReplyError) (x : X × List ℕ) → ((t : Reply) (rest : List ℕ) → awaits_more bound (next t) rest ≡ true → answer_in bound (next t) rest ≡ Ok x → ⊥)
     → ends_in (λ told rest. awaits_more bound (next told) rest) reading ≡ true → after_reply (λ fault. Err (failed fault)) (λ told rest. answer_in bound (next told) rest) reading ≡ Ok x → ⊥
 awaited_after bound failed next (Ok y) x again a is = again y.0 y.1 a is
 awaited_after bound failed next (Err fault) x again a is = absurd (cc (is))
@@ -117,9 +117,9 @@ module _ (line : Line) (c : Call) (receipt : Receipt) (v : HasValidInput line c 
     answered : answer_in (bound_of c.given) (conversation c.given planned) stream ≡ Ok (h.told, h.conversed.ended.rest ++ v.after.to_come)
     answered = ap (λ (l : List ℕ). answer_in (bound_of c.given) (conversation c.given planned) (l ++ v.after.to_come)) (sym (said_same (lines_text (requests_in c.given planned h.conversed.said)) h.conversed.said h.conversed.heard.passed)) ∙ h.conversed.ended.answered v.after.to_come
 
-    judgeable : (r : HasReplies c h.judged planned stream) → AreJudgeable (policy_in over (manner_in c.given) u.by.trees) h.told.listed.ref_map
+    judgeable : (r : HasReplies c h.judged planned stream) → AreJudgeable (policy_in over (apply_options_in c.given) u.by.trees) h.told.listed.ref_map
     judgeable r =
-        let p = policy_in over (manner_in c.given) u.by.trees in
+        let p = policy_in over (apply_options_in c.given) u.by.trees in
         let mappings : AreJudgeableAt c (Some u.count) r.told.listed.ref_map = subst (λ (o : Option ℕ). AreJudgeableAt c o r.told.listed.ref_map) u.judged_is r.mappings in
         let same : h.told ≡ r.told = one_answer (answer_in (bound_of c.given) (conversation c.given planned) stream) h.told r.told (h.conversed.ended.rest ++ v.after.to_come) r.behind answered r.replies in
         subst (λ (t : Told). AreJudgeable p t.listed.ref_map) (sym same) (mappings u.taken.seen u.by.trees judged_at u.by.listed_trees)
@@ -129,7 +129,7 @@ module _ (line : Line) (c : Call) (receipt : Receipt) (v : HasValidInput line c 
     judging (inl r) = unjudged_free (matter_in c.given planned h.told) (course_in c h.conversed.seen.journal) h.judged h.place cause u (judgeable r)
 
   unjudged : (cause : UpdateError) → IsStopped line c receipt (errors.Fetch (fetch.Receive (receive.UpdateRefs cause))) → is_worktree_fault cause ≡ true
-  unjudged cause h = judging cause h h.unsettled ((subst ValidBy h.receipt_is v.valid) h.conversed.seen h.conversed.at)
+  unjudged cause h = judging cause h h.unapplied ((subst ValidBy h.receipt_is v.valid) h.conversed.seen h.conversed.at)
 
   complete_at : (e : SharedError) → IsSharedRefused line c receipt e → is_free e ≡ true
   complete_at (errors.NotClosed link) h = absurd h

@@ -18,7 +18,7 @@ use Rattle.fetch_shared.specs.Fronts.{IsAlike, IsStateOf}
 use Rattle.fetch_shared.specs.Journals.{Begins}
 use Rattle.fetch_shared.specs.Machine.{held}
 use Rattle.fetch_shared.specs.Replays.{Outline, outline}
-use Rattle.fetch_shared.specs.Talking.{Line}
+use Rattle.fetch_shared.specs.Conversed.{Line}
 use Rattle.fetch_shared.proofs.Connecting.{connects_later}
 use Rattle.fetch_shared.proofs.Fronts.{fronts_grow}
 use Rattle.fetch_shared.proofs.Refusals.{disconnected}
@@ -41,16 +41,16 @@ module _ (line : Line) (c : Call) (receipt : Receipt) (link : Missing) (h : IsSt
   goes_on = h.conversed.at.begins
 
   at_front : IsStateOf opening c.after.front (found_in h)
-  at_front = subst (λ (x : RepositoryValue × List Entry). IsStateOf x.0 x.1 (found_in h)) (λ i. (h.unsettled.refused.opened i, h.unsettled.refused.journal i)) h.unsettled.refused.kept.state
+  at_front = subst (λ (x : RepositoryValue × List Entry). IsStateOf x.0 x.1 (found_in h)) (λ i. (h.unapplied.refused.opened i, h.unapplied.refused.journal i)) h.unapplied.refused.kept.state
 
   grown : IsAlike (planned_in h).state.objects (found_in h).state.objects → Grows (planned_in h).state.objects (found_in h).state.objects
   grown alike = fronts_grow opening planned goes_on.rest (planned_in h) (found_in h) at_plan (subst (λ (es : List Entry). IsStateOf opening es (found_in h)) (sym goes_on.is) at_front) alike
 
   pub not_honest : (haves : List ObjectId) → IsAlike (planned_in h).state.objects (found_in h).state.objects → IsHonest (request_in haves h) (refused_pack h) → ⊥
   not_honest haves alike honest =
-      let gap = disconnected (held (found_in h)) (request_in haves h).wants (refused_pack h) link h.unsettled.refused.cause in
-      let fit : AreOf (planned_in h).state.hash (refused_pack h).objects = subst (λ (k : Kind). AreOf k (refused_pack h).objects) (sym same_hash) h.unsettled.came.of_kind in
+      let gap = disconnected (held (found_in h)) (request_in haves h).wants (refused_pack h) link h.unapplied.refused.cause in
+      let fit : AreOf (planned_in h).state.hash (refused_pack h).objects = subst (λ (k : Kind). AreOf k (refused_pack h).objects) (sym same_hash) h.unapplied.came.of_kind in
       let whole : missing (held (found_in h)) (request_in haves h).wants (refused_pack h) ≡ [] =
-      connects_later (planned_in h).state.hash (request_in haves h) (found_in h) (refused_pack h) h.conversed.at.kept.sound.of_hash h.conversed.at.kept.sound.closed h.unsettled.refused.kept.sound.closed (grown alike) fit gap.0 honest in
+      connects_later (planned_in h).state.hash (request_in haves h) (found_in h) (refused_pack h) h.conversed.at.kept.sound.of_hash h.conversed.at.kept.sound.closed h.unapplied.refused.kept.sound.closed (grown alike) fit gap.0 honest in
       let no : None ≡ Some link = sym (subst (λ (l : List Missing). slice_get l 0 ≡ None) (sym whole) refl) ∙ gap.1 in
       absurd cc

@@ -16,13 +16,13 @@ use Rattle.fetch_conversation.specs.declared.prepare.Error.{Error as PrepareErro
 use Rattle.fetch_conversation.specs.declared.prepare.Error.TheVariants as prepare
 use Rattle.fetch_remote.specs.Errors.{preparing, receiving}
 use Rattle.fetch_remote.specs.Fetched.{HasRead}
-use Rattle.fetch_remote.specs.Fetching.{manner_in, requests_in}
+use Rattle.fetch_remote.specs.Fetching.{apply_options_in, requests_in}
 use Rattle.fetch_remote.specs.Form.{Given}
 use Rattle.fetch_remote.specs.Keeping.{AreFiles, left_tree}
 use Rattle.fetch_remote.specs.Repositories.{State}
-use Rattle.fetch_remote.specs.Settling.{brought, policy_in, outcome_in}
+use Rattle.fetch_remote.specs.Applying.{to_take, policy_in, outcome_in}
 use Rattle.fetch_remote.specs.Stages.{Told, bound_of, terms_in, listing_stage, conversation}
-use Rattle.fetch_remote.specs.Talking.{BreaksListing, BreaksReceiving}
+use Rattle.fetch_remote.specs.Conversed.{BreaksListing, BreaksReceiving}
 use Rattle.fetch_remote.specs.declared.fetching.fetch_error.FetchError.{FetchError}
 use Rattle.fetch_remote.specs.declared.fetching.fetch_error.FetchError.TheVariants as fetch
 use Rattle.fetch_remote.specs.declared.fetching.outcome.Outcome.{Outcome}
@@ -31,21 +31,21 @@ use Rattle.fetch_remote.proofs.Fetched.{has_heard, has_read, in_form}
 use Rattle.fetch_remote.proofs.Keeping.{keep_is}
 use Rattle.fetch_remote.proofs.Negotiated.{are_held}
 use Rattle.fetch_remote.proofs.Received.{is_received}
-use Rattle.fetch_remote.proofs.Settled.{judged_is}
+use Rattle.fetch_remote.proofs.Applied.{judged_is}
 use Rattle.fetch_remote.proofs.Spoken.{said_in, told_spoken, needed_listing, needed_receiving}
 use Rattle.fetch_remote.proofs.Unjudged.{IsOther, receives_no_other}
 use Rattle.fetch_shared.specs.declared.error.SharedError.{SharedError}
 use Rattle.fetch_shared.specs.declared.error.SharedError.TheVariants as errors
 use Rattle.fetch_shared.specs.declared.receipt.Receipt.{Receipt}
-use Rattle.fetch_shared.specs.declared.talking.Talked.{Talked}
+use Rattle.fetch_shared.specs.declared.exchange.Exchange.{Exchange}
 use Rattle.fetch_shared.specs.Errors.{fetching, keep_fault, tree_fault}
 use Rattle.fetch_shared.specs.Fetching.{Call, own, course_in, matter_in, receipt_of, HasConversed, IsTold, IsSharedFetch, IsStopped, HasSpoken, IsSharedRefused}
 use Rattle.fetch_shared.specs.Journals.{entries_of}
 use Rattle.fetch_shared.specs.Passes.{Holder, IsBack}
 use Rattle.fetch_shared.specs.Seen.{IsStateAt}
-use Rattle.fetch_shared.specs.Settling.{Matter, Course, course_of, IsSettled, IsUnsettled}
+use Rattle.fetch_shared.specs.Applying.{Matter, Course, course_of, IsApplied, IsUnapplied}
 use Rattle.fetch_shared.specs.Shared.{SharedValue}
-use Rattle.fetch_shared.specs.Talking.{Line, HasTalked, HasBroken}
+use Rattle.fetch_shared.specs.Conversed.{Line, HasConversedOver, HasBroken}
 use Rattle.fetch_shared.proofs.Holds.{received_none, stored_on, holds_mapped}
 use Rattle.fetch_shared.proofs.Saw.{state_later}
 use Rattle.fetch_shared.proofs.Owned.{keep_unless, trees_unless}
@@ -167,7 +167,7 @@ ran_out line c silent still same spoke = inl (record {
 
 -- ---- behind the conversation
 
-module _ (line : Line) (c : Call) (mid : Holder) (count : ℕ) (t : Talked) (h : HasTalked line c.given c.before mid count t)
+module _ (line : Line) (c : Call) (mid : Holder) (count : ℕ) (t : Exchange) (h : HasConversedOver line c.given c.before mid count t)
     (back : IsBack c.before mid) (none : entries_of c.before.number mid.front ≡ own c) (later : IsBack mid c.after) where
   abbrev told : Told
   told = record { listed = shown t.listed; received = t.received }
@@ -197,37 +197,37 @@ module _ (line : Line) (c : Call) (mid : Holder) (count : ℕ) (t : Talked) (h :
     left = c.left;
   }
 
-  matters : (m : Matter) → m.setup ≡ c.given.setup → m.how ≡ manner_in c.given → m.wants ≡ t.wants → m.told ≡ told → m ≡ matter_in c.given state told
-  matters m setup how wants is = λ i. record { setup = setup i; how = how i; wants = (wants ∙ h.wants) i; told = is i }
+  matters : (m : Matter) → m.setup ≡ c.given.setup → m.options ≡ apply_options_in c.given → m.wants ≡ t.wants → m.told ≡ told → m ≡ matter_in c.given state told
+  matters m setup options wants is = λ i. record { setup = setup i; options = options i; wants = (wants ∙ h.wants) i; told = is i }
 
   as_refused : (receipt : Receipt) (e : SharedError) → IsStopped line c receipt e → IsSharedRefused line c receipt e
-  as_refused receipt (errors.NotClosed link) s = absurd s.unsettled
+  as_refused receipt (errors.NotClosed link) s = absurd s.unapplied
   as_refused receipt (errors.Disconnected link) s = s
   as_refused receipt (errors.Collision id) s = s
   as_refused receipt (errors.EditReferences name found) s = s
-  as_refused receipt (errors.Delete cause) s = absurd s.unsettled
+  as_refused receipt (errors.Delete cause) s = absurd s.unapplied
   as_refused receipt errors.NoMemory s = inr s
-  as_refused receipt (errors.Fetch (fetch.Prepare cause)) s = absurd s.unsettled
-  as_refused receipt (errors.Fetch fetch.NoMemory) s = absurd s.unsettled
+  as_refused receipt (errors.Fetch (fetch.Prepare cause)) s = absurd s.unapplied
+  as_refused receipt (errors.Fetch fetch.NoMemory) s = absurd s.unapplied
   as_refused receipt (errors.Fetch (fetch.Receive (receive.KeepFile path))) s = s
   as_refused receipt (errors.Fetch (fetch.Receive (receive.UpdateRefs cause))) s = s
   as_refused receipt (errors.Fetch (fetch.Receive (receive.RemovePackKeepFile path))) s = s
-  as_refused receipt (errors.Fetch (fetch.Receive (receive.NoMapping specs n))) s = absurd s.unsettled
-  as_refused receipt (errors.Fetch (fetch.Receive (receive.IncompatibleObjectHash local remote))) s = absurd s.unsettled
-  as_refused receipt (errors.Fetch (fetch.Receive (receive.Disconnected link))) s = absurd s.unsettled
-  as_refused receipt (errors.Fetch (fetch.Receive (receive.RejectShallowRemoteConfig value))) s = absurd s.unsettled
-  as_refused receipt (errors.Fetch (fetch.Receive (receive.NegotiationAlgorithmConfig value))) s = absurd s.unsettled
-  as_refused receipt (errors.Fetch (fetch.Receive (receive.PackThreads value))) s = absurd s.unsettled
-  as_refused receipt (errors.Fetch (fetch.Receive (receive.Fetch e))) s = absurd s.unsettled
-  as_refused receipt (errors.Fetch (fetch.Receive receive.Client)) s = absurd s.unsettled
-  as_refused receipt (errors.Fetch (fetch.Receive receive.Interrupted)) s = absurd s.unsettled
-  as_refused receipt (errors.Fetch (fetch.Receive (receive.RejectShallowRemote id))) s = absurd s.unsettled
-  as_refused receipt (errors.Fetch (fetch.Receive (receive.Pack e))) s = absurd s.unsettled
-  as_refused receipt (errors.Fetch (fetch.Receive (receive.Collision id))) s = absurd s.unsettled
-  as_refused receipt (errors.Fetch (fetch.Receive receive.NoMemory)) s = absurd s.unsettled
+  as_refused receipt (errors.Fetch (fetch.Receive (receive.NoMapping specs n))) s = absurd s.unapplied
+  as_refused receipt (errors.Fetch (fetch.Receive (receive.IncompatibleObjectHash local remote))) s = absurd s.unapplied
+  as_refused receipt (errors.Fetch (fetch.Receive (receive.Disconnected link))) s = absurd s.unapplied
+  as_refused receipt (errors.Fetch (fetch.Receive (receive.RejectShallowRemoteConfig value))) s = absurd s.unapplied
+  as_refused receipt (errors.Fetch (fetch.Receive (receive.NegotiationAlgorithmConfig value))) s = absurd s.unapplied
+  as_refused receipt (errors.Fetch (fetch.Receive (receive.PackThreads value))) s = absurd s.unapplied
+  as_refused receipt (errors.Fetch (fetch.Receive (receive.Fetch e))) s = absurd s.unapplied
+  as_refused receipt (errors.Fetch (fetch.Receive receive.Client)) s = absurd s.unapplied
+  as_refused receipt (errors.Fetch (fetch.Receive receive.Interrupted)) s = absurd s.unapplied
+  as_refused receipt (errors.Fetch (fetch.Receive (receive.RejectShallowRemote id))) s = absurd s.unapplied
+  as_refused receipt (errors.Fetch (fetch.Receive (receive.Pack e))) s = absurd s.unapplied
+  as_refused receipt (errors.Fetch (fetch.Receive (receive.Collision id))) s = absurd s.unapplied
+  as_refused receipt (errors.Fetch (fetch.Receive receive.NoMemory)) s = absurd s.unapplied
 
-  module _ (m : Matter) (setup : m.setup ≡ c.given.setup) (how : m.how ≡ manner_in c.given) (wants : m.wants ≡ t.wants) (is : m.told ≡ told) where
-    pub stopped : (judged place : Option ℕ) (e : SharedError) → IsUnsettled m (course_of mid c.after c.known c.files c.left) judged place e → IsSharedRefused line c (receipt_of c.before (Some count) judged place) e
+  module _ (m : Matter) (setup : m.setup ≡ c.given.setup) (options : m.options ≡ apply_options_in c.given) (wants : m.wants ≡ t.wants) (is : m.told ≡ told) where
+    pub stopped : (judged place : Option ℕ) (e : SharedError) → IsUnapplied m (course_of mid c.after c.known c.files c.left) judged place e → IsSharedRefused line c (receipt_of c.before (Some count) judged place) e
     unfolding conversed
     stopped judged place e u = as_refused (receipt_of c.before (Some count) judged place) e (record {
       count = count;
@@ -236,25 +236,25 @@ module _ (line : Line) (c : Call) (mid : Holder) (count : ℕ) (t : Talked) (h :
       judged = judged;
       place = place;
       receipt_is = refl;
-      unsettled = subst (λ (x : Matter × Course). IsUnsettled x.0 x.1 judged place e) (λ i. (matters m setup how wants is i, courses i)) u;
+      unapplied = subst (λ (x : Matter × Course). IsUnapplied x.0 x.1 judged place e) (λ i. (matters m setup options wants is i, courses i)) u;
     })
 
-    settled : (judged : ℕ) (place : Option ℕ) (outcome : Outcome) → IsSettled m (course_of mid c.after c.known c.files c.left) judged place outcome → IsSettled (matter_in c.given state told) (course_in c h.seen.journal) judged place outcome
-    settled judged place outcome s = subst (λ (x : Matter × Course). IsSettled x.0 x.1 judged place outcome) (λ i. (matters m setup how wants is i, courses i)) s
+    applied : (judged : ℕ) (place : Option ℕ) (outcome : Outcome) → IsApplied m (course_of mid c.after c.known c.files c.left) judged place outcome → IsApplied (matter_in c.given state told) (course_in c h.seen.journal) judged place outcome
+    applied judged place outcome s = subst (λ (x : Matter × Course). IsApplied x.0 x.1 judged place outcome) (λ i. (matters m setup options wants is i, courses i)) s
 
-  tells : (judged : ℕ) (place : Option ℕ) (outcome : Outcome) → (s : IsSettled (matter_in c.given state told) (course_in c h.seen.journal) judged place outcome)
+  tells : (judged : ℕ) (place : Option ℕ) (outcome : Outcome) → (s : IsApplied (matter_in c.given state told) (course_in c h.seen.journal) judged place outcome)
       → IsTold line c state s.by.taken.seen.repository.state s.by.trees (said_in line.answers line.old line.new c.given state (shown t.listed) t.received (pending_of t.listed) h.told) outcome
   unfolding has_read
   tells judged place outcome s =
       let g = c.given in
       let l = shown t.listed in
       let over = s.by.taken.seen.repository.state in
-      let p = policy_in over (manner_in g) s.by.trees in
+      let p = policy_in over (apply_options_in g) s.by.trees in
       let u = s.updates in
       let ok : outcome_of p l.ref_map.refspecs l.ref_map.extra_refspecs l.ref_map.mappings ≡ Ok u = judged_is p l.ref_map u s.by.verdicts in
       let said = said_in line.answers line.old line.new g state l t.received (pending_of t.listed) h.told in
-      let read : HasRead g state said (outcome_in g.setup.settings.git_dir (manner_in g) l t.received u) = has_read line.answers line.old line.new g state l t.received (pending_of t.listed) u h.told in
-      let kept : AreFiles c.files c.left (left_tree g.setup.settings.git_dir (outcome_in g.setup.settings.git_dir (manner_in g) l t.received u).status) =
+      let read : HasRead g state said (outcome_in g.setup.settings.git_dir (apply_options_in g) l t.received u) = has_read line.answers line.old line.new g state l t.received (pending_of t.listed) u h.told in
+      let kept : AreFiles c.files c.left (left_tree g.setup.settings.git_dir (outcome_in g.setup.settings.git_dir (apply_options_in g) l t.received u).status) =
       subst (λ (o : Outcome). AreFiles c.files c.left (left_tree g.setup.settings.git_dir o.status)) s.outcome_is s.kept in
       subst (λ (o : Outcome). IsTold line c state over s.by.trees said o) (sym s.outcome_is) (record {
         read = read;
@@ -271,14 +271,14 @@ module _ (line : Line) (c : Call) (mid : Holder) (count : ℕ) (t : Talked) (h :
         written = record { carried = edits_carry_out _ _ _ _ _ ok; says = edits_say _ _ _ _ _ ok; turns = tells_type_changes _ _ _ _ _ ok };
         kept = record { keep = keep_is g.setup.settings.git_dir g.options.dry_run t.received u; tree = kept };
         held = λ wet.
-            holds_mapped c.before.shared.opening h.seen.journal c.after.front c.before.number g h.seen s.by.taken.seen l.ref_map (brought g.options.dry_run t.received)
+            holds_mapped c.before.shared.opening h.seen.journal c.after.front c.before.number g h.seen s.by.taken.seen l.ref_map (to_take g.options.dry_run t.received)
             (λ id. stored_on c.before.shared.opening h.seen s.by.taken.seen id h.at.opened s.by.taken.at.opened h.at.kept s.by.taken.at.kept s.by.taken.at.goes_on)
             s.by.taken.allowed (λ e. (is_received (bound_of g) (graph_of state.objects) (terms_in g state l) _ t.received _ (read.replied [])).none (received_none g.options.dry_run t.received wet e));
       })
 
-  module _ (m : Matter) (setup : m.setup ≡ c.given.setup) (how : m.how ≡ manner_in c.given) (wants : m.wants ≡ t.wants) (is : m.told ≡ told) where
-    pub fetched : (judged : ℕ) (place : Option ℕ) (outcome : Outcome) → IsSettled m (course_of mid c.after c.known c.files c.left) judged place outcome → IsSharedFetch line c (receipt_of c.before (Some count) (Some judged) place) outcome
+  module _ (m : Matter) (setup : m.setup ≡ c.given.setup) (options : m.options ≡ apply_options_in c.given) (wants : m.wants ≡ t.wants) (is : m.told ≡ told) where
+    pub fetched : (judged : ℕ) (place : Option ℕ) (outcome : Outcome) → IsApplied m (course_of mid c.after c.known c.files c.left) judged place outcome → IsSharedFetch line c (receipt_of c.before (Some count) (Some judged) place) outcome
     unfolding conversed
     fetched judged place outcome s =
-        let k = settled m setup how wants is judged place outcome s in
-        record { count = count; told = told; conversed = conversed; judged = judged; place = place; settled = k; tells = tells judged place outcome k; receipt_is = refl }
+        let k = applied m setup options wants is judged place outcome s in
+        record { count = count; told = told; conversed = conversed; judged = judged; place = place; applied = k; tells = tells judged place outcome k; receipt_is = refl }

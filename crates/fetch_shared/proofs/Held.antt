@@ -8,7 +8,7 @@ use Rattle.fetch_shared.specs.declared.view.View.{View}
 use Rattle.fetch_shared.specs.declared.view.Stage.{Stage}
 use Rattle.fetch_shared.specs.declared.view.Stage.TheVariants.{Resting}
 use Rattle.fetch_shared.specs.Numbers.{span, times_in, times_held, Holds}
-use Rattle.fetch_shared.specs.Turns.{own_at, own, held_by, times_over}
+use Rattle.fetch_shared.specs.LockRule.{own_at, own, held_by, times_over}
 
 pub times_in-le : (n : ℕ) (r : Span) → times_in n r ≤ 1
 times_in-le n r = at (nat_le r.first n && nat_lt n r.end)

@@ -9,7 +9,7 @@ use Rattle.fetch_conversation.specs.declared.conversing.Received.{Received}
 use Rattle.fetch_remote.specs.Fetched.{HoldsMapped}
 use Rattle.fetch_remote.specs.Form.{Given}
 use Rattle.fetch_remote.specs.RepositoryValues.{RepositoryValue}
-use Rattle.fetch_remote.specs.Settling.{brought, pack_of}
+use Rattle.fetch_remote.specs.Applying.{to_take, pack_of}
 use Rattle.fetch_remote.specs.Stages.{wants_in}
 use Rattle.fetch_remote.proofs.Wanted.{stored_or_wanted}
 use Rattle.fetch_shared.specs.declared.entry.Entry.{Entry}
@@ -30,7 +30,7 @@ stored_on opening v w id same other kept later on is =
     (subst (λ (x : RepositoryValue × List Entry). IsStateOf x.0 x.1 w.repository) (λ i. (other i, sym on.is i)) later.state) is
 
 -- where nothing is to be taken but in a dry run, nothing was received
-pub received_none : (dry_run : Bool) (r : Option Received) → dry_run ≡ false → brought dry_run r ≡ None → r ≡ None
+pub received_none : (dry_run : Bool) (r : Option Received) → dry_run ≡ false → to_take dry_run r ≡ None → r ≡ None
 received_none true r wet is = absurd (cc)
 received_none false r wet is = is
 

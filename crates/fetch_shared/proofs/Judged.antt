@@ -5,8 +5,8 @@ use Rattle.fetch_conversation.specs.declared.fetch.Error.{Error}
 use Rattle.fetch_conversation.specs.declared.fetch.Error.TheVariants as receive
 use Rattle.fetch_remote.specs.Blame.{fault_in}
 use Rattle.fetch_remote.specs.Keeping.{IsUnmade}
-use Rattle.fetch_remote.specs.Settling as remote
-use Rattle.fetch_shared.specs.Settling.{IsOfJudging}
+use Rattle.fetch_remote.specs.Applying as remote
+use Rattle.fetch_shared.specs.Applying.{IsOfJudging}
 
 -- the keep file couldn't be made, or memory ran out
 pub unmade_only : (keep : Option (List ℕ)) (files left : Option Tree) (e : Error) → IsUnmade keep files left e → IsOfJudging e

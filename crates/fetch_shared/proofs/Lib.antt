@@ -19,10 +19,10 @@ pub mod Saw
 pub mod Named
 pub mod Told
 pub mod Spoken
-pub mod Brought
+pub mod PackTaken
 pub mod Judged
 pub mod Moved
-pub mod Settled
+pub mod Applied
 pub mod Owned
 pub mod Holds
 pub mod Sources

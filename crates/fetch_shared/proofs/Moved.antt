@@ -11,7 +11,7 @@ use Rattle.fetch_shared.specs.Journals.{entries_of}
 use Rattle.fetch_shared.specs.Machine.Event.{Commit}
 use Rattle.fetch_shared.specs.Passes.{Holder, IsBack, IsTurn}
 use Rattle.fetch_shared.specs.Seen.{IsRefusedAt}
-use Rattle.fetch_shared.specs.Settling.{Moves, IsUnmoved}
+use Rattle.fetch_shared.specs.Applying.{Moves, IsUnmoved}
 use Rattle.fetch_shared.proofs.Journals.{begins_length}
 use Rattle.fetch_shared.proofs.Saw.{refuses}
 

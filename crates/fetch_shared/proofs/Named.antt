@@ -17,7 +17,7 @@ use Rattle.fetch_pack.proofs.Members.{once_named}
 use Rattle.fetch_conversation.specs.Conversation.{ends, answer_in}
 use Rattle.fetch_conversation.specs.ConverseStage.{converse_stage, fetching, lacking, no_mapping, other_hash, received, rejected, unfit, unpacked, wanting, with_pack, without_pack}
 use Rattle.fetch_conversation.specs.Errors.{fetch_of_pack}
-use Rattle.fetch_conversation.specs.Exchange.{TermsValue}
+use Rattle.fetch_conversation.specs.Exchange.{FetchArgumentsValue}
 use Rattle.fetch_conversation.specs.Rounds.{Negotiated}
 use Rattle.fetch_conversation.specs.declared.conversing.Received.{Received}
 use Rattle.fetch_conversation.specs.declared.fetch.Error.{Error as ReceiveError}
@@ -70,21 +70,21 @@ unpacked_named : (n : Negotiated) (r : Result Contents PackError) → IfOk r (λ
 unpacked_named n (Ok c) h = gives_ok ReceiveError IsNamed (Some (with_pack n c)) h
 unpacked_named n (Err e) h = gives_err IsNamed (fetch_of_pack e)
 
-received_named : (t : TermsValue) (n : Negotiated) → Gives {E = ReceiveError} IsNamed (ends (received t n))
+received_named : (t : FetchArgumentsValue) (n : Negotiated) → Gives {E = ReceiveError} IsNamed (ends (received t n))
 unfolding received
 received_named t n =
     unless_gives IsNamed (rejected t.settings t.view t.shallow n.reply) _
     (dry_or_gives IsNamed t.dry_run (Some (without_pack n)) _ tt
     (unpacked_named n (read t.listed.handshake.object_hash (unwrap_or n.reply.pack [])) (read_named t.listed.handshake.object_hash (unwrap_or n.reply.pack []))))
 
-wanting_named : (bound : ℕ) (g : Graph) (t : TermsValue) (wants : List ObjectId) → Gives IsNamed (wanting bound g t wants)
+wanting_named : (bound : ℕ) (g : Graph) (t : FetchArgumentsValue) (wants : List ObjectId) → Gives IsNamed (wanting bound g t wants)
 unfolding fetching
 wanting_named bound g t [] = gives_ok ReceiveError IsNamed None tt
 wanting_named bound g t (id ∷ ids) = gives_then IsNamed _ _ (λ n. received_named t n)
 
-converse_named : (bound : ℕ) (g : Graph) (t : TermsValue) → Gives IsNamed (converse_stage bound g t)
+converse_named : (bound : ℕ) (g : Graph) (t : FetchArgumentsValue) → Gives IsNamed (converse_stage bound g t)
 unfolding converse_stage
 converse_named bound g t = gives_unless IsNamed (option_or (no_mapping t) (option_or (other_hash t) (option_or (unfit t.settings) (lacking t)))) (wanting bound g t t.view.wants) (wanting_named bound g t t.view.wants)
 
-pub named_received : (bound : ℕ) (g : Graph) (t : TermsValue) (stream : List ℕ) (r : Option Received) (rest : List ℕ) → answer_in bound (converse_stage bound g t) stream ≡ Ok (r, rest) → IsNamed r
+pub named_received : (bound : ℕ) (g : Graph) (t : FetchArgumentsValue) (stream : List ℕ) (r : Option Received) (rest : List ℕ) → answer_in bound (converse_stage bound g t) stream ≡ Ok (r, rest) → IsNamed r
 named_received bound g t stream r rest is = gives_answer IsNamed bound (converse_stage bound g t) stream r rest (converse_named bound g t) is

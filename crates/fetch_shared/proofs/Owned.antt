@@ -12,29 +12,29 @@ use Rattle.fetch_conversation.specs.declared.fetch.Error.{Error as ReceiveError}
 use Rattle.fetch_conversation.specs.declared.fetch.Error.TheVariants as receive
 use Rattle.fetch_remote.specs.Blame.{told_by}
 use Rattle.fetch_remote.specs.Errors.{receiving}
-use Rattle.fetch_remote.specs.Settling.{brought, pack_of}
+use Rattle.fetch_remote.specs.Applying.{to_take, pack_of}
 use Rattle.fetch_remote.specs.declared.fetching.fetch_error.FetchError.{FetchError}
 use Rattle.fetch_remote.specs.declared.fetching.fetch_error.FetchError.TheVariants as fetch
 use Rattle.fetch_remote.proofs.Blamed.{tells_no_keep, tells_no_trees}
 use Rattle.fetch_shared.specs.declared.error.SharedError.{SharedError}
 use Rattle.fetch_shared.specs.declared.error.SharedError.TheVariants as errors
-use Rattle.fetch_shared.specs.Bringing.{IsUnbrought}
+use Rattle.fetch_shared.specs.PackTaken.{IsPackUntaken}
 use Rattle.fetch_shared.specs.Errors.{fetching, is_of_peer, is_yes, keep_fault, tree_fault, tree_fault_deleting}
 use Rattle.fetch_shared.specs.Machine.{held}
 use Rattle.fetch_shared.specs.Machine.Event.{Take, Commit}
 use Rattle.fetch_shared.specs.Passes.{Holder}
 use Rattle.fetch_shared.specs.Seen.{IsRefusedAt}
-use Rattle.fetch_shared.specs.Settling.{Matter, Course, IsUnsettled, IsUnmoved, IsOfJudging, is_early, unmade, unremoved}
-use Rattle.fetch_shared.proofs.Settled.{take_refused, commit_refused}
+use Rattle.fetch_shared.specs.Applying.{Matter, Course, IsUnapplied, IsUnmoved, IsOfJudging, is_early, unmade, unremoved}
+use Rattle.fetch_shared.proofs.Applied.{take_refused, commit_refused}
 
-pub unbrought_own : (before after : Holder) (dry_run : Bool) (wants : List ObjectId) (r : Option Received) (e : SharedError) (x : FetchError) → IsUnbrought before after dry_run wants r e → e ≡ errors.Fetch x → ⊥
+pub unbrought_own : (before after : Holder) (dry_run : Bool) (wants : List ObjectId) (r : Option Received) (e : SharedError) (x : FetchError) → IsPackUntaken before after dry_run wants r e → e ≡ errors.Fetch x → ⊥
 unbrought_own before after dry_run wants r e x h is = by h.why
   where
     hit_or_gap : ((id : ObjectId) × (e ≡ errors.Collision id)) ⊎ ((link : Missing) × (e ≡ errors.Disconnected link)) → ⊥
     hit_or_gap (inl (id, other)) = absurd (cc)
     hit_or_gap (inr (link, other)) = absurd (cc)
 
-    by : (e ≡ errors.NoMemory) ⊎ ((reply : Received) × (brought dry_run r ≡ Some reply) × IsRefusedAt before.shared.opening before.front after.front (Take before.number wants (pack_of reply)) e) → ⊥
+    by : (e ≡ errors.NoMemory) ⊎ ((reply : Received) × (to_take dry_run r ≡ Some reply) × IsRefusedAt before.shared.opening before.front after.front (Take before.number wants (pack_of reply)) e) → ⊥
     by (inl other) = absurd (cc)
     by (inr (reply, same, refused)) = hit_or_gap (take_refused (held refused.found.repository) wants (pack_of reply) e refused.cause)
 
@@ -86,31 +86,31 @@ judging_late cause e told h early = by cause h (subst (λ (x : SharedError). is_
 
 -- ---- behind the conversation
 
-pub unsettled_calm : (m : Matter) (c : Course) (judged place : Option ℕ) (e : SharedError) → IsUnsettled m c judged place e → (is_of_peer e ≡ false) × (is_yes e ≡ false)
-unsettled_calm m c judged place (errors.NotClosed link) h = (refl, refl)
-unsettled_calm m c judged place (errors.Disconnected link) h = (refl, refl)
-unsettled_calm m c judged place (errors.Collision id) h = (refl, refl)
-unsettled_calm m c judged place (errors.EditReferences name found) h = (refl, refl)
-unsettled_calm m c judged place (errors.Delete cause) h = (refl, refl)
-unsettled_calm m c judged place errors.NoMemory h = (refl, refl)
-unsettled_calm m c judged place (errors.Fetch fetch.NoMemory) h = (refl, refl)
-unsettled_calm m c judged place (errors.Fetch (fetch.Prepare cause)) h = absurd h
-unsettled_calm m c judged place (errors.Fetch (fetch.Receive (receive.NoMapping specs count))) h = (refl, refl)
-unsettled_calm m c judged place (errors.Fetch (fetch.Receive (receive.IncompatibleObjectHash local remote))) h = (refl, refl)
-unsettled_calm m c judged place (errors.Fetch (fetch.Receive (receive.Disconnected link))) h = (refl, refl)
-unsettled_calm m c judged place (errors.Fetch (fetch.Receive (receive.RejectShallowRemoteConfig value))) h = (refl, refl)
-unsettled_calm m c judged place (errors.Fetch (fetch.Receive (receive.NegotiationAlgorithmConfig value))) h = (refl, refl)
-unsettled_calm m c judged place (errors.Fetch (fetch.Receive (receive.PackThreads value))) h = (refl, refl)
-unsettled_calm m c judged place (errors.Fetch (fetch.Receive (receive.Fetch x))) h = (refl, refl)
-unsettled_calm m c judged place (errors.Fetch (fetch.Receive receive.Client)) h = absurd h
-unsettled_calm m c judged place (errors.Fetch (fetch.Receive receive.Interrupted)) h = absurd h
-unsettled_calm m c judged place (errors.Fetch (fetch.Receive (receive.RejectShallowRemote id))) h = (refl, refl)
-unsettled_calm m c judged place (errors.Fetch (fetch.Receive (receive.Pack x))) h = (refl, refl)
-unsettled_calm m c judged place (errors.Fetch (fetch.Receive (receive.Collision id))) h = (refl, refl)
-unsettled_calm m c judged place (errors.Fetch (fetch.Receive (receive.KeepFile path))) h = (refl, refl)
-unsettled_calm m c judged place (errors.Fetch (fetch.Receive (receive.UpdateRefs cause))) h = (refl, refl)
-unsettled_calm m c judged place (errors.Fetch (fetch.Receive (receive.RemovePackKeepFile path))) h = (refl, refl)
-unsettled_calm m c judged place (errors.Fetch (fetch.Receive receive.NoMemory)) h = (refl, refl)
+pub unapplied_calm : (m : Matter) (c : Course) (judged place : Option ℕ) (e : SharedError) → IsUnapplied m c judged place e → (is_of_peer e ≡ false) × (is_yes e ≡ false)
+unapplied_calm m c judged place (errors.NotClosed link) h = (refl, refl)
+unapplied_calm m c judged place (errors.Disconnected link) h = (refl, refl)
+unapplied_calm m c judged place (errors.Collision id) h = (refl, refl)
+unapplied_calm m c judged place (errors.EditReferences name found) h = (refl, refl)
+unapplied_calm m c judged place (errors.Delete cause) h = (refl, refl)
+unapplied_calm m c judged place errors.NoMemory h = (refl, refl)
+unapplied_calm m c judged place (errors.Fetch fetch.NoMemory) h = (refl, refl)
+unapplied_calm m c judged place (errors.Fetch (fetch.Prepare cause)) h = absurd h
+unapplied_calm m c judged place (errors.Fetch (fetch.Receive (receive.NoMapping specs count))) h = (refl, refl)
+unapplied_calm m c judged place (errors.Fetch (fetch.Receive (receive.IncompatibleObjectHash local remote))) h = (refl, refl)
+unapplied_calm m c judged place (errors.Fetch (fetch.Receive (receive.Disconnected link))) h = (refl, refl)
+unapplied_calm m c judged place (errors.Fetch (fetch.Receive (receive.RejectShallowRemoteConfig value))) h = (refl, refl)
+unapplied_calm m c judged place (errors.Fetch (fetch.Receive (receive.NegotiationAlgorithmConfig value))) h = (refl, refl)
+unapplied_calm m c judged place (errors.Fetch (fetch.Receive (receive.PackThreads value))) h = (refl, refl)
+unapplied_calm m c judged place (errors.Fetch (fetch.Receive (receive.Fetch x))) h = (refl, refl)
+unapplied_calm m c judged place (errors.Fetch (fetch.Receive receive.Client)) h = absurd h
+unapplied_calm m c judged place (errors.Fetch (fetch.Receive receive.Interrupted)) h = absurd h
+unapplied_calm m c judged place (errors.Fetch (fetch.Receive (receive.RejectShallowRemote id))) h = (refl, refl)
+unapplied_calm m c judged place (errors.Fetch (fetch.Receive (receive.Pack x))) h = (refl, refl)
+unapplied_calm m c judged place (errors.Fetch (fetch.Receive (receive.Collision id))) h = (refl, refl)
+unapplied_calm m c judged place (errors.Fetch (fetch.Receive (receive.KeepFile path))) h = (refl, refl)
+unapplied_calm m c judged place (errors.Fetch (fetch.Receive (receive.UpdateRefs cause))) h = (refl, refl)
+unapplied_calm m c judged place (errors.Fetch (fetch.Receive (receive.RemovePackKeepFile path))) h = (refl, refl)
+unapplied_calm m c judged place (errors.Fetch (fetch.Receive receive.NoMemory)) h = (refl, refl)
 
 -- ---- files and work trees
 

@@ -8,15 +8,15 @@ use Rattle.fetch_remote.specs.declared.fetching.outcome.Outcome.{Outcome}
 use Rattle.fetch_shared.specs.declared.entry.Entry.{Entry}
 use Rattle.fetch_shared.specs.declared.error.SharedError.{SharedError}
 use Rattle.fetch_shared.specs.declared.error.SharedError.TheVariants as errors
-use Rattle.fetch_shared.specs.declared.talking.Talked.{Talked}
+use Rattle.fetch_shared.specs.declared.exchange.Exchange.{Exchange}
 use Rattle.fetch_remote.specs.RepositoryValues.{RepositoryValue}
 use Rattle.fetch_shared.specs.Fetching.{receipt_of}
 use Rattle.fetch_shared.specs.Passes.{Holder, IsBack}
 use Rattle.fetch_shared.specs.Receipts.{IsReceipt}
 use Rattle.fetch_shared.specs.Seen.{IsStateAt}
-use Rattle.fetch_shared.specs.Settling.{Matter, Course, HasTaken, Commits, IsSettled, ForgotEarly, ForgotMaking, ForgotLate, IsUnsettled}
+use Rattle.fetch_shared.specs.Applying.{Matter, Course, HasTaken, Commits, IsApplied, ForgotEarly, ForgotMaking, ForgotLate, IsUnapplied}
 use Rattle.fetch_shared.specs.Shared.{SharedValue}
-use Rattle.fetch_shared.specs.Talking.{Line, HasTalked, HasBroken}
+use Rattle.fetch_shared.specs.Conversed.{Line, HasConversedOver, HasBroken}
 use Rattle.fetch_shared.proofs.Journals.{begins_length}
 
 -- so many entries lie between two fronts
@@ -54,42 +54,42 @@ committed_behind : (dry_run : Bool) (number judged : ℕ) (own front : List Entr
 committed_behind true number judged own front entry place h = subst (λ (o : Option ℕ). IfSome o (Behind front (Some judged))) (sym h.0) tt
 committed_behind false number judged own front entry place h = subst (λ (o : Option ℕ). IfSome o (Behind front (Some judged))) (sym h.place_is) (h.behind, h.within)
 
-settled_places : (m : Matter) (c : Course) (judged : ℕ) (place : Option ℕ) (outcome : Outcome) → IsSettled m c judged place outcome → Places c.planned c.front (Some judged) place
-settled_places m c judged place outcome s = record { judged = taken_between m c judged s.by.taken; place = committed_behind m.how.dry_run c.number judged _ c.front _ place s.commits }
+applied_places : (m : Matter) (c : Course) (judged : ℕ) (place : Option ℕ) (outcome : Outcome) → IsApplied m c judged place outcome → Places c.planned c.front (Some judged) place
+applied_places m c judged place outcome s = record { judged = taken_between m c judged s.by.taken; place = committed_behind m.options.dry_run c.number judged _ c.front _ place s.commits }
 
 forgotten_places : (m : Matter) (c : Course) (judged place : Option ℕ) → place ≡ None → ForgotEarly c judged ⊎ (ForgotMaking m c judged ⊎ ForgotLate m c judged) → Places c.planned c.front judged place
 forgotten_places m c judged place is (inl h) = none_at_all c.planned c.front judged place h.unjudged is
 forgotten_places m c judged place is (inr (inl h)) = none_at_all c.planned c.front judged place h.unjudged is
 forgotten_places m c judged place is (inr (inr h)) = none_placed c.planned c.front judged place (judged_between m c judged h.count h.judged_is h.taken) is
 
-unsettled_places : (m : Matter) (c : Course) (judged place : Option ℕ) (e : SharedError) → IsUnsettled m c judged place e → Places c.planned c.front judged place
-unsettled_places m c judged place (errors.Disconnected link) u = none_at_all c.planned c.front judged place u.unjudged u.unplaced
-unsettled_places m c judged place (errors.Collision id) u = none_at_all c.planned c.front judged place u.unjudged u.unplaced
-unsettled_places m c judged place (errors.EditReferences name found) u = none_placed c.planned c.front judged place (judged_between m c judged u.count u.judged_is u.by.taken) u.unplaced
-unsettled_places m c judged place errors.NoMemory u = forgotten_places m c judged place u.unplaced u.stands
-unsettled_places m c judged place (errors.Fetch (fetch.Receive (receive.KeepFile path))) u = none_at_all c.planned c.front judged place u.unjudged u.unplaced
-unsettled_places m c judged place (errors.Fetch (fetch.Receive (receive.UpdateRefs cause))) u = none_placed c.planned c.front judged place (judged_between m c judged u.count u.judged_is u.taken) u.unplaced
-unsettled_places m c judged place (errors.Fetch (fetch.Receive (receive.RemovePackKeepFile path))) u = record {
+unapplied_places : (m : Matter) (c : Course) (judged place : Option ℕ) (e : SharedError) → IsUnapplied m c judged place e → Places c.planned c.front judged place
+unapplied_places m c judged place (errors.Disconnected link) u = none_at_all c.planned c.front judged place u.unjudged u.unplaced
+unapplied_places m c judged place (errors.Collision id) u = none_at_all c.planned c.front judged place u.unjudged u.unplaced
+unapplied_places m c judged place (errors.EditReferences name found) u = none_placed c.planned c.front judged place (judged_between m c judged u.count u.judged_is u.by.taken) u.unplaced
+unapplied_places m c judged place errors.NoMemory u = forgotten_places m c judged place u.unplaced u.stands
+unapplied_places m c judged place (errors.Fetch (fetch.Receive (receive.KeepFile path))) u = none_at_all c.planned c.front judged place u.unjudged u.unplaced
+unapplied_places m c judged place (errors.Fetch (fetch.Receive (receive.UpdateRefs cause))) u = none_placed c.planned c.front judged place (judged_between m c judged u.count u.judged_is u.taken) u.unplaced
+unapplied_places m c judged place (errors.Fetch (fetch.Receive (receive.RemovePackKeepFile path))) u = record {
   judged = judged_between m c judged u.count u.judged_is u.by.taken;
-  place = subst (λ (o : Option ℕ). IfSome place (Behind c.front o)) (sym u.judged_is) (committed_behind m.how.dry_run c.number u.count _ c.front _ place u.commits);
+  place = subst (λ (o : Option ℕ). IfSome place (Behind c.front o)) (sym u.judged_is) (committed_behind m.options.dry_run c.number u.count _ c.front _ place u.commits);
 }
-unsettled_places m c judged place (errors.NotClosed link) u = absurd u
-unsettled_places m c judged place (errors.Delete cause) u = absurd u
-unsettled_places m c judged place (errors.Fetch (fetch.Prepare cause)) u = absurd u
-unsettled_places m c judged place (errors.Fetch fetch.NoMemory) u = absurd u
-unsettled_places m c judged place (errors.Fetch (fetch.Receive (receive.NoMapping specs n))) u = absurd u
-unsettled_places m c judged place (errors.Fetch (fetch.Receive (receive.IncompatibleObjectHash local remote))) u = absurd u
-unsettled_places m c judged place (errors.Fetch (fetch.Receive (receive.Disconnected link))) u = absurd u
-unsettled_places m c judged place (errors.Fetch (fetch.Receive (receive.RejectShallowRemoteConfig value))) u = absurd u
-unsettled_places m c judged place (errors.Fetch (fetch.Receive (receive.NegotiationAlgorithmConfig value))) u = absurd u
-unsettled_places m c judged place (errors.Fetch (fetch.Receive (receive.PackThreads value))) u = absurd u
-unsettled_places m c judged place (errors.Fetch (fetch.Receive (receive.Fetch e))) u = absurd u
-unsettled_places m c judged place (errors.Fetch (fetch.Receive receive.Client)) u = absurd u
-unsettled_places m c judged place (errors.Fetch (fetch.Receive receive.Interrupted)) u = absurd u
-unsettled_places m c judged place (errors.Fetch (fetch.Receive (receive.RejectShallowRemote id))) u = absurd u
-unsettled_places m c judged place (errors.Fetch (fetch.Receive (receive.Pack e))) u = absurd u
-unsettled_places m c judged place (errors.Fetch (fetch.Receive (receive.Collision id))) u = absurd u
-unsettled_places m c judged place (errors.Fetch (fetch.Receive receive.NoMemory)) u = absurd u
+unapplied_places m c judged place (errors.NotClosed link) u = absurd u
+unapplied_places m c judged place (errors.Delete cause) u = absurd u
+unapplied_places m c judged place (errors.Fetch (fetch.Prepare cause)) u = absurd u
+unapplied_places m c judged place (errors.Fetch fetch.NoMemory) u = absurd u
+unapplied_places m c judged place (errors.Fetch (fetch.Receive (receive.NoMapping specs n))) u = absurd u
+unapplied_places m c judged place (errors.Fetch (fetch.Receive (receive.IncompatibleObjectHash local remote))) u = absurd u
+unapplied_places m c judged place (errors.Fetch (fetch.Receive (receive.Disconnected link))) u = absurd u
+unapplied_places m c judged place (errors.Fetch (fetch.Receive (receive.RejectShallowRemoteConfig value))) u = absurd u
+unapplied_places m c judged place (errors.Fetch (fetch.Receive (receive.NegotiationAlgorithmConfig value))) u = absurd u
+unapplied_places m c judged place (errors.Fetch (fetch.Receive (receive.PackThreads value))) u = absurd u
+unapplied_places m c judged place (errors.Fetch (fetch.Receive (receive.Fetch e))) u = absurd u
+unapplied_places m c judged place (errors.Fetch (fetch.Receive receive.Client)) u = absurd u
+unapplied_places m c judged place (errors.Fetch (fetch.Receive receive.Interrupted)) u = absurd u
+unapplied_places m c judged place (errors.Fetch (fetch.Receive (receive.RejectShallowRemote id))) u = absurd u
+unapplied_places m c judged place (errors.Fetch (fetch.Receive (receive.Pack e))) u = absurd u
+unapplied_places m c judged place (errors.Fetch (fetch.Receive (receive.Collision id))) u = absurd u
+unapplied_places m c judged place (errors.Fetch (fetch.Receive receive.NoMemory)) u = absurd u
 
 -- ---- receipts
 
@@ -104,7 +104,7 @@ receipt_broken line g before after planned e (inl h) = subst (λ (o : Option ℕ
 receipt_broken line g before after planned e (inr (inl h)) = subst (λ (o : Option ℕ). IsReceipt before after (receipt_of before o None None)) (sym h.unplanned) (receipt_none before after)
 receipt_broken line g before after planned e (inr (inr h)) = subst (λ (o : Option ℕ). IsReceipt before after (receipt_of before o None None)) (sym h.planned_is) (receipt_planned before after h.count h.seen h.at)
 
-module _ (line : Line) (g : Given) (before mid after : Holder) (count : ℕ) (t : Talked) (h : HasTalked line g before mid count t) (later : IsBack mid after) where
+module _ (line : Line) (g : Given) (before mid after : Holder) (count : ℕ) (t : Exchange) (h : HasConversedOver line g before mid count t) (later : IsBack mid after) where
   receipt_with : (judged place : Option ℕ) → Places mid.front after.front judged place → IsReceipt before after (receipt_of before (Some count) judged place)
   receipt_with judged place p =
       let low = state_between before.shared.opening before.front mid.front count h.seen h.at in
@@ -116,8 +116,8 @@ module _ (line : Line) (g : Given) (before mid after : Holder) (count : ℕ) (t 
       by None k = tt
       by (Some n) k = let is : length mid.front ≡ count = ap length h.front ∙ h.at.count_is in (omega arith, k.1)
 
-  pub receipt_settled : (m : Matter) (c : Course) (judged : ℕ) (place : Option ℕ) (outcome : Outcome) → c.planned ≡ mid.front → c.front ≡ after.front → IsSettled m c judged place outcome → IsReceipt before after (receipt_of before (Some count) (Some judged) place)
-  receipt_settled m c judged place outcome first last s = receipt_with (Some judged) place (subst (λ (x : List Entry × List Entry). Places x.0 x.1 (Some judged) place) (λ i. (first i, last i)) (settled_places m c judged place outcome s))
+  pub receipt_applied : (m : Matter) (c : Course) (judged : ℕ) (place : Option ℕ) (outcome : Outcome) → c.planned ≡ mid.front → c.front ≡ after.front → IsApplied m c judged place outcome → IsReceipt before after (receipt_of before (Some count) (Some judged) place)
+  receipt_applied m c judged place outcome first last s = receipt_with (Some judged) place (subst (λ (x : List Entry × List Entry). Places x.0 x.1 (Some judged) place) (λ i. (first i, last i)) (applied_places m c judged place outcome s))
 
-  pub receipt_unsettled : (m : Matter) (c : Course) (judged place : Option ℕ) (e : SharedError) → c.planned ≡ mid.front → c.front ≡ after.front → IsUnsettled m c judged place e → IsReceipt before after (receipt_of before (Some count) judged place)
-  receipt_unsettled m c judged place e first last u = receipt_with judged place (subst (λ (x : List Entry × List Entry). Places x.0 x.1 judged place) (λ i. (first i, last i)) (unsettled_places m c judged place e u))
+  pub receipt_unapplied : (m : Matter) (c : Course) (judged place : Option ℕ) (e : SharedError) → c.planned ≡ mid.front → c.front ≡ after.front → IsUnapplied m c judged place e → IsReceipt before after (receipt_of before (Some count) judged place)
+  receipt_unapplied m c judged place e first last u = receipt_with judged place (subst (λ (x : List Entry × List Entry). Places x.0 x.1 judged place) (λ i. (first i, last i)) (unapplied_places m c judged place e u))

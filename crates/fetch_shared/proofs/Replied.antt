@@ -6,9 +6,9 @@ use Rattle.fetch_conversation.specs.Errors.{is_free_listing, is_interrupted, is_
 use Rattle.fetch_conversation.specs.declared.fetch.Error.TheVariants as receive
 use Rattle.fetch_conversation.proofs.Valid.{never_refused}
 use Rattle.fetch_remote.specs.Errors.{receiving, is_free, is_yes}
-use Rattle.fetch_remote.specs.Fetching.{manner_in}
+use Rattle.fetch_remote.specs.Fetching.{apply_options_in}
 use Rattle.fetch_remote.specs.Judging.{judged_of}
-use Rattle.fetch_remote.specs.Settling.{policy_in}
+use Rattle.fetch_remote.specs.Applying.{policy_in}
 use Rattle.fetch_remote.specs.Stages.{bound_of, listing_stage, conversation}
 use Rattle.fetch_remote.specs.Valid.{AreJudgeable}
 use Rattle.fetch_remote.specs.declared.fetching.fetch_error.FetchError.{FetchError}
@@ -18,8 +18,8 @@ use Rattle.fetch_remote.proofs.Complete.{judges_it}
 use Rattle.fetch_shared.specs.declared.error.SharedError.TheVariants as errors
 use Rattle.fetch_shared.specs.declared.receipt.Receipt.{Receipt}
 use Rattle.fetch_shared.specs.Fetching.{Call, IsUnlisted, IsUnanswered, IsStopped}
-use Rattle.fetch_shared.specs.Settling.{Matter, Course, IsUnjudged}
-use Rattle.fetch_shared.specs.Talking.{Line}
+use Rattle.fetch_shared.specs.Applying.{Matter, Course, IsUnjudged}
+use Rattle.fetch_shared.specs.Conversed.{Line}
 
 not_both : {X E : Type 0} (r : Result X E) (e : E) (x : X) → r ≡ Err e → r ≡ Ok x → ⊥
 not_both r e x p q = absurd (cc (p, q))
@@ -35,16 +35,16 @@ receiving_free line c receipt e h v =
     ∙ never_refused is_free is_yes line.answers (bound_of c.given) line.old line.new (conversation c.given s) (receiving h.broke.cause)
     (whole_receiving line.answers line.old h.broke.between line.new c.given s h.broke.listed h.broke.behind h.broke.cause h.broke.list h.broke.broke) v
 
-pub unjudged_free : (m : Matter) (c : Course) (judged place : Option ℕ) (cause : UpdateError) → (u : IsUnjudged m c judged place cause) → AreJudgeable (policy_in u.taken.seen.repository.state m.how u.by.trees) m.told.listed.ref_map → is_worktree_fault cause ≡ true
+pub unjudged_free : (m : Matter) (c : Course) (judged place : Option ℕ) (cause : UpdateError) → (u : IsUnjudged m c judged place cause) → AreJudgeable (policy_in u.taken.seen.repository.state m.options u.by.trees) m.told.listed.ref_map → is_worktree_fault cause ≡ true
 unjudged_free m c judged place cause u able = by (is_worktree_fault cause) refl
   where
     by : (b : Bool) → is_worktree_fault cause ≡ b → b ≡ true
     by true sure = refl
     by false sure =
-        let p = policy_in u.taken.seen.repository.state m.how u.by.trees in
+        let p = policy_in u.taken.seen.repository.state m.options u.by.trees in
         let j = judges_it p m.told.listed.ref_map able in
         absurd (not_both (judged_of p m.told.listed.ref_map) (receive.UpdateRefs cause) j.0 (u.by.why sure) j.1)
 
 pub judging_free : (line : Line) (c : Call) (receipt : Receipt) (cause : UpdateError) → (h : IsStopped line c receipt (errors.Fetch (fetch.Receive (receive.UpdateRefs cause))))
-    → AreJudgeable (policy_in h.unsettled.taken.seen.repository.state (manner_in c.given) h.unsettled.by.trees) h.told.listed.ref_map → is_worktree_fault cause ≡ true
-judging_free line c receipt cause h able = unjudged_free _ _ h.judged h.place cause h.unsettled able
+    → AreJudgeable (policy_in h.unapplied.taken.seen.repository.state (apply_options_in c.given) h.unapplied.by.trees) h.told.listed.ref_map → is_worktree_fault cause ≡ true
+judging_free line c receipt cause h able = unjudged_free _ _ h.judged h.place cause h.unapplied able

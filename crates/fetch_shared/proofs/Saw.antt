@@ -17,7 +17,7 @@ use Rattle.fetch_shared.specs.Machine.Event.{Plan as Planning}
 use Rattle.fetch_shared.specs.Passes.{Holder, IsBack, IsTurn}
 use Rattle.fetch_shared.specs.Seen.{IsStateAt, IsRefusedAt, AllowsTake}
 use Rattle.fetch_shared.specs.Shared.{SharedValue, done, plan_of, state_of, is_memory}
-use Rattle.fetch_shared.specs.Talking.{HasPlanned}
+use Rattle.fetch_shared.specs.Conversed.{HasPlanned}
 use Rattle.fetch_shared.proofs.Journals.{begins_self, begins_trans}
 
 -- why an event was refused

@@ -15,7 +15,7 @@ use Rattle.fetch_shared.specs.declared.view.Stage.{Stage}
 use Rattle.fetch_shared.specs.declared.view.Stage.TheVariants.{Resting, Joined}
 use Rattle.fetch_shared.specs.Journals.{Begins, entries_of}
 use Rattle.fetch_shared.specs.Numbers.{times_in, times_held, Holds}
-use Rattle.fetch_shared.specs.Turns.{own_at, own, joined_at, held_by, Sees, AtStage, IsLive, Knows, IsClear, Learns, Extends, settled, AreJoined, Settles, left_part, right_part, both_parts, spent}
+use Rattle.fetch_shared.specs.LockRule.{own_at, own, joined_at, held_by, Sees, AtStage, IsLive, Knows, IsClear, Learns, Extends, settled, AreJoined, Settles, left_part, right_part, both_parts, spent}
 use Rattle.fetch_shared.proofs.Journals.{begins_self, begins_shorter, begins_none, entries_between}
 use Rattle.fetch_shared.proofs.Held.{times_in-cut, times_over-append, times_held-append, times_over-set, one_of}
 use Rattle.fetch_shared.proofs.Views.{St, Seated, Rule, seats_stay, once, turn_stays, knows_at, changes, unchanged}

@@ -45,7 +45,7 @@ use Rattle.fetch_remote.specs.Fetched.{IsJudged, HoldsMapped, policy_at, is_asid
 use Rattle.fetch_remote.specs.Form.{Given}
 use Rattle.fetch_remote.specs.Lasting.{updates_in}
 use Rattle.fetch_remote.specs.Repositories.{State}
-use Rattle.fetch_remote.specs.Settling.{told_with, status_of}
+use Rattle.fetch_remote.specs.Applying.{told_with, status_of}
 use Rattle.fetch_remote.specs.declared.fetching.outcome.Outcome.{Outcome}
 use Rattle.fetch_remote.proofs.Wanted.{first_in, later_in, cases_in, either, stored_node}
 

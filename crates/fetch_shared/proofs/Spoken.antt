@@ -16,7 +16,7 @@ use Rattle.fetch_remote.specs.Errors.{preparing, receiving}
 use Rattle.fetch_remote.specs.Form.{Given}
 use Rattle.fetch_remote.specs.Stages.{bound_of, wants_in, terms_in, listing_stage, pack_stage}
 use Rattle.fetch_remote.specs.Repositories.{State}
-use Rattle.fetch_remote.specs.Talking.{HasTold}
+use Rattle.fetch_remote.specs.Conversed.{HasTold}
 use Rattle.fetch_remote.proofs.Received.{is_received}
 use Rattle.fetch_shared.specs.declared.error.SharedError.{SharedError}
 use Rattle.fetch_shared.specs.declared.error.SharedError.TheVariants as errors
@@ -24,19 +24,19 @@ use Rattle.fetch_shared.specs.Errors.{fetching}
 use Rattle.fetch_shared.specs.Passes.{Holder}
 use Rattle.fetch_shared.specs.Seen.{IsStateAt}
 use Rattle.fetch_shared.specs.Shared.{SharedValue}
-use Rattle.fetch_shared.specs.Talking.{Line, HasTalked, HasBroken}
+use Rattle.fetch_shared.specs.Conversed.{Line, HasConversedOver, HasBroken}
 use Rattle.fetch_shared.proofs.Named.{IsNamed, named_received}
 
 abbrev line_of : Bool → Option Talk → Option Talk → Line
 line_of answers old new = record { answers = answers; old = old; new = new }
 
 -- both stages came to their ends
-pub has_talked : (answers : Bool) (old mid new : Option Talk) (g : Given) (before after : Holder) (count : ℕ) (seen : SharedValue) (listed now : Listed) (wants : List ObjectId) (r : Option Received)
+pub has_conversed_over : (answers : Bool) (old mid new : Option Talk) (g : Given) (before after : Holder) (count : ℕ) (seen : SharedValue) (listed now : Listed) (wants : List ObjectId) (r : Option Received)
     → IsStateAt before.shared.opening before.front after.front count seen → after.front ≡ seen.journal → shown now ≡ shown listed → wants ≡ wants_in g seen.repository.state (shown listed).ref_map
     → Converses is_free_listing is_interrupted answers (bound_of g) old mid [] (pending_of listed) (listing_stage g) (Ok (shown listed))
     → Converses is_free_receiving is_stopped answers (bound_of g) mid new (pending_of listed) (pending_of now) (pack_stage g seen.repository.state (shown listed)) (Ok r)
-    → HasTalked (line_of answers old new) g before after count (record { listed = now; wants = wants; received = r })
-has_talked answers old mid new g before after count seen listed now wants r at front same wanted h k = record {
+    → HasConversedOver (line_of answers old new) g before after count (record { listed = now; wants = wants; received = r })
+has_conversed_over answers old mid new g before after count seen listed now wants r at front same wanted h k = record {
   seen = seen;
   at = at;
   front = front;

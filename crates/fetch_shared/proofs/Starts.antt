@@ -7,7 +7,7 @@ use Rattle.fetch_remote.specs.RepositoryValues.{RepositoryValue}
 use Rattle.fetch_shared.specs.declared.view.View.{View}
 use Rattle.fetch_shared.specs.Numbers.{span, Holds}
 use Rattle.fetch_shared.specs.Shared.{SharedValue}
-use Rattle.fetch_shared.specs.Turns.{own, Knows, IsOrdered, newcomer}
+use Rattle.fetch_shared.specs.LockRule.{own, Knows, IsOrdered, newcomer}
 use Rattle.fetch_shared.proofs.Held.{times_in-first, times_in-yes}
 use Rattle.fetch_shared.proofs.Journals.{begins_self}
 

@@ -17,7 +17,7 @@ use Rattle.fetch_shared.specs.declared.view.Stage.{Stage}
 use Rattle.fetch_shared.specs.declared.view.Stage.TheVariants.{Resting, Turn}
 use Rattle.fetch_shared.specs.Journals.{Begins, entries_of, pass_of}
 use Rattle.fetch_shared.specs.Numbers.{span, times_in, times_held, Holds}
-use Rattle.fetch_shared.specs.Turns.{own_at, own, joined_at, held_by, NUMBERS, AtStage, IsLive, turning, resting, Tries, Finds, Loads, Records, Releases}
+use Rattle.fetch_shared.specs.LockRule.{own_at, own, joined_at, held_by, NUMBERS, AtStage, IsLive, turning, resting, Tries, Finds, Loads, Records, Releases}
 use Rattle.fetch_shared.proofs.Journals.{begins_self, entries_of-other, all_one}
 use Rattle.fetch_shared.proofs.Held.{times_in-here, in_range, times_held-append, one_of, two_of}
 use Rattle.fetch_shared.proofs.Views.{St, Seated, Rule, Homes, turn_moves, journal_grows, once, turn_is, knows_at, changes, unchanged}

@@ -12,7 +12,7 @@ use Rattle.fetch_shared.specs.Journals.{entries_of, pass_of}
 use Rattle.fetch_shared.specs.Machine.{Event, refusal}
 use Rattle.fetch_shared.specs.Numbers.{Holds}
 use Rattle.fetch_shared.specs.Shared.{SharedValue, is_memory, IsKept, done, state_of}
-use Rattle.fetch_shared.specs.Turns.{own, turning, resting, Finds}
+use Rattle.fetch_shared.specs.LockRule.{own, turning, resting, Finds}
 use Rattle.fetch_shared.proofs.Held.{holds_own}
 use Rattle.fetch_shared.specs.Passes.{Holder, holder_of, IsBack, IsTurn}
 use Rattle.fetch_shared.proofs.Back.{comes_back, begins_entered, others_entered, own_entered, last_entered}

@@ -13,7 +13,7 @@ use Rattle.fetch_shared.specs.declared.view.Stage.{Stage}
 use Rattle.fetch_shared.specs.declared.view.Stage.TheVariants.{Resting, Turn, Joined, Spent}
 use Rattle.fetch_shared.specs.Journals.{pass_of}
 use Rattle.fetch_shared.specs.Numbers.{times_in, times_held, Holds}
-use Rattle.fetch_shared.specs.Turns.{own, joined_at, held_by, times_over, NUMBERS, Sees, AtStage, IsLive, Knows, HasTurn, Stands, IsOrdered}
+use Rattle.fetch_shared.specs.LockRule.{own, joined_at, held_by, times_over, NUMBERS, Sees, AtStage, IsLive, Knows, HasTurn, Stands, IsOrdered}
 use Rattle.fetch_shared.proofs.Journals.{begins_more, entries_of-other}
 use Rattle.fetch_shared.proofs.Held.{times_in-le, times_held-append, times_over-set}
 use Rattle.fetch_remote.specs.RepositoryValues.{RepositoryValue}

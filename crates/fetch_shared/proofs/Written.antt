@@ -7,7 +7,7 @@ use Rattle.fetch_wire.specs.declared.listings.reference.Ref.{Ref}
 use Rattle.fetch_conversation.specs.Conversation.{Conversation, ends, answer_in, map_refusal, told_as}
 use Rattle.fetch_conversation.specs.ConverseStage.{converse_stage, with_pack}
 use Rattle.fetch_conversation.specs.Conversing.{IsClear}
-use Rattle.fetch_conversation.specs.Exchange.{TermsValue}
+use Rattle.fetch_conversation.specs.Exchange.{FetchArgumentsValue}
 use Rattle.fetch_conversation.specs.ListStage.{ListedValue}
 use Rattle.fetch_conversation.specs.Writing.{Answer, listing_text, answers_text, negotiated_in}
 use Rattle.fetch_conversation.specs.declared.conversing.Received.{Received}
@@ -46,7 +46,7 @@ both g s l r stream mid rest first second =
     ∙ ap (answer_behind (bound_of g) (receiving_stage g s)) (answer_as (bound_of g) preparing (listing_stage g) stream ∙ ap (map_refusal preparing) first)
     ∙ receives g s l r mid rest second
 
-nothing_asked : (bound : ℕ) (g : Graph) (t : TermsValue) (rest : List ℕ) → IsClear t → t.view.wants ≡ [] → answer_in bound (converse_stage bound g t) rest ≡ Ok (None, rest)
+nothing_asked : (bound : ℕ) (g : Graph) (t : FetchArgumentsValue) (rest : List ℕ) → IsClear t → t.view.wants ≡ [] → answer_in bound (converse_stage bound g t) rest ≡ Ok (None, rest)
 unfolding converse_stage answer_in
 nothing_asked bound g t rest clear none = rw (clear.mapped, clear.alike, clear.fit, clear.offered, none) refl
 
@@ -72,7 +72,7 @@ pub serves : (c : Call) (judged : Option ℕ) (s : State) (capabilities : List C
 serves c judged s capabilities refs a answers contents rest h able =
     let g = c.given in
     let l = listed_by g capabilities refs in
-    let t : TermsValue = terms_in g s l in
+    let t : FetchArgumentsValue = terms_in g s l in
     let r : Received = with_pack (negotiated_in t (graph_of s.objects) a answers) contents in
     let answered : List ℕ = answers_text a answers ++ rest in
     record {
@@ -87,7 +87,7 @@ pub serves_dry : (c : Call) (g : Given) (judged : Option ℕ) (s : State) (capab
     → AreJudgeableAt (record c { given = as_dry_run g }) judged (listed_by g capabilities refs).ref_map → HasReplies (record c { given = as_dry_run g }) judged s (listing_text capabilities refs ++ (answers_text a answers ++ rest))
 serves_dry c g judged s capabilities refs a answers contents rest h able =
     let l = listed_by g capabilities refs in
-    let t : TermsValue = terms_in g s l in
+    let t : FetchArgumentsValue = terms_in g s l in
     let r : Received = with_pack (negotiated_in t (graph_of s.objects) a answers) contents in
     let answered : List ℕ = answers_text a answers ++ rest in
     let d = stage_dry (bound_of g) (graph_of s.objects) t answered rest (Some r) (written_pack (bound_of g) t (graph_of s.objects) a answers contents rest h.packed) in

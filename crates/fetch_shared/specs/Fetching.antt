@@ -9,7 +9,7 @@ use Rattle.fetch_conversation.specs.Conversation.{IsAwaited}
 use Rattle.fetch_conversation.specs.declared.fetch.Error.TheVariants as receive
 use Rattle.fetch_conversation.specs.declared.prepare.Error.TheVariants as prepare
 use Rattle.fetch_remote.specs.Fetched.{HasHeard, HasRead, IsJudged, IsWritten, IsKept, HoldsMapped, listed_in}
-use Rattle.fetch_remote.specs.Fetching.{manner_in, requests_in}
+use Rattle.fetch_remote.specs.Fetching.{apply_options_in, requests_in}
 use Rattle.fetch_remote.specs.Form.{Given}
 use Rattle.fetch_remote.specs.Negotiated.{AreHeld}
 use Rattle.fetch_remote.specs.Refused.{HasEnded}
@@ -17,7 +17,7 @@ use Rattle.fetch_remote.specs.Remotes.{RemoteValue}
 use Rattle.fetch_remote.specs.Repositories.{State}
 use Rattle.fetch_remote.specs.RepositoryValues.{RepositoryValue}
 use Rattle.fetch_remote.specs.Stages.{Told, bound_of, wants_in, conversation}
-use Rattle.fetch_remote.specs.Talking.{BreaksListing, BreaksReceiving}
+use Rattle.fetch_remote.specs.Conversed.{BreaksListing, BreaksReceiving}
 use Rattle.fetch_remote.specs.declared.fetching.fetch_error.FetchError.{FetchError}
 use Rattle.fetch_remote.specs.declared.fetching.fetch_error.FetchError.TheVariants as fetch
 use Rattle.fetch_remote.specs.declared.fetching.options.FetchOptions.{FetchOptions}
@@ -29,9 +29,9 @@ use Rattle.fetch_shared.specs.declared.receipt.Receipt.{Receipt}
 use Rattle.fetch_shared.specs.Journals.{entries_of}
 use Rattle.fetch_shared.specs.Passes.{Holder}
 use Rattle.fetch_shared.specs.Seen.{IsStateAt}
-use Rattle.fetch_shared.specs.Settling.{Matter, Course, IsSettled, IsUnsettled}
+use Rattle.fetch_shared.specs.Applying.{Matter, Course, IsApplied, IsUnapplied}
 use Rattle.fetch_shared.specs.Shared.{SharedValue}
-use Rattle.fetch_shared.specs.Talking.{Line, given_to}
+use Rattle.fetch_shared.specs.Conversed.{Line, given_to}
 
 -- A call: what it is given, its pass before and after it, the list of work trees that is told, and the files before and
 -- after it, where they tell a tree.
@@ -65,9 +65,9 @@ course_in c planned = record {
   left = c.left;
 }
 
--- what is settled for what was told over the state that was planned
+-- what is applied for what was told over the state that was planned
 abbrev pub matter_in : Given → State → Told → Matter
-matter_in g s told = record { setup = g.setup; how = manner_in g; wants = wants_in g s told.listed.ref_map; told = told }
+matter_in g s told = record { setup = g.setup; options = apply_options_in g; wants = wants_in g s told.listed.ref_map; told = told }
 
 -- the receipt of this pass, with these places
 abbrev pub receipt_of : Holder → Option ℕ → Option ℕ → Option ℕ → Receipt
@@ -104,15 +104,15 @@ pub record IsSharedFetch (line : Line) (c : Call) (receipt : Receipt) (outcome :
   -- taken, judged and committed,
   pub judged : ℕ
   pub place : Option ℕ
-  pub settled : IsSettled (matter_in c.given conversed.seen.repository.state told) (course_in c conversed.seen.journal) judged place outcome
+  pub applied : IsApplied (matter_in c.given conversed.seen.repository.state told) (course_in c conversed.seen.journal) judged place outcome
   -- and the outcome tells it.
-  pub tells : IsTold line c conversed.seen.repository.state settled.by.taken.seen.repository.state settled.by.trees conversed.said outcome
+  pub tells : IsTold line c conversed.seen.repository.state applied.by.taken.seen.repository.state applied.by.trees conversed.said outcome
   pub receipt_is : receipt ≡ receipt_of c.before (Some count) (Some judged) place
 
 -- the repository that the verdicts saw
 abbrev pub judged_in : {line : Line} {c : Call} {receipt : Receipt} {outcome : Outcome} → IsSharedFetch line c receipt outcome
     → RepositoryValue
-judged_in h = h.settled.by.taken.seen.repository
+judged_in h = h.applied.by.taken.seen.repository
 
 -- ---- refused
 
@@ -141,7 +141,7 @@ pub record IsStopped (line : Line) (c : Call) (receipt : Receipt) (e : SharedErr
   pub judged : Option ℕ
   pub place : Option ℕ
   pub receipt_is : receipt ≡ receipt_of c.before (Some count) judged place
-  pub unsettled : IsUnsettled (matter_in c.given conversed.seen.repository.state told) (course_in c conversed.seen.journal) judged place e
+  pub unapplied : IsUnapplied (matter_in c.given conversed.seen.repository.state told) (course_in c conversed.seen.journal) judged place e
 
 -- The peer received a prefix of the requests for what it said, which a plan over this state asks with, and nothing was received
 -- but while a reply was awaited.

@@ -9,7 +9,7 @@ pub mod Unmet
 pub mod Journals
 pub mod Numbers
 pub mod Nothing
-pub mod Turns
+pub mod LockRule
 pub mod Passes
 pub mod PassCodes
 pub mod Received
@@ -17,9 +17,9 @@ pub mod Errors
 pub mod Receipts
 pub mod Deleting
 pub mod Seen
-pub mod Talking
-pub mod Bringing
-pub mod Settling
+pub mod Conversed
+pub mod PackTaken
+pub mod Applying
 pub mod Fetching
 pub mod Valid
 pub mod Disconnected

@@ -9,7 +9,7 @@ use Rattle.fetch_shared.specs.declared.view.View.{View}
 use Rattle.fetch_shared.specs.declared.view.Stage.TheVariants.{Resting}
 use Rattle.fetch_shared.specs.Journals.{Begins, entries_of}
 use Rattle.fetch_shared.specs.Numbers.{Holds}
-use Rattle.fetch_shared.specs.Turns.{own}
+use Rattle.fetch_shared.specs.LockRule.{own}
 use Rattle.fetch_conversation.specs.declared.settings.Settings.{Settings}
 use Rattle.fetch_remote.specs.RepositoryValues.{RepositoryValue}
 use Rattle.fetch_shared.specs.Shared.{SharedValue, IsKept, done, state_of, is_memory}

@@ -7,11 +7,11 @@ use Rattle.fetch_wire.specs.declared.listings.mapping.RefMap.{RefMap}
 use Rattle.fetch_conversation.specs.Conversation.{answer_in, IsUnheard}
 use Rattle.fetch_conversation.specs.ListStage.{ListedValue}
 use Rattle.fetch_remote.specs.Errors as remote
-use Rattle.fetch_remote.specs.Fetching.{manner_in}
+use Rattle.fetch_remote.specs.Fetching.{apply_options_in}
 use Rattle.fetch_remote.specs.Form.{Given}
 use Rattle.fetch_remote.specs.Judging.{IsTold}
 use Rattle.fetch_remote.specs.Repositories.{State}
-use Rattle.fetch_remote.specs.Settling.{policy_in}
+use Rattle.fetch_remote.specs.Applying.{policy_in}
 use Rattle.fetch_remote.specs.Stages.{Told, bound_of, listing_stage, conversation}
 use Rattle.fetch_remote.specs.Valid.{AreJudgeable, HasExchanged}
 use Rattle.fetch_shared.specs.declared.error.SharedError.{SharedError}
@@ -20,7 +20,7 @@ use Rattle.fetch_shared.specs.declared.receipt.Receipt.{Receipt}
 use Rattle.fetch_shared.specs.Fetching.{Call}
 use Rattle.fetch_shared.specs.Seen.{IsStateAt}
 use Rattle.fetch_shared.specs.Shared.{SharedValue}
-use Rattle.fetch_shared.specs.Talking.{Line}
+use Rattle.fetch_shared.specs.Conversed.{Line}
 
 -- The references are listed by replies to the requests for that, by their grammar, and nothing stands against it.
 pub record HasListing (g : Given) (stream : List ℕ) : Type 0 where
@@ -33,7 +33,7 @@ abbrev pub AreJudgeableAt : Call → Option ℕ → RefMap → Type 0
 AreJudgeableAt c judged map =
     IfSome judged (λ count. (v : SharedValue) (trees : List Worktree)
     → IsStateAt c.before.shared.opening c.before.front c.after.front count v → IsTold c.known trees
-    → AreJudgeable (policy_in v.repository.state (manner_in c.given) trees) map)
+    → AreJudgeable (policy_in v.repository.state (apply_options_in c.given) trees) map)
 
 -- The bytes are replies to the requests for a plan over this state, by their grammar, and neither the settings nor what
 -- the server offers stand against it.

@@ -8,17 +8,17 @@ ghost use Rattle.fetch_shared.specs.Errors.{is_of_peer, is_yes, keep_fault, tree
 ghost use Rattle.fetch_shared.specs.Fetching.{IsSharedFetch, IsSharedRefused, call_of};
 ghost use Rattle.fetch_shared.specs.Passes.{IsBack};
 ghost use Rattle.fetch_shared.specs.Receipts.{IsReceipt};
-ghost use Rattle.fetch_shared.specs.Settling.{is_early};
-ghost use Rattle.fetch_shared.specs.Talking.{line_of};
+ghost use Rattle.fetch_shared.specs.Applying.{is_early};
+ghost use Rattle.fetch_shared.specs.Conversed.{line_of};
 ghost use Rattle.fetch_shared.specs.Valid.{HasValidInput, is_free};
 
 use crate::error::SharedError;
 use crate::pass::Pass;
 use crate::receipt::Receipt;
-use crate::settling::settle_in_turns;
+use crate::applying::apply_in_turns;
 use crate::shared::SharedRepository;
-use crate::talking::talk;
-use fetch_remote::phases::manner;
+use crate::exchange::list_and_receive;
+use fetch_remote::phases::apply_options;
 use fetch_remote::{FetchOptions, Outcome, Remote};
 use fetch_store::{Files, NoMemory};
 use fetch_update::Worktrees;
@@ -72,7 +72,7 @@ pub fn fetch_shared<R: Threads + Wait + Sync, P: Peer, I: Interrupt, F: Files, W
         (call_of remote.now options pass r.0 (W.told worktrees.old) (F.told files.old) (F.told files.new)) r.1 → is_free r.2 ≡ true) }
 {
     let number = pass.number();
-    let how = match manner(alloc, remote.fetch_tags(), &options) {
+    let how = match apply_options(alloc, remote.fetch_tags(), &options) {
         Ok(how) => how,
         Err(NoMemory) => return Err((
             pass,
@@ -80,12 +80,12 @@ pub fn fetch_shared<R: Threads + Wait + Sync, P: Peer, I: Interrupt, F: Files, W
             SharedError::NoMemory,
         )),
     };
-    let answer = talk(rt, alloc, shared, pass, remote, peer, interrupt, options);
-    let (pass, planned, talked) = match answer {
-        Ok(talked) => talked,
+    let answer = list_and_receive(rt, alloc, shared, pass, remote, peer, interrupt, options);
+    let (pass, planned, exchange) = match answer {
+        Ok(exchange) => exchange,
         Err((pass, planned, e)) => return Err((pass, receipt(number, planned, None, None), e)),
     };
-    match settle_in_turns(rt, alloc, shared, pass, &how, talked, files, worktrees) {
+    match apply_in_turns(rt, alloc, shared, pass, &how, exchange, files, worktrees) {
         Ok((pass, judged, place, outcome)) => {
             let receipt = receipt(number, Some(planned), Some(judged), place);
             Ok((pass, receipt, outcome))

@@ -28,12 +28,12 @@ ghost use Rattle.fetch_conversation.specs.Errors.{is_worktree_fault};
 ghost use Rattle.fetch_conversation.specs.Writing.{Answer, answers_text, listing_text};
 ghost use Rattle.fetch_conversation.specs.declared.fetch.Error.TheVariants.{UpdateRefs};
 ghost use Rattle.fetch_remote.specs.Errors.{is_free};
-ghost use Rattle.fetch_remote.specs.Fetching.{manner_in};
+ghost use Rattle.fetch_remote.specs.Fetching.{apply_options_in};
 ghost use Rattle.fetch_remote.specs.Form.{Given};
 ghost use Rattle.fetch_remote.specs.Lasting.{updates_in};
 ghost use Rattle.fetch_remote.specs.RepositoryValues.{RepositoryValue, State as Planned};
 ghost use Rattle.fetch_remote.specs.Serving.{IsAllStored, IsListed, IsServed, as_dry_run, listed_by};
-ghost use Rattle.fetch_remote.specs.Settling.{policy_in};
+ghost use Rattle.fetch_remote.specs.Applying.{policy_in};
 ghost use Rattle.fetch_remote.specs.Stages.{bound_of, conversation, listing_stage};
 ghost use Rattle.fetch_remote.specs.Valid.{AreJudgeable};
 ghost use Rattle.fetch_remote.specs.declared.fetching.fetch_error.FetchError.{FetchError};
@@ -46,7 +46,7 @@ ghost use Rattle.fetch_shared.specs.Fronts.{IsSound, IsEventOf, IsNamedEvent, Is
 ghost use Rattle.fetch_shared.specs.Machine.{State, Event, held, start, request, refusal, IsAllowed, effect, after, run};
 ghost use Rattle.fetch_shared.specs.Machine.Event.{Plan, Take, Commit};
 ghost use Rattle.fetch_shared.specs.Replays.{outline, replay};
-ghost use Rattle.fetch_shared.specs.Talking.{Line};
+ghost use Rattle.fetch_shared.specs.Conversed.{Line};
 ghost use Rattle.fetch_shared.specs.Valid.{AreJudgeableAt, HasListing, HasReplies};
 ghost use Rattle.fetch_shared.specs.declared.entry.Entry.{Entry};
 ghost use Rattle.fetch_shared.specs.declared.entry.Entry.TheVariants as entries;
@@ -123,7 +123,8 @@ pub fn valid_replies_are_never_refused_there()
         HasValidReplies (bound_of c.given) line.old line.new (conversation c.given h.seen.repository.state) → is_free e ≡ true }
     ensures judging { (line : Line) (c : Call) (receipt : Receipt) (cause : UpdateError)
         (h : IsStopped line c receipt (Fetch (Receive (UpdateRefs cause)))) →
-        AreJudgeable (policy_in h.unsettled.taken.seen.repository.state (manner_in c.given) h.unsettled.by.trees) h.told.listed.ref_map
+        AreJudgeable (policy_in h.unapplied.taken.seen.repository.state (apply_options_in c.given) h.unapplied.by.trees)
+            h.told.listed.ref_map
         → is_worktree_fault cause ≡ true }
 {}
 

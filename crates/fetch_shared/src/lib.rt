@@ -1,7 +1,7 @@
 //! A repository that several use: its events, and the journal that tells what became of it.
 #![tactic(auto)]
 
-mod bringing;
+mod pack_taken;
 mod deleting;
 mod editing;
 mod entry;
@@ -13,14 +13,14 @@ mod pass;
 mod plan;
 mod receipt;
 mod replaying;
-mod settling;
+mod applying;
 mod shared;
 mod state;
 mod taking;
-mod talking;
-mod turn;
-mod turning;
-mod turns;
+mod exchange;
+mod lock_rule;
+mod lock;
+mod events;
 mod view;
 
 pub use deleting::delete_shared;
@@ -33,5 +33,5 @@ pub use receipt::Receipt;
 pub use replaying::{ReplayFault, Replayed, replay};
 pub use shared::SharedRepository;
 pub use state::SharedState;
-pub use turns::ReceivedPack;
+pub use events::ReceivedPack;
 pub use view::Span;

@@ -2,7 +2,7 @@
 
 ghost use Rattle.std.specs.Prelude.{◌≡◌, ◌-◌};
 
-use crate::turn::Place;
+use crate::lock_rule::Place;
 use crate::view::Span;
 use std::marker::Model;
 

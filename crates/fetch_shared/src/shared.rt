@@ -8,14 +8,14 @@ ghost use Rattle.fetch_shared.specs.Journals.{Begins, entries_of, pass_of};
 ghost use Rattle.fetch_shared.specs.Machine.{held};
 ghost use Rattle.fetch_shared.specs.Numbers.{span, Holds};
 ghost use Rattle.fetch_shared.specs.Shared.{IsKept};
-ghost use Rattle.fetch_shared.specs.Turns.{left_part, right_part};
+ghost use Rattle.fetch_shared.specs.LockRule.{left_part, right_part};
 
 use crate::entry::Entry;
 use crate::error::SharedError;
 use crate::pass::Pass;
 use crate::state::SharedState;
-use crate::turn::{Cut, Desk, Glue, Learn, Place, Settle, Share};
-use crate::turning::TURN;
+use crate::lock_rule::{Cut, Desk, Glue, Learn, Place, Settle, Share};
+use crate::lock::TURN;
 use crate::view::Span;
 use fetch_conversation::Settings;
 use fetch_remote::Repository;

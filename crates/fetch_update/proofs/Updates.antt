@@ -14,7 +14,7 @@ use Rattle.fetch_update.specs.declared.update.Outcome.{Outcome}
 use Rattle.fetch_update.specs.declared.update.Update.{Update}
 use Rattle.fetch_update.specs.declared.verdict.Verdict.{Verdict}
 use Rattle.fetch_update.specs.Accepted.{edit_for, is_found}
-use Rattle.fetch_update.specs.Outcomes.{Verdicts, before, judged, verdicts_from, edits_of, updates_from, settled, adjusted, is_kept, kept, outcome_in, outcome_from}
+use Rattle.fetch_update.specs.Outcomes.{Verdicts, before, judged, verdicts_from, edits_of, updates_from, adjusted_verdicts, adjusted, is_kept, kept, outcome_in, outcome_from}
 use Rattle.fetch_update.specs.Policy.{Policy, verdict_of}
 
 -- ---- what a refusal isn't
@@ -226,16 +226,16 @@ module _ (names : Names) (all : List RefEdit) where
 -- ---- outcomes
 
 -- An outcome comes of verdicts.
-pub record IsSettled (names : Names) (r : Result Verdicts Error) (o : Outcome) : Type 0 where
+pub record IsAdjustedOutcome (names : Names) (r : Result Verdicts Error) (o : Outcome) : Type 0 where
   pub verdicts : Verdicts
   pub judged : r ≡ Ok verdicts
-  pub whole : o ≡ outcome_in (settled names verdicts)
+  pub whole : o ≡ outcome_in (adjusted_verdicts names verdicts)
 
-pub outcome_ok : (names : Names) (r : Result Verdicts Error) (o : Outcome) → outcome_from names r ≡ Ok o → IsSettled names r o
+pub outcome_ok : (names : Names) (r : Result Verdicts Error) (o : Outcome) → outcome_from names r ≡ Ok o → IsAdjustedOutcome names r o
 outcome_ok names (Err e) o is = absurd cc
 outcome_ok names (Ok vs) o is = record { verdicts = vs; judged = refl; whole = one is }
   where
-    one : ◌≡◌ {A = Result Outcome Error} (Ok (outcome_in (settled names vs))) (Ok o) → o ≡ outcome_in (settled names vs)
+    one : ◌≡◌ {A = Result Outcome Error} (Ok (outcome_in (adjusted_verdicts names vs))) (Ok o) → o ≡ outcome_in (adjusted_verdicts names vs)
     one e = cc
 
 pub outcome_err : (names : Names) (r : Result Verdicts Error) (e : Error) → outcome_from names r ≡ Err e → r ≡ Err e

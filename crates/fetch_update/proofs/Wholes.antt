@@ -24,7 +24,7 @@ use Rattle.fetch_update.specs.declared.update.Update.{Update}
 use Rattle.fetch_update.specs.declared.verdict.Verdict.{Verdict}
 use Rattle.fetch_update.specs.Accepting.{is_accepting, IsSent, IsAccepted, IsAcceptedDry, Accepts, HasDryRow}
 use Rattle.fetch_update.specs.Accepted.{IsAbout, AcceptsExactly, GuessesExactly, RejectsExactly, HasOneEach, CarriesOut, EditsCarryOut, edit_for}
-use Rattle.fetch_update.specs.Outcomes.{Verdicts, verdicts_from, edits_of, updates_from, settled, adjusted, outcome_in, outcome_of}
+use Rattle.fetch_update.specs.Outcomes.{Verdicts, verdicts_from, edits_of, updates_from, adjusted_verdicts, adjusted, outcome_in, outcome_of}
 use Rattle.fetch_update.specs.Policy.{Policy, is_stored, verdict_of, value_of}
 use Rattle.fetch_update.specs.Rejecting.{IsRejected, Rejects}
 use Rattle.fetch_update.specs.Telling.{EditsSay, TellsTypeChanges}
@@ -90,7 +90,7 @@ module _ (p : Policy) (specs extra : List Spec) (ms : List Mapping) (vs : Verdic
   first = edits_of vs
 
   abbrev last : List RefEdit
-  last = edits_of (settled p.names vs)
+  last = edits_of (adjusted_verdicts p.names vs)
 
   -- what an update comes of
   record ComesOf (u : Update) : Type 0 where
@@ -117,11 +117,11 @@ module _ (p : Policy) (specs extra : List Spec) (ms : List Mapping) (vs : Verdic
     edit = tells.edit ∙ ap (λ (x : ℕ × Verdict). x.1.edit) same;
   }
 
-  source : (u : Update) → Contains (updates_from 0 (settled p.names vs)) u → ComesOf u
+  source : (u : Update) → Contains (updates_from 0 (adjusted_verdicts p.names vs)) u → ComesOf u
   source u is =
       comes u
-      (among (IsOfOne (IsAdjusted p.names first (IsFor p specs extra 0 ms)) last) (updates_from 0 (settled p.names vs)) u
-      (all_updates (IsAdjusted p.names first (IsFor p specs extra 0 ms)) [] (settled p.names vs) (all_adjusted p.names first (IsFor p specs extra 0 ms) vs (all_for p specs extra 0 ms vs judged))) is)
+      (among (IsOfOne (IsAdjusted p.names first (IsFor p specs extra 0 ms)) last) (updates_from 0 (adjusted_verdicts p.names vs)) u
+      (all_updates (IsAdjusted p.names first (IsFor p specs extra 0 ms)) [] (adjusted_verdicts p.names vs) (all_adjusted p.names first (IsFor p specs extra 0 ms) vs (all_for p specs extra 0 ms vs judged))) is)
 
   one_mapping : (u : Update) (m : Mapping) (c : ComesOf u) → slice_get ms u.mapping_index ≡ Some m → c.mapping ≡ m
   one_mapping u m c is = some_one c.mapping m (sym c.at ∙ is)
@@ -138,7 +138,7 @@ module _ (p : Policy) (specs extra : List Spec) (ms : List Mapping) (vs : Verdic
   names_same : (name : List ℕ) → is_written name last ≡ is_written name first
   names_same name = same_names p.names first name vs
 
-  accepts_in : p.dry_run ≡ false → AcceptsExactly p specs extra ms (outcome_in (settled p.names vs))
+  accepts_in : p.dry_run ≡ false → AcceptsExactly p specs extra ms (outcome_in (adjusted_verdicts p.names vs))
   accepts_in wet = record {
     told = λ u m s is about accepting.
         let c = source u is in
@@ -149,7 +149,7 @@ module _ (p : Policy) (specs extra : List Spec) (ms : List Mapping) (vs : Verdic
         c.mode ∙ holds p s m c.verdict (judged_by u m s c about) first last names_same wet c.verdict.edit refl mode a;
   }
 
-  guesses_in : p.dry_run ≡ true → GuessesExactly p specs extra ms (outcome_in (settled p.names vs))
+  guesses_in : p.dry_run ≡ true → GuessesExactly p specs extra ms (outcome_in (adjusted_verdicts p.names vs))
   guesses_in dry = record {
     told = λ u m s is about accepting.
         let c = source u is in
@@ -160,7 +160,7 @@ module _ (p : Policy) (specs extra : List Spec) (ms : List Mapping) (vs : Verdic
         c.mode ∙ holds_dry p s m c.verdict (judged_by u m s c about) first last names_same dry c.verdict.edit refl mode a;
   }
 
-  rejects_in : RejectsExactly p specs extra ms (outcome_in (settled p.names vs))
+  rejects_in : RejectsExactly p specs extra ms (outcome_in (adjusted_verdicts p.names vs))
   rejects_in = record {
     told = λ u m s is about rejecting.
         let c = source u is in
@@ -171,12 +171,12 @@ module _ (p : Policy) (specs extra : List Spec) (ms : List Mapping) (vs : Verdic
         c.mode ∙ rejects p s m c.verdict (judged_by u m s c about) first last names_same c.verdict.edit refl mode r;
   }
 
-  one_each_in : HasOneEach specs extra ms (outcome_in (settled p.names vs))
-  one_each_in = update_indices 0 (settled p.names vs) ∙ adjusted_indices p.names first vs ∙ indices p specs extra ms vs judged
+  one_each_in : HasOneEach specs extra ms (outcome_in (adjusted_verdicts p.names vs))
+  one_each_in = update_indices 0 (adjusted_verdicts p.names vs) ∙ adjusted_indices p.names first vs ∙ indices p specs extra ms vs judged
 
-  edits_in : EditsCarryOut p ms (outcome_in (settled p.names vs))
+  edits_in : EditsCarryOut p ms (outcome_in (adjusted_verdicts p.names vs))
   edits_in = record {
-    one_each = update_edits 0 (settled p.names vs);
+    one_each = update_edits 0 (adjusted_verdicts p.names vs);
     each = λ u m e is at edit.
         let c = source u is in
         carries p c.refspec m c.verdict (judged_at u m c at) first last names_same c.verdict.edit refl u e c.mode (sym c.edit ∙ edit);
@@ -186,7 +186,7 @@ module _ (p : Policy) (specs extra : List Spec) (ms : List Mapping) (vs : Verdic
         ∙ named p c.refspec m c.verdict (judged_at u m c at) first last names_same c.verdict.edit (sym (ap is_accepting c.mode) ∙ accepting);
   }
 
-  says_in : EditsSay p specs extra ms (outcome_in (settled p.names vs))
+  says_in : EditsSay p specs extra ms (outcome_in (adjusted_verdicts p.names vs))
   says_in = record {
     rows = λ u m s e is about edit other.
         let c = source u is in
@@ -196,13 +196,13 @@ module _ (p : Policy) (specs extra : List Spec) (ms : List Mapping) (vs : Verdic
         says_no_op p s m c.verdict (judged_by u m s c about) first last names_same c.verdict.edit refl e (sym c.edit ∙ edit) k;
   }
 
-  turned : (u : Update) → Contains (updates_from 0 (settled p.names vs)) u → Turns p u.type_change (edit_for last u)
+  turned : (u : Update) → Contains (updates_from 0 (adjusted_verdicts p.names vs)) u → Turns p u.type_change (edit_for last u)
   turned u is =
       let c = source u is in
       subst (λ (change : Option TypeChange). Turns p change (edit_for last u)) (sym c.change)
       (subst (Turns p (adjusted p.names first c.verdict c.verdict.edit).type_change) (sym c.edit) (turns p c.refspec c.mapping c.verdict c.decided first last names_same c.verdict.edit refl))
 
-  changes_in : TellsTypeChanges p (outcome_in (settled p.names vs))
+  changes_in : TellsTypeChanges p (outcome_in (adjusted_verdicts p.names vs))
   changes_in = record { told = λ u is change. (turned u is).told change; holds = λ u e is edit t. (turned u is).holds e edit t; never = λ u is. (turned u is).never }
 
   -- what holds of each edit of a mapping holds of all
@@ -210,7 +210,7 @@ module _ (p : Policy) (specs extra : List Spec) (ms : List Mapping) (vs : Verdic
       → ((m : Mapping) (u : Update) (e : RefEdit) (s : Spec) (v : Verdict) → verdict_of p s m ≡ Ok v → u.mode ≡ (adjusted p.names first v v.edit).mode → CarriesOut p m u e → P e)
       → AllByRecursion P last
   each_edit P h =
-      all_edits P (settled p.names vs)
+      all_edits P (adjusted_verdicts p.names vs)
       (all_with (IsAdjusted p.names first (IsFor p specs extra 0 ms)) (λ w. IfSome w.1.edit P)
       (λ w (v, is, same).
       if_some P w.1.edit
@@ -218,7 +218,7 @@ module _ (p : Policy) (specs extra : List Spec) (ms : List Mapping) (vs : Verdic
       let u : Update = record { mode = (adjusted p.names first v.1 v.1.edit).mode; type_change = None; edit_index = None; mapping_index = 0 } in
       h is.mapping u e is.refspec v.1 is.judged refl
       (carries p is.refspec is.mapping v.1 is.judged first last names_same v.1.edit refl u e refl (sym (ap (λ (x : ℕ × Verdict). x.1.edit) same) ∙ at))))
-      (settled p.names vs) (all_adjusted p.names first (IsFor p specs extra 0 ms) vs (all_for p specs extra 0 ms vs judged)))
+      (adjusted_verdicts p.names vs) (all_adjusted p.names first (IsFor p specs extra 0 ms) vs (all_for p specs extra 0 ms vs judged)))
 
   meets_in : AllByRecursion (Meets p.names) last
   meets_in = each_edit (Meets p.names) (λ m u e s v decided mode c. ap (λ (x : PreviousValue). expectation_holds x (finmap.get p.names e.name)) c.expects ∙ meets (finmap.get p.names e.name) (value_of m.remote))
@@ -270,8 +270,8 @@ module _ (p : Policy) (specs extra : List Spec) (ms : List Mapping) (o : Outcome
   none_refused =
       let r = outcome_ok p.names (verdicts_from p specs extra 0 ms) o is in
       ap (λ (x : Outcome). refusal_of p.names x.edits) r.whole
-      ∙ ap (option_map (λ (i : ℕ). Expectation i (found_by p.names (slice_get (edits_of (settled p.names r.verdicts)) i))))
-      (none_fails p.names (edits_of (settled p.names r.verdicts)) (meets_in p specs extra ms r.verdicts r.judged))
+      ∙ ap (option_map (λ (i : ℕ). Expectation i (found_by p.names (slice_get (edits_of (adjusted_verdicts p.names r.verdicts)) i))))
+      (none_fails p.names (edits_of (adjusted_verdicts p.names r.verdicts)) (meets_in p specs extra ms r.verdicts r.judged))
 
   pub new_ids_stored : p.dry_run ≡ false → (e : RefEdit) (id : ObjectId) → Contains o.edits e → gives e ≡ Some (Object id) → finmap.get p.names e.name ≢ Some (Object id) → is_stored p.graph id ≡ true
   unfolding outcome_of

@@ -99,8 +99,8 @@ updates_from n (v ∷ vs) =
     ∷ updates_from (if is_some v.1.edit then n + 1 else n) vs
 
 -- verdicts, once those of all mappings are known
-abbrev pub settled : Names → Verdicts → Verdicts
-settled names vs = map (λ v. (v.0, adjusted names (edits_of vs) v.1 v.1.edit)) vs
+abbrev pub adjusted_verdicts : Names → Verdicts → Verdicts
+adjusted_verdicts names vs = map (λ v. (v.0, adjusted names (edits_of vs) v.1 v.1.edit)) vs
 
 -- an outcome of these verdicts
 abbrev pub outcome_in : Verdicts → Outcome
@@ -109,7 +109,7 @@ outcome_in vs = record { edits = edits_of vs; updates = updates_from 0 vs }
 -- an outcome, unless a mapping is refused
 abbrev pub outcome_from : Names → Result Verdicts Error → Result Outcome Error
 outcome_from names (Err e) = Err e
-outcome_from names (Ok vs) = Ok (outcome_in (settled names vs))
+outcome_from names (Ok vs) = Ok (outcome_in (adjusted_verdicts names vs))
 
 -- the edits and updates of all mappings, or the refusal of the first that is refused
 unfoldable pub outcome_of : Policy → List Spec → List Spec → List Mapping → Result Outcome Error

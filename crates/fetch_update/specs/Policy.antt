@@ -48,8 +48,8 @@ use Rattle.fetch_update.specs.declared.worktrees.Worktree.{Worktree}
 use Rattle.fetch_update.specs.declared.verdict.Verdict.{Verdict}
 use Rattle.fetch_update.specs.declared.judge.Judge.{Judge}
 use Rattle.fetch_update.specs.declared.judge.Place.{Place as PlaceInCode}
-use Rattle.fetch_update.specs.declared.judge.Wanted.{Wanted}
-use Rattle.fetch_update.specs.declared.judge.Wanted.TheVariants as wanted
+use Rattle.fetch_update.specs.declared.judge.NewTarget.{NewTarget}
+use Rattle.fetch_update.specs.declared.judge.NewTarget.TheVariants as wanted
 use Rattle.fetch_update.specs.Ahead.{is_ahead}
 use Rattle.fetch_update.specs.Dated.{commit_at}
 use Rattle.fetch_update.specs.Trees.{is_checked_out, directories_of}
@@ -325,7 +325,7 @@ policy_of graph j = record {
 }
 
 -- what the code asks for
-abbrev pub value_in_code : Wanted → Target
+abbrev pub value_in_code : NewTarget → Target
 value_in_code (wanted.Id id) = targets.Object id
 value_in_code (wanted.Name name) = targets.Symbolic name.now
 

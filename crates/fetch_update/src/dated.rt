@@ -42,7 +42,7 @@ pub fn is_dated_ancestor<O: Objects, L: Ledger>(
 }
 
 /// Whether a dated path leads from one commit to the other: `is_dated_ancestor`, where nobody counts the steps.
-pub(crate) fn has_dated_path<O: Objects>(
+pub fn has_dated_path<O: Objects>(
     alloc: Global,
     objects: &O,
     from: &ObjectId,

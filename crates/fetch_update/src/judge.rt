@@ -25,7 +25,7 @@ pub(crate) struct Judge<'a> {
 
 /// What a mapping is to write: an id, or the name that an unborn reference of the remote names.
 #[derive(Clone, Copy)]
-pub(crate) enum Wanted<'a> {
+pub(crate) enum NewTarget<'a> {
     Id(ObjectId),
     Name(&'a [u8]),
 }
@@ -35,7 +35,7 @@ pub(crate) enum Wanted<'a> {
 pub(crate) struct Place<'a> {
     pub(crate) name: FullName,
     pub(crate) found: TargetRef<'a>,
-    pub(crate) wanted: Wanted<'a>,
+    pub(crate) wanted: NewTarget<'a>,
     /// The name that the remote's reference names.
     pub(crate) target: Option<&'a [u8]>,
     pub(crate) is_forced: bool,

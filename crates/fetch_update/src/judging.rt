@@ -11,7 +11,7 @@ ghost use Rattle.fetch_update.specs.Policy as spec;
 ghost use Rattle.fetch_update.specs.Policy.{is_memory, policy_of, place_in_code, value_in_code, value_of};
 ghost use Rattle.fetch_update.specs.declared.update.Error.TheVariants as errors;
 
-use crate::judge::{Judge, Place, Wanted};
+use crate::judge::{Judge, NewTarget, Place};
 use crate::mode::Mode;
 use crate::stored::{are_commits, is_ahead, is_stored};
 use crate::trees::directories_at;
@@ -24,22 +24,22 @@ use fetch_store::{NoMemory, ObjectId, Objects, Text};
 use fetch_wire::{Mapping, Ref, Source};
 use std::alloc::Global;
 
-fn wanted_of(source: &Source) -> Wanted<'_>
+fn wanted_of(source: &Source) -> NewTarget<'_>
     ensures { value_in_code result ≡ value_of source.now }
 {
     match source {
-        Source::ObjectId(id) => Wanted::Id(*id),
-        Source::Ref(Ref::Direct { object, .. }) => Wanted::Id(*object),
-        Source::Ref(Ref::Symbolic { tag: Some(tag), .. }) => Wanted::Id(*tag),
+        Source::ObjectId(id) => NewTarget::Id(*id),
+        Source::Ref(Ref::Direct { object, .. }) => NewTarget::Id(*object),
+        Source::Ref(Ref::Symbolic { tag: Some(tag), .. }) => NewTarget::Id(*tag),
         Source::Ref(
             Ref::Symbolic {
                 tag: None,
                 object,
                 ..
             },
-        ) => Wanted::Id(*object),
-        Source::Ref(Ref::Peeled { tag, .. }) => Wanted::Id(*tag),
-        Source::Ref(Ref::Unborn { target, .. }) => Wanted::Name(target.as_bytes()),
+        ) => NewTarget::Id(*object),
+        Source::Ref(Ref::Peeled { tag, .. }) => NewTarget::Id(*tag),
+        Source::Ref(Ref::Unborn { target, .. }) => NewTarget::Name(target.as_bytes()),
     }
 }
 
@@ -61,12 +61,12 @@ pub(crate) fn judge_mapping<O: Objects>(
 
 /// The id that isn't stored, where objects are tested.
 #[tactic(auto, unfolding(crate::specs::Policy::unsent))]
-fn unsent<O: Objects>(judge: &Judge<'_>, objects: &O, wanted: Wanted<'_>) -> Option<ObjectId>
+fn unsent<O: Objects>(judge: &Judge<'_>, objects: &O, wanted: NewTarget<'_>) -> Option<ObjectId>
     ensures { result ≡ spec.unsent (policy_of (O.graph objects.now) judge.now) (value_in_code wanted.entry) }
 {
     match wanted {
-        Wanted::Name(_) => None,
-        Wanted::Id(id) => {
+        NewTarget::Name(_) => None,
+        NewTarget::Id(id) => {
             if judge.dry_run {
                 return None;
             }
@@ -238,7 +238,7 @@ fn at_id<O: Objects>(
     ensures { AnswersUnless is_memory (spec.at_id (policy_of (O.graph objects.now) judge.now) (place_in_code place.entry) local
         (value_in_code place.entry.wanted)) result }
 {
-    let Wanted::Id(remote) = place.wanted else {
+    let NewTarget::Id(remote) = place.wanted else {
         return Ok(Verdict::nothing(Mode::RejectedToReplaceWithUnborn));
     };
     if local == remote {

@@ -26,10 +26,10 @@ ghost use Rattle.fetch_update.specs.declared.update.Error.{Error};
 ghost use Rattle.fetch_update.specs.declared.update.Outcome.{Outcome};
 ghost use Rattle.fetch_update.specs.declared.verdict.Verdict.{Verdict};
 
-pub use crate::dated::is_dated_ancestor;
+use crate::adjusting::adjusted_outcome;
+pub use crate::dated::{has_dated_path, is_dated_ancestor};
 use crate::judge::Judge;
 use crate::message::RefLogMessage;
-use crate::settling::settled_outcome;
 use crate::trees::index_of;
 use crate::update::{Error, Outcome};
 use crate::verdicts::verdicts;
@@ -70,7 +70,7 @@ pub fn update<O: Objects>(
         directories: &directories,
     };
     let verdicts = verdicts(&judge, objects, mappings, refspecs, extra_refspecs)?;
-    Ok(settled_outcome(alloc, refs, verdicts)?)
+    Ok(adjusted_outcome(alloc, refs, verdicts)?)
 }
 
 /// The test for a dated path answers true exactly where there is one.

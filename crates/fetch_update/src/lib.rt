@@ -1,6 +1,7 @@
 //! What becomes of references after a fetch.
 #![tactic(auto)]
 
+mod adjusting;
 mod commits;
 mod dated;
 mod judge;
@@ -11,7 +12,6 @@ mod mode;
 mod pairing;
 mod pairs;
 mod scripted;
-mod settling;
 mod stored;
 mod trees;
 pub mod update;

@@ -7,7 +7,7 @@ ghost use Rattle.fetch_update.specs.Policy as spec;
 ghost use Rattle.fetch_update.specs.Policy.{is_memory, place_in_code, value_in_code};
 ghost use Rattle.fetch_update.specs.declared.update.Error.TheVariants as errors;
 
-use crate::judge::{Judge, Place, Wanted};
+use crate::judge::{Judge, NewTarget, Place};
 use crate::judging::full_name;
 use crate::mode::{Mode, TypeChange};
 use crate::update::Error;
@@ -20,7 +20,7 @@ use std::alloc::Global;
 /// A reference that is absent gets the value.
 pub(crate) fn create(
     judge: &Judge<'_>,
-    wanted: Wanted<'_>,
+    wanted: NewTarget<'_>,
     name: FullName,
 ) -> Result<Verdict, Error>
     ensures { AnswersUnless is_memory (spec.if_valid (value_in_code wanted.entry)
@@ -93,12 +93,12 @@ fn edit(
 }
 
 /// The value that is wanted, if its name is one.
-fn target_of(alloc: Global, wanted: Wanted<'_>) -> Result<Target, Error>
+fn target_of(alloc: Global, wanted: NewTarget<'_>) -> Result<Target, Error>
     ensures { AnswersUnless is_memory (spec.checked (value_in_code wanted.entry)) result }
 {
     match wanted {
-        Wanted::Id(id) => Ok(Target::Object(id)),
-        Wanted::Name(text) => match full_name(alloc, text)? {
+        NewTarget::Id(id) => Ok(Target::Object(id)),
+        NewTarget::Name(text) => match full_name(alloc, text)? {
             Some(name) => Ok(Target::Symbolic(name)),
             None => invalid(alloc, text),
         },

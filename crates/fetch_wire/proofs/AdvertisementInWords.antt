@@ -12,16 +12,16 @@ use Rattle.fetch_store.specs.Lines.{IsWithout}
 use Rattle.fetch_store.specs.declared.id.Kind.{Kind}
 use Rattle.fetch_store.specs.declared.id.ObjectId.{ObjectId}
 use Rattle.fetch_store.proofs.LineLaws.{splits}
-use Rattle.fetch_wire.specs.declared.replies.awaited.Told.{Told}
-use Rattle.fetch_wire.specs.declared.replies.awaited.Told.TheVariants as tolds
+use Rattle.fetch_wire.specs.declared.replies.reply.ParsedReply.{ParsedReply}
+use Rattle.fetch_wire.specs.declared.replies.reply.ParsedReply.TheVariants as tolds
 use Rattle.fetch_wire.specs.declared.greetings.handshake.Capability.{Capability}
 use Rattle.fetch_wire.specs.declared.greetings.handshake.Handshake.{Handshake}
 use Rattle.fetch_wire.specs.declared.lines.line.Line.{Line}
 use Rattle.fetch_wire.specs.declared.lines.line.Line.TheVariants.{Flush}
-use Rattle.fetch_wire.specs.declared.replies.reading.Advertised.{Advertised}
-use Rattle.fetch_wire.specs.declared.replies.reading.Advertised.TheVariants as next
-use Rattle.fetch_wire.specs.declared.replies.reading.Reading.{Reading}
-use Rattle.fetch_wire.specs.declared.replies.reading.Reading.TheVariants as reading
+use Rattle.fetch_wire.specs.declared.replies.parser.Advertised.{Advertised}
+use Rattle.fetch_wire.specs.declared.replies.parser.Advertised.TheVariants as next
+use Rattle.fetch_wire.specs.declared.replies.parser.ReplyParser.{ReplyParser}
+use Rattle.fetch_wire.specs.declared.replies.parser.ReplyParser.TheVariants as reading
 use Rattle.fetch_wire.specs.declared.listings.reference.Ref.{Ref}
 use Rattle.fetch_wire.specs.AdvertisementLines.{joined}
 use Rattle.fetch_wire.specs.AdvertisementSpellings.{some_words, AreWords, IsNamed, ArePeels, IsAdvertised, AreAdvertised, AreReferences, AreShallow, IsAdvertisement}
@@ -93,7 +93,7 @@ name_no_border : (kind : Kind) (id : ObjectId) (name said : List ℕ) → IsName
 name_no_border kind id name said is = ap (shallow_in kind) is.text ∙ no_border kind is.digits name (hex_of kind is.digits id is.is)
 
 -- what a line of a name does
-name_step : (h : Handshake) (before : List Ref) (allowed : Advertised) (id : ObjectId) (name said : List ℕ) (line : Line) (short : Option (List ℕ)) (now : Reading) → IsText said line → IsNamed h.object_hash id name said → before_peel name ≡ short
+name_step : (h : Handshake) (before : List Ref) (allowed : Advertised) (id : ObjectId) (name said : List ℕ) (line : Line) (short : Option (List ℕ)) (now : ReplyParser) → IsText said line → IsNamed h.object_hash id name said → before_peel name ≡ short
     → at_name h before allowed id name short ≡ Some now → step_of (reading.Advertisement h before allowed) line ≡ goes now
 unfolding step_of
 name_step h before allowed id name said line short now text is peel at =
@@ -131,7 +131,7 @@ peel_step h before r id said line text is has =
     (ap (option_map (λ refs. reading.Advertisement h refs next.Peeled)) (peel_told h before r id has))
 
 -- what a tag peels to, where that is told, and what tells x from there
-peel_tells : (h : Handshake) (before : List Ref) (r : Ref) (peeled : Option ObjectId) (said more : List (List ℕ)) (lines : List Line) (x : Told) → peeled_in r ≡ peeled → ArePeels h.object_hash (name_in r) peeled said → AreTexts (said ++ more) lines
+peel_tells : (h : Handshake) (before : List Ref) (r : Ref) (peeled : Option ObjectId) (said more : List (List ℕ)) (lines : List Line) (x : ParsedReply) → peeled_in r ≡ peeled → ArePeels h.object_hash (name_in r) peeled said → AreTexts (said ++ more) lines
     → ((front : List Line) → AreTexts more front → Tells step_of (reading.Advertisement h (before ++ r ∷ []) (behind_ref peeled)) (front ++ Flush ∷ []) x)
     → Tells step_of (reading.Advertisement h (before ++ unpeeled r ∷ []) next.Reference) (lines ++ Flush ∷ []) x
 peel_tells h before r None said more lines x has are texts goes_on =
@@ -175,7 +175,7 @@ refs_tell h before allowed (r ∷ refs) (own ∷ said) border (line ∷ lines) (
 
 -- ---- the first text
 
-first_read : (cs : List Capability) (id : ObjectId) (name first capabilities : List ℕ) (now : Reading) → IsWithout 0 first → All IsTellable cs → AreWords (map capability_text cs) capabilities → IsNamed (handshake_1 cs).object_hash id name first
+first_read : (cs : List Capability) (id : ObjectId) (name first capabilities : List ℕ) (now : ReplyParser) → IsWithout 0 first → All IsTellable cs → AreWords (map capability_text cs) capabilities → IsNamed (handshake_1 cs).object_hash id name first
     → first_named (handshake_1 cs) (id, name) ≡ Some now → at_first (first ++ 0 ∷ capabilities) ≡ Some now
 first_read cs id name first capabilities now whole are are_words is at =
     ap (option_and_then (λ parts. option_and_then (λ found. option_and_then (first_named (handshake_1 found)) (id_and_name (handshake_1 found).object_hash parts.0)) (with_words [] (words parts.1))))
@@ -185,7 +185,7 @@ first_read cs id name first capabilities now whole are are_words is at =
 
 -- what the first text does, and what the lines behind it tell then
 record Opens (h : Handshake) (refs : List Ref) (said : List ℕ) (others : List (List ℕ)) : Type 0 where
-  now : Reading
+  now : ReplyParser
   reads : at_first said ≡ Some now
   tells : (lines : List Line) → AreTexts others lines → Tells step_of now (lines ++ Flush ∷ []) (tolds.Advertisement h refs)
 
@@ -229,7 +229,7 @@ unfolding step_of is_version_2 is_version_1
 version_opens line text = by_spelled breaks breaks at_greeting (codes "version 1") line text
 
 -- the first text behind `version 1`
-opens_behind : (said : List ℕ) (line : Line) (now : Reading) → IsText said line → at_first said ≡ Some now → step_of reading.Version line ≡ goes now
+opens_behind : (said : List ℕ) (line : Line) (now : ReplyParser) → IsText said line → at_first said ≡ Some now → step_of reading.Version line ≡ goes now
 unfolding step_of
 opens_behind said line now text at = by_spelled breaks breaks (λ t. or_breaks (at_first t) (λ s. goes s)) said line text ∙ ap (λ o. or_breaks o (λ s. goes s)) at
 
@@ -237,7 +237,7 @@ greeting_by : (first capabilities : List ℕ) → at_greeting (first ++ 0 ∷ ca
 greeting_by first capabilities = rw (not_version_2 first capabilities, not_version_1 first capabilities) refl
 
 -- the first text where no version is told
-opens_alone : (first capabilities : List ℕ) (line : Line) (now : Reading) → IsText (first ++ 0 ∷ capabilities) line → at_first (first ++ 0 ∷ capabilities) ≡ Some now → step_of reading.Greeting line ≡ goes now
+opens_alone : (first capabilities : List ℕ) (line : Line) (now : ReplyParser) → IsText (first ++ 0 ∷ capabilities) line → at_first (first ++ 0 ∷ capabilities) ≡ Some now → step_of reading.Greeting line ≡ goes now
 unfolding step_of
 opens_alone first capabilities line now text at =
     by_spelled breaks breaks at_greeting (first ++ 0 ∷ capabilities) line text ∙ greeting_by first capabilities ∙ ap (λ o. or_breaks o (λ s. goes s)) at

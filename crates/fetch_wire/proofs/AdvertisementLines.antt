@@ -14,15 +14,15 @@ use Rattle.fetch_store.specs.declared.id.Kind.{Kind}
 use Rattle.fetch_store.specs.declared.id.ObjectId.{ObjectId}
 use Rattle.fetch_store.proofs.LineLaws.{splits}
 use Rattle.fetch_store.proofs.CommitTexts.{both_without}
-use Rattle.fetch_wire.specs.declared.replies.awaited.Await.TheVariants as awaits
-use Rattle.fetch_wire.specs.declared.replies.awaited.Told.TheVariants as told
+use Rattle.fetch_wire.specs.declared.replies.reply.ReplyKind.TheVariants as awaits
+use Rattle.fetch_wire.specs.declared.replies.reply.ParsedReply.TheVariants as told
 use Rattle.fetch_wire.specs.declared.greetings.handshake.Capability.{Capability}
 use Rattle.fetch_wire.specs.declared.greetings.handshake.Handshake.{Handshake}
 use Rattle.fetch_wire.specs.declared.lines.line.Line.TheVariants.{Flush}
-use Rattle.fetch_wire.specs.declared.replies.reading.Advertised.{Advertised}
-use Rattle.fetch_wire.specs.declared.replies.reading.Advertised.TheVariants as next
-use Rattle.fetch_wire.specs.declared.replies.reading.Reading.{Reading}
-use Rattle.fetch_wire.specs.declared.replies.reading.Reading.TheVariants as reading
+use Rattle.fetch_wire.specs.declared.replies.parser.Advertised.{Advertised}
+use Rattle.fetch_wire.specs.declared.replies.parser.Advertised.TheVariants as next
+use Rattle.fetch_wire.specs.declared.replies.parser.ReplyParser.{ReplyParser}
+use Rattle.fetch_wire.specs.declared.replies.parser.ReplyParser.TheVariants as reading
 use Rattle.fetch_wire.specs.declared.listings.reference.Ref.{Ref}
 use Rattle.fetch_wire.specs.declared.listings.reference.Ref.TheVariants.{Direct, Symbolic, Peeled, Unborn}
 use Rattle.fetch_wire.specs.AdvertisementLines.{joined, named_text, peel_texts, advertised_texts, first_texts, advertisement_lines, IsOneWord, IsAdvertisable}
@@ -162,7 +162,7 @@ not_border kind id name is =
     ∙ ap (option_and_then (id_in_hex kind)) (none_after 115 b.first (codes "hallow ") (b.others ++ 32 ∷ name) b.passes)
 
 -- what a line of a name does
-name_step : (h : Handshake) (before : List Ref) (allowed : Advertised) (id : ObjectId) (name : List ℕ) (short : Option (List ℕ)) (now : Reading) → IsIdOf h.object_hash id → before_peel name ≡ short
+name_step : (h : Handshake) (before : List Ref) (allowed : Advertised) (id : ObjectId) (name : List ℕ) (short : Option (List ℕ)) (now : ReplyParser) → IsIdOf h.object_hash id → before_peel name ≡ short
     → at_name h before allowed id name short ≡ Some now → step_of (reading.Advertisement h before allowed) (text_line (named_text (Some id) name)) ≡ goes now
 unfolding step_of
 name_step h before allowed id name short now is peel at =
@@ -248,7 +248,7 @@ opens : step_of reading.Greeting (text_line (codes "version 1")) ≡ goes readin
 unfolding step_of is_error without_lf is_version_2 is_version_1
 opens = refl
 
-first_step : (cs : List Capability) (id : ObjectId) (name : List ℕ) (now : Reading) → All IsTellable cs → All IsOneWord cs → IsIdOf (handshake_1 cs).object_hash id → IsWithout 0 name → first_named (handshake_1 cs) (id, name) ≡ Some now
+first_step : (cs : List Capability) (id : ObjectId) (name : List ℕ) (now : ReplyParser) → All IsTellable cs → All IsOneWord cs → IsIdOf (handshake_1 cs).object_hash id → IsWithout 0 name → first_named (handshake_1 cs) (id, name) ≡ Some now
     → step_of reading.Version (text_line (named_text (Some id) name ++ 0 ∷ joined (map capability_text cs))) ≡ goes now
 unfolding step_of
 first_step cs id name now are whole is none at =

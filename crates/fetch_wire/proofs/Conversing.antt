@@ -1,18 +1,18 @@
 -- A session takes bytes, and reads on.
 use Rattle.std.proofs.Common.{◌≡◌, ℕ, Bool, true, false, List, [], ◌++◌, Option, Some, None, Result, Ok, Err, refl, sym, ap, ◌∙◌, subst}
-use Rattle.fetch_wire.specs.declared.replies.awaited.AskedReply.{AskedReply}
-use Rattle.fetch_wire.specs.declared.replies.awaited.Await.TheVariants as awaits
-use Rattle.fetch_wire.specs.declared.replies.awaited.Fault.{Fault}
-use Rattle.fetch_wire.specs.declared.replies.awaited.Fault.TheVariants as faults
-use Rattle.fetch_wire.specs.declared.replies.awaited.Told.{Told}
-use Rattle.fetch_wire.specs.declared.replies.awaited.Told.TheVariants as told
+use Rattle.fetch_wire.specs.declared.replies.reply.ReplyContext.{ReplyContext}
+use Rattle.fetch_wire.specs.declared.replies.reply.ReplyKind.TheVariants as awaits
+use Rattle.fetch_wire.specs.declared.replies.reply.ReplyError.{ReplyError}
+use Rattle.fetch_wire.specs.declared.replies.reply.ReplyError.TheVariants as faults
+use Rattle.fetch_wire.specs.declared.replies.reply.ParsedReply.{ParsedReply}
+use Rattle.fetch_wire.specs.declared.replies.reply.ParsedReply.TheVariants as told
 use Rattle.fetch_wire.specs.declared.error.WireError.{WireError}
 use Rattle.fetch_wire.specs.declared.error.WireError.TheVariants as errors
 use Rattle.fetch_wire.specs.declared.greetings.handshake.Handshake.{Handshake}
-use Rattle.fetch_wire.specs.declared.session.intake.Found.{Found}
+use Rattle.fetch_wire.specs.declared.session.reply_buffer.FoundReply.{FoundReply}
 use Rattle.fetch_wire.specs.declared.requests.records.Request.{Request}
 use Rattle.fetch_wire.specs.Greetings.{offers}
-use Rattle.fetch_wire.specs.Intakes.{Intake, told_with, awaiting, taking, Finds, ReadsOn}
+use Rattle.fetch_wire.specs.Intakes.{ReplyBuffer, told_with, awaiting, taking, Finds, ReadsOn}
 use Rattle.fetch_wire.specs.RequestLines.{request_lines}
 use Rattle.fetch_wire.specs.Requests.{listing_lines}
 use Rattle.fetch_wire.specs.SessionStates.{SessionState, IsAlike, IsKept, lost, stored, Takes, after_told, read_one, rests, asks, asks_listing, keeps, listing_feature, fed, fed_by, read_on, requested, asked_by, refusal_of, if_told}
@@ -22,7 +22,7 @@ pub same : (s : SessionState) → IsAlike s s
 same s = record { intake = record { bound = refl; told = λ more. refl; room = refl; behind = refl; resting = λ e. refl }; others = refl }
 
 -- what was found of the awaited reply was kept
-pub stored_is : (s : SessionState) (i before : Intake) (what : Found) (found : Option (Result (Told × List ℕ) Fault)) → Finds before found i what
+pub stored_is : (s : SessionState) (i before : ReplyBuffer) (what : FoundReply) (found : Option (Result (ParsedReply × List ℕ) ReplyError)) → Finds before found i what
     → IsAlike (stored what (record s { intake = i })) (after_told rests (record s { intake = before }) found)
 stored_is s i before what None h = rw (h.0, h.1) (same (record s { intake = before }))
 stored_is s i before what (Some (Ok x)) h = rw (h.0, h.1) (same _)
@@ -32,19 +32,19 @@ stored_is s i before what (Some (Err faults.TooLong)) h = rw (h.0, h.1) (same _)
 stored_is s i before what (Some (Err (faults.Said text))) h = rw (h.0, h.1) (same _)
 
 -- the references were asked for
-pub listed_is : (s : SessionState) (h : Handshake) (text : List ℕ) (i : Intake) (what : Found) → first_too_long (listing_lines h s.agent s.prefixes) ≡ None → offers listing_feature h.capabilities ≡ true
+pub listed_is : (s : SessionState) (h : Handshake) (text : List ℕ) (i : ReplyBuffer) (what : FoundReply) → first_too_long (listing_lines h s.agent s.prefixes) ≡ None → offers listing_feature h.capabilities ≡ true
     → text ≡ lines_text (listing_lines h s.agent s.prefixes) → ReadsOn (awaiting (awaits.Listing h.object_hash) s.intake) i what
     → IsAlike (stored what (record s { intake = i; outgoing = s.outgoing ++ text; handshake = Some h })) (read_one rests (asks_listing h (keeps (told.Greeting h) s)))
 listed_is s h text i what fits offered is reads =
     rw (fits, offered, is) (stored_is (record s { outgoing = s.outgoing ++ lines_text (listing_lines h s.agent s.prefixes); handshake = Some h }) i (awaiting (awaits.Listing h.object_hash) s.intake) what (told_with (awaiting (awaits.Listing h.object_hash) s.intake) []) reads)
 
 -- a request was made
-pub requested_is : (s : SessionState) (r : Request) (read_pack : Bool) (text : List ℕ) (asked : AskedReply) (i : Intake) (what : Found) → text ≡ lines_text (request_lines r) → asked ≡ asked_by s r read_pack
+pub requested_is : (s : SessionState) (r : Request) (read_pack : Bool) (text : List ℕ) (asked : ReplyContext) (i : ReplyBuffer) (what : FoundReply) → text ≡ lines_text (request_lines r) → asked ≡ asked_by s r read_pack
     → ReadsOn (awaiting (awaits.Reply asked) s.intake) i what → IsAlike (stored what (record s { intake = i; outgoing = text; reply = None })) (requested s r read_pack)
 requested_is s r read_pack text asked i what is same_asked reads =
     rw (is, ← same_asked) (stored_is (record s { outgoing = lines_text (request_lines r); reply = None }) i (awaiting (awaits.Reply asked) s.intake) what (told_with (awaiting (awaits.Reply asked) s.intake) []) reads)
 
-taken_by : (s : SessionState) (before i : Intake) (what : Found) (now : SessionState) (found : Option (Result (Told × List ℕ) Fault)) → told_with before [] ≡ found → Finds before found i what → Takes what (record s { intake = i }) now
+taken_by : (s : SessionState) (before i : ReplyBuffer) (what : FoundReply) (now : SessionState) (found : Option (Result (ParsedReply × List ℕ) ReplyError)) → told_with before [] ≡ found → Finds before found i what → Takes what (record s { intake = i }) now
     → IsAlike now (read_one rests (after_told asks (record s { intake = before }) found))
 taken_by s before i what now None is h takes = rw (rw (h.0, h.1) at takes, is) (same (record s { intake = before }))
 taken_by s before i what now (Some (Ok (told.Greeting greeting, rest))) is h takes = rw (h.0, h.1) at takes
@@ -73,7 +73,7 @@ unread s piece refuses = by_trouble s.trouble refl
     by_trouble (Some e) is = same s
 
 -- bytes were taken
-pub taken_is : (s : SessionState) (piece : List ℕ) (i : Intake) (what : Found) (now : SessionState) → s.trouble ≡ None → ReadsOn (taking piece s.intake) i what → Takes what (record s { intake = i }) now → IsAlike now (fed s piece)
+pub taken_is : (s : SessionState) (piece : List ℕ) (i : ReplyBuffer) (what : FoundReply) (now : SessionState) → s.trouble ≡ None → ReadsOn (taking piece s.intake) i what → Takes what (record s { intake = i }) now → IsAlike now (fed s piece)
 taken_is s piece i what now well reads takes =
     subst (IsAlike now) (sym (fed_is s piece s.trouble well)) (taken_by s (taking piece s.intake) i what now (told_with (taking piece s.intake) []) refl reads takes)
 

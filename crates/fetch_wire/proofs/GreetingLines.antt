@@ -8,11 +8,11 @@ use Rattle.fetch_store.specs.Scan.{split_first}
 use Rattle.fetch_store.specs.Lines.{IsWithout}
 use Rattle.fetch_store.proofs.LineLaws.{splits}
 use Rattle.fetch_store.proofs.CommitTexts.{parts_without}
-use Rattle.fetch_wire.specs.declared.replies.awaited.Await.TheVariants as awaits
-use Rattle.fetch_wire.specs.declared.replies.awaited.Told.TheVariants as told
+use Rattle.fetch_wire.specs.declared.replies.reply.ReplyKind.TheVariants as awaits
+use Rattle.fetch_wire.specs.declared.replies.reply.ParsedReply.TheVariants as told
 use Rattle.fetch_wire.specs.declared.greetings.handshake.Capability.{Capability}
 use Rattle.fetch_wire.specs.declared.lines.line.Line.TheVariants.{Flush}
-use Rattle.fetch_wire.specs.declared.replies.reading.Reading.TheVariants as reading
+use Rattle.fetch_wire.specs.declared.replies.parser.ReplyParser.TheVariants as reading
 use Rattle.fetch_wire.specs.Awaited.{step_of, start_of, at_capability}
 use Rattle.fetch_wire.specs.Greetings.{capability_in, key_and_value, if_key, if_known, is_known, handshake_of, is_version_2}
 use Rattle.fetch_wire.specs.LinesTold.{Tells}

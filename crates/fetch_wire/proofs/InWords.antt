@@ -18,19 +18,19 @@ use Rattle.fetch_store.specs.declared.id.ObjectId.{ObjectId}
 use Rattle.fetch_store.proofs.CommitTexts.{both_without}
 use Rattle.fetch_store.proofs.LineLaws.{splits}
 use Rattle.fetch_store.proofs.TagTexts.{after_of}
-use Rattle.fetch_wire.specs.declared.replies.awaited.AskedReply.{AskedReply}
-use Rattle.fetch_wire.specs.declared.replies.awaited.Await.TheVariants.{Reply}
-use Rattle.fetch_wire.specs.declared.replies.awaited.Told.{Told}
-use Rattle.fetch_wire.specs.declared.replies.awaited.Told.TheVariants as tolds
+use Rattle.fetch_wire.specs.declared.replies.reply.ReplyContext.{ReplyContext}
+use Rattle.fetch_wire.specs.declared.replies.reply.ReplyKind.TheVariants.{Reply}
+use Rattle.fetch_wire.specs.declared.replies.reply.ParsedReply.{ParsedReply}
+use Rattle.fetch_wire.specs.declared.replies.reply.ParsedReply.TheVariants as tolds
 use Rattle.fetch_wire.specs.declared.greetings.handshake.Capability.{Capability}
 use Rattle.fetch_wire.specs.declared.greetings.handshake.Handshake.{Handshake}
 use Rattle.fetch_wire.specs.declared.lines.line.Line.{Line}
 use Rattle.fetch_wire.specs.declared.lines.line.Line.TheVariants.{Flush, Delim}
 use Rattle.fetch_wire.specs.declared.listings.reference.Ref.{Ref}
 use Rattle.fetch_wire.specs.declared.listings.reference.Ref.TheVariants.{Direct, Symbolic, Peeled, Unborn}
-use Rattle.fetch_wire.specs.declared.replies.reading.Part.TheVariants as parts
-use Rattle.fetch_wire.specs.declared.replies.reading.Reading.{Reading}
-use Rattle.fetch_wire.specs.declared.replies.reading.Reading.TheVariants as reading
+use Rattle.fetch_wire.specs.declared.replies.parser.Part.TheVariants as parts
+use Rattle.fetch_wire.specs.declared.replies.parser.ReplyParser.{ReplyParser}
+use Rattle.fetch_wire.specs.declared.replies.parser.ReplyParser.TheVariants as reading
 use Rattle.fetch_wire.specs.declared.requests.records.FetchReply.{FetchReply}
 use Rattle.fetch_wire.specs.Awaited.{step_of, start_of, at_greeting, at_capability, at_listed}
 use Rattle.fetch_wire.specs.Bands.{Band, band_line, pieces_of, texts_of, behind, bands_tell}
@@ -59,7 +59,7 @@ by_spelled flush delim f said line is =
     ap (by_line flush delim f) is.is ∙ ap (λ (b : Bool). if b then says (error_text is.payload) else f (without_lf is.payload)) is.no_error ∙ ap f is.text
 
 -- texts and a flush tell what the texts move to and the flush ends with
-flushed : (s t : Reading) (x : Told) (texts : List (List ℕ)) (lines : List Line) → AreFlushed texts lines → ((front : List Line) → AreTexts texts front → Moves step_of s front t) → step_of t Flush ≡ ends x → Tells step_of s lines x
+flushed : (s t : ReplyParser) (x : ParsedReply) (texts : List (List ℕ)) (lines : List Line) → AreFlushed texts lines → ((front : List Line) → AreTexts texts front → Moves step_of s front t) → step_of t Flush ≡ ends x → Tells step_of s lines x
 flushed s t x texts lines (front, same, are) moves closes = subst (λ (l : List Line). Tells step_of s l x) (sym same) (moves_tell step_of s t front (Flush ∷ []) x (moves front are) closes)
 
 -- ---- a greeting
@@ -257,43 +257,43 @@ listing_read kind refs lines is =
 abbrev so_far : List ObjectId → List ObjectId → List ObjectId → FetchReply
 so_far ids shallow unshallow = record no_reply { acknowledged = ids; shallow = shallow; unshallow = unshallow }
 
-if_read : (b : Bool) (x y : Step Reading Told) → b ≡ true → (if b then x else y) ≡ x
+if_read : (b : Bool) (x y : Step ReplyParser ParsedReply) → b ≡ true → (if b then x else y) ≡ x
 if_read true x y is = refl
 if_read false x y is = absurd cc
 
-if_unread : (b : Bool) (x y : Step Reading Told) → b ≡ false → (if b then x else y) ≡ y
+if_unread : (b : Bool) (x y : Step ReplyParser ParsedReply) → b ≡ false → (if b then x else y) ≡ y
 if_unread true x y is = absurd cc
 if_unread false x y is = refl
 
 have_if : (haves : List ObjectId) (id : ObjectId) → has_id id haves ≡ true → if_have haves id ≡ Some id
 have_if haves id has = rw has refl
 
-acknowledged_read : (asked : AskedReply) (digits : List ℕ) (id : ObjectId) → Spells asked.kind digits id → has_id id asked.haves ≡ true → acknowledged_in asked (codes "ACK " ++ digits) ≡ Some id
+acknowledged_read : (asked : ReplyContext) (digits : List ℕ) (id : ObjectId) → Spells asked.kind digits id → has_id id asked.haves ≡ true → acknowledged_in asked (codes "ACK " ++ digits) ≡ Some id
 unfolding acknowledged_in
 acknowledged_read asked digits id is has =
     ap (option_and_then (λ hex. option_and_then (if_have asked.haves) (id_in_hex asked.kind hex))) (after_of (codes "ACK ") digits)
     ∙ ap (option_and_then (if_have asked.haves)) is ∙ have_if asked.haves id has
 
-at_ack : (asked : AskedReply) (reply : FetchReply) (digits : List ℕ) (id : ObjectId) → Spells asked.kind digits id → has_id id asked.haves ≡ true
+at_ack : (asked : ReplyContext) (reply : FetchReply) (digits : List ℕ) (id : ObjectId) → Spells asked.kind digits id → has_id id asked.haves ≡ true
     → at_acknowledgment asked reply (codes "ACK " ++ digits) ≡ goes (reading.Reply asked parts.Acknowledgments (record reply { acknowledged = reply.acknowledged ++ id ∷ [] }))
 unfolding is_nak is_ready
 at_ack asked reply digits id is has = ap (λ found. or_breaks found (λ x. goes (reading.Reply asked parts.Acknowledgments (record reply { acknowledged = reply.acknowledged ++ x ∷ [] })))) (acknowledged_read asked digits id is has)
 
 -- what a line of the acknowledgments does is what its text does
-by_acknowledgment : (asked : AskedReply) (ids : List ObjectId) (said : List ℕ) (line : Line) → IsText said line → step_of (reading.Reply asked parts.Acknowledgments (so_far ids [] [])) line ≡ at_acknowledgment asked (so_far ids [] []) said
+by_acknowledgment : (asked : ReplyContext) (ids : List ObjectId) (said : List ℕ) (line : Line) → IsText said line → step_of (reading.Reply asked parts.Acknowledgments (so_far ids [] [])) line ≡ at_acknowledgment asked (so_far ids [] []) said
 unfolding step_of
 by_acknowledgment asked ids said line text = by_spelled (ends (tolds.Reply (record (so_far (each_once ids) [] []) { last = false }))) breaks (at_acknowledgment asked (so_far ids [] [])) said line text
 
-at_nak : (asked : AskedReply) (reply : FetchReply) → at_acknowledgment asked reply (codes "NAK") ≡ goes (reading.Reply asked parts.Acknowledgments reply)
+at_nak : (asked : ReplyContext) (reply : FetchReply) → at_acknowledgment asked reply (codes "NAK") ≡ goes (reading.Reply asked parts.Acknowledgments reply)
 unfolding is_nak
 at_nak asked reply = refl
 
-at_ready : (asked : AskedReply) (reply : FetchReply) → at_acknowledgment asked reply (codes "ready") ≡ goes (reading.Reply asked parts.Ready reply)
+at_ready : (asked : ReplyContext) (reply : FetchReply) → at_acknowledgment asked reply (codes "ready") ≡ goes (reading.Reply asked parts.Ready reply)
 unfolding is_nak is_ready
 at_ready asked reply = refl
 
 -- acknowledgments, and texts that go on from there
-acks_move : (asked : AskedReply) (u : Reading) (before : List ObjectId) (acks : List Acknowledgment) (more : List (List ℕ)) (lines : List Line) → All (IsAcknowledgment asked) acks → AreTexts (map acknowledgment_text acks ++ more) lines
+acks_move : (asked : ReplyContext) (u : ReplyParser) (before : List ObjectId) (acks : List Acknowledgment) (more : List (List ℕ)) (lines : List Line) → All (IsAcknowledgment asked) acks → AreTexts (map acknowledgment_text acks ++ more) lines
     → ((front : List Line) → AreTexts more front → Moves step_of (reading.Reply asked parts.Acknowledgments (so_far (before ++ acknowledged_by acks) [] [])) front u)
     → Moves step_of (reading.Reply asked parts.Acknowledgments (so_far before [] [])) lines u
 acks_move asked u before [] more lines are texts goes_on =
@@ -313,26 +313,26 @@ acks_move asked u before (Ack digits id ∷ acks) more (line ∷ lines) are text
           (λ front fronts. subst (λ (ids : List ObjectId). Moves step_of (reading.Reply asked parts.Acknowledgments (so_far ids [] [])) front u) (sym (append_assoc before (id ∷ []) (acknowledged_by acks))) (goes_on front fronts)),
     )
 
-acks_open : (asked : AskedReply) (line : Line) → asked.done ≡ false → IsText (codes "acknowledgments") line → step_of (reading.Reply asked parts.Beginning no_reply) line ≡ goes (reading.Reply asked parts.Acknowledgments no_reply)
+acks_open : (asked : ReplyContext) (line : Line) → asked.done ≡ false → IsText (codes "acknowledgments") line → step_of (reading.Reply asked parts.Beginning no_reply) line ≡ goes (reading.Reply asked parts.Acknowledgments no_reply)
 unfolding step_of is_acknowledgments
 acks_open asked line more text = by_spelled breaks breaks (at_beginning asked no_reply) (codes "acknowledgments") line text ∙ (rw more refl)
 
 -- `acknowledgments`, the words after it, and texts that go on from there
-all_acks : (asked : AskedReply) (u : Reading) (acks : List Acknowledgment) (more : List (List ℕ)) (front : List Line) → asked.done ≡ false → AreAcknowledged asked acks more front
+all_acks : (asked : ReplyContext) (u : ReplyParser) (acks : List Acknowledgment) (more : List (List ℕ)) (front : List Line) → asked.done ≡ false → AreAcknowledged asked acks more front
     → ((behind : List Line) → AreTexts more behind → Moves step_of (reading.Reply asked parts.Acknowledgments (so_far (acknowledged_by acks) [] [])) behind u)
     → Moves step_of (reading.Reply asked parts.Beginning no_reply) front u
 all_acks asked u acks more [] not_done are goes_on = absurd are.0
 all_acks asked u acks more (line ∷ front) not_done are goes_on = (reading.Reply asked parts.Acknowledgments no_reply, acks_open asked line not_done are.0.0, acks_move asked u [] acks more front are.1 are.0.1 goes_on)
 
-round_closes : (asked : AskedReply) (ids : List ObjectId) → step_of (reading.Reply asked parts.Acknowledgments (so_far ids [] [])) Flush ≡ ends (tolds.Reply (record no_reply { acknowledged = each_once ids; last = false }))
+round_closes : (asked : ReplyContext) (ids : List ObjectId) → step_of (reading.Reply asked parts.Acknowledgments (so_far ids [] [])) Flush ≡ ends (tolds.Reply (record no_reply { acknowledged = each_once ids; last = false }))
 unfolding step_of
 round_closes asked ids = refl
 
-no_texts : (r : Reading) (lines : List Line) → AreTexts [] lines → Moves step_of r lines r
+no_texts : (r : ReplyParser) (lines : List Line) → AreTexts [] lines → Moves step_of r lines r
 no_texts r [] texts = refl
 no_texts r (line ∷ lines) texts = absurd texts
 
-round_read : (asked : AskedReply) (reply : FetchReply) (lines : List Line) → asked.done ≡ false → IsRound asked reply lines → Tells step_of (reading.Reply asked parts.Beginning no_reply) lines (tolds.Reply reply)
+round_read : (asked : ReplyContext) (reply : FetchReply) (lines : List Line) → asked.done ≡ false → IsRound asked reply lines → Tells step_of (reading.Reply asked parts.Beginning no_reply) lines (tolds.Reply reply)
 round_read asked reply lines not_done is =
     let ids = acknowledged_by is.acknowledgments in
     let at = reading.Reply asked parts.Acknowledgments (so_far ids [] []) in
@@ -343,30 +343,30 @@ round_read asked reply lines not_done is =
 -- ---- the rest of a reply
 
 -- where the rest may stand: the next text is `shallow-info` or `packfile`
-abbrev AtRest : AskedReply → Reading → FetchReply → Type 0
+abbrev AtRest : ReplyContext → ReplyParser → FetchReply → Type 0
 AtRest asked r reply = (said : List ℕ) (line : Line) → IsText said line → step_of r line ≡ at_rest asked reply said
 
-rest_begins : (asked : AskedReply) (reply : FetchReply) → asked.done ≡ true → AtRest asked (reading.Reply asked parts.Beginning reply) reply
+rest_begins : (asked : ReplyContext) (reply : FetchReply) → asked.done ≡ true → AtRest asked (reading.Reply asked parts.Beginning reply) reply
 unfolding step_of
 rest_begins asked reply done said line text = by_spelled breaks breaks (at_beginning asked reply) said line text ∙ (rw done refl)
 
-rest_stands : (asked : AskedReply) (reply : FetchReply) → AtRest asked (reading.Reply asked parts.Rest reply) reply
+rest_stands : (asked : ReplyContext) (reply : FetchReply) → AtRest asked (reading.Reply asked parts.Rest reply) reply
 unfolding step_of
 rest_stands asked reply said line text = by_spelled breaks breaks (at_rest asked reply) said line text
 
 -- `packfile`, whether the pack is read or not
-abbrev from_packfile : AskedReply → FetchReply → Step Reading Told
+abbrev from_packfile : ReplyContext → FetchReply → Step ReplyParser ParsedReply
 from_packfile asked reply = if asked.read_pack then goes (reading.Reply asked parts.Bands (record reply { pack = Some [] })) else ends (tolds.Reply reply)
 
-pack_at_rest : (asked : AskedReply) (reply : FetchReply) → at_rest asked reply (codes "packfile") ≡ from_packfile asked reply
+pack_at_rest : (asked : ReplyContext) (reply : FetchReply) → at_rest asked reply (codes "packfile") ≡ from_packfile asked reply
 unfolding is_shallow_info is_packfile
 pack_at_rest asked reply = refl
 
-pack_behind : (asked : AskedReply) (reply : FetchReply) (line : Line) → IsText (codes "packfile") line → step_of (reading.Reply asked parts.Packfile reply) line ≡ from_packfile asked reply
+pack_behind : (asked : ReplyContext) (reply : FetchReply) (line : Line) → IsText (codes "packfile") line → step_of (reading.Reply asked parts.Packfile reply) line ≡ from_packfile asked reply
 unfolding step_of is_packfile
 pack_behind asked reply line text = by_spelled breaks breaks (at_packfile asked reply) (codes "packfile") line text
 
-bands_from : (asked : AskedReply) (r : Reading) (ids shallow unshallow : List ObjectId) (bands : List Band) (line : Line) (lines : List Line) (reads : Bool) → asked.read_pack ≡ reads → step_of r line ≡ from_packfile asked (so_far ids shallow unshallow) → AreBands reads bands lines
+bands_from : (asked : ReplyContext) (r : ReplyParser) (ids shallow unshallow : List ObjectId) (bands : List Band) (line : Line) (lines : List Line) (reads : Bool) → asked.read_pack ≡ reads → step_of r line ≡ from_packfile asked (so_far ids shallow unshallow) → AreBands reads bands lines
     → Tells step_of r (line ∷ lines) (tolds.Reply (record (so_far ids shallow unshallow) { pack = pack_in reads bands; progress = texts_of bands }))
 bands_from asked r ids shallow unshallow bands line lines true reads first are =
     let reply = so_far ids shallow unshallow in
@@ -375,13 +375,13 @@ bands_from asked r ids shallow unshallow bands line lines true reads first are =
     (first_tells step_of r (reading.Reply asked parts.Bands (behind reply [] [])) line (map band_line bands ++ Flush ∷ []) x (first ∙ if_read asked.read_pack _ _ reads) (bands_tell asked reply [] [] bands))
 bands_from asked r ids shallow unshallow bands line lines false unread first are = rw (are.0, are.1) (first ∙ if_unread asked.read_pack _ _ unread)
 
-pack_from : (asked : AskedReply) (r : Reading) (ids shallow unshallow : List ObjectId) (bands : List Band) (lines : List Line) → ((line : Line) → IsText (codes "packfile") line → step_of r line ≡ from_packfile asked (so_far ids shallow unshallow)) → IsPack asked bands lines
+pack_from : (asked : ReplyContext) (r : ReplyParser) (ids shallow unshallow : List ObjectId) (bands : List Band) (lines : List Line) → ((line : Line) → IsText (codes "packfile") line → step_of r line ≡ from_packfile asked (so_far ids shallow unshallow)) → IsPack asked bands lines
     → Tells step_of r lines (tolds.Reply (record (so_far ids shallow unshallow) { pack = pack_in asked.read_pack bands; progress = texts_of bands }))
 pack_from asked r ids shallow unshallow bands [] first are = absurd are
 pack_from asked r ids shallow unshallow bands (line ∷ lines) first are = bands_from asked r ids shallow unshallow bands line lines asked.read_pack refl (first line are.0) are.1
 
 -- a move of the border
-by_move : (asked : AskedReply) (reply : FetchReply) (said : List ℕ) (line : Line) → IsText said line → step_of (reading.Reply asked parts.ShallowInfo reply) line ≡ at_change asked reply (shallow_in asked.kind said) (unshallow_in asked.kind said)
+by_move : (asked : ReplyContext) (reply : FetchReply) (said : List ℕ) (line : Line) → IsText said line → step_of (reading.Reply asked parts.ShallowInfo reply) line ≡ at_change asked reply (shallow_in asked.kind said) (unshallow_in asked.kind said)
 unfolding step_of
 by_move asked reply said line text =
     by_spelled breaks (goes (reading.Reply asked parts.Packfile reply)) (λ t. at_change asked reply (shallow_in asked.kind t) (unshallow_in asked.kind t)) said line text
@@ -398,7 +398,7 @@ not_coming : (kind : Kind) (digits : List ℕ) → shallow_in kind (codes "unsha
 unfolding shallow_in
 not_coming kind digits = refl
 
-moves_read : (asked : AskedReply) (ids shallow unshallow : List ObjectId) (moves : List Move) (lines : List Line) → All (IsMove asked.kind) moves → AreTexts (map move_text moves) lines
+moves_read : (asked : ReplyContext) (ids shallow unshallow : List ObjectId) (moves : List Move) (lines : List Line) → All (IsMove asked.kind) moves → AreTexts (map move_text moves) lines
     → Moves step_of (reading.Reply asked parts.ShallowInfo (so_far ids shallow unshallow)) lines (reading.Reply asked parts.ShallowInfo (so_far ids (shallow ++ coming moves) (unshallow ++ leaving moves)))
 moves_read asked ids shallow unshallow [] [] are texts =
     ap₂ (λ (a b : List ObjectId). reading.Reply asked parts.ShallowInfo (so_far ids a b)) (sym (append-nil shallow)) (sym (append-nil unshallow))
@@ -421,16 +421,16 @@ moves_read asked ids shallow unshallow (Leaves digits id ∷ moves) (line ∷ li
       (moves_read asked ids shallow (unshallow ++ id ∷ []) moves lines (All-tail (IsMove asked.kind) (Leaves digits id) moves are) texts.1),
 )
 
-info_at_rest : (asked : AskedReply) (reply : FetchReply) → at_rest asked reply (codes "shallow-info") ≡ goes (reading.Reply asked parts.ShallowInfo reply)
+info_at_rest : (asked : ReplyContext) (reply : FetchReply) → at_rest asked reply (codes "shallow-info") ≡ goes (reading.Reply asked parts.ShallowInfo reply)
 unfolding is_shallow_info
 info_at_rest asked reply = refl
 
-info_closes : (asked : AskedReply) (reply : FetchReply) → step_of (reading.Reply asked parts.ShallowInfo reply) Delim ≡ goes (reading.Reply asked parts.Packfile reply)
+info_closes : (asked : ReplyContext) (reply : FetchReply) → step_of (reading.Reply asked parts.ShallowInfo reply) Delim ≡ goes (reading.Reply asked parts.Packfile reply)
 unfolding step_of
 info_closes asked reply = refl
 
 -- `shallow-info` and the moves after it
-info_moves : (asked : AskedReply) (r : Reading) (ids : List ObjectId) (moves : List Move) (front : List Line) → AtRest asked r (so_far ids [] []) → All (IsMove asked.kind) moves → AreTexts (codes "shallow-info" ∷ map move_text moves) front
+info_moves : (asked : ReplyContext) (r : ReplyParser) (ids : List ObjectId) (moves : List Move) (front : List Line) → AtRest asked r (so_far ids [] []) → All (IsMove asked.kind) moves → AreTexts (codes "shallow-info" ∷ map move_text moves) front
     → Moves step_of r front (reading.Reply asked parts.ShallowInfo (so_far ids (coming moves) (leaving moves)))
 info_moves asked r ids moves [] rests are texts = absurd texts
 info_moves asked r ids moves (line ∷ front) rests are texts = (
@@ -439,7 +439,7 @@ info_moves asked r ids moves (line ∷ front) rests are texts = (
   moves_read asked ids [] [] moves front are texts.1,
 )
 
-rest_from : (asked : AskedReply) (r : Reading) (ids : List ObjectId) (moves : Option (List Move)) (bands : List Band) (front behind : List Line) → AtRest asked r (so_far ids [] []) → AreMoves asked.kind moves front → IsPack asked bands behind
+rest_from : (asked : ReplyContext) (r : ReplyParser) (ids : List ObjectId) (moves : Option (List Move)) (bands : List Band) (front behind : List Line) → AtRest asked r (so_far ids [] []) → AreMoves asked.kind moves front → IsPack asked bands behind
     → Tells step_of r (front ++ behind) (tolds.Reply (record (so_far ids (coming (all_moves moves)) (leaving (all_moves moves))) { pack = pack_in asked.read_pack bands; progress = texts_of bands }))
 rest_from asked r ids None bands front behind rests border pack =
     let x = tolds.Reply (record (so_far ids [] []) { pack = pack_in asked.read_pack bands; progress = texts_of bands }) in
@@ -453,16 +453,16 @@ rest_from asked r ids (Some moves) bands front behind rests (texts, same, are, e
     (moves_on step_of r (reading.Reply asked parts.ShallowInfo reply) (reading.Reply asked parts.Packfile reply) texts (Delim ∷ []) (info_moves asked r ids moves texts rests each are) (reading.Reply asked parts.Packfile reply, info_closes asked reply, refl))
     (pack_from asked (reading.Reply asked parts.Packfile reply) ids (coming moves) (leaving moves) bands behind (λ line text. pack_behind asked reply line text) pack))
 
-rest_read : (asked : AskedReply) (r : Reading) (ids : List ObjectId) (reply : FetchReply) (lines : List Line) → AtRest asked r (so_far ids [] []) → IsRest asked ids reply lines → Tells step_of r lines (tolds.Reply reply)
+rest_read : (asked : ReplyContext) (r : ReplyParser) (ids : List ObjectId) (reply : FetchReply) (lines : List Line) → AtRest asked r (so_far ids [] []) → IsRest asked ids reply lines → Tells step_of r lines (tolds.Reply reply)
 rest_read asked r ids reply lines rests is =
     subst (λ (l : List Line). Tells step_of r l (tolds.Reply reply)) (sym is.is)
     (subst (λ (whole : FetchReply). Tells step_of r (is.front ++ is.behind) (tolds.Reply whole)) (sym is.told) (rest_from asked r ids is.moves is.bands is.front is.behind rests is.border is.pack))
 
-ready_closes : (asked : AskedReply) (ids : List ObjectId) → step_of (reading.Reply asked parts.Ready (so_far ids [] [])) Delim ≡ goes (reading.Reply asked parts.Rest (so_far (each_once ids) [] []))
+ready_closes : (asked : ReplyContext) (ids : List ObjectId) → step_of (reading.Reply asked parts.Ready (so_far ids [] [])) Delim ≡ goes (reading.Reply asked parts.Rest (so_far (each_once ids) [] []))
 unfolding step_of
 ready_closes asked ids = refl
 
-ready_moves : (asked : AskedReply) (ids : List ObjectId) (lines : List Line) → AreTexts (codes "ready" ∷ []) lines → Moves step_of (reading.Reply asked parts.Acknowledgments (so_far ids [] [])) lines (reading.Reply asked parts.Ready (so_far ids [] []))
+ready_moves : (asked : ReplyContext) (ids : List ObjectId) (lines : List Line) → AreTexts (codes "ready" ∷ []) lines → Moves step_of (reading.Reply asked parts.Acknowledgments (so_far ids [] [])) lines (reading.Reply asked parts.Ready (so_far ids [] []))
 ready_moves asked ids [] texts = absurd texts
 ready_moves asked ids (line ∷ lines) texts = (
   reading.Reply asked parts.Ready (so_far ids [] []),
@@ -470,7 +470,7 @@ ready_moves asked ids (line ∷ lines) texts = (
   no_texts (reading.Reply asked parts.Ready (so_far ids [] [])) lines texts.1,
 )
 
-ready_read : (asked : AskedReply) (reply : FetchReply) (lines : List Line) → asked.done ≡ false → IsReady asked reply lines → Tells step_of (reading.Reply asked parts.Beginning no_reply) lines (tolds.Reply reply)
+ready_read : (asked : ReplyContext) (reply : FetchReply) (lines : List Line) → asked.done ≡ false → IsReady asked reply lines → Tells step_of (reading.Reply asked parts.Beginning no_reply) lines (tolds.Reply reply)
 ready_read asked reply lines not_done is =
     let ids = acknowledged_by is.acknowledgments in
     let at = reading.Reply asked parts.Ready (so_far ids [] []) in
@@ -480,10 +480,10 @@ ready_read asked reply lines not_done is =
     (all_acks asked at is.acknowledgments (codes "ready" ∷ []) is.front not_done is.acknowledged (ready_moves asked ids))
     (first_tells step_of at rest Delim is.behind (tolds.Reply reply) (ready_closes asked ids) (rest_read asked rest (each_once ids) reply is.behind (rest_stands asked (so_far (each_once ids) [] [])) is.rest)))
 
-reply_by : (asked : AskedReply) (reply : FetchReply) (lines : List Line) (done : Bool) → asked.done ≡ done → IsReplyTo done asked reply lines → Tells step_of (reading.Reply asked parts.Beginning no_reply) lines (tolds.Reply reply)
+reply_by : (asked : ReplyContext) (reply : FetchReply) (lines : List Line) (done : Bool) → asked.done ≡ done → IsReplyTo done asked reply lines → Tells step_of (reading.Reply asked parts.Beginning no_reply) lines (tolds.Reply reply)
 reply_by asked reply lines true done is = rest_read asked (reading.Reply asked parts.Beginning no_reply) [] reply lines (rest_begins asked no_reply done) is
 reply_by asked reply lines false not_done (inl round) = round_read asked reply lines not_done round
 reply_by asked reply lines false not_done (inr ready) = ready_read asked reply lines not_done ready
 
-pub reply_read : (asked : AskedReply) (reply : FetchReply) (lines : List Line) → IsReply asked reply lines → Tells step_of (start_of (Reply asked)) lines (tolds.Reply reply)
+pub reply_read : (asked : ReplyContext) (reply : FetchReply) (lines : List Line) → IsReply asked reply lines → Tells step_of (start_of (Reply asked)) lines (tolds.Reply reply)
 reply_read asked reply lines is = reply_by asked reply lines asked.done refl is

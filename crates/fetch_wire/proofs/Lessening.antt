@@ -5,19 +5,19 @@ use Rattle.std.proofs.lemmas.Bool.Decides.{nat_tests}
 use Rattle.std.proofs.lemmas.List.{append-nil}
 use Rattle.fetch_wire.specs.declared.greetings.handshake.Handshake.{Handshake}
 use Rattle.fetch_wire.specs.declared.lines.line.Line.{Line}
-use Rattle.fetch_wire.specs.declared.lines.section.Trouble.{Trouble}
-use Rattle.fetch_wire.specs.declared.lines.section.Trouble.TheVariants as lines
-use Rattle.fetch_wire.specs.declared.replies.awaited.Await.TheVariants as awaits
-use Rattle.fetch_wire.specs.declared.replies.awaited.Fault.{Fault}
-use Rattle.fetch_wire.specs.declared.replies.awaited.Fault.TheVariants as faults
-use Rattle.fetch_wire.specs.declared.replies.awaited.Told.{Told}
-use Rattle.fetch_wire.specs.declared.replies.awaited.Told.TheVariants as told
-use Rattle.fetch_wire.specs.declared.replies.reading.Reading.{Reading}
-use Rattle.fetch_wire.specs.declared.replies.reading.Reading.TheVariants as reading
+use Rattle.fetch_wire.specs.declared.lines.section.LineError.{LineError}
+use Rattle.fetch_wire.specs.declared.lines.section.LineError.TheVariants as lines
+use Rattle.fetch_wire.specs.declared.replies.reply.ReplyKind.TheVariants as awaits
+use Rattle.fetch_wire.specs.declared.replies.reply.ReplyError.{ReplyError}
+use Rattle.fetch_wire.specs.declared.replies.reply.ReplyError.TheVariants as faults
+use Rattle.fetch_wire.specs.declared.replies.reply.ParsedReply.{ParsedReply}
+use Rattle.fetch_wire.specs.declared.replies.reply.ParsedReply.TheVariants as told
+use Rattle.fetch_wire.specs.declared.replies.parser.ReplyParser.{ReplyParser}
+use Rattle.fetch_wire.specs.declared.replies.parser.ReplyParser.TheVariants as reading
 use Rattle.fetch_wire.specs.Awaited.{replies_behind, step_of, told_at, told_from}
 use Rattle.fetch_wire.specs.Feeding.{room_at}
 use Rattle.fetch_wire.specs.Greetings.{offers}
-use Rattle.fetch_wire.specs.Intakes.{Intake, room_in, told_with, taking, resting}
+use Rattle.fetch_wire.specs.Intakes.{ReplyBuffer, room_in, told_with, taking, resting}
 use Rattle.fetch_wire.specs.Intakes as intakes
 use Rattle.fetch_wire.specs.LineLaws.{line_at-is, line_at-len, least}
 use Rattle.fetch_wire.specs.Lines.{number_in, is_no_line, line_counted, announced, line_at, line_len}
@@ -61,14 +61,14 @@ short_line bound place p (a ∷ b ∷ []) is = omega arith
 short_line bound place p (a ∷ b ∷ c ∷ []) is = omega arith
 short_line bound place p (a ∷ b ∷ c ∷ d ∷ rest) is = let h = announced_line bound place p (number_in (a ∷ b ∷ c ∷ d ∷ [])) rest is in omega arith
 
-short_step : {S T : Type 0} (n bound place p : ℕ) (rest : List ℕ) (f : S → Result (T × List ℕ) Fault) (step : Step S T)
+short_step : {S T : Type 0} (n bound place p : ℕ) (rest : List ℕ) (f : S → Result (T × List ℕ) ReplyError) (step : Step S T)
     → ((t : S) → f t ≡ Err (faults.Short p) → length rest ≤ n) → after_step place rest f step ≡ Err (faults.Short p) → length rest ≤ n
 short_step n bound place p rest f (goes t) again is = again t is
 short_step n bound place p rest f (ends t) again is = absurd (cc)
 short_step n bound place p rest f breaks again is = absurd (cc)
 short_step n bound place p rest f (says text) again is = absurd (cc)
 
-short_behind : {S T : Type 0} (step : S → Line → Step S T) (m n bound place p : ℕ) (s : S) (bytes : List ℕ) (found : Result (Line × List ℕ) Trouble) → line_at bound place bytes ≡ found → length bytes ≤ n
+short_behind : {S T : Type 0} (step : S → Line → Step S T) (m n bound place p : ℕ) (s : S) (bytes : List ℕ) (found : Result (Line × List ℕ) LineError) → line_at bound place bytes ≡ found → length bytes ≤ n
     → ((t : S) (q : ℕ) (rest : List ℕ) → length rest + 4 ≤ n → read_within m step bound t q rest ≡ Err (faults.Short p) → length rest ≤ (bound - q) + 3)
     → after_line found (λ line rest. after_step place rest (λ t. read_within m step bound t (place + line_len line) rest) (step s line)) ≡ Err (faults.Short p) → length bytes ≤ (bound - place) + 3
 short_behind step m n bound place p s bytes (Err (lines.Short q)) at few again is = short_line bound place q bytes at
@@ -89,24 +89,24 @@ short_within step (suc n) bound place p s bytes few is =
     short_behind step (suc n) (suc n) bound place p s bytes (line_at bound place bytes) refl few (λ t q rest less told. short_within step n bound q p t rest (omega (arith, less)) told) is
 
 -- where a reply is short, something may still come
-pub short_room : (bound place p : ℕ) (r : Reading) (bytes : List ℕ) → told_from bound r place bytes ≡ Err (faults.Short p) → 0 < room_at bound place bytes
+pub short_room : (bound place p : ℕ) (r : ReplyParser) (bytes : List ℕ) → told_from bound r place bytes ≡ Err (faults.Short p) → 0 < room_at bound place bytes
 short_room bound place p r bytes is = let h = short_within step_of (length bytes) bound place p r bytes (omega arith) is in omega (arith, h)
 
 -- ---- a greeting is told where the listing comes behind
 
-of_step : (n : ℕ) (step : Step Reading Told) → Stays n step → OfStep (λ r. replies_behind r ≡ n) (IsBefore n) step
+of_step : (n : ℕ) (step : Step ReplyParser ParsedReply) → Stays n step → OfStep (λ r. replies_behind r ≡ n) (IsBefore n) step
 of_step n (goes r) h = h
 of_step n (ends t) h = h
 of_step n breaks h = tt
 of_step n (says text) h = tt
 
-keeps_behind : (n : ℕ) (r : Reading) (line : Line) → replies_behind r ≡ n → OfStep (λ t. replies_behind t ≡ n) (IsBefore n) (step_of r line)
+keeps_behind : (n : ℕ) (r : ReplyParser) (line : Line) → replies_behind r ≡ n → OfStep (λ t. replies_behind t ≡ n) (IsBefore n) (step_of r line)
 keeps_behind n r line is = of_step n (step_of r line) (subst (λ m. Stays m (step_of r line)) is (stays r line))
 
-greeting_by : (n : ℕ) (h : Handshake) (rest : List ℕ) (found : Result (Told × List ℕ) Fault) → found ≡ Ok (told.Greeting h, rest) → OfTold (IsBefore n) found → n ≡ 1
+greeting_by : (n : ℕ) (h : Handshake) (rest : List ℕ) (found : Result (ParsedReply × List ℕ) ReplyError) → found ≡ Ok (told.Greeting h, rest) → OfTold (IsBefore n) found → n ≡ 1
 greeting_by n h rest found is of = rw is at of
 
-greeting_behind : (bound place : ℕ) (r : Reading) (bytes rest : List ℕ) (h : Handshake) → told_from bound r place bytes ≡ Ok (told.Greeting h, rest) → replies_behind r ≡ 1
+greeting_behind : (bound place : ℕ) (r : ReplyParser) (bytes rest : List ℕ) (h : Handshake) → told_from bound r place bytes ≡ Ok (told.Greeting h, rest) → replies_behind r ≡ 1
 greeting_behind bound place r bytes rest h is =
     greeting_by (replies_behind r) h rest (told_from bound r place bytes) is
     (within-keeps (λ t. replies_behind t ≡ replies_behind r) (IsBefore (replies_behind r)) step_of (suc (length bytes)) bound place r bytes (keeps_behind (replies_behind r)) refl)
@@ -117,15 +117,15 @@ greeted_told bound bytes = within-keeps (λ t. replies_behind t ≡ 1) (IsBefore
 
 -- ---- how much may still come
 
-abbrev pub most_by : Option Reading → ℕ → ℕ → ℕ
+abbrev pub most_by : Option ReplyParser → ℕ → ℕ → ℕ
 most_by None bound room = 0
 most_by (Some r) bound room = replies_behind r * (bound + 4) + room
 
 -- of the awaited reply, and of those behind it
-abbrev pub most_left : Intake → ℕ
+abbrev pub most_left : ReplyBuffer → ℕ
 most_left i = most_by i.reading i.bound (room_in i)
 
-same_most : (i j : Intake) (r t : Option Reading) → i.reading ≡ r → j.reading ≡ t → intakes.IsAlike i j → most_by r i.bound (room_in i) ≡ most_by t j.bound (room_in j)
+same_most : (i j : ReplyBuffer) (r t : Option ReplyParser) → i.reading ≡ r → j.reading ≡ t → intakes.IsAlike i j → most_by r i.bound (room_in i) ≡ most_by t j.bound (room_in j)
 same_most i j None None is also h = refl
 same_most i j (Some r) (Some t) is also h =
     let b : replies_behind r ≡ replies_behind t = rw (is, also) at h.behind in
@@ -140,7 +140,7 @@ same_left a b h = same_most a.intake b.intake a.intake.reading b.intake.reading 
 abbrev Within : ℕ → SessionState → Type 0
 Within n s = most_left s.intake < n
 
-rests_within : (n : ℕ) (s : SessionState) (found : Option (Result (Told × List ℕ) Fault)) → 0 < n → Within n s → Within n (after_told rests s found)
+rests_within : (n : ℕ) (s : SessionState) (found : Option (Result (ParsedReply × List ℕ) ReplyError)) → 0 < n → Within n s → Within n (after_told rests s found)
 rests_within n s None some h = h
 rests_within n s (Some (Ok (told.Greeting g, rest))) some h = some
 rests_within n s (Some (Ok (told.Advertisement g refs, rest))) some h = some
@@ -157,10 +157,10 @@ listing_within n s h asked None false rest room = omega (arith, room)
 listing_within n s h asked None true rest room = omega (arith, room)
 
 -- a session that awaits a reply, with these bytes behind what it took
-abbrev with_bytes : SessionState → Reading → List ℕ → SessionState
+abbrev with_bytes : SessionState → ReplyParser → List ℕ → SessionState
 with_bytes s r bytes = record s { intake = record { bound = s.intake.bound; place = s.intake.place; pending = bytes; reading = Some r } }
 
-asks_within : (s : SessionState) (r : Reading) (bytes piece : List ℕ) (found : Result (Told × List ℕ) Fault) → told_from s.intake.bound r s.intake.place ((bytes ++ piece) ++ []) ≡ found → 0 < length piece → 0 < room_at s.intake.bound s.intake.place bytes
+asks_within : (s : SessionState) (r : ReplyParser) (bytes piece : List ℕ) (found : Result (ParsedReply × List ℕ) ReplyError) → told_from s.intake.bound r s.intake.place ((bytes ++ piece) ++ []) ≡ found → 0 < length piece → 0 < room_at s.intake.bound s.intake.place bytes
     → Within (replies_behind r * (s.intake.bound + 4) + room_at s.intake.bound s.intake.place bytes) (after_told asks (with_bytes s r (bytes ++ piece)) (Some found))
 asks_within s r bytes piece (Ok (told.Greeting h, rest)) is some room =
     let one = greeting_behind s.intake.bound s.intake.place r ((bytes ++ piece) ++ []) rest h is in
@@ -174,11 +174,11 @@ asks_within s r bytes piece (Err (faults.Broken place)) is some room = omega (ar
 asks_within s r bytes piece (Err faults.TooLong) is some room = omega (arith, room)
 asks_within s r bytes piece (Err (faults.Said text)) is some room = omega (arith, room)
 
-less_by : (s : SessionState) (r : Option Reading) (place : ℕ) (piece : List ℕ) → s.intake.reading ≡ r → s.trouble ≡ None → told_with s.intake [] ≡ Some (Err (faults.Short place)) → 0 < length piece → most_left (fed s piece).intake < most_by r s.intake.bound (room_in s.intake)
+less_by : (s : SessionState) (r : Option ReplyParser) (place : ℕ) (piece : List ℕ) → s.intake.reading ≡ r → s.trouble ≡ None → told_with s.intake [] ≡ Some (Err (faults.Short place)) → 0 < length piece → most_left (fed s piece).intake < most_by r s.intake.bound (room_in s.intake)
 less_by s None place piece is well short some = absurd (let e = rw is at short in cc)
 less_by s (Some r) place piece is well short some =
     let taken : SessionState = record s { intake = taking piece s.intake } in
-    let same : taken ≡ with_bytes s r (s.intake.pending ++ piece) = ap (λ (x : Option Reading). record s { intake = record { bound = s.intake.bound; place = s.intake.place; pending = s.intake.pending ++ piece; reading = x } }) is in
+    let same : taken ≡ with_bytes s r (s.intake.pending ++ piece) = ap (λ (x : Option ReplyParser). record s { intake = record { bound = s.intake.bound; place = s.intake.place; pending = s.intake.pending ++ piece; reading = x } }) is in
     let told : told_from s.intake.bound r s.intake.place (s.intake.pending ++ []) ≡ Err (faults.Short place) = (let e = rw is at short in cc) in
     let room : 0 < room_at s.intake.bound s.intake.place s.intake.pending = short_room s.intake.bound s.intake.place place r s.intake.pending (ap (told_from s.intake.bound r s.intake.place) (sym (append-nil s.intake.pending)) ∙ told) in
     let now : SessionState = with_bytes s r (s.intake.pending ++ piece) in

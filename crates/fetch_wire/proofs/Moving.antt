@@ -3,13 +3,13 @@ use Rattle.std.proofs.Common.{◌≡◌, ◌≢◌, ℕ, ◌+◌, ◌-◌, ◌�
 use Rattle.std.specs.Option.{option_or}
 use Rattle.std.proofs.lemmas.List.{get_or_at, take_at}
 use Rattle.std.proofs.lemmas.List.Sums.{sum_by-cons}
-use Rattle.fetch_wire.specs.declared.replies.awaited.Await.{Await}
-use Rattle.fetch_wire.specs.declared.replies.awaited.Told.{Told}
+use Rattle.fetch_wire.specs.declared.replies.reply.ReplyKind.{ReplyKind}
+use Rattle.fetch_wire.specs.declared.replies.reply.ParsedReply.{ParsedReply}
 use Rattle.fetch_wire.specs.declared.lines.line.Line.{Line}
 use Rattle.fetch_wire.specs.declared.lines.line.Line.TheVariants.{End}
-use Rattle.fetch_wire.specs.declared.replies.reading.Part.TheVariants as parts
-use Rattle.fetch_wire.specs.declared.replies.reading.Reading.{Reading}
-use Rattle.fetch_wire.specs.declared.replies.reading.Reading.TheVariants as reading
+use Rattle.fetch_wire.specs.declared.replies.parser.Part.TheVariants as parts
+use Rattle.fetch_wire.specs.declared.replies.parser.ReplyParser.{ReplyParser}
+use Rattle.fetch_wire.specs.declared.replies.parser.ReplyParser.TheVariants as reading
 use Rattle.fetch_wire.specs.Awaited.{step_of, start_of, told_at}
 use Rattle.fetch_wire.specs.LineLaws.{IsLine}
 use Rattle.fetch_wire.specs.Lines.{line_len}
@@ -48,13 +48,13 @@ pub by_text_line : {S T : Type 0} (flush delim : Step S T) (f : List ℕ → Ste
 by_text_line flush delim f text none = rw none (ap f (lf_last text))
 
 -- texts one after another
-pub sent_on : (s t u : Reading) (texts others : List (List ℕ)) → Moves step_of s (sent texts) t → Moves step_of t (sent others) u → Moves step_of s (sent (texts ++ others)) u
+pub sent_on : (s t u : ReplyParser) (texts others : List (List ℕ)) → Moves step_of s (sent texts) t → Moves step_of t (sent others) u → Moves step_of s (sent (texts ++ others)) u
 sent_on s t u [] others is more = subst (λ x. Moves step_of x (sent others) u) (sym is) more
 sent_on s t u (text ∷ texts) others (v, goes_on, rest) more = (v, goes_on, sent_on v t u texts others rest more)
 
 -- ---- no line is a response end
 
-ends_break : (r : Reading) → step_of r End ≡ breaks
+ends_break : (r : ReplyParser) → step_of r End ≡ breaks
 unfolding step_of
 ends_break reading.Greeting = refl
 ends_break (reading.Capabilities before) = refl
@@ -69,7 +69,7 @@ ends_break (reading.Reply asked parts.ShallowInfo reply) = refl
 ends_break (reading.Reply asked parts.Packfile reply) = refl
 ends_break (reading.Reply asked parts.Bands reply) = refl
 
-no_end : (r : Reading) (line : Line) (step : Step Reading Told) → step_of r line ≡ step → step ≢ breaks → line ≢ End
+no_end : (r : ReplyParser) (line : Line) (step : Step ReplyParser ParsedReply) → step_of r line ≡ step → step ≢ breaks → line ≢ End
 no_end r line step is other end = other (sym is ∙ ap (step_of r) end ∙ ends_break r)
 
 -- ---- lines that fit are written
@@ -83,7 +83,7 @@ written : (bound place : ℕ) (line : Line) (lines : List Line) (rest : List ℕ
 written bound place line lines rest proper fits within =
     subst (IsLine bound place line (lines_text lines ++ rest)) (sym (append_assoc (line_text line) (lines_text lines) rest)) (written-is bound place line (lines_text lines ++ rest) proper fits within)
 
-writes : (bound place : ℕ) (r : Reading) (lines : List Line) (rest : List ℕ) (told : Told) → Tells step_of r lines told → first_too_long lines ≡ None → place + sum_by line_len lines ≤ bound
+writes : (bound place : ℕ) (r : ReplyParser) (lines : List Line) (rest : List ℕ) (told : ParsedReply) → Tells step_of r lines told → first_too_long lines ≡ None → place + sum_by line_len lines ≤ bound
     → Writes bound place lines rest (lines_text lines ++ rest)
 writes bound place r [] rest told tells fits within = absurd tells
 writes bound place r (line ∷ []) rest told tells fits within =
@@ -95,7 +95,7 @@ writes bound place r (line ∷ next ∷ lines) rest told (t, goes_on, tells) fit
     (lines_text (next ∷ lines) ++ rest, written bound place line (next ∷ lines) rest (no_end r line (goes t) goes_on (λ e. cc)) p.0 (omega (arith, n)), writes bound (place + line_len line) t (next ∷ lines) rest told tells p.1 (omega (arith, n)))
 
 -- Lines that tell a reply tell it as they are written.
-pub text_tells : (bound : ℕ) (awaited : Await) (lines : List Line) (told : Told) (rest : List ℕ) → Tells step_of (start_of awaited) lines told → first_too_long lines ≡ None → sum_by line_len lines ≤ bound
+pub text_tells : (bound : ℕ) (awaited : ReplyKind) (lines : List Line) (told : ParsedReply) (rest : List ℕ) → Tells step_of (start_of awaited) lines told → first_too_long lines ≡ None → sum_by line_len lines ≤ bound
     → told_at bound awaited (lines_text lines ++ rest) ≡ Ok (told, rest)
 text_tells bound awaited lines told rest tells fits within =
     lines_tell step_of bound 0 (start_of awaited) lines rest (lines_text lines ++ rest) told (writes bound 0 (start_of awaited) lines rest told tells fits (omega arith)) tells

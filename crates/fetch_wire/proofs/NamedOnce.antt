@@ -6,21 +6,21 @@ use Rattle.std.specs.Option.{option_or}
 use Rattle.fetch_store.specs.Scan.{split_first}
 use Rattle.fetch_store.specs.declared.id.Kind.{Kind}
 use Rattle.fetch_store.specs.declared.id.ObjectId.{ObjectId}
-use Rattle.fetch_wire.specs.declared.replies.awaited.AskedReply.{AskedReply}
-use Rattle.fetch_wire.specs.declared.replies.awaited.Await.{Await}
-use Rattle.fetch_wire.specs.declared.replies.awaited.Await.TheVariants as awaits
-use Rattle.fetch_wire.specs.declared.replies.awaited.Fault.{Fault}
-use Rattle.fetch_wire.specs.declared.replies.awaited.Told.{Told}
-use Rattle.fetch_wire.specs.declared.replies.awaited.Told.TheVariants as told
+use Rattle.fetch_wire.specs.declared.replies.reply.ReplyContext.{ReplyContext}
+use Rattle.fetch_wire.specs.declared.replies.reply.ReplyKind.{ReplyKind}
+use Rattle.fetch_wire.specs.declared.replies.reply.ReplyKind.TheVariants as awaits
+use Rattle.fetch_wire.specs.declared.replies.reply.ReplyError.{ReplyError}
+use Rattle.fetch_wire.specs.declared.replies.reply.ParsedReply.{ParsedReply}
+use Rattle.fetch_wire.specs.declared.replies.reply.ParsedReply.TheVariants as told
 use Rattle.fetch_wire.specs.declared.greetings.handshake.Handshake.{Handshake}
 use Rattle.fetch_wire.specs.declared.lines.line.Line.{Line}
 use Rattle.fetch_wire.specs.declared.lines.line.Line.TheVariants as lines
-use Rattle.fetch_wire.specs.declared.replies.reading.Advertised.{Advertised}
-use Rattle.fetch_wire.specs.declared.replies.reading.Advertised.TheVariants as next
-use Rattle.fetch_wire.specs.declared.replies.reading.Part.{Part}
-use Rattle.fetch_wire.specs.declared.replies.reading.Part.TheVariants as parts
-use Rattle.fetch_wire.specs.declared.replies.reading.Reading.{Reading}
-use Rattle.fetch_wire.specs.declared.replies.reading.Reading.TheVariants as reading
+use Rattle.fetch_wire.specs.declared.replies.parser.Advertised.{Advertised}
+use Rattle.fetch_wire.specs.declared.replies.parser.Advertised.TheVariants as next
+use Rattle.fetch_wire.specs.declared.replies.parser.Part.{Part}
+use Rattle.fetch_wire.specs.declared.replies.parser.Part.TheVariants as parts
+use Rattle.fetch_wire.specs.declared.replies.parser.ReplyParser.{ReplyParser}
+use Rattle.fetch_wire.specs.declared.replies.parser.ReplyParser.TheVariants as reading
 use Rattle.fetch_wire.specs.declared.requests.records.FetchReply.{FetchReply}
 use Rattle.fetch_wire.specs.declared.listings.reference.Ref.{Ref}
 use Rattle.fetch_wire.specs.declared.listings.reference.Ref.TheVariants.{Direct, Symbolic, Peeled, Unborn}
@@ -61,7 +61,7 @@ once_more (q ∷ refs) r once new =
 
 -- ---- what is told so far
 
-abbrev HoldsOnce : Reading → Type 0
+abbrev HoldsOnce : ReplyParser → Type 0
 HoldsOnce reading.Greeting = ⊤
 HoldsOnce (reading.Capabilities cs) = ⊤
 HoldsOnce reading.Version = ⊤
@@ -69,36 +69,36 @@ HoldsOnce (reading.Advertisement h listed next) = AreNamedOnce listed
 HoldsOnce (reading.Listing kind listed) = AreNamedOnce listed
 HoldsOnce (reading.Reply asked part reply) = ⊤
 
-abbrev Keeps : Step Reading Told → Type 0
+abbrev Keeps : Step ReplyParser ParsedReply → Type 0
 Keeps step = OfStep HoldsOnce NamesOnce step
 
-breaks_or : {A : Type 0} (found : Option A) (f : A → Step Reading Told) → ((x : A) → found ≡ Some x → Keeps (f x)) → Keeps (or_breaks found f)
+breaks_or : {A : Type 0} (found : Option A) (f : A → Step ReplyParser ParsedReply) → ((x : A) → found ≡ Some x → Keeps (f x)) → Keeps (or_breaks found f)
 breaks_or None f h = tt
 breaks_or (Some x) f h = h x refl
 
-goes_if : (found : Option Reading) → IfSome found HoldsOnce → Keeps (or_breaks found (λ s. goes s))
+goes_if : (found : Option ReplyParser) → IfSome found HoldsOnce → Keeps (or_breaks found (λ s. goes s))
 goes_if None h = tt
 goes_if (Some s) h = h
 
-says_if : (b : Bool) (text : List ℕ) (step : Step Reading Told) → Keeps step → Keeps (if b then says text else step)
+says_if : (b : Bool) (text : List ℕ) (step : Step ReplyParser ParsedReply) → Keeps step → Keeps (if b then says text else step)
 says_if true text step h = tt
 says_if false text step h = h
 
-keeps_line : (flush delim : Step Reading Told) (f : List ℕ → Step Reading Told) (line : Line) → Keeps flush → Keeps delim → ((text : List ℕ) → Keeps (f text)) → Keeps (by_line flush delim f line)
+keeps_line : (flush delim : Step ReplyParser ParsedReply) (f : List ℕ → Step ReplyParser ParsedReply) (line : Line) → Keeps flush → Keeps delim → ((text : List ℕ) → Keeps (f text)) → Keeps (by_line flush delim f line)
 keeps_line flush delim f (lines.Payload payload) h g k = says_if (is_error payload) (error_text payload) (f (without_lf payload)) (k (without_lf payload))
 keeps_line flush delim f lines.Flush h g k = h
 keeps_line flush delim f lines.Delim h g k = g
 keeps_line flush delim f lines.End h g k = tt
 
-mapped : {A : Type 0} (found : Option A) (f : A → Reading) → ((x : A) → found ≡ Some x → HoldsOnce (f x)) → IfSome (option_map f found) HoldsOnce
+mapped : {A : Type 0} (found : Option A) (f : A → ReplyParser) → ((x : A) → found ≡ Some x → HoldsOnce (f x)) → IfSome (option_map f found) HoldsOnce
 mapped None f h = tt
 mapped (Some x) f h = h x refl
 
-chained : {A : Type 0} (found : Option A) (f : A → Option Reading) → ((x : A) → IfSome (f x) HoldsOnce) → IfSome (option_and_then f found) HoldsOnce
+chained : {A : Type 0} (found : Option A) (f : A → Option ReplyParser) → ((x : A) → IfSome (f x) HoldsOnce) → IfSome (option_and_then f found) HoldsOnce
 chained None f h = tt
 chained (Some x) f h = h x
 
-either : (a b : Option Reading) → IfSome a HoldsOnce → IfSome b HoldsOnce → IfSome (option_or a b) HoldsOnce
+either : (a b : Option ReplyParser) → IfSome a HoldsOnce → IfSome b HoldsOnce → IfSome (option_or a b) HoldsOnce
 either None b h k = k
 either (Some x) b h k = h
 
@@ -194,38 +194,38 @@ greeting_by text false false = goes_if (at_first text) (at_first_keeps text)
 
 -- ---- the reply to a request lists nothing
 
-keeps_if : (b : Bool) (x y : Step Reading Told) → Keeps x → Keeps y → Keeps (if b then x else y)
+keeps_if : (b : Bool) (x y : Step ReplyParser ParsedReply) → Keeps x → Keeps y → Keeps (if b then x else y)
 keeps_if true x y h k = h
 keeps_if false x y h k = k
 
-packfile_keeps : (asked : AskedReply) (reply : FetchReply) (text : List ℕ) → Keeps (at_packfile asked reply text)
+packfile_keeps : (asked : ReplyContext) (reply : FetchReply) (text : List ℕ) → Keeps (at_packfile asked reply text)
 packfile_keeps asked reply text =
     keeps_if (is_packfile text) _ breaks (keeps_if asked.read_pack (goes (reading.Reply asked parts.Bands (record reply { pack = Some [] }))) (ends (told.Reply reply)) tt tt) tt
 
-rest_keeps : (asked : AskedReply) (reply : FetchReply) (text : List ℕ) → Keeps (at_rest asked reply text)
+rest_keeps : (asked : ReplyContext) (reply : FetchReply) (text : List ℕ) → Keeps (at_rest asked reply text)
 rest_keeps asked reply text = keeps_if (is_shallow_info text) (goes (reading.Reply asked parts.ShallowInfo reply)) (at_packfile asked reply text) tt (packfile_keeps asked reply text)
 
-beginning_keeps : (asked : AskedReply) (reply : FetchReply) (text : List ℕ) → Keeps (at_beginning asked reply text)
+beginning_keeps : (asked : ReplyContext) (reply : FetchReply) (text : List ℕ) → Keeps (at_beginning asked reply text)
 beginning_keeps asked reply text =
     keeps_if asked.done (at_rest asked reply text) _ (rest_keeps asked reply text) (keeps_if (is_acknowledgments text) (goes (reading.Reply asked parts.Acknowledgments reply)) breaks tt tt)
 
-acknowledgment_keeps : (asked : AskedReply) (reply : FetchReply) (text : List ℕ) → Keeps (at_acknowledgment asked reply text)
+acknowledgment_keeps : (asked : ReplyContext) (reply : FetchReply) (text : List ℕ) → Keeps (at_acknowledgment asked reply text)
 acknowledgment_keeps asked reply text =
     keeps_if (is_nak text) (goes (reading.Reply asked parts.Acknowledgments reply)) _ tt
     (keeps_if (is_ready text) (goes (reading.Reply asked parts.Ready reply)) _ tt (breaks_or (acknowledged_in asked text) _ (λ id e. tt)))
 
-change_keeps : (asked : AskedReply) (reply : FetchReply) (shallow unshallow : Option ObjectId) → Keeps (at_change asked reply shallow unshallow)
+change_keeps : (asked : ReplyContext) (reply : FetchReply) (shallow unshallow : Option ObjectId) → Keeps (at_change asked reply shallow unshallow)
 change_keeps asked reply (Some id) unshallow = tt
 change_keeps asked reply None (Some id) = tt
 change_keeps asked reply None None = tt
 
-ready_keeps : (asked : AskedReply) (reply : FetchReply) (line : Line) → Keeps (behind_ready asked reply line)
+ready_keeps : (asked : ReplyContext) (reply : FetchReply) (line : Line) → Keeps (behind_ready asked reply line)
 ready_keeps asked reply (lines.Payload payload) = tt
 ready_keeps asked reply lines.Flush = tt
 ready_keeps asked reply lines.Delim = tt
 ready_keeps asked reply lines.End = tt
 
-band_keeps : (asked : AskedReply) (reply : FetchReply) (line : Line) → Keeps (at_band asked reply line)
+band_keeps : (asked : ReplyContext) (reply : FetchReply) (line : Line) → Keeps (at_band asked reply line)
 band_keeps asked reply (lines.Payload (band ∷ bytes)) =
     keeps_if (band == 1) (goes (reading.Reply asked parts.Bands (record reply { pack = with_bytes reply.pack bytes }))) _ tt
     (keeps_if (band == 2) (goes (reading.Reply asked parts.Bands (record reply { progress = reply.progress ++ bytes ∷ [] }))) _ tt (keeps_if (band == 3) (says bytes) breaks tt tt))
@@ -234,7 +234,7 @@ band_keeps asked reply lines.Flush = tt
 band_keeps asked reply lines.Delim = tt
 band_keeps asked reply lines.End = tt
 
-reply_keeps : (asked : AskedReply) (part : Part) (reply : FetchReply) (line : Line) → Keeps (reply_step asked part reply line)
+reply_keeps : (asked : ReplyContext) (part : Part) (reply : FetchReply) (line : Line) → Keeps (reply_step asked part reply line)
 reply_keeps asked parts.Beginning reply line = keeps_line breaks breaks (at_beginning asked reply) line tt tt (beginning_keeps asked reply)
 reply_keeps asked parts.Acknowledgments reply line = keeps_line (ends (told.Reply (record reply { acknowledged = each_once reply.acknowledged; last = false }))) breaks (at_acknowledgment asked reply) line tt tt (acknowledgment_keeps asked reply)
 reply_keeps asked parts.Ready reply line = ready_keeps asked reply line
@@ -246,7 +246,7 @@ reply_keeps asked parts.Bands reply line = band_keeps asked reply line
 
 -- ---- each line
 
-line_keeps : (r : Reading) (line : Line) → HoldsOnce r → Keeps (step_of r line)
+line_keeps : (r : ReplyParser) (line : Line) → HoldsOnce r → Keeps (step_of r line)
 unfolding step_of
 line_keeps reading.Greeting line h = keeps_line breaks breaks at_greeting line tt tt (λ text. greeting_by text (is_version_2 text) (is_version_1 text))
 line_keeps (reading.Capabilities before) line h =
@@ -258,15 +258,15 @@ line_keeps (reading.Advertisement handshake before allowed) line h =
 line_keeps (reading.Listing kind before) line h = keeps_line (ends (told.Listing before)) breaks (at_listed kind before) line h tt (λ text. listed_keeps kind before text h)
 line_keeps (reading.Reply asked part reply) line h = reply_keeps asked part reply line
 
-starts_once : (awaited : Await) → HoldsOnce (start_of awaited)
+starts_once : (awaited : ReplyKind) → HoldsOnce (start_of awaited)
 starts_once awaits.Greeting = tt
 starts_once (awaits.Listing kind) = none_once
 starts_once (awaits.Reply asked) = tt
 
-told_by : (found : Result (Told × List ℕ) Fault) (what : Told) (rest : List ℕ) → OfTold NamesOnce found → found ≡ Ok (what, rest) → NamesOnce what
+told_by : (found : Result (ParsedReply × List ℕ) ReplyError) (what : ParsedReply) (rest : List ℕ) → OfTold NamesOnce found → found ≡ Ok (what, rest) → NamesOnce what
 told_by found what rest h is = rw is at h
 
 -- what was told names each reference once
-pub names_once : (bound : ℕ) (awaited : Await) (bytes rest : List ℕ) (what : Told) → told_at bound awaited bytes ≡ Ok (what, rest) → NamesOnce what
+pub names_once : (bound : ℕ) (awaited : ReplyKind) (bytes rest : List ℕ) (what : ParsedReply) → told_at bound awaited bytes ≡ Ok (what, rest) → NamesOnce what
 names_once bound awaited bytes rest what is =
     told_by (told_at bound awaited bytes) what rest (within-keeps HoldsOnce NamesOnce step_of (suc (length bytes)) bound 0 (start_of awaited) bytes line_keeps (starts_once awaited)) is

@@ -5,10 +5,10 @@ use Rattle.std.proofs.lemmas.Bool.Decides.{nat_tests}
 use Rattle.std.specs.List.{list_all}
 use Rattle.std.proofs.lemmas.List.Sums.{sum_by-cons}
 use Rattle.hex.specs.Hex.{is_hex_digit}
-use Rattle.fetch_wire.specs.declared.lines.section.Trouble.{Trouble}
-use Rattle.fetch_wire.specs.declared.lines.section.Trouble.TheVariants as lines
-use Rattle.fetch_wire.specs.declared.replies.awaited.Fault.{Fault}
-use Rattle.fetch_wire.specs.declared.replies.awaited.Fault.TheVariants.{TooLong}
+use Rattle.fetch_wire.specs.declared.lines.section.LineError.{LineError}
+use Rattle.fetch_wire.specs.declared.lines.section.LineError.TheVariants as lines
+use Rattle.fetch_wire.specs.declared.replies.reply.ReplyError.{ReplyError}
+use Rattle.fetch_wire.specs.declared.replies.reply.ReplyError.TheVariants.{TooLong}
 use Rattle.fetch_wire.specs.declared.lines.line.Line.{Line}
 use Rattle.fetch_wire.specs.Bounds.{Moves, PassesBound, IsTooLong}
 use Rattle.fetch_wire.specs.Lines.{is_no_line, line_counted, announced, number_in, line_at, line_len}
@@ -33,15 +33,15 @@ before_others : {S T : Type 0} (step : S → Line → Step S T) (bound place : �
     → Were step bound (place + line_len line) t rest behind told → Were step bound place s rest bytes told
 before_others step bound place s t line behind rest bytes told is goes_on (ls, writes, tells) = (line ∷ ls, (behind, is, writes), first_tells step s t line ls told goes_on tells)
 
-ok_told : {T : Type 0} → T → Result (T × List ℕ) Fault → T
+ok_told : {T : Type 0} → T → Result (T × List ℕ) ReplyError → T
 ok_told other (Ok x) = x.0
 ok_told other (Err e) = other
 
-ok_rest : {T : Type 0} → List ℕ → Result (T × List ℕ) Fault → List ℕ
+ok_rest : {T : Type 0} → List ℕ → Result (T × List ℕ) ReplyError → List ℕ
 ok_rest other (Ok x) = x.1
 ok_rest other (Err e) = other
 
-abbrev read_ok : {T : Type 0} → T → List ℕ → Result (T × List ℕ) Fault
+abbrev read_ok : {T : Type 0} → T → List ℕ → Result (T × List ℕ) ReplyError
 read_ok x rest = Ok (x, rest)
 
 module _ {S T : Type 0} where
@@ -59,7 +59,7 @@ module _ {S T : Type 0} where
   step_were step n bound place s line behind rest bytes told breaks does is again reads = absurd cc
   step_were step n bound place s line behind rest bytes told (says text) does is again reads = absurd cc
 
-  line_were : (step : S → Line → Step S T) (n bound place : ℕ) (s : S) (bytes rest : List ℕ) (told : T) (found : Result (Line × List ℕ) Trouble) → line_at bound place bytes ≡ found
+  line_were : (step : S → Line → Step S T) (n bound place : ℕ) (s : S) (bytes rest : List ℕ) (told : T) (found : Result (Line × List ℕ) LineError) → line_at bound place bytes ≡ found
       → ((t : S) (p : ℕ) (behind : List ℕ) → read_within n step bound t p behind ≡ Ok (told, rest) → Were step bound p t rest behind told)
       → after_line found (λ line behind. after_step place behind (λ t. read_within n step bound t (place + line_len line) behind) (step s line)) ≡ Ok (told, rest) → Were step bound place s rest bytes told
   line_were step n bound place s bytes rest told (Err e) is again reads = absurd cc
@@ -154,7 +154,7 @@ module _ {S T : Type 0} where
   step_far step n bound place s line behind bytes breaks does is again reads = absurd cc
   step_far step n bound place s line behind bytes (says text) does is again reads = absurd cc
 
-  line_far : (step : S → Line → Step S T) (n bound place : ℕ) (s : S) (bytes : List ℕ) (found : Result (Line × List ℕ) Trouble) → line_at bound place bytes ≡ found
+  line_far : (step : S → Line → Step S T) (n bound place : ℕ) (s : S) (bytes : List ℕ) (found : Result (Line × List ℕ) LineError) → line_at bound place bytes ≡ found
       → ((t : S) (p : ℕ) (behind : List ℕ) → read_within n step bound t p behind ≡ Err TooLong → Passes step bound p t behind)
       → after_line found (λ line behind. after_step place behind (λ t. read_within n step bound t (place + line_len line) behind) (step s line)) ≡ Err TooLong → Passes step bound place s bytes
   line_far step n bound place s bytes (Err lines.TooLong) is again reads =

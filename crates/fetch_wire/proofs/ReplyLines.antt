@@ -9,15 +9,15 @@ use Rattle.fetch_store.specs.Id.{bytes_of, id_in_hex}
 use Rattle.fetch_store.specs.declared.id.Kind.{Kind}
 use Rattle.fetch_store.specs.declared.id.ObjectId.{ObjectId}
 use Rattle.fetch_store.proofs.TagTexts.{after_of}
-use Rattle.fetch_wire.specs.declared.replies.awaited.AskedReply.{AskedReply}
-use Rattle.fetch_wire.specs.declared.replies.awaited.Await.TheVariants.{Reply}
-use Rattle.fetch_wire.specs.declared.replies.awaited.Told.{Told}
-use Rattle.fetch_wire.specs.declared.replies.awaited.Told.TheVariants as told
+use Rattle.fetch_wire.specs.declared.replies.reply.ReplyContext.{ReplyContext}
+use Rattle.fetch_wire.specs.declared.replies.reply.ReplyKind.TheVariants.{Reply}
+use Rattle.fetch_wire.specs.declared.replies.reply.ParsedReply.{ParsedReply}
+use Rattle.fetch_wire.specs.declared.replies.reply.ParsedReply.TheVariants as told
 use Rattle.fetch_wire.specs.declared.lines.line.Line.TheVariants.{Flush, Delim}
-use Rattle.fetch_wire.specs.declared.replies.reading.Part.{Part}
-use Rattle.fetch_wire.specs.declared.replies.reading.Part.TheVariants.{Beginning, Acknowledgments, Ready, Rest, ShallowInfo, Packfile, Bands}
-use Rattle.fetch_wire.specs.declared.replies.reading.Reading.{Reading}
-use Rattle.fetch_wire.specs.declared.replies.reading.Reading.TheVariants as reading
+use Rattle.fetch_wire.specs.declared.replies.parser.Part.{Part}
+use Rattle.fetch_wire.specs.declared.replies.parser.Part.TheVariants.{Beginning, Acknowledgments, Ready, Rest, ShallowInfo, Packfile, Bands}
+use Rattle.fetch_wire.specs.declared.replies.parser.ReplyParser.{ReplyParser}
+use Rattle.fetch_wire.specs.declared.replies.parser.ReplyParser.TheVariants as reading
 use Rattle.fetch_wire.specs.declared.requests.records.FetchReply.{FetchReply}
 use Rattle.fetch_wire.specs.Awaited.{step_of, start_of}
 use Rattle.fetch_wire.specs.Cutting.{in_pieces}
@@ -40,24 +40,24 @@ so_far ids shallow unshallow = record no_reply { acknowledged = ids; shallow = s
 
 -- ---- acknowledgments
 
-opens : (asked : AskedReply) → asked.done ≡ false → step_of (reading.Reply asked Beginning no_reply) (text_line (codes "acknowledgments")) ≡ goes (reading.Reply asked Acknowledgments no_reply)
+opens : (asked : ReplyContext) → asked.done ≡ false → step_of (reading.Reply asked Beginning no_reply) (text_line (codes "acknowledgments")) ≡ goes (reading.Reply asked Acknowledgments no_reply)
 unfolding step_of is_error without_lf is_acknowledgments
 opens asked more = rw more refl
 
-nak : (asked : AskedReply) (reply : FetchReply) → step_of (reading.Reply asked Acknowledgments reply) (text_line (codes "NAK")) ≡ goes (reading.Reply asked Acknowledgments reply)
+nak : (asked : ReplyContext) (reply : FetchReply) → step_of (reading.Reply asked Acknowledgments reply) (text_line (codes "NAK")) ≡ goes (reading.Reply asked Acknowledgments reply)
 unfolding step_of is_error without_lf is_nak
 nak asked reply = refl
 
 have_if : (haves : List ObjectId) (id : ObjectId) → has_id id haves ≡ true → if_have haves id ≡ Some id
 have_if haves id has = rw has refl
 
-acknowledged_read : (asked : AskedReply) (id : ObjectId) → IsIdOf asked.kind id → has_id id asked.haves ≡ true → acknowledged_in asked (codes "ACK " ++ encode_lower (bytes_of id)) ≡ Some id
+acknowledged_read : (asked : ReplyContext) (id : ObjectId) → IsIdOf asked.kind id → has_id id asked.haves ≡ true → acknowledged_in asked (codes "ACK " ++ encode_lower (bytes_of id)) ≡ Some id
 unfolding acknowledged_in
 acknowledged_read asked id is has =
     ap (option_and_then (λ hex. option_and_then (if_have asked.haves) (id_in_hex asked.kind hex))) (after_of (codes "ACK ") (encode_lower (bytes_of id)))
     ∙ ap (option_and_then (if_have asked.haves)) (id_read asked.kind id is) ∙ have_if asked.haves id has
 
-at_ack : (asked : AskedReply) (reply : FetchReply) (id : ObjectId) → IsIdOf asked.kind id → has_id id asked.haves ≡ true
+at_ack : (asked : ReplyContext) (reply : FetchReply) (id : ObjectId) → IsIdOf asked.kind id → has_id id asked.haves ≡ true
     → at_acknowledgment asked reply (codes "ACK " ++ encode_lower (bytes_of id)) ≡ goes (reading.Reply asked Acknowledgments (record reply { acknowledged = reply.acknowledged ++ id ∷ [] }))
 unfolding is_nak is_ready
 at_ack asked reply id is has = ap (λ found. or_breaks found (λ x. goes (reading.Reply asked Acknowledgments (record reply { acknowledged = reply.acknowledged ++ x ∷ [] })))) (acknowledged_read asked id is has)
@@ -66,14 +66,14 @@ ack_fails_not : (hex : List ℕ) → is_error ((codes "ACK " ++ hex) ++ 10 ∷ [
 unfolding is_error
 ack_fails_not hex = refl
 
-ack : (asked : AskedReply) (before : List ObjectId) (id : ObjectId) → IsIdOf asked.kind id → has_id id asked.haves ≡ true
+ack : (asked : ReplyContext) (before : List ObjectId) (id : ObjectId) → IsIdOf asked.kind id → has_id id asked.haves ≡ true
     → step_of (reading.Reply asked Acknowledgments (so_far before [] [])) (text_line (codes "ACK " ++ encode_lower (bytes_of id))) ≡ goes (reading.Reply asked Acknowledgments (so_far (before ++ id ∷ []) [] []))
 unfolding step_of
 ack asked before id is has =
     by_text_line (ends (told.Reply (record (so_far (each_once before) [] []) { last = false }))) breaks (at_acknowledgment asked (so_far before [] [])) (codes "ACK " ++ encode_lower (bytes_of id)) (ack_fails_not (encode_lower (bytes_of id)))
     ∙ at_ack asked (so_far before [] []) id is has
 
-acks : (asked : AskedReply) (before ids : List ObjectId) → All (IsIdOf asked.kind) ids → All (λ id. has_id id asked.haves ≡ true) ids
+acks : (asked : ReplyContext) (before ids : List ObjectId) → All (IsIdOf asked.kind) ids → All (λ id. has_id id asked.haves ≡ true) ids
     → Moves step_of (reading.Reply asked Acknowledgments (so_far before [] [])) (sent (id_lines (codes "ACK ") ids)) (reading.Reply asked Acknowledgments (so_far (before ++ ids) [] []))
 acks asked before [] are had = ap (λ (l : List ObjectId). reading.Reply asked Acknowledgments (so_far l [] [])) (sym (append-nil before))
 acks asked before (id ∷ ids) are had = (
@@ -83,16 +83,16 @@ acks asked before (id ∷ ids) are had = (
       (acks asked (before ++ id ∷ []) ids (All-tail (IsIdOf asked.kind) id ids are) (All-tail (λ x. has_id x asked.haves ≡ true) id ids had)),
 )
 
-all_acks : (asked : AskedReply) (ids : List ObjectId) → All (IsIdOf asked.kind) ids → All (λ id. has_id id asked.haves ≡ true) ids
+all_acks : (asked : ReplyContext) (ids : List ObjectId) → All (IsIdOf asked.kind) ids → All (λ id. has_id id asked.haves ≡ true) ids
     → Moves step_of (reading.Reply asked Acknowledgments no_reply) (sent (acknowledged_texts ids)) (reading.Reply asked Acknowledgments (so_far ids [] []))
 all_acks asked [] are had = (reading.Reply asked Acknowledgments no_reply, nak asked no_reply, refl)
 all_acks asked (id ∷ ids) are had = acks asked [] (id ∷ ids) are had
 
-more_comes : (asked : AskedReply) (ids : List ObjectId) → step_of (reading.Reply asked Acknowledgments (so_far ids [] [])) Flush ≡ ends (told.Reply (in_round ids))
+more_comes : (asked : ReplyContext) (ids : List ObjectId) → step_of (reading.Reply asked Acknowledgments (so_far ids [] [])) Flush ≡ ends (told.Reply (in_round ids))
 unfolding step_of
 more_comes asked ids = refl
 
-pub round_tells : (asked : AskedReply) (ids : List ObjectId) → asked.done ≡ false → All (IsIdOf asked.kind) ids → All (λ id. has_id id asked.haves ≡ true) ids → Tells step_of (start_of (Reply asked)) (round_lines ids) (told.Reply (in_round ids))
+pub round_tells : (asked : ReplyContext) (ids : List ObjectId) → asked.done ≡ false → All (IsIdOf asked.kind) ids → All (λ id. has_id id asked.haves ≡ true) ids → Tells step_of (start_of (Reply asked)) (round_lines ids) (told.Reply (in_round ids))
 round_tells asked ids more are had =
     moves_tell step_of (reading.Reply asked Beginning no_reply) (reading.Reply asked Acknowledgments (so_far ids [] [])) (sent (codes "acknowledgments" ∷ acknowledged_texts ids)) (Flush ∷ []) (told.Reply (in_round ids))
     (reading.Reply asked Acknowledgments no_reply, opens asked more, all_acks asked ids are had) (more_comes asked ids)
@@ -119,14 +119,14 @@ unshallow_fails_not : (hex : List ℕ) → is_error ((codes "unshallow " ++ hex)
 unfolding is_error
 unshallow_fails_not hex = refl
 
-one_shallow : (asked : AskedReply) (ids before after_it : List ObjectId) (id : ObjectId) → IsIdOf asked.kind id
+one_shallow : (asked : ReplyContext) (ids before after_it : List ObjectId) (id : ObjectId) → IsIdOf asked.kind id
     → step_of (reading.Reply asked ShallowInfo (so_far ids before after_it)) (text_line (codes "shallow " ++ encode_lower (bytes_of id))) ≡ goes (reading.Reply asked ShallowInfo (so_far ids (before ++ id ∷ []) after_it))
 unfolding step_of
 one_shallow asked ids before after_it id is =
     by_text_line breaks (goes (reading.Reply asked Packfile (so_far ids before after_it))) (λ text. at_change asked (so_far ids before after_it) (shallow_in asked.kind text) (unshallow_in asked.kind text)) (codes "shallow " ++ encode_lower (bytes_of id)) (shallow_fails_not (encode_lower (bytes_of id)))
     ∙ ap (λ found. at_change asked (so_far ids before after_it) found (unshallow_in asked.kind (codes "shallow " ++ encode_lower (bytes_of id)))) (shallow_read asked.kind id is)
 
-one_unshallow : (asked : AskedReply) (ids shallow before : List ObjectId) (id : ObjectId) → IsIdOf asked.kind id
+one_unshallow : (asked : ReplyContext) (ids shallow before : List ObjectId) (id : ObjectId) → IsIdOf asked.kind id
     → step_of (reading.Reply asked ShallowInfo (so_far ids shallow before)) (text_line (codes "unshallow " ++ encode_lower (bytes_of id))) ≡ goes (reading.Reply asked ShallowInfo (so_far ids shallow (before ++ id ∷ [])))
 unfolding step_of
 one_unshallow asked ids shallow before id is =
@@ -134,7 +134,7 @@ one_unshallow asked ids shallow before id is =
     ∙ ap (λ found. at_change asked (so_far ids shallow before) found (unshallow_in asked.kind (codes "unshallow " ++ encode_lower (bytes_of id)))) (not_shallow asked.kind (encode_lower (bytes_of id)))
     ∙ ap (at_change asked (so_far ids shallow before) None) (unshallow_read asked.kind id is)
 
-shallows : (asked : AskedReply) (ids before more : List ObjectId) → All (IsIdOf asked.kind) more
+shallows : (asked : ReplyContext) (ids before more : List ObjectId) → All (IsIdOf asked.kind) more
     → Moves step_of (reading.Reply asked ShallowInfo (so_far ids before [])) (sent (id_lines (codes "shallow ") more)) (reading.Reply asked ShallowInfo (so_far ids (before ++ more) []))
 shallows asked ids before [] are = ap (λ (l : List ObjectId). reading.Reply asked ShallowInfo (so_far ids l [])) (sym (append-nil before))
 shallows asked ids before (id ∷ more) are = (
@@ -144,7 +144,7 @@ shallows asked ids before (id ∷ more) are = (
       (shallows asked ids (before ++ id ∷ []) more (All-tail (IsIdOf asked.kind) id more are)),
 )
 
-unshallows : (asked : AskedReply) (ids shallow before more : List ObjectId) → All (IsIdOf asked.kind) more
+unshallows : (asked : ReplyContext) (ids shallow before more : List ObjectId) → All (IsIdOf asked.kind) more
     → Moves step_of (reading.Reply asked ShallowInfo (so_far ids shallow before)) (sent (id_lines (codes "unshallow ") more)) (reading.Reply asked ShallowInfo (so_far ids shallow (before ++ more)))
 unshallows asked ids shallow before [] are = ap (λ (l : List ObjectId). reading.Reply asked ShallowInfo (so_far ids shallow l)) (sym (append-nil before))
 unshallows asked ids shallow before (id ∷ more) are = (
@@ -156,14 +156,14 @@ unshallows asked ids shallow before (id ∷ more) are = (
 
 -- ---- where `shallow-info` or `packfile` may stand
 
-abbrev AtRest : AskedReply → Part → Type 0
+abbrev AtRest : ReplyContext → Part → Type 0
 AtRest asked part = (reply : FetchReply) (text : List ℕ) → is_error (text ++ 10 ∷ []) ≡ false → step_of (reading.Reply asked part reply) (text_line text) ≡ at_rest asked reply text
 
-rest_begins : (asked : AskedReply) → asked.done ≡ true → AtRest asked Beginning
+rest_begins : (asked : ReplyContext) → asked.done ≡ true → AtRest asked Beginning
 unfolding step_of
 rest_begins asked done reply text none = by_text_line breaks breaks (at_beginning asked reply) text none ∙ (rw done refl)
 
-rest_stands : (asked : AskedReply) → AtRest asked Rest
+rest_stands : (asked : ReplyContext) → AtRest asked Rest
 unfolding step_of
 rest_stands asked reply text none = by_text_line breaks breaks (at_rest asked reply) text none
 
@@ -175,27 +175,27 @@ pack_fails_not : is_error (codes "packfile" ++ 10 ∷ []) ≡ false
 unfolding is_error
 pack_fails_not = refl
 
-at_info : (asked : AskedReply) (reply : FetchReply) → at_rest asked reply (codes "shallow-info") ≡ goes (reading.Reply asked ShallowInfo reply)
+at_info : (asked : ReplyContext) (reply : FetchReply) → at_rest asked reply (codes "shallow-info") ≡ goes (reading.Reply asked ShallowInfo reply)
 unfolding is_shallow_info
 at_info asked reply = refl
 
 -- `packfile`, whether the pack is read or not
-abbrev from_packfile : AskedReply → FetchReply → Step Reading Told
+abbrev from_packfile : ReplyContext → FetchReply → Step ReplyParser ParsedReply
 from_packfile asked reply = if asked.read_pack then goes (reading.Reply asked Bands (record reply { pack = Some [] })) else ends (told.Reply reply)
 
-pack_at_rest : (asked : AskedReply) (part : Part) (reply : FetchReply) → AtRest asked part → step_of (reading.Reply asked part reply) (text_line (codes "packfile")) ≡ from_packfile asked reply
+pack_at_rest : (asked : ReplyContext) (part : Part) (reply : FetchReply) → AtRest asked part → step_of (reading.Reply asked part reply) (text_line (codes "packfile")) ≡ from_packfile asked reply
 unfolding is_shallow_info is_packfile
 pack_at_rest asked part reply rests = rests reply (codes "packfile") pack_fails_not ∙ refl
 
-pack_behind : (asked : AskedReply) (reply : FetchReply) → step_of (reading.Reply asked Packfile reply) (text_line (codes "packfile")) ≡ from_packfile asked reply
+pack_behind : (asked : ReplyContext) (reply : FetchReply) → step_of (reading.Reply asked Packfile reply) (text_line (codes "packfile")) ≡ from_packfile asked reply
 unfolding step_of is_error without_lf is_packfile
 pack_behind asked reply = refl
 
-delimited : (asked : AskedReply) (reply : FetchReply) → step_of (reading.Reply asked ShallowInfo reply) Delim ≡ goes (reading.Reply asked Packfile reply)
+delimited : (asked : ReplyContext) (reply : FetchReply) → step_of (reading.Reply asked ShallowInfo reply) Delim ≡ goes (reading.Reply asked Packfile reply)
 unfolding step_of
 delimited asked reply = refl
 
-change_moves : (asked : AskedReply) (part : Part) (ids : List ObjectId) (change : BorderChange) → AtRest asked part → All (IsIdOf asked.kind) change.shallow → All (IsIdOf asked.kind) change.unshallow
+change_moves : (asked : ReplyContext) (part : Part) (ids : List ObjectId) (change : BorderChange) → AtRest asked part → All (IsIdOf asked.kind) change.shallow → All (IsIdOf asked.kind) change.unshallow
     → Moves step_of (reading.Reply asked part (so_far ids [] [])) (change_lines (Some change)) (reading.Reply asked Packfile (so_far ids change.shallow change.unshallow))
 change_moves asked part ids change rests shallow unshallow =
     let told_all = so_far ids change.shallow change.unshallow in
@@ -211,15 +211,15 @@ change_moves asked part ids change rests shallow unshallow =
 
 -- ---- the pack
 
-if_read : (b : Bool) (x y : Step Reading Told) → b ≡ true → (if b then x else y) ≡ x
+if_read : (b : Bool) (x y : Step ReplyParser ParsedReply) → b ≡ true → (if b then x else y) ≡ x
 if_read true x y is = refl
 if_read false x y is = absurd cc
 
-if_unread : (b : Bool) (x y : Step Reading Told) → b ≡ false → (if b then x else y) ≡ y
+if_unread : (b : Bool) (x y : Step ReplyParser ParsedReply) → b ≡ false → (if b then x else y) ≡ y
 if_unread true x y is = absurd cc
 if_unread false x y is = refl
 
-bands_from : (asked : AskedReply) (part : Part) (ids shallow unshallow : List ObjectId) (bands : List Band) → asked.read_pack ≡ true
+bands_from : (asked : ReplyContext) (part : Part) (ids shallow unshallow : List ObjectId) (bands : List Band) → asked.read_pack ≡ true
     → step_of (reading.Reply asked part (so_far ids shallow unshallow)) (text_line (codes "packfile")) ≡ from_packfile asked (so_far ids shallow unshallow)
     → Tells step_of (reading.Reply asked part (so_far ids shallow unshallow)) (pack_lines bands) (told.Reply (behind (so_far ids shallow unshallow) (concat (pieces_of bands)) (texts_of bands)))
 bands_from asked part ids shallow unshallow bands reads first =
@@ -227,7 +227,7 @@ bands_from asked part ids shallow unshallow bands reads first =
     first_tells step_of (reading.Reply asked part reply) (reading.Reply asked Bands (behind reply [] [])) (text_line (codes "packfile")) (map band_line bands ++ Flush ∷ []) (told.Reply (behind reply (concat (pieces_of bands)) (texts_of bands)))
     (first ∙ if_read asked.read_pack _ _ reads) (bands_tell asked reply [] [] bands)
 
-last_from : (asked : AskedReply) (part : Part) (ids : List ObjectId) (change : Option BorderChange) (bands : List Band) → AtRest asked part → asked.read_pack ≡ true → IfSome change (IsChangeOf asked.kind)
+last_from : (asked : ReplyContext) (part : Part) (ids : List ObjectId) (change : Option BorderChange) (bands : List Band) → AtRest asked part → asked.read_pack ≡ true → IfSome change (IsChangeOf asked.kind)
     → Tells step_of (reading.Reply asked part (so_far ids [] [])) (last_lines change bands) (told.Reply (record (at_last change bands) { acknowledged = ids }))
 last_from asked part ids None bands rests reads is = bands_from asked part ids [] [] bands reads (pack_at_rest asked part (so_far ids [] []) rests)
 last_from asked part ids (Some change) bands rests reads is =
@@ -237,13 +237,13 @@ last_from asked part ids (Some change) bands rests reads is =
     (bands_from asked Packfile ids change.shallow change.unshallow bands reads (pack_behind asked reply))
 
 -- a reply to `done`
-pub last_tells : (asked : AskedReply) (change : Option BorderChange) (bands : List Band) → asked.done ≡ true → asked.read_pack ≡ true → IfSome change (IsChangeOf asked.kind)
+pub last_tells : (asked : ReplyContext) (change : Option BorderChange) (bands : List Band) → asked.done ≡ true → asked.read_pack ≡ true → IfSome change (IsChangeOf asked.kind)
     → Tells step_of (start_of (Reply asked)) (last_lines change bands) (told.Reply (at_last change bands))
 last_tells asked None bands done reads is = last_from asked Beginning [] None bands (rest_begins asked done) reads is
 last_tells asked (Some change) bands done reads is = last_from asked Beginning [] (Some change) bands (rest_begins asked done) reads is
 
 -- the same, where the pack isn't read
-pub unread_tells : (asked : AskedReply) (change : Option BorderChange) → asked.done ≡ true → asked.read_pack ≡ false → IfSome change (IsChangeOf asked.kind)
+pub unread_tells : (asked : ReplyContext) (change : Option BorderChange) → asked.done ≡ true → asked.read_pack ≡ false → IfSome change (IsChangeOf asked.kind)
     → Tells step_of (start_of (Reply asked)) (change_lines change ++ text_line (codes "packfile") ∷ []) (told.Reply (with_change change no_reply))
 unread_tells asked None done unread is = pack_at_rest asked Beginning no_reply (rest_begins asked done) ∙ if_unread asked.read_pack _ _ unread
 unread_tells asked (Some change) done unread is =
@@ -253,15 +253,15 @@ unread_tells asked (Some change) done unread is =
 
 -- ---- `ready`
 
-ready : (asked : AskedReply) (reply : FetchReply) → step_of (reading.Reply asked Acknowledgments reply) (text_line (codes "ready")) ≡ goes (reading.Reply asked Ready reply)
+ready : (asked : ReplyContext) (reply : FetchReply) → step_of (reading.Reply asked Acknowledgments reply) (text_line (codes "ready")) ≡ goes (reading.Reply asked Ready reply)
 unfolding step_of is_error without_lf is_nak is_ready
 ready asked reply = refl
 
-ready_ends : (asked : AskedReply) (reply : FetchReply) → step_of (reading.Reply asked Ready reply) Delim ≡ goes (reading.Reply asked Rest (record reply { acknowledged = each_once reply.acknowledged }))
+ready_ends : (asked : ReplyContext) (reply : FetchReply) → step_of (reading.Reply asked Ready reply) Delim ≡ goes (reading.Reply asked Rest (record reply { acknowledged = each_once reply.acknowledged }))
 unfolding step_of
 ready_ends asked reply = refl
 
-pub ready_tells : (asked : AskedReply) (ids : List ObjectId) (change : Option BorderChange) (bands : List Band) → asked.done ≡ false → asked.read_pack ≡ true
+pub ready_tells : (asked : ReplyContext) (ids : List ObjectId) (change : Option BorderChange) (bands : List Band) → asked.done ≡ false → asked.read_pack ≡ true
     → All (IsIdOf asked.kind) ids → All (λ id. has_id id asked.haves ≡ true) ids → IfSome change (IsChangeOf asked.kind)
     → Tells step_of (start_of (Reply asked)) (ready_lines ids change bands) (told.Reply (record (at_last change bands) { acknowledged = each_once ids }))
 ready_tells asked ids change bands more reads are had is =

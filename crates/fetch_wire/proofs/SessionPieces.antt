@@ -4,20 +4,20 @@ use Rattle.std.specs.Prelude.{⊤, if◌then◌else◌}
 use Rattle.std.specs.Option.{option_and_then}
 use Rattle.std.proofs.lemmas.List.{append-nil}
 use Rattle.fetch_store.specs.declared.id.Kind.{Kind}
-use Rattle.fetch_wire.specs.declared.replies.awaited.Fault.{Fault}
-use Rattle.fetch_wire.specs.declared.replies.awaited.Fault.TheVariants as faults
-use Rattle.fetch_wire.specs.declared.replies.awaited.Told.{Told}
-use Rattle.fetch_wire.specs.declared.replies.awaited.Told.TheVariants as told
+use Rattle.fetch_wire.specs.declared.replies.reply.ReplyError.{ReplyError}
+use Rattle.fetch_wire.specs.declared.replies.reply.ReplyError.TheVariants as faults
+use Rattle.fetch_wire.specs.declared.replies.reply.ParsedReply.{ParsedReply}
+use Rattle.fetch_wire.specs.declared.replies.reply.ParsedReply.TheVariants as told
 use Rattle.fetch_wire.specs.declared.error.WireError.{WireError}
 use Rattle.fetch_wire.specs.declared.greetings.handshake.Handshake.{Handshake}
 use Rattle.fetch_wire.specs.declared.lines.line.Line.{Line}
 use Rattle.fetch_wire.specs.declared.lines.line.Line.TheVariants as lines
-use Rattle.fetch_wire.specs.declared.replies.reading.Reading.{Reading}
-use Rattle.fetch_wire.specs.declared.replies.reading.Reading.TheVariants as reading
+use Rattle.fetch_wire.specs.declared.replies.parser.ReplyParser.{ReplyParser}
+use Rattle.fetch_wire.specs.declared.replies.parser.ReplyParser.TheVariants as reading
 use Rattle.fetch_wire.specs.declared.listings.reference.Ref.{Ref}
-use Rattle.fetch_wire.specs.declared.lines.section.Trouble.{Trouble}
+use Rattle.fetch_wire.specs.declared.lines.section.LineError.{LineError}
 use Rattle.fetch_wire.specs.Awaited.{step_of, told_from, at_listed}
-use Rattle.fetch_wire.specs.Intakes.{Intake, told_with, resting, taking}
+use Rattle.fetch_wire.specs.Intakes.{ReplyBuffer, told_with, resting, taking}
 use Rattle.fetch_wire.specs.Greetings.{offers}
 use Rattle.fetch_wire.specs.Lines.{line_at, line_len}
 use Rattle.fetch_wire.specs.Listings.{if_new, ref_in}
@@ -32,14 +32,14 @@ use Rattle.fetch_wire.proofs.Conversing.{fed_is}
 
 -- ---- a listing tells no greeting
 
-abbrev IsNoGreeting : Result (Told × List ℕ) Fault → Type 0
+abbrev IsNoGreeting : Result (ParsedReply × List ℕ) ReplyError → Type 0
 IsNoGreeting (Err fault) = ⊤
 IsNoGreeting (Ok (told.Greeting h, rest)) = ⊥
 IsNoGreeting (Ok (told.Advertisement h refs, rest)) = ⊤
 IsNoGreeting (Ok (told.Listing refs, rest)) = ⊤
 IsNoGreeting (Ok (told.Reply reply, rest)) = ⊤
 
-abbrev IsListing : Reading → Type 0
+abbrev IsListing : ReplyParser → Type 0
 IsListing reading.Greeting = ⊥
 IsListing (reading.Capabilities cs) = ⊥
 IsListing reading.Version = ⊥
@@ -48,7 +48,7 @@ IsListing (reading.Listing kind listed) = ⊤
 IsListing (reading.Reply asked part reply) = ⊥
 
 -- a step of a listing
-abbrev Lists : Step Reading Told → Type 0
+abbrev Lists : Step ReplyParser ParsedReply → Type 0
 Lists (goes r) = IsListing r
 Lists (ends t) = (rest : List ℕ) → IsNoGreeting (Ok (t, rest))
 Lists breaks = ⊤
@@ -58,7 +58,7 @@ lists_new : (kind : Kind) (before : List Ref) (found : Option Ref) → Lists (or
 lists_new kind before None = tt
 lists_new kind before (Some r) = tt
 
-lists_if : (b : Bool) (text : List ℕ) (step : Step Reading Told) → Lists step → Lists (if b then says text else step)
+lists_if : (b : Bool) (text : List ℕ) (step : Step ReplyParser ParsedReply) → Lists step → Lists (if b then says text else step)
 lists_if true text step h = tt
 lists_if false text step h = h
 
@@ -69,19 +69,19 @@ lists_line kind before lines.Flush = λ rest. tt
 lists_line kind before lines.Delim = tt
 lists_line kind before lines.End = tt
 
-after_lists : (place : ℕ) (rest : List ℕ) (f : Reading → Result (Told × List ℕ) Fault) (step : Step Reading Told) → ((r : Reading) → IsListing r → IsNoGreeting (f r)) → Lists step → IsNoGreeting (after_step place rest f step)
+after_lists : (place : ℕ) (rest : List ℕ) (f : ReplyParser → Result (ParsedReply × List ℕ) ReplyError) (step : Step ReplyParser ParsedReply) → ((r : ReplyParser) → IsListing r → IsNoGreeting (f r)) → Lists step → IsNoGreeting (after_step place rest f step)
 after_lists place rest f (goes r) h l = h r l
 after_lists place rest f (ends t) h l = l rest
 after_lists place rest f breaks h l = tt
 after_lists place rest f (says text) h l = tt
 
-listing_line : (n bound place : ℕ) (kind : Kind) (before : List Ref) (found : Result (Line × List ℕ) Trouble) → ((r : Reading) (p : ℕ) (bytes : List ℕ) → IsListing r → IsNoGreeting (read_within n step_of bound r p bytes))
+listing_line : (n bound place : ℕ) (kind : Kind) (before : List Ref) (found : Result (Line × List ℕ) LineError) → ((r : ReplyParser) (p : ℕ) (bytes : List ℕ) → IsListing r → IsNoGreeting (read_within n step_of bound r p bytes))
     → IsNoGreeting (after_line found (λ line rest. after_step place rest (λ t. read_within n step_of bound t (place + line_len line) rest) (by_line (ends (told.Listing before)) breaks (at_listed kind before) line)))
 listing_line n bound place kind before (Err t) again = tt
 listing_line n bound place kind before (Ok x) again =
     after_lists place x.1 (λ t. read_within n step_of bound t (place + line_len x.0) x.1) (by_line (ends (told.Listing before)) breaks (at_listed kind before) x.0) (λ r l. again r (place + line_len x.0) x.1 l) (lists_line kind before x.0)
 
-listing_within : (n bound : ℕ) (r : Reading) (place : ℕ) (bytes : List ℕ) → IsListing r → IsNoGreeting (read_within n step_of bound r place bytes)
+listing_within : (n bound : ℕ) (r : ReplyParser) (place : ℕ) (bytes : List ℕ) → IsListing r → IsNoGreeting (read_within n step_of bound r place bytes)
 unfolding read_within step_of
 listing_within zero bound r place bytes l = tt
 listing_within (suc n) bound (reading.Listing kind before) place bytes l = listing_line n bound place kind before (line_at bound place bytes) (λ r p rest h. listing_within n bound r p rest h)
@@ -95,7 +95,7 @@ no_greeting : (bound : ℕ) (kind : Kind) (bytes : List ℕ) → IsNoGreeting (t
 no_greeting bound kind bytes = listing_within (suc (length bytes)) bound (reading.Listing kind []) 0 bytes tt
 
 -- so after a listing nothing is asked
-asks_nothing : (s : SessionState) (found : Result (Told × List ℕ) Fault) → told_with s.intake [] ≡ Some found → IsNoGreeting found → read_one rests (after_told asks s (Some found)) ≡ after_told rests s (Some found)
+asks_nothing : (s : SessionState) (found : Result (ParsedReply × List ℕ) ReplyError) → told_with s.intake [] ≡ Some found → IsNoGreeting found → read_one rests (after_told asks s (Some found)) ≡ after_told rests s (Some found)
 asks_nothing s (Ok (told.Greeting h, rest)) is none = absurd none
 asks_nothing s (Ok (told.Advertisement h refs, rest)) is none = refl
 asks_nothing s (Ok (told.Listing refs, rest)) is none = refl
@@ -107,7 +107,7 @@ asks_nothing s (Err (faults.Said text)) is none = refl
 
 -- ---- more bytes
 
-more_bytes : (bound place : ℕ) (r : Reading) (pending piece others : List ℕ) → IsSettled (told_from bound r place ((pending ++ piece) ++ []))
+more_bytes : (bound place : ℕ) (r : ReplyParser) (pending piece others : List ℕ) → IsSettled (told_from bound r place ((pending ++ piece) ++ []))
     → told_from bound r place ((pending ++ (piece ++ others)) ++ []) ≡ with_more (told_from bound r place ((pending ++ piece) ++ [])) others
 more_bytes bound place r pending piece others settled =
     let first : (pending ++ piece) ++ [] ≡ pending ++ piece = append-nil (pending ++ piece) in
@@ -115,20 +115,20 @@ more_bytes bound place r pending piece others settled =
     ap (told_from bound r place) longer ∙ read_by-more step_of bound place r (pending ++ piece) others (subst (λ (l : List ℕ). IsSettled (told_from bound r place l)) first settled)
     ∙ ap (λ (l : List ℕ). with_more (told_from bound r place l) others) (sym first)
 
-abbrev more_of : Option (Result (Told × List ℕ) Fault) → List ℕ → Option (Result (Told × List ℕ) Fault)
+abbrev more_of : Option (Result (ParsedReply × List ℕ) ReplyError) → List ℕ → Option (Result (ParsedReply × List ℕ) ReplyError)
 more_of None others = None
 more_of (Some found) others = Some (with_more found others)
 
 -- what settled bytes tell stays
-told_more : (bound place : ℕ) (r : Option Reading) (pending piece others : List ℕ) (found : Option (Result (Told × List ℕ) Fault))
+told_more : (bound place : ℕ) (r : Option ReplyParser) (pending piece others : List ℕ) (found : Option (Result (ParsedReply × List ℕ) ReplyError))
     → told_with (record { bound = bound; place = place; pending = pending ++ piece; reading = r }) [] ≡ found → ((p : ℕ) → found ≢ Some (Err (faults.Short p)))
     → told_with (record { bound = bound; place = place; pending = pending ++ (piece ++ others); reading = r }) [] ≡ more_of found others
-told_more bound place None pending piece others found is settled = subst (λ (f : Option (Result (Told × List ℕ) Fault)). None ≡ more_of f others) is refl
+told_more bound place None pending piece others found is settled = subst (λ (f : Option (Result (ParsedReply × List ℕ) ReplyError)). None ≡ more_of f others) is refl
 told_more bound place (Some r) pending piece others found is settled =
-    ap (λ (f : Result (Told × List ℕ) Fault). Some f) (more_bytes bound place r pending piece others (λ p e. settled p (sym is ∙ ap (λ (f : Result (Told × List ℕ) Fault). Some f) e)))
-    ∙ ap (λ (f : Option (Result (Told × List ℕ) Fault)). more_of f others) is
+    ap (λ (f : Result (ParsedReply × List ℕ) ReplyError). Some f) (more_bytes bound place r pending piece others (λ p e. settled p (sym is ∙ ap (λ (f : Result (ParsedReply × List ℕ) ReplyError). Some f) e)))
+    ∙ ap (λ (f : Option (Result (ParsedReply × List ℕ) ReplyError)). more_of f others) is
 
-nothing_told : (i : Intake) → i.reading ≡ None → told_with i [] ≡ None
+nothing_told : (i : ReplyBuffer) → i.reading ≡ None → told_with i [] ≡ None
 nothing_told i none = rw none refl
 
 -- ---- the session
@@ -143,24 +143,24 @@ same_bytes s piece others = ap (λ (l : List ℕ). record s { intake = record s.
 -- a session that awaits nothing takes bytes alone
 at_rest : (s : SessionState) (others : List ℕ) → s.trouble ≡ None → s.intake.reading ≡ None → fed s others ≡ with_taken s others
 at_rest s others well none =
-    fed_is s others s.trouble well ∙ ap (λ (f : Option (Result (Told × List ℕ) Fault)). read_one rests (after_told asks (with_taken s others) f)) (nothing_told (with_taken s others).intake none)
+    fed_is s others s.trouble well ∙ ap (λ (f : Option (Result (ParsedReply × List ℕ) ReplyError)). read_one rests (after_told asks (with_taken s others) f)) (nothing_told (with_taken s others).intake none)
     ∙ ap (after_told rests (with_taken s others)) (nothing_told (with_taken s others).intake none)
 
 -- a session that awaits the references, and took these bytes of them
 abbrev at_listing : SessionState → ℕ → Kind → List ℕ → SessionState
 at_listing s bound kind bytes = record s { intake = record { bound = bound; place = 0; pending = bytes; reading = Some (reading.Listing kind []) } }
 
-listing_more : (bound : ℕ) (kind : Kind) (rest others : List ℕ) (found : Result (Told × List ℕ) Fault) → told_from bound (reading.Listing kind []) 0 (rest ++ []) ≡ found → IsSettled found
+listing_more : (bound : ℕ) (kind : Kind) (rest others : List ℕ) (found : Result (ParsedReply × List ℕ) ReplyError) → told_from bound (reading.Listing kind []) 0 (rest ++ []) ≡ found → IsSettled found
     → told_from bound (reading.Listing kind []) 0 ((rest ++ others) ++ []) ≡ with_more found others
 listing_more bound kind rest others found is settled =
-    more_bytes bound 0 (reading.Listing kind []) [] rest others (λ p e. settled p (sym is ∙ e)) ∙ ap (λ (f : Result (Told × List ℕ) Fault). with_more f others) is
+    more_bytes bound 0 (reading.Listing kind []) [] rest others (λ p e. settled p (sym is ∙ e)) ∙ ap (λ (f : Result (ParsedReply × List ℕ) ReplyError). with_more f others) is
 
-then_listed : (s : SessionState) (bound : ℕ) (kind : Kind) (rest others : List ℕ) (found : Result (Told × List ℕ) Fault) → told_from bound (reading.Listing kind []) 0 (rest ++ []) ≡ found → IsSettled found
+then_listed : (s : SessionState) (bound : ℕ) (kind : Kind) (rest others : List ℕ) (found : Result (ParsedReply × List ℕ) ReplyError) → told_from bound (reading.Listing kind []) 0 (rest ++ []) ≡ found → IsSettled found
     → after_told rests (at_listing s bound kind (rest ++ others)) (Some (with_more found others)) ≡ read_one rests (at_listing s bound kind (rest ++ others))
 then_listed s bound kind rest others found is settled =
-    sym (ap (λ (f : Result (Told × List ℕ) Fault). after_told rests (at_listing s bound kind (rest ++ others)) (Some f)) (listing_more bound kind rest others found is settled))
+    sym (ap (λ (f : Result (ParsedReply × List ℕ) ReplyError). after_told rests (at_listing s bound kind (rest ++ others)) (Some f)) (listing_more bound kind rest others found is settled))
 
-listed_pieces : (s : SessionState) (bound : ℕ) (kind : Kind) (rest others : List ℕ) (found : Result (Told × List ℕ) Fault) → s.trouble ≡ None → told_from bound (reading.Listing kind []) 0 (rest ++ []) ≡ found
+listed_pieces : (s : SessionState) (bound : ℕ) (kind : Kind) (rest others : List ℕ) (found : Result (ParsedReply × List ℕ) ReplyError) → s.trouble ≡ None → told_from bound (reading.Listing kind []) 0 (rest ++ []) ≡ found
     → fed (after_told rests (at_listing s bound kind rest) (Some found)) others ≡ read_one rests (at_listing s bound kind (rest ++ others))
 listed_pieces s bound kind rest others (Ok (told.Greeting h, left)) well is =
     at_rest (after_told rests (at_listing s bound kind rest) (Some (Ok (told.Greeting h, left)))) others well refl ∙ then_listed s bound kind rest others (Ok (told.Greeting h, left)) is (λ p e. cc)
@@ -185,18 +185,18 @@ asked_pieces s h lines rest others None true well =
     listed_pieces (record s { outgoing = s.outgoing ++ lines_text lines }) s.intake.bound h.object_hash rest others (told_from s.intake.bound (reading.Listing h.object_hash []) 0 (rest ++ [])) well refl
 
 -- what is told once all bytes came
-then_told : (s : SessionState) (piece others : List ℕ) (found : Option (Result (Told × List ℕ) Fault)) → told_with (taking piece s.intake) [] ≡ found → ((p : ℕ) → found ≢ Some (Err (faults.Short p)))
+then_told : (s : SessionState) (piece others : List ℕ) (found : Option (Result (ParsedReply × List ℕ) ReplyError)) → told_with (taking piece s.intake) [] ≡ found → ((p : ℕ) → found ≢ Some (Err (faults.Short p)))
     → read_one rests (after_told asks (with_taken s (piece ++ others)) (more_of found others)) ≡ read_on (with_taken s (piece ++ others))
 then_told s piece others found is settled =
-    sym (ap (λ (f : Option (Result (Told × List ℕ) Fault)). read_one rests (after_told asks (with_taken s (piece ++ others)) f)) (told_more s.intake.bound s.intake.place s.intake.reading s.intake.pending piece others found is settled))
+    sym (ap (λ (f : Option (Result (ParsedReply × List ℕ) ReplyError)). read_one rests (after_told asks (with_taken s (piece ++ others)) f)) (told_more s.intake.bound s.intake.place s.intake.reading s.intake.pending piece others found is settled))
 
 -- nothing is whole yet
-then_short : (s : SessionState) (piece others : List ℕ) (found : Option (Result (Told × List ℕ) Fault)) → s.trouble ≡ None → told_with (taking piece s.intake) [] ≡ found → after_told rests (with_taken s piece) found ≡ with_taken s piece
+then_short : (s : SessionState) (piece others : List ℕ) (found : Option (Result (ParsedReply × List ℕ) ReplyError)) → s.trouble ≡ None → told_with (taking piece s.intake) [] ≡ found → after_told rests (with_taken s piece) found ≡ with_taken s piece
     → fed (read_one rests (with_taken s piece)) others ≡ read_on (with_taken s (piece ++ others))
 then_short s piece others found well is same =
     ap (λ (t : SessionState). fed t others) (ap (after_told rests (with_taken s piece)) is ∙ same) ∙ fed_is (with_taken s piece) others s.trouble well ∙ ap read_on (same_bytes s piece others)
 
-pieces_by : (s : SessionState) (piece others : List ℕ) (found : Option (Result (Told × List ℕ) Fault)) → s.trouble ≡ None → told_with (taking piece s.intake) [] ≡ found
+pieces_by : (s : SessionState) (piece others : List ℕ) (found : Option (Result (ParsedReply × List ℕ) ReplyError)) → s.trouble ≡ None → told_with (taking piece s.intake) [] ≡ found
     → fed (read_one rests (after_told asks (with_taken s piece) found)) others ≡ read_on (with_taken s (piece ++ others))
 pieces_by s piece others None well is = then_short s piece others None well is refl
 pieces_by s piece others (Some (Err (faults.Short place))) well is = then_short s piece others (Some (Err (faults.Short place))) well is refl

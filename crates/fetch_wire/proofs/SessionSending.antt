@@ -1,11 +1,11 @@
 -- What a session sends, and what it is fed meanwhile.
 use Rattle.std.proofs.Common.{◌≡◌, ℕ, ◌≤◌, Bool, true, false, List, [], ◌++◌, length, drop, Option, Some, None, Result, Ok, Err, refl, sym, ap, ◌∙◌}
 use Rattle.std.proofs.lemmas.List.{append-nil, drop-append-le}
-use Rattle.fetch_wire.specs.declared.replies.awaited.Fault.{Fault}
-use Rattle.fetch_wire.specs.declared.replies.awaited.Fault.TheVariants as faults
-use Rattle.fetch_wire.specs.declared.replies.awaited.Told.{Told}
-use Rattle.fetch_wire.specs.declared.replies.awaited.Told.TheVariants as told
-use Rattle.fetch_wire.specs.declared.replies.awaited.Await.TheVariants as awaits
+use Rattle.fetch_wire.specs.declared.replies.reply.ReplyError.{ReplyError}
+use Rattle.fetch_wire.specs.declared.replies.reply.ReplyError.TheVariants as faults
+use Rattle.fetch_wire.specs.declared.replies.reply.ParsedReply.{ParsedReply}
+use Rattle.fetch_wire.specs.declared.replies.reply.ParsedReply.TheVariants as told
+use Rattle.fetch_wire.specs.declared.replies.reply.ReplyKind.TheVariants as awaits
 use Rattle.fetch_wire.specs.declared.error.WireError.{WireError}
 use Rattle.fetch_wire.specs.declared.greetings.handshake.Handshake.{Handshake}
 use Rattle.fetch_wire.specs.declared.lines.line.Line.{Line}
@@ -27,7 +27,7 @@ record Passes (before : List ℕ) (now other : SessionState) (text : List ℕ) :
   stays : now.outgoing ≡ before
   alone : other ≡ sending text now
 
-tells_alone : (s : SessionState) (text : List ℕ) (found : Option (Result (Told × List ℕ) Fault)) → Passes s.outgoing (after_told rests s found) (after_told rests (sending text s) found) text
+tells_alone : (s : SessionState) (text : List ℕ) (found : Option (Result (ParsedReply × List ℕ) ReplyError)) → Passes s.outgoing (after_told rests s found) (after_told rests (sending text s) found) text
 tells_alone s text None = record { stays = refl; alone = refl }
 tells_alone s text (Some (Ok (told.Greeting h, rest))) = record { stays = refl; alone = refl }
 tells_alone s text (Some (Ok (told.Advertisement h refs, rest))) = record { stays = refl; alone = refl }
@@ -68,7 +68,7 @@ lists_more s h lines None true =
     }
 
 -- what is told is kept, and the references may be asked for
-tells_more : (s : SessionState) (found : Option (Result (Told × List ℕ) Fault)) → Adds s.outgoing (read_one rests (after_told asks s found)) (λ text. read_one rests (after_told asks (sending text s) found))
+tells_more : (s : SessionState) (found : Option (Result (ParsedReply × List ℕ) ReplyError)) → Adds s.outgoing (read_one rests (after_told asks s found)) (λ text. read_one rests (after_told asks (sending text s) found))
 tells_more s None = adds_nothing s.outgoing _ _ (reads_alone s)
 tells_more s (Some (Ok (told.Greeting h, rest))) =
     let lines = listing_lines h s.agent s.prefixes in

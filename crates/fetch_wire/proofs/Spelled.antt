@@ -11,16 +11,16 @@ use Rattle.fetch_store.specs.Lines.{IsWithout}
 use Rattle.fetch_store.specs.Scan.{split_first}
 use Rattle.fetch_store.specs.declared.id.ObjectId.{ObjectId}
 use Rattle.fetch_store.proofs.LineLaws.{splits}
-use Rattle.fetch_wire.specs.declared.replies.awaited.Told.{Told}
-use Rattle.fetch_wire.specs.declared.replies.awaited.Told.TheVariants as tolds
+use Rattle.fetch_wire.specs.declared.replies.reply.ParsedReply.{ParsedReply}
+use Rattle.fetch_wire.specs.declared.replies.reply.ParsedReply.TheVariants as tolds
 use Rattle.fetch_wire.specs.declared.greetings.handshake.Capability.{Capability}
 use Rattle.fetch_wire.specs.declared.greetings.handshake.Handshake.{Handshake}
 use Rattle.fetch_wire.specs.declared.lines.line.Line.{Line}
 use Rattle.fetch_wire.specs.declared.lines.line.Line.TheVariants.{Payload, Flush, Delim, End}
-use Rattle.fetch_wire.specs.declared.replies.reading.Advertised.{Advertised}
-use Rattle.fetch_wire.specs.declared.replies.reading.Advertised.TheVariants as nexts
-use Rattle.fetch_wire.specs.declared.replies.reading.Reading.{Reading}
-use Rattle.fetch_wire.specs.declared.replies.reading.Reading.TheVariants as reading
+use Rattle.fetch_wire.specs.declared.replies.parser.Advertised.{Advertised}
+use Rattle.fetch_wire.specs.declared.replies.parser.Advertised.TheVariants as nexts
+use Rattle.fetch_wire.specs.declared.replies.parser.ReplyParser.{ReplyParser}
+use Rattle.fetch_wire.specs.declared.replies.parser.ReplyParser.TheVariants as reading
 use Rattle.fetch_wire.specs.declared.listings.reference.Ref.{Ref}
 use Rattle.fetch_wire.specs.Advertisements.{is_version_1, with_words, handshake_1, id_and_name, before_peel, is_no_name, is_null, advertised, with_peel, at_name, at_reference, at_advertised, first_named, at_first}
 use Rattle.fetch_wire.specs.Awaited.{step_of, at_capability, at_greeting}
@@ -35,7 +35,7 @@ use Rattle.fetch_wire.specs.Texts.{is_error, without_lf}
 use Rattle.fetch_wire.specs.Words.{words}
 
 -- one step or another
-abbrev pub if_step : Bool → Step Reading Told → Step Reading Told → Step Reading Told
+abbrev pub if_step : Bool → Step ReplyParser ParsedReply → Step ReplyParser ParsedReply → Step ReplyParser ParsedReply
 if_step b x y = if b then x else y
 
 -- ---- texts
@@ -191,13 +191,13 @@ tellable : (c : Capability) (said : List ℕ) (line : Line) → WasTold c said �
 tellable c said line w is = record { named = w.named; plain = w.plain; known = w.known; no_error = ap (λ (t : List ℕ). is_error (t ++ 10 ∷ [])) (sym w.text) ∙ told_no_error said line is }
 
 -- capabilities after those that were told before
-record Capable (before : List Capability) (lines : List Line) (x : Told) : Type 0 where
+record Capable (before : List Capability) (lines : List Line) (x : ParsedReply) : Type 0 where
   capabilities : List Capability
   tellable : All IsTellable capabilities
   texts : AreFlushed (map capability_text capabilities) lines
   told : x ≡ tolds.Greeting (handshake_of (before ++ capabilities))
 
-capable : (before : List Capability) (lines : List Line) (x : Told) → Tells step_of (reading.Capabilities before) lines x → Capable before lines x
+capable : (before : List Capability) (lines : List Line) (x : ParsedReply) → Tells step_of (reading.Capabilities before) lines x → Capable before lines x
 unfolding step_of
 capable before [] x h = absurd h
 capable before (line ∷ []) x h =
@@ -207,7 +207,7 @@ capable before (line ∷ next ∷ lines) x (t, goes_on, h) =
     let g = text_goes (ends (tolds.Greeting (handshake_of before))) breaks (at_capability before) line t (λ e. cc) (λ e. cc) goes_on in
     let s = some_goes (option_and_then if_known (capability_in g.0)) (λ c. reading.Capabilities (before ++ c ∷ [])) t g.2 in
     let w = capability_told g.0 s.0 s.1 in
-    let more = capable (before ++ s.0 ∷ []) (next ∷ lines) x (subst (λ (r : Reading). Tells step_of r (next ∷ lines) x) (sym s.2) h) in
+    let more = capable (before ++ s.0 ∷ []) (next ∷ lines) x (subst (λ (r : ReplyParser). Tells step_of r (next ∷ lines) x) (sym s.2) h) in
     record {
       capabilities = s.0 ∷ more.capabilities;
       tellable = All-cons IsTellable s.0 more.capabilities (tellable s.0 g.0 line w g.1) more.tellable;
@@ -220,7 +220,7 @@ no_capabilities lines h refs tells = let e = (capable [] lines (tolds.Advertisem
 
 -- ---- an advertisement is no greeting of version 2
 
-abbrev pub IsAd : Reading → Type 0
+abbrev pub IsAd : ReplyParser → Type 0
 IsAd reading.Greeting = ⊥
 IsAd (reading.Capabilities before) = ⊥
 IsAd reading.Version = ⊥
@@ -228,33 +228,33 @@ IsAd (reading.Advertisement handshake before next) = ⊤
 IsAd (reading.Listing kind before) = ⊥
 IsAd (reading.Reply asked part reply) = ⊥
 
-mapped : {A : Type 0} (g : A → Reading) (o : Option A) (t : Reading) → ((a : A) → IsAd (g a)) → option_map g o ≡ Some t → IsAd t
+mapped : {A : Type 0} (g : A → ReplyParser) (o : Option A) (t : ReplyParser) → ((a : A) → IsAd (g a)) → option_map g o ≡ Some t → IsAd t
 mapped g None t each is = absurd cc
 mapped g (Some a) t each is = subst IsAd (let s : g a ≡ t = cc in s) (each a)
 
-chained : {A : Type 0} (f : A → Option Reading) (o : Option A) (t : Reading) → ((a : A) → f a ≡ Some t → IsAd t) → option_and_then f o ≡ Some t → IsAd t
+chained : {A : Type 0} (f : A → Option ReplyParser) (o : Option A) (t : ReplyParser) → ((a : A) → f a ≡ Some t → IsAd t) → option_and_then f o ≡ Some t → IsAd t
 chained f None t each is = absurd cc
 chained f (Some a) t each is = each a is
 
-pub chosen : (o : Option Reading) (t : Reading) → or_breaks {T = Told} o (λ s. goes s) ≡ goes t → o ≡ Some t
+pub chosen : (o : Option ReplyParser) (t : ReplyParser) → or_breaks {T = ParsedReply} o (λ s. goes s) ≡ goes t → o ≡ Some t
 chosen None t is = absurd cc
 chosen (Some s) t is = cc
 
-name_ad : (h : Handshake) (before : List Ref) (allowed : Advertised) (id : ObjectId) (name : List ℕ) (short : Option (List ℕ)) (t : Reading) → at_name h before allowed id name short ≡ Some t → IsAd t
+name_ad : (h : Handshake) (before : List Ref) (allowed : Advertised) (id : ObjectId) (name : List ℕ) (short : Option (List ℕ)) (t : ReplyParser) → at_name h before allowed id name short ≡ Some t → IsAd t
 name_ad h before nexts.Reference id name None t is = mapped (λ r. reading.Advertisement h (before ++ r ∷ []) nexts.Reference) (advertised h before id name) t (λ r. tt) is
 name_ad h before nexts.Reference id name (Some short) t is = mapped (λ refs. reading.Advertisement h refs nexts.Peeled) (with_peel id short before) t (λ r. tt) is
 name_ad h before nexts.Peeled id name None t is = mapped (λ r. reading.Advertisement h (before ++ r ∷ []) nexts.Reference) (advertised h before id name) t (λ r. tt) is
 name_ad h before nexts.Peeled id name (Some short) t is = absurd cc
 name_ad h before nexts.Shallow id name short t is = absurd cc
 
-advertised_ad : (h : Handshake) (before : List Ref) (allowed : Advertised) (text : List ℕ) (t : Reading) → at_advertised h before allowed text ≡ goes t → IsAd t
+advertised_ad : (h : Handshake) (before : List Ref) (allowed : Advertised) (text : List ℕ) (t : ReplyParser) → at_advertised h before allowed text ≡ goes t → IsAd t
 advertised_ad h before allowed text t is = by_shallow (shallow_in h.object_hash text) (chosen _ t is)
   where
     by_shallow : (o : Option ObjectId) → option_or (option_map (λ id. reading.Advertisement h before nexts.Shallow) o) (at_reference h before allowed text) ≡ Some t → IsAd t
     by_shallow (Some id) e = subst IsAd (let s : reading.Advertisement h before nexts.Shallow ≡ t = cc in s) tt
     by_shallow None e = chained (λ (x : ObjectId × List ℕ). at_name h before allowed x.0 x.1 (before_peel x.1)) (id_and_name h.object_hash text) t (λ x. name_ad h before allowed x.0 x.1 (before_peel x.1) t) e
 
-named_ad : (h : Handshake) (x : ObjectId × List ℕ) (t : Reading) → first_named h x ≡ Some t → IsAd t
+named_ad : (h : Handshake) (x : ObjectId × List ℕ) (t : ReplyParser) → first_named h x ≡ Some t → IsAd t
 named_ad h (id, name) t is = by_name (is_no_name name) (is_null id) is
   where
     by_name : (a b : Bool) → (if a then (if b then Some (reading.Advertisement h [] nexts.Shallow) else None) else at_name h [] nexts.Peeled id name (before_peel name)) ≡ Some t → IsAd t
@@ -262,13 +262,13 @@ named_ad h (id, name) t is = by_name (is_no_name name) (is_null id) is
     by_name true false e = absurd cc
     by_name false b e = name_ad h [] nexts.Peeled id name (before_peel name) t e
 
-first_ad : (text : List ℕ) (t : Reading) → at_first text ≡ Some t → IsAd t
+first_ad : (text : List ℕ) (t : ReplyParser) → at_first text ≡ Some t → IsAd t
 first_ad text t is =
     chained (λ (parts : List ℕ × List ℕ). option_and_then (λ capabilities. option_and_then (first_named (handshake_1 capabilities)) (id_and_name (handshake_1 capabilities).object_hash parts.0)) (with_words [] (words parts.1))) (split_first 0 text) t (λ parts.
     chained (λ (capabilities : List Capability). option_and_then (first_named (handshake_1 capabilities)) (id_and_name (handshake_1 capabilities).object_hash parts.0)) (with_words [] (words parts.1)) t (λ capabilities.
     chained (first_named (handshake_1 capabilities)) (id_and_name (handshake_1 capabilities).object_hash parts.0) t (λ x. named_ad (handshake_1 capabilities) x t))) is
 
-no_ad_greets : (s : Reading) (lines : List Line) (h : Handshake) → IsAd s → Tells step_of s lines (tolds.Greeting h) → ⊥
+no_ad_greets : (s : ReplyParser) (lines : List Line) (h : Handshake) → IsAd s → Tells step_of s lines (tolds.Greeting h) → ⊥
 unfolding step_of
 no_ad_greets s [] h ad tells = tells
 no_ad_greets reading.Greeting (line ∷ lines) h ad tells = ad
@@ -292,7 +292,7 @@ no_version_greets (line ∷ next ∷ lines) h (t, goes_on, tells) =
 
 -- ---- the whole
 
-pub greeting_never_ends : (text : List ℕ) (x : Told) → at_greeting text ≢ ends x
+pub greeting_never_ends : (text : List ℕ) (x : ParsedReply) → at_greeting text ≢ ends x
 greeting_never_ends text x = λ is. by_version (is_version_2 text) (is_version_1 text) is
   where
     by_version : (a b : Bool) → (if a then goes (reading.Capabilities []) else (if b then goes reading.Version else or_breaks (at_first text) (λ s. goes s))) ≡ ends x → ⊥
@@ -313,10 +313,10 @@ greeted (line ∷ next ∷ lines) h (t, goes_on, tells) =
     by_version : (text : List ℕ) → IsText text line → (a b : Bool) → is_version_2 text ≡ a
         → (if_step a (goes (reading.Capabilities [])) (if_step b (goes reading.Version) (or_breaks (at_first text) (λ s. goes s)))) ≡ goes t → IsGreeting h (line ∷ next ∷ lines)
     by_version text is true b e g =
-        let more = capable [] (next ∷ lines) (tolds.Greeting h) (subst (λ (r : Reading). Tells step_of r (next ∷ lines) (tolds.Greeting h)) (let s : reading.Capabilities [] ≡ t = cc in sym s) tells) in
+        let more = capable [] (next ∷ lines) (tolds.Greeting h) (subst (λ (r : ReplyParser). Tells step_of r (next ∷ lines) (tolds.Greeting h)) (let s : reading.Capabilities [] ≡ t = cc in sym s) tells) in
         let made : h ≡ handshake_of more.capabilities = same_greeting h (handshake_of more.capabilities) more.told in
         let version : text ≡ codes "version 2" = (bytes_eq-Decides text (codes "version 2")).0 e in
         subst (λ (g : Handshake). IsGreeting g (line ∷ next ∷ lines)) (sym made)
         (record { made = refl; tellable = more.tellable; texts = flushed_more (codes "version 2") (map capability_text more.capabilities) line (next ∷ lines) (subst (λ (s : List ℕ). IsText s line) version is) more.texts })
-    by_version text is false true e g = absurd (no_version_greets (next ∷ lines) h (subst (λ (r : Reading). Tells step_of r (next ∷ lines) (tolds.Greeting h)) (let s : reading.Version ≡ t = cc in sym s) tells))
+    by_version text is false true e g = absurd (no_version_greets (next ∷ lines) h (subst (λ (r : ReplyParser). Tells step_of r (next ∷ lines) (tolds.Greeting h)) (let s : reading.Version ≡ t = cc in sym s) tells))
     by_version text is false false e g = absurd (no_ad_greets t (next ∷ lines) h (first_ad text t (chosen (at_first text) t g)) tells)

@@ -10,16 +10,16 @@ use Rattle.fetch_store.specs.declared.id.Kind.{Kind}
 use Rattle.fetch_store.specs.declared.id.ObjectId.{ObjectId}
 use Rattle.fetch_store.proofs.LineLaws.{splits}
 use Rattle.fetch_store.proofs.TagTexts.{after_is}
-use Rattle.fetch_wire.specs.declared.replies.awaited.Told.{Told}
-use Rattle.fetch_wire.specs.declared.replies.awaited.Told.TheVariants as tolds
+use Rattle.fetch_wire.specs.declared.replies.reply.ParsedReply.{ParsedReply}
+use Rattle.fetch_wire.specs.declared.replies.reply.ParsedReply.TheVariants as tolds
 use Rattle.fetch_wire.specs.declared.greetings.handshake.Capability.{Capability}
 use Rattle.fetch_wire.specs.declared.greetings.handshake.Handshake.{Handshake}
 use Rattle.fetch_wire.specs.declared.lines.line.Line.{Line}
 use Rattle.fetch_wire.specs.declared.lines.line.Line.TheVariants.{Flush}
-use Rattle.fetch_wire.specs.declared.replies.reading.Advertised.{Advertised}
-use Rattle.fetch_wire.specs.declared.replies.reading.Advertised.TheVariants as nexts
-use Rattle.fetch_wire.specs.declared.replies.reading.Reading.{Reading}
-use Rattle.fetch_wire.specs.declared.replies.reading.Reading.TheVariants as reading
+use Rattle.fetch_wire.specs.declared.replies.parser.Advertised.{Advertised}
+use Rattle.fetch_wire.specs.declared.replies.parser.Advertised.TheVariants as nexts
+use Rattle.fetch_wire.specs.declared.replies.parser.ReplyParser.{ReplyParser}
+use Rattle.fetch_wire.specs.declared.replies.parser.ReplyParser.TheVariants as reading
 use Rattle.fetch_wire.specs.declared.listings.reference.Ref.{Ref}
 use Rattle.fetch_wire.specs.AdvertisementSpellings.{IsNamed, ArePeels, AreAdvertised, AreReferences, AreShallow, IsAdvertisement}
 use Rattle.fetch_wire.specs.Advertisements.{is_version_1, with_words, handshake_1, target_among, id_and_name, before_peel, is_no_name, is_null, advertised, peeled_to, with_peel, at_name, at_reference, at_advertised, first_named, at_first}
@@ -38,12 +38,12 @@ use Rattle.fetch_wire.proofs.SpelledNames.{exactly, offered, some_is, named_of, 
 -- ---- one line
 
 -- a text of a commit of the border, or one that names
-data AdLine (h : Handshake) (before : List Ref) (said : List ℕ) (t : Reading) : Advertised → Type 0 where
+data AdLine (h : Handshake) (before : List Ref) (said : List ℕ) (t : ReplyParser) : Advertised → Type 0 where
   shallow : (allowed : Advertised) (digits : List ℕ) (id : ObjectId) → said ≡ codes "shallow " ++ digits → Spells h.object_hash digits id → reading.Advertisement h before nexts.Shallow ≡ t → AdLine h before said t allowed
   reference : (allowed : Advertised) (id : ObjectId) (name : List ℕ) (r : Ref) → allowed ≢ nexts.Shallow → IsNamed h.object_hash id name said → before_peel name ≡ None → IsFresh h r id name → reading.Advertisement h (before ++ r ∷ []) nexts.Reference ≡ t → AdLine h before said t allowed
   peel : (id : ObjectId) (short : List ℕ) (refs : List Ref) → IsNamed h.object_hash id (short ++ codes "^{}") said → with_peel id short before ≡ Some refs → reading.Advertisement h refs nexts.Peeled ≡ t → AdLine h before said t nexts.Reference
 
-name_line : (h : Handshake) (before : List Ref) (said : List ℕ) (t : Reading) (allowed : Advertised) (id : ObjectId) (name : List ℕ) (short : Option (List ℕ)) → before_peel name ≡ short → IsNamed h.object_hash id name said
+name_line : (h : Handshake) (before : List Ref) (said : List ℕ) (t : ReplyParser) (allowed : Advertised) (id : ObjectId) (name : List ℕ) (short : Option (List ℕ)) → before_peel name ≡ short → IsNamed h.object_hash id name said
     → at_name h before allowed id name short ≡ Some t → AdLine h before said t allowed
 name_line h before said t nexts.Reference id name None e named is = by_ref (advertised h before id name) refl is
   where
@@ -71,7 +71,7 @@ shallow_told kind said id is = by_word (after (codes "shallow ") said) refl is
     by_word None e h = absurd cc
     by_word (Some digits) e h = (digits, after_is (codes "shallow ") said digits e, h)
 
-ad_line : (h : Handshake) (before : List Ref) (allowed : Advertised) (said : List ℕ) (t : Reading) → at_advertised h before allowed said ≡ goes t → AdLine h before said t allowed
+ad_line : (h : Handshake) (before : List Ref) (allowed : Advertised) (said : List ℕ) (t : ReplyParser) → at_advertised h before allowed said ≡ goes t → AdLine h before said t allowed
 ad_line h before allowed said t is = by_shallow (shallow_in h.object_hash said) refl (chosen _ t is)
   where
     by_named : (o : Option (ObjectId × List ℕ)) → id_and_name h.object_hash said ≡ o → option_and_then (λ x. at_name h before allowed x.0 x.1 (before_peel x.1)) o ≡ Some t → AdLine h before said t allowed
@@ -85,7 +85,7 @@ ad_line h before allowed said t is = by_shallow (shallow_in h.object_hash said) 
 -- ---- the lines after
 
 -- references after those that were told before, and the border
-record More (h : Handshake) (before : List Ref) (lines : List Line) (x : Told) : Type 0 where
+record More (h : Handshake) (before : List Ref) (lines : List Line) (x : ParsedReply) : Type 0 where
   refs : List Ref
   others : List (List ℕ)
   border : List (List ℕ)
@@ -95,14 +95,14 @@ record More (h : Handshake) (before : List Ref) (lines : List Line) (x : Told) :
   told : x ≡ tolds.Advertisement h (before ++ refs)
 
 -- the border alone
-record Border (h : Handshake) (before : List Ref) (lines : List Line) (x : Told) : Type 0 where
+record Border (h : Handshake) (before : List Ref) (lines : List Line) (x : ParsedReply) : Type 0 where
   border : List (List ℕ)
   texts : AreFlushed border lines
   shallow : AreShallow h.object_hash border
   told : x ≡ tolds.Advertisement h before
 
 -- the last reference, with what it peels to, and those after it
-record Last (h : Handshake) (front : List Ref) (r : Ref) (lines : List Line) (x : Told) : Type 0 where
+record Last (h : Handshake) (front : List Ref) (r : Ref) (lines : List Line) (x : ParsedReply) : Type 0 where
   own : Ref
   behind : List (List ℕ)
   refs : List Ref
@@ -117,12 +117,12 @@ record Last (h : Handshake) (front : List Ref) (r : Ref) (lines : List Line) (x 
   shallow : AreShallow h.object_hash border
   told : x ≡ tolds.Advertisement h (front ++ own ∷ refs)
 
-abbrev Outcome : Handshake → List Ref → Advertised → List Line → Told → Type 0
+abbrev Outcome : Handshake → List Ref → Advertised → List Line → ParsedReply → Type 0
 Outcome h before nexts.Shallow lines x = Border h before lines x
 Outcome h before nexts.Peeled lines x = More h before lines x
 Outcome h before nexts.Reference lines x = (front : List Ref) (r : Ref) (id : ObjectId) (name : List ℕ) → before ≡ front ++ r ∷ [] → IsFresh h r id name → Last h front r lines x
 
-at_end : (h : Handshake) (before : List Ref) (allowed : Advertised) (line : Line) (x : Told) → line ≡ Flush → tolds.Advertisement h before ≡ x → Outcome h before allowed (line ∷ []) x
+at_end : (h : Handshake) (before : List Ref) (allowed : Advertised) (line : Line) (x : ParsedReply) → line ≡ Flush → tolds.Advertisement h before ≡ x → Outcome h before allowed (line ∷ []) x
 at_end h before nexts.Shallow line x flush is = record { border = []; texts = flushed_none line flush; shallow = tt; told = sym is }
 at_end h before nexts.Peeled line x flush is = record { refs = []; others = []; border = []; texts = flushed_none line flush; each = refl; shallow = tt; told = sym is ∙ ap (tolds.Advertisement h) (sym (append-nil before)) }
 at_end h before nexts.Reference line x flush is = λ front r id name was fr. record {
@@ -142,7 +142,7 @@ at_end h before nexts.Reference line x flush is = λ front r id name was fr. rec
 }
 
 -- one reference more, which the lines after it complete
-one_more : (h : Handshake) (before : List Ref) (said : List ℕ) (line : Line) (lines : List Line) (x : Told) (r : Ref) (id : ObjectId) (name : List ℕ) → IsText said line → IsNamed h.object_hash id name said → before_peel name ≡ None → IsFresh h r id name
+one_more : (h : Handshake) (before : List Ref) (said : List ℕ) (line : Line) (lines : List Line) (x : ParsedReply) (r : Ref) (id : ObjectId) (name : List ℕ) → IsText said line → IsNamed h.object_hash id name said → before_peel name ≡ None → IsFresh h r id name
     → Last h before r lines x → More h before (line ∷ lines) x
 one_more h before said line lines x r id name is named whole fr l = record {
   refs = l.own ∷ l.refs;
@@ -172,7 +172,7 @@ one_more h before said line lines x r id name is named whole fr l = record {
     own_name = l.name ∙ fr.name_is
 
 -- lines that tell no more of the last reference
-as_last : (h : Handshake) (before front : List Ref) (r : Ref) (id : ObjectId) (name : List ℕ) (lines : List Line) (x : Told) → before ≡ front ++ r ∷ [] → IsFresh h r id name → More h before lines x → Last h front r lines x
+as_last : (h : Handshake) (before front : List Ref) (r : Ref) (id : ObjectId) (name : List ℕ) (lines : List Line) (x : ParsedReply) → before ≡ front ++ r ∷ [] → IsFresh h r id name → More h before lines x → Last h front r lines x
 as_last h before front r id name lines x was fr m = record {
   own = r;
   behind = [];
@@ -189,14 +189,14 @@ as_last h before front r id name lines x was fr m = record {
   told = m.told ∙ ap (λ (l : List Ref). tolds.Advertisement h (l ++ m.refs)) was ∙ ap (tolds.Advertisement h) (append_assoc front (r ∷ []) m.refs);
 }
 
-border_more : (h : Handshake) (before : List Ref) (said : List ℕ) (line : Line) (lines : List Line) (x : Told) (digits : List ℕ) (id : ObjectId) → IsText said line → said ≡ codes "shallow " ++ digits → Spells h.object_hash digits id → Border h before lines x → Border h before (line ∷ lines) x
+border_more : (h : Handshake) (before : List Ref) (said : List ℕ) (line : Line) (lines : List Line) (x : ParsedReply) (digits : List ℕ) (id : ObjectId) → IsText said line → said ≡ codes "shallow " ++ digits → Spells h.object_hash digits id → Border h before lines x → Border h before (line ∷ lines) x
 border_more h before said line lines x digits id is text spelled b = record { border = said ∷ b.border; texts = flushed_more said b.border line lines is b.texts; shallow = ((digits, id, text, spelled), b.shallow); told = b.told }
 
-border_only : (h : Handshake) (before : List Ref) (lines : List Line) (x : Told) → Border h before lines x → More h before lines x
+border_only : (h : Handshake) (before : List Ref) (lines : List Line) (x : ParsedReply) → Border h before lines x → More h before lines x
 border_only h before lines x b = record { refs = []; others = []; border = b.border; texts = b.texts; each = refl; shallow = b.shallow; told = b.told ∙ ap (tolds.Advertisement h) (sym (append-nil before)) }
 
 -- the tag of the last reference was peeled
-peel_more : (h : Handshake) (front : List Ref) (r : Ref) (own id : ObjectId) (name short said : List ℕ) (line : Line) (lines : List Line) (x : Told) → IsText said line → IsNamed h.object_hash id (short ++ codes "^{}") said → name_in r ≡ short → IsFresh h r own name
+peel_more : (h : Handshake) (front : List Ref) (r : Ref) (own id : ObjectId) (name short said : List ℕ) (line : Line) (lines : List Line) (x : ParsedReply) → IsText said line → IsNamed h.object_hash id (short ++ codes "^{}") said → name_in r ≡ short → IsFresh h r own name
     → More h (front ++ peeled_to id r ∷ []) lines x → Last h front r (line ∷ lines) x
 peel_more h front r own id name short said line lines x is named same fr m =
     let p = peeled_so r own id fr.born fr.unpeeled in
@@ -216,33 +216,33 @@ peel_more h front r own id name short said line lines x is named same fr m =
       told = m.told ∙ ap (tolds.Advertisement h) (append_assoc front (peeled_to id r ∷ []) m.refs);
     }
 
-abbrev Goes : Handshake → List Line → Told → Type 0
+abbrev Goes : Handshake → List Line → ParsedReply → Type 0
 Goes h lines x = (refs : List Ref) (allowed : Advertised) → Tells step_of (reading.Advertisement h refs allowed) lines x → Outcome h refs allowed lines x
 
-by_reference : (h : Handshake) (before : List Ref) (said : List ℕ) (line : Line) (lines : List Line) (x : Told) (r : Ref) (id : ObjectId) (name : List ℕ) → IsText said line → IsNamed h.object_hash id name said → before_peel name ≡ None → IsFresh h r id name
+by_reference : (h : Handshake) (before : List Ref) (said : List ℕ) (line : Line) (lines : List Line) (x : ParsedReply) (r : Ref) (id : ObjectId) (name : List ℕ) → IsText said line → IsNamed h.object_hash id name said → before_peel name ≡ None → IsFresh h r id name
     → Outcome h (before ++ r ∷ []) nexts.Reference lines x → More h before (line ∷ lines) x
 by_reference h before said line lines x r id name is named whole fr out = one_more h before said line lines x r id name is named whole fr (out before r id name refl fr)
 
-after_line : (h : Handshake) (before : List Ref) (allowed : Advertised) (said : List ℕ) (line : Line) (lines : List Line) (t : Reading) (x : Told) → IsText said line → AdLine h before said t allowed → Tells step_of t lines x → Goes h lines x → Outcome h before allowed (line ∷ lines) x
+after_line : (h : Handshake) (before : List Ref) (allowed : Advertised) (said : List ℕ) (line : Line) (lines : List Line) (t : ReplyParser) (x : ParsedReply) → IsText said line → AdLine h before said t allowed → Tells step_of t lines x → Goes h lines x → Outcome h before allowed (line ∷ lines) x
 after_line h before nexts.Shallow said line lines t x is (shallow _ digits id text spelled goes_so) tells again =
-    border_more h before said line lines x digits id is text spelled (again before nexts.Shallow (subst (λ (s : Reading). Tells step_of s lines x) (sym goes_so) tells))
+    border_more h before said line lines x digits id is text spelled (again before nexts.Shallow (subst (λ (s : ReplyParser). Tells step_of s lines x) (sym goes_so) tells))
 after_line h before nexts.Shallow said line lines t x is (reference _ id name r open_yet named whole fr goes_so) tells again = absurd (open_yet refl)
 after_line h before nexts.Peeled said line lines t x is (shallow _ digits id text spelled goes_so) tells again =
-    border_only h before (line ∷ lines) x (border_more h before said line lines x digits id is text spelled (again before nexts.Shallow (subst (λ (s : Reading). Tells step_of s lines x) (sym goes_so) tells)))
+    border_only h before (line ∷ lines) x (border_more h before said line lines x digits id is text spelled (again before nexts.Shallow (subst (λ (s : ReplyParser). Tells step_of s lines x) (sym goes_so) tells)))
 after_line h before nexts.Peeled said line lines t x is (reference _ id name r open_yet named whole fr goes_so) tells again =
-    by_reference h before said line lines x r id name is named whole fr (again (before ++ r ∷ []) nexts.Reference (subst (λ (s : Reading). Tells step_of s lines x) (sym goes_so) tells))
+    by_reference h before said line lines x r id name is named whole fr (again (before ++ r ∷ []) nexts.Reference (subst (λ (s : ReplyParser). Tells step_of s lines x) (sym goes_so) tells))
 after_line h before nexts.Reference said line lines t x is (shallow _ digits id text spelled goes_so) tells again = λ front r own name was fr.
     as_last h before front r own name (line ∷ lines) x was fr
-    (border_only h before (line ∷ lines) x (border_more h before said line lines x digits id is text spelled (again before nexts.Shallow (subst (λ (s : Reading). Tells step_of s lines x) (sym goes_so) tells))))
+    (border_only h before (line ∷ lines) x (border_more h before said line lines x digits id is text spelled (again before nexts.Shallow (subst (λ (s : ReplyParser). Tells step_of s lines x) (sym goes_so) tells))))
 after_line h before nexts.Reference said line lines t x is (reference _ id n s open_yet named whole fresh_one goes_so) tells again = λ front r own name was fr.
     as_last h before front r own name (line ∷ lines) x was fr
-    (by_reference h before said line lines x s id n is named whole fresh_one (again (before ++ s ∷ []) nexts.Reference (subst (λ (s : Reading). Tells step_of s lines x) (sym goes_so) tells)))
+    (by_reference h before said line lines x s id n is named whole fresh_one (again (before ++ s ∷ []) nexts.Reference (subst (λ (s : ReplyParser). Tells step_of s lines x) (sym goes_so) tells)))
 after_line h before nexts.Reference said line lines t x is (peel id short refs named peeled goes_so) tells again = λ front r own name was fr.
     let p = last_peeled id short front r refs (ap (with_peel id short) (sym was) ∙ peeled) in
     peel_more h front r own id name short said line lines x is named p.0 fr
-    (again (front ++ peeled_to id r ∷ []) nexts.Peeled (subst (λ (s : Reading). Tells step_of s lines x) (sym goes_so ∙ ap (λ (rs : List Ref). reading.Advertisement h rs nexts.Peeled) p.1) tells))
+    (again (front ++ peeled_to id r ∷ []) nexts.Peeled (subst (λ (s : ReplyParser). Tells step_of s lines x) (sym goes_so ∙ ap (λ (rs : List Ref). reading.Advertisement h rs nexts.Peeled) p.1) tells))
 
-goes_all : (h : Handshake) (before : List Ref) (allowed : Advertised) (lines : List Line) (x : Told) → Tells step_of (reading.Advertisement h before allowed) lines x → Outcome h before allowed lines x
+goes_all : (h : Handshake) (before : List Ref) (allowed : Advertised) (lines : List Line) (x : ParsedReply) → Tells step_of (reading.Advertisement h before allowed) lines x → Outcome h before allowed lines x
 unfolding step_of
 goes_all h before allowed [] x tells = absurd tells
 goes_all h before allowed (line ∷ []) x tells =
@@ -254,7 +254,7 @@ goes_all h before allowed (line ∷ next ∷ lines) x (t, goes_on, tells) =
 -- ---- the first line
 
 -- what the first line tells, and the lines after it
-record Advertises (said : List ℕ) (line : Line) (lines : List Line) (x : Told) : Type 0 where
+record Advertises (said : List ℕ) (line : Line) (lines : List Line) (x : ParsedReply) : Type 0 where
   handshake : Handshake
   refs : List Ref
   first : List ℕ
@@ -270,7 +270,7 @@ record Advertises (said : List ℕ) (line : Line) (lines : List Line) (x : Told)
   shallow : AreShallow handshake.object_hash border
   told : x ≡ tolds.Advertisement handshake refs
 
-no_refs : (cs : List Capability) (first behind said : List ℕ) (line : Line) (lines : List Line) (x : Told) (id : ObjectId) → said ≡ first ++ 0 ∷ behind → IsWithout 0 first → Offered cs behind → is_null id ≡ true → IsNamed (handshake_1 cs).object_hash id (codes "capabilities^{}") first
+no_refs : (cs : List Capability) (first behind said : List ℕ) (line : Line) (lines : List Line) (x : ParsedReply) (id : ObjectId) → said ≡ first ++ 0 ∷ behind → IsWithout 0 first → Offered cs behind → is_null id ≡ true → IsNamed (handshake_1 cs).object_hash id (codes "capabilities^{}") first
     → Border (handshake_1 cs) [] lines x → Advertises said line lines x
 no_refs cs first behind said line lines x id is whole offers null named b = record {
   handshake = handshake_1 cs;
@@ -289,7 +289,7 @@ no_refs cs first behind said line lines x id is whole offers null named b = reco
   told = b.told;
 }
 
-some_refs : (cs : List Capability) (first behind said : List ℕ) (line : Line) (lines : List Line) (x : Told) (r : Ref) (id : ObjectId) (name : List ℕ) → said ≡ first ++ 0 ∷ behind → IsWithout 0 first → Offered cs behind → IsNamed (handshake_1 cs).object_hash id name first → before_peel name ≡ None
+some_refs : (cs : List Capability) (first behind said : List ℕ) (line : Line) (lines : List Line) (x : ParsedReply) (r : Ref) (id : ObjectId) (name : List ℕ) → said ≡ first ++ 0 ∷ behind → IsWithout 0 first → Offered cs behind → IsNamed (handshake_1 cs).object_hash id name first → before_peel name ≡ None
     → IsFresh (handshake_1 cs) r id name → Last (handshake_1 cs) [] r lines x → Advertises said line lines x
 some_refs cs first behind said line lines x r id name is whole offers named unpeeled fr l = record {
   handshake = handshake_1 cs;
@@ -330,14 +330,14 @@ unfolding is_no_name
 no_name_is name is = exactly name (codes "capabilities^{}") is
 
 -- the first text, split at its NUL, before these lines
-module _ (said : List ℕ) (line : Line) (lines : List Line) (t : Reading) (x : Told) (tells : Tells step_of t lines x) (first behind : List ℕ) (text : said ≡ first ++ 0 ∷ behind) (whole : IsWithout 0 first) (cs : List Capability) (offers : Offered cs behind) where
+module _ (said : List ℕ) (line : Line) (lines : List Line) (t : ReplyParser) (x : ParsedReply) (tells : Tells step_of t lines x) (first behind : List ℕ) (text : said ≡ first ++ 0 ∷ behind) (whole : IsWithout 0 first) (cs : List Capability) (offers : Offered cs behind) where
   first_ref : (id : ObjectId) (name : List ℕ) (o : Option Ref) → IsNamed (handshake_1 cs).object_hash id name first → before_peel name ≡ None → advertised (handshake_1 cs) [] id name ≡ o
       → option_map (λ r. reading.Advertisement (handshake_1 cs) ([] ++ r ∷ []) nexts.Reference) o ≡ Some t → Advertises said line lines x
   first_ref id name None named unpeeled e h = absurd cc
   first_ref id name (Some r) named unpeeled e h =
       let fr = fresh (handshake_1 cs) [] id name r e in
       some_refs cs first behind said line lines x r id name text whole offers named unpeeled fr
-      (goes_all (handshake_1 cs) (r ∷ []) nexts.Reference lines x (subst (λ (s : Reading). Tells step_of s lines x) (sym (some_is _ _ h)) tells) [] r id name refl fr)
+      (goes_all (handshake_1 cs) (r ∷ []) nexts.Reference lines x (subst (λ (s : ReplyParser). Tells step_of s lines x) (sym (some_is _ _ h)) tells) [] r id name refl fr)
 
   first_name : (id : ObjectId) (name : List ℕ) (short : Option (List ℕ)) → IsNamed (handshake_1 cs).object_hash id name first → before_peel name ≡ short → at_name (handshake_1 cs) [] nexts.Peeled id name short ≡ Some t → Advertises said line lines x
   first_name id name None named e h = first_ref id name (advertised (handshake_1 cs) [] id name) named e refl h
@@ -347,7 +347,7 @@ module _ (said : List ℕ) (line : Line) (lines : List Line) (t : Reading) (x : 
       → (if a then (if b then Some (reading.Advertisement (handshake_1 cs) [] nexts.Shallow) else None) else at_name (handshake_1 cs) [] nexts.Peeled id name (before_peel name)) ≡ Some t → Advertises said line lines x
   first_by id name true true named e f h =
       no_refs cs first behind said line lines x id text whole offers f (subst (λ (n : List ℕ). IsNamed (handshake_1 cs).object_hash id n first) (no_name_is name e) named)
-      (goes_all (handshake_1 cs) [] nexts.Shallow lines x (subst (λ (s : Reading). Tells step_of s lines x) (sym (some_is _ _ h)) tells))
+      (goes_all (handshake_1 cs) [] nexts.Shallow lines x (subst (λ (s : ReplyParser). Tells step_of s lines x) (sym (some_is _ _ h)) tells))
   first_by id name true false named e f h = absurd cc
   first_by id name false b named e f h = first_name id name (before_peel name) named refl h
 
@@ -355,12 +355,12 @@ module _ (said : List ℕ) (line : Line) (lines : List Line) (t : Reading) (x : 
   first_id None e h = absurd cc
   first_id (Some (id, name)) e h = first_by id name (is_no_name name) (is_null id) (named_of (handshake_1 cs).object_hash first id name e) refl refl h
 
-first_words : (said : List ℕ) (line : Line) (lines : List Line) (t : Reading) (x : Told) → Tells step_of t lines x → (first behind : List ℕ) (o : Option (List Capability)) → said ≡ first ++ 0 ∷ behind → IsWithout 0 first → with_words [] (words behind) ≡ o
+first_words : (said : List ℕ) (line : Line) (lines : List Line) (t : ReplyParser) (x : ParsedReply) → Tells step_of t lines x → (first behind : List ℕ) (o : Option (List Capability)) → said ≡ first ++ 0 ∷ behind → IsWithout 0 first → with_words [] (words behind) ≡ o
     → option_and_then (λ capabilities. option_and_then (first_named (handshake_1 capabilities)) (id_and_name (handshake_1 capabilities).object_hash first)) o ≡ Some t → Advertises said line lines x
 first_words said line lines t x tells first behind None text whole e h = absurd cc
 first_words said line lines t x tells first behind (Some cs) text whole e h = first_id said line lines t x tells first behind text whole cs (offered behind cs e) (id_and_name (handshake_1 cs).object_hash first) refl h
 
-first_line : (said : List ℕ) (line : Line) (lines : List Line) (t : Reading) (x : Told) → at_first said ≡ Some t → Tells step_of t lines x → Advertises said line lines x
+first_line : (said : List ℕ) (line : Line) (lines : List Line) (t : ReplyParser) (x : ParsedReply) → at_first said ≡ Some t → Tells step_of t lines x → Advertises said line lines x
 first_line said line lines t x is tells = by_split (split_first 0 said) refl is
   where
     by_split : (o : Option (List ℕ × List ℕ)) → split_first 0 said ≡ o
@@ -419,10 +419,10 @@ advertisement_told h refs (line ∷ next ∷ lines) (t, goes_on, tells) once =
   where
     by_version : (said : List ℕ) → IsText said line → (a b : Bool) → is_version_1 said ≡ b
         → (if_step a (goes (reading.Capabilities [])) (if_step b (goes reading.Version) (or_breaks (at_first said) (λ s. goes s)))) ≡ goes t → IsAdvertisement h refs (line ∷ next ∷ lines)
-    by_version said is true b e f = absurd (no_capabilities (next ∷ lines) h refs (subst (λ (r : Reading). Tells step_of r (next ∷ lines) (tolds.Advertisement h refs)) (let s : reading.Capabilities [] ≡ t = cc in sym s) tells))
+    by_version said is true b e f = absurd (no_capabilities (next ∷ lines) h refs (subst (λ (r : ReplyParser). Tells step_of r (next ∷ lines) (tolds.Advertisement h refs)) (let s : reading.Capabilities [] ≡ t = cc in sym s) tells))
     by_version said is false true e f =
         behind_version h refs line (next ∷ lines) (subst (λ (s : List ℕ). IsText s line) (version_1_is said e) is) once
-        (subst (λ (r : Reading). Tells step_of r (next ∷ lines) (tolds.Advertisement h refs)) (let s : reading.Version ≡ t = cc in sym s) tells)
+        (subst (λ (r : ReplyParser). Tells step_of r (next ∷ lines) (tolds.Advertisement h refs)) (let s : reading.Version ≡ t = cc in sym s) tells)
     by_version said is false false e f =
         whole_told h refs said line (next ∷ lines) (line ∷ next ∷ lines) (λ texts fl. inl (flushed_more said texts line (next ∷ lines) is fl)) once
         (first_line said line (next ∷ lines) t (tolds.Advertisement h refs) (chosen (at_first said) t f) tells)

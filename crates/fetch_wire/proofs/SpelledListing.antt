@@ -14,11 +14,11 @@ use Rattle.fetch_store.specs.declared.id.ObjectId.{ObjectId}
 use Rattle.fetch_store.proofs.LineLaws.{splits}
 use Rattle.fetch_store.proofs.CommitTexts.{parts_without}
 use Rattle.fetch_store.proofs.TagTexts.{after_is}
-use Rattle.fetch_wire.specs.declared.replies.awaited.Told.{Told}
-use Rattle.fetch_wire.specs.declared.replies.awaited.Told.TheVariants as tolds
+use Rattle.fetch_wire.specs.declared.replies.reply.ParsedReply.{ParsedReply}
+use Rattle.fetch_wire.specs.declared.replies.reply.ParsedReply.TheVariants as tolds
 use Rattle.fetch_wire.specs.declared.lines.line.Line.{Line}
-use Rattle.fetch_wire.specs.declared.replies.reading.Reading.{Reading}
-use Rattle.fetch_wire.specs.declared.replies.reading.Reading.TheVariants as reading
+use Rattle.fetch_wire.specs.declared.replies.parser.ReplyParser.{ReplyParser}
+use Rattle.fetch_wire.specs.declared.replies.parser.ReplyParser.TheVariants as reading
 use Rattle.fetch_wire.specs.declared.listings.reference.Ref.{Ref}
 use Rattle.fetch_wire.specs.declared.listings.reference.Ref.TheVariants.{Direct, Symbolic, Peeled, Unborn}
 use Rattle.fetch_wire.specs.Awaited.{step_of, at_listed}
@@ -235,14 +235,14 @@ listed_ref kind before said r is = by_ref (ref_in kind said) refl is
     by_ref (Some s) e h = ref_told kind said r (e ∙ ap Some (new_is before s r h))
 
 -- references after those that were told before
-pub record Listed (kind : Kind) (before : List Ref) (lines : List Line) (x : Told) : Type 0 where
+pub record Listed (kind : Kind) (before : List Ref) (lines : List Line) (x : ParsedReply) : Type 0 where
   pub refs : List Ref
   pub said : List (List ℕ)
   pub texts : AreFlushed said lines
   pub each : AreRefs kind refs said
   pub told : x ≡ tolds.Listing (before ++ refs)
 
-pub listed : (kind : Kind) (before : List Ref) (lines : List Line) (x : Told) → Tells step_of (reading.Listing kind before) lines x → Listed kind before lines x
+pub listed : (kind : Kind) (before : List Ref) (lines : List Line) (x : ParsedReply) → Tells step_of (reading.Listing kind before) lines x → Listed kind before lines x
 unfolding step_of
 listed kind before [] x h = absurd h
 listed kind before (line ∷ []) x h =
@@ -251,7 +251,7 @@ listed kind before (line ∷ []) x h =
 listed kind before (line ∷ next ∷ lines) x (t, goes_on, h) =
     let g = text_goes (ends (tolds.Listing before)) breaks (at_listed kind before) line t (λ e. cc) (λ e. cc) goes_on in
     let s = some_goes (option_and_then (if_new before) (ref_in kind g.0)) (λ r. reading.Listing kind (before ++ r ∷ [])) t g.2 in
-    let more = listed kind (before ++ s.0 ∷ []) (next ∷ lines) x (subst (λ (r : Reading). Tells step_of r (next ∷ lines) x) (sym s.2) h) in
+    let more = listed kind (before ++ s.0 ∷ []) (next ∷ lines) x (subst (λ (r : ReplyParser). Tells step_of r (next ∷ lines) x) (sym s.2) h) in
     record {
       refs = s.0 ∷ more.refs;
       said = g.0 ∷ more.said;

@@ -5,14 +5,14 @@ use Rattle.std.proofs.lemmas.Bool.{eqb-true}
 use Rattle.std.proofs.lemmas.List.{append-nil}
 use Rattle.std.proofs.lemmas.Slice.Eq.{bytes_eq-Decides}
 use Rattle.fetch_store.specs.declared.id.ObjectId.{ObjectId}
-use Rattle.fetch_wire.specs.declared.replies.awaited.AskedReply.{AskedReply}
-use Rattle.fetch_wire.specs.declared.replies.awaited.Told.{Told}
-use Rattle.fetch_wire.specs.declared.replies.awaited.Told.TheVariants as tolds
+use Rattle.fetch_wire.specs.declared.replies.reply.ReplyContext.{ReplyContext}
+use Rattle.fetch_wire.specs.declared.replies.reply.ParsedReply.{ParsedReply}
+use Rattle.fetch_wire.specs.declared.replies.reply.ParsedReply.TheVariants as tolds
 use Rattle.fetch_wire.specs.declared.lines.line.Line.{Line}
 use Rattle.fetch_wire.specs.declared.lines.line.Line.TheVariants.{Payload, Flush, Delim, End}
-use Rattle.fetch_wire.specs.declared.replies.reading.Part.TheVariants as parts
-use Rattle.fetch_wire.specs.declared.replies.reading.Reading.{Reading}
-use Rattle.fetch_wire.specs.declared.replies.reading.Reading.TheVariants as reading
+use Rattle.fetch_wire.specs.declared.replies.parser.Part.TheVariants as parts
+use Rattle.fetch_wire.specs.declared.replies.parser.ReplyParser.{ReplyParser}
+use Rattle.fetch_wire.specs.declared.replies.parser.ReplyParser.TheVariants as reading
 use Rattle.fetch_wire.specs.declared.requests.records.FetchReply.{FetchReply}
 use Rattle.fetch_wire.specs.Awaited.{step_of}
 use Rattle.fetch_wire.specs.Bands.{Band, Piece, Progress, band_line, pieces_of, texts_of, behind}
@@ -28,12 +28,12 @@ exactly a b is = (bytes_eq-Decides a b).0 is
 -- ---- bands
 
 -- bands after what was read of the pack
-record Banded (asked : AskedReply) (reply : FetchReply) (pack : List ℕ) (progress : List (List ℕ)) (lines : List Line) (x : Told) : Type 0 where
+record Banded (asked : ReplyContext) (reply : FetchReply) (pack : List ℕ) (progress : List (List ℕ)) (lines : List Line) (x : ParsedReply) : Type 0 where
   bands : List Band
   is : lines ≡ map band_line bands ++ Flush ∷ []
   told : x ≡ tolds.Reply (behind reply (pack ++ concat (pieces_of bands)) (progress ++ texts_of bands))
 
-band_ends : (asked : AskedReply) (reply : FetchReply) (pack : List ℕ) (progress : List (List ℕ)) (line : Line) (x : Told) → step_of (reading.Reply asked parts.Bands (behind reply pack progress)) line ≡ ends x → Banded asked reply pack progress (line ∷ []) x
+band_ends : (asked : ReplyContext) (reply : FetchReply) (pack : List ℕ) (progress : List (List ℕ)) (line : Line) (x : ParsedReply) → step_of (reading.Reply asked parts.Bands (behind reply pack progress)) line ≡ ends x → Banded asked reply pack progress (line ∷ []) x
 unfolding step_of
 band_ends asked reply pack progress (Payload []) x is = absurd cc
 band_ends asked reply pack progress (Payload (band ∷ bytes)) x is = by_one (band == 1) (band == 2) (band == 3) is
@@ -50,12 +50,12 @@ band_ends asked reply pack progress Delim x is = absurd cc
 band_ends asked reply pack progress End x is = absurd cc
 
 -- the band that a line was
-record OneBand (asked : AskedReply) (reply : FetchReply) (pack : List ℕ) (progress : List (List ℕ)) (line : Line) (t : Reading) : Type 0 where
+record OneBand (asked : ReplyContext) (reply : FetchReply) (pack : List ℕ) (progress : List (List ℕ)) (line : Line) (t : ReplyParser) : Type 0 where
   band : Band
   is : line ≡ band_line band
   goes_on : t ≡ reading.Reply asked parts.Bands (behind reply (pack ++ concat (pieces_of (band ∷ []))) (progress ++ texts_of (band ∷ [])))
 
-band_goes : (asked : AskedReply) (reply : FetchReply) (pack : List ℕ) (progress : List (List ℕ)) (line : Line) (t : Reading) → step_of (reading.Reply asked parts.Bands (behind reply pack progress)) line ≡ goes t → OneBand asked reply pack progress line t
+band_goes : (asked : ReplyContext) (reply : FetchReply) (pack : List ℕ) (progress : List (List ℕ)) (line : Line) (t : ReplyParser) → step_of (reading.Reply asked parts.Bands (behind reply pack progress)) line ≡ goes t → OneBand asked reply pack progress line t
 unfolding step_of
 band_goes asked reply pack progress (Payload []) t is = absurd cc
 band_goes asked reply pack progress (Payload (band ∷ bytes)) t is = by_one (band == 1) (band == 2) (band == 3) refl refl is
@@ -89,14 +89,14 @@ texts_more : (band : Band) (bands : List Band) → texts_of (band ∷ []) ++ tex
 texts_more (Piece bytes) bands = refl
 texts_more (Progress text) bands = refl
 
-banded : (asked : AskedReply) (reply : FetchReply) (pack : List ℕ) (progress : List (List ℕ)) (lines : List Line) (x : Told) → Tells step_of (reading.Reply asked parts.Bands (behind reply pack progress)) lines x → Banded asked reply pack progress lines x
+banded : (asked : ReplyContext) (reply : FetchReply) (pack : List ℕ) (progress : List (List ℕ)) (lines : List Line) (x : ParsedReply) → Tells step_of (reading.Reply asked parts.Bands (behind reply pack progress)) lines x → Banded asked reply pack progress lines x
 banded asked reply pack progress [] x h = absurd h
 banded asked reply pack progress (line ∷ []) x h = band_ends asked reply pack progress line x h
 banded asked reply pack progress (line ∷ next ∷ lines) x (t, goes_on, h) =
     let one = band_goes asked reply pack progress line t goes_on in
     let p = pack ++ concat (pieces_of (one.band ∷ [])) in
     let q = progress ++ texts_of (one.band ∷ []) in
-    let more = banded asked reply p q (next ∷ lines) x (subst (λ (r : Reading). Tells step_of r (next ∷ lines) x) one.goes_on h) in
+    let more = banded asked reply p q (next ∷ lines) x (subst (λ (r : ReplyParser). Tells step_of r (next ∷ lines) x) one.goes_on h) in
     record {
       bands = one.band ∷ more.bands;
       is = ap₂ (λ (l : Line) (ls : List Line). l ∷ ls) one.is more.is;
@@ -115,18 +115,18 @@ bare ids shallow unshallow = record { acknowledged = ids; shallow = shallow; uns
 abbrev pub packing : Bool → FetchReply → List Band → FetchReply
 packing reads reply bands = record reply { pack = pack_in reads bands; progress = texts_of bands }
 
-pub record Packed (asked : AskedReply) (ids shallow unshallow : List ObjectId) (lines : List Line) (x : Told) : Type 0 where
+pub record Packed (asked : ReplyContext) (ids shallow unshallow : List ObjectId) (lines : List Line) (x : ParsedReply) : Type 0 where
   pub bands : List Band
   pub is : IsPack asked bands lines
   pub told : x ≡ tolds.Reply (packing asked.read_pack (bare ids shallow unshallow) bands)
 
 -- the step that `packfile` makes
-record PackGoes (asked : AskedReply) (reply : FetchReply) (said : List ℕ) (t : Reading) : Type 0 where
+record PackGoes (asked : ReplyContext) (reply : FetchReply) (said : List ℕ) (t : ReplyParser) : Type 0 where
   text : said ≡ codes "packfile"
   reads : asked.read_pack ≡ true
   goes_on : reading.Reply asked parts.Bands (record reply { pack = Some [] }) ≡ t
 
-pack_goes : (asked : AskedReply) (reply : FetchReply) (said : List ℕ) (t : Reading) → at_packfile asked reply said ≡ goes t → PackGoes asked reply said t
+pack_goes : (asked : ReplyContext) (reply : FetchReply) (said : List ℕ) (t : ReplyParser) → at_packfile asked reply said ≡ goes t → PackGoes asked reply said t
 unfolding is_packfile
 pack_goes asked reply said t is = by_word (is_packfile said) asked.read_pack refl refl is
   where
@@ -136,12 +136,12 @@ pack_goes asked reply said t is = by_word (is_packfile said) asked.read_pack ref
     by_word true false e f h = absurd cc
     by_word false b e f h = absurd cc
 
-record PackEnds (asked : AskedReply) (reply : FetchReply) (said : List ℕ) (x : Told) : Type 0 where
+record PackEnds (asked : ReplyContext) (reply : FetchReply) (said : List ℕ) (x : ParsedReply) : Type 0 where
   text : said ≡ codes "packfile"
   unread : asked.read_pack ≡ false
   told : tolds.Reply reply ≡ x
 
-pack_ends : (asked : AskedReply) (reply : FetchReply) (said : List ℕ) (x : Told) → at_packfile asked reply said ≡ ends x → PackEnds asked reply said x
+pack_ends : (asked : ReplyContext) (reply : FetchReply) (said : List ℕ) (x : ParsedReply) → at_packfile asked reply said ≡ ends x → PackEnds asked reply said x
 unfolding is_packfile
 pack_ends asked reply said x is = by_word (is_packfile said) asked.read_pack refl refl is
   where
@@ -151,7 +151,7 @@ pack_ends asked reply said x is = by_word (is_packfile said) asked.read_pack ref
     by_word true false e f h = record { text = exactly said (codes "packfile") e; unread = f; told = cc }
     by_word false b e f h = absurd cc
 
-pub pack_ended : (asked : AskedReply) (ids shallow unshallow : List ObjectId) (said : List ℕ) (line : Line) (x : Told) → IsText said line → at_packfile asked (bare ids shallow unshallow) said ≡ ends x → Packed asked ids shallow unshallow (line ∷ []) x
+pub pack_ended : (asked : ReplyContext) (ids shallow unshallow : List ObjectId) (said : List ℕ) (line : Line) (x : ParsedReply) → IsText said line → at_packfile asked (bare ids shallow unshallow) said ≡ ends x → Packed asked ids shallow unshallow (line ∷ []) x
 pack_ended asked ids shallow unshallow said line x is h =
     let e = pack_ends asked (bare ids shallow unshallow) said x h in
     record {
@@ -160,19 +160,19 @@ pack_ended asked ids shallow unshallow said line x is h =
       told = sym e.told ∙ ap (λ (b : Bool). tolds.Reply (packing b (bare ids shallow unshallow) [])) (sym e.unread);
     }
 
-pub pack_went : (asked : AskedReply) (ids shallow unshallow : List ObjectId) (said : List ℕ) (line next : Line) (lines : List Line) (t : Reading) (x : Told) → IsText said line → at_packfile asked (bare ids shallow unshallow) said ≡ goes t
+pub pack_went : (asked : ReplyContext) (ids shallow unshallow : List ObjectId) (said : List ℕ) (line next : Line) (lines : List Line) (t : ReplyParser) (x : ParsedReply) → IsText said line → at_packfile asked (bare ids shallow unshallow) said ≡ goes t
     → Tells step_of t (next ∷ lines) x → Packed asked ids shallow unshallow (line ∷ next ∷ lines) x
 pack_went asked ids shallow unshallow said line next lines t x is h tells =
     let reply = bare ids shallow unshallow in
     let g = pack_goes asked reply said t h in
-    let more = banded asked reply [] [] (next ∷ lines) x (subst (λ (r : Reading). Tells step_of r (next ∷ lines) x) (sym g.goes_on) tells) in
+    let more = banded asked reply [] [] (next ∷ lines) x (subst (λ (r : ReplyParser). Tells step_of r (next ∷ lines) x) (sym g.goes_on) tells) in
     record {
       bands = more.bands;
       is = (subst (λ (s : List ℕ). IsText s line) g.text is, subst (λ (b : Bool). AreBands b more.bands (next ∷ lines)) (sym g.reads) more.is);
       told = more.told ∙ ap (λ (b : Bool). tolds.Reply (packing b reply more.bands)) (sym g.reads);
     }
 
-pub packed : (asked : AskedReply) (ids shallow unshallow : List ObjectId) (lines : List Line) (x : Told) → Tells step_of (reading.Reply asked parts.Packfile (bare ids shallow unshallow)) lines x → Packed asked ids shallow unshallow lines x
+pub packed : (asked : ReplyContext) (ids shallow unshallow : List ObjectId) (lines : List Line) (x : ParsedReply) → Tells step_of (reading.Reply asked parts.Packfile (bare ids shallow unshallow)) lines x → Packed asked ids shallow unshallow lines x
 unfolding step_of
 packed asked ids shallow unshallow [] x h = absurd h
 packed asked ids shallow unshallow (line ∷ []) x h =

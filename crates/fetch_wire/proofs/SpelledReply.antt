@@ -9,14 +9,14 @@ use Rattle.fetch_store.specs.Scan.{after}
 use Rattle.fetch_store.specs.declared.id.Kind.{Kind}
 use Rattle.fetch_store.specs.declared.id.ObjectId.{ObjectId}
 use Rattle.fetch_store.proofs.TagTexts.{after_is}
-use Rattle.fetch_wire.specs.declared.replies.awaited.AskedReply.{AskedReply}
-use Rattle.fetch_wire.specs.declared.replies.awaited.Told.{Told}
-use Rattle.fetch_wire.specs.declared.replies.awaited.Told.TheVariants as tolds
+use Rattle.fetch_wire.specs.declared.replies.reply.ReplyContext.{ReplyContext}
+use Rattle.fetch_wire.specs.declared.replies.reply.ParsedReply.{ParsedReply}
+use Rattle.fetch_wire.specs.declared.replies.reply.ParsedReply.TheVariants as tolds
 use Rattle.fetch_wire.specs.declared.lines.line.Line.{Line}
 use Rattle.fetch_wire.specs.declared.lines.line.Line.TheVariants.{Payload, Flush, Delim, End}
-use Rattle.fetch_wire.specs.declared.replies.reading.Part.TheVariants as parts
-use Rattle.fetch_wire.specs.declared.replies.reading.Reading.{Reading}
-use Rattle.fetch_wire.specs.declared.replies.reading.Reading.TheVariants as reading
+use Rattle.fetch_wire.specs.declared.replies.parser.Part.TheVariants as parts
+use Rattle.fetch_wire.specs.declared.replies.parser.ReplyParser.{ReplyParser}
+use Rattle.fetch_wire.specs.declared.replies.parser.ReplyParser.TheVariants as reading
 use Rattle.fetch_wire.specs.declared.requests.records.FetchReply.{FetchReply}
 use Rattle.fetch_wire.specs.Awaited.{step_of}
 use Rattle.fetch_wire.specs.FetchReplies.{no_reply, is_acknowledgments, is_nak, is_ready, is_shallow_info, if_have, acknowledged_in, shallow_in, unshallow_in, at_packfile, at_rest, at_beginning, at_acknowledgment, at_change}
@@ -30,7 +30,7 @@ use Rattle.fetch_wire.proofs.SpelledPack.{exactly, bare, packing, packed, pack_e
 -- ---- the border
 
 -- the move that a text was
-record OneMove (asked : AskedReply) (ids shallow unshallow : List ObjectId) (said : List ℕ) (t : Reading) : Type 0 where
+record OneMove (asked : ReplyContext) (ids shallow unshallow : List ObjectId) (said : List ℕ) (t : ReplyParser) : Type 0 where
   move : Move
   text : said ≡ move_text move
   is : IsMove asked.kind move
@@ -49,7 +49,7 @@ id_behind kind word said id is = by_word (after word said) refl is
     by_word None e h = absurd cc
     by_word (Some digits) e h = record { digits = digits; text = after_is word said digits e; is = h }
 
-move_goes : (asked : AskedReply) (ids shallow unshallow : List ObjectId) (said : List ℕ) (t : Reading) → at_change asked (bare ids shallow unshallow) (shallow_in asked.kind said) (unshallow_in asked.kind said) ≡ goes t → OneMove asked ids shallow unshallow said t
+move_goes : (asked : ReplyContext) (ids shallow unshallow : List ObjectId) (said : List ℕ) (t : ReplyParser) → at_change asked (bare ids shallow unshallow) (shallow_in asked.kind said) (unshallow_in asked.kind said) ≡ goes t → OneMove asked ids shallow unshallow said t
 unfolding shallow_in unshallow_in
 move_goes asked ids shallow unshallow said t is = by_words (shallow_in asked.kind said) (unshallow_in asked.kind said) refl refl is
   where
@@ -81,7 +81,7 @@ leaving_more (Comes digits id) moves = refl
 leaving_more (Leaves digits id) moves = refl
 
 -- moves after those that were told before, and the pack after them
-record Moved (asked : AskedReply) (ids shallow unshallow : List ObjectId) (lines : List Line) (x : Told) : Type 0 where
+record Moved (asked : ReplyContext) (ids shallow unshallow : List ObjectId) (lines : List Line) (x : ParsedReply) : Type 0 where
   moves : List Move
   front : List Line
   others : List Line
@@ -90,14 +90,14 @@ record Moved (asked : AskedReply) (ids shallow unshallow : List ObjectId) (lines
   each : All (IsMove asked.kind) moves
   pack : Packed asked ids (shallow ++ coming moves) (unshallow ++ leaving moves) others x
 
-abbrev change_step : AskedReply → FetchReply → List ℕ → Step Reading Told
+abbrev change_step : ReplyContext → FetchReply → List ℕ → Step ReplyParser ParsedReply
 change_step asked reply text = at_change asked reply (shallow_in asked.kind text) (unshallow_in asked.kind text)
 
 -- a line among them: a move, or the delimiter
-record MoveOrDelim (asked : AskedReply) (ids shallow unshallow : List ObjectId) (line : Line) (t : Reading) : Type 0 where
+record MoveOrDelim (asked : ReplyContext) (ids shallow unshallow : List ObjectId) (line : Line) (t : ReplyParser) : Type 0 where
   is : ((said : List ℕ) × IsText said line × OneMove asked ids shallow unshallow said t) ⊎ ((line ≡ Delim) × (reading.Reply asked parts.Packfile (bare ids shallow unshallow) ≡ t))
 
-move_or_delim : (asked : AskedReply) (ids shallow unshallow : List ObjectId) (line : Line) (t : Reading) → step_of (reading.Reply asked parts.ShallowInfo (bare ids shallow unshallow)) line ≡ goes t → MoveOrDelim asked ids shallow unshallow line t
+move_or_delim : (asked : ReplyContext) (ids shallow unshallow : List ObjectId) (line : Line) (t : ReplyParser) → step_of (reading.Reply asked parts.ShallowInfo (bare ids shallow unshallow)) line ≡ goes t → MoveOrDelim asked ids shallow unshallow line t
 unfolding step_of
 move_or_delim asked ids shallow unshallow (Payload payload) t is =
     let g = text_goes breaks breaks (change_step asked (bare ids shallow unshallow)) (Payload payload) t (λ e. cc) (λ e. cc) is in
@@ -106,12 +106,12 @@ move_or_delim asked ids shallow unshallow Flush t is = absurd cc
 move_or_delim asked ids shallow unshallow Delim t is = record { is = inr (refl, cc) }
 move_or_delim asked ids shallow unshallow End t is = absurd cc
 
-no_change_ends : (asked : AskedReply) (reply : FetchReply) (a b : Option ObjectId) (x : Told) → at_change asked reply a b ≢ ends x
+no_change_ends : (asked : ReplyContext) (reply : FetchReply) (a b : Option ObjectId) (x : ParsedReply) → at_change asked reply a b ≢ ends x
 no_change_ends asked reply (Some id) b x = λ e. cc
 no_change_ends asked reply None (Some id) x = λ e. cc
 no_change_ends asked reply None None x = λ e. cc
 
-no_move_ends : (asked : AskedReply) (reply : FetchReply) (line : Line) (x : Told) → step_of (reading.Reply asked parts.ShallowInfo reply) line ≢ ends x
+no_move_ends : (asked : ReplyContext) (reply : FetchReply) (line : Line) (x : ParsedReply) → step_of (reading.Reply asked parts.ShallowInfo reply) line ≢ ends x
 unfolding step_of
 no_move_ends asked reply (Payload payload) x = λ is.
     let e = text_ends (change_step asked reply) (Payload payload) x is in no_change_ends asked reply (shallow_in asked.kind e.0) (unshallow_in asked.kind e.0) x e.2
@@ -119,7 +119,7 @@ no_move_ends asked reply Flush x = λ is. cc
 no_move_ends asked reply Delim x = λ is. cc
 no_move_ends asked reply End x = λ is. cc
 
-moved : (asked : AskedReply) (ids shallow unshallow : List ObjectId) (lines : List Line) (x : Told) → Tells step_of (reading.Reply asked parts.ShallowInfo (bare ids shallow unshallow)) lines x → Moved asked ids shallow unshallow lines x
+moved : (asked : ReplyContext) (ids shallow unshallow : List ObjectId) (lines : List Line) (x : ParsedReply) → Tells step_of (reading.Reply asked parts.ShallowInfo (bare ids shallow unshallow)) lines x → Moved asked ids shallow unshallow lines x
 moved asked ids shallow unshallow [] x h = absurd h
 moved asked ids shallow unshallow (line ∷ []) x h = absurd (no_move_ends asked (bare ids shallow unshallow) line x h)
 moved asked ids shallow unshallow (line ∷ next ∷ lines) x (t, goes_on, h) = by_line_is (move_or_delim asked ids shallow unshallow line t goes_on).is (λ s u. moved asked ids s u (next ∷ lines) x)
@@ -135,10 +135,10 @@ moved asked ids shallow unshallow (line ∷ next ∷ lines) x (t, goes_on, h) = 
       each = All-nil (IsMove asked.kind);
       pack = subst (λ (s : List ObjectId). Packed asked ids s (unshallow ++ []) (next ∷ lines) x) (sym (append-nil shallow))
           (subst (λ (u : List ObjectId). Packed asked ids shallow u (next ∷ lines) x) (sym (append-nil unshallow))
-          (packed asked ids shallow unshallow (next ∷ lines) x (subst (λ (r : Reading). Tells step_of r (next ∷ lines) x) (sym goes_so) h)));
+          (packed asked ids shallow unshallow (next ∷ lines) x (subst (λ (r : ReplyParser). Tells step_of r (next ∷ lines) x) (sym goes_so) h)));
     }
     by_line_is (inl (said, is, one)) again =
-        let more = again (shallow ++ coming (one.move ∷ [])) (unshallow ++ leaving (one.move ∷ [])) (subst (λ (r : Reading). Tells step_of r (next ∷ lines) x) (sym one.goes_on) h) in
+        let more = again (shallow ++ coming (one.move ∷ [])) (unshallow ++ leaving (one.move ∷ [])) (subst (λ (r : ReplyParser). Tells step_of r (next ∷ lines) x) (sym one.goes_on) h) in
         record {
           moves = one.move ∷ more.moves;
           front = line ∷ more.front;
@@ -153,19 +153,19 @@ moved asked ids shallow unshallow (line ∷ next ∷ lines) x (t, goes_on, h) = 
 
 -- ---- the rest
 
-record Rested (asked : AskedReply) (ids : List ObjectId) (lines : List Line) (x : Told) : Type 0 where
+record Rested (asked : ReplyContext) (ids : List ObjectId) (lines : List Line) (x : ParsedReply) : Type 0 where
   reply : FetchReply
   rest : IsRest asked ids reply lines
   told : x ≡ tolds.Reply reply
 
-unmoved : (asked : AskedReply) (ids : List ObjectId) (lines : List Line) (x : Told) → Packed asked ids [] [] lines x → Rested asked ids lines x
+unmoved : (asked : ReplyContext) (ids : List ObjectId) (lines : List Line) (x : ParsedReply) → Packed asked ids [] [] lines x → Rested asked ids lines x
 unmoved asked ids lines x p = record {
   reply = packing asked.read_pack (bare ids [] []) p.bands;
   rest = record { moves = None; bands = p.bands; front = []; behind = lines; is = refl; border = refl; pack = p.is; told = refl };
   told = p.told;
 }
 
-with_moves : (asked : AskedReply) (ids : List ObjectId) (said : List ℕ) (line : Line) (lines : List Line) (x : Told) → said ≡ codes "shallow-info" → IsText said line → Moved asked ids [] [] lines x → Rested asked ids (line ∷ lines) x
+with_moves : (asked : ReplyContext) (ids : List ObjectId) (said : List ℕ) (line : Line) (lines : List Line) (x : ParsedReply) → said ≡ codes "shallow-info" → IsText said line → Moved asked ids [] [] lines x → Rested asked ids (line ∷ lines) x
 with_moves asked ids said line lines x word is m = record {
   reply = packing asked.read_pack (bare ids (coming m.moves) (leaving m.moves)) m.pack.bands;
   rest = record {
@@ -181,17 +181,17 @@ with_moves asked ids said line lines x word is m = record {
   told = m.pack.told;
 }
 
-rest_goes : (asked : AskedReply) (ids : List ObjectId) (said : List ℕ) (line next : Line) (lines : List Line) (t : Reading) (x : Told) → IsText said line → at_rest asked (bare ids [] []) said ≡ goes t → Tells step_of t (next ∷ lines) x → Rested asked ids (line ∷ next ∷ lines) x
+rest_goes : (asked : ReplyContext) (ids : List ObjectId) (said : List ℕ) (line next : Line) (lines : List Line) (t : ReplyParser) (x : ParsedReply) → IsText said line → at_rest asked (bare ids [] []) said ≡ goes t → Tells step_of t (next ∷ lines) x → Rested asked ids (line ∷ next ∷ lines) x
 unfolding is_shallow_info
 rest_goes asked ids said line next lines t x is h tells = by_word (is_shallow_info said) refl h
   where
     by_word : (b : Bool) → is_shallow_info said ≡ b → if_step b (goes (reading.Reply asked parts.ShallowInfo (bare ids [] []))) (at_packfile asked (bare ids [] []) said) ≡ goes t → Rested asked ids (line ∷ next ∷ lines) x
     by_word true e g =
         with_moves asked ids said line (next ∷ lines) x (exactly said (codes "shallow-info") e) is
-        (moved asked ids [] [] (next ∷ lines) x (subst (λ (r : Reading). Tells step_of r (next ∷ lines) x) (let s : reading.Reply asked parts.ShallowInfo (bare ids [] []) ≡ t = cc in sym s) tells))
+        (moved asked ids [] [] (next ∷ lines) x (subst (λ (r : ReplyParser). Tells step_of r (next ∷ lines) x) (let s : reading.Reply asked parts.ShallowInfo (bare ids [] []) ≡ t = cc in sym s) tells))
     by_word false e g = unmoved asked ids (line ∷ next ∷ lines) x (pack_went asked ids [] [] said line next lines t x is g tells)
 
-rest_ends : (asked : AskedReply) (ids : List ObjectId) (said : List ℕ) (line : Line) (x : Told) → IsText said line → at_rest asked (bare ids [] []) said ≡ ends x → Rested asked ids (line ∷ []) x
+rest_ends : (asked : ReplyContext) (ids : List ObjectId) (said : List ℕ) (line : Line) (x : ParsedReply) → IsText said line → at_rest asked (bare ids [] []) said ≡ ends x → Rested asked ids (line ∷ []) x
 unfolding is_shallow_info
 rest_ends asked ids said line x is h = by_word (is_shallow_info said) refl h
   where
@@ -199,7 +199,7 @@ rest_ends asked ids said line x is h = by_word (is_shallow_info said) refl h
     by_word true e g = absurd cc
     by_word false e g = unmoved asked ids (line ∷ []) x (pack_ended asked ids [] [] said line x is g)
 
-rested : (asked : AskedReply) (ids : List ObjectId) (lines : List Line) (x : Told) → Tells step_of (reading.Reply asked parts.Rest (bare ids [] [])) lines x → Rested asked ids lines x
+rested : (asked : ReplyContext) (ids : List ObjectId) (lines : List Line) (x : ParsedReply) → Tells step_of (reading.Reply asked parts.Rest (bare ids [] [])) lines x → Rested asked ids lines x
 unfolding step_of
 rested asked ids [] x h = absurd h
 rested asked ids (line ∷ []) x h = let e = text_ends (at_rest asked (bare ids [] [])) line x h in rest_ends asked ids e.0 line x e.1 e.2
@@ -209,13 +209,13 @@ rested asked ids (line ∷ next ∷ lines) x (t, goes_on, h) =
 -- ---- acknowledgments
 
 -- the word that a text was
-record OneAck (asked : AskedReply) (reply : FetchReply) (said : List ℕ) (t : Reading) : Type 0 where
+record OneAck (asked : ReplyContext) (reply : FetchReply) (said : List ℕ) (t : ReplyParser) : Type 0 where
   word : Acknowledgment
   text : said ≡ acknowledgment_text word
   is : IsAcknowledgment asked word
   goes_on : reading.Reply asked parts.Acknowledgments (record reply { acknowledged = reply.acknowledged ++ acknowledged_by (word ∷ []) }) ≡ t
 
-have_so : (asked : AskedReply) (digits : List ℕ) (id : ObjectId) → option_and_then (if_have asked.haves) (id_in_hex asked.kind digits) ≡ Some id → Spells asked.kind digits id × (has_id id asked.haves ≡ true)
+have_so : (asked : ReplyContext) (digits : List ℕ) (id : ObjectId) → option_and_then (if_have asked.haves) (id_in_hex asked.kind digits) ≡ Some id → Spells asked.kind digits id × (has_id id asked.haves ≡ true)
 have_so asked digits id is = by_id (id_in_hex asked.kind digits) refl is
   where
     by_have : (x : ObjectId) (b : Bool) → has_id x asked.haves ≡ b → id_in_hex asked.kind digits ≡ Some x → (if b then Some x else None) ≡ Some id → Spells asked.kind digits id × (has_id id asked.haves ≡ true)
@@ -226,7 +226,7 @@ have_so asked digits id is = by_id (id_in_hex asked.kind digits) refl is
     by_id None e h = absurd cc
     by_id (Some x) e h = by_have x (has_id x asked.haves) refl e h
 
-ack_told : (asked : AskedReply) (said : List ℕ) (id : ObjectId) → acknowledged_in asked said ≡ Some id → (digits : List ℕ) × (said ≡ codes "ACK " ++ digits) × Spells asked.kind digits id × (has_id id asked.haves ≡ true)
+ack_told : (asked : ReplyContext) (said : List ℕ) (id : ObjectId) → acknowledged_in asked said ≡ Some id → (digits : List ℕ) × (said ≡ codes "ACK " ++ digits) × Spells asked.kind digits id × (has_id id asked.haves ≡ true)
 unfolding acknowledged_in
 ack_told asked said id is = by_word (after (codes "ACK ") said) refl is
   where
@@ -235,10 +235,10 @@ ack_told asked said id is = by_word (after (codes "ACK ") said) refl is
     by_word (Some digits) e h = let p = have_so asked digits id h in (digits, after_is (codes "ACK ") said digits e, p.0, p.1)
 
 -- a text is a word of these, or `ready`
-abbrev AckOrReady : AskedReply → FetchReply → List ℕ → Reading → Type 0
+abbrev AckOrReady : ReplyContext → FetchReply → List ℕ → ReplyParser → Type 0
 AckOrReady asked reply said t = OneAck asked reply said t ⊎ ((said ≡ codes "ready") × (reading.Reply asked parts.Ready reply ≡ t))
 
-ack_goes : (asked : AskedReply) (reply : FetchReply) (said : List ℕ) (t : Reading) → at_acknowledgment asked reply said ≡ goes t → AckOrReady asked reply said t
+ack_goes : (asked : ReplyContext) (reply : FetchReply) (said : List ℕ) (t : ReplyParser) → at_acknowledgment asked reply said ≡ goes t → AckOrReady asked reply said t
 unfolding is_nak is_ready
 ack_goes asked reply said t is = by_words (is_nak said) (is_ready said) refl refl is
   where
@@ -257,7 +257,7 @@ ack_goes asked reply said t is = by_words (is_nak said) (is_ready said) refl ref
         let w = ack_told asked said s.0 s.1 in
         inl (record { word = Ack w.0 s.0; text = w.1; is = (w.2, w.3); goes_on = s.2 })
 
-no_ack_ends : (asked : AskedReply) (reply : FetchReply) (said : List ℕ) (x : Told) → at_acknowledgment asked reply said ≢ ends x
+no_ack_ends : (asked : ReplyContext) (reply : FetchReply) (said : List ℕ) (x : ParsedReply) → at_acknowledgment asked reply said ≢ ends x
 no_ack_ends asked reply said x = λ is. by_words (is_nak said) (is_ready said) is
   where
     by_words : (a b : Bool) → if_step a (goes (reading.Reply asked parts.Acknowledgments reply)) (if_step b (goes (reading.Reply asked parts.Ready reply))
@@ -266,14 +266,14 @@ no_ack_ends asked reply said x = λ is. by_words (is_nak said) (is_ready said) i
     by_words false true h = cc
     by_words false false h = never_ends (acknowledged_in asked said) (λ id. reading.Reply asked parts.Acknowledgments (record reply { acknowledged = reply.acknowledged ++ id ∷ [] })) x h
 
-ready_goes : (asked : AskedReply) (reply : FetchReply) (line : Line) (t : Reading) → step_of (reading.Reply asked parts.Ready reply) line ≡ goes t → (line ≡ Delim) × (reading.Reply asked parts.Rest (record reply { acknowledged = each_once reply.acknowledged }) ≡ t)
+ready_goes : (asked : ReplyContext) (reply : FetchReply) (line : Line) (t : ReplyParser) → step_of (reading.Reply asked parts.Ready reply) line ≡ goes t → (line ≡ Delim) × (reading.Reply asked parts.Rest (record reply { acknowledged = each_once reply.acknowledged }) ≡ t)
 unfolding step_of
 ready_goes asked reply (Payload payload) t is = absurd cc
 ready_goes asked reply Flush t is = absurd cc
 ready_goes asked reply Delim t is = (refl, cc)
 ready_goes asked reply End t is = absurd cc
 
-ready_never_ends : (asked : AskedReply) (reply : FetchReply) (line : Line) (x : Told) → step_of (reading.Reply asked parts.Ready reply) line ≢ ends x
+ready_never_ends : (asked : ReplyContext) (reply : FetchReply) (line : Line) (x : ParsedReply) → step_of (reading.Reply asked parts.Ready reply) line ≢ ends x
 unfolding step_of
 ready_never_ends asked reply (Payload payload) x = λ is. cc
 ready_never_ends asked reply Flush x = λ is. cc
@@ -281,7 +281,7 @@ ready_never_ends asked reply Delim x = λ is. cc
 ready_never_ends asked reply End x = λ is. cc
 
 -- words after those that were told before, up to the flush, or up to `ready` and its delimiter
-data Acked (asked : AskedReply) (ids : List ObjectId) (lines : List Line) (x : Told) : Type 0 where
+data Acked (asked : ReplyContext) (ids : List ObjectId) (lines : List Line) (x : ParsedReply) : Type 0 where
   flushed : (words : List Acknowledgment) (front : List Line) → lines ≡ front ++ Flush ∷ [] → AreTexts (map acknowledgment_text words) front → All (IsAcknowledgment asked) words
       → x ≡ tolds.Reply (record no_reply { acknowledged = each_once (ids ++ acknowledged_by words); last = false }) → Acked asked ids lines x
   readied : (words : List Acknowledgment) (front others : List Line) → lines ≡ front ++ Delim ∷ others → AreTexts (map acknowledgment_text words ++ codes "ready" ∷ []) front → All (IsAcknowledgment asked) words
@@ -294,7 +294,7 @@ acked_more (Ack digits id) words = refl
 ids_more : (ids : List ObjectId) (word : Acknowledgment) (words : List Acknowledgment) → (ids ++ acknowledged_by (word ∷ [])) ++ acknowledged_by words ≡ ids ++ acknowledged_by (word ∷ words)
 ids_more ids word words = append_assoc ids (acknowledged_by (word ∷ [])) (acknowledged_by words) ∙ ap (λ (l : List ObjectId). ids ++ l) (acked_more word words)
 
-one_acked : (asked : AskedReply) (ids : List ObjectId) (said : List ℕ) (line : Line) (lines : List Line) (x : Told) (word : Acknowledgment) → said ≡ acknowledgment_text word → IsText said line → IsAcknowledgment asked word
+one_acked : (asked : ReplyContext) (ids : List ObjectId) (said : List ℕ) (line : Line) (lines : List Line) (x : ParsedReply) (word : Acknowledgment) → said ≡ acknowledgment_text word → IsText said line → IsAcknowledgment asked word
     → Acked asked (ids ++ acknowledged_by (word ∷ [])) lines x → Acked asked ids (line ∷ lines) x
 one_acked asked ids said line lines x word text is had (flushed words front same texts each told) =
     flushed (word ∷ words) (line ∷ front) (ap (λ (l : List Line). line ∷ l) same) (subst (λ (s : List ℕ). IsText s line) text is, texts) (All-cons (IsAcknowledgment asked) word words had each)
@@ -303,15 +303,15 @@ one_acked asked ids said line lines x word text is had (readied words front othe
     readied (word ∷ words) (line ∷ front) others (ap (λ (l : List Line). line ∷ l) same) (subst (λ (s : List ℕ). IsText s line) text is, texts) (All-cons (IsAcknowledgment asked) word words had each)
     (subst (λ (l : List ObjectId). Rested asked (each_once l) others x) (ids_more ids word words) rest)
 
-ready_acked : (asked : AskedReply) (ids : List ObjectId) (said : List ℕ) (line : Line) (lines : List Line) (x : Told) → said ≡ codes "ready" → IsText said line → Tells step_of (reading.Reply asked parts.Ready (bare ids [] [])) lines x → Acked asked ids (line ∷ lines) x
+ready_acked : (asked : ReplyContext) (ids : List ObjectId) (said : List ℕ) (line : Line) (lines : List Line) (x : ParsedReply) → said ≡ codes "ready" → IsText said line → Tells step_of (reading.Reply asked parts.Ready (bare ids [] [])) lines x → Acked asked ids (line ∷ lines) x
 ready_acked asked ids said line [] x word is h = absurd h
 ready_acked asked ids said line (delim ∷ []) x word is h = absurd (ready_never_ends asked (bare ids [] []) delim x h)
 ready_acked asked ids said line (delim ∷ next ∷ lines) x word is (t, goes_on, h) =
     let g = ready_goes asked (bare ids [] []) delim t goes_on in
     readied [] (line ∷ []) (next ∷ lines) (ap (λ (l : Line). line ∷ l ∷ next ∷ lines) g.0) (subst (λ (s : List ℕ). IsText s line) word is, tt) (All-nil (IsAcknowledgment asked))
-    (subst (λ (l : List ObjectId). Rested asked (each_once l) (next ∷ lines) x) (sym (append-nil ids)) (rested asked (each_once ids) (next ∷ lines) x (subst (λ (r : Reading). Tells step_of r (next ∷ lines) x) (sym g.1) h)))
+    (subst (λ (l : List ObjectId). Rested asked (each_once l) (next ∷ lines) x) (sym (append-nil ids)) (rested asked (each_once ids) (next ∷ lines) x (subst (λ (r : ReplyParser). Tells step_of r (next ∷ lines) x) (sym g.1) h)))
 
-acked : (asked : AskedReply) (ids : List ObjectId) (lines : List Line) (x : Told) → Tells step_of (reading.Reply asked parts.Acknowledgments (bare ids [] [])) lines x → Acked asked ids lines x
+acked : (asked : ReplyContext) (ids : List ObjectId) (lines : List Line) (x : ParsedReply) → Tells step_of (reading.Reply asked parts.Acknowledgments (bare ids [] [])) lines x → Acked asked ids lines x
 unfolding step_of
 acked asked ids [] x h = absurd h
 acked asked ids (line ∷ []) x h =
@@ -324,24 +324,24 @@ acked asked ids (line ∷ next ∷ lines) x (t, goes_on, h) =
     by_word : (said : List ℕ) → IsText said line → AckOrReady asked (bare ids [] []) said t
         → ((l : List ObjectId) → Tells step_of (reading.Reply asked parts.Acknowledgments (bare l [] [])) (next ∷ lines) x → Acked asked l (next ∷ lines) x) → Acked asked ids (line ∷ next ∷ lines) x
     by_word said is (inl one) again =
-        one_acked asked ids said line (next ∷ lines) x one.word one.text is one.is (again (ids ++ acknowledged_by (one.word ∷ [])) (subst (λ (r : Reading). Tells step_of r (next ∷ lines) x) (sym one.goes_on) h))
-    by_word said is (inr (word, goes_so)) again = ready_acked asked ids said line (next ∷ lines) x word is (subst (λ (r : Reading). Tells step_of r (next ∷ lines) x) (sym goes_so) h)
+        one_acked asked ids said line (next ∷ lines) x one.word one.text is one.is (again (ids ++ acknowledged_by (one.word ∷ [])) (subst (λ (r : ReplyParser). Tells step_of r (next ∷ lines) x) (sym one.goes_on) h))
+    by_word said is (inr (word, goes_so)) again = ready_acked asked ids said line (next ∷ lines) x word is (subst (λ (r : ReplyParser). Tells step_of r (next ∷ lines) x) (sym goes_so) h)
 
 -- ---- the whole
 
 -- what the lines of a reply tell
-pub record Replied (asked : AskedReply) (lines : List Line) (x : Told) : Type 0 where
+pub record Replied (asked : ReplyContext) (lines : List Line) (x : ParsedReply) : Type 0 where
   pub reply : FetchReply
   pub is : IsReply asked reply lines
   pub told : x ≡ tolds.Reply reply
 
-at_done : (asked : AskedReply) (reply : FetchReply) (said : List ℕ) (b : Bool) → asked.done ≡ b → at_beginning asked reply said ≡ if_step b (at_rest asked reply said) (if_step (is_acknowledgments said) (goes (reading.Reply asked parts.Acknowledgments reply)) breaks)
+at_done : (asked : ReplyContext) (reply : FetchReply) (said : List ℕ) (b : Bool) → asked.done ≡ b → at_beginning asked reply said ≡ if_step b (at_rest asked reply said) (if_step (is_acknowledgments said) (goes (reading.Reply asked parts.Acknowledgments reply)) breaks)
 at_done asked reply said b is = rw is refl
 
-replied_done : (asked : AskedReply) (lines : List Line) (x : Told) → asked.done ≡ true → Rested asked [] lines x → Replied asked lines x
+replied_done : (asked : ReplyContext) (lines : List Line) (x : ParsedReply) → asked.done ≡ true → Rested asked [] lines x → Replied asked lines x
 replied_done asked lines x done r = record { reply = r.reply; is = subst (λ (b : Bool). IsReplyTo b asked r.reply lines) (sym done) r.rest; told = r.told }
 
-acked_reply : (asked : AskedReply) (said : List ℕ) (line : Line) (lines : List Line) (x : Told) → asked.done ≡ false → said ≡ codes "acknowledgments" → IsText said line → Acked asked [] lines x → Replied asked (line ∷ lines) x
+acked_reply : (asked : ReplyContext) (said : List ℕ) (line : Line) (lines : List Line) (x : ParsedReply) → asked.done ≡ false → said ≡ codes "acknowledgments" → IsText said line → Acked asked [] lines x → Replied asked (line ∷ lines) x
 acked_reply asked said line lines x more word is (flushed words front same texts each told) = record {
   reply = record no_reply { acknowledged = each_once (acknowledged_by words); last = false };
   is = subst (λ (b : Bool). IsReplyTo b asked (record no_reply { acknowledged = each_once (acknowledged_by words); last = false }) (line ∷ lines)) (sym more) (inl (record {
@@ -366,7 +366,7 @@ acked_reply asked said line lines x more word is (readied words front others sam
   told = rest.told;
 }
 
-begins_ends : (asked : AskedReply) (said : List ℕ) (line : Line) (x : Told) (b : Bool) → asked.done ≡ b → IsText said line
+begins_ends : (asked : ReplyContext) (said : List ℕ) (line : Line) (x : ParsedReply) (b : Bool) → asked.done ≡ b → IsText said line
     → if_step b (at_rest asked no_reply said) (if_step (is_acknowledgments said) (goes (reading.Reply asked parts.Acknowledgments no_reply)) breaks) ≡ ends x → Replied asked (line ∷ []) x
 begins_ends asked said line x true done is h = replied_done asked (line ∷ []) x done (rest_ends asked [] said line x is h)
 begins_ends asked said line x false done is h = by_word (is_acknowledgments said) h
@@ -375,7 +375,7 @@ begins_ends asked said line x false done is h = by_word (is_acknowledgments said
     by_word true e = absurd cc
     by_word false e = absurd cc
 
-begins_goes : (asked : AskedReply) (said : List ℕ) (line next : Line) (lines : List Line) (t : Reading) (x : Told) (b : Bool) → asked.done ≡ b → IsText said line
+begins_goes : (asked : ReplyContext) (said : List ℕ) (line next : Line) (lines : List Line) (t : ReplyParser) (x : ParsedReply) (b : Bool) → asked.done ≡ b → IsText said line
     → if_step b (at_rest asked no_reply said) (if_step (is_acknowledgments said) (goes (reading.Reply asked parts.Acknowledgments no_reply)) breaks) ≡ goes t → Tells step_of t (next ∷ lines) x → Replied asked (line ∷ next ∷ lines) x
 unfolding is_acknowledgments
 begins_goes asked said line next lines t x true done is h tells = replied_done asked (line ∷ next ∷ lines) x done (rest_goes asked [] said line next lines t x is h tells)
@@ -384,10 +384,10 @@ begins_goes asked said line next lines t x false done is h tells = by_word (is_a
     by_word : (b : Bool) → is_acknowledgments said ≡ b → if_step b (goes (reading.Reply asked parts.Acknowledgments no_reply)) breaks ≡ goes t → Replied asked (line ∷ next ∷ lines) x
     by_word true e g =
         acked_reply asked said line (next ∷ lines) x done (exactly said (codes "acknowledgments") e) is
-        (acked asked [] (next ∷ lines) x (subst (λ (r : Reading). Tells step_of r (next ∷ lines) x) (let s : reading.Reply asked parts.Acknowledgments no_reply ≡ t = cc in sym s) tells))
+        (acked asked [] (next ∷ lines) x (subst (λ (r : ReplyParser). Tells step_of r (next ∷ lines) x) (let s : reading.Reply asked parts.Acknowledgments no_reply ≡ t = cc in sym s) tells))
     by_word false e g = absurd cc
 
-pub replied : (asked : AskedReply) (lines : List Line) (x : Told) → Tells step_of (reading.Reply asked parts.Beginning no_reply) lines x → Replied asked lines x
+pub replied : (asked : ReplyContext) (lines : List Line) (x : ParsedReply) → Tells step_of (reading.Reply asked parts.Beginning no_reply) lines x → Replied asked lines x
 unfolding step_of
 replied asked [] x h = absurd h
 replied asked (line ∷ []) x h =
@@ -399,6 +399,6 @@ replied asked (line ∷ next ∷ lines) x (t, goes_on, h) =
 same_reply : (a b : FetchReply) → tolds.Reply a ≡ tolds.Reply b → a ≡ b
 same_reply a b is = cc
 
-pub reply_told : (asked : AskedReply) (reply : FetchReply) (lines : List Line) → Tells step_of (reading.Reply asked parts.Beginning no_reply) lines (tolds.Reply reply) → IsReply asked reply lines
+pub reply_told : (asked : ReplyContext) (reply : FetchReply) (lines : List Line) → Tells step_of (reading.Reply asked parts.Beginning no_reply) lines (tolds.Reply reply) → IsReply asked reply lines
 reply_told asked reply lines tells =
     let r = replied asked lines (tolds.Reply reply) tells in subst (λ (x : FetchReply). IsReply asked x lines) (sym (same_reply reply r.reply r.told)) r.is

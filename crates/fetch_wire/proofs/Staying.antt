@@ -10,15 +10,15 @@ use Rattle.fetch_wire.specs.declared.greetings.handshake.Handshake.{Handshake}
 use Rattle.fetch_wire.specs.declared.lines.line.Line.{Line}
 use Rattle.fetch_wire.specs.declared.lines.line.Line.TheVariants as lines
 use Rattle.fetch_wire.specs.declared.listings.reference.Ref.{Ref}
-use Rattle.fetch_wire.specs.declared.replies.awaited.AskedReply.{AskedReply}
-use Rattle.fetch_wire.specs.declared.replies.awaited.Told.{Told}
-use Rattle.fetch_wire.specs.declared.replies.awaited.Told.TheVariants as told
-use Rattle.fetch_wire.specs.declared.replies.reading.Advertised.{Advertised}
-use Rattle.fetch_wire.specs.declared.replies.reading.Advertised.TheVariants as next
-use Rattle.fetch_wire.specs.declared.replies.reading.Part.{Part}
-use Rattle.fetch_wire.specs.declared.replies.reading.Part.TheVariants as parts
-use Rattle.fetch_wire.specs.declared.replies.reading.Reading.{Reading}
-use Rattle.fetch_wire.specs.declared.replies.reading.Reading.TheVariants as reading
+use Rattle.fetch_wire.specs.declared.replies.reply.ReplyContext.{ReplyContext}
+use Rattle.fetch_wire.specs.declared.replies.reply.ParsedReply.{ParsedReply}
+use Rattle.fetch_wire.specs.declared.replies.reply.ParsedReply.TheVariants as told
+use Rattle.fetch_wire.specs.declared.replies.parser.Advertised.{Advertised}
+use Rattle.fetch_wire.specs.declared.replies.parser.Advertised.TheVariants as next
+use Rattle.fetch_wire.specs.declared.replies.parser.Part.{Part}
+use Rattle.fetch_wire.specs.declared.replies.parser.Part.TheVariants as parts
+use Rattle.fetch_wire.specs.declared.replies.parser.ReplyParser.{ReplyParser}
+use Rattle.fetch_wire.specs.declared.replies.parser.ReplyParser.TheVariants as reading
 use Rattle.fetch_wire.specs.declared.requests.records.FetchReply.{FetchReply}
 use Rattle.fetch_wire.specs.Advertisements.{advertised, with_peel, with_words, handshake_1, before_peel, is_no_name, is_null, is_version_1, id_and_name, at_name, at_reference, at_advertised, first_named, at_first}
 use Rattle.fetch_wire.specs.Awaited.{replies_behind, at_greeting, at_capability, at_listed, step_of}
@@ -32,50 +32,50 @@ use Rattle.fetch_wire.specs.Texts.{without_lf, is_error}
 use Rattle.fetch_wire.specs.Words.{words}
 
 -- a greeting is told where another reply comes behind, and what else is told where none does
-abbrev pub IsBefore : ℕ → Told → Type 0
+abbrev pub IsBefore : ℕ → ParsedReply → Type 0
 IsBefore n (told.Greeting h) = n ≡ 1
 IsBefore n (told.Advertisement h refs) = n ≡ 1
 IsBefore n (told.Listing refs) = n ≡ 0
 IsBefore n (told.Reply reply) = n ≡ 0
 
 -- as many replies come behind, where it goes on
-abbrev pub Stays : ℕ → Step Reading Told → Type 0
+abbrev pub Stays : ℕ → Step ReplyParser ParsedReply → Type 0
 Stays n (goes r) = replies_behind r ≡ n
 Stays n (ends t) = IsBefore n t
 Stays n breaks = ⊤
 Stays n (says text) = ⊤
 
-abbrev Is : ℕ → Option Reading → Type 0
+abbrev Is : ℕ → Option ReplyParser → Type 0
 Is n None = ⊤
 Is n (Some r) = replies_behind r ≡ n
 
 -- ---- by what a step is made of
 
-chosen : (n : ℕ) (b : Bool) (x y : Step Reading Told) → Stays n x → Stays n y → Stays n (if b then x else y)
+chosen : (n : ℕ) (b : Bool) (x y : Step ReplyParser ParsedReply) → Stays n x → Stays n y → Stays n (if b then x else y)
 chosen n true x y h k = h
 chosen n false x y h k = k
 
-some_goes : {A : Type 0} (n : ℕ) (found : Option A) (f : A → Reading) → ((a : A) → replies_behind (f a) ≡ n) → Stays n (or_breaks found (λ a. goes (f a)))
+some_goes : {A : Type 0} (n : ℕ) (found : Option A) (f : A → ReplyParser) → ((a : A) → replies_behind (f a) ≡ n) → Stays n (or_breaks found (λ a. goes (f a)))
 some_goes n None f h = tt
 some_goes n (Some a) f h = h a
 
-one_goes : (n : ℕ) (found : Option Reading) → Is n found → Stays n (or_breaks found (λ r. goes r))
+one_goes : (n : ℕ) (found : Option ReplyParser) → Is n found → Stays n (or_breaks found (λ r. goes r))
 one_goes n None h = tt
 one_goes n (Some r) h = h
 
-one_behind : {A : Type 0} (n : ℕ) (found : Option A) (f : A → Option Reading) → ((a : A) → Is n (f a)) → Is n (option_and_then f found)
+one_behind : {A : Type 0} (n : ℕ) (found : Option A) (f : A → Option ReplyParser) → ((a : A) → Is n (f a)) → Is n (option_and_then f found)
 one_behind n None f h = tt
 one_behind n (Some a) f h = h a
 
-one_of : {A : Type 0} (n : ℕ) (found : Option A) (f : A → Reading) → ((a : A) → replies_behind (f a) ≡ n) → Is n (option_map f found)
+one_of : {A : Type 0} (n : ℕ) (found : Option A) (f : A → ReplyParser) → ((a : A) → replies_behind (f a) ≡ n) → Is n (option_map f found)
 one_of n None f h = tt
 one_of n (Some a) f h = h a
 
-one_or : (n : ℕ) (first second : Option Reading) → Is n first → Is n second → Is n (option_or first second)
+one_or : (n : ℕ) (first second : Option ReplyParser) → Is n first → Is n second → Is n (option_or first second)
 one_or n None second h k = k
 one_or n (Some r) second h k = h
 
-line_goes : (n : ℕ) (flush delim : Step Reading Told) (text : List ℕ → Step Reading Told) (line : Line) → Stays n flush → Stays n delim → ((l : List ℕ) → Stays n (text l)) → Stays n (by_line flush delim text line)
+line_goes : (n : ℕ) (flush delim : Step ReplyParser ParsedReply) (text : List ℕ → Step ReplyParser ParsedReply) (line : Line) → Stays n flush → Stays n delim → ((l : List ℕ) → Stays n (text l)) → Stays n (by_line flush delim text line)
 line_goes n flush delim text (lines.Payload payload) f d t = chosen n (is_error payload) (says (error_text payload)) (text (without_lf payload)) tt (t (without_lf payload))
 line_goes n flush delim text lines.Flush f d t = f
 line_goes n flush delim text lines.Delim f d t = d
@@ -124,32 +124,32 @@ listed_goes kind before text = some_goes 0 (option_and_then (if_new before) (ref
 
 -- ---- replies to requests
 
-packfile_goes : (asked : AskedReply) (reply : FetchReply) (text : List ℕ) → Stays 0 (at_packfile asked reply text)
+packfile_goes : (asked : ReplyContext) (reply : FetchReply) (text : List ℕ) → Stays 0 (at_packfile asked reply text)
 packfile_goes asked reply text = chosen 0 (is_packfile text) _ breaks (chosen 0 asked.read_pack (goes (reading.Reply asked parts.Bands (record reply { pack = Some [] }))) (ends (told.Reply reply)) refl refl) tt
 
-rest_goes : (asked : AskedReply) (reply : FetchReply) (text : List ℕ) → Stays 0 (at_rest asked reply text)
+rest_goes : (asked : ReplyContext) (reply : FetchReply) (text : List ℕ) → Stays 0 (at_rest asked reply text)
 rest_goes asked reply text = chosen 0 (is_shallow_info text) (goes (reading.Reply asked parts.ShallowInfo reply)) (at_packfile asked reply text) refl (packfile_goes asked reply text)
 
-beginning_goes : (asked : AskedReply) (reply : FetchReply) (text : List ℕ) → Stays 0 (at_beginning asked reply text)
+beginning_goes : (asked : ReplyContext) (reply : FetchReply) (text : List ℕ) → Stays 0 (at_beginning asked reply text)
 beginning_goes asked reply text =
     chosen 0 asked.done (at_rest asked reply text) _ (rest_goes asked reply text) (chosen 0 (is_acknowledgments text) (goes (reading.Reply asked parts.Acknowledgments reply)) breaks refl tt)
 
-acknowledgment_goes : (asked : AskedReply) (reply : FetchReply) (text : List ℕ) → Stays 0 (at_acknowledgment asked reply text)
+acknowledgment_goes : (asked : ReplyContext) (reply : FetchReply) (text : List ℕ) → Stays 0 (at_acknowledgment asked reply text)
 acknowledgment_goes asked reply text =
     chosen 0 (is_nak text) (goes (reading.Reply asked parts.Acknowledgments reply)) _ refl (chosen 0 (is_ready text) (goes (reading.Reply asked parts.Ready reply)) _ refl (some_goes 0 (acknowledged_in asked text) _ (λ id. refl)))
 
-ready_goes : (asked : AskedReply) (reply : FetchReply) (line : Line) → Stays 0 (behind_ready asked reply line)
+ready_goes : (asked : ReplyContext) (reply : FetchReply) (line : Line) → Stays 0 (behind_ready asked reply line)
 ready_goes asked reply (lines.Payload payload) = tt
 ready_goes asked reply lines.Flush = tt
 ready_goes asked reply lines.Delim = refl
 ready_goes asked reply lines.End = tt
 
-change_goes : (asked : AskedReply) (reply : FetchReply) (shallow unshallow : Option ObjectId) → Stays 0 (at_change asked reply shallow unshallow)
+change_goes : (asked : ReplyContext) (reply : FetchReply) (shallow unshallow : Option ObjectId) → Stays 0 (at_change asked reply shallow unshallow)
 change_goes asked reply (Some id) unshallow = refl
 change_goes asked reply None (Some id) = refl
 change_goes asked reply None None = tt
 
-band_goes : (asked : AskedReply) (reply : FetchReply) (line : Line) → Stays 0 (at_band asked reply line)
+band_goes : (asked : ReplyContext) (reply : FetchReply) (line : Line) → Stays 0 (at_band asked reply line)
 band_goes asked reply (lines.Payload (band ∷ bytes)) =
     chosen 0 (band == 1) (goes (reading.Reply asked parts.Bands (record reply { pack = with_bytes reply.pack bytes })))
     (if band == 2 then goes (reading.Reply asked parts.Bands (record reply { progress = reply.progress ++ bytes ∷ [] })) else (if band == 3 then says bytes else breaks)) refl
@@ -159,7 +159,7 @@ band_goes asked reply lines.Flush = refl
 band_goes asked reply lines.Delim = tt
 band_goes asked reply lines.End = tt
 
-reply_goes : (asked : AskedReply) (part : Part) (reply : FetchReply) (line : Line) → Stays 0 (reply_step asked part reply line)
+reply_goes : (asked : ReplyContext) (part : Part) (reply : FetchReply) (line : Line) → Stays 0 (reply_step asked part reply line)
 reply_goes asked parts.Beginning reply line = line_goes 0 breaks breaks (at_beginning asked reply) line tt tt (beginning_goes asked reply)
 reply_goes asked parts.Acknowledgments reply line = line_goes 0 (ends (told.Reply (record reply { acknowledged = each_once reply.acknowledged; last = false }))) breaks (at_acknowledgment asked reply) line refl tt (acknowledgment_goes asked reply)
 reply_goes asked parts.Ready reply line = ready_goes asked reply line
@@ -171,7 +171,7 @@ reply_goes asked parts.Bands reply line = band_goes asked reply line
 
 -- ---- any of them
 
-pub stays : (r : Reading) (line : Line) → Stays (replies_behind r) (step_of r line)
+pub stays : (r : ReplyParser) (line : Line) → Stays (replies_behind r) (step_of r line)
 unfolding step_of
 stays reading.Greeting line = line_goes 1 breaks breaks at_greeting line tt tt greeting_goes
 stays (reading.Capabilities before) line = line_goes 1 (ends (told.Greeting (handshake_of before))) breaks (at_capability before) line refl tt (capability_goes before)

@@ -1,9 +1,9 @@
 -- What holds while a text is read line by line, and of what it tells.
 use Rattle.std.proofs.Common.{ℕ, zero, suc, ◌+◌, List, Result, Ok, Err}
 use Rattle.std.specs.Prelude.{⊤}
-use Rattle.fetch_wire.specs.declared.replies.awaited.Fault.{Fault}
+use Rattle.fetch_wire.specs.declared.replies.reply.ReplyError.{ReplyError}
 use Rattle.fetch_wire.specs.declared.lines.line.Line.{Line}
-use Rattle.fetch_wire.specs.declared.lines.section.Trouble.{Trouble}
+use Rattle.fetch_wire.specs.declared.lines.section.LineError.{LineError}
 use Rattle.fetch_wire.specs.Lines.{line_at, line_len}
 use Rattle.fetch_wire.specs.Stepping.{Step, goes, ends, breaks, says, after_step, after_line, read_within}
 
@@ -15,18 +15,18 @@ OfStep holds tells breaks = ⊤
 OfStep holds tells (says text) = ⊤
 
 -- of what is told
-abbrev pub OfTold : {T : Type 0} → (T → Type 0) → Result (T × List ℕ) Fault → Type 0
+abbrev pub OfTold : {T : Type 0} → (T → Type 0) → Result (T × List ℕ) ReplyError → Type 0
 OfTold tells (Ok x) = tells x.0
 OfTold tells (Err fault) = ⊤
 
-step-keeps : {S T : Type 0} (holds : S → Type 0) (tells : T → Type 0) (place : ℕ) (rest : List ℕ) (f : S → Result (T × List ℕ) Fault) (found : Step S T)
+step-keeps : {S T : Type 0} (holds : S → Type 0) (tells : T → Type 0) (place : ℕ) (rest : List ℕ) (f : S → Result (T × List ℕ) ReplyError) (found : Step S T)
     → ((s : S) → holds s → OfTold tells (f s)) → OfStep holds tells found → OfTold tells (after_step place rest f found)
 step-keeps holds tells place rest f (goes s) again h = again s h
 step-keeps holds tells place rest f (ends t) again h = h
 step-keeps holds tells place rest f breaks again h = tt
 step-keeps holds tells place rest f (says text) again h = tt
 
-line-keeps : {S T : Type 0} (holds : S → Type 0) (tells : T → Type 0) (step : S → Line → Step S T) (n bound place : ℕ) (s : S) (found : Result (Line × List ℕ) Trouble)
+line-keeps : {S T : Type 0} (holds : S → Type 0) (tells : T → Type 0) (step : S → Line → Step S T) (n bound place : ℕ) (s : S) (found : Result (Line × List ℕ) LineError)
     → ((line : Line) → OfStep holds tells (step s line)) → ((t : S) (p : ℕ) (bytes : List ℕ) → holds t → OfTold tells (read_within n step bound t p bytes))
     → OfTold tells (after_line found (λ line rest. after_step place rest (λ t. read_within n step bound t (place + line_len line) rest) (step s line)))
 line-keeps holds tells step n bound place s (Err trouble) keeps again = tt

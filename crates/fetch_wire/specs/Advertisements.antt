@@ -8,14 +8,14 @@ use Rattle.fetch_store.specs.Id.{bytes_of, id_in_hex}
 use Rattle.fetch_store.specs.declared.id.Kind.{Kind}
 use Rattle.fetch_store.specs.declared.id.Kind.TheVariants.{Sha1}
 use Rattle.fetch_store.specs.declared.id.ObjectId.{ObjectId}
-use Rattle.fetch_wire.specs.declared.replies.awaited.Told.{Told}
+use Rattle.fetch_wire.specs.declared.replies.reply.ParsedReply.{ParsedReply}
 use Rattle.fetch_wire.specs.declared.greetings.handshake.Capability.{Capability}
 use Rattle.fetch_wire.specs.declared.greetings.handshake.Handshake.{Handshake}
 use Rattle.fetch_wire.specs.declared.greetings.handshake.Version.TheVariants.{V1}
-use Rattle.fetch_wire.specs.declared.replies.reading.Advertised.{Advertised}
-use Rattle.fetch_wire.specs.declared.replies.reading.Advertised.TheVariants as next
-use Rattle.fetch_wire.specs.declared.replies.reading.Reading.{Reading}
-use Rattle.fetch_wire.specs.declared.replies.reading.Reading.TheVariants as reading
+use Rattle.fetch_wire.specs.declared.replies.parser.Advertised.{Advertised}
+use Rattle.fetch_wire.specs.declared.replies.parser.Advertised.TheVariants as next
+use Rattle.fetch_wire.specs.declared.replies.parser.ReplyParser.{ReplyParser}
+use Rattle.fetch_wire.specs.declared.replies.parser.ReplyParser.TheVariants as reading
 use Rattle.fetch_wire.specs.declared.listings.reference.Ref.{Ref}
 use Rattle.fetch_wire.specs.declared.listings.reference.Ref.TheVariants.{Direct, Symbolic, Peeled, Unborn}
 use Rattle.fetch_wire.specs.Greetings.{if_known, capability_in, hash_after}
@@ -103,7 +103,7 @@ with_peel id name (r ∷ []) = if bytes_eq (name_in r) name then Some (peeled_to
 with_peel id name (r ∷ s ∷ others) = option_map (λ more. r ∷ more) (with_peel id name (s ∷ others))
 
 -- a line `<id> <name>`, or `<id> <name>^{}` after the line of that name
-abbrev pub at_name : Handshake → List Ref → Advertised → ObjectId → List ℕ → Option (List ℕ) → Option Reading
+abbrev pub at_name : Handshake → List Ref → Advertised → ObjectId → List ℕ → Option (List ℕ) → Option ReplyParser
 at_name handshake before next.Reference id name None =
     option_map (λ r. reading.Advertisement handshake (before ++ r ∷ []) next.Reference) (advertised handshake before id name)
 at_name handshake before next.Reference id name (Some short) =
@@ -114,24 +114,24 @@ at_name handshake before next.Peeled id name (Some short) = None
 at_name handshake before next.Shallow id name short = None
 
 -- the reading after the text of a reference
-abbrev pub at_reference : Handshake → List Ref → Advertised → List ℕ → Option Reading
+abbrev pub at_reference : Handshake → List Ref → Advertised → List ℕ → Option ReplyParser
 at_reference handshake before allowed text =
     option_and_then (λ x. at_name handshake before allowed x.0 x.1 (before_peel x.1)) (id_and_name handshake.object_hash text)
 
 -- `shallow <id>`, or a reference
-abbrev pub at_advertised : Handshake → List Ref → Advertised → List ℕ → Step Reading Told
+abbrev pub at_advertised : Handshake → List Ref → Advertised → List ℕ → Step ReplyParser ParsedReply
 at_advertised handshake before allowed text =
     or_breaks (option_or (option_map (λ id. reading.Advertisement handshake before next.Shallow) (shallow_in handshake.object_hash text))
     (at_reference handshake before allowed text)) (λ s. goes s)
 
 -- The first reference. The null id of `capabilities^{}` stands where there is none.
-abbrev pub first_named : Handshake → ObjectId × List ℕ → Option Reading
+abbrev pub first_named : Handshake → ObjectId × List ℕ → Option ReplyParser
 first_named handshake (id, name) =
     if is_no_name name then (if is_null id then Some (reading.Advertisement handshake [] next.Shallow) else None)
     else at_name handshake [] next.Peeled id name (before_peel name)
 
 -- `<id> <name>`, NUL, and the capabilities, which spaces divide
-abbrev pub at_first : List ℕ → Option Reading
+abbrev pub at_first : List ℕ → Option ReplyParser
 at_first text =
     option_and_then (λ parts. option_and_then
     (λ capabilities. option_and_then (first_named (handshake_1 capabilities))

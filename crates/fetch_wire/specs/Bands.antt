@@ -3,13 +3,13 @@ use Rattle.std.specs.Prelude.{◌≡◌, ℕ, true, List, [], ◌∷◌, ◌++�
 use Rattle.std.proofs.Common.{append_assoc}
 use Rattle.std.proofs.lemmas.List.{append-nil}
 use Rattle.std.specs.List.{concat}
-use Rattle.fetch_wire.specs.declared.replies.awaited.AskedReply.{AskedReply}
-use Rattle.fetch_wire.specs.declared.replies.awaited.Await.TheVariants.{Reply}
-use Rattle.fetch_wire.specs.declared.replies.awaited.Told.TheVariants as told
+use Rattle.fetch_wire.specs.declared.replies.reply.ReplyContext.{ReplyContext}
+use Rattle.fetch_wire.specs.declared.replies.reply.ReplyKind.TheVariants.{Reply}
+use Rattle.fetch_wire.specs.declared.replies.reply.ParsedReply.TheVariants as told
 use Rattle.fetch_wire.specs.declared.lines.line.Line.{Line}
 use Rattle.fetch_wire.specs.declared.lines.line.Line.TheVariants.{Payload, Flush}
-use Rattle.fetch_wire.specs.declared.replies.reading.Part.TheVariants.{Bands}
-use Rattle.fetch_wire.specs.declared.replies.reading.Reading.TheVariants as reading
+use Rattle.fetch_wire.specs.declared.replies.parser.Part.TheVariants.{Bands}
+use Rattle.fetch_wire.specs.declared.replies.parser.ReplyParser.TheVariants as reading
 use Rattle.fetch_wire.specs.declared.requests.records.FetchReply.{FetchReply}
 use Rattle.fetch_wire.specs.Awaited.{step_of, start_of}
 use Rattle.fetch_wire.specs.FetchReplies.{no_reply, is_packfile, is_shallow_info}
@@ -57,7 +57,7 @@ abbrev pub behind : FetchReply → List ℕ → List (List ℕ) → FetchReply
 behind reply pack progress = record reply { pack = Some pack; progress = progress }
 
 -- Bands tell the pack and the progress texts that they have, after those that were read.
-pub bands_tell : (asked : AskedReply) (reply : FetchReply) (pack : List ℕ) (progress : List (List ℕ)) (bands : List Band)
+pub bands_tell : (asked : ReplyContext) (reply : FetchReply) (pack : List ℕ) (progress : List (List ℕ)) (bands : List Band)
     → Tells step_of (reading.Reply asked Bands (behind reply pack progress)) (map band_line bands ++ Flush ∷ [])
     (told.Reply (behind reply (pack ++ concat (pieces_of bands)) (progress ++ texts_of bands)))
 unfolding step_of
@@ -73,13 +73,13 @@ bands_tell asked reply pack progress (Progress text ∷ bands) =
     (told.Reply (behind reply (pack ++ concat (pieces_of bands)) (progress ++ text ∷ texts_of bands))) refl
     (rw (← append_assoc progress (text ∷ []) (texts_of bands)) (bands_tell asked reply pack (progress ++ text ∷ []) bands))
 
-opens : (asked : AskedReply) → asked.done ≡ true → asked.read_pack ≡ true
+opens : (asked : ReplyContext) → asked.done ≡ true → asked.read_pack ≡ true
     → step_of (start_of (Reply asked)) (Payload (codes "packfile" ++ 10 ∷ [])) ≡ goes (reading.Reply asked Bands (behind no_reply [] []))
 unfolding step_of is_error without_lf is_packfile is_shallow_info
 opens asked done reads = rw (done, reads) refl
 
 -- A pack is read from its bands, however it is cut.
-pub pack_tells : (asked : AskedReply) (bands : List Band) → asked.done ≡ true → asked.read_pack ≡ true
+pub pack_tells : (asked : ReplyContext) (bands : List Band) → asked.done ≡ true → asked.read_pack ≡ true
     → Tells step_of (start_of (Reply asked)) (pack_lines bands) (told.Reply (packed bands))
 pack_tells asked bands done reads =
     first_tells step_of (start_of (Reply asked)) (reading.Reply asked Bands (behind no_reply [] [])) (Payload (codes "packfile" ++ 10 ∷ []))

@@ -5,8 +5,8 @@ use Rattle.fetch_wire.specs.declared.error.WireError.TheVariants as errors
 use Rattle.fetch_wire.specs.declared.lines.line.Line.{Line}
 use Rattle.fetch_wire.specs.declared.lines.reader.Need.{Need}
 use Rattle.fetch_wire.specs.declared.lines.reader.Need.TheVariants as needs
-use Rattle.fetch_wire.specs.declared.lines.section.Trouble.{Trouble}
-use Rattle.fetch_wire.specs.declared.lines.section.Trouble.TheVariants.{Short, Broken, TooLong}
+use Rattle.fetch_wire.specs.declared.lines.section.LineError.{LineError}
+use Rattle.fetch_wire.specs.declared.lines.section.LineError.TheVariants.{Short, Broken, TooLong}
 use Rattle.fetch_wire.specs.LineViews.{line_of}
 use Rattle.fetch_wire.specs.Lines.{line_at, line_len}
 
@@ -26,23 +26,23 @@ abbrev pub fed : Feeding → List ℕ → Feeding
 fed feeding more = record feeding { pending = feeding.pending ++ more }
 
 -- what is found in what was fed: a line, or nothing yet, or a line that is refused
-abbrev pub need_in : Result (Line × List ℕ) Trouble → Result (Option Line) Trouble
+abbrev pub need_in : Result (Line × List ℕ) LineError → Result (Option Line) LineError
 need_in (Ok x) = Ok (Some x.0)
 need_in (Err (Short place)) = Ok None
 need_in (Err (Broken place)) = Err (Broken place)
 need_in (Err TooLong) = Err TooLong
 
 -- what is left: the line is read, and what is refused stays
-abbrev pub left_by : Feeding → Result (Line × List ℕ) Trouble → Feeding
+abbrev pub left_by : Feeding → Result (Line × List ℕ) LineError → Feeding
 left_by feeding (Ok x) = record feeding { place = feeding.place + line_len x.0; pending = x.1 }
 left_by feeding (Err trouble) = feeding
 
 -- the line that comes next, or why there is none
-abbrev pub found_in : Feeding → Result (Line × List ℕ) Trouble
+abbrev pub found_in : Feeding → Result (Line × List ℕ) LineError
 found_in feeding = line_at feeding.bound feeding.place feeding.pending
 
 -- the next line, or None where more bytes are needed, or why it is refused
-abbrev pub next_in : Feeding → Result (Option Line) Trouble
+abbrev pub next_in : Feeding → Result (Option Line) LineError
 next_in feeding = need_in (found_in feeding)
 
 -- the reader after its next line
@@ -56,13 +56,13 @@ seen (Ok needs.More) = Ok None
 seen (Err trouble) = Err trouble
 
 -- what a refused line is to a caller, in a reply of bounded length
-abbrev pub error_of : ℕ → Trouble → WireError
+abbrev pub error_of : ℕ → LineError → WireError
 error_of bound (Short place) = errors.Malformed place
 error_of bound (Broken place) = errors.Malformed place
 error_of bound TooLong = errors.ReplyTooLong bound
 
 -- what is found, a refusal as it is to a caller
-abbrev pub told_to_caller : {A : Type 0} → ℕ → Result A Trouble → Result A WireError
+abbrev pub told_to_caller : {A : Type 0} → ℕ → Result A LineError → Result A WireError
 told_to_caller bound (Ok found) = Ok found
 told_to_caller bound (Err trouble) = Err (error_of bound trouble)
 

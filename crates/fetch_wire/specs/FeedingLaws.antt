@@ -1,12 +1,12 @@
 -- Lines are the same however their bytes are cut.
 use Rattle.std.specs.Prelude.{◌≡◌, ℕ, List, Result, Ok, Err, refl}
 use Rattle.fetch_wire.specs.declared.lines.line.Line.{Line}
-use Rattle.fetch_wire.specs.declared.lines.section.Trouble.{Trouble}
-use Rattle.fetch_wire.specs.declared.lines.section.Trouble.TheVariants.{Short, Broken, TooLong}
+use Rattle.fetch_wire.specs.declared.lines.section.LineError.{LineError}
+use Rattle.fetch_wire.specs.declared.lines.section.LineError.TheVariants.{Short, Broken, TooLong}
 use Rattle.fetch_wire.specs.SectionLaws.{IsSettled, with_more, line_at-more}
 use Rattle.fetch_wire.specs.Feeding.{Feeding, fed, need_in, left_by, found_in, next_in, behind_next}
 
-stays_by : (feeding : Feeding) (more : List ℕ) (first longer : Result (Line × List ℕ) Trouble)
+stays_by : (feeding : Feeding) (more : List ℕ) (first longer : Result (Line × List ℕ) LineError)
     → (IsSettled first → longer ≡ with_more first more) → IsSettled first
     → (need_in longer ≡ need_in first) × (left_by (fed feeding more) longer ≡ fed (left_by feeding first) more)
 stays_by feeding more (Ok x) longer h settled = rw (h settled) (refl, refl)

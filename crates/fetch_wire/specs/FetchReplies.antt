@@ -6,16 +6,16 @@ use Rattle.fetch_store.specs.Scan.{after}
 use Rattle.fetch_store.specs.Id.{id_in_hex}
 use Rattle.fetch_store.specs.declared.id.Kind.{Kind}
 use Rattle.fetch_store.specs.declared.id.ObjectId.{ObjectId}
-use Rattle.fetch_wire.specs.declared.replies.awaited.AskedReply.{AskedReply}
-use Rattle.fetch_wire.specs.declared.replies.awaited.Told.{Told}
-use Rattle.fetch_wire.specs.declared.replies.awaited.Told.TheVariants as told
+use Rattle.fetch_wire.specs.declared.replies.reply.ReplyContext.{ReplyContext}
+use Rattle.fetch_wire.specs.declared.replies.reply.ParsedReply.{ParsedReply}
+use Rattle.fetch_wire.specs.declared.replies.reply.ParsedReply.TheVariants as told
 use Rattle.fetch_wire.specs.declared.lines.line.Line.{Line}
 use Rattle.fetch_wire.specs.declared.lines.line.Line.TheVariants.{Payload, Flush, Delim, End}
-use Rattle.fetch_wire.specs.declared.replies.reading.Part.{Part}
-use Rattle.fetch_wire.specs.declared.replies.reading.Part.TheVariants.{Beginning, Acknowledgments, Ready, Rest, ShallowInfo, Packfile}
-use Rattle.fetch_wire.specs.declared.replies.reading.Part.TheVariants.{Bands}
-use Rattle.fetch_wire.specs.declared.replies.reading.Reading.{Reading}
-use Rattle.fetch_wire.specs.declared.replies.reading.Reading.TheVariants as reading
+use Rattle.fetch_wire.specs.declared.replies.parser.Part.{Part}
+use Rattle.fetch_wire.specs.declared.replies.parser.Part.TheVariants.{Beginning, Acknowledgments, Ready, Rest, ShallowInfo, Packfile}
+use Rattle.fetch_wire.specs.declared.replies.parser.Part.TheVariants.{Bands}
+use Rattle.fetch_wire.specs.declared.replies.parser.ReplyParser.{ReplyParser}
+use Rattle.fetch_wire.specs.declared.replies.parser.ReplyParser.TheVariants as reading
 use Rattle.fetch_wire.specs.declared.requests.records.FetchReply.{FetchReply}
 use Rattle.fetch_wire.specs.KnownIds.{has_id, each_once}
 use Rattle.fetch_wire.specs.Stepping.{Step, goes, ends, breaks, says, or_breaks}
@@ -50,7 +50,7 @@ abbrev pub if_have : List ObjectId → ObjectId → Option ObjectId
 if_have haves id = if has_id id haves then Some id else None
 
 -- the have that `ACK <id>` acknowledges
-unfoldable pub acknowledged_in : AskedReply → List ℕ → Option ObjectId
+unfoldable pub acknowledged_in : ReplyContext → List ℕ → Option ObjectId
 acknowledged_in asked text = option_and_then (λ hex. option_and_then (if_have asked.haves) (id_in_hex asked.kind hex))
     (after (codes "ACK ") text)
 
@@ -63,37 +63,37 @@ unfoldable pub unshallow_in : Kind → List ℕ → Option ObjectId
 unshallow_in kind text = option_and_then (id_in_hex kind) (after (codes "unshallow ") text)
 
 -- `packfile`: the bands follow, or the reply ends where the pack isn't read
-abbrev pub at_packfile : AskedReply → FetchReply → List ℕ → Step Reading Told
+abbrev pub at_packfile : ReplyContext → FetchReply → List ℕ → Step ReplyParser ParsedReply
 at_packfile asked reply text =
     if is_packfile text then (if asked.read_pack then goes (reading.Reply asked Bands (record reply { pack = Some [] }))
     else ends (told.Reply reply)) else breaks
 
 -- `shallow-info` or `packfile`
-abbrev pub at_rest : AskedReply → FetchReply → List ℕ → Step Reading Told
+abbrev pub at_rest : ReplyContext → FetchReply → List ℕ → Step ReplyParser ParsedReply
 at_rest asked reply text = if is_shallow_info text then goes (reading.Reply asked ShallowInfo reply) else at_packfile asked reply text
 
 -- The first line: `acknowledgments` in a round that doesn't end them.
-abbrev pub at_beginning : AskedReply → FetchReply → List ℕ → Step Reading Told
+abbrev pub at_beginning : ReplyContext → FetchReply → List ℕ → Step ReplyParser ParsedReply
 at_beginning asked reply text =
     if asked.done then at_rest asked reply text
     else (if is_acknowledgments text then goes (reading.Reply asked Acknowledgments reply) else breaks)
 
 -- `NAK`, `ready`, or `ACK <id>`
-abbrev pub at_acknowledgment : AskedReply → FetchReply → List ℕ → Step Reading Told
+abbrev pub at_acknowledgment : ReplyContext → FetchReply → List ℕ → Step ReplyParser ParsedReply
 at_acknowledgment asked reply text =
     if is_nak text then goes (reading.Reply asked Acknowledgments reply) else (
     if is_ready text then goes (reading.Reply asked Ready reply) else or_breaks (acknowledged_in asked text)
     (λ id. goes (reading.Reply asked Acknowledgments (record reply { acknowledged = reply.acknowledged ++ id ∷ [] }))))
 
 -- after `ready`: the delimiter alone. What was acknowledged is told once.
-abbrev pub behind_ready : AskedReply → FetchReply → Line → Step Reading Told
+abbrev pub behind_ready : ReplyContext → FetchReply → Line → Step ReplyParser ParsedReply
 behind_ready asked reply (Payload payload) = breaks
 behind_ready asked reply Flush = breaks
 behind_ready asked reply Delim = goes (reading.Reply asked Rest (record reply { acknowledged = each_once reply.acknowledged }))
 behind_ready asked reply End = breaks
 
 -- the id of `shallow <id>`, or that of `unshallow <id>`
-abbrev pub at_change : AskedReply → FetchReply → Option ObjectId → Option ObjectId → Step Reading Told
+abbrev pub at_change : ReplyContext → FetchReply → Option ObjectId → Option ObjectId → Step ReplyParser ParsedReply
 at_change asked reply (Some id) unshallow = goes (reading.Reply asked ShallowInfo (record reply { shallow = reply.shallow ++ id ∷ [] }))
 at_change asked reply None (Some id) = goes (reading.Reply asked ShallowInfo (record reply { unshallow = reply.unshallow ++ id ∷ [] }))
 at_change asked reply None None = breaks
@@ -104,14 +104,14 @@ with_bytes None bytes = Some bytes
 with_bytes (Some pack) bytes = Some (pack ++ bytes)
 
 -- a band: 1 is the pack, 2 is progress, 3 is why the server fails
-abbrev pub by_band : AskedReply → FetchReply → ℕ → List ℕ → Step Reading Told
+abbrev pub by_band : ReplyContext → FetchReply → ℕ → List ℕ → Step ReplyParser ParsedReply
 by_band asked reply band bytes =
     if band == 1 then goes (reading.Reply asked Bands (record reply { pack = with_bytes reply.pack bytes })) else (
     if band == 2 then goes (reading.Reply asked Bands (record reply { progress = reply.progress ++ bytes ∷ [] })) else (
     if band == 3 then says bytes else breaks))
 
 -- the reading after a line of the pack
-abbrev pub at_band : AskedReply → FetchReply → Line → Step Reading Told
+abbrev pub at_band : ReplyContext → FetchReply → Line → Step ReplyParser ParsedReply
 at_band asked reply (Payload (band ∷ bytes)) = by_band asked reply band bytes
 at_band asked reply (Payload []) = breaks
 at_band asked reply Flush = ends (told.Reply reply)
@@ -122,7 +122,7 @@ at_band asked reply End = breaks
 -- or up to `ready` and a delimiter, and the rest follows. With `done` the rest stands alone: `shallow-info` up to a
 -- delimiter, where the border changes, then `packfile`, and bands up to a flush. Each acknowledged id is told once, where it
 -- first was.
-abbrev pub reply_step : AskedReply → Part → FetchReply → Line → Step Reading Told
+abbrev pub reply_step : ReplyContext → Part → FetchReply → Line → Step ReplyParser ParsedReply
 reply_step asked Beginning reply line = by_text (at_beginning asked reply) line
 reply_step asked Acknowledgments reply line =
     by_line (ends (told.Reply (record reply { acknowledged = each_once reply.acknowledged; last = false }))) breaks

@@ -6,8 +6,8 @@ use Rattle.std.specs.List.{list_all}
 use Rattle.std.proofs.lemmas.List.{length-take-le}
 use Rattle.std.proofs.lemmas.Bool.Decides.{nat_tests}
 use Rattle.hex.specs.Hex.{is_hex_digit}
-use Rattle.fetch_wire.specs.declared.lines.section.Trouble.{Trouble}
-use Rattle.fetch_wire.specs.declared.lines.section.Trouble.TheVariants.{Short, Broken, TooLong}
+use Rattle.fetch_wire.specs.declared.lines.section.LineError.{LineError}
+use Rattle.fetch_wire.specs.declared.lines.section.LineError.TheVariants.{Short, Broken, TooLong}
 use Rattle.fetch_wire.specs.declared.lines.line.Line.{Line}
 use Rattle.fetch_wire.specs.declared.lines.line.Line.TheVariants.{Payload, Flush, Delim, End}
 use Rattle.fetch_wire.specs.Lines.{is_no_line, line_counted, announced, number_in, line_at, line_len}
@@ -36,14 +36,14 @@ or_false : (a b : Bool) → (a || b) ≡ false → b ≡ false
 or_false true b e = cc
 or_false false b e = e
 
-abbrev from_ok : {A : Type 0} → A → Result A Trouble → A
+abbrev from_ok : {A : Type 0} → A → Result A LineError → A
 from_ok other (Ok x) = x
 from_ok other (Err e) = other
 
-abbrev ok_of : Line → List ℕ → Result (Line × List ℕ) Trouble
+abbrev ok_of : Line → List ℕ → Result (Line × List ℕ) LineError
 ok_of line rest = Ok (line, rest)
 
-abbrev short_of : ℕ → Result (Line × List ℕ) Trouble
+abbrev short_of : ℕ → Result (Line × List ℕ) LineError
 short_of place = Err (Short place)
 
 ok_parts : (a c : Line) (b d : List ℕ) → ok_of a b ≡ ok_of c d → (a ≡ c) × (b ≡ d)
@@ -151,11 +151,11 @@ line_at-len bound place bytes rest line is =
 abbrev IsShortOf : ℕ → ℕ → ℕ → ℕ → Type 0
 IsShortOf bound place at len = (at ≡ place) × (place + len < bound + 4)
 
-abbrev from_err : {A : Type 0} → Trouble → Result A Trouble → Trouble
+abbrev from_err : {A : Type 0} → LineError → Result A LineError → LineError
 from_err other (Ok x) = other
 from_err other (Err e) = e
 
-abbrev place_in : Trouble → ℕ
+abbrev place_in : LineError → ℕ
 place_in (Short place) = place
 place_in (Broken place) = place
 place_in TooLong = 0

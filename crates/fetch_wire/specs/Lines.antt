@@ -5,8 +5,8 @@ use Rattle.std.specs.List.{list_all}
 use Rattle.std.specs.Option.{option_map}
 use Rattle.std.specs.Result.{result_ok}
 use Rattle.hex.specs.Hex.{decode_sized, is_hex_digit}
-use Rattle.fetch_wire.specs.declared.lines.section.Trouble.{Trouble}
-use Rattle.fetch_wire.specs.declared.lines.section.Trouble.TheVariants.{Short, Broken, TooLong}
+use Rattle.fetch_wire.specs.declared.lines.section.LineError.{LineError}
+use Rattle.fetch_wire.specs.declared.lines.section.LineError.TheVariants.{Short, Broken, TooLong}
 use Rattle.fetch_wire.specs.declared.lines.line.Line.{Line}
 use Rattle.fetch_wire.specs.declared.lines.line.Line.TheVariants.{Payload, Flush, Delim, End}
 
@@ -30,7 +30,7 @@ abbrev pub is_no_line : ℕ → Bool
 is_no_line count = count == 3 || nat_lt 65520 count
 
 -- the line that a number announces which counts the digits and the payload, and what follows the line
-abbrev pub line_counted : ℕ → ℕ → List ℕ → Result (Line × List ℕ) Trouble
+abbrev pub line_counted : ℕ → ℕ → List ℕ → Result (Line × List ℕ) LineError
 line_counted zero place rest = Ok (Flush, rest)
 line_counted (suc zero) place rest = Ok (Delim, rest)
 line_counted (suc (suc zero)) place rest = Err (Broken place)
@@ -39,14 +39,14 @@ line_counted (suc (suc (suc (suc n)))) place rest =
     if nat_lt (length rest) n then Err (Short place) else Ok (Payload (take n rest), drop n rest)
 
 -- The line that digits at this place announce. First come digits that no line has, then the bound, then the line.
-unfoldable pub announced : ℕ → ℕ → Option ℕ → List ℕ → Result (Line × List ℕ) Trouble
+unfoldable pub announced : ℕ → ℕ → Option ℕ → List ℕ → Result (Line × List ℕ) LineError
 announced bound place None rest = Err (Broken place)
 announced bound place (Some count) rest =
     if is_no_line count then Err (Broken place) else (
     if nat_lt bound (place + max count 4) then Err TooLong else line_counted count place rest)
 
 -- The line that the bytes begin with, and what follows it. Fewer than four bytes may yet become digits.
-unfoldable pub line_at : ℕ → ℕ → List ℕ → Result (Line × List ℕ) Trouble
+unfoldable pub line_at : ℕ → ℕ → List ℕ → Result (Line × List ℕ) LineError
 line_at bound place (a ∷ b ∷ c ∷ d ∷ rest) = announced bound place (number_in (a ∷ b ∷ c ∷ d ∷ [])) rest
 line_at bound place bytes = if list_all is_hex_digit bytes then Err (Short place) else Err (Broken place)
 

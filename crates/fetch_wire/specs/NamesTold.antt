@@ -2,8 +2,8 @@
 use Rattle.std.specs.Prelude.{List, map, ⊤}
 use Rattle.std.specs.List.{IsDistinct}
 use Rattle.std.specs.Str.{bytes_eq}
-use Rattle.fetch_wire.specs.declared.replies.awaited.Told.{Told}
-use Rattle.fetch_wire.specs.declared.replies.awaited.Told.TheVariants.{Greeting, Advertisement, Listing, Reply}
+use Rattle.fetch_wire.specs.declared.replies.reply.ParsedReply.{ParsedReply}
+use Rattle.fetch_wire.specs.declared.replies.reply.ParsedReply.TheVariants.{Greeting, Advertisement, Listing, Reply}
 use Rattle.fetch_wire.specs.declared.listings.reference.Ref.{Ref}
 use Rattle.fetch_wire.specs.References.{name_in}
 
@@ -12,7 +12,7 @@ abbrev pub AreNamedOnce : List Ref → Type 0
 AreNamedOnce refs = IsDistinct bytes_eq (map name_in refs)
 
 -- no name stands twice in what is told
-abbrev pub NamesOnce : Told → Type 0
+abbrev pub NamesOnce : ParsedReply → Type 0
 NamesOnce (Greeting handshake) = ⊤
 NamesOnce (Advertisement handshake refs) = AreNamedOnce refs
 NamesOnce (Listing refs) = AreNamedOnce refs

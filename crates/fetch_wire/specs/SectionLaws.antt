@@ -13,17 +13,17 @@ use Rattle.std.proofs.lemmas.Bool.Decides.{nat_tests}
 use Rattle.hex.specs.declared.error.FromHexError.{FromHexError}
 use Rattle.hex.specs.Hex.{decode_sized, is_hex_digit}
 use Rattle.hex.proofs.HexLemmas.{IsOk-decode_sized}
-use Rattle.fetch_wire.specs.declared.lines.section.Trouble.{Trouble}
-use Rattle.fetch_wire.specs.declared.lines.section.Trouble.TheVariants.{Short, Broken, TooLong}
+use Rattle.fetch_wire.specs.declared.lines.section.LineError.{LineError}
+use Rattle.fetch_wire.specs.declared.lines.section.LineError.TheVariants.{Short, Broken, TooLong}
 use Rattle.fetch_wire.specs.declared.lines.line.Line.{Line}
 use Rattle.fetch_wire.specs.Lines.{◌>>=◌, is_no_line, line_counted, announced, number_in, line_at}
 
 -- more bytes after what a reading found
-abbrev pub with_more : {A : Type 0} → Result (A × List ℕ) Trouble → List ℕ → Result (A × List ℕ) Trouble
+abbrev pub with_more : {A : Type 0} → Result (A × List ℕ) LineError → List ℕ → Result (A × List ℕ) LineError
 with_more found more = found >>= λ x. Ok (x.0, x.1 ++ more)
 
 -- a reading that isn't short
-abbrev pub IsSettled : {A : Type 0} → Result A Trouble → Type 0
+abbrev pub IsSettled : {A : Type 0} → Result A LineError → Type 0
 IsSettled found = (place : ℕ) → found ≢ Err (Short place)
 
 chosen-more : (n place : ℕ) (rest more : List ℕ) → (b : Bool) → nat_lt (length rest) n ≡ b
@@ -45,7 +45,7 @@ counted-more (suc (suc (suc zero))) place rest more settled = refl
 counted-more (suc (suc (suc (suc n)))) place rest more settled = chosen-more n place rest more (nat_lt (length rest) n) refl settled
 
 -- two tests before a reading
-tested-more : (no long : Bool) (place : ℕ) (x y : Result (Line × List ℕ) Trouble) (more : List ℕ) → (IsSettled x → y ≡ with_more x more)
+tested-more : (no long : Bool) (place : ℕ) (x y : Result (Line × List ℕ) LineError) (more : List ℕ) → (IsSettled x → y ≡ with_more x more)
     → IsSettled (if no then Err (Broken place) else (if long then Err TooLong else x))
     → (if no then Err (Broken place) else (if long then Err TooLong else y))
     ≡ with_more (if no then Err (Broken place) else (if long then Err TooLong else x)) more
@@ -84,7 +84,7 @@ wrong_four bytes more lt wrong =
     rw (k, take-append-add bytes more (4 - length bytes)) (wrong_front bytes (take (4 - length bytes) more) wrong)
 
 -- bytes too few for a line, or none that begin one
-abbrev pub short_or_broken : ℕ → Bool → Result (Line × List ℕ) Trouble
+abbrev pub short_or_broken : ℕ → Bool → Result (Line × List ℕ) LineError
 short_or_broken place b = if b then Err (Short place) else Err (Broken place)
 
 chosen_broken : (place : ℕ) (b : Bool) → b ≡ false → short_or_broken place b ≡ Err (Broken place)

@@ -4,27 +4,27 @@ use Rattle.std.specs.Prelude.{length, ◌==◌, ◌||◌, ⊤}
 use Rattle.std.specs.Option.{option_and_then}
 use Rattle.fetch_store.specs.declared.id.Kind.{Kind}
 use Rattle.fetch_store.specs.declared.id.Kind.TheVariants.{Sha1}
-use Rattle.fetch_wire.specs.declared.replies.awaited.AskedReply.{AskedReply}
-use Rattle.fetch_wire.specs.declared.replies.awaited.Await.TheVariants as awaits
-use Rattle.fetch_wire.specs.declared.replies.awaited.Fault.{Fault}
-use Rattle.fetch_wire.specs.declared.replies.awaited.Fault.TheVariants as faults
-use Rattle.fetch_wire.specs.declared.replies.awaited.Told.{Told}
-use Rattle.fetch_wire.specs.declared.replies.awaited.Told.TheVariants as told
+use Rattle.fetch_wire.specs.declared.replies.reply.ReplyContext.{ReplyContext}
+use Rattle.fetch_wire.specs.declared.replies.reply.ReplyKind.TheVariants as awaits
+use Rattle.fetch_wire.specs.declared.replies.reply.ReplyError.{ReplyError}
+use Rattle.fetch_wire.specs.declared.replies.reply.ReplyError.TheVariants as faults
+use Rattle.fetch_wire.specs.declared.replies.reply.ParsedReply.{ParsedReply}
+use Rattle.fetch_wire.specs.declared.replies.reply.ParsedReply.TheVariants as told
 use Rattle.fetch_wire.specs.declared.error.WireError.{WireError}
 use Rattle.fetch_wire.specs.declared.error.WireError.TheVariants as errors
 use Rattle.fetch_wire.specs.declared.greetings.handshake.Handshake.{Handshake}
-use Rattle.fetch_wire.specs.declared.session.intake.Found.{Found}
-use Rattle.fetch_wire.specs.declared.session.intake.Found.TheVariants as found
+use Rattle.fetch_wire.specs.declared.session.reply_buffer.FoundReply.{FoundReply}
+use Rattle.fetch_wire.specs.declared.session.reply_buffer.FoundReply.TheVariants as found
 use Rattle.fetch_wire.specs.declared.lines.line.Line.{Line}
 use Rattle.fetch_wire.specs.declared.requests.records.FetchReply.{FetchReply}
 use Rattle.fetch_wire.specs.declared.requests.records.Request.{Request}
 use Rattle.fetch_wire.specs.declared.listings.reference.Ref.{Ref}
-use Rattle.fetch_wire.specs.declared.replies.reading.Reading.{Reading}
+use Rattle.fetch_wire.specs.declared.replies.parser.ReplyParser.{ReplyParser}
 use Rattle.fetch_wire.specs.declared.session.turn.Turn.{Turn}
 use Rattle.fetch_wire.specs.declared.session.turn.Turn.TheVariants as turns
 use Rattle.fetch_wire.specs.Awaited.{start_of, progress_in}
 use Rattle.fetch_wire.specs.Greetings.{offers}
-use Rattle.fetch_wire.specs.Intakes.{Intake, told_with, resting, awaiting, taking}
+use Rattle.fetch_wire.specs.Intakes.{ReplyBuffer, told_with, resting, awaiting, taking}
 use Rattle.fetch_wire.specs.Intakes as intakes
 use Rattle.fetch_wire.specs.RequestLines.{request_lines}
 use Rattle.fetch_wire.specs.Requests.{listing_lines}
@@ -37,7 +37,7 @@ pub record SessionState : Type 0 where
   pub agent : List ℕ
   pub prefixes : List (List ℕ)
   pub outgoing : List ℕ
-  pub intake : Intake
+  pub intake : ReplyBuffer
   pub handshake : Option Handshake
   pub refs : Option (List Ref)
   pub reply : Option FetchReply
@@ -59,7 +59,7 @@ opened bound agent prefixes first = record {
 }
 
 -- what a fault of a reply is to a caller. A reply that is short at its end isn't whole.
-abbrev pub error_of : ℕ → Fault → WireError
+abbrev pub error_of : ℕ → ReplyError → WireError
 error_of bound (faults.Short place) = errors.Malformed place
 error_of bound (faults.Broken place) = errors.Malformed place
 error_of bound faults.TooLong = errors.ReplyTooLong bound
@@ -72,7 +72,7 @@ failing e s = record s { intake = resting [] s.intake; trouble = Some e }
 -- ---- what a whole reply does
 
 -- what it told is kept
-abbrev pub keeps : Told → SessionState → SessionState
+abbrev pub keeps : ParsedReply → SessionState → SessionState
 keeps (told.Greeting h) s = record s { handshake = Some h }
 keeps (told.Advertisement h refs) s = record s { handshake = Some h; refs = Some refs }
 keeps (told.Listing refs) s = record s { refs = Some refs }
@@ -99,18 +99,18 @@ asks_listing h s =
     listing_by (first_too_long lines) (offers listing_feature h.capabilities) h lines s
 
 -- after a greeting of version 2 the references are asked for
-abbrev pub asks : Told → SessionState → SessionState
+abbrev pub asks : ParsedReply → SessionState → SessionState
 asks (told.Greeting h) s = asks_listing h s
 asks (told.Advertisement h refs) s = s
 asks (told.Listing refs) s = s
 asks (told.Reply reply) s = s
 
 -- nothing is asked for
-abbrev pub rests : Told → SessionState → SessionState
+abbrev pub rests : ParsedReply → SessionState → SessionState
 rests t s = s
 
 -- the texts of the server's progress in the last reply, where it was read whole or is awaited
-abbrev pub progress_by : Option FetchReply → Option Reading → Option (List (List ℕ))
+abbrev pub progress_by : Option FetchReply → Option ReplyParser → Option (List (List ℕ))
 progress_by (Some reply) reading = Some reply.progress
 progress_by None reading = option_and_then progress_in reading
 
@@ -121,7 +121,8 @@ progress_of s = progress_by s.reply s.intake.reading
 -- ---- reading
 
 -- by what the awaited reply tells, and what is asked then
-abbrev pub after_told : (Told → SessionState → SessionState) → SessionState → Option (Result (Told × List ℕ) Fault) → SessionState
+abbrev pub after_told : (ParsedReply → SessionState → SessionState) → SessionState → Option (Result (ParsedReply × List ℕ) ReplyError)
+    → SessionState
 after_told asking s None = s
 after_told asking s (Some (Ok x)) = asking x.0 (keeps x.0 (record s { intake = resting x.1 s.intake }))
 after_told asking s (Some (Err (faults.Short place))) = s
@@ -130,7 +131,7 @@ after_told asking s (Some (Err faults.TooLong)) = failing (errors.ReplyTooLong s
 after_told asking s (Some (Err (faults.Said text))) = failing (errors.ServerError text) s
 
 -- The awaited reply is read, where it is whole or can't be.
-abbrev pub read_one : (Told → SessionState → SessionState) → SessionState → SessionState
+abbrev pub read_one : (ParsedReply → SessionState → SessionState) → SessionState → SessionState
 read_one asking s = after_told asking s (told_with s.intake [])
 
 -- Reads on as far as replies are whole: after a greeting the listing, and after each other reply none is awaited.
@@ -203,7 +204,7 @@ is_memory _ = false
 -- ---- calls
 
 -- a session after the peer's bytes ended
-abbrev pub after_end : SessionState → Option WireError → Option (Result (Told × List ℕ) Fault) → SessionState
+abbrev pub after_end : SessionState → Option WireError → Option (Result (ParsedReply × List ℕ) ReplyError) → SessionState
 after_end s (Some e) found = record s { refused = true }
 after_end s None None = s
 after_end s None (Some (Ok x)) = s
@@ -219,7 +220,7 @@ kind_of None = Sha1
 kind_of (Some h) = h.object_hash
 
 -- what the reply to a request depends on
-abbrev pub asked_by : SessionState → Request → Bool → AskedReply
+abbrev pub asked_by : SessionState → Request → Bool → ReplyContext
 asked_by s r read_pack = record { kind = kind_of s.handshake; haves = r.haves; done = r.done; read_pack = read_pack }
 
 -- The request's lines are to be sent, and its reply is awaited. What was fed ahead may be that reply.
@@ -234,19 +235,19 @@ requested s r read_pack =
 -- ---- how the code goes
 
 -- what is found of the awaited reply is kept
-abbrev pub stored : Found → SessionState → SessionState
+abbrev pub stored : FoundReply → SessionState → SessionState
 stored found.Nothing s = s
-stored (found.Told t) s = keeps t s
-stored (found.Fault fault) s = record s { trouble = Some (error_of s.intake.bound fault) }
+stored (found.Whole t) s = keeps t s
+stored (found.Refused fault) s = record s { trouble = Some (error_of s.intake.bound fault) }
 
 -- and after a greeting the references are asked for
-abbrev pub Takes : Found → SessionState → SessionState → Type 0
+abbrev pub Takes : FoundReply → SessionState → SessionState → Type 0
 Takes found.Nothing s now = now ≡ s
-Takes (found.Told (told.Greeting h)) s now = IsAlike now (read_one rests (asks_listing h (keeps (told.Greeting h) s)))
-Takes (found.Told (told.Advertisement h refs)) s now = now ≡ keeps (told.Advertisement h refs) s
-Takes (found.Told (told.Listing refs)) s now = now ≡ keeps (told.Listing refs) s
-Takes (found.Told (told.Reply reply)) s now = now ≡ keeps (told.Reply reply) s
-Takes (found.Fault fault) s now = now ≡ stored (found.Fault fault) s
+Takes (found.Whole (told.Greeting h)) s now = IsAlike now (read_one rests (asks_listing h (keeps (told.Greeting h) s)))
+Takes (found.Whole (told.Advertisement h refs)) s now = now ≡ keeps (told.Advertisement h refs) s
+Takes (found.Whole (told.Listing refs)) s now = now ≡ keeps (told.Listing refs) s
+Takes (found.Whole (told.Reply reply)) s now = now ≡ keeps (told.Reply reply) s
+Takes (found.Refused fault) s now = now ≡ stored (found.Refused fault) s
 
 -- why the references can't be asked for
 abbrev pub TellsUnlisted : Option ℕ → Bool → WireError → Type 0

@@ -9,7 +9,7 @@ use Rattle.fetch_store.specs.Lines.{IsWithout}
 use Rattle.fetch_store.specs.Scan.{after}
 use Rattle.fetch_store.specs.declared.id.Kind.{Kind}
 use Rattle.fetch_store.specs.declared.id.ObjectId.{ObjectId}
-use Rattle.fetch_wire.specs.declared.replies.awaited.AskedReply.{AskedReply}
+use Rattle.fetch_wire.specs.declared.replies.reply.ReplyContext.{ReplyContext}
 use Rattle.fetch_wire.specs.declared.greetings.handshake.Handshake.{Handshake}
 use Rattle.fetch_wire.specs.declared.lines.line.Line.{Line}
 use Rattle.fetch_wire.specs.declared.lines.line.Line.TheVariants.{Payload, Flush, Delim}
@@ -134,7 +134,7 @@ acknowledgment_text Nak = codes "NAK"
 acknowledgment_text (Ack digits id) = codes "ACK " ++ digits
 
 -- the digits spell an id that is a have of the request
-abbrev pub IsAcknowledgment : AskedReply → Acknowledgment → Type 0
+abbrev pub IsAcknowledgment : ReplyContext → Acknowledgment → Type 0
 IsAcknowledgment asked Nak = ⊤
 IsAcknowledgment asked (Ack digits id) = Spells asked.kind digits id × (has_id id asked.haves ≡ true)
 
@@ -177,7 +177,7 @@ AreBands true bands lines = lines ≡ map band_line bands ++ Flush ∷ []
 AreBands false bands lines = (lines ≡ []) × (bands ≡ [])
 
 -- `packfile`, and where the pack is read its bands and a flush
-abbrev pub IsPack : AskedReply → List Band → List Line → Type 0
+abbrev pub IsPack : ReplyContext → List Band → List Line → Type 0
 IsPack asked bands [] = ⊥
 IsPack asked bands (line ∷ lines) = IsText (codes "packfile") line × AreBands asked.read_pack bands lines
 
@@ -198,7 +198,7 @@ abbrev pub pack_in : Bool → List Band → Option (List ℕ)
 pack_in reads bands = if reads then Some (concat (pieces_of bands)) else None
 
 -- The rest of a reply after these acknowledgments: the moves of the border, and the pack.
-pub record IsRest (asked : AskedReply) (acknowledged : List ObjectId) (reply : FetchReply) (lines : List Line) : Type 0 where
+pub record IsRest (asked : ReplyContext) (acknowledged : List ObjectId) (reply : FetchReply) (lines : List Line) : Type 0 where
   pub moves : Option (List Move)
   pub bands : List Band
   pub front : List Line
@@ -216,13 +216,13 @@ pub record IsRest (asked : AskedReply) (acknowledged : List ObjectId) (reply : F
   }
 
 -- `acknowledgments` with these words after it
-abbrev pub AreAcknowledged : AskedReply → List Acknowledgment → List (List ℕ) → List Line → Type 0
+abbrev pub AreAcknowledged : ReplyContext → List Acknowledgment → List (List ℕ) → List Line → Type 0
 AreAcknowledged asked acknowledgments more lines =
     AreTexts (codes "acknowledgments" ∷ map acknowledgment_text acknowledgments ++ more) lines
     × All (IsAcknowledgment asked) acknowledgments
 
 -- A reply to a request without `done` that ends with its acknowledgments: more haves may come.
-pub record IsRound (asked : AskedReply) (reply : FetchReply) (lines : List Line) : Type 0 where
+pub record IsRound (asked : ReplyContext) (reply : FetchReply) (lines : List Line) : Type 0 where
   pub acknowledgments : List Acknowledgment
   pub front : List Line
   pub is : lines ≡ front ++ Flush ∷ []
@@ -230,7 +230,7 @@ pub record IsRound (asked : AskedReply) (reply : FetchReply) (lines : List Line)
   pub told : reply ≡ record no_reply { acknowledged = each_once (acknowledged_by acknowledgments); last = false }
 
 -- A reply to a request without `done` that ends the rounds by `ready`: its rest stands after a delimiter.
-pub record IsReady (asked : AskedReply) (reply : FetchReply) (lines : List Line) : Type 0 where
+pub record IsReady (asked : ReplyContext) (reply : FetchReply) (lines : List Line) : Type 0 where
   pub acknowledgments : List Acknowledgment
   pub front : List Line
   pub behind : List Line
@@ -239,10 +239,10 @@ pub record IsReady (asked : AskedReply) (reply : FetchReply) (lines : List Line)
   pub rest : IsRest asked (each_once (acknowledged_by acknowledgments)) reply behind
 
 -- the reply to a request with `done`, where the rest stands alone, or without
-abbrev pub IsReplyTo : Bool → AskedReply → FetchReply → List Line → Type 0
+abbrev pub IsReplyTo : Bool → ReplyContext → FetchReply → List Line → Type 0
 IsReplyTo true asked reply lines = IsRest asked [] reply lines
 IsReplyTo false asked reply lines = IsRound asked reply lines ⊎ IsReady asked reply lines
 
 -- the reply to this request
-abbrev pub IsReply : AskedReply → FetchReply → List Line → Type 0
+abbrev pub IsReply : ReplyContext → FetchReply → List Line → Type 0
 IsReply asked reply lines = IsReplyTo asked.done asked reply lines

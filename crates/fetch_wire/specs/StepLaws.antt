@@ -3,10 +3,10 @@ use Rattle.std.specs.Prelude.{◌≡◌, ◌≢◌, ℕ, zero, suc, ◌+◌, ◌
 use Rattle.std.proofs.Common.{sym, ap, ◌∙◌, arith, length-append, append_assoc}
 use Rattle.std.proofs.lemmas.List.{append-nil}
 use Rattle.std.specs.List.{concat}
-use Rattle.fetch_wire.specs.declared.lines.section.Trouble.{Trouble}
-use Rattle.fetch_wire.specs.declared.lines.section.Trouble.TheVariants as lines
-use Rattle.fetch_wire.specs.declared.replies.awaited.Fault.{Fault}
-use Rattle.fetch_wire.specs.declared.replies.awaited.Fault.TheVariants.{Short, Broken, TooLong, Said}
+use Rattle.fetch_wire.specs.declared.lines.section.LineError.{LineError}
+use Rattle.fetch_wire.specs.declared.lines.section.LineError.TheVariants as lines
+use Rattle.fetch_wire.specs.declared.replies.reply.ReplyError.{ReplyError}
+use Rattle.fetch_wire.specs.declared.replies.reply.ReplyError.TheVariants.{Short, Broken, TooLong, Said}
 use Rattle.fetch_wire.specs.declared.lines.line.Line.{Line}
 use Rattle.fetch_wire.specs.Lines.{◌>>=◌, line_at, line_len}
 use Rattle.fetch_wire.specs.LineLaws.{line_at-len, least}
@@ -14,18 +14,18 @@ use Rattle.fetch_wire.specs.SectionLaws as section
 use Rattle.fetch_wire.specs.Stepping.{Step, goes, ends, breaks, says, after_step, after_line, read_within, read_by}
 
 -- more bytes after what a reading found
-abbrev pub with_more : {A : Type 0} → Result (A × List ℕ) Fault → List ℕ → Result (A × List ℕ) Fault
+abbrev pub with_more : {A : Type 0} → Result (A × List ℕ) ReplyError → List ℕ → Result (A × List ℕ) ReplyError
 with_more found more = found >>= λ x. Ok (x.0, x.1 ++ more)
 
 -- a reading that isn't short
-abbrev pub IsSettled : {A : Type 0} → Result A Fault → Type 0
+abbrev pub IsSettled : {A : Type 0} → Result A ReplyError → Type 0
 IsSettled found = (place : ℕ) → found ≢ Err (Short place)
 
 -- what a line does, and the reading of what follows it
-abbrev pub line_then : {S T : Type 0} → (S → Line → Step S T) → ℕ → S → ℕ → Line → List ℕ → Result (T × List ℕ) Fault
+abbrev pub line_then : {S T : Type 0} → (S → Line → Step S T) → ℕ → S → ℕ → Line → List ℕ → Result (T × List ℕ) ReplyError
 line_then step bound s place line rest = after_step place rest (λ t. read_by step bound t (place + line_len line) rest) (step s line)
 
-after_step-more : {S T : Type 0} (place : ℕ) (rest more : List ℕ) (f g : S → Result (T × List ℕ) Fault) (found : Step S T)
+after_step-more : {S T : Type 0} (place : ℕ) (rest more : List ℕ) (f g : S → Result (T × List ℕ) ReplyError) (found : Step S T)
     → ((t : S) → IsSettled (f t) → g t ≡ with_more (f t) more)
     → IsSettled (after_step place rest f found) → after_step place (rest ++ more) g found ≡ with_more (after_step place rest f found) more
 after_step-more place rest more f g (goes t) h settled = h t settled
@@ -34,7 +34,7 @@ after_step-more place rest more f g breaks h settled = refl
 after_step-more place rest more f g (says text) h settled = refl
 
 line-more : {S T : Type 0} (step : S → Line → Step S T) (n m bound place : ℕ) (s : S) (more : List ℕ)
-    (first longer : Result (Line × List ℕ) Trouble) → (section.IsSettled first → longer ≡ section.with_more first more)
+    (first longer : Result (Line × List ℕ) LineError) → (section.IsSettled first → longer ≡ section.with_more first more)
     → ((t : S) (p : ℕ) (bytes : List ℕ) → IsSettled (read_within n step bound t p bytes)
     → read_within m step bound t p (bytes ++ more) ≡ with_more (read_within n step bound t p bytes) more)
     → IsSettled (after_line first (λ line rest.
@@ -67,7 +67,7 @@ read_by-more step bound place s bytes more settled =
     within-more step (suc (length bytes)) (suc (length (bytes ++ more))) bound place s bytes more
     (omega (arith, length-append bytes more)) settled
 
-after_step-same : {S T : Type 0} (place : ℕ) (rest : List ℕ) (f g : S → Result (T × List ℕ) Fault) (found : Step S T)
+after_step-same : {S T : Type 0} (place : ℕ) (rest : List ℕ) (f g : S → Result (T × List ℕ) ReplyError) (found : Step S T)
     → ((t : S) → f t ≡ g t) → after_step place rest f found ≡ after_step place rest g found
 after_step-same place rest f g (goes t) h = h t
 after_step-same place rest f g (ends x) h = refl
@@ -75,7 +75,7 @@ after_step-same place rest f g breaks h = refl
 after_step-same place rest f g (says text) h = refl
 
 line-enough : {S T : Type 0} (step : S → Line → Step S T) (n m bound place : ℕ) (s : S) (bytes : List ℕ)
-    (found : Result (Line × List ℕ) Trouble) → line_at bound place bytes ≡ found
+    (found : Result (Line × List ℕ) LineError) → line_at bound place bytes ≡ found
     → ((t : S) (p : ℕ) (rest : List ℕ) → length rest + 4 ≤ length bytes
     → read_within n step bound t p rest ≡ read_within m step bound t p rest)
     → after_line found (λ line rest. after_step place rest (λ t. read_within n step bound t (place + line_len line) rest) (step s line))
@@ -99,7 +99,7 @@ enough step (suc n) (suc m) bound place s bytes le le' =
     (λ t p rest few. enough step n m bound p t rest (omega arith) (omega arith))
 
 line-step : {S T : Type 0} (step : S → Line → Step S T) (n bound place : ℕ) (s : S) (bytes : List ℕ)
-    (found : Result (Line × List ℕ) Trouble) → line_at bound place bytes ≡ found → length bytes ≡ n
+    (found : Result (Line × List ℕ) LineError) → line_at bound place bytes ≡ found → length bytes ≡ n
     → after_line found (λ line rest. after_step place rest (λ t. read_within n step bound t (place + line_len line) rest) (step s line))
     ≡ after_line found (line_then step bound s place)
 line-step step n bound place s bytes (Err t) is len = refl
@@ -117,7 +117,8 @@ unfolding read_within
 read_by-step step bound place s bytes = line-step step (length bytes) bound place s bytes (line_at bound place bytes) refl refl
 
 -- what was found of the bytes so far, or of more of them where they are short
-abbrev pub unless_short : {A : Type 0} → Result (A × List ℕ) Fault → List ℕ → Result (A × List ℕ) Fault → Result (A × List ℕ) Fault
+abbrev pub unless_short : {A : Type 0} → Result (A × List ℕ) ReplyError → List ℕ → Result (A × List ℕ) ReplyError
+    → Result (A × List ℕ) ReplyError
 unless_short (Ok x) more others = Ok (x.0, x.1 ++ more)
 unless_short (Err (Short place)) more others = others
 unless_short (Err (Broken place)) more others = Err (Broken place)
@@ -125,11 +126,11 @@ unless_short (Err TooLong) more others = Err TooLong
 unless_short (Err (Said text)) more others = Err (Said text)
 
 -- What pieces tell after the bytes so far, where reading is tried as soon as each of them comes.
-abbrev pub in_pieces : {A : Type 0} → (List ℕ → Result (A × List ℕ) Fault) → List ℕ → List (List ℕ) → Result (A × List ℕ) Fault
+abbrev pub in_pieces : {A : Type 0} → (List ℕ → Result (A × List ℕ) ReplyError) → List ℕ → List (List ℕ) → Result (A × List ℕ) ReplyError
 in_pieces read so_far [] = read so_far
 in_pieces read so_far (piece ∷ pieces) = unless_short (read so_far) (piece ++ concat pieces) (in_pieces read (so_far ++ piece) pieces)
 
-unless_short-is : {A : Type 0} (found longer others : Result (A × List ℕ) Fault) (more : List ℕ)
+unless_short-is : {A : Type 0} (found longer others : Result (A × List ℕ) ReplyError) (more : List ℕ)
     → (IsSettled found → longer ≡ with_more found more) → others ≡ longer → unless_short found more others ≡ longer
 unless_short-is (Ok x) longer others more h same = sym (h (λ p e. cc))
 unless_short-is (Err (Short place)) longer others more h same = same
@@ -138,7 +139,7 @@ unless_short-is (Err TooLong) longer others more h same = sym (h (λ p e. cc))
 unless_short-is (Err (Said text)) longer others more h same = sym (h (λ p e. cc))
 
 -- Pieces tell what the whole text tells.
-pub in_pieces-is : {A : Type 0} (read : List ℕ → Result (A × List ℕ) Fault)
+pub in_pieces-is : {A : Type 0} (read : List ℕ → Result (A × List ℕ) ReplyError)
     → ((bytes more : List ℕ) → IsSettled (read bytes) → read (bytes ++ more) ≡ with_more (read bytes) more)
     → (pieces : List (List ℕ)) (so_far : List ℕ) → in_pieces read so_far pieces ≡ read (so_far ++ concat pieces)
 in_pieces-is read stays [] so_far = ap read (sym (append-nil so_far))

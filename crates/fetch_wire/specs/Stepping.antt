@@ -1,9 +1,9 @@
 -- A text is read line by line: each line is a step from what was told before it.
 use Rattle.std.specs.Prelude.{ℕ, zero, suc, ◌+◌, List, length, Option, Some, None, Result, Ok, Err}
-use Rattle.fetch_wire.specs.declared.lines.section.Trouble.{Trouble}
-use Rattle.fetch_wire.specs.declared.lines.section.Trouble.TheVariants as lines
-use Rattle.fetch_wire.specs.declared.replies.awaited.Fault.{Fault}
-use Rattle.fetch_wire.specs.declared.replies.awaited.Fault.TheVariants.{Short, Broken, TooLong, Said}
+use Rattle.fetch_wire.specs.declared.lines.section.LineError.{LineError}
+use Rattle.fetch_wire.specs.declared.lines.section.LineError.TheVariants as lines
+use Rattle.fetch_wire.specs.declared.replies.reply.ReplyError.{ReplyError}
+use Rattle.fetch_wire.specs.declared.replies.reply.ReplyError.TheVariants.{Short, Broken, TooLong, Said}
 use Rattle.fetch_wire.specs.declared.lines.line.Line.{Line}
 use Rattle.fetch_wire.specs.Lines.{line_at, line_len}
 
@@ -21,25 +21,25 @@ or_breaks None f = breaks
 or_breaks (Some x) f = f x
 
 -- why a line can't be read is why the text can't
-abbrev pub fault_of : Trouble → Fault
+abbrev pub fault_of : LineError → ReplyError
 fault_of (lines.Short place) = Short place
 fault_of (lines.Broken place) = Broken place
 fault_of lines.TooLong = TooLong
 
 -- what a line at this place does, before this rest and the reading of it
-abbrev pub after_step : {S T : Type 0} → ℕ → List ℕ → (S → Result (T × List ℕ) Fault) → Step S T → Result (T × List ℕ) Fault
+abbrev pub after_step : {S T : Type 0} → ℕ → List ℕ → (S → Result (T × List ℕ) ReplyError) → Step S T → Result (T × List ℕ) ReplyError
 after_step place rest others (goes s) = others s
 after_step place rest others (ends t) = Ok (t, rest)
 after_step place rest others breaks = Err (Broken place)
 after_step place rest others (says text) = Err (Said text)
 
 -- a line that was found, and what follows it
-abbrev pub after_line : {A : Type 0} → Result (Line × List ℕ) Trouble → (Line → List ℕ → Result A Fault) → Result A Fault
+abbrev pub after_line : {A : Type 0} → Result (Line × List ℕ) LineError → (Line → List ℕ → Result A ReplyError) → Result A ReplyError
 after_line (Err trouble) f = Err (fault_of trouble)
 after_line (Ok x) f = f x.0 x.1
 
 -- at most that many lines
-unfoldable pub read_within : {S T : Type 0} → ℕ → (S → Line → Step S T) → ℕ → S → ℕ → List ℕ → Result (T × List ℕ) Fault
+unfoldable pub read_within : {S T : Type 0} → ℕ → (S → Line → Step S T) → ℕ → S → ℕ → List ℕ → Result (T × List ℕ) ReplyError
 read_within zero step bound s place bytes = Err (Short place)
 read_within (suc n) step bound s place bytes =
     after_line (line_at bound place bytes) (λ line rest.
@@ -48,5 +48,5 @@ read_within (suc n) step bound s place bytes =
 -- What bytes at this place of a reply of bounded length tell, read line by line from this state, and what follows.
 -- At each line come its digits, then the bound, then the grammar, and the first line in order decides. Each line has a
 -- byte, so there are no more lines than bytes.
-abbrev pub read_by : {S T : Type 0} → (S → Line → Step S T) → ℕ → S → ℕ → List ℕ → Result (T × List ℕ) Fault
+abbrev pub read_by : {S T : Type 0} → (S → Line → Step S T) → ℕ → S → ℕ → List ℕ → Result (T × List ℕ) ReplyError
 read_by step bound s place bytes = read_within (suc (length bytes)) step bound s place bytes

@@ -9,13 +9,13 @@ ghost use Rattle.fetch_wire.specs.declared.lines.line.Line.{Line};
 ghost use Rattle.fetch_wire.specs.LineLaws.{IsLine};
 ghost use Rattle.fetch_wire.specs.SectionLaws.{IsSettled};
 ghost use Rattle.std.specs.List.{concat};
-ghost use Rattle.fetch_wire.specs.declared.replies.awaited.Await.{Await};
-ghost use Rattle.fetch_wire.specs.declared.replies.reading.Reading.{Reading};
+ghost use Rattle.fetch_wire.specs.declared.replies.reply.ReplyKind.{ReplyKind};
+ghost use Rattle.fetch_wire.specs.declared.replies.parser.ReplyParser.{ReplyParser};
 ghost use Rattle.fetch_wire.specs.Awaited.{step_of, told_from, told_at};
 ghost use Rattle.fetch_wire.specs.Stepping.{after_line};
 ghost use Rattle.fetch_wire.specs.StepLaws as reply;
 ghost use Rattle.std.specs.Prelude.{◌≢◌, ◌+◌, ◌≤◌, None};
-ghost use Rattle.fetch_wire.specs.declared.replies.awaited.Told.{Told};
+ghost use Rattle.fetch_wire.specs.declared.replies.reply.ParsedReply.{ParsedReply};
 ghost use Rattle.fetch_wire.specs.declared.lines.line.Line.TheVariants.{End};
 ghost use Rattle.fetch_wire.specs.Awaited.{start_of};
 ghost use Rattle.fetch_wire.specs.Feeding.{Feeding, fed, found_in, next_in, behind_next};
@@ -41,15 +41,15 @@ ghost use Rattle.fetch_wire.specs.declared.greetings.handshake.Capability.{Capab
 ghost use Rattle.fetch_wire.specs.declared.listings.reference.Ref.{Ref};
 ghost use Rattle.fetch_store.specs.declared.id.Kind.{Kind};
 ghost use Rattle.fetch_store.specs.declared.id.ObjectId.{ObjectId};
-ghost use Rattle.fetch_wire.specs.declared.replies.awaited.Await.TheVariants as await;
+ghost use Rattle.fetch_wire.specs.declared.replies.reply.ReplyKind.TheVariants as await;
 ghost use Rattle.std.specs.Prelude.{All, Option, Some, IfSome, false, sum_by, codes, ◌∷◌};
 ghost use Rattle.std.specs.Prelude.{true};
 ghost use Rattle.std.specs.Prelude.{◌↔◌, Err};
 ghost use Rattle.fetch_wire.specs.Bounds.{IsTooLong};
-ghost use Rattle.fetch_wire.specs.declared.replies.awaited.Fault.TheVariants as fault;
-ghost use Rattle.fetch_wire.specs.declared.replies.awaited.AskedReply.{AskedReply};
-ghost use Rattle.fetch_wire.specs.declared.replies.awaited.Await.TheVariants.{Reply};
-ghost use Rattle.fetch_wire.specs.declared.replies.awaited.Told.TheVariants as told;
+ghost use Rattle.fetch_wire.specs.declared.replies.reply.ReplyError.TheVariants as fault;
+ghost use Rattle.fetch_wire.specs.declared.replies.reply.ReplyContext.{ReplyContext};
+ghost use Rattle.fetch_wire.specs.declared.replies.reply.ReplyKind.TheVariants.{Reply};
+ghost use Rattle.fetch_wire.specs.declared.replies.reply.ParsedReply.TheVariants as told;
 ghost use Rattle.fetch_wire.specs.Bands.{Band, pack_lines, packed};
 ghost use Rattle.fetch_wire.specs.Lines.{line_len};
 ghost use Rattle.fetch_wire.specs.Written.{line_text, too_long_in};
@@ -66,19 +66,19 @@ pub fn lines_are_read_as_written()
 
 /// What bytes tell of a reply stays when more bytes come: a reply that is whole, and bytes that can't become one.
 pub fn replies_stay()
-    ensures { (bound : ℕ) (awaited : Await) (bytes more : List ℕ) → reply.IsSettled (told_at bound awaited bytes)
+    ensures { (bound : ℕ) (awaited : ReplyKind) (bytes more : List ℕ) → reply.IsSettled (told_at bound awaited bytes)
         → told_at bound awaited (bytes ++ more) ≡ reply.with_more (told_at bound awaited bytes) more }
 {}
 
 /// However a reply is cut into pieces, it tells the same, is refused for the same, and breaks at the same place.
 pub fn replies_are_read_in_pieces()
-    ensures { (bound : ℕ) (awaited : Await) (pieces : List (List ℕ))
+    ensures { (bound : ℕ) (awaited : ReplyKind) (pieces : List (List ℕ))
         → reply.in_pieces (told_at bound awaited) [] pieces ≡ told_at bound awaited (concat pieces) }
 {}
 
 /// A reply is what its first line does, and what comes after that line.
 pub fn replies_are_read_line_by_line()
-    ensures { (bound : ℕ) (reading : Reading) (place : ℕ) (bytes : List ℕ)
+    ensures { (bound : ℕ) (reading : ReplyParser) (place : ℕ) (bytes : List ℕ)
         → told_from bound reading place bytes ≡ after_line (line_at bound place bytes) (reply.line_then step_of bound reading place) }
 {}
 
@@ -106,13 +106,13 @@ pub fn written_lines_are_read()
 
 /// Lines that tell a reply tell it in any case of their digits, whatever comes after.
 pub fn replies_are_read_in_either_case()
-    ensures { (bound : ℕ) (awaited : Await) (lines : List Line) (told : Told) (rest bytes : List ℕ)
+    ensures { (bound : ℕ) (awaited : ReplyKind) (lines : List Line) (told : ParsedReply) (rest bytes : List ℕ)
         → Writes bound 0 lines rest bytes → Tells step_of (start_of awaited) lines told → told_at bound awaited bytes ≡ Ok (told, rest) }
 {}
 
 /// A listing that was read, of either version, names each reference once.
 pub fn references_are_named_once()
-    ensures { (bound : ℕ) (awaited : Await) (bytes rest : List ℕ) (told : Told) → told_at bound awaited bytes ≡ Ok (told, rest)
+    ensures { (bound : ℕ) (awaited : ReplyKind) (bytes rest : List ℕ) (told : ParsedReply) → told_at bound awaited bytes ≡ Ok (told, rest)
         → NamesOnce told }
 {}
 
@@ -125,7 +125,7 @@ pub fn lines_stay()
 
 /// A pack is read from bands, however it is cut into them, and texts of progress may stand between.
 pub fn packs_are_read_from_any_bands()
-    ensures { (asked : AskedReply) (bands : List Band) → asked.done ≡ true → asked.read_pack ≡ true
+    ensures { (asked : ReplyContext) (bands : List Band) → asked.done ≡ true → asked.read_pack ≡ true
         → Tells step_of (start_of (Reply asked)) (pack_lines bands) (told.Reply (packed bands)) }
 {}
 
@@ -170,7 +170,7 @@ pub fn sending_and_feeding_commute()
 
 /// Lines that tell a reply, and fit, tell it as they are written, whatever comes after.
 pub fn replies_are_read_as_written()
-    ensures { (bound : ℕ) (awaited : Await) (lines : List Line) (told : Told) (rest : List ℕ)
+    ensures { (bound : ℕ) (awaited : ReplyKind) (lines : List Line) (told : ParsedReply) (rest : List ℕ)
         → Tells step_of (start_of awaited) lines told → first_too_long lines ≡ None → sum_by line_len lines ≤ bound
         → told_at bound awaited (lines_text lines ++ rest) ≡ Ok (told, rest) }
 {}
@@ -199,14 +199,14 @@ pub fn advertisements_are_read_back()
 
 /// Acknowledgments of haves are read back, where the request doesn't end the rounds.
 pub fn rounds_are_read_back()
-    ensures { (asked : AskedReply) (ids : List ObjectId) → asked.done ≡ false → All (IsIdOf asked.kind) ids
+    ensures { (asked : ReplyContext) (ids : List ObjectId) → asked.done ≡ false → All (IsIdOf asked.kind) ids
         → All (λ id. has_id id asked.haves ≡ true) ids
         → Tells step_of (start_of (Reply asked)) (round_lines ids) (told.Reply (in_round ids)) }
 {}
 
 /// The reply to `done` is read back: the border's change, where it is told, and the pack, however it is cut into bands.
 pub fn last_replies_are_read_back()
-    ensures { (asked : AskedReply) (change : Option BorderChange) (bands : List Band) → asked.done ≡ true → asked.read_pack ≡ true
+    ensures { (asked : ReplyContext) (change : Option BorderChange) (bands : List Band) → asked.done ≡ true → asked.read_pack ≡ true
         → IfSome change (IsChangeOf asked.kind)
         → Tells step_of (start_of (Reply asked)) (last_lines change bands) (told.Reply (at_last change bands)) }
 {}
@@ -218,7 +218,7 @@ pub fn bands_hold_the_pack()
 
 /// Where the pack isn't read, the reply is whole with the line `packfile`.
 pub fn unread_replies_end_at_the_pack()
-    ensures { (asked : AskedReply) (change : Option BorderChange) → asked.done ≡ true → asked.read_pack ≡ false
+    ensures { (asked : ReplyContext) (change : Option BorderChange) → asked.done ≡ true → asked.read_pack ≡ false
         → IfSome change (IsChangeOf asked.kind)
         → Tells step_of (start_of (Reply asked)) (change_lines change ++ text_line (codes "packfile") ∷ [])
         (told.Reply (with_change change no_reply)) }
@@ -226,7 +226,7 @@ pub fn unread_replies_end_at_the_pack()
 
 /// A reply that ends the rounds by `ready` is read back: its acknowledgments, and all that a reply to `done` tells.
 pub fn ready_replies_are_read_back()
-    ensures { (asked : AskedReply) (ids : List ObjectId) (change : Option BorderChange) (bands : List Band) → asked.done ≡ false
+    ensures { (asked : ReplyContext) (ids : List ObjectId) (change : Option BorderChange) (bands : List Band) → asked.done ≡ false
         → asked.read_pack ≡ true
         → All (IsIdOf asked.kind) ids → All (λ id. has_id id asked.haves ≡ true) ids → IfSome change (IsChangeOf asked.kind)
         → Tells step_of (start_of (Reply asked)) (ready_lines ids change bands)
@@ -235,13 +235,13 @@ pub fn ready_replies_are_read_back()
 
 /// What bytes tell of a reply is told by lines, which they write with digits of either case before what follows them.
 pub fn replies_that_are_read_are_lines()
-    ensures { (bound : ℕ) (awaited : Await) (bytes rest : List ℕ) (told : Told) → told_at bound awaited bytes ≡ Ok (told, rest)
+    ensures { (bound : ℕ) (awaited : ReplyKind) (bytes rest : List ℕ) (told : ParsedReply) → told_at bound awaited bytes ≡ Ok (told, rest)
         → (lines : List Line) × Writes bound 0 lines rest bytes × Tells step_of (start_of awaited) lines told }
 {}
 
 /// A reply is too long exactly where its first lines go on, and the digits of the line after them pass the bound.
 pub fn replies_that_are_too_long()
-    ensures { (bound : ℕ) (awaited : Await) (bytes : List ℕ)
+    ensures { (bound : ℕ) (awaited : ReplyKind) (bytes : List ℕ)
         → (told_at bound awaited bytes ≡ Err fault.TooLong) ↔ IsTooLong step_of bound (start_of awaited) bytes }
 {}
 
@@ -268,7 +268,7 @@ pub fn listings_that_are_read_are_listings()
 
 /// A reply to a fetch request that was read is one, as its grammar writes it.
 pub fn replies_that_are_read_are_replies()
-    ensures { (bound : ℕ) (asked : AskedReply) (bytes rest : List ℕ) (reply : FetchReply)
+    ensures { (bound : ℕ) (asked : ReplyContext) (bytes rest : List ℕ) (reply : FetchReply)
         → told_at bound (Reply asked) bytes ≡ Ok (told.Reply reply, rest)
         → (lines : List Line) × Writes bound 0 lines rest bytes × IsReply asked reply lines }
 {}
@@ -297,7 +297,7 @@ pub fn listings_are_read_in_any_spelling()
 
 /// What the grammar of a reply to a fetch request writes, in any spelling, is read as that reply, whatever comes after.
 pub fn replies_are_read_in_any_spelling()
-    ensures { (bound : ℕ) (asked : AskedReply) (lines : List Line) (rest bytes : List ℕ) (reply : FetchReply)
+    ensures { (bound : ℕ) (asked : ReplyContext) (lines : List Line) (rest bytes : List ℕ) (reply : FetchReply)
         → Writes bound 0 lines rest bytes → IsReply asked reply lines
         → told_at bound (Reply asked) bytes ≡ Ok (told.Reply reply, rest) }
 {}

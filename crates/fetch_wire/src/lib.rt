@@ -17,14 +17,14 @@ pub use greetings::handshake::{Capability, Handshake, Version};
 pub use lines::cutting::in_pieces;
 pub use lines::line::{Line, LineRef};
 pub use lines::reader::{LineReader, Need};
-pub use lines::section::{Trouble, line_in};
+pub use lines::section::{LineError, line_in};
 pub use lines::write::{length_digits, write_line, write_lines};
 pub use listings::listing::make_ref;
 pub use listings::mapping::{Mapping, RefMap, SpecIndex};
 pub use listings::reference::{Ref, Source};
-pub use replies::awaited::{AskedReply, Await, Fault, Told};
 pub use replies::bound::ReplyBound;
 pub use replies::haves::{Haves, each_once};
+pub use replies::reply::{ParsedReply, ReplyContext, ReplyError, ReplyKind};
 pub use replies::saying::without_line_feed;
 pub use requests::records::{FetchReply, Request};
 pub use requests::request_parts::{

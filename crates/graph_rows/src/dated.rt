@@ -1,49 +1,13 @@
 //! The dated path, and how much of a graph its test reads.
 
-ghost use Rattle.std.specs.Prelude.{◌≡◌, ◌↔◌, ◌<◌, IsTrue, IfOk};
 ghost use Rattle.fetch_store.specs.Graph.{graph_of};
-ghost use Rattle.fetch_update.specs.Dated.{IsCommit, HasDatedPath};
 
 use crate::words::id_of;
-use fetch_store::{NoMemory, ObjectId, ObjectKind, Objects, Parents, Steps, Store, decimal};
-use fetch_update::laws::is_dated_ancestor;
+use fetch_store::{NoMemory, ObjectId, ObjectKind, Objects, Parents, Store, decimal};
+use fetch_update::laws::has_dated_path;
 use rows::{say, split_word};
 use std::alloc::Global;
 use std::cell::Cell;
-use std::marker::Brand;
-use std::sync::ledger::{Blank, Ledger};
-
-/// Whether a dated path leads from one stored commit to another.
-fn has_dated_path<O: Objects>(
-    alloc: Global,
-    objects: &O,
-    from: &ObjectId,
-    to: &ObjectId,
-) -> Result<bool, NoMemory>
-    requires from { IsCommit (O.graph objects.now) from.now }
-    requires to { IsCommit (O.graph objects.now) to.now }
-    ensures { IfOk result (λ found. IsTrue found ↔ HasDatedPath (O.graph objects.now) from.now to.now) }
-{
-    counted::<O, Brand>(alloc, objects, from, to, Blank::new(1))
-}
-
-fn counted<O: Objects, L: Ledger>(
-    alloc: Global,
-    objects: &O,
-    from: &ObjectId,
-    to: &ObjectId,
-    blank: Blank,
-) -> Result<bool, NoMemory>
-    requires from { IsCommit (O.graph objects.now) from.now }
-    requires to { IsCommit (O.graph objects.now) to.now }
-    requires name { blank.name ≡ L.name }
-    requires parts { blank.parts ≡ L.parts }
-    requires some { 0 < blank.parts }
-    ensures { IfOk result (λ found. IsTrue found ↔ HasDatedPath (O.graph objects.now) from.now to.now) }
-{
-    let mut steps: Steps<L> = Steps::new(blank);
-    is_dated_ancestor(alloc, objects, from, to, &mut steps)
-}
 
 /// None where one of the two is no commit.
 #[tactic(auto, using(fetch_update::proofs::CommitTests::commit_test))]

@@ -19,7 +19,7 @@ use crate::remote::Remote;
 use crate::remotes::direction::Direction;
 use crate::repository::Repository;
 use crate::{prepare, ref_map};
-use fetch_conversation::{Inquiry, agent, inquire};
+use fetch_conversation::{LsRefs, agent, ls_refs};
 use fetch_negotiate::Shallow;
 use fetch_wire::{Handshake, Interrupt, Peer, RefMap};
 use std::alloc::Global;
@@ -133,13 +133,13 @@ pub fn inquired<P: Peer, I: Interrupt>(
     ensures interrupt { BlamesInterrupt (I.yes interrupt.old) (I.yes interrupt.new) (I.will_stop interrupt.old)
         (I.will_stop interrupt.new) (P.told peer.old) (P.told peer.new) (last_question is_interrupted_map result) }
 {
-    let inquiry = Inquiry {
+    let query = LsRefs {
         address: remote.address(),
         agent: agent(repo.settings()),
         specs: remote.refspecs(Direction::Fetch),
         tags: remote.fetch_tags(),
     };
-    match inquire(alloc, &inquiry, peer, interrupt, options) {
+    match ls_refs(alloc, &query, peer, interrupt, options) {
         Ok(listed) => Ok((listed.ref_map, listed.handshake)),
         Err(e) => Err(listing_error(e)),
     }

@@ -10,7 +10,7 @@ ghost use Rattle.fetch_conversation.specs.declared.fetch.Error.TheVariants as er
 ghost use Rattle.fetch_remote.specs.Keeping as spec;
 ghost use Rattle.fetch_remote.specs.Keeping.{AreFiles, with_keep, without_keep};
 ghost use Rattle.fetch_remote.specs.Paths.{keep_path};
-ghost use Rattle.fetch_remote.specs.Settling.{pack_kept, kept_told, released};
+ghost use Rattle.fetch_remote.specs.Applying.{pack_kept, kept_told, released};
 ghost use Rattle.fetch_remote.specs.Blame.{BlamesFiles, keep_fault_in, lent_files, told_by};
 
 use crate::fetch;

@@ -8,7 +8,7 @@ ghost use Rattle.fetch_remote.specs.Errors.{receiving, is_free};
 ghost use Rattle.fetch_remote.specs.Fetched.{IsFetched};
 ghost use Rattle.fetch_remote.specs.Refused.{IsRefused};
 ghost use Rattle.fetch_remote.specs.Repositories.{state_of, setup_of};
-ghost use Rattle.fetch_remote.specs.Settling.{is_early};
+ghost use Rattle.fetch_remote.specs.Applying.{is_early};
 ghost use Rattle.fetch_remote.specs.Steps.{lent, prepared_of, given_by, asked_by, HasListed, ReceivesBy};
 ghost use Rattle.fetch_remote.specs.Valid.{HasValidInput};
 ghost use Rattle.fetch_conversation.specs.Blame.{BlamesPeer, BlamesInterrupt, is_told};
@@ -16,11 +16,11 @@ ghost use Rattle.fetch_remote.specs.Blame.{BlamesFiles, BlamesWorktrees, SparesF
 ghost use Rattle.fetch_remote.specs.Blame.{lent_files, lent_trees, told_by};
 
 use crate::fetch;
-use crate::fetching::manner;
+use crate::fetching::apply_options;
 use crate::fetching::outcome::Outcome;
 use crate::fetching::prepared::Prepared;
-use crate::fetching::settling::settle;
-use crate::fetching::talking::talk_on;
+use crate::fetching::applying::apply_reply;
+use crate::fetching::exchange::negotiate_and_receive;
 use crate::remote::Remote;
 use crate::repository::Repository;
 use fetch_conversation::Progress;
@@ -173,7 +173,7 @@ impl<'a, P: Peer> Prepare<'a, P> {
     }
 }
 
-/// Asks for what is wanted of what was listed, and settles what is received. The interrupt is asked once before each receive.
+/// Asks for what is wanted of what was listed, and applies what is received. The interrupt is asked once before each receive.
 ///
 /// After an error references, reflogs, objects, border and files are as `Remote::fetch` leaves them.
 // Many arguments: those of `receive`, with what was prepared.
@@ -226,9 +226,9 @@ pub fn fetch_on<R: Threads + Sync, P: Peer, Q: Progress, I: Interrupt, F: Files,
         (lent_trees W.told W.asked W.listing W.open_repo W.follow_symref worktrees.new) (told_by fault_in result) }
 {
     let Prepared { listed, options } = prepared;
-    let how = manner(alloc, remote.fetch_tags(), &options)?;
-    let talked = talk_on(
+    let how = apply_options(alloc, remote.fetch_tags(), &options)?;
+    let exchange = negotiate_and_receive(
         rt, alloc, remote, repo, listed, peer, progress, interrupt, &options,
     )?;
-    settle(alloc, repo, &how, talked, files, worktrees)
+    apply_reply(alloc, repo, &how, exchange, files, worktrees)
 }

@@ -8,17 +8,17 @@ ghost use Rattle.fetch_wire.specs.Advertisements.{at_reference, at_advertised, f
 ghost use Rattle.fetch_wire.specs.ReadSteps.{step_in, by_saying};
 ghost use Rattle.fetch_wire.specs.Stepping.{ends, breaks, goes, or_breaks};
 ghost use Rattle.fetch_wire.specs.Words.{words, words_in};
-ghost use Rattle.fetch_wire.specs.declared.replies.awaited.Told.TheVariants as told;
-ghost use Rattle.fetch_wire.specs.declared.replies.reading.Advertised.TheVariants as allows;
+ghost use Rattle.fetch_wire.specs.declared.replies.reply.ParsedReply.TheVariants as told;
+ghost use Rattle.fetch_wire.specs.declared.replies.parser.Advertised.TheVariants as allows;
 
 use crate::greetings::greeting::{hash_of, known_capability};
 use crate::greetings::handshake::{Capability, Handshake, Version};
 use crate::lines::words::next_word;
 use crate::listings::listing::{PartialListing, make_ref};
 use crate::listings::reference::Ref;
-use crate::replies::awaited::Told;
 use crate::replies::fetch_reply::shallow;
-use crate::replies::reading::{Advertised, Read, Reading};
+use crate::replies::parser::{Advertised, Parsed, ReplyParser};
+use crate::replies::reply::ParsedReply;
 use crate::replies::saying::Saying;
 use fetch_store::{Kind, List, NoMemory, ObjectId, split_first};
 use std::alloc::Global;
@@ -210,7 +210,7 @@ fn read_name(
     allowed: Advertised,
     id: ObjectId,
     name: &[u8],
-) -> Result<Option<Reading>, NoMemory>
+) -> Result<Option<ReplyParser>, NoMemory>
     ensures { IfOk result (λ found. found ≡ at_name handshake before allowed id name.now (before_peel name.now)) }
 {
     let mut listed = before;
@@ -218,14 +218,14 @@ fn read_name(
         (Advertised::Shallow, _) | (Advertised::Peeled, Some(_)) => Ok(None),
         (Advertised::Reference, Some(short)) => {
             if listed.peel_last(id, short) {
-                Ok(Some(Reading::Advertisement(handshake, listed, Advertised::Peeled)))
+                Ok(Some(ReplyParser::Advertisement(handshake, listed, Advertised::Peeled)))
             } else {
                 Ok(None)
             }
         }
         (Advertised::Reference | Advertised::Peeled, None) => {
             if add_named(alloc, &handshake, &mut listed, id, name)? {
-                Ok(Some(Reading::Advertisement(handshake, listed, Advertised::Reference)))
+                Ok(Some(ReplyParser::Advertisement(handshake, listed, Advertised::Reference)))
             } else {
                 Ok(None)
             }
@@ -234,12 +234,12 @@ fn read_name(
 }
 
 /// Goes on with a reading, where there is one.
-fn read_if(found: Option<Reading>) -> Read
+fn read_if(found: Option<ReplyParser>) -> Parsed
     ensures { step_in result ≡ or_breaks found (λ s. goes s) }
 {
     match found {
-        Some(reading) => Read::On(reading),
-        None => Read::Broken,
+        Some(reading) => Parsed::On(reading),
+        None => Parsed::Broken,
     }
 }
 
@@ -250,16 +250,16 @@ fn read_reference(
     before: PartialListing,
     allowed: Advertised,
     text: &[u8],
-) -> Result<Read, NoMemory>
+) -> Result<Parsed, NoMemory>
     ensures { IfOk result (λ read. step_in read ≡ at_advertised handshake before allowed text.now) }
 {
     let kind = handshake.object_hash;
     if shallow(kind, text).is_some() {
-        return Ok(Read::On(Reading::Advertisement(handshake, before, Advertised::Shallow)));
+        return Ok(Parsed::On(ReplyParser::Advertisement(handshake, before, Advertised::Shallow)));
     }
     match id_and_name(kind, text) {
         Some((id, name)) => Ok(read_if(read_name(alloc, handshake, before, allowed, id, name)?)),
-        None => Ok(Read::Broken),
+        None => Ok(Parsed::Broken),
     }
 }
 
@@ -270,18 +270,18 @@ pub(crate) fn read_advertised(
     before: PartialListing,
     allowed: Advertised,
     saying: Saying<'_>,
-) -> Result<Read, NoMemory>
+) -> Result<Parsed, NoMemory>
     ensures { IfOk result (λ read. step_in read
         ≡ by_saying (ends (told.Advertisement handshake before)) breaks (at_advertised handshake before allowed) saying.entry) }
 {
     match saying {
         Saying::Text(text) => read_reference(alloc, handshake, before, allowed, text),
-        Saying::Error(text) => Read::said(alloc, text),
-        Saying::Flush => Ok(Read::Whole(Told::Advertisement(
+        Saying::Error(text) => Parsed::said(alloc, text),
+        Saying::Flush => Ok(Parsed::Whole(ParsedReply::Advertisement(
             handshake,
             List::from(before.into_refs()),
         ))),
-        Saying::Delim | Saying::End => Ok(Read::Broken),
+        Saying::Delim | Saying::End => Ok(Parsed::Broken),
     }
 }
 
@@ -291,7 +291,7 @@ fn first_named(
     handshake: Handshake,
     id: ObjectId,
     name: &[u8],
-) -> Result<Option<Reading>, NoMemory>
+) -> Result<Option<ReplyParser>, NoMemory>
     ensures { IfOk result (λ found. found ≡ first_named handshake (id, name.now)) }
 {
     let listed = PartialListing::new(alloc);
@@ -299,36 +299,36 @@ fn first_named(
         return read_name(alloc, handshake, listed, Advertised::Peeled, id, name);
     }
     if is_null(&id) {
-        Ok(Some(Reading::Advertisement(handshake, listed, Advertised::Shallow)))
+        Ok(Some(ReplyParser::Advertisement(handshake, listed, Advertised::Shallow)))
     } else {
         Ok(None)
     }
 }
 
 /// Reads the text of the first reference, with the capabilities.
-pub(crate) fn first_reference(alloc: Global, text: &[u8]) -> Result<Read, NoMemory>
+pub(crate) fn first_reference(alloc: Global, text: &[u8]) -> Result<Parsed, NoMemory>
     ensures { IfOk result (λ read. step_in read ≡ or_breaks (at_first text.now) (λ s. goes s)) }
 {
     let Some((reference, words)) = split_first(0, text) else {
-        return Ok(Read::Broken);
+        return Ok(Parsed::Broken);
     };
     let Some(capabilities) = capabilities(alloc, words)? else {
-        return Ok(Read::Broken);
+        return Ok(Parsed::Broken);
     };
     let handshake = handshake(capabilities);
     match id_and_name(handshake.object_hash, reference) {
         Some((id, name)) => Ok(read_if(first_named(alloc, handshake, id, name)?)),
-        None => Ok(Read::Broken),
+        None => Ok(Parsed::Broken),
     }
 }
 
 /// Reads the line after `version 1`.
-pub(crate) fn read_first(alloc: Global, saying: Saying<'_>) -> Result<Read, NoMemory>
+pub(crate) fn read_first(alloc: Global, saying: Saying<'_>) -> Result<Parsed, NoMemory>
     ensures { IfOk result (λ read. step_in read ≡ by_saying breaks breaks (λ text. or_breaks (at_first text) (λ s. goes s)) saying.entry) }
 {
     match saying {
         Saying::Text(text) => first_reference(alloc, text),
-        Saying::Error(text) => Read::said(alloc, text),
-        Saying::Flush | Saying::Delim | Saying::End => Ok(Read::Broken),
+        Saying::Error(text) => Parsed::said(alloc, text),
+        Saying::Flush | Saying::Delim | Saying::End => Ok(Parsed::Broken),
     }
 }

@@ -6,14 +6,14 @@ ghost use Rattle.fetch_wire.specs.Awaited.{at_greeting, at_capability, at_listed
 ghost use Rattle.fetch_wire.specs.Greetings.{handshake_of};
 ghost use Rattle.fetch_wire.specs.ReadSteps.{step_in, by_saying};
 ghost use Rattle.fetch_wire.specs.Stepping.{ends, breaks};
-ghost use Rattle.fetch_wire.specs.declared.replies.awaited.Told.TheVariants as told;
+ghost use Rattle.fetch_wire.specs.declared.replies.reply.ParsedReply.TheVariants as told;
 
 use crate::greetings::advertisement::first_reference;
 use crate::greetings::greeting::{hash_of, known_capability, says_version_2};
 use crate::greetings::handshake::{Capability, Handshake, Version};
 use crate::listings::listing::{PartialListing, add_text};
-use crate::replies::awaited::Told;
-use crate::replies::reading::{Read, Reading};
+use crate::replies::parser::{Parsed, ReplyParser};
+use crate::replies::reply::ParsedReply;
 use crate::replies::saying::Saying;
 use fetch_store::{Kind, List, NoMemory};
 use std::alloc::Global;
@@ -26,26 +26,26 @@ fn says_version_1(text: &[u8]) -> bool
 }
 
 /// Reads the first text of a greeting.
-fn read_opening(alloc: Global, text: &[u8]) -> Result<Read, NoMemory>
+fn read_opening(alloc: Global, text: &[u8]) -> Result<Parsed, NoMemory>
     ensures { IfOk result (λ read. step_in read ≡ at_greeting text.now) }
 {
     if says_version_2(text) {
-        return Ok(Read::On(Reading::Capabilities(List::new(alloc))));
+        return Ok(Parsed::On(ReplyParser::Capabilities(List::new(alloc))));
     }
     if says_version_1(text) {
-        return Ok(Read::On(Reading::Version));
+        return Ok(Parsed::On(ReplyParser::Version));
     }
     first_reference(alloc, text)
 }
 
 /// Reads the first line of a greeting.
-pub(crate) fn read_greeting(alloc: Global, saying: Saying<'_>) -> Result<Read, NoMemory>
+pub(crate) fn read_greeting(alloc: Global, saying: Saying<'_>) -> Result<Parsed, NoMemory>
     ensures { IfOk result (λ read. step_in read ≡ by_saying breaks breaks at_greeting saying.entry) }
 {
     match saying {
         Saying::Text(text) => read_opening(alloc, text),
-        Saying::Error(text) => Read::said(alloc, text),
-        Saying::Flush | Saying::Delim | Saying::End => Ok(Read::Broken),
+        Saying::Error(text) => Parsed::said(alloc, text),
+        Saying::Flush | Saying::Delim | Saying::End => Ok(Parsed::Broken),
     }
 }
 
@@ -62,16 +62,16 @@ fn handshake(capabilities: List<Capability>) -> Handshake
 }
 
 /// Adds the capability that a text tells.
-fn add_capability(alloc: Global, before: List<Capability>, text: &[u8]) -> Result<Read, NoMemory>
+fn add_capability(alloc: Global, before: List<Capability>, text: &[u8]) -> Result<Parsed, NoMemory>
     ensures { IfOk result (λ read. step_in read ≡ at_capability before text.now) }
 {
     let mut capabilities = before;
     match known_capability(alloc, text)? {
         Some(capability) => {
             capabilities.push(capability)?;
-            Ok(Read::On(Reading::Capabilities(capabilities)))
+            Ok(Parsed::On(ReplyParser::Capabilities(capabilities)))
         }
-        None => Ok(Read::Broken),
+        None => Ok(Parsed::Broken),
     }
 }
 
@@ -80,15 +80,15 @@ pub(crate) fn read_capability(
     alloc: Global,
     before: List<Capability>,
     saying: Saying<'_>,
-) -> Result<Read, NoMemory>
+) -> Result<Parsed, NoMemory>
     ensures { IfOk result (λ read. step_in read
         ≡ by_saying (ends (told.Greeting (handshake_of before))) breaks (at_capability before) saying.entry) }
 {
     match saying {
         Saying::Text(text) => add_capability(alloc, before, text),
-        Saying::Error(text) => Read::said(alloc, text),
-        Saying::Flush => Ok(Read::Whole(Told::Greeting(handshake(before)))),
-        Saying::Delim | Saying::End => Ok(Read::Broken),
+        Saying::Error(text) => Parsed::said(alloc, text),
+        Saying::Flush => Ok(Parsed::Whole(ParsedReply::Greeting(handshake(before)))),
+        Saying::Delim | Saying::End => Ok(Parsed::Broken),
     }
 }
 
@@ -98,14 +98,14 @@ fn add_listed(
     kind: Kind,
     before: PartialListing,
     text: &[u8],
-) -> Result<Read, NoMemory>
+) -> Result<Parsed, NoMemory>
     ensures { IfOk result (λ read. step_in read ≡ at_listed kind before text.now) }
 {
     let mut listed = before;
     if add_text(alloc, kind, &mut listed, text)? {
-        Ok(Read::On(Reading::Listing(kind, listed)))
+        Ok(Parsed::On(ReplyParser::Listing(kind, listed)))
     } else {
-        Ok(Read::Broken)
+        Ok(Parsed::Broken)
     }
 }
 
@@ -115,13 +115,13 @@ pub(crate) fn read_listed(
     kind: Kind,
     before: PartialListing,
     saying: Saying<'_>,
-) -> Result<Read, NoMemory>
+) -> Result<Parsed, NoMemory>
     ensures { IfOk result (λ read. step_in read ≡ by_saying (ends (told.Listing before)) breaks (at_listed kind before) saying.entry) }
 {
     match saying {
         Saying::Text(text) => add_listed(alloc, kind, before, text),
-        Saying::Error(text) => Read::said(alloc, text),
-        Saying::Flush => Ok(Read::Whole(Told::Listing(List::from(before.into_refs())))),
-        Saying::Delim | Saying::End => Ok(Read::Broken),
+        Saying::Error(text) => Parsed::said(alloc, text),
+        Saying::Flush => Ok(Parsed::Whole(ParsedReply::Listing(List::from(before.into_refs())))),
+        Saying::Delim | Saying::End => Ok(Parsed::Broken),
     }
 }

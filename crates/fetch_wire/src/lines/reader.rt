@@ -8,7 +8,7 @@ ghost use Rattle.std.specs.Borrow.{sem};
 
 use crate::error::WireError;
 use crate::lines::line::LineRef;
-use crate::lines::section::{Trouble, line_in};
+use crate::lines::section::{LineError, line_in};
 use crate::replies::bound::ReplyBound;
 use fetch_store::NoMemory;
 use std::alloc::Global;
@@ -122,7 +122,7 @@ impl LineReader {
     }
 
     /// As `next`, with a refusal that owns nothing: the line is read once it was given, and what is refused stays.
-    pub fn next_line(&mut self) -> Result<Need<'_>, Trouble>
+    pub fn next_line(&mut self) -> Result<Need<'_>, LineError>
         ensures given { seen result ≡ next_in self.old }
         ensures* left { sem 𝓛 (RestsBehind self.entry) }
     {
@@ -133,7 +133,7 @@ impl LineReader {
                 self.place = place + count;
                 Ok(Need::Line(line))
             }
-            Err(Trouble::Short { .. }) => Ok(Need::More),
+            Err(LineError::Short { .. }) => Ok(Need::More),
             Err(trouble) => Err(trouble),
         }
     }

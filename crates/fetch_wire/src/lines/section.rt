@@ -14,7 +14,7 @@ use hex::FromHex;
 
 /// Why a text doesn't begin with a line, or with the lines of a reply. Places count from the reply's first byte.
 #[derive(Clone, Copy, Debug, PartialEq, Eq)]
-pub enum Trouble {
+pub enum LineError {
     /// The text ends in the line that begins at this place, or before it.
     Short { place: usize },
     /// The line that begins at this place breaks the grammar.
@@ -23,14 +23,16 @@ pub enum Trouble {
     TooLong,
 }
 
-impl Trouble {
+impl LineError {
     /// The refusal of a reply of bounded length, where no more bytes come.
     pub fn to_error(self, bound: ReplyBound) -> WireError
         ensures { result ≡ error_of bound self }
     {
         match self {
-            Trouble::Short { place } | Trouble::Broken { place } => WireError::Malformed { place },
-            Trouble::TooLong => WireError::ReplyTooLong { bound: bound.get() },
+            LineError::Short { place } | LineError::Broken { place } => WireError::Malformed {
+                place,
+            },
+            LineError::TooLong => WireError::ReplyTooLong { bound: bound.get() },
         }
     }
 }
@@ -63,32 +65,32 @@ fn line_behind(
     place: usize,
     count: Option<usize>,
     rest: &[u8],
-) -> Result<(LineRef<'_>, usize), Trouble>
+) -> Result<(LineRef<'_>, usize), LineError>
     requires { place < 2 ^ 32 }
     ensures value { ok_as (λ x. (line_of x.0, drop x.1 rest.now)) result ≡ announced bound place count rest.now }
     ensures within { IfOk result (λ x. x.1 ≤ length rest.now) }
     ensures len { IfOk result (λ x. x.1 + 4 ≡ line_len (line_of x.0)) }
 {
     let Some(count) = count else {
-        return Err(Trouble::Broken { place });
+        return Err(LineError::Broken { place });
     };
     if count == 3 {
-        return Err(Trouble::Broken { place });
+        return Err(LineError::Broken { place });
     }
     if count > MAX_LINE {
-        return Err(Trouble::Broken { place });
+        return Err(LineError::Broken { place });
     }
     if place + count.max(4) > bound {
-        return Err(Trouble::TooLong);
+        return Err(LineError::TooLong);
     }
     match count {
         0 => Ok((LineRef::Flush, 0)),
         1 => Ok((LineRef::Delim, 0)),
-        2 | 3 => Err(Trouble::Broken { place }),
+        2 | 3 => Err(LineError::Broken { place }),
         _ => {
             let count = count - 4;
             if rest.len() < count {
-                return Err(Trouble::Short { place });
+                return Err(LineError::Short { place });
             }
             Ok((LineRef::Payload(&rest[..count]), count))
         }
@@ -98,7 +100,7 @@ fn line_behind(
 /// The line that the bytes at this place begin with, and how many of the bytes it takes. A refusal is the one that
 /// these digits give, and the bound, at that place.
 #[tactic(auto, unfolding(crate::specs::Lines::line_at))]
-pub fn line_in(bound: usize, place: usize, bytes: &[u8]) -> Result<(LineRef<'_>, usize), Trouble>
+pub fn line_in(bound: usize, place: usize, bytes: &[u8]) -> Result<(LineRef<'_>, usize), LineError>
     requires { place < 2 ^ 32 }
     ensures value { ok_as (λ x. (line_of x.0, drop x.1 bytes.now)) result ≡ line_at bound place bytes.now }
     ensures within { IfOk result (λ x. x.1 ≤ length bytes.now) }
@@ -106,9 +108,9 @@ pub fn line_in(bound: usize, place: usize, bytes: &[u8]) -> Result<(LineRef<'_>,
 {
     let [a, b, c, d, rest @ ..] = bytes else {
         if are_hex_digits(bytes) {
-            return Err(Trouble::Short { place });
+            return Err(LineError::Short { place });
         }
-        return Err(Trouble::Broken { place });
+        return Err(LineError::Broken { place });
     };
     let (line, count) = line_behind(bound, place, number(&[*a, *b, *c, *d]), rest)?;
     Ok((line, count + 4))

@@ -9,14 +9,14 @@ ghost use Rattle.fetch_wire.specs.KnownIds.{each_once};
 ghost use Rattle.fetch_wire.specs.LineViews.{line_of};
 ghost use Rattle.fetch_wire.specs.ReadSteps.{step_in, by_saying, at_text};
 ghost use Rattle.fetch_wire.specs.Stepping.{ends, breaks, goes};
-ghost use Rattle.fetch_wire.specs.declared.replies.awaited.Told.TheVariants as told;
-ghost use Rattle.fetch_wire.specs.declared.replies.reading.Part.TheVariants as parts;
-ghost use Rattle.fetch_wire.specs.declared.replies.reading.Reading.TheVariants as reading;
+ghost use Rattle.fetch_wire.specs.declared.replies.reply.ParsedReply.TheVariants as told;
+ghost use Rattle.fetch_wire.specs.declared.replies.parser.Part.TheVariants as parts;
+ghost use Rattle.fetch_wire.specs.declared.replies.parser.ReplyParser.TheVariants as reading;
 
 use crate::lines::line::LineRef;
-use crate::replies::awaited::{AskedReply, Told};
 use crate::replies::haves::each_once;
-use crate::replies::reading::{Part, Read, Reading};
+use crate::replies::parser::{Parsed, Part, ReplyParser};
+use crate::replies::reply::{ParsedReply, ReplyContext};
 use crate::replies::saying::{Saying, said_by};
 use crate::requests::records::FetchReply;
 use fetch_store::{Kind, List, NoMemory, ObjectId, Text, after};
@@ -59,7 +59,7 @@ fn says_shallow_info(text: &[u8]) -> bool
 
 /// The have that `ACK <id>` acknowledges.
 #[tactic(auto, unfolding(crate::specs::FetchReplies::acknowledged_in))]
-fn acknowledged(asked: &AskedReply, text: &[u8]) -> Option<ObjectId>
+fn acknowledged(asked: &ReplyContext, text: &[u8]) -> Option<ObjectId>
     ensures { result ≡ acknowledged_in asked.now text.now }
 {
     let hex = after(b"ACK ", text)?;
@@ -94,41 +94,41 @@ fn unshallow(kind: Kind, text: &[u8]) -> Option<ObjectId>
 }
 
 /// Reads `packfile`.
-fn packfile(alloc: Global, asked: AskedReply, reply: FetchReply, text: &[u8]) -> Read
+fn packfile(alloc: Global, asked: ReplyContext, reply: FetchReply, text: &[u8]) -> Parsed
     ensures { step_in result ≡ at_packfile asked reply text.now }
 {
     if !says_packfile(text) {
-        return Read::Broken;
+        return Parsed::Broken;
     }
     if !asked.read_pack {
-        return Read::Whole(Told::Reply(reply));
+        return Parsed::Whole(ParsedReply::Reply(reply));
     }
     let mut reply = reply;
     reply.pack = Some(Text::from(Vec::new(alloc)));
-    Read::On(Reading::Reply(asked, Part::Bands, reply))
+    Parsed::On(ReplyParser::Reply(asked, Part::Bands, reply))
 }
 
 /// Reads `shallow-info` or `packfile`.
-fn rest(alloc: Global, asked: AskedReply, reply: FetchReply, text: &[u8]) -> Read
+fn rest(alloc: Global, asked: ReplyContext, reply: FetchReply, text: &[u8]) -> Parsed
     ensures { step_in result ≡ at_rest asked reply text.now }
 {
     if says_shallow_info(text) {
-        return Read::On(Reading::Reply(asked, Part::ShallowInfo, reply));
+        return Parsed::On(ReplyParser::Reply(asked, Part::ShallowInfo, reply));
     }
     packfile(alloc, asked, reply, text)
 }
 
 /// Reads the first text.
-fn beginning(alloc: Global, asked: AskedReply, reply: FetchReply, text: &[u8]) -> Read
+fn beginning(alloc: Global, asked: ReplyContext, reply: FetchReply, text: &[u8]) -> Parsed
     ensures { step_in result ≡ at_beginning asked reply text.now }
 {
     if asked.done {
         return rest(alloc, asked, reply, text);
     }
     if says_acknowledgments(text) {
-        return Read::On(Reading::Reply(asked, Part::Acknowledgments, reply));
+        return Parsed::On(ReplyParser::Reply(asked, Part::Acknowledgments, reply));
     }
-    Read::Broken
+    Parsed::Broken
 }
 
 /// The reply with each acknowledged id once.
@@ -145,27 +145,27 @@ fn told_once(reply: FetchReply) -> Result<FetchReply, NoMemory>
 }
 
 /// Reads `NAK`, `ready`, or `ACK <id>`.
-fn acknowledgment(asked: AskedReply, reply: FetchReply, text: &[u8]) -> Result<Read, NoMemory>
+fn acknowledgment(asked: ReplyContext, reply: FetchReply, text: &[u8]) -> Result<Parsed, NoMemory>
     ensures { IfOk result (λ read. step_in read ≡ at_acknowledgment asked reply text.now) }
 {
     if says_nak(text) {
-        return Ok(Read::On(Reading::Reply(asked, Part::Acknowledgments, reply)));
+        return Ok(Parsed::On(ReplyParser::Reply(asked, Part::Acknowledgments, reply)));
     }
     if says_ready(text) {
-        return Ok(Read::On(Reading::Reply(asked, Part::Ready, reply)));
+        return Ok(Parsed::On(ReplyParser::Reply(asked, Part::Ready, reply)));
     }
     let mut reply = reply;
     match acknowledged(&asked, text) {
         Some(id) => {
             reply.acknowledged.push(id)?;
-            Ok(Read::On(Reading::Reply(asked, Part::Acknowledgments, reply)))
+            Ok(Parsed::On(ReplyParser::Reply(asked, Part::Acknowledgments, reply)))
         }
-        None => Ok(Read::Broken),
+        None => Ok(Parsed::Broken),
     }
 }
 
 /// Reads a change of the border.
-fn change(asked: AskedReply, reply: FetchReply, text: &[u8]) -> Result<Read, NoMemory>
+fn change(asked: ReplyContext, reply: FetchReply, text: &[u8]) -> Result<Parsed, NoMemory>
     ensures { IfOk result (λ read. step_in read
         ≡ at_change asked reply (shallow_in asked.kind text.now) (unshallow_in asked.kind text.now)) }
 {
@@ -173,9 +173,9 @@ fn change(asked: AskedReply, reply: FetchReply, text: &[u8]) -> Result<Read, NoM
     match (shallow(asked.kind, text), unshallow(asked.kind, text)) {
         (Some(id), _) => reply.shallow.push(id)?,
         (None, Some(id)) => reply.unshallow.push(id)?,
-        (None, None) => return Ok(Read::Broken),
+        (None, None) => return Ok(Parsed::Broken),
     }
-    Ok(Read::On(Reading::Reply(asked, Part::ShallowInfo, reply)))
+    Ok(Parsed::On(ReplyParser::Reply(asked, Part::ShallowInfo, reply)))
 }
 
 /// The pack with more bytes after it.
@@ -195,11 +195,11 @@ fn with_bytes(alloc: Global, pack: Option<Text>, bytes: &[u8]) -> Result<Text, N
 /// Reads a band of the pack or of progress, or why the server fails.
 fn band(
     alloc: Global,
-    asked: AskedReply,
+    asked: ReplyContext,
     reply: FetchReply,
     band: u8,
     bytes: &[u8],
-) -> Result<Read, NoMemory>
+) -> Result<Parsed, NoMemory>
     ensures { IfOk result (λ read. step_in read ≡ by_band asked reply band bytes.now) }
 {
     let mut reply = reply;
@@ -208,27 +208,27 @@ fn band(
         2 => reply.progress.push(Text::new(alloc, bytes)?)?,
         3 => {
             let text = Text::new(alloc, bytes)?;
-            return Ok(Read::SaidBehind(text, reply.progress));
+            return Ok(Parsed::SaidBehind(text, reply.progress));
         }
-        _ => return Ok(Read::BrokenBehind(reply.progress)),
+        _ => return Ok(Parsed::BrokenBehind(reply.progress)),
     }
-    Ok(Read::On(Reading::Reply(asked, Part::Bands, reply)))
+    Ok(Parsed::On(ReplyParser::Reply(asked, Part::Bands, reply)))
 }
 
 /// Reads a line of the pack.
 fn read_band(
     alloc: Global,
-    asked: AskedReply,
+    asked: ReplyContext,
     reply: FetchReply,
     line: LineRef<'_>,
-) -> Result<Read, NoMemory>
+) -> Result<Parsed, NoMemory>
     ensures { IfOk result (λ read. step_in read ≡ at_band asked reply (line_of line.entry)) }
 {
     match line {
         LineRef::Payload([first, bytes @ ..]) => band(alloc, asked, reply, *first, bytes),
-        LineRef::Flush => Ok(Read::Whole(Told::Reply(reply))),
+        LineRef::Flush => Ok(Parsed::Whole(ParsedReply::Reply(reply))),
         LineRef::Payload([]) | LineRef::Delim | LineRef::End => {
-            Ok(Read::BrokenBehind(reply.progress))
+            Ok(Parsed::BrokenBehind(reply.progress))
         }
     }
 }
@@ -236,65 +236,65 @@ fn read_band(
 /// Reads a line after `acknowledgments`.
 fn read_acknowledgment(
     alloc: Global,
-    asked: AskedReply,
+    asked: ReplyContext,
     reply: FetchReply,
     saying: Saying<'_>,
-) -> Result<Read, NoMemory>
+) -> Result<Parsed, NoMemory>
     ensures { IfOk result (λ read. step_in read
         ≡ by_saying (ends (told.Reply (record reply { acknowledged = each_once reply.acknowledged; last = false }))) breaks
         (at_acknowledgment asked reply) saying.entry) }
 {
     match saying {
         Saying::Text(text) => acknowledgment(asked, reply, text),
-        Saying::Error(text) => Read::said(alloc, text),
+        Saying::Error(text) => Parsed::said(alloc, text),
         Saying::Flush => {
             let mut reply = told_once(reply)?;
             reply.last = false;
-            Ok(Read::Whole(Told::Reply(reply)))
+            Ok(Parsed::Whole(ParsedReply::Reply(reply)))
         }
-        Saying::Delim | Saying::End => Ok(Read::Broken),
+        Saying::Delim | Saying::End => Ok(Parsed::Broken),
     }
 }
 
 /// Reads a line after `shallow-info`.
 fn read_change(
     alloc: Global,
-    asked: AskedReply,
+    asked: ReplyContext,
     reply: FetchReply,
     saying: Saying<'_>,
-) -> Result<Read, NoMemory>
+) -> Result<Parsed, NoMemory>
     ensures { IfOk result (λ read. step_in read ≡ by_saying breaks (goes (reading.Reply asked parts.Packfile reply))
         (λ text. at_change asked reply (shallow_in asked.kind text) (unshallow_in asked.kind text)) saying.entry) }
 {
     match saying {
         Saying::Text(text) => change(asked, reply, text),
-        Saying::Error(text) => Read::said(alloc, text),
-        Saying::Delim => Ok(Read::On(Reading::Reply(asked, Part::Packfile, reply))),
-        Saying::Flush | Saying::End => Ok(Read::Broken),
+        Saying::Error(text) => Parsed::said(alloc, text),
+        Saying::Delim => Ok(Parsed::On(ReplyParser::Reply(asked, Part::Packfile, reply))),
+        Saying::Flush | Saying::End => Ok(Parsed::Broken),
     }
 }
 
 /// Reads the line after `ready`.
-fn read_ready(asked: AskedReply, reply: FetchReply, line: LineRef<'_>) -> Result<Read, NoMemory>
+fn read_ready(asked: ReplyContext, reply: FetchReply, line: LineRef<'_>) -> Result<Parsed, NoMemory>
     ensures { IfOk result (λ read. step_in read ≡ behind_ready asked reply (line_of line.entry)) }
 {
     match line {
         LineRef::Delim => {
             let reply = told_once(reply)?;
-            Ok(Read::On(Reading::Reply(asked, Part::Rest, reply)))
+            Ok(Parsed::On(ReplyParser::Reply(asked, Part::Rest, reply)))
         }
-        LineRef::Payload(_) | LineRef::Flush | LineRef::End => Ok(Read::Broken),
+        LineRef::Payload(_) | LineRef::Flush | LineRef::End => Ok(Parsed::Broken),
     }
 }
 
 /// Reads a line where only a text may stand.
 fn read_text(
     alloc: Global,
-    asked: AskedReply,
+    asked: ReplyContext,
     part: Part,
     reply: FetchReply,
     saying: Saying<'_>,
-) -> Result<Read, NoMemory>
+) -> Result<Parsed, NoMemory>
     ensures { IfOk result (λ read. step_in read ≡ by_saying breaks breaks (at_text asked part reply) saying.entry) }
 {
     match saying {
@@ -302,21 +302,21 @@ fn read_text(
             Part::Beginning => beginning(alloc, asked, reply, text),
             Part::Rest => rest(alloc, asked, reply, text),
             Part::Packfile => packfile(alloc, asked, reply, text),
-            Part::Acknowledgments | Part::Ready | Part::ShallowInfo | Part::Bands => Read::Broken,
+            Part::Acknowledgments | Part::Ready | Part::ShallowInfo | Part::Bands => Parsed::Broken,
         }),
-        Saying::Error(text) => Read::said(alloc, text),
-        Saying::Flush | Saying::Delim | Saying::End => Ok(Read::Broken),
+        Saying::Error(text) => Parsed::said(alloc, text),
+        Saying::Flush | Saying::Delim | Saying::End => Ok(Parsed::Broken),
     }
 }
 
 /// Reads the next line.
 pub(crate) fn read_reply(
     alloc: Global,
-    asked: AskedReply,
+    asked: ReplyContext,
     part: Part,
     reply: FetchReply,
     line: LineRef<'_>,
-) -> Result<Read, NoMemory>
+) -> Result<Parsed, NoMemory>
     ensures { IfOk result (λ read. step_in read ≡ reply_step asked part reply (line_of line.entry)) }
 {
     match part {

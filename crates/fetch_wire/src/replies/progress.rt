@@ -5,31 +5,31 @@ ghost use Rattle.fetch_wire.specs.Progressing.{Goes};
 ghost use Rattle.fetch_wire.specs.Stepping.{fault_of};
 
 use crate::lines::reader::{LineReader, Need};
-use crate::lines::section::Trouble;
-use crate::replies::awaited::{Fault, Told};
-use crate::replies::reading::{Read, Reading};
+use crate::lines::section::LineError;
+use crate::replies::parser::{Parsed, ReplyParser};
+use crate::replies::reply::{ParsedReply, ReplyError};
 use fetch_store::{List, NoMemory, Text};
 use std::alloc::Global;
 
 /// How far a reply was read.
 #[derive(Drop)]
-pub(crate) enum Progress {
+pub(crate) enum ReplyProgress {
     /// As far as its lines are there. This much was told.
-    On(Reading),
+    On(ReplyParser),
     /// To its end.
-    Whole(Told),
+    Whole(ParsedReply),
     /// It can't become whole, however the bytes go on. In a pack the server told these texts of its progress before.
-    Refused(Fault, Option<List<Text>>),
+    Refused(ReplyError, Option<List<Text>>),
 }
 
 /// Why a line can't be read is why the reply can't.
-fn fault(trouble: Trouble) -> Fault
+fn fault(trouble: LineError) -> ReplyError
     ensures { result ≡ fault_of trouble }
 {
     match trouble {
-        Trouble::Short { place } => Fault::Short { place },
-        Trouble::Broken { place } => Fault::Broken { place },
-        Trouble::TooLong => Fault::TooLong,
+        LineError::Short { place } => ReplyError::Short { place },
+        LineError::Broken { place } => ReplyError::Broken { place },
+        LineError::TooLong => ReplyError::TooLong,
     }
 }
 
@@ -37,8 +37,8 @@ fn fault(trouble: Trouble) -> Fault
 pub(crate) fn read_on(
     alloc: Global,
     lines: &mut LineReader,
-    reading: Reading,
-) -> Result<Progress, NoMemory>
+    reading: ReplyParser,
+) -> Result<ReplyProgress, NoMemory>
     ensures read { IfOk result (λ progress. Goes lines.old reading lines.new progress) }
     ensures bound { lines.new.bound ≡ lines.old.bound }
 {
@@ -47,21 +47,24 @@ pub(crate) fn read_on(
         let place = lines.place();
         let read = match lines.next_line() {
             Ok(Need::Line(line)) => reading.line(alloc, line)?,
-            Ok(Need::More) => return Ok(Progress::On(reading)),
+            Ok(Need::More) => return Ok(ReplyProgress::On(reading)),
             Err(trouble) => {
-                return Ok(Progress::Refused(fault(trouble), reading.into_progress()));
+                return Ok(ReplyProgress::Refused(fault(trouble), reading.into_progress()));
             }
         };
         match read {
-            Read::On(next) => reading = next,
-            Read::Whole(told) => return Ok(Progress::Whole(told)),
-            Read::Broken => return Ok(Progress::Refused(Fault::Broken { place }, None)),
-            Read::Said(text) => return Ok(Progress::Refused(Fault::Said { text }, None)),
-            Read::BrokenBehind(progress) => {
-                return Ok(Progress::Refused(Fault::Broken { place }, Some(progress)));
+            Parsed::On(next) => reading = next,
+            Parsed::Whole(told) => return Ok(ReplyProgress::Whole(told)),
+            Parsed::Broken => return Ok(ReplyProgress::Refused(ReplyError::Broken { place }, None)),
+            Parsed::Said(text) => return Ok(ReplyProgress::Refused(
+                ReplyError::Said { text },
+                None,
+            )),
+            Parsed::BrokenBehind(progress) => {
+                return Ok(ReplyProgress::Refused(ReplyError::Broken { place }, Some(progress)));
             }
-            Read::SaidBehind(text, progress) => {
-                return Ok(Progress::Refused(Fault::Said { text }, Some(progress)));
+            Parsed::SaidBehind(text, progress) => {
+                return Ok(ReplyProgress::Refused(ReplyError::Said { text }, Some(progress)));
             }
         }
     }

@@ -1,8 +1,8 @@
 //! What a line says.
 
 ghost use Rattle.std.specs.Prelude.{◌≡◌, List, ℕ};
-ghost use Rattle.fetch_wire.specs.declared.replies.awaited.Told.{Told};
-ghost use Rattle.fetch_wire.specs.declared.replies.reading.Reading.{Reading};
+ghost use Rattle.fetch_wire.specs.declared.replies.reply.ParsedReply.{ParsedReply};
+ghost use Rattle.fetch_wire.specs.declared.replies.parser.ReplyParser.{ReplyParser};
 ghost use Rattle.fetch_wire.specs.LineViews.{line_of};
 ghost use Rattle.fetch_wire.specs.ReadSteps.{by_saying};
 ghost use Rattle.fetch_wire.specs.Stepping.{Step};
@@ -52,7 +52,7 @@ fn error_text(payload: &[u8]) -> &[u8]
 
 /// What the line says.
 pub(crate) fn said_by(line: LineRef<'_>) -> Saying<'_>
-    ensures { (flush delim : Step Reading Told) (text : List ℕ → Step Reading Told)
+    ensures { (flush delim : Step ReplyParser ParsedReply) (text : List ℕ → Step ReplyParser ParsedReply)
         → by_saying flush delim text result ≡ by_line flush delim text (line_of line.entry) }
 {
     match line {

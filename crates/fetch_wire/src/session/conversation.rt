@@ -6,12 +6,12 @@ use crate::greetings::handshake::Handshake;
 use crate::greetings::parameters::first_bad;
 use crate::lines::write::{write_line, write_lines};
 use crate::listings::reference::Ref;
-use crate::replies::awaited::{AskedReply, Await, Fault, Told};
 use crate::replies::bound::ReplyBound;
 use crate::replies::haves::Haves;
+use crate::replies::reply::{ParsedReply, ReplyContext, ReplyError, ReplyKind};
 use crate::requests::records::{FetchReply, Request};
 use crate::requests::request_parts::{first_line, listing_request};
-use crate::session::intake::{Found, Intake};
+use crate::session::reply_buffer::{FoundReply, ReplyBuffer};
 use crate::session::turn::Turn;
 use fetch_store::{Kind, List, NoMemory, Text, TryClone};
 use std::alloc::Global;
@@ -24,7 +24,7 @@ pub struct Session {
     prefixes: List<Text>,
     outgoing: Vec<u8>,
     sent: usize,
-    intake: Intake,
+    intake: ReplyBuffer,
     handshake: Option<Handshake>,
     refs: Option<List<Ref>>,
     reply: Option<FetchReply>,
@@ -58,8 +58,8 @@ impl Session {
     ghost use Rattle.std.specs.Prelude.{OnOk, OnErr, IsErr};
     ghost use Rattle.std.specs.Option.{option_copied};
     ghost use Rattle.fetch_store.specs.Answers.{RefusesUnless};
-    ghost use Rattle.fetch_wire.specs.declared.replies.awaited.Await.TheVariants as awaits;
-    ghost use Rattle.fetch_wire.specs.declared.replies.awaited.Told.TheVariants as told;
+    ghost use Rattle.fetch_wire.specs.declared.replies.reply.ReplyKind.TheVariants as awaits;
+    ghost use Rattle.fetch_wire.specs.declared.replies.reply.ParsedReply.TheVariants as told;
     ghost use Rattle.fetch_wire.specs.Intakes as intakes;
     ghost use Rattle.fetch_wire.specs.declared.error.WireError.TheVariants as errors;
     ghost use Rattle.fetch_wire.specs.declared.session.turn.Turn.TheVariants as turns;
@@ -98,7 +98,7 @@ impl Session {
             prefixes: copy_slice(alloc, prefixes)?,
             outgoing,
             sent: 0,
-            intake: Intake::new(alloc, bound, Await::Greeting),
+            intake: ReplyBuffer::new(alloc, bound, ReplyKind::Greeting),
             handshake: None,
             refs: None,
             reply: None,
@@ -233,41 +233,43 @@ impl Session {
     }
 
     /// Keeps what a whole reply told.
-    fn keep(&mut self, told: Told)
+    fn keep(&mut self, told: ParsedReply)
         ensures { self.new ≡ spec.keeps told self.old }
     {
         match told {
-            Told::Greeting(handshake) => self.handshake = Some(handshake),
-            Told::Advertisement(handshake, refs) => {
+            ParsedReply::Greeting(handshake) => self.handshake = Some(handshake),
+            ParsedReply::Advertisement(handshake, refs) => {
                 self.handshake = Some(handshake);
                 self.refs = Some(refs);
             }
-            Told::Listing(refs) => self.refs = Some(refs),
-            Told::Reply(reply) => self.reply = Some(reply),
+            ParsedReply::Listing(refs) => self.refs = Some(refs),
+            ParsedReply::Reply(reply) => self.reply = Some(reply),
         }
     }
 
     /// What a fault of a reply is to a caller.
-    fn error(&self, fault: Fault) -> WireError
+    fn error(&self, fault: ReplyError) -> WireError
         ensures { result ≡ spec.error_of self.now.intake.bound fault }
     {
         match fault {
-            Fault::Short { place } | Fault::Broken { place } => WireError::Malformed { place },
-            Fault::TooLong => WireError::ReplyTooLong {
+            ReplyError::Short { place } | ReplyError::Broken { place } => WireError::Malformed {
+                place,
+            },
+            ReplyError::TooLong => WireError::ReplyTooLong {
                 bound: self.intake.bound().get(),
             },
-            Fault::Said { text } => WireError::ServerError { text },
+            ReplyError::Said { text } => WireError::ServerError { text },
         }
     }
 
     /// Keeps what was found of the awaited reply.
-    fn store(&mut self, found: Found)
+    fn store(&mut self, found: FoundReply)
         ensures { self.new ≡ spec.stored found self.old }
     {
         match found {
-            Found::Nothing => {}
-            Found::Told(told) => self.keep(told),
-            Found::Fault(fault) => self.trouble = Some(self.error(fault)),
+            FoundReply::Nothing => {}
+            FoundReply::Whole(told) => self.keep(told),
+            FoundReply::Refused(fault) => self.trouble = Some(self.error(fault)),
         }
     }
 
@@ -313,7 +315,9 @@ impl Session {
         match self.listing_text(&handshake) {
             Ok(text) => {
                 self.outgoing.reserve(text.len())?;
-                let found = self.intake.start(Await::Listing(handshake.object_hash))?;
+                let found = self
+                    .intake
+                    .start(ReplyKind::Listing(handshake.object_hash))?;
                 self.outgoing.extend_from_slice(&text).unwrap();
                 self.handshake = Some(handshake);
                 self.store(found);
@@ -329,12 +333,12 @@ impl Session {
     }
 
     /// Keeps what was found of the awaited reply. After a greeting of version 2 the references are asked for.
-    fn take(&mut self, found: Found) -> Result<(), NoMemory>
+    fn take(&mut self, found: FoundReply) -> Result<(), NoMemory>
         ensures taken { OnOk result (spec.Takes found self.old self.new) }
         ensures kept { OnErr result (spec.IsKept self.old self.new) }
     {
         match found {
-            Found::Told(Told::Greeting(handshake)) => self.ask_listing(handshake),
+            FoundReply::Whole(ParsedReply::Greeting(handshake)) => self.ask_listing(handshake),
             found => {
                 self.store(found);
                 Ok(())
@@ -432,10 +436,10 @@ impl Session {
     }
 
     /// The reply that a request awaits.
-    fn asked(&self, request: &Request, read_pack: bool) -> Result<AskedReply, NoMemory>
+    fn asked(&self, request: &Request, read_pack: bool) -> Result<ReplyContext, NoMemory>
         ensures { IfOk result (λ asked. asked ≡ spec.asked_by self.now request.now read_pack) }
     {
-        Ok(AskedReply {
+        Ok(ReplyContext {
             kind: self.kind(),
             haves: Haves::new(request.haves.try_clone()?)?,
             done: request.done,
@@ -444,12 +448,12 @@ impl Session {
     }
 
     /// The intake, awaiting the reply to a request, and what is found of that reply.
-    fn intake_for(&self, asked: AskedReply) -> Result<(Intake, Found), WireError>
+    fn intake_for(&self, asked: ReplyContext) -> Result<(ReplyBuffer, FoundReply), WireError>
         ensures found { IfOk result (λ x. intakes.ReadsOn (intakes.awaiting (awaits.Reply asked) self.now.intake) x.0 x.1) }
         ensures memory { IfErr result (λ e. e ≡ errors.NoMemory) }
     {
         let mut intake = self.intake.copy_resting()?;
-        let found = intake.start(Await::Reply(asked))?;
+        let found = intake.start(ReplyKind::Reply(asked))?;
         Ok((intake, found))
     }
 

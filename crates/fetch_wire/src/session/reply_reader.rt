@@ -4,9 +4,9 @@ ghost use Rattle.std.specs.Prelude.{◌≡◌};
 ghost use Rattle.fetch_wire.specs.ReplyReadings.{first_found};
 
 use crate::error::WireError;
-use crate::replies::awaited::{Await, Fault, Told};
 use crate::replies::bound::ReplyBound;
-use crate::session::intake::{Found, Intake};
+use crate::replies::reply::{ParsedReply, ReplyError, ReplyKind};
+use crate::session::reply_buffer::{FoundReply, ReplyBuffer};
 use fetch_store::{NoMemory, TryClone};
 use std::alloc::Global;
 use std::marker::Model;
@@ -15,8 +15,8 @@ use std::mem;
 /// A reader of one reply, whose bytes are fed in pieces. It reads as soon as a line is whole. Contracts see what all
 /// that was fed tells, with any bytes after it.
 pub struct ReplyReader {
-    intake: Intake,
-    found: Found,
+    intake: ReplyBuffer,
+    found: FoundReply,
 }
 
 impl Model for ReplyReader {
@@ -35,17 +35,17 @@ impl ReplyReader {
     ghost use Rattle.std.specs.Option.{option_copied};
     ghost use Rattle.fetch_wire.specs.Awaited.{told_at};
     ghost use Rattle.fetch_wire.specs.ReplyReadings.{tells, is_lost, whole_in, refusal_in};
-    ghost use Rattle.fetch_wire.specs.declared.replies.awaited.Fault.TheVariants as faults;
-    ghost use Rattle.fetch_wire.specs.declared.replies.awaited.Told.{Told};
+    ghost use Rattle.fetch_wire.specs.declared.replies.reply.ReplyError.TheVariants as faults;
+    ghost use Rattle.fetch_wire.specs.declared.replies.reply.ParsedReply.{ParsedReply};
     ghost use Rattle.fetch_wire.specs.declared.error.WireError.TheVariants as errors;
 
     /// A reader of the reply that is awaited, to which nothing was fed yet.
-    pub fn new(alloc: Global, bound: ReplyBound, awaited: Await) -> ReplyReader
+    pub fn new(alloc: Global, bound: ReplyBound, awaited: ReplyKind) -> ReplyReader
         ensures { (more : List ℕ) → tells result more ≡ Some (told_at bound awaited more) }
     {
         ReplyReader {
-            intake: Intake::new(alloc, bound, awaited),
-            found: Found::Nothing,
+            intake: ReplyBuffer::new(alloc, bound, awaited),
+            found: FoundReply::Nothing,
         }
     }
 
@@ -64,8 +64,8 @@ impl ReplyReader {
         ensures { result ≡ is_lost self.now }
     {
         match &self.found {
-            Found::Nothing => !self.intake.is_awaiting(),
-            Found::Told(_) | Found::Fault(_) => false,
+            FoundReply::Nothing => !self.intake.is_awaiting(),
+            FoundReply::Whole(_) | FoundReply::Refused(_) => false,
         }
     }
 
@@ -80,29 +80,29 @@ impl ReplyReader {
         if self.is_lost() {
             return Err(WireError::NoMemory);
         }
-        let before = mem::replace(&mut self.found, Found::Nothing);
+        let before = mem::replace(&mut self.found, FoundReply::Nothing);
         let found = self.intake.feed(piece)?;
         self.found = first_found(before, found);
         Ok(())
     }
 
     /// What the reply tells, once it is whole.
-    pub fn told(&self) -> Option<&Told>
+    pub fn told(&self) -> Option<&ParsedReply>
         ensures { option_copied result ≡ whole_in (tells self.now []) }
     {
         match &self.found {
-            Found::Told(told) => Some(told),
-            Found::Nothing | Found::Fault(_) => None,
+            FoundReply::Whole(told) => Some(told),
+            FoundReply::Nothing | FoundReply::Refused(_) => None,
         }
     }
 
     /// Why the reply can't become whole, however its bytes go on. The first trouble decides.
-    pub fn refusal(&self) -> Option<&Fault>
+    pub fn refusal(&self) -> Option<&ReplyError>
         ensures { option_copied result ≡ refusal_in (tells self.now []) }
     {
         match &self.found {
-            Found::Fault(fault) => Some(fault),
-            Found::Nothing | Found::Told(_) => None,
+            FoundReply::Refused(fault) => Some(fault),
+            FoundReply::Nothing | FoundReply::Whole(_) => None,
         }
     }
 
@@ -115,20 +115,20 @@ impl ReplyReader {
 
     /// The bytes after the reply, once it is whole. They belong to the next one.
     pub fn rest(&self) -> &[u8]
-        ensures { (told : Told) (rest : List ℕ) → tells self.now [] ≡ Some (Ok (told, rest)) → result.now ≡ rest }
+        ensures { (told : ParsedReply) (rest : List ℕ) → tells self.now [] ≡ Some (Ok (told, rest)) → result.now ≡ rest }
     {
         self.intake.pending()
     }
 }
 
 /// What was found first.
-fn first_found(before: Found, now: Found) -> Found
+fn first_found(before: FoundReply, now: FoundReply) -> FoundReply
     ensures { result ≡ first_found before now }
 {
     match before {
-        Found::Nothing => now,
-        Found::Told(told) => Found::Told(told),
-        Found::Fault(fault) => Found::Fault(fault),
+        FoundReply::Nothing => now,
+        FoundReply::Whole(told) => FoundReply::Whole(told),
+        FoundReply::Refused(fault) => FoundReply::Refused(fault),
     }
 }
 

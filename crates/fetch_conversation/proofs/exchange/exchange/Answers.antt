@@ -1,7 +1,7 @@
 use Rattle.std.proofs.Common.{refl}
 use Rattle.std.proofs.lemmas.Result.{err_from_is_err_and}
-use Rattle.fetch_conversation.specs.Conversing.{terms_told}
-use Rattle.fetch_conversation.specs.Exchange.{TermsValue, haves_told}
+use Rattle.fetch_conversation.specs.Conversing.{arguments_told}
+use Rattle.fetch_conversation.specs.Exchange.{FetchArgumentsValue, haves_told}
 use Rattle.fetch_conversation.specs.ListStage.{shown}
 use Rattle.fetch_conversation.specs.declared.listing.Listed.{Listed}
 use Rattle.fetch_conversation.specs.Errors.{fetch_of_stop}
@@ -14,40 +14,40 @@ use Rattle.fetch_conversation.proofs.exchange.exchange.Goals as goal
 
 pub returns-in_err-ask-clause-held : goal.returns-in_err-ask-clause-held
 returns-in_err-ask-clause-held g c =
-    let t : TermsValue = terms_told (shown c.args.listed.now) c.args.terms.now in
+    let t : FetchArgumentsValue = arguments_told (shown c.args.listed.now) c.args.arguments.now in
     let p = err_from_is_err_and c.from_residual.result c.from_residual.ensures.1 in
     rw (p.1, p.2) (exchange_long g.P.Peer.answers c.args.listed.now.session.intake.bound (g.P.Peer.told c.args.peer.now) _ _ t (haves_told c.args.shared.now c.args.round.now.haves) c.args.round.now.done c.in_err-ask.field-0.0 c.in_err-ask.ensures.too_long)
 
 pub drive-requires-clause-drivable : goal.drive-requires-clause-drivable
 drive-requires-clause-drivable g c =
-    let t : TermsValue = terms_told (shown c.args.listed.now) c.args.terms.now in
+    let t : FetchArgumentsValue = arguments_told (shown c.args.listed.now) c.args.arguments.now in
     asked_drivable t (haves_told c.args.shared.now c.args.round.now.haves) c.args.round.now.done c.args.listed.now.session c.ask.new.listed.session c.requires.ready.turn c.requires.ready.unrefused c.in_ok-ask.ensures.asked
 
 pub returns-in_err-drive-clause-held : goal.returns-in_err-drive-clause-held
 returns-in_err-drive-clause-held g c =
-    let t : TermsValue = terms_told (shown c.args.listed.now) c.args.terms.now in
+    let t : FetchArgumentsValue = arguments_told (shown c.args.listed.now) c.args.arguments.now in
     let p = err_from_is_err_and c.from_residual-in_err-drive.result c.from_residual-in_err-drive.ensures.1 in
     rw (p.1, p.2) (exchange_stopped g.P.Peer.answers c.args.listed.now.session.intake.bound (g.P.Peer.told c.args.peer.now) (g.P.Peer.told c.drive.new.peer) _ t (haves_told c.args.shared.now c.args.round.now.haves) c.args.round.now.done c.args.listed.now.session c.ask.new.listed.session c.in_err-drive.field-0.0 c.requires.ready.turn refl c.in_ok-ask.ensures.asked c.in_err-drive.ensures.driven)
 
 pub returns-clause-held : goal.returns-clause-held
 returns-clause-held g c =
-    let t : TermsValue = terms_told (shown c.args.listed.now) c.args.terms.now in
+    let t : FetchArgumentsValue = arguments_told (shown c.args.listed.now) c.args.arguments.now in
     exchange_found g.P.Peer.answers c.args.listed.now.session.intake.bound (g.P.Peer.told c.args.peer.now) (g.P.Peer.told c.drive.new.peer) t (haves_told c.args.shared.now c.args.round.now.haves) c.args.round.now.done c.args.listed.now.session c.ask.new.listed.session c.drive.new.session c.requires.ready.turn refl c.in_ok-ask.ensures.asked c.in_ok-drive.ensures.driven
 
 pub returns-clause-replied : goal.returns-clause-replied
 returns-clause-replied g c =
-    let t : TermsValue = terms_told (shown c.args.listed.now) c.args.terms.now in
+    let t : FetchArgumentsValue = arguments_told (shown c.args.listed.now) c.args.arguments.now in
     finished_reply g.P.Peer.answers (g.P.Peer.told c.args.peer.now) (g.P.Peer.told c.drive.new.peer) t (haves_told c.args.shared.now c.args.round.now.haves) c.args.round.now.done c.args.listed.now.session c.ask.new.listed.session c.drive.new.session c.requires.ready.turn c.in_ok-ask.ensures.asked c.in_ok-drive.ensures.driven
 
 pub returns-clause-ready : goal.returns-clause-ready
 returns-clause-ready g c =
-    let t : TermsValue = terms_told (shown c.args.listed.now) c.args.terms.now in
+    let t : FetchArgumentsValue = arguments_told (shown c.args.listed.now) c.args.arguments.now in
     let after : Listed = record { session = c.drive.new.session; ref_map = c.ask.new.listed.ref_map; handshake = c.ask.new.listed.handshake } in
     ready_again g.P.Peer.answers (g.P.Peer.told c.args.peer.now) (g.P.Peer.told c.drive.new.peer) t (haves_told c.args.shared.now c.args.round.now.haves) c.args.round.now.done c.args.listed.now after c.ask.new.listed.session c.requires.ready c.ask.ensures.kept c.in_ok-ask.ensures.asked c.in_ok-drive.ensures.driven
 
 pub returns-clause-bound : goal.returns-clause-bound
 returns-clause-bound g c =
-    let t : TermsValue = terms_told (shown c.args.listed.now) c.args.terms.now in
+    let t : FetchArgumentsValue = arguments_told (shown c.args.listed.now) c.args.arguments.now in
     bound_again g.P.Peer.answers (g.P.Peer.told c.args.peer.now) (g.P.Peer.told c.drive.new.peer) t (haves_told c.args.shared.now c.args.round.now.haves) c.args.round.now.done c.args.listed.now.session c.drive.new.session c.ask.new.listed.session c.requires.ready.turn c.in_ok-ask.ensures.asked c.in_ok-drive.ensures.driven
 
 pub returns-in_err-ask-clause-interrupt : goal.returns-in_err-ask-clause-interrupt
@@ -62,7 +62,7 @@ returns-in_err-ask-clause-asked g c =
 
 pub returns-in_err-drive-clause-asked : goal.returns-in_err-drive-clause-asked
 returns-in_err-drive-clause-asked g c =
-    let t : TermsValue = terms_told (shown c.args.listed.now) c.args.terms.now in
+    let t : FetchArgumentsValue = arguments_told (shown c.args.listed.now) c.args.arguments.now in
     let haves = haves_told c.args.shared.now c.args.round.now.haves in
     let p = err_from_is_err_and c.from_residual-in_err-drive.result c.from_residual-in_err-drive.ensures.1 in
     rw (p.1, p.2) (breaks_asked g.P.Peer.answers c.args.listed.now.session.intake.bound (g.P.Peer.told c.args.peer.now) (g.P.Peer.told c.drive.new.peer) _ t haves c.args.round.now.done (fetch_of_stop c.in_err-drive.field-0.0)

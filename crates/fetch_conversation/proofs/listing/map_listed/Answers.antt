@@ -12,23 +12,23 @@ use Rattle.fetch_wire.specs.declared.listings.mapping.RefMap.{RefMap}
 use Rattle.fetch_wire.specs.declared.listings.reference.Ref.{Ref}
 use Rattle.fetch_conversation.specs.Errors.{is_free_listing, is_transport, is_interrupted, prepare_of}
 use Rattle.fetch_conversation.specs.Listing.{TellsConflicts, found_in}
-use Rattle.fetch_conversation.specs.ListStage.{InquiryValue, all_specs, extra_specs, map_of}
+use Rattle.fetch_conversation.specs.ListStage.{LsRefsValue, all_specs, extra_specs, map_of}
 use Rattle.fetch_conversation.specs.Mapped.{ref_mappings}
 use Rattle.fetch_conversation.specs.declared.ref_map.Error.{Error as MapError}
 use Rattle.fetch_conversation.specs.declared.ref_map.Error.TheVariants as ref_map
 use Rattle.fetch_conversation.proofs.Listings.{mapped_clear, mapped_refused}
 use Rattle.fetch_conversation.proofs.listing.map_listed.Goals as goal
 
-refused_by : (q : InquiryValue) (s : SessionState) (h : Handshake) (refs : List Ref) (specs : List Spec) (e : MapError) → (s.handshake ≡ Some h) × (s.refs ≡ Some refs) → specs ≡ all_specs q
+refused_by : (q : LsRefsValue) (s : SessionState) (h : Handshake) (refs : List Ref) (specs : List Spec) (e : MapError) → (s.handshake ≡ Some h) × (s.refs ≡ Some refs) → specs ≡ all_specs q
     → TellsConflicts (conflicts_of (mappings_of specs (map name_in refs) h.object_hash)) e → is_free_listing (prepare_of e) ≡ false → found_in q s.handshake s.refs ≡ Err (prepare_of e)
 refused_by q s h refs specs e told all refused isnt =
     rw (told.0, told.1) (mapped_refused q h refs e (subst (λ (l : List Spec). TellsConflicts (conflicts_of (mappings_of l (map name_in refs) h.object_hash)) e) all refused) isnt)
 
-map_is : (q : InquiryValue) (h : Handshake) (refs : List Ref) (specs own extra : List Spec) (mappings : List Mapping) → specs ≡ all_specs q → mappings ≡ ref_mappings (length q.specs) specs h.object_hash refs → own ≡ q.specs → extra ≡ extra_specs q
+map_is : (q : LsRefsValue) (h : Handshake) (refs : List Ref) (specs own extra : List Spec) (mappings : List Mapping) → specs ≡ all_specs q → mappings ≡ ref_mappings (length q.specs) specs h.object_hash refs → own ≡ q.specs → extra ≡ extra_specs q
     → map_of q h refs ≡ record { mappings = mappings; refspecs = own; extra_refspecs = extra; remote_refs = refs; object_hash = h.object_hash }
 map_is q h refs specs own extra mappings all mapped o e = rw (mapped, all, o, e) refl
 
-found_by : (q : InquiryValue) (s : SessionState) (h : Handshake) (refs : List Ref) (specs own extra : List Spec) (mappings : List Mapping) → (s.handshake ≡ Some h) × (s.refs ≡ Some refs) → specs ≡ all_specs q
+found_by : (q : LsRefsValue) (s : SessionState) (h : Handshake) (refs : List Ref) (specs own extra : List Spec) (mappings : List Mapping) → (s.handshake ≡ Some h) × (s.refs ≡ Some refs) → specs ≡ all_specs q
     → conflicts_of (mappings_of specs (map name_in refs) h.object_hash) ≡ [] → mappings ≡ ref_mappings (length q.specs) specs h.object_hash refs → own ≡ q.specs → extra ≡ extra_specs q
     → found_in q s.handshake s.refs ≡ Ok (record { ref_map = record { mappings = mappings; refspecs = own; extra_refspecs = extra; remote_refs = refs; object_hash = h.object_hash }; handshake = h })
 found_by q s h refs specs own extra mappings told all clear mapped o e =
@@ -63,7 +63,7 @@ returns-in_err-mappings-clause-uninterrupted c =
 -- src/listing.rt:110:20
 pub returns-in_err-mappings-clause-answer : goal.returns-in_err-mappings-clause-answer
 returns-in_err-mappings-clause-answer c =
-    let q : InquiryValue = record { address = c.args.inquiry.now.address.now; agent = c.args.inquiry.now.agent.now; specs = c.args.inquiry.now.specs.now; tags = c.args.inquiry.now.tags; options = c.args.options.now } in
+    let q : LsRefsValue = record { address = c.args.query.now.address.now; agent = c.args.query.now.agent.now; specs = c.args.query.now.specs.now; tags = c.args.query.now.tags; options = c.args.options.now } in
     let p = err_from_is_err_and c.from_residual-in_err-mappings.result c.from_residual-in_err-mappings.ensures.1 in
     let all : c.args.specs.now ≡ all_specs q = c.requires.specs ∙ ap (λ (l : List Spec). q.specs ++ l) c.requires.extra in
     let r = rw c.as_slice.ensures at c.in_err-mappings.ensures.refused in
@@ -72,7 +72,7 @@ returns-in_err-mappings-clause-answer c =
 -- src/listing.rt:92:1
 pub returns-clause-answer : goal.returns-clause-answer
 returns-clause-answer c =
-    let q : InquiryValue = record { address = c.args.inquiry.now.address.now; agent = c.args.inquiry.now.agent.now; specs = c.args.inquiry.now.specs.now; tags = c.args.inquiry.now.tags; options = c.args.options.now } in
+    let q : LsRefsValue = record { address = c.args.query.now.address.now; agent = c.args.query.now.agent.now; specs = c.args.query.now.specs.now; tags = c.args.query.now.tags; options = c.args.options.now } in
     let all : c.args.specs.now ≡ all_specs q = c.requires.specs ∙ ap (λ (l : List Spec). q.specs ++ l) c.requires.extra in
     let m = rw c.as_slice.ensures at c.in_ok-mappings.ensures.mapped in
     let n = rw c.as_slice.ensures at c.in_ok-mappings.ensures.clear in (

@@ -10,7 +10,7 @@ returns g c =
     let race : Race g.row.P.Denot = record { answers = g.P.Peer.answers; told = g.P.Peer.told; faults = g.P.Peer.faults; trees = []; opening = c.args.shared.now.opening } in
     let done = c.fetch_by_pass-pass.ensures in
     let job = c.arrive.ensures.job in
-    let after : IsRun race c.in-Some.pass (owning c.args.racer.now c.args.peer.now) (owning c.arrive.new.racer c.fetch_by_pass-pass.new.peer) = record {
+    let after : IsRun race c.in-Some.pass (owning c.args.job_run.now c.args.peer.now) (owning c.arrive.new.job_run c.fetch_by_pass-pass.new.peer) = record {
       after = c.fetch_by_pass-pass.result.0;
       receipt = c.fetch_by_pass-pass.result.1;
       answer = c.fetch_by_pass-pass.result.2;
@@ -20,4 +20,4 @@ returns g c =
       options = ap (λ (j : Job (Unit {0})). j.options) job;
       done = done;
     } in
-    record { ran = run_by race (owning c.args.racer.now c.args.peer.now) (owning c.arrive.new.racer c.fetch_by_pass-pass.new.peer) c.in-Some.pass (sym c.in-Some.ensures.value) after }
+    record { ran = run_by race (owning c.args.job_run.now c.args.peer.now) (owning c.arrive.new.job_run c.fetch_by_pass-pass.new.peer) c.in-Some.pass (sym c.in-Some.ensures.value) after }

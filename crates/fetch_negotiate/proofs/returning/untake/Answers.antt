@@ -8,21 +8,21 @@ taken-init c = record { tips = refl; candidates = refl; told = c.requires; front
 
 pub taken-smaller : goal.taken-smaller
 taken-smaller c =
-    let less : c.args.count < length c.taken.line.taken.items = omega (arith, c.len.ensures, c.taken-test.true) in
-    shorter c.taken.line.taken.items c.untake_last.new.line.taken.items c.args.count less c.untake_last.ensures.taken
+    let less : c.args.count < length c.taken.frontier.taken.items = omega (arith, c.len.ensures, c.taken-test.true) in
+    shorter c.taken.frontier.taken.items c.untake_last.new.frontier.taken.items c.args.count less c.untake_last.ensures.taken
 
 pub taken-preserved : goal.taken-preserved
 taken-preserved c =
     let i = c.taken.invariant in
     let e = c.untake_last.ensures in
-    let less : c.args.count < length c.taken.line.taken.items = omega (arith, c.len.ensures, c.taken-test.true) in
+    let less : c.args.count < length c.taken.frontier.taken.items = omega (arith, c.len.ensures, c.taken-test.true) in
     record {
       tips = e.tips ∙ i.tips;
       candidates = e.candidates ∙ i.candidates;
       told = e.told;
-      front = front_shorter c.args.count c.taken.line.taken.items c.untake_last.new.line.taken.items c.args.line.now.taken.items less e.taken i.front;
+      front = front_shorter c.args.count c.taken.frontier.taken.items c.untake_last.new.frontier.taken.items c.args.frontier.now.taken.items less e.taken i.front;
     }
 
 pub returns-clause-taken : goal.returns-clause-taken
 returns-clause-taken c =
-    sym (take_all c.args.count c.taken.line.taken.items (omega (arith, c.len.ensures, c.taken-test.false))) ∙ c.taken.invariant.front
+    sym (take_all c.args.count c.taken.frontier.taken.items (omega (arith, c.len.ensures, c.taken-test.false))) ∙ c.taken.invariant.front

@@ -71,7 +71,7 @@ returns-then-branch-clause-ok g c =
 
 pub returns-then-branch-clause-more : goal.returns-then-branch-clause-more
 returns-then-branch-clause-more g c =
-    more_taken c.args.walk.now.line.taken.items (so_far_in c.loop-id.walk) (so_far_in c.come_next.new.walk) (so_far_in c.pass.new.walk) c.in-Some.id c.loop-id.invariant.more c.in_ok-id.ensures.so_far c.in_ok-pass.ensures.ok
+    more_taken c.args.walk.now.frontier.taken.items (so_far_in c.loop-id.walk) (so_far_in c.come_next.new.walk) (so_far_in c.pass.new.walk) c.in-Some.id c.loop-id.invariant.more c.in_ok-id.ensures.so_far c.in_ok-pass.ensures.ok
 
 pub loop-id-smaller : goal.loop-id-smaller
 loop-id-smaller g c =
@@ -97,7 +97,7 @@ loop-id-preserved g c =
       told = p.told;
       goes = goes_one c.args.walk.now c.come_next.new.walk c.pass.new.walk id (stays_on c.args.walk.now c.loop-id.walk c.come_next.new.walk c.loop-id.invariant.goes e.grows e.so_far) c.pass.ensures.grows p.ok;
       later = ap (λ (x : Negotiation). next_offered h x) p.ok ∙ sym (passed_over h m id next passed) ∙ ap (λ (x : Negotiation). next_offered h x) e.so_far ∙ c.loop-id.invariant.later;
-      more = more_taken c.args.walk.now.line.taken.items n m (so_far_in c.pass.new.walk) id c.loop-id.invariant.more e.so_far p.ok;
+      more = more_taken c.args.walk.now.frontier.taken.items n m (so_far_in c.pass.new.walk) id c.loop-id.invariant.more e.so_far p.ok;
     }
 
 pub returns-clause-skipping : goal.returns-clause-skipping

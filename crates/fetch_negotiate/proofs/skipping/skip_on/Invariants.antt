@@ -14,7 +14,7 @@ invariant-loop-id g l =
       told : IsTold (read_in l.walk.table) (g.O.Objects.graph l.objects);
       later : next_offered (g.O.Objects.graph l.objects) (so_far_in l.walk) ≡ next_offered (g.O.Objects.graph l.objects) (so_far_in l.fn.walk);
       goes : GoesOn l.fn.walk l.walk;
-      more : Covers l.fn.walk.line.taken.items l.walk.line.taken.items;
+      more : Covers l.fn.walk.frontier.taken.items l.walk.frontier.taken.items;
     }
 
 abbrev pub decreases-loop-id : goal.decreases-loop-id

@@ -7,7 +7,7 @@ use Rattle.fetch_negotiate.proofs.GivingBack.{IsBack, so_far_back, skipping_back
 use Rattle.fetch_negotiate.proofs.skipping.skip_or_stay.Goals as goal
 
 pub give_back-requires : goal.give_back-requires
-give_back-requires g c = c.skip_on.ensures.skipping.walk.line.0
+give_back-requires g c = c.skip_on.ensures.skipping.walk.frontier.0
 
 pub returns-in-Err-clause-skipping : goal.returns-in-Err-clause-skipping
 returns-in-Err-clause-skipping g c =
@@ -20,10 +20,10 @@ returns-in-Err-clause-skipping g c =
       table = b.table;
       common = b.common;
       tips = b.tips;
-      candidates = b.candidates ∙ ap (λ n. take n c.skip_on.new.walk.line.candidates.items) m.candidates;
+      candidates = b.candidates ∙ ap (λ n. take n c.skip_on.new.walk.frontier.candidates.items) m.candidates;
       entered = b.entered;
       queue = b.queue;
-      taken = b.taken ∙ ap (λ n. take n c.skip_on.new.walk.line.taken.items) m.taken;
+      taken = b.taken ∙ ap (λ n. take n c.skip_on.new.walk.frontier.taken.items) m.taken;
       told = b.told;
       handed = b.handed ∙ ap (λ n. take n c.skip_on.new.skips.handed.items) m.handed;
       paired = b.paired;
@@ -41,10 +41,10 @@ returns-in-Err-clause-err g c =
       table = b.table;
       common = b.common;
       tips = b.tips;
-      candidates = b.candidates ∙ ap (λ n. take n c.skip_on.new.walk.line.candidates.items) m.candidates;
+      candidates = b.candidates ∙ ap (λ n. take n c.skip_on.new.walk.frontier.candidates.items) m.candidates;
       entered = b.entered;
       queue = b.queue;
-      taken = b.taken ∙ ap (λ n. take n c.skip_on.new.walk.line.taken.items) m.taken;
+      taken = b.taken ∙ ap (λ n. take n c.skip_on.new.walk.frontier.taken.items) m.taken;
       told = b.told;
       handed = b.handed ∙ ap (λ n. take n c.skip_on.new.skips.handed.items) m.handed;
       paired = b.paired;
@@ -57,4 +57,4 @@ returns-in-Err-clause-told g c = subst (λ (t : Table). IsTold (read_in t) (g.O.
 pub returns-in-Err-clause-more : goal.returns-in-Err-clause-more
 returns-in-Err-clause-more g c =
     let same = ap (λ (n : Negotiation). n.taken) (returns-in-Err-clause-err g c) in
-    subst (λ (l : List ObjectId). Covers c.args.walk.now.line.taken.items l) (sym same) (record { stays = λ q h. h })
+    subst (λ (l : List ObjectId). Covers c.args.walk.now.frontier.taken.items l) (sym same) (record { stays = λ q h. h })

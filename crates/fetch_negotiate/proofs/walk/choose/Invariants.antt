@@ -6,4 +6,4 @@ abbrev pub invariant-loop-rank : goal.invariant-loop-rank
 invariant-loop-rank l = IsChoosing l.fn.walk l.walk
 
 abbrev pub decreases-loop-rank : goal.decreases-loop-rank
-decreases-loop-rank l = btree_set_len l.walk.line.queue
+decreases-loop-rank l = btree_set_len l.walk.frontier.queue

@@ -10,7 +10,7 @@ returns g c =
     let race : Race g.row.P.Denot = record { answers = g.P.Peer.answers; told = g.P.Peer.told; faults = g.P.Peer.faults; trees = c.args.worktrees.now; opening = c.args.shared.now.opening } in
     let done = c.fetch_by_pass-pass.ensures in
     let job = c.arrive.ensures.job in
-    let after : IsRun race c.in-Some.pass c.args.racer.now c.arrive.new.racer = record {
+    let after : IsRun race c.in-Some.pass c.args.job_run.now c.arrive.new.job_run = record {
       after = c.fetch_by_pass-pass.result.0;
       receipt = c.fetch_by_pass-pass.result.1;
       answer = c.fetch_by_pass-pass.result.2;
@@ -21,6 +21,6 @@ returns g c =
       done = rw job done;
     } in
     record {
-      ran = run_by race c.args.racer.now c.arrive.new.racer c.in-Some.pass (sym c.in-Some.ensures.value) after;
-      left = λ none. absurd (not_both c.args.racer.now.pass c.in-Some.pass (sym c.in-Some.ensures.value) none);
+      ran = run_by race c.args.job_run.now c.arrive.new.job_run c.in-Some.pass (sym c.in-Some.ensures.value) after;
+      left = λ none. absurd (not_both c.args.job_run.now.pass c.in-Some.pass (sym c.in-Some.ensures.value) none);
     }

@@ -1,5 +1,5 @@
-use Rattle.fetch_wire.specs.declared.replies.awaited.Told.TheVariants as told
-use Rattle.fetch_wire.specs.declared.replies.reading.Reading.TheVariants as reading
+use Rattle.fetch_wire.specs.declared.replies.reply.ParsedReply.TheVariants as told
+use Rattle.fetch_wire.specs.declared.replies.parser.ReplyParser.TheVariants as reading
 use Rattle.fetch_wire.specs.Awaited.{step_of}
 use Rattle.fetch_wire.specs.LinesTold.{lines_tell}
 use Rattle.fetch_wire.proofs.AdvertisementInWords.{advertisement_read}

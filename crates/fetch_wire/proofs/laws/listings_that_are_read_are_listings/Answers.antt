@@ -1,8 +1,8 @@
 use Rattle.std.proofs.Common.{[]}
 use Rattle.fetch_wire.specs.Awaited.{step_of}
-use Rattle.fetch_wire.specs.declared.replies.awaited.Await.TheVariants as awaits
-use Rattle.fetch_wire.specs.declared.replies.awaited.Told.TheVariants as tolds
-use Rattle.fetch_wire.specs.declared.replies.reading.Reading.TheVariants as reading
+use Rattle.fetch_wire.specs.declared.replies.reply.ReplyKind.TheVariants as awaits
+use Rattle.fetch_wire.specs.declared.replies.reply.ParsedReply.TheVariants as tolds
+use Rattle.fetch_wire.specs.declared.replies.parser.ReplyParser.TheVariants as reading
 use Rattle.fetch_wire.proofs.ReadBack.{told_were}
 use Rattle.fetch_wire.proofs.NamedOnce.{names_once}
 use Rattle.fetch_wire.proofs.SpelledListing.{listing_told}

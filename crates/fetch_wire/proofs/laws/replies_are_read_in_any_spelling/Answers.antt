@@ -1,5 +1,5 @@
-use Rattle.fetch_wire.specs.declared.replies.awaited.Await.TheVariants.{Reply}
-use Rattle.fetch_wire.specs.declared.replies.awaited.Told.TheVariants as told
+use Rattle.fetch_wire.specs.declared.replies.reply.ReplyKind.TheVariants.{Reply}
+use Rattle.fetch_wire.specs.declared.replies.reply.ParsedReply.TheVariants as told
 use Rattle.fetch_wire.specs.Awaited.{step_of, start_of}
 use Rattle.fetch_wire.specs.LinesTold.{lines_tell}
 use Rattle.fetch_wire.proofs.InWords.{reply_read}

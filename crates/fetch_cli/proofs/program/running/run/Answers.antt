@@ -1,7 +1,7 @@
 use Rattle.std.proofs.Common.{Err, refl, ap, ◌∙◌, inl, inr}
 use Rattle.fetch_store.specs.Faults.{Counts-none}
 use Rattle.fetch_cli.proofs.Answering.{known, one, valid_answered, benched, bench_answered, findings_told, findings_answered}
-use Rattle.fetch_cli.proofs.Ended.{end_failed, end_served, writes_whole, writes_unread, writes_front, writes_memory, bench_failed, check_failed}
+use Rattle.fetch_cli.proofs.Ended.{end_served, writes_whole}
 use Rattle.fetch_cli.proofs.program.running.run.Goals as goal
 
 -- ---- the answer is written

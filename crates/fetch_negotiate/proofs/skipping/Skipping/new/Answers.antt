@@ -12,5 +12,5 @@ invariant_of-result c =
         paired = c.in_ok-new-2.ensures.paired;
         handed = λ g told. c.in_ok-new-2.ensures.handed ∙ pairs_started g (so_far_in w) c.args.tips.now c.args.border.now c.in_ok-new.ensures.so_far;
       };
-      taken = covers_nothing c.new-3.result.items w.line.taken.items c.new-3.ensures.items;
+      taken = covers_nothing c.new-3.result.items w.frontier.taken.items c.new-3.ensures.items;
     }

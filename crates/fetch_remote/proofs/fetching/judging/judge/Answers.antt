@@ -4,7 +4,7 @@ use Rattle.fetch_update.specs.Policy.{Policy, policy_over}
 use Rattle.fetch_update.specs.declared.worktrees.Worktree.{Worktree}
 use Rattle.fetch_remote.proofs.Blamed.{trees_as}
 use Rattle.fetch_remote.proofs.Judged.{told_free, told_refusal, policy_trees, judged_yes, at_slices}
-use Rattle.fetch_remote.proofs.Settled.{list_of, list_told}
+use Rattle.fetch_remote.proofs.Applied.{list_of, list_told}
 use Rattle.fetch_remote.proofs.fetching.judging.judge.Goals as goal
 
 pub returns-in_err-trees-clause-judged : goal.returns-in_err-trees-clause-judged

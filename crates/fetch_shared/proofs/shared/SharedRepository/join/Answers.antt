@@ -1,6 +1,6 @@
 use Rattle.std.proofs.Common.{rules, ◌⊎◌, ◌↔◌, ap, subst}
 use Rattle.fetch_shared.specs.Numbers.{Holds}
-use Rattle.fetch_shared.specs.Turns.{own}
+use Rattle.fetch_shared.specs.LockRule.{own}
 use Rattle.fetch_shared.specs.Passes.{Holder}
 use Rattle.fetch_shared.proofs.SeatSteps.{joins, settles}
 use Rattle.fetch_shared.proofs.Back.{joined_held}

@@ -5,7 +5,7 @@ use Rattle.fetch_store.specs.Stores.{AreOf}
 use Rattle.fetch_remote.specs.RepositoryValues.{RepositoryValue}
 use Rattle.fetch_shared.specs.Received.{pack_in}
 use Rattle.fetch_shared.specs.Shared.{SharedValue, done, snapshot_of}
-use Rattle.fetch_shared.specs.Turns.{turning, resting}
+use Rattle.fetch_shared.specs.LockRule.{turning, resting}
 use Rattle.fetch_shared.proofs.Effects.{kept_hash}
 use Rattle.fetch_shared.proofs.Turned.{entered, refused}
 use Rattle.fetch_shared.proofs.shared.SharedRepository.take.Goals as goal

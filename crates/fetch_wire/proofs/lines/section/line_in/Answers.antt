@@ -3,7 +3,7 @@ use Rattle.std.specs.Prelude.{if◌then◌else◌}
 use Rattle.std.specs.List.{list_all}
 use Rattle.hex.specs.Hex.{is_hex_digit}
 use Rattle.fetch_wire.specs.Lines.{line_at}
-use Rattle.fetch_wire.specs.declared.lines.section.Trouble.TheVariants.{Short, Broken}
+use Rattle.fetch_wire.specs.declared.lines.section.LineError.TheVariants.{Short, Broken}
 use Rattle.fetch_wire.proofs.lines.section.line_in.Goals as goal
 
 -- fewer than four bytes are no line

@@ -1,9 +1,0 @@
-use Rattle.fetch_negotiate.specs.Reading.{read_in}
-use Rattle.fetch_negotiate.proofs.Queueing.{entering_further}
-use Rattle.fetch_negotiate.proofs.line.enter.Goals as goal
-
-pub candidates-preserved : goal.candidates-preserved
-candidates-preserved g c =
-    let e = c.in_ok-enter_next.ensures in
-    entering_further (read_in c.args.table.now) (read_in c.candidates.table) (read_in c.enter_next.new.table) c.args.border.now c.args.common.now.commits.items c.args.line.now c.candidates.line c.enter_next.new.line (g.O.Objects.graph c.args.objects.now)
-    c.candidates.invariant e.line e.told e.grows e.tips e.candidates e.taken

@@ -1,0 +1,75 @@
+//! How the turn is taken and given up.
+
+ghost use Rattle.std.specs.Prelude.{◌≡◌, [], ◌∷◌, ◌++◌, None};
+ghost use Rattle.fetch_shared.specs.declared.entry.Entry.{Entry};
+ghost use Rattle.fetch_shared.specs.declared.view.Stage.TheVariants.{Resting, Turn};
+ghost use Rattle.fetch_shared.specs.Journals.{pass_of};
+ghost use Rattle.fetch_shared.specs.Shared.{IsKept};
+ghost use Rattle.fetch_shared.specs.LockRule.{turning, resting, Finds};
+
+use crate::shared::SharedRepository;
+use crate::state::SharedState;
+use crate::lock_rule::{Load, Place, Record, Release, Try};
+use std::sync::Wait;
+use std::thread::yield_now;
+
+/// 1 while a pass has the turn.
+pub(crate) const TURN: usize = 0;
+
+/// How many entries the journal has.
+const ENTRIES: usize = 1;
+
+impl SharedRepository {
+    /// Waits for the turn, and takes the state out.
+    pub(crate) fn take_turn<R: Wait>(&self, rt: &R, seat: &mut Place) -> SharedState
+        requires table { seat.old.table_id ≡ self.now.table }
+        requires rests { (seat.old.me.0.stage ≡ Resting) × (seat.old.me.1 ≡ []) }
+        ensures table { seat.new.table_id ≡ seat.old.table_id }
+        ensures turn { seat.new.me ≡ (turning seat.old.me.0 result.journal, (0, None) ∷ []) }
+        ensures opening { result.opening ≡ seat.old.me.0.opening }
+        ensures finds { Finds seat.old.me.0 result.journal }
+        ensures kept { IsKept result }
+    {
+        let shared = &self.table.shared;
+        for _ in rt.forever() {
+            if shared.compare_exchange::<Try>(seat, TURN, 0, 1) == 0 {
+                let state = shared.exchange(seat, 0, None).unwrap();
+                shared.load::<Load>(seat, ENTRIES);
+                let _journal = state.journal();
+                return state;
+            }
+            yield_now();
+        }
+        unreachable!()
+    }
+
+    /// Gives the turn up with the state as it was found.
+    pub(crate) fn give_back(&self, seat: &mut Place, state: SharedState)
+        requires table { seat.old.table_id ≡ self.now.table }
+        requires opening { state.opening ≡ seat.old.me.0.opening }
+        requires turn { (seat.old.me.0.stage ≡ Turn state.journal) × (seat.old.me.1 ≡ (0, None) ∷ []) }
+        ensures table { seat.new.table_id ≡ seat.old.table_id }
+        ensures turn { seat.new.me ≡ (resting seat.old.me.0, []) }
+    {
+        let shared = &self.table.shared;
+        shared.exchange(seat, 0, Some(state));
+        shared.swap::<Release>(seat, TURN, 0);
+    }
+
+    /// Gives the turn up with a state that has one more entry of this number.
+    pub(crate) fn record(&self, seat: &mut Place, state: SharedState)
+        requires table { seat.old.table_id ≡ self.now.table }
+        requires opening { state.opening ≡ seat.old.me.0.opening }
+        requires turn { (seat.old.me.0.stage ≡ Turn seat.old.me.0.front) × (seat.old.me.1 ≡ (0, None) ∷ []) }
+        requires grown { (e : Entry) × (pass_of e ≡ seat.old.me.0.number) × (state.journal ≡ seat.old.me.0.front ++ e ∷ []) }
+        ensures table { seat.new.table_id ≡ seat.old.table_id }
+        ensures turn { seat.new.me ≡ (resting (turning seat.old.me.0 state.journal), []) }
+        ensures kept { IsKept state }
+    {
+        let shared = &self.table.shared;
+        let _room = state.journal().len();
+        shared.exchange(seat, 0, Some(state));
+        shared.fetch_add::<Record>(seat, ENTRIES, 1);
+        shared.swap::<Release>(seat, TURN, 0);
+    }
+}
