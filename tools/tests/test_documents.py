@@ -130,14 +130,17 @@ class Sizes(unittest.TestCase):
                 ("README.md", "x\n" * 111, ["README.md: 111 lines, where 110 may be"]),
                 ("README.md", f"| {promise} |\n", []),
                 ("crates/a/README.md", f"| a | {promise} |\n", ["crates/a/README.md:1: 26 words in a promise, where 25 may be"]),
+                ("crates/a/README.md", f"- `A::b`: {promise} (`c`, `d`)\n  - {promise}\n- {promise}\n", [
+                    f"crates/a/README.md:{line}: 26 words in a promise, where 25 may be" for line in (1, 2)]),
+                ("crates/a/README.md", f"- `A::b`, `c`: {promise[2:]} (`c`)\n", []),
                 ("crates/a_rows/README.md", f"| a | {promise} |\n", []),
                 ("crates/a_rows/README.md", words, ["crates/a_rows/README.md: 901 words, where 900 may be"])):
             self.assertEqual(list(DOC_SIZES.too_long(path, text)), found)
 
-    def test_what_is_quoted_isnt_counted(self):
-        quoted = "<!-- quoted: crates/a/stdout one -->\n```text\n" + "x\n" * 1_000 + "```"
-        self.assertEqual(DOC_SIZES.count(f"a\n\n{quoted}\n\nb\n"), 2)
-        self.assertEqual(list(DOC_SIZES.too_long("README.md", f"a\n\n{quoted}\n\nb\n")), [])
+    def test_what_is_quoted_is_counted(self):
+        quoted = "<!-- quoted: crates/a/stdout one -->\n```text\n" + "x\n" * 110 + "```"
+        self.assertEqual(DOC_SIZES.count(f"| a | b |\n\n{quoted}\n"), 122)
+        self.assertEqual(list(DOC_SIZES.too_long("README.md", quoted)), ["README.md: 112 lines, where 110 may be"])
 
 
 if __name__ == "__main__":
