@@ -18,7 +18,7 @@ use Rattle.fetch_negotiate.specs.Ancestors.{links_of, parents_of, leads, is_ance
 use Rattle.fetch_negotiate.specs.Commits.{has, commit_of, commit_in}
 use Rattle.fetch_negotiate.specs.Haves.{is_common}
 use Rattle.fetch_negotiate.specs.Reading.{Read, IsTold, commit_at, links_at}
-use Rattle.fetch_negotiate.specs.Sharing.{IsSettled, IsDone}
+use Rattle.fetch_negotiate.specs.Sharing.{IsFinished, IsDone}
 use Rattle.fetch_negotiate.specs.Exact.{IsExact}
 use Rattle.fetch_negotiate.proofs.Commons.{found_at}
 use Rattle.fetch_negotiate.proofs.Growing.{read_of, commit_from_link}
@@ -89,28 +89,28 @@ IsMarkedIn g commits x = is_some (commit_of g x) ≡ true → has commits x ≡ 
 done_told : (k : Read) (g : Graph) (commits : List ObjectId) (y : ObjectId) → IsTold k g → IsDone k commits y → IsMarkedIn g commits y
 done_told k g commits y told done stored = done.marked (ap (λ (c : Option Commit). is_some c) (sym (told_at k g told y done.read)) ∙ stored)
 
-marks_step : (k : Read) (g : Graph) (border : set.FinSet id_cmp) (acknowledged commits : List ObjectId) → IsTold k g → IsSettled k border acknowledged commits
+marks_step : (k : Read) (g : Graph) (border : set.FinSet id_cmp) (acknowledged commits : List ObjectId) → IsTold k g → IsFinished k border acknowledged commits
     → (x y : ObjectId) → IsMarkedIn g commits x → has (parents_of g border x) y ≡ true → IsMarkedIn g commits y
-marks_step k g border acknowledged commits told settled x y marked link =
+marks_step k g border acknowledged commits told finished x y marked link =
     let parts = parts_of g border x y link in
     let h : has commits x ≡ true = marked (stored_from_link g border x y parts.0) in
-    let at = ap (λ (l : List ObjectId). has l y) (links_told k g told border x (read_of k x (settled.stored x h))) in
-    done_told k g commits y told (settled.parents x h y (sym at ∙ parts.0))
+    let at = ap (λ (l : List ObjectId). has l y) (links_told k g told border x (read_of k x (finished.stored x h))) in
+    done_told k g commits y told (finished.parents x h y (sym at ∙ parts.0))
 
-common_each : (k : Read) (g : Graph) (border : set.FinSet id_cmp) (acknowledged : List ObjectId) (commits rest : List ObjectId) → IsTold k g → IsSettled k border acknowledged commits → (id : ObjectId)
+common_each : (k : Read) (g : Graph) (border : set.FinSet id_cmp) (acknowledged : List ObjectId) (commits rest : List ObjectId) → IsTold k g → IsFinished k border acknowledged commits → (id : ObjectId)
     → ((q : ObjectId) → has rest q ≡ true → has acknowledged q ≡ true) → list_any (λ known. eq_by_cmp id_cmp id known || is_ancestor g border known id) rest ≡ true → IsMarkedIn g commits id
-common_each k g border acknowledged commits [] told settled id inside h = absurd (true≢false (sym h))
-common_each k g border acknowledged commits (a ∷ rest) told settled id inside h =
-    let start : IsMarkedIn g commits a = done_told k g commits a told (settled.told a (inside a (ap (λ b. b || has rest a) (ties a a refl)))) in
+common_each k g border acknowledged commits [] told finished id inside h = absurd (true≢false (sym h))
+common_each k g border acknowledged commits (a ∷ rest) told finished id inside h =
+    let start : IsMarkedIn g commits a = done_told k g commits a told (finished.told a (inside a (ap (λ b. b || has rest a) (ties a a refl)))) in
     of_either (IsMarkedIn g commits id) (eq_by_cmp id_cmp id a || is_ancestor g border a id) (list_any (λ known. eq_by_cmp id_cmp id known || is_ancestor g border known id) rest)
     (of_either (IsMarkedIn g commits id) (eq_by_cmp id_cmp id a) (is_ancestor g border a id)
     (λ e. subst (IsMarkedIn g commits) (sym (id_cmp_exact id a ((Equal-is (id_cmp id a)).0 e))) start)
-    (λ e. ancestors_within g border (IsMarkedIn g commits) (marks_step k g border acknowledged commits told settled) a id start e))
-    (common_each k g border acknowledged commits rest told settled id (λ q e. inside q (behind (eq_by_cmp id_cmp q a) (has rest q) e))) h
+    (λ e. ancestors_within g border (IsMarkedIn g commits) (marks_step k g border acknowledged commits told finished) a id start e))
+    (common_each k g border acknowledged commits rest told finished id (λ q e. inside q (behind (eq_by_cmp id_cmp q a) (has rest q) e))) h
 
 -- an acknowledged commit, or an ancestor of one, is marked
-pub common_is_marked : (k : Read) (g : Graph) (border : set.FinSet id_cmp) (acknowledged : List ObjectId) (commits : List ObjectId) → IsTold k g → IsSettled k border acknowledged commits → (id : ObjectId) → is_some (commit_of g id) ≡ true → is_common g border acknowledged id ≡ true → has commits id ≡ true
-common_is_marked k g border acknowledged commits told settled id stored h = common_each k g border acknowledged commits acknowledged told settled id (λ q e. e) h stored
+pub common_is_marked : (k : Read) (g : Graph) (border : set.FinSet id_cmp) (acknowledged : List ObjectId) (commits : List ObjectId) → IsTold k g → IsFinished k border acknowledged commits → (id : ObjectId) → is_some (commit_of g id) ≡ true → is_common g border acknowledged id ≡ true → has commits id ≡ true
+common_is_marked k g border acknowledged commits told finished id stored h = common_each k g border acknowledged commits acknowledged told finished id (λ q e. e) h stored
 
 -- ---- steps put together
 module _ (g : Graph) (border : set.FinSet id_cmp) where
@@ -165,8 +165,8 @@ any_mono p q f [] h = h
 any_mono p q f (x ∷ xs) h = of_either _ (p x) (list_any p xs) (λ e. front (q x) (list_any q xs) (f x e)) (λ e. behind (q x) (list_any q xs) (any_mono p q f xs e)) h
 
 -- what is marked is an acknowledged commit, or an ancestor of one
-pub marked_is_common : (k : Read) (g : Graph) (border : set.FinSet id_cmp) (acknowledged : List ObjectId) (commits : List ObjectId) → IsTold k g → IsSettled k border acknowledged commits → (id : ObjectId) → has commits id ≡ true → is_common g border acknowledged id ≡ true
-marked_is_common k g border acknowledged commits told settled id h = (settled.reached id h).holds (is_common g border acknowledged) start step
+pub marked_is_common : (k : Read) (g : Graph) (border : set.FinSet id_cmp) (acknowledged : List ObjectId) (commits : List ObjectId) → IsTold k g → IsFinished k border acknowledged commits → (id : ObjectId) → has commits id ≡ true → is_common g border acknowledged id ≡ true
+marked_is_common k g border acknowledged commits told finished id h = (finished.reached id h).holds (is_common g border acknowledged) start step
   where
     start : (a : ObjectId) → has acknowledged a ≡ true → is_common g border acknowledged a ≡ true
     start a e = any_mono (eq_by_cmp id_cmp a) (λ known. eq_by_cmp id_cmp a known || is_ancestor g border known a) (λ b t. front (eq_by_cmp id_cmp a b) (is_ancestor g border b a) t) acknowledged e
@@ -186,8 +186,8 @@ equal false true f g = g refl
 equal false false f g = refl
 
 -- The marks are the common commits.
-pub marks_exact : (k : Read) (g : Graph) (border : set.FinSet id_cmp) (acknowledged commits : List ObjectId) → IsTold k g → IsSettled k border acknowledged commits → IsExact g border acknowledged commits
-marks_exact k g border acknowledged commits told settled =
+pub marks_exact : (k : Read) (g : Graph) (border : set.FinSet id_cmp) (acknowledged commits : List ObjectId) → IsTold k g → IsFinished k border acknowledged commits → IsExact g border acknowledged commits
+marks_exact k g border acknowledged commits told finished =
     record {
-      each = λ id stored. equal (has commits id) (is_common g border acknowledged id) (marked_is_common k g border acknowledged commits told settled id) (common_is_marked k g border acknowledged commits told settled id stored);
+      each = λ id stored. equal (has commits id) (is_common g border acknowledged id) (marked_is_common k g border acknowledged commits told finished id) (common_is_marked k g border acknowledged commits told finished id stored);
     }

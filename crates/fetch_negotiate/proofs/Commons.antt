@@ -16,7 +16,7 @@ use Rattle.fetch_negotiate.specs.declared.common.Common.{Common}
 use Rattle.fetch_negotiate.specs.declared.commits.Commit.{Commit}
 use Rattle.fetch_negotiate.specs.Reading.{Read, Grows, IsTold, commit_at, links_at}
 use Rattle.std.specs.Option.{option_and_then}
-use Rattle.fetch_negotiate.specs.Sharing.{IsMarked, IsDone, IsReached, IsCommon, IsSettled, AreDone, IsWithin, AreWithin, IsCommonIn, Extends, Covers}
+use Rattle.fetch_negotiate.specs.Sharing.{IsMarked, IsDone, IsReached, IsCommon, IsFinished, AreDone, IsWithin, AreWithin, IsCommonIn, Extends, Covers}
 use Rattle.fetch_negotiate.proofs.Growing.{reached_grown, done_grown, commit_stays, links_grown, commit_from_link, grows_then, grows_none}
 use Rattle.fetch_negotiate.proofs.Onces.{Adds, has_push, grown}
 
@@ -83,11 +83,11 @@ take_all [] (suc n) h = refl
 take_all (x ∷ xs) zero h = absurd (omega arith)
 take_all (x ∷ xs) (suc n) h = ap (λ (l : List ObjectId). x ∷ l) (take_all xs n (omega arith))
 
-pub common_grown : (k l : Read) (border : set.FinSet id_cmp) (acknowledged : List ObjectId) (settled : ℕ) (commits : List ObjectId) (closed : ℕ) → Grows k l
-    → IsCommon k border acknowledged settled commits closed → IsCommon l border acknowledged settled commits closed
-common_grown k l border acknowledged settled commits closed grows c =
+pub common_grown : (k l : Read) (border : set.FinSet id_cmp) (acknowledged : List ObjectId) (finished : ℕ) (commits : List ObjectId) (closed : ℕ) → Grows k l
+    → IsCommon k border acknowledged finished commits closed → IsCommon l border acknowledged finished commits closed
+common_grown k l border acknowledged finished commits closed grows c =
     record {
-      settled_in = c.settled_in;
+      finished_in = c.finished_in;
       closed_in = c.closed_in;
       stored = λ q h. commit_stays k l grows q (c.stored q h);
       reached = λ q h. reached_grown k l grows border acknowledged q (c.reached q h);
@@ -96,12 +96,12 @@ common_grown k l border acknowledged settled commits closed grows c =
     }
 
 -- one more marked commit
-pub common_push : (k : Read) (border : set.FinSet id_cmp) (acknowledged : List ObjectId) (settled : ℕ) (commits : List ObjectId) (closed : ℕ) (id : ObjectId)
+pub common_push : (k : Read) (border : set.FinSet id_cmp) (acknowledged : List ObjectId) (finished : ℕ) (commits : List ObjectId) (closed : ℕ) (id : ObjectId)
     → is_some (commit_at k id) ≡ true → IsReached k border acknowledged id
-    → IsCommon k border acknowledged settled commits closed → IsCommon k border acknowledged settled (commits ++ id ∷ []) closed
-common_push k border acknowledged settled commits closed id stored reached c =
+    → IsCommon k border acknowledged finished commits closed → IsCommon k border acknowledged finished (commits ++ id ∷ []) closed
+common_push k border acknowledged finished commits closed id stored reached c =
     record {
-      settled_in = c.settled_in;
+      finished_in = c.finished_in;
       closed_in = at_most c.closed_in;
       stored = λ q h. split (λ x. is_some (commit_at k x) ≡ true) id q (has commits q) stored (c.stored q) (sym (has_push commits id q) ∙ h);
       reached = λ q h. split (λ x. IsReached k border acknowledged x) id q (has commits q) reached (c.reached q) (sym (has_push commits id q) ∙ h);
@@ -119,12 +119,12 @@ common_push k border acknowledged settled commits closed id stored reached c =
     front inside = take-append-le closed commits (id ∷ []) inside
 
 -- the parents of one more commit are marked
-pub common_close : (k : Read) (border : set.FinSet id_cmp) (acknowledged : List ObjectId) (settled : ℕ) (commits : List ObjectId) (closed : ℕ) (d id : ObjectId) (ids : List ObjectId)
+pub common_close : (k : Read) (border : set.FinSet id_cmp) (acknowledged : List ObjectId) (finished : ℕ) (commits : List ObjectId) (closed : ℕ) (d id : ObjectId) (ids : List ObjectId)
     → closed < length commits → id ≡ get_or commits closed d → ids ≡ links_at k border id → AreDone k commits ids
-    → IsCommon k border acknowledged settled commits closed → IsCommon k border acknowledged settled commits (closed + 1)
-common_close k border acknowledged settled commits closed d id ids lt is links done c =
+    → IsCommon k border acknowledged finished commits closed → IsCommon k border acknowledged finished commits (closed + 1)
+common_close k border acknowledged finished commits closed d id ids lt is links done c =
     record {
-      settled_in = c.settled_in;
+      finished_in = c.finished_in;
       closed_in = omega arith;
       stored = c.stored;
       reached = c.reached;
@@ -135,28 +135,28 @@ common_close k border acknowledged settled commits closed d id ids lt is links d
     }
 
 -- one more acknowledged id is marked
-pub common_settle : (k : Read) (border : set.FinSet id_cmp) (acknowledged : List ObjectId) (settled : ℕ) (commits : List ObjectId) (closed : ℕ) (d id : ObjectId)
-    → settled < length acknowledged → id ≡ get_or acknowledged settled d → AreDone k commits (id ∷ [])
-    → IsCommon k border acknowledged settled commits closed → IsCommon k border acknowledged (settled + 1) commits closed
-common_settle k border acknowledged settled commits closed d id lt is done c =
+pub common_finish : (k : Read) (border : set.FinSet id_cmp) (acknowledged : List ObjectId) (finished : ℕ) (commits : List ObjectId) (closed : ℕ) (d id : ObjectId)
+    → finished < length acknowledged → id ≡ get_or acknowledged finished d → AreDone k commits (id ∷ [])
+    → IsCommon k border acknowledged finished commits closed → IsCommon k border acknowledged (finished + 1) commits closed
+common_finish k border acknowledged finished commits closed d id lt is done c =
     record {
-      settled_in = omega arith;
+      finished_in = omega arith;
       closed_in = c.closed_in;
       stored = c.stored;
       reached = c.reached;
-      told = λ q h. split (λ x. IsDone k commits x) id q (has (take settled acknowledged) q) (done.each id (has_one id)) (c.told q)
-          (sym (ap (λ (l : List ObjectId). has l q) (grown acknowledged settled d id lt is) ∙ has_push (take settled acknowledged) id q) ∙ h);
+      told = λ q h. split (λ x. IsDone k commits x) id q (has (take finished acknowledged) q) (done.each id (has_one id)) (c.told q)
+          (sym (ap (λ (l : List ObjectId). has l q) (grown acknowledged finished d id lt is) ∙ has_push (take finished acknowledged) id q) ∙ h);
       parents = c.parents;
     }
 
 -- nothing is left to mark
-pub common_whole : (k : Read) (border : set.FinSet id_cmp) (acknowledged : List ObjectId) (settled : ℕ) (commits : List ObjectId) (closed : ℕ)
-    → length acknowledged ≤ settled → length commits ≤ closed → IsCommon k border acknowledged settled commits closed → IsSettled k border acknowledged commits
-common_whole k border acknowledged settled commits closed all each c =
+pub common_whole : (k : Read) (border : set.FinSet id_cmp) (acknowledged : List ObjectId) (finished : ℕ) (commits : List ObjectId) (closed : ℕ)
+    → length acknowledged ≤ finished → length commits ≤ closed → IsCommon k border acknowledged finished commits closed → IsFinished k border acknowledged commits
+common_whole k border acknowledged finished commits closed all each c =
     record {
       stored = c.stored;
       reached = c.reached;
-      told = λ q h. c.told q (ap (λ (l : List ObjectId). has l q) (take_all acknowledged settled all) ∙ h);
+      told = λ q h. c.told q (ap (λ (l : List ObjectId). has l q) (take_all acknowledged finished all) ∙ h);
       parents = λ q h. c.parents q (ap (λ (l : List ObjectId). has l q) (take_all commits closed each) ∙ h);
     }
 
@@ -216,17 +216,17 @@ has_marked commits more id is = at (has commits id) refl is
     at true h e = ap (λ (l : List ObjectId). has l id) e ∙ h
     at false h e = ap (λ (l : List ObjectId). has l id) e ∙ has_push commits id id ∙ or_left (eq_by_cmp id_cmp id id) (has commits id) (ties id id refl)
 
-pub common_marked : (k : Read) (border : set.FinSet id_cmp) (acknowledged : List ObjectId) (settled : ℕ) (commits more : List ObjectId) (closed : ℕ) (id : ObjectId)
+pub common_marked : (k : Read) (border : set.FinSet id_cmp) (acknowledged : List ObjectId) (finished : ℕ) (commits more : List ObjectId) (closed : ℕ) (id : ObjectId)
     → is_some (commit_at k id) ≡ true → IsReached k border acknowledged id → more ≡ cond (has commits id) commits (commits ++ id ∷ [])
-    → IsCommon k border acknowledged settled commits closed → IsCommon k border acknowledged settled more closed
-common_marked k border acknowledged settled commits more closed id stored reached is c = at (has commits id) is
+    → IsCommon k border acknowledged finished commits closed → IsCommon k border acknowledged finished more closed
+common_marked k border acknowledged finished commits more closed id stored reached is c = at (has commits id) is
   where
-    at : (b : Bool) → more ≡ cond b commits (commits ++ id ∷ []) → IsCommon k border acknowledged settled more closed
-    at true e = subst (λ (l : List ObjectId). IsCommon k border acknowledged settled l closed) (sym e) c
-    at false e = subst (λ (l : List ObjectId). IsCommon k border acknowledged settled l closed) (sym e) (common_push k border acknowledged settled commits closed id stored reached c)
+    at : (b : Bool) → more ≡ cond b commits (commits ++ id ∷ []) → IsCommon k border acknowledged finished more closed
+    at true e = subst (λ (l : List ObjectId). IsCommon k border acknowledged finished l closed) (sym e) c
+    at false e = subst (λ (l : List ObjectId). IsCommon k border acknowledged finished l closed) (sym e) (common_push k border acknowledged finished commits closed id stored reached c)
 
 -- ---- loops
-pub record IsSettling (k l : Read) (border : set.FinSet id_cmp) (before now : Common) (g : Graph) : Type 0 where
+pub record IsFinishing (k l : Read) (border : set.FinSet id_cmp) (before now : Common) (g : Graph) : Type 0 where
   pub common : IsCommonIn l border now
   pub told : IsTold l g
   pub grows : Grows k l
@@ -240,7 +240,7 @@ pub record IsMarkingAll (k l : Read) (border : set.FinSet id_cmp) (before now : 
   pub done : AreDone l now.commits.items ids
   pub more : Extends before.commits.items now.commits.items
   pub acknowledged : now.acknowledged ≡ before.acknowledged
-  pub settled : now.settled ≡ before.settled
+  pub finished : now.finished ≡ before.finished
   pub closed : now.closed ≡ before.closed
 
 pub none_done : (k : Read) (commits : List ObjectId) → AreDone k commits []
@@ -263,18 +263,18 @@ pub acknowledged_same : (c d : Common) → d.acknowledged ≡ c.acknowledged →
 acknowledged_same c d e = λ i. (e i).items
 
 pub common_in_grown : (k l : Read) (border : set.FinSet id_cmp) (c : Common) → Grows k l → IsCommonIn k border c → IsCommonIn l border c
-common_in_grown k l border c grows is = (is.0, common_grown k l border c.acknowledged.items c.settled c.commits.items c.closed grows is.1)
+common_in_grown k l border c grows is = (is.0, common_grown k l border c.acknowledged.items c.finished c.commits.items c.closed grows is.1)
 
-pub common_in_kept : (k : Read) (border : set.FinSet id_cmp) (c d : Common) → IsMarked d.marked d.commits.items → d.commits.items ≡ c.commits.items → d.acknowledged ≡ c.acknowledged → d.settled ≡ c.settled → d.closed ≡ c.closed → IsCommonIn k border c → IsCommonIn k border d
+pub common_in_kept : (k : Read) (border : set.FinSet id_cmp) (c d : Common) → IsMarked d.marked d.commits.items → d.commits.items ≡ c.commits.items → d.acknowledged ≡ c.acknowledged → d.finished ≡ c.finished → d.closed ≡ c.closed → IsCommonIn k border c → IsCommonIn k border d
 common_in_kept k border c d marked pm pa ps pe is =
-    (marked, moved k border c.acknowledged.items d.acknowledged.items c.settled d.settled c.commits.items d.commits.items c.closed d.closed (acknowledged_same c d pa) ps pm pe is.1)
+    (marked, moved k border c.acknowledged.items d.acknowledged.items c.finished d.finished c.commits.items d.commits.items c.closed d.closed (acknowledged_same c d pa) ps pm pe is.1)
 
 pub common_in_marked : (k : Read) (border : set.FinSet id_cmp) (c d : Common) (id : ObjectId) → is_some (commit_at k id) ≡ true → IsReached k border c.acknowledged.items id
-    → IsMarked d.marked d.commits.items → d.commits.items ≡ cond (has c.commits.items id) c.commits.items (c.commits.items ++ id ∷ []) → d.acknowledged ≡ c.acknowledged → d.settled ≡ c.settled → d.closed ≡ c.closed → IsCommonIn k border c → IsCommonIn k border d
+    → IsMarked d.marked d.commits.items → d.commits.items ≡ cond (has c.commits.items id) c.commits.items (c.commits.items ++ id ∷ []) → d.acknowledged ≡ c.acknowledged → d.finished ≡ c.finished → d.closed ≡ c.closed → IsCommonIn k border c → IsCommonIn k border d
 common_in_marked k border c d id stored reached marked pm pa ps pe is = (
   marked,
-  moved k border c.acknowledged.items d.acknowledged.items c.settled d.settled d.commits.items d.commits.items c.closed d.closed (acknowledged_same c d pa) ps refl pe
-      (common_marked k border c.acknowledged.items c.settled c.commits.items d.commits.items c.closed id stored reached pm is.1),
+  moved k border c.acknowledged.items d.acknowledged.items c.finished d.finished d.commits.items d.commits.items c.closed d.closed (acknowledged_same c d pa) ps refl pe
+      (common_marked k border c.acknowledged.items c.finished c.commits.items d.commits.items c.closed id stored reached pm is.1),
 )
 
 pub has_at : (ids : List ObjectId) (i : ℕ) (d : ObjectId) → i < length ids → has ids (get_or ids i d) ≡ true
@@ -284,11 +284,11 @@ has_at ids i d lt =
 
 pub marking_none : (k : Read) (border : set.FinSet id_cmp) (c : Common) (g : Graph) → IsCommonIn k border c → IsTold k g → IsMarkingAll k k border c c g []
 marking_none k border c g common told =
-    record { common = common; told = told; grows = grows_none k; done = none_done k c.commits.items; more = extends_none c.commits.items; acknowledged = refl; settled = refl; closed = refl }
+    record { common = common; told = told; grows = grows_none k; done = none_done k c.commits.items; more = extends_none c.commits.items; acknowledged = refl; finished = refl; closed = refl }
 
 pub marking_further : (k l m : Read) (border : set.FinSet id_cmp) (before now after : Common) (g : Graph) (ids : List ObjectId) (i : ℕ) (d id : ObjectId) → i < length ids → id ≡ get_or ids i d
     → IsMarkingAll k l border before now g (take i ids) → IsCommonIn m border after → IsTold m g → Grows l m → Extends now.commits.items after.commits.items → IsDone m after.commits.items id
-    → after.acknowledged ≡ now.acknowledged → after.settled ≡ now.settled → after.closed ≡ now.closed → IsMarkingAll k m border before after g (take (i + 1) ids)
+    → after.acknowledged ≡ now.acknowledged → after.finished ≡ now.finished → after.closed ≡ now.closed → IsMarkingAll k m border before after g (take (i + 1) ids)
 marking_further k l m border before now after g ids i d id lt is so_far common told grows extends done pa ps pe =
     record {
       common = common;
@@ -297,7 +297,7 @@ marking_further k l m border before now after g ids i d id lt is so_far common t
       done = done_further l m now.commits.items after.commits.items ids i d id lt is grows extends so_far.done done;
       more = extends_then before.commits.items now.commits.items after.commits.items so_far.more extends;
       acknowledged = pa ∙ so_far.acknowledged;
-      settled = ps ∙ so_far.settled;
+      finished = ps ∙ so_far.finished;
       closed = pe ∙ so_far.closed;
     }
 
@@ -307,15 +307,15 @@ within_at k l border before now g ids done i d lt so_far within =
     subst (λ (a : List ObjectId). IsWithin l border a (get_or ids i d)) (sym (acknowledged_same before now so_far.acknowledged))
     (within_grown k l border before.acknowledged.items (get_or ids i d) so_far.grows (within.each (get_or ids i d) (has_at ids i d lt)))
 
-pub settling_none : (k : Read) (border : set.FinSet id_cmp) (c : Common) (g : Graph) → IsCommonIn k border c → IsTold k g → IsSettling k k border c c g
-settling_none k border c g common told = record { common = common; told = told; grows = grows_none k; more = covers_none c.commits.items; acknowledged = refl }
+pub finishing_none : (k : Read) (border : set.FinSet id_cmp) (c : Common) (g : Graph) → IsCommonIn k border c → IsTold k g → IsFinishing k k border c c g
+finishing_none k border c g common told = record { common = common; told = told; grows = grows_none k; more = covers_none c.commits.items; acknowledged = refl }
 
-pub settling_further : (k l m : Read) (border : set.FinSet id_cmp) (before now after : Common) (g : Graph) → IsSettling k l border before now g → IsCommonIn m border after → IsTold m g → Grows l m → Covers now.commits.items after.commits.items → after.acknowledged ≡ now.acknowledged → IsSettling k m border before after g
-settling_further k l m border before now after g so_far common told grows more pa =
+pub finishing_further : (k l m : Read) (border : set.FinSet id_cmp) (before now after : Common) (g : Graph) → IsFinishing k l border before now g → IsCommonIn m border after → IsTold m g → Grows l m → Covers now.commits.items after.commits.items → after.acknowledged ≡ now.acknowledged → IsFinishing k m border before after g
+finishing_further k l m border before now after g so_far common told grows more pa =
     record { common = common; told = told; grows = grows_then k l m so_far.grows grows; more = record { stays = λ q h. more.stays q (so_far.more.stays q h) }; acknowledged = pa ∙ so_far.acknowledged }
 
-pub whole_in : (k : Read) (border : set.FinSet id_cmp) (c : Common) → length c.acknowledged.items ≤ c.settled → length c.commits.items ≤ c.closed → IsCommonIn k border c → IsSettled k border c.acknowledged.items c.commits.items
-whole_in k border c all each is = common_whole k border c.acknowledged.items c.settled c.commits.items c.closed all each is.1
+pub whole_in : (k : Read) (border : set.FinSet id_cmp) (c : Common) → length c.acknowledged.items ≤ c.finished → length c.commits.items ≤ c.closed → IsCommonIn k border c → IsFinished k border c.acknowledged.items c.commits.items
+whole_in k border c all each is = common_whole k border c.acknowledged.items c.finished c.commits.items c.closed all each is.1
 
 pub extended_at : (xs ys : List ObjectId) (i : ℕ) (d : ObjectId) → Extends xs ys → i < length xs → get_or ys i d ≡ get_or xs i d
 extended_at xs ys i d e lt = ap (λ (l : List ObjectId). get_or l i d) e.is ∙ get_or_append_left xs e.more d i lt
@@ -326,43 +326,43 @@ extended_length xs ys e = omega (arith, ap (λ (l : List ObjectId). length l) e.
 -- the parents of the next marked commit are marked
 pub close_in : (k l : Read) (border : set.FinSet id_cmp) (c d : Common) (x : ObjectId) (ids : List ObjectId) → c.closed < length c.commits.items → x ≡ get_or c.commits.items c.closed x → ids ≡ links_at k border x → Grows k l
     → Extends c.commits.items d.commits.items → AreDone l d.commits.items ids → d.closed ≡ c.closed → IsCommonIn k border c → IsCommonIn l border d
-    → IsMarked d.marked d.commits.items × IsCommon l border d.acknowledged.items d.settled d.commits.items (d.closed + 1)
+    → IsMarked d.marked d.commits.items × IsCommon l border d.acknowledged.items d.finished d.commits.items (d.closed + 1)
 close_in k l border c d x ids lt at links grows extends done same was is =
     let h : has c.commits.items x ≡ true = ap (has c.commits.items) at ∙ has_at c.commits.items c.closed x lt in
     let stored = was.1.stored x h in (
       is.0,
-      common_close l border d.acknowledged.items d.settled d.commits.items d.closed x x ids (omega (arith, extended_length c.commits.items d.commits.items extends))
+      common_close l border d.acknowledged.items d.finished d.commits.items d.closed x x ids (omega (arith, extended_length c.commits.items d.commits.items extends))
           (at ∙ sym (extended_at c.commits.items d.commits.items c.closed x extends lt) ∙ ap (λ (i : ℕ). get_or d.commits.items i x) (sym same))
           (links ∙ sym (links_grown k l grows border x stored)) done is.1,
     )
 
 -- the next acknowledged id is marked
-pub settle_in : (l : Read) (border : set.FinSet id_cmp) (c d : Common) (x : ObjectId) → c.settled < length c.acknowledged.items → x ≡ get_or c.acknowledged.items c.settled x
-    → AreDone l d.commits.items (x ∷ []) → d.settled ≡ c.settled → d.acknowledged ≡ c.acknowledged → IsCommonIn l border d
-    → IsMarked d.marked d.commits.items × IsCommon l border d.acknowledged.items (d.settled + 1) d.commits.items d.closed
-settle_in l border c d x lt at done ps pa is =
+pub finish_in : (l : Read) (border : set.FinSet id_cmp) (c d : Common) (x : ObjectId) → c.finished < length c.acknowledged.items → x ≡ get_or c.acknowledged.items c.finished x
+    → AreDone l d.commits.items (x ∷ []) → d.finished ≡ c.finished → d.acknowledged ≡ c.acknowledged → IsCommonIn l border d
+    → IsMarked d.marked d.commits.items × IsCommon l border d.acknowledged.items (d.finished + 1) d.commits.items d.closed
+finish_in l border c d x lt at done ps pa is =
     let same = acknowledged_same c d pa in (
       is.0,
-      common_settle l border d.acknowledged.items d.settled d.commits.items d.closed x x (omega (arith, ap (λ (l : List ObjectId). length l) same))
-          (at ∙ ap (λ (l : List ObjectId). get_or l c.settled x) (sym same) ∙ ap (λ (i : ℕ). get_or d.acknowledged.items i x) (sym ps)) done is.1,
+      common_finish l border d.acknowledged.items d.finished d.commits.items d.closed x x (omega (arith, ap (λ (l : List ObjectId). length l) same))
+          (at ∙ ap (λ (l : List ObjectId). get_or l c.finished x) (sym same) ∙ ap (λ (i : ℕ). get_or d.acknowledged.items i x) (sym ps)) done is.1,
     )
 
 pub within_next : (k : Read) (border : set.FinSet id_cmp) (c : Common) (x : ObjectId) (ids : List ObjectId) → c.closed < length c.commits.items → x ≡ get_or c.commits.items c.closed x → ids ≡ links_at k border x → IsCommonIn k border c → AreWithin k border c.acknowledged.items ids
 within_next k border c x ids lt at links is =
     within_links k border c.acknowledged.items x ids (is.1.reached x (ap (has c.commits.items) at ∙ has_at c.commits.items c.closed x lt)) links
 
-pub within_this : (k : Read) (border : set.FinSet id_cmp) (c : Common) (x : ObjectId) → c.settled < length c.acknowledged.items → x ≡ get_or c.acknowledged.items c.settled x → IsWithin k border c.acknowledged.items x
-within_this k border c x lt at = within_acknowledged k border c.acknowledged.items x (ap (has c.acknowledged.items) at ∙ has_at c.acknowledged.items c.settled x lt)
+pub within_this : (k : Read) (border : set.FinSet id_cmp) (c : Common) (x : ObjectId) → c.finished < length c.acknowledged.items → x ≡ get_or c.acknowledged.items c.finished x → IsWithin k border c.acknowledged.items x
+within_this k border c x lt at = within_acknowledged k border c.acknowledged.items x (ap (has c.acknowledged.items) at ∙ has_at c.acknowledged.items c.finished x lt)
 
 -- one more id is acknowledged
-pub common_acknowledged : (k : Read) (border : set.FinSet id_cmp) (acknowledged : List ObjectId) (settled : ℕ) (commits : List ObjectId) (closed : ℕ) (id : ObjectId)
-    → IsCommon k border acknowledged settled commits closed → IsCommon k border (acknowledged ++ id ∷ []) settled commits closed
-common_acknowledged k border acknowledged settled commits closed id c =
+pub common_acknowledged : (k : Read) (border : set.FinSet id_cmp) (acknowledged : List ObjectId) (finished : ℕ) (commits : List ObjectId) (closed : ℕ) (id : ObjectId)
+    → IsCommon k border acknowledged finished commits closed → IsCommon k border (acknowledged ++ id ∷ []) finished commits closed
+common_acknowledged k border acknowledged finished commits closed id c =
     record {
-      settled_in = omega (arith, c.settled_in, length-append acknowledged (id ∷ []));
+      finished_in = omega (arith, c.finished_in, length-append acknowledged (id ∷ []));
       closed_in = c.closed_in;
       stored = c.stored;
       reached = λ q h. record { holds = λ P start step. (c.reached q h).holds P (λ a e. start a (has_append acknowledged (id ∷ []) a e)) step };
-      told = λ q h. c.told q (ap (λ (l : List ObjectId). has l q) (sym (take-append-le settled acknowledged (id ∷ []) c.settled_in)) ∙ h);
+      told = λ q h. c.told q (ap (λ (l : List ObjectId). has l q) (sym (take-append-le finished acknowledged (id ∷ []) c.finished_in)) ∙ h);
       parents = c.parents;
     }

@@ -17,7 +17,7 @@ use Rattle.fetch_negotiate.specs.Walking.{IsWalk, so_far_in}
 common : (k : Read) (border : set.FinSet id_cmp) (a b : Common) → IsSameCommon a b → IsCommonIn k border b → IsCommonIn k border a
 common k border a b s h =
     let marked : IsMarked a.marked a.commits.items = rw (s.marked, s.commits) h.0 in
-    let is : IsCommon k border a.acknowledged.items a.settled a.commits.items a.closed = rw (s.acknowledged, s.settled, s.commits, s.closed) h.1 in
+    let is : IsCommon k border a.acknowledged.items a.finished a.commits.items a.closed = rw (s.acknowledged, s.finished, s.commits, s.closed) h.1 in
     (marked, is)
 
 frontier : (k : Read) (border : set.FinSet id_cmp) (a b : Frontier) (c d : Common) → IsSameFrontier a b → IsSameCommon c d → IsFrontierIn k border d.commits.items b → IsFrontierIn k border c.commits.items a

@@ -8,7 +8,7 @@ use Rattle.fetch_negotiate.specs.declared.walk.HaveWalk.{HaveWalk}
 -- Both have the same acknowledged ids, commits and marks.
 pub record IsSameCommon (a b : Common) : Type 0 where
   pub acknowledged : a.acknowledged.items ≡ b.acknowledged.items
-  pub settled : a.settled ≡ b.settled
+  pub finished : a.finished ≡ b.finished
   pub commits : a.commits.items ≡ b.commits.items
   pub closed : a.closed ≡ b.closed
   pub marked : a.marked ≡ b.marked

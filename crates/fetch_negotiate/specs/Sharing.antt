@@ -28,22 +28,22 @@ pub record IsReached (k : Read) (border : set.FinSet id_cmp) (acknowledged : Lis
       → ((x y : ObjectId) → P x ≡ true → has (links_at k border x) y ≡ true → is_some (commit_at k y) ≡ true → P y ≡ true) → P id ≡ true
 
 -- What is marked as shared: acknowledged commits and their ancestors, and how far each list was followed.
-pub record IsCommon (k : Read) (border : set.FinSet id_cmp) (acknowledged : List ObjectId) (settled : ℕ) (commits : List ObjectId)
+pub record IsCommon (k : Read) (border : set.FinSet id_cmp) (acknowledged : List ObjectId) (finished : ℕ) (commits : List ObjectId)
     (closed : ℕ) : Type 0 where
-  pub settled_in : settled ≤ length acknowledged
+  pub finished_in : finished ≤ length acknowledged
   pub closed_in : closed ≤ length commits
   pub stored : (q : ObjectId) → has commits q ≡ true → is_some (commit_at k q) ≡ true
   pub reached : (q : ObjectId) → has commits q ≡ true → IsReached k border acknowledged q
-  pub told : (q : ObjectId) → has (take settled acknowledged) q ≡ true → IsDone k commits q
+  pub told : (q : ObjectId) → has (take finished acknowledged) q ≡ true → IsDone k commits q
   pub parents : (q : ObjectId) → has (take closed commits) q ≡ true → (p : ObjectId) → has (links_at k border q) p ≡ true
       → IsDone k commits p
 
 -- the same, of what a walk keeps
 abbrev pub IsCommonIn : Read → set.FinSet id_cmp → Common → Type 0
-IsCommonIn k border c = IsMarked c.marked c.commits.items × IsCommon k border c.acknowledged.items c.settled c.commits.items c.closed
+IsCommonIn k border c = IsMarked c.marked c.commits.items × IsCommon k border c.acknowledged.items c.finished c.commits.items c.closed
 
 -- Each acknowledged id is marked, and the parents of each marked commit are.
-pub record IsSettled (k : Read) (border : set.FinSet id_cmp) (acknowledged commits : List ObjectId) : Type 0 where
+pub record IsFinished (k : Read) (border : set.FinSet id_cmp) (acknowledged commits : List ObjectId) : Type 0 where
   pub stored : (q : ObjectId) → has commits q ≡ true → is_some (commit_at k q) ≡ true
   pub reached : (q : ObjectId) → has commits q ≡ true → IsReached k border acknowledged q
   pub told : (q : ObjectId) → has acknowledged q ≡ true → IsDone k commits q

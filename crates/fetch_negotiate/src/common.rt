@@ -5,7 +5,7 @@ ghost use Rattle.fetch_negotiate.specs.Commits.{has};
 ghost use Rattle.fetch_negotiate.specs.Copies.{IsSameCommon};
 ghost use Rattle.fetch_negotiate.specs.Exact.{IsExact};
 ghost use Rattle.fetch_negotiate.specs.Reading.{Grows, IsTold, commit_at, links_at, read_in};
-ghost use Rattle.fetch_negotiate.specs.Sharing.{IsMarked, IsSettled, IsCommonIn, IsWithin, AreWithin, IsDone, AreDone, Extends, Covers};
+ghost use Rattle.fetch_negotiate.specs.Sharing.{IsMarked, IsFinished, IsCommonIn, IsWithin, AreWithin, IsDone, AreDone, Extends, Covers};
 
 use crate::commits::{Table, read};
 use crate::links::links;
@@ -13,12 +13,12 @@ use fetch_store::{Border, NoMemory, ObjectId, Objects};
 use std::alloc::Global;
 use std::collections::BTreeSet;
 
-/// What is known to be on both sides. The first `settled` of the acknowledged ids are marked, so far as they are
+/// What is known to be on both sides. The first `finished` of the acknowledged ids are marked, so far as they are
 /// stored commits, and so are the parents of the first `closed` of the commits that are marked.
 #[derive(Debug, Drop)]
 pub(crate) struct Common {
     pub(crate) acknowledged: Vec<ObjectId>,
-    settled: usize,
+    finished: usize,
     pub(crate) commits: Vec<ObjectId>,
     closed: usize,
     marked: BTreeSet<ObjectId>,
@@ -28,13 +28,13 @@ impl Common {
     pub(crate) fn new(alloc: Global) -> Common
         ensures acknowledged { result.acknowledged.items ≡ [] }
         ensures commits { result.commits.items ≡ [] }
-        ensures settled { result.settled ≡ 0 }
+        ensures finished { result.finished ≡ 0 }
         ensures closed { result.closed ≡ 0 }
         ensures marked { result.marked.keys ≡ [] }
     {
         Common {
             acknowledged: Vec::new(alloc),
-            settled: 0,
+            finished: 0,
             commits: Vec::new(alloc),
             closed: 0,
             marked: BTreeSet::new(alloc),
@@ -47,7 +47,7 @@ impl Common {
     {
         Ok(Common {
             acknowledged: self.acknowledged.clone()?,
-            settled: self.settled,
+            finished: self.finished,
             commits: self.commits.clone()?,
             closed: self.closed,
             marked: self.marked.clone()?,
@@ -71,7 +71,7 @@ fn mark(common: &mut Common, alloc: Global, id: &ObjectId) -> Result<(), NoMemor
         ≡ (if has common.old.commits.items id.now then common.old.commits.items else common.old.commits.items ++ id.now ∷ [])) }
     ensures err { OnErr result (common.new.commits.items ≡ common.old.commits.items) }
     ensures acknowledged { common.new.acknowledged ≡ common.old.acknowledged }
-    ensures settled { common.new.settled ≡ common.old.settled }
+    ensures finished { common.new.finished ≡ common.old.finished }
     ensures closed { common.new.closed ≡ common.old.closed }
 {
     if common.contains(id) {
@@ -101,7 +101,7 @@ fn mark_one<O: Objects>(
     ensures more { Extends common.old.commits.items common.new.commits.items }
     ensures done { OnOk result (IsDone (read_in table.new) common.new.commits.items id.now) }
     ensures acknowledged { common.new.acknowledged ≡ common.old.acknowledged }
-    ensures settled { common.new.settled ≡ common.old.settled }
+    ensures finished { common.new.finished ≡ common.old.finished }
     ensures closed { common.new.closed ≡ common.old.closed }
 {
     let stored = read(table, alloc, objects, id)?;
@@ -132,7 +132,7 @@ fn mark_parents<O: Objects>(
     ensures more { Extends common.old.commits.items common.new.commits.items }
     ensures done { OnOk result (AreDone (read_in table.new) common.new.commits.items (links_at (read_in table.old) border.now id.now)) }
     ensures acknowledged { common.new.acknowledged ≡ common.old.acknowledged }
-    ensures settled { common.new.settled ≡ common.old.settled }
+    ensures finished { common.new.finished ≡ common.old.finished }
     ensures closed { common.new.closed ≡ common.old.closed }
 {
     let count = links(table, border, id).len();
@@ -160,7 +160,7 @@ fn close_next<O: Objects>(
     ensures grows { Grows (read_in table.old) (read_in table.new) }
     ensures more { Covers common.old.commits.items common.new.commits.items }
     ensures acknowledged { common.new.acknowledged ≡ common.old.acknowledged }
-    ensures settled { common.new.settled ≡ common.old.settled }
+    ensures finished { common.new.finished ≡ common.old.finished }
     ensures closed { OnOk result (common.new.closed ≡ common.old.closed + 1) }
 {
     let id = common.commits[common.closed];
@@ -171,7 +171,7 @@ fn close_next<O: Objects>(
 
 /// Marks the first acknowledged id that isn't marked yet.
 #[tactic(auto, using(crate::proofs::Commons::covers))]
-fn settle_next<O: Objects>(
+fn finish_next<O: Objects>(
     common: &mut Common,
     table: &mut Table,
     border: &Border,
@@ -180,17 +180,17 @@ fn settle_next<O: Objects>(
 ) -> Result<(), NoMemory>
     requires common { IsCommonIn (read_in table.old) border.now common.old }
     requires told { IsTold (read_in table.old) (O.graph objects.now) }
-    requires open { common.old.settled < length common.old.acknowledged.items }
+    requires open { common.old.finished < length common.old.acknowledged.items }
     ensures common { IsCommonIn (read_in table.new) border.now common.new }
     ensures told { IsTold (read_in table.new) (O.graph objects.now) }
     ensures grows { Grows (read_in table.old) (read_in table.new) }
     ensures more { Covers common.old.commits.items common.new.commits.items }
     ensures acknowledged { common.new.acknowledged ≡ common.old.acknowledged }
-    ensures settled { OnOk result (common.new.settled ≡ common.old.settled + 1) }
+    ensures finished { OnOk result (common.new.finished ≡ common.old.finished + 1) }
 {
-    let id = common.acknowledged[common.settled];
+    let id = common.acknowledged[common.finished];
     mark_one(common, table, border, alloc, objects, &id)?;
-    common.settled += 1;
+    common.finished += 1;
     Ok(())
 }
 
@@ -209,11 +209,11 @@ pub(crate) fn mark_acknowledged<O: Objects>(
     ensures grows { Grows (read_in table.old) (read_in table.new) }
     ensures more { Covers common.old.commits.items common.new.commits.items }
     ensures acknowledged { common.new.acknowledged ≡ common.old.acknowledged }
-    ensures settled { OnOk result (IsSettled (read_in table.new) border.now common.new.acknowledged.items common.new.commits.items) }
+    ensures finished { OnOk result (IsFinished (read_in table.new) border.now common.new.acknowledged.items common.new.commits.items) }
     ensures exact { OnOk result (IsExact (O.graph objects.now) border.now common.new.acknowledged.items common.new.commits.items) }
 {
-    'acknowledged: while common.settled < common.acknowledged.len() {
-        settle_next(common, table, border, alloc, objects)?;
+    'acknowledged: while common.finished < common.acknowledged.len() {
+        finish_next(common, table, border, alloc, objects)?;
     }
     'marked: while common.closed < common.commits.len() {
         close_next(common, table, border, alloc, objects)?;

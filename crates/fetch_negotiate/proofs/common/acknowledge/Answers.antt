@@ -6,5 +6,5 @@ pub returns-clause-common : goal.returns-clause-common
 returns-clause-common c =
     rw c.in_ok-push.ensures.items (
       c.requires.common.0,
-      common_acknowledged (read_in c.args.table.now) c.args.border.now c.args.common.now.acknowledged.items c.args.common.now.settled c.args.common.now.commits.items c.args.common.now.closed c.args.id.now c.requires.common.1,
+      common_acknowledged (read_in c.args.table.now) c.args.border.now c.args.common.now.acknowledged.items c.args.common.now.finished c.args.common.now.commits.items c.args.common.now.closed c.args.id.now c.requires.common.1,
     )

@@ -17,7 +17,7 @@ returns-then-not-stored-clause-common g c =
 pub returns-in_err-mark-clause-common : goal.returns-in_err-mark-clause-common
 returns-in_err-mark-clause-common g c =
     let e = c.in_err-mark.ensures in
-    common_in_kept (read_in c.read.new.table) c.args.border.now c.args.common.now c.mark.new.common e.marked e.err e.acknowledged e.settled e.closed
+    common_in_kept (read_in c.read.new.table) c.args.border.now c.args.common.now c.mark.new.common e.marked e.err e.acknowledged e.finished e.closed
     (common_in_grown (read_in c.args.table.now) (read_in c.read.new.table) c.args.border.now c.args.common.now c.in_ok-stored.ensures.grows c.requires.common)
 
 pub returns-clause-common : goal.returns-clause-common
@@ -26,7 +26,7 @@ returns-clause-common g c =
     let e = c.in_ok-mark.ensures in
     let r = c.in_ok-stored.ensures in
     let stored = ap (λ (o : Option Commit). is_some o) (found_at (l c.args.id.now) (commit_of (g.O.Objects.graph c.args.objects.now) c.args.id.now) r.found) ∙ sym r.stored ∙ c.if-not-stored.false in
-    common_in_marked l c.args.border.now c.args.common.now c.mark.new.common c.args.id.now stored (c.requires.within.later l r.grows stored) e.marked e.ok e.acknowledged e.settled e.closed
+    common_in_marked l c.args.border.now c.args.common.now c.mark.new.common c.args.id.now stored (c.requires.within.later l r.grows stored) e.marked e.ok e.acknowledged e.finished e.closed
     (common_in_grown (read_in c.args.table.now) l c.args.border.now c.args.common.now r.grows c.requires.common)
 
 pub returns-clause-done : goal.returns-clause-done

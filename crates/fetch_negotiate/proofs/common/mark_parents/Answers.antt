@@ -30,4 +30,4 @@ loop-index-preserved g c =
     let same : c.links.result.now ≡ links = c.links.ensures ∙ links_grown k l c.loop-index.invariant.grows b c.args.id.now c.requires.read in
     let lt : i < length links = subst (λ (x : List ObjectId). i < length x) c.links-count.ensures c.loop-index-test.true in
     marking_further k l (read_in c.mark_one.new.table) b c.args.common.now c.loop-index.common c.mark_one.new.common (g.O.Objects.graph c.args.objects.now) links i (ids.Sha1 []) (get_or c.links.result.now i (ids.Sha1 [])) lt
-    (ap (λ (x : List ObjectId). get_or x i (ids.Sha1 [])) same) c.loop-index.invariant e.common e.told e.grows e.more e.done e.acknowledged e.settled e.closed
+    (ap (λ (x : List ObjectId). get_or x i (ids.Sha1 [])) same) c.loop-index.invariant e.common e.told e.grows e.more e.done e.acknowledged e.finished e.closed
