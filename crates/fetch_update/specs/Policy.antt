@@ -49,7 +49,7 @@ use Rattle.fetch_update.specs.declared.verdict.Verdict.{Verdict}
 use Rattle.fetch_update.specs.declared.judge.Judge.{Judge}
 use Rattle.fetch_update.specs.declared.judge.Place.{Place as PlaceInCode}
 use Rattle.fetch_update.specs.declared.judge.NewTarget.{NewTarget}
-use Rattle.fetch_update.specs.declared.judge.NewTarget.TheVariants as wanted
+use Rattle.fetch_update.specs.declared.judge.NewTarget.TheVariants as new_target
 use Rattle.fetch_update.specs.Ahead.{is_ahead}
 use Rattle.fetch_update.specs.Dated.{commit_at}
 use Rattle.fetch_update.specs.Trees.{is_checked_out, directories_of}
@@ -250,7 +250,7 @@ at_stored p place local remote =
 
 -- a reference that stands for an id, by what is to be written
 unfoldable pub at_id : Policy → Place → ObjectId → Target → Result Verdict Error
-at_id p place local (targets.Symbolic wanted) = Ok (nothing modes.RejectedToReplaceWithUnborn)
+at_id p place local (targets.Symbolic new_target) = Ok (nothing modes.RejectedToReplaceWithUnborn)
 at_id p place local (targets.Object remote) =
     if eq_by_cmp id_cmp local remote then Ok (written p.message place modes.NoChangeNeeded no_update)
     else if is_tag place.name then Ok (if place.plus then written p.message place modes.Forced updating_tag
@@ -326,15 +326,15 @@ policy_of graph j = record {
 
 -- what the code asks for
 abbrev pub value_in_code : NewTarget → Target
-value_in_code (wanted.Id id) = targets.Object id
-value_in_code (wanted.Name name) = targets.Symbolic name.now
+value_in_code (new_target.Id id) = targets.Object id
+value_in_code (new_target.Name name) = targets.Symbolic name.now
 
 -- a place of the code
 abbrev pub place_in_code : PlaceInCode → Place
 place_in_code c = record {
   name = c.name;
   found = seen c.found;
-  value = value_in_code c.wanted;
+  value = value_in_code c.new_target;
   target = option_copied c.target;
   plus = c.is_forced;
 }

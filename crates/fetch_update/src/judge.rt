@@ -35,7 +35,7 @@ pub(crate) enum NewTarget<'a> {
 pub(crate) struct Place<'a> {
     pub(crate) name: FullName,
     pub(crate) found: TargetRef<'a>,
-    pub(crate) wanted: NewTarget<'a>,
+    pub(crate) new_target: NewTarget<'a>,
     /// The name that the remote's reference names.
     pub(crate) target: Option<&'a [u8]>,
     pub(crate) is_forced: bool,

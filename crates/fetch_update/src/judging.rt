@@ -24,7 +24,7 @@ use fetch_store::{NoMemory, ObjectId, Objects, Text};
 use fetch_wire::{Mapping, Ref, Source};
 use std::alloc::Global;
 
-fn wanted_of(source: &Source) -> NewTarget<'_>
+fn new_target_of(source: &Source) -> NewTarget<'_>
     ensures { value_in_code result ≡ value_of source.now }
 {
     match source {
@@ -53,7 +53,7 @@ pub(crate) fn judge_mapping<O: Objects>(
 ) -> Result<Verdict, Error>
     ensures { AnswersUnless is_memory (spec.verdict_of (policy_of (O.graph objects.now) judge.now) refspec.now mapping.now) result }
 {
-    match unsent(judge, objects, wanted_of(&mapping.remote)) {
+    match unsent(judge, objects, new_target_of(&mapping.remote)) {
         Some(id) => Ok(Verdict::nothing(unsent_mode(judge, refspec, id))),
         None => at_destination(judge, objects, refspec, mapping),
     }
@@ -61,10 +61,10 @@ pub(crate) fn judge_mapping<O: Objects>(
 
 /// The id that isn't stored, where objects are tested.
 #[tactic(auto, unfolding(crate::specs::Policy::unsent))]
-fn unsent<O: Objects>(judge: &Judge<'_>, objects: &O, wanted: NewTarget<'_>) -> Option<ObjectId>
-    ensures { result ≡ spec.unsent (policy_of (O.graph objects.now) judge.now) (value_in_code wanted.entry) }
+fn unsent<O: Objects>(judge: &Judge<'_>, objects: &O, new_target: NewTarget<'_>) -> Option<ObjectId>
+    ensures { result ≡ spec.unsent (policy_of (O.graph objects.now) judge.now) (value_in_code new_target.entry) }
 {
-    match wanted {
+    match new_target {
         NewTarget::Name(_) => None,
         NewTarget::Id(id) => {
             if judge.dry_run {
@@ -158,14 +158,14 @@ fn at_name<O: Objects>(
     ensures { AnswersUnless is_memory (spec.at_name (policy_of (O.graph objects.now) judge.now) refspec.now mapping.now name
         (map.get judge.now.refs.now.names name)) result }
 {
-    let wanted = wanted_of(&mapping.remote);
+    let new_target = new_target_of(&mapping.remote);
     let Some(found) = judge.refs.find(&name) else {
-        return create(judge, wanted, name);
+        return create(judge, new_target, name);
     };
     let place = Place {
         name,
         found,
-        wanted,
+        new_target,
         target: mapping.remote.as_target(),
         is_forced: is_forced(refspec),
     };
@@ -203,7 +203,7 @@ fn at_local<O: Objects>(judge: &Judge<'_>, objects: &O, place: Place<'_>) -> Res
 /// A symbolic reference whose way ends at an absent name.
 #[tactic(auto, unfolding(crate::specs::Policy::change_unborn))]
 fn at_unborn(judge: &Judge<'_>, place: Place<'_>) -> Result<Verdict, Error>
-    ensures { AnswersUnless is_memory (spec.if_valid (value_in_code place.entry.wanted)
+    ensures { AnswersUnless is_memory (spec.if_valid (value_in_code place.entry.new_target)
         (spec.written judge.now.message.now (place_in_code place.entry)
         (spec.unborn_mode (seen place.entry.found) (option_copied place.entry.target)) spec.change_unborn)) result }
 {
@@ -236,9 +236,9 @@ fn at_id<O: Objects>(
     local: ObjectId,
 ) -> Result<Verdict, Error>
     ensures { AnswersUnless is_memory (spec.at_id (policy_of (O.graph objects.now) judge.now) (place_in_code place.entry) local
-        (value_in_code place.entry.wanted)) result }
+        (value_in_code place.entry.new_target)) result }
 {
-    let NewTarget::Id(remote) = place.wanted else {
+    let NewTarget::Id(remote) = place.new_target else {
         return Ok(Verdict::nothing(Mode::RejectedToReplaceWithUnborn));
     };
     if local == remote {

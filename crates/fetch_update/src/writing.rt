@@ -20,13 +20,13 @@ use std::alloc::Global;
 /// A reference that is absent gets the value.
 pub(crate) fn create(
     judge: &Judge<'_>,
-    wanted: NewTarget<'_>,
+    new_target: NewTarget<'_>,
     name: FullName,
 ) -> Result<Verdict, Error>
-    ensures { AnswersUnless is_memory (spec.if_valid (value_in_code wanted.entry)
-        (spec.created judge.now.message.now name (value_in_code wanted.entry))) result }
+    ensures { AnswersUnless is_memory (spec.if_valid (value_in_code new_target.entry)
+        (spec.created judge.now.message.now name (value_in_code new_target.entry))) result }
 {
-    let value = target_of(judge.alloc, wanted)?;
+    let value = target_of(judge.alloc, new_target)?;
     let happened = storing(&name);
     let expected = PreviousValue::ExistingMustMatch(value.try_clone()?);
     let edit = edit(judge, name, expected, value, happened)?;
@@ -44,10 +44,10 @@ pub(crate) fn write(
     mode: Mode,
     happened: &[u8],
 ) -> Result<Verdict, Error>
-    ensures { AnswersUnless is_memory (spec.if_valid (value_in_code place.entry.wanted)
+    ensures { AnswersUnless is_memory (spec.if_valid (value_in_code place.entry.new_target)
         (spec.written judge.now.message.now (place_in_code place.entry) mode happened.now)) result }
 {
-    let value = target_of(judge.alloc, place.wanted)?;
+    let value = target_of(judge.alloc, place.new_target)?;
     let type_change = type_change_of(place.found, &value);
     let expected = PreviousValue::MustExistAndMatch(place.found.try_to_owned()?);
     let edit = edit(judge, place.name, expected, value, happened)?;
@@ -92,11 +92,11 @@ fn edit(
     })
 }
 
-/// The value that is wanted, if its name is one.
-fn target_of(alloc: Global, wanted: NewTarget<'_>) -> Result<Target, Error>
-    ensures { AnswersUnless is_memory (spec.checked (value_in_code wanted.entry)) result }
+/// The new value, if its name is one.
+fn target_of(alloc: Global, new_target: NewTarget<'_>) -> Result<Target, Error>
+    ensures { AnswersUnless is_memory (spec.checked (value_in_code new_target.entry)) result }
 {
-    match wanted {
+    match new_target {
         NewTarget::Id(id) => Ok(Target::Object(id)),
         NewTarget::Name(text) => match full_name(alloc, text)? {
             Some(name) => Ok(Target::Symbolic(name)),

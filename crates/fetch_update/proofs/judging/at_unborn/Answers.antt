@@ -7,4 +7,4 @@ use Rattle.fetch_update.proofs.judging.at_unborn.Goals as goal
 pub returns : goal.returns
 unfolding change_unborn
 returns c =
-    subst (λ (m : Mode). AnswersUnless is_memory (if_valid (value_in_code c.args.place.wanted) (written c.args.judge.now.message.now (place_in_code c.args.place) m change_unborn)) c.write.result) c.unborn_mode-mode.ensures c.write.ensures
+    subst (λ (m : Mode). AnswersUnless is_memory (if_valid (value_in_code c.args.place.new_target) (written c.args.judge.now.message.now (place_in_code c.args.place) m change_unborn)) c.write.result) c.unborn_mode-mode.ensures c.write.ensures
