@@ -11,8 +11,8 @@ ghost use Rattle.fetch_remote.specs.Repositories.{state_of, setup_of, resolved_o
 
 use crate::clone::fetch::Error;
 use crate::head_target::{HeadError, HeadTarget, head_target_of};
+use crate::init::opening::{config_path, head};
 use crate::named_ref::RefNameError;
-use crate::opening::{config_path, head};
 use crate::upstream::following;
 use fetch_config::File;
 use fetch_refs::{Change, LogChange, PackedRefs, PreviousValue, RefEdit, RefLog, Target};

@@ -12,7 +12,7 @@ ghost use Rattle.fetch_clone.specs.Replacing.{replaced as replaced_in};
 
 use crate::clone::fetch::Error;
 use crate::head_update::write_local;
-use crate::opening::config_path;
+use crate::init::opening::config_path;
 use crate::replacing::replaced;
 use fetch_config::File;
 use fetch_lookup::save::AsError;

@@ -10,7 +10,7 @@ ghost use Rattle.fetch_clone.specs.declared.clone.fetch.Error.TheVariants as err
 
 use crate::clone::fetch::Error;
 use crate::head_update::write_local;
-use crate::opening::config_path;
+use crate::init::opening::config_path;
 use crate::versioning::set_version;
 use fetch_config::File;
 use fetch_remote::{OpenError, Repository, Resolved, read_configuration};

@@ -1,7 +1,7 @@
 use Rattle.std.proofs.Common.{◌∙◌, sym, arith}
 use Rattle.fetch_store.specs.Faults.{Counts-then}
 use Rattle.fetch_clone.proofs.Steps.{next-step}
-use Rattle.fetch_clone.proofs.making.perform.Goals as goal
+use Rattle.fetch_clone.proofs.create.run.perform.Goals as goal
 
 pub loop-step-preserved : goal.loop-step-preserved
 loop-step-preserved g c =

@@ -4,7 +4,7 @@ use Rattle.fetch_remote.specs.Repositories.{setup_of}
 use Rattle.fetch_remote.specs.RepositoryValues.{State, Setup}
 use Rattle.fetch_clone.specs.Initial.{head_branch, with_head}
 use Rattle.fetch_clone.proofs.Opened.{not-headed, not-overridden}
-use Rattle.fetch_clone.proofs.opening.opened.Goals as goal
+use Rattle.fetch_clone.proofs.init.opening.opened.Goals as goal
 
 pub returns-in_err-repo-clause-refused : goal.returns-in_err-repo-clause-refused
 returns-in_err-repo-clause-refused c =

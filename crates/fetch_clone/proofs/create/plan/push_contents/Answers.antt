@@ -1,7 +1,7 @@
 use Rattle.std.proofs.Common.{◌++◌, ap, ◌∙◌}
 use Rattle.fetch_clone.specs.Plans.{contents_of}
 use Rattle.fetch_clone.proofs.Appended.{behind}
-use Rattle.fetch_clone.proofs.plan.push_contents.Goals as goal
+use Rattle.fetch_clone.proofs.create.plan.push_contents.Goals as goal
 
 pub returns : goal.returns
 returns c =

@@ -1,7 +1,7 @@
 use Rattle.std.proofs.Common.{◌≡◌, take}
 use Rattle.fetch_store.specs.Faults.{Counts}
 use Rattle.fetch_clone.specs.Creation.{Reaches}
-use Rattle.fetch_clone.proofs.making.perform.Given as goal
+use Rattle.fetch_clone.proofs.create.run.perform.Given as goal
 
 abbrev pub invariant-loop-step : goal.invariant-loop-step
 invariant-loop-step g l =

@@ -5,10 +5,10 @@ ghost use Rattle.fetch_store.specs.Faults.{Rose, Counts};
 ghost use Rattle.fetch_store.specs.Paths.{parts_of};
 ghost use Rattle.fetch_store.specs.Trees.{kind_in, with_directories};
 ghost use Rattle.fetch_clone.specs.Creation.{Makes, Reaches, IsStopped, IsStopAt, IsOpenRefusal, listed_in, is_fault};
-ghost use Rattle.fetch_clone.specs.declared.step.Step.TheVariants as steps;
+ghost use Rattle.fetch_clone.specs.declared.create.step.Step.TheVariants as steps;
 
 use crate::create::Error;
-use crate::step::Step;
+use crate::create::step::Step;
 use fetch_store::{FileError, Files, Node, Text};
 
 /// Takes the steps in order, up to the first that is refused.

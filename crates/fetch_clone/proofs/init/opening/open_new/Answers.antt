@@ -3,7 +3,7 @@ use Rattle.std.proofs.lemmas.Result.{err_from_is_err_and, IfOk-weaker}
 use Rattle.fetch_store.specs.Faults.{Rose}
 use Rattle.fetch_clone.specs.Initial.{IsInitial, IsNew, IsUnopened, IsUnready, is_init_fault}
 use Rattle.fetch_clone.proofs.Opened.{each-err, no-fault, unopened, unread, unread-fault}
-use Rattle.fetch_clone.proofs.opening.open_new.Goals as goal
+use Rattle.fetch_clone.proofs.init.opening.open_new.Goals as goal
 
 pub returns-in_err-local-clause-refused : goal.returns-in_err-local-clause-refused
 returns-in_err-local-clause-refused g c =

@@ -2,7 +2,7 @@ use Rattle.std.proofs.Common.{◌≡◌, ◌≤◌, List, ℕ, length, Some, IfS
 use Rattle.std.proofs.lemmas.Result.{err_from_is_err_and}
 use Rattle.fetch_clone.specs.Creation.{listed_in}
 use Rattle.fetch_clone.proofs.Steps.{has-entry, unlisted, unopened-err}
-use Rattle.fetch_clone.proofs.making.clear.Goals as goal
+use Rattle.fetch_clone.proofs.create.run.clear.Goals as goal
 
 pub returns-in_err-listed-clause-refused : goal.returns-in_err-listed-clause-refused
 returns-in_err-listed-clause-refused g c =

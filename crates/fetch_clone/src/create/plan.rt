@@ -2,11 +2,11 @@
 
 ghost use Rattle.std.specs.Prelude.{◌≡◌, IfOk, OnOk, ◌++◌, ◌∷◌, []};
 ghost use Rattle.fetch_clone.specs.Plans as spec;
-ghost use Rattle.fetch_clone.specs.declared.step.Step.TheVariants.{Directory, File};
+ghost use Rattle.fetch_clone.specs.declared.create.step.Step.TheVariants.{Directory, File};
 
 use crate::configuration::configuration_of;
+use crate::create::step::Step;
 use crate::create::{Capabilities, Kind, Options, Path};
-use crate::step::Step;
 use fetch_store::{NoMemory, Text};
 use std::alloc::Global;
 
