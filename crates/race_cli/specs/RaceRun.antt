@@ -31,9 +31,9 @@ pub record IsSetUp (opened_case : JobCase) (job : Job Script) : Type 0 where
 -- each of them, in order
 abbrev pub AreSetUp : List JobCase → List (Job Script) → Type 0
 AreSetUp [] [] = Unit {0}
-AreSetUp (opened_case ∷ cases) (job ∷ jobs) = IsSetUp opened_case job × AreSetUp cases jobs
+AreSetUp (opened_case ∷ job_cases) (job ∷ jobs) = IsSetUp opened_case job × AreSetUp job_cases jobs
 AreSetUp [] (job ∷ jobs) = ⊥
-AreSetUp (opened_case ∷ cases) [] = ⊥
+AreSetUp (opened_case ∷ job_cases) [] = ⊥
 
 -- the race of a scene
 abbrev pub race_in : RaceScene → Race Script

@@ -49,13 +49,13 @@ fn open_job(alloc: Global, job: RaceJob) -> Result<JobCase, NoMemory>
 }
 
 fn open_jobs(alloc: Global, jobs: List<RaceJob>) -> Result<List<JobCase>, NoMemory>
-    ensures { IfOk result (λ cases. cases ≡ map spec.job_in jobs) }
+    ensures { IfOk result (λ job_cases. job_cases ≡ map spec.job_in jobs) }
 {
-    let mut cases = Vec::new(alloc);
+    let mut job_cases = Vec::new(alloc);
     for job in jobs.into_vec() {
-        cases.push(open_job(alloc, job)?)?;
+        job_cases.push(open_job(alloc, job)?)?;
     }
-    Ok(List::from(cases))
+    Ok(List::from(job_cases))
 }
 
 /// Sets up what the scene of a race says. Its objects are of its hash, as those that are read are. It is refused only where

@@ -61,11 +61,11 @@ fn malformed(alloc: Global, place: usize) -> Result<Answer, NoMemory>
 }
 
 /// The jobs, each with a peer that gives its pieces and never fails.
-fn scripted(alloc: Global, cases: List<JobCase>) -> Result<Vec<Job<ScriptedPeer>>, NoMemory>
-    ensures { IfOk result (λ jobs. AreSetUp cases jobs.items) }
+fn scripted(alloc: Global, job_cases: List<JobCase>) -> Result<Vec<Job<ScriptedPeer>>, NoMemory>
+    ensures { IfOk result (λ jobs. AreSetUp job_cases jobs.items) }
 {
-    let mut jobs = Vec::with_capacity(alloc, cases.len())?;
-    for opened_case in cases.into_vec() {
+    let mut jobs = Vec::with_capacity(alloc, job_cases.len())?;
+    for opened_case in job_cases.into_vec() {
         jobs.push(job_of(alloc, opened_case))?;
     }
     Ok(jobs)

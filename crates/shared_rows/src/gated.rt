@@ -131,7 +131,7 @@ fn gated(
 }
 
 /// The first two jobs of a race, each with a peer that holds its reply.
-fn both(alloc: Global, cases: Vec<JobCase>) -> Result<Vec<Job<GatedPeer>>, NoMemory>
+fn both(alloc: Global, job_cases: Vec<JobCase>) -> Result<Vec<Job<GatedPeer>>, NoMemory>
     ensures { IfOk result (λ jobs. vec_len jobs ≤ 2) }
 {
     let asked = Arc::new(
@@ -142,7 +142,7 @@ fn both(alloc: Global, cases: Vec<JobCase>) -> Result<Vec<Job<GatedPeer>>, NoMem
         },
     )?;
     let mut jobs = Vec::with_capacity(alloc, 2)?;
-    for opened_case in cases {
+    for opened_case in job_cases {
         if jobs.len() >= 2 {
             break;
         }

@@ -7,5 +7,5 @@ abbrev pub invariant-loop-job : goal.invariant-loop-job
 invariant-loop-job l = record {
   next : (goal.iterator-loop-job).can_next l.job-iterator;
   ends : (goal.iterator-loop-job).is_finite l.job-iterator;
-  rest : l.cases.items ++ map job_in (into_iter_items l.job-iterator) ≡ map job_in l.fn.jobs;
+  rest : l.job_cases.items ++ map job_in (into_iter_items l.job-iterator) ≡ map job_in l.fn.jobs;
 }

@@ -7,6 +7,6 @@ abbrev pub invariant-loop-opened_case : goal.invariant-loop-opened_case
 invariant-loop-opened_case l = record {
   next : (goal.iterator-loop-opened_case).can_next l.opened_case-iterator;
   ends : (goal.iterator-loop-opened_case).is_finite l.opened_case-iterator;
-  split : l.yielded ++ into_iter_items l.opened_case-iterator ≡ l.fn.cases;
+  split : l.yielded ++ into_iter_items l.opened_case-iterator ≡ l.fn.job_cases;
   set_up : AreSetUp l.yielded l.jobs.items;
 }
