@@ -1,7 +1,7 @@
 //! What a row chooses of its clone.
 
+use crate::clone_case::CloneCase;
 use crate::refusals;
-use crate::setting::Setting;
 use fetch_clone::PrepareFetch;
 use fetch_remote::connect::Connect;
 use fetch_remote::ref_map;
@@ -12,28 +12,28 @@ use std::alloc::Global;
 /// The clone as the row asks for it, but for its closures. What is refused is told, and passed over.
 pub(crate) fn built<F: Files + Drop, C: Connect + Drop, R: Drop, G: Drop>(
     alloc: Global,
-    setting: &Setting,
+    clone_case: &CloneCase,
     clone: PrepareFetch<F, C, R, G>,
     out: &mut Vec<u8>,
 ) -> Result<PrepareFetch<F, C, R, G>, NoMemory> {
-    let overrides = copies_of(alloc, &setting.overrides)?;
+    let overrides = copies_of(alloc, &clone_case.overrides)?;
     let mut options = ref_map::Options::new(alloc);
-    options.extra_refspecs = List::from(specs_of(alloc, &setting.specs)?);
+    options.extra_refspecs = List::from(specs_of(alloc, &clone_case.specs)?);
     let clone = clone
         .with_in_memory_config_overrides(overrides)
         .with_fetch_options(options)
-        .with_shallow(setting.shallow.try_clone()?);
-    let clone = with_remote_name(setting, clone, out)?;
-    let clone = with_ref_name(setting, clone, out)?;
-    with_revision(setting, clone, out)
+        .with_shallow(clone_case.shallow.try_clone()?);
+    let clone = with_remote_name(clone_case, clone, out)?;
+    let clone = with_ref_name(clone_case, clone, out)?;
+    with_revision(clone_case, clone, out)
 }
 
 fn with_remote_name<F: Files + Drop, C: Connect + Drop, R: Drop, G: Drop>(
-    setting: &Setting,
+    clone_case: &CloneCase,
     clone: PrepareFetch<F, C, R, G>,
     out: &mut Vec<u8>,
 ) -> Result<PrepareFetch<F, C, R, G>, NoMemory> {
-    let Some(name) = &setting.remote_name else {
+    let Some(name) = &clone_case.remote_name else {
         return Ok(clone);
     };
     match clone.with_remote_name(name.as_bytes()) {
@@ -46,11 +46,11 @@ fn with_remote_name<F: Files + Drop, C: Connect + Drop, R: Drop, G: Drop>(
 }
 
 fn with_ref_name<F: Files + Drop, C: Connect + Drop, R: Drop, G: Drop>(
-    setting: &Setting,
+    clone_case: &CloneCase,
     clone: PrepareFetch<F, C, R, G>,
     out: &mut Vec<u8>,
 ) -> Result<PrepareFetch<F, C, R, G>, NoMemory> {
-    let Some(name) = &setting.ref_name else {
+    let Some(name) = &clone_case.ref_name else {
         return Ok(clone);
     };
     match clone.with_ref_name(Some(name.as_bytes())) {
@@ -63,11 +63,11 @@ fn with_ref_name<F: Files + Drop, C: Connect + Drop, R: Drop, G: Drop>(
 }
 
 fn with_revision<F: Files + Drop, C: Connect + Drop, R: Drop, G: Drop>(
-    setting: &Setting,
+    clone_case: &CloneCase,
     clone: PrepareFetch<F, C, R, G>,
     out: &mut Vec<u8>,
 ) -> Result<PrepareFetch<F, C, R, G>, NoMemory> {
-    let Some(revision) = &setting.revision else {
+    let Some(revision) = &clone_case.revision else {
         return Ok(clone);
     };
     match clone.with_revision(Some(revision.as_bytes())) {

@@ -1,8 +1,8 @@
 //! Clones, from peers that say what a row has or from servers, over files in memory or on the host.
 
+use crate::clone_case::{CloneCase, agrees, as_it_is, options};
 use crate::said::maker_of;
 use crate::served::{ServedConnect, repository_of};
-use crate::setting::{Setting, agrees, as_it_is, options};
 use crate::standing::say_place;
 use crate::trying::{Course, Ending, tell_clone};
 use fetch_clone::create::Options;
@@ -17,8 +17,8 @@ use std::fs::Files as HostCalls;
 use std::thread::Threads;
 
 /// Where a clone is to stand.
-fn creation(setting: &Setting) -> Options {
-    if setting.is_used {
+fn creation(clone_case: &CloneCase) -> Options {
+    if clone_case.is_used {
         Options {
             destination_must_be_empty: Some(false),
             ..Options::default()
@@ -33,7 +33,7 @@ fn creation(setting: &Setting) -> Options {
 fn clone_over<T: Threads + Sync, F: Files + Drop, C: Connect + Drop>(
     rt: &T,
     alloc: Global,
-    setting: &Setting,
+    clone_case: &CloneCase,
     files: F,
     maker: C,
     place: &[u8],
@@ -44,10 +44,10 @@ fn clone_over<T: Threads + Sync, F: Files + Drop, C: Connect + Drop>(
     let committer = somebody(alloc)?;
     let clone = PrepareFetch::new(
         alloc,
-        setting.url.as_bytes(),
+        clone_case.url.as_bytes(),
         place,
-        setting.kind,
-        creation(setting),
+        clone_case.kind,
+        creation(clone_case),
         options,
         committer,
         files,
@@ -56,7 +56,7 @@ fn clone_over<T: Threads + Sync, F: Files + Drop, C: Connect + Drop>(
         agrees::<C::Peer>,
     );
     match clone {
-        Ok(clone) => tell_clone(rt, alloc, setting, clone, place, course, out),
+        Ok(clone) => tell_clone(rt, alloc, clone_case, clone, place, course, out),
         Err(_) => say(out, &[b"unprepared"]),
     }
 }
@@ -65,43 +65,50 @@ fn clone_over<T: Threads + Sync, F: Files + Drop, C: Connect + Drop>(
 fn clone_in_memory<T: Threads + Sync, C: Connect + Drop>(
     rt: &T,
     alloc: Global,
-    setting: &Setting,
+    clone_case: &CloneCase,
     maker: C,
     tries: u64,
     out: &mut Vec<u8>,
 ) -> Result<(), NoMemory> {
-    let files = MemoryFiles::new(alloc, Vec::from_slice(alloc, &setting.files)?);
+    let files = MemoryFiles::new(alloc, Vec::from_slice(alloc, &clone_case.files)?);
     let course = Course {
         tries,
         ending: Ending::GivenUp,
     };
-    clone_over(rt, alloc, setting, files, maker, b"/w", course, out)
+    clone_over(rt, alloc, clone_case, files, maker, b"/w", course, out)
 }
 
 /// The same from what its peers say.
 fn clone_from_script<T: Threads + Sync>(
     rt: &T,
     alloc: Global,
-    setting: &Setting,
+    clone_case: &CloneCase,
     tries: u64,
     out: &mut Vec<u8>,
 ) -> Result<(), NoMemory> {
-    let maker = maker_of(alloc, &setting.said, &setting.unmade)?;
-    clone_in_memory(rt, alloc, setting, maker, tries, out)
+    let maker = maker_of(alloc, &clone_case.said, &clone_case.unmade)?;
+    clone_in_memory(rt, alloc, clone_case, maker, tries, out)
 }
 
 /// The same from servers of a repository. Where it can't be served, it is told why.
 fn clone_from<T: Threads + Sync>(
     rt: &T,
     alloc: Global,
-    setting: &Setting,
+    clone_case: &CloneCase,
     repo: &Repository,
     tries: u64,
     out: &mut Vec<u8>,
 ) -> Result<(), NoMemory> {
     match Server::new(alloc, repo.store(), repo.refs(), repo.border()) {
         Ok(server) => {
-            clone_in_memory(rt, alloc, setting, ServedConnect::new(server), tries, out)
+            clone_in_memory(
+                rt,
+                alloc,
+                clone_case,
+                ServedConnect::new(server),
+                tries,
+                out,
+            )
         }
         Err(ServeError::NoMemory) => Err(NoMemory),
         Err(e) => say_printed(out, b"unserved", &e),
@@ -112,13 +119,13 @@ fn clone_from<T: Threads + Sync>(
 fn clone_from_server<T: Threads + Sync>(
     rt: &T,
     alloc: Global,
-    setting: &Setting,
+    clone_case: &CloneCase,
     tries: u64,
     out: &mut Vec<u8>,
 ) -> Result<bool, NoMemory> {
-    match repository_of(rt, alloc, setting.server.as_bytes())? {
+    match repository_of(rt, alloc, clone_case.server.as_bytes())? {
         Some(repo) => {
-            clone_from(rt, alloc, setting, &repo, tries, out)?;
+            clone_from(rt, alloc, clone_case, &repo, tries, out)?;
             Ok(true)
         }
         None => Ok(false),
@@ -126,8 +133,8 @@ fn clone_from_server<T: Threads + Sync>(
 }
 
 /// Puts a file of the user's at the place, where the row has one there.
-fn prepare_place<F: Files>(setting: &Setting, files: &mut F) {
-    if setting.is_used {
+fn prepare_place<F: Files>(clone_case: &CloneCase, files: &mut F) {
+    if clone_case.is_used {
         let _ = files.make_dir_all(b"made");
         let _ = files.write(b"made/notes", b"mine\n");
     }
@@ -138,15 +145,15 @@ fn prepare_place<F: Files>(setting: &Setting, files: &mut F) {
 fn clone_on_host<T: Threads + Sync + HostCalls + Alloc<A = Global> + Clone + Drop>(
     rt: &T,
     alloc: Global,
-    setting: &Setting,
+    clone_case: &CloneCase,
     course: Course,
     out: &mut Vec<u8>,
 ) -> Result<(), NoMemory> {
     let mut files = HostFiles::new(rt.clone()?);
-    prepare_place(setting, &mut files);
+    prepare_place(clone_case, &mut files);
     let own = HostFiles::new(rt.clone()?);
-    let maker = maker_of(alloc, &setting.said, &setting.unmade)?;
-    clone_over(rt, alloc, setting, own, maker, b"made", course, out)?;
+    let maker = maker_of(alloc, &clone_case.said, &clone_case.unmade)?;
+    clone_over(rt, alloc, clone_case, own, maker, b"made", course, out)?;
     if course.ending != Ending::GivenUp {
         say_place(&mut files, b"made/.git/config", out)?;
         say_place(&mut files, b"made/notes", out)?;
@@ -172,7 +179,7 @@ fn ending_of(word: &[u8]) -> Option<Ending> {
 fn tell_clones<T: Threads + Sync + HostCalls + Alloc<A = Global> + Clone + Drop>(
     rt: &T,
     alloc: Global,
-    setting: &Setting,
+    clone_case: &CloneCase,
     word: &[u8],
     rest: &[u8],
     out: &mut Vec<u8>,
@@ -181,15 +188,15 @@ fn tell_clones<T: Threads + Sync + HostCalls + Alloc<A = Global> + Clone + Drop>
         return Ok(false);
     };
     if word == b"clone".as_slice() {
-        clone_from_script(rt, alloc, setting, tries, out)?;
+        clone_from_script(rt, alloc, clone_case, tries, out)?;
         return Ok(true);
     }
     if word == b"clone-from-server".as_slice() {
-        return clone_from_server(rt, alloc, setting, tries, out);
+        return clone_from_server(rt, alloc, clone_case, tries, out);
     }
     match ending_of(word) {
         Some(ending) => {
-            clone_on_host(rt, alloc, setting, Course { tries, ending }, out)?;
+            clone_on_host(rt, alloc, clone_case, Course { tries, ending }, out)?;
             Ok(true)
         }
         None => Ok(false),
@@ -211,17 +218,17 @@ fn append_told(out: &mut Vec<u8>, told: &[u8], last: &[u8]) -> Result<(), NoMemo
 fn tell_line<T: Threads + Sync + HostCalls + Alloc<A = Global> + Clone + Drop>(
     rt: &T,
     alloc: Global,
-    setting: &mut Setting,
+    clone_case: &mut CloneCase,
     line: &[u8],
     last: &mut Vec<u8>,
     out: &mut Vec<u8>,
 ) -> Result<bool, NoMemory> {
     let (word, rest) = split_word(line);
-    if setting.take(alloc, word, rest)? {
+    if clone_case.take(alloc, word, rest)? {
         return Ok(true);
     }
     let mut told = Vec::new(alloc);
-    if !tell_clones(rt, alloc, setting, word, rest, &mut told)? {
+    if !tell_clones(rt, alloc, clone_case, word, rest, &mut told)? {
         return Ok(false);
     }
     append_told(out, &told, last)?;
@@ -236,10 +243,10 @@ pub(crate) fn tell<T: Threads + Sync + HostCalls + Alloc<A = Global> + Clone + D
     text: &[u8],
     out: &mut Vec<u8>,
 ) -> Result<bool, NoMemory> {
-    let mut setting = Box::new(alloc, Setting::new(alloc)?)?;
+    let mut clone_case = Box::new(alloc, CloneCase::new(alloc)?)?;
     let mut last = Vec::new(alloc);
     for line in &lines(alloc, text)? {
-        if !tell_line(rt, alloc, &mut setting, line, &mut last, out)? {
+        if !tell_line(rt, alloc, &mut clone_case, line, &mut last, out)? {
             return Ok(false);
         }
     }

@@ -1,6 +1,6 @@
 //! Clones that are given up, or dropped.
 
-use crate::setting::{agrees, as_it_is, options};
+use crate::clone_case::{agrees, as_it_is, options};
 use crate::standing::say_place;
 use fetch_clone::create::{Kind, Options};
 use fetch_clone::{HostFiles, PrepareFetch};

@@ -2,6 +2,7 @@
 #![tactic(auto)]
 
 mod building;
+mod clone_case;
 mod cloning;
 mod creating;
 mod giving_up;
@@ -9,7 +10,6 @@ mod making;
 mod refusals;
 mod said;
 mod served;
-mod setting;
 mod standing;
 mod trying;
 

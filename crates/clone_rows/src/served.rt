@@ -4,7 +4,7 @@ ghost use Rattle.std.specs.Prelude.{◌≤◌, ◌+◌};
 ghost use Rattle.fetch_store.specs.Faults.{Rose, Counts, counted};
 ghost use Rattle.fetch_store.specs.Stores.{AreOf};
 
-use fetch_cli::{SceneFault, ServerScene, read_server_scene, set_up_local};
+use fetch_cli::{SceneFault, ServerScene, open_local, read_server_scene};
 use fetch_remote::Repository;
 use fetch_remote::connect::Connect;
 use fetch_serve::{Server, ServerPeer};
@@ -127,7 +127,7 @@ impl<'a> Connect for ServedConnect<'a> {
 fn set_up(alloc: Global, scene: ServerScene) -> Result<Box<Repository>, NoMemory>
     requires { AreOf scene.local.head.hash scene.objects }
 {
-    let (repo, _) = set_up_local(alloc, scene.local, scene.objects)?;
+    let (repo, _) = open_local(alloc, scene.local, scene.objects)?;
     Ok(Box::new(alloc, repo)?)
 }
 

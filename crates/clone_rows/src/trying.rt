@@ -1,8 +1,8 @@
 //! The tries of a clone, what stands after each, and its end.
 
 use crate::building::built;
+use crate::clone_case::{CloneCase, Closures, as_it_is};
 use crate::refusals;
-use crate::setting::{Closures, Setting, as_it_is};
 use crate::standing::say_file;
 use fetch_cli::append_state;
 use fetch_clone::{ConfigureFault, PrepareFetch};
@@ -59,7 +59,7 @@ fn unsaveable(alloc: Global, remote: Remote) -> Result<Remote, NoMemory> {
 pub(crate) fn tell_clone<T: Threads + Sync, F: Files + Drop, C: Connect + Drop, R, G>(
     rt: &T,
     alloc: Global,
-    setting: &Setting,
+    clone_case: &CloneCase,
     clone: PrepareFetch<F, C, R, G>,
     place: &[u8],
     course: Course,
@@ -71,30 +71,30 @@ where
     requires remote { (f : _) (x : _) → R.pre f x }
     requires connection { (f : _) (x : _) → G.pre f x }
 {
-    let clone = built(alloc, setting, clone, out)?;
-    match setting.closures {
-        Closures::Usual => tell_tries(rt, alloc, setting, clone, place, course, out),
+    let clone = built(alloc, clone_case, clone, out)?;
+    match clone_case.closures {
+        Closures::Usual => tell_tries(rt, alloc, clone_case, clone, place, course, out),
         Closures::Remote => {
             let clone = clone.configure_remote(as_it_is);
-            tell_tries(rt, alloc, setting, clone, place, course, out)
+            tell_tries(rt, alloc, clone_case, clone, place, course, out)
         }
         Closures::RefusesRemote => {
             let clone = clone.configure_remote(move |_remote: Remote| Err(refusal(alloc)?));
-            tell_tries(rt, alloc, setting, clone, place, course, out)
+            tell_tries(rt, alloc, clone_case, clone, place, course, out)
         }
         Closures::RefusesPeer => {
             let clone = clone.configure_connection(move |_peer: &mut C::Peer| Err(refusal(alloc)?));
-            tell_tries(rt, alloc, setting, clone, place, course, out)
+            tell_tries(rt, alloc, clone_case, clone, place, course, out)
         }
         Closures::Nowhere => {
             let clone = clone.configure_remote(move |remote: Remote| Ok(nowhere(alloc, remote)));
-            tell_tries(rt, alloc, setting, clone, place, course, out)
+            tell_tries(rt, alloc, clone_case, clone, place, course, out)
         }
         Closures::Unsaveable => {
             let clone = clone.configure_remote(move |remote: Remote| Ok(unsaveable(
                 alloc, remote,
             )?));
-            tell_tries(rt, alloc, setting, clone, place, course, out)
+            tell_tries(rt, alloc, clone_case, clone, place, course, out)
         }
     }
 }
@@ -113,7 +113,7 @@ fn worktrees_of(alloc: Global, failing: &[u64]) -> Result<ScriptedWorktrees, NoM
 fn tell_tries<T: Threads + Sync, F: Files + Drop, C: Connect + Drop, R, G>(
     rt: &T,
     alloc: Global,
-    setting: &Setting,
+    clone_case: &CloneCase,
     clone: PrepareFetch<F, C, R, G>,
     place: &[u8],
     course: Course,
@@ -126,8 +126,8 @@ where
     requires connection { (f : _) (x : _) → G.pre f x }
 {
     let mut clone = clone;
-    let mut interrupt = ScriptedInterrupt::new(Vec::from_slice(alloc, &setting.yes)?);
-    let mut worktrees = worktrees_of(alloc, &setting.worktrees)?;
+    let mut interrupt = ScriptedInterrupt::new(Vec::from_slice(alloc, &clone_case.yes)?);
+    let mut worktrees = worktrees_of(alloc, &clone_case.worktrees)?;
     for _ in 0..course.tries {
         tell_try(rt, alloc, &mut clone, &mut interrupt, &mut worktrees, out)?;
     }

@@ -1,4 +1,4 @@
-pub mod Ends
+pub mod Io
 pub mod Memory
 pub mod ReportLines
 pub mod MapLines

@@ -13,7 +13,7 @@ use Rattle.fetch_cli.specs.declared.program.words.Command.{Command}
 use Rattle.fetch_cli.specs.declared.program.words.Command.TheVariants.{Fetch, Check, Bench, Help, Version}
 use Rattle.fetch_cli.specs.Bench.{generated_scene, summary_of, IsSummary}
 use Rattle.fetch_cli.specs.Checks.{AreFoundIn, IsChecked, repository_of}
-use Rattle.fetch_cli.specs.Ends.{IsFront, IsAll}
+use Rattle.fetch_cli.specs.Io.{IsFront, IsAll}
 use Rattle.fetch_cli.specs.Report.{given_of, found_of, stream_of, IsReport}
 use Rattle.fetch_cli.specs.ReportLines.{malformed_line, malformed_word_line}
 use Rattle.fetch_cli.specs.ServerScenes.{server_scene_of}

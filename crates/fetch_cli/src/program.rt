@@ -1,7 +1,7 @@
 //! The program: where its input comes from, where its output goes, and its words.
 
-pub mod ends;
 pub mod input;
+pub mod io;
 pub mod memory;
 pub mod running;
 pub mod server_scene;

@@ -1,10 +1,10 @@
 //! The report of a scene.
 
+pub mod fetch_case;
 pub mod heard;
 mod keep_files;
 pub mod lines;
 pub mod map_lines;
-pub mod setting;
 pub mod state_lines;
 pub mod summary;
 pub mod tokens;
@@ -22,11 +22,11 @@ ghost use Rattle.fetch_cli.specs.Report.{Reports};
 ghost use Rattle.fetch_cli.specs.ReportLines.{refused_line};
 ghost use Rattle.fetch_cli.specs.Tokens.{token};
 
+use crate::reporting::fetch_case::{FetchCase, open_scene};
 use crate::reporting::heard::append_heard;
 use crate::reporting::keep_files::first_kept;
 use crate::reporting::lines::{append_keep, append_refused};
 use crate::reporting::map_lines::append_map;
-use crate::reporting::setting::{Setting, set_up};
 use crate::reporting::state_lines::append_state;
 use crate::reporting::tokens::append_token;
 use fetch_remote::{FetchError, Outcome, Repository, Status};
@@ -46,20 +46,20 @@ pub(crate) struct Fetched {
 }
 
 /// Fetches as it is set up, from a peer, with files and worktrees that never fail; and gives the files back, too.
-fn fetch<R: Threads + Sync>(rt: &R, alloc: Global, setting: Setting) -> (Fetched, MemoryFiles)
-    ensures fetched { HasFetched (record { remote = setting.remote; options = setting.options; setup = setup_of setting.repo })
-        setting.worktrees (state_of setting.repo) (concat setting.pieces)
+fn fetch<R: Threads + Sync>(rt: &R, alloc: Global, fetch_case: FetchCase) -> (Fetched, MemoryFiles)
+    ensures fetched { HasFetched (record { remote = fetch_case.remote; options = fetch_case.options; setup = setup_of fetch_case.repo })
+        fetch_case.worktrees (state_of fetch_case.repo) (concat fetch_case.pieces)
         result.0.result (state_of result.0.repo) result.1.tree result.0.peer.heard }
-    ensures setup { setup_of result.0.repo ≡ setup_of setting.repo }
+    ensures setup { setup_of result.0.repo ≡ setup_of fetch_case.repo }
     ensures calm { ⟦<MemoryFiles as Files>⟧.may_fail result.1 ≡ false }
 {
-    let Setting {
+    let FetchCase {
         repo,
         remote,
         options,
         worktrees,
         pieces,
-    } = setting;
+    } = fetch_case;
     let mut repo = repo;
     let mut peer = ScriptedPeer::new(alloc, pieces.into_vec(), Vec::new(alloc));
     let mut interrupt = ScriptedInterrupt::new(Vec::new(alloc));
@@ -220,8 +220,8 @@ pub fn report<R: Threads + Sync>(
     requires { AreOf scene.hash scene.objects }
     ensures { IfOk result (λ status. Reports scene out.old.items out.new.items status) }
 {
-    let setting = set_up(alloc, scene)?;
-    let (fetched, files) = fetch(rt, alloc, setting);
+    let fetch_case = open_scene(alloc, scene)?;
+    let (fetched, files) = fetch(rt, alloc, fetch_case);
     let keep = first_kept(alloc, files, fetched.repo.git_dir())?;
     append_report(out, &fetched, &keep)
 }

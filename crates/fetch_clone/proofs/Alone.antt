@@ -12,7 +12,7 @@ use Rattle.fetch_config.specs.declared.section.Section.{Section}
 use Rattle.fetch_lookup.specs.Saved.{is_of_remote, last_place, new_section, placed_in, saved, saved_lines, used_or_new, with_lines}
 use Rattle.fetch_remote.specs.Remotes.{RemoteValue, parts_of}
 use Rattle.fetch_remote.specs.RepositoryValues.{Setup}
-use Rattle.fetch_clone.specs.Mirrors.{section_of}
+use Rattle.fetch_clone.specs.RemoteSections.{section_of}
 use Rattle.fetch_clone.specs.Replacing.{is_like, is_replaced, replaced}
 
 same-name : (name : List ℕ) → is_same_name name name ≡ true

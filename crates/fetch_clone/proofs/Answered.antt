@@ -19,18 +19,18 @@ use Rattle.fetch_remote.specs.declared.fetching.outcome.Outcome.{Outcome}
 use Rattle.fetch_remote.specs.declared.fetching.prepared.Prepared.{Prepared}
 use Rattle.fetch_clone.specs.Counted.{Meters, IsCounted}
 use Rattle.fetch_clone.specs.Heeded.{IsHeededOver}
-use Rattle.fetch_clone.specs.Heading.{IsToldAs}
-use Rattle.fetch_clone.specs.Meant.{is_memory, meant_in}
+use Rattle.fetch_clone.specs.HeadUpdates.{IsToldAs}
+use Rattle.fetch_clone.specs.NamedRefs.{is_memory, ref_named_in}
 use Rattle.fetch_clone.specs.Reached.{Ways, Line, IsTurnedAway, IsUnreached, connecting, line, turned_away}
 use Rattle.fetch_clone.specs.Received.{IsNotTaken, IsOfReceiving, IsReceived, IsTaken, IsUnmapped, IsUnreceived}
 use Rattle.fetch_clone.specs.Stages.{listing}
-use Rattle.fetch_clone.specs.declared.aim.Unaimed.TheVariants as unaimed
-use Rattle.fetch_clone.specs.declared.choices.Wanted.{Wanted}
-use Rattle.fetch_clone.specs.declared.choices.Wanted.TheVariants.{RefName}
+use Rattle.fetch_clone.specs.declared.head_target.HeadError.TheVariants as head_errors
+use Rattle.fetch_clone.specs.declared.choices.CloneTarget.{CloneTarget}
+use Rattle.fetch_clone.specs.declared.choices.CloneTarget.TheVariants.{RefName}
 use Rattle.fetch_clone.specs.declared.clone.fetch.Error.{Error}
 use Rattle.fetch_clone.specs.declared.clone.fetch.Error.TheVariants as errors
-use Rattle.fetch_clone.specs.declared.draft.Draft.{Draft}
-use Rattle.fetch_clone.specs.declared.meant.Unmeant.{Unmeant}
+use Rattle.fetch_clone.specs.declared.clone_state.CloneState.{CloneState}
+use Rattle.fetch_clone.specs.declared.named_ref.RefNameError.{RefNameError}
 use Rattle.fetch_clone.specs.declared.prepare_fetch.ConfigureFault.{ConfigureFault}
 use Rattle.fetch_clone.specs.declared.prepare_fetch.ConfigureFault.TheVariants as faults
 use Rattle.fetch_clone.proofs.Headed.{forgotten, memory-told}
@@ -78,16 +78,16 @@ is-listing ref_map.NoMemory cause h = absurd cc
 
 -- ---- what is mapped
 
-unmapped-by : (name : List ℕ) (map : RefMap) (cause : Unmeant) (e : Error) (b : Bool) → is_memory cause ≡ b → OnFalse b (meant_in map.mappings name ≡ Err cause) → IsToldAs (Some name) None (unaimed.Name cause) e → IsUnmapped (RefName name) map e
-unmapped-by name map cause e true m is told = inl (forgotten (Some name) None (unaimed.Name cause) e (memory-told (Some name) None (unaimed.Name cause) m) told)
+unmapped-by : (name : List ℕ) (map : RefMap) (cause : RefNameError) (e : Error) (b : Bool) → is_memory cause ≡ b → OnFalse b (ref_named_in map.mappings name ≡ Err cause) → IsToldAs (Some name) None (head_errors.Name cause) e → IsUnmapped (RefName name) map e
+unmapped-by name map cause e true m is told = inl (forgotten (Some name) None (head_errors.Name cause) e (memory-told (Some name) None (head_errors.Name cause) m) told)
 unmapped-by name map cause e false m is told = inr (cause, is, told)
 
-pub unmapped : (name : List ℕ) (map : RefMap) (cause : Unmeant) (e : Error) → OnFalse (is_memory cause) (meant_in map.mappings name ≡ Err cause) → IsToldAs (Some name) None (unaimed.Name cause) e → IsUnmapped (RefName name) map e
+pub unmapped : (name : List ℕ) (map : RefMap) (cause : RefNameError) (e : Error) → OnFalse (is_memory cause) (ref_named_in map.mappings name ≡ Err cause) → IsToldAs (Some name) None (head_errors.Name cause) e → IsUnmapped (RefName name) map e
 unmapped name map cause e is told = unmapped-by name map cause e (is_memory cause) refl is told
 
 -- ---- what is taken
 
-module _ {P : Type 0} (told : P → Option Talk) (answers : Bool) (before after : Option (List P)) (known : Option (List Worktree)) (may_fail : Bool) (files files_left : Option Tree) (draft : Draft) (remote : RemoteValue) (prepared : Prepared) (found repo : RepositoryValue) (last : P) (H : Option Talk → Type 0)
+module _ {P : Type 0} (told : P → Option Talk) (answers : Bool) (before after : Option (List P)) (known : Option (List Worktree)) (may_fail : Bool) (files files_left : Option Tree) (draft : CloneState) (remote : RemoteValue) (prepared : Prepared) (found repo : RepositoryValue) (last : P) (H : Option Talk → Type 0)
     (returned : TakesBack before after last) where
   pub is-taken : (will will' : ℕ → Type 0) (now : Option Talk) (r : Result Outcome Error) → OnOk r (IsHeededOver will will' now (told last))
       → IfOk r (λ outcome. (begun : Option Talk) → H begun → IsReceived answers begun (told last) known files files_left draft remote prepared found repo outcome)
@@ -102,7 +102,7 @@ module _ {P : Type 0} (told : P → Option Talk) (answers : Bool) (before after 
   not-taken (Err e) refused = λ begun h. record { last = last; why = refused begun h; returned = returned }
 
 -- The refusals that have a count come only where it rose, once the peer is taken back.
-pub taken-counted : (was is here left : Meters) (wanted : Wanted) (map : RefMap) (r : Result Outcome Error) → IfErr r (IsOfReceiving wanted map) → (Rose here.lost left.lost → Rose was.lost is.lost) → (Rose here.yes left.yes → Rose was.yes is.yes) → (Rose here.files left.files → Rose was.files is.files)
+pub taken-counted : (was is here left : Meters) (wanted : CloneTarget) (map : RefMap) (r : Result Outcome Error) → IfErr r (IsOfReceiving wanted map) → (Rose here.lost left.lost → Rose was.lost is.lost) → (Rose here.yes left.yes → Rose was.yes is.yes) → (Rose here.files left.files → Rose was.files is.files)
     → (Rose here.trees.listing left.trees.listing → Rose was.trees.listing is.trees.listing) → (Rose here.trees.open_repo left.trees.open_repo → Rose was.trees.open_repo is.trees.open_repo) → (Rose here.trees.follow_symref left.trees.follow_symref → Rose was.trees.follow_symref is.trees.follow_symref)
     → IfErr r (IsCounted here left) → IfErr r (IsCounted was is)
 taken-counted was is here left wanted map (Ok x) kind lost said files listed opened followed h = tt

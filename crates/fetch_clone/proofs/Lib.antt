@@ -1,6 +1,6 @@
 pub mod Appended
 pub mod Steps
-pub mod Meanings
+pub mod NamedRefs
 pub mod Replaced
 pub mod Alone
 pub mod Settings

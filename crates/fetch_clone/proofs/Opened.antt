@@ -19,9 +19,9 @@ use Rattle.fetch_clone.specs.declared.create.Error.{Error as CreateError}
 use Rattle.fetch_clone.specs.declared.create.Error.TheVariants as creating
 use Rattle.fetch_clone.specs.declared.init.Error.{Error}
 use Rattle.fetch_clone.specs.declared.init.Error.TheVariants as initial
-use Rattle.fetch_clone.specs.declared.opening.New.{New}
-use Rattle.fetch_clone.specs.declared.step.Step.{Step}
-use Rattle.fetch_clone.specs.declared.step.Step.TheVariants.{Clear, Vacant, Directory, File}
+use Rattle.fetch_clone.specs.declared.init.opening.New.{New}
+use Rattle.fetch_clone.specs.declared.create.step.Step.{Step}
+use Rattle.fetch_clone.specs.declared.create.step.Step.TheVariants.{Clear, Vacant, Directory, File}
 
 -- what holds of each error that another fact holds of
 pub each-err : {X E : Type 0} (P Q : E → Type 0) → ((e : E) → P e → Q e) → (r : Result X E) → IfErr r P → IfErr r Q

@@ -8,10 +8,10 @@ use Rattle.fetch_store.specs.declared.file_error.Failed.{Failed}
 use Rattle.fetch_store.specs.Faults.{Faults, Counts, Rose}
 use Rattle.fetch_store.specs.Trees.{Tree, without_all}
 use Rattle.fetch_remote.specs.Finding.{is_no_address}
-use Rattle.fetch_clone.specs.Drafts.{IsNoted, IsPrepareRefusal, IsRemoved, init_refusal, is_clone_fault, strict}
+use Rattle.fetch_clone.specs.CloneStates.{IsNoted, IsPrepareRefusal, IsRemoved, init_refusal, is_clone_fault, strict}
 use Rattle.fetch_clone.specs.Initial.{IsInitRefusal, is_init_fault, new_of}
 use Rattle.fetch_clone.specs.Plans.{steps_of}
-use Rattle.fetch_clone.specs.declared.draft.Making.{Making}
+use Rattle.fetch_clone.specs.declared.clone_state.Making.{Making}
 use Rattle.fetch_clone.specs.declared.clone.Error.TheVariants as clones
 use Rattle.fetch_clone.specs.declared.init.Error.{Error}
 use Rattle.fetch_clone.specs.declared.init.Error.TheVariants as initial

@@ -9,8 +9,8 @@ use Rattle.fetch_config.specs.Print.{text_of}
 use Rattle.fetch_remote.specs.RepositoryValues.{Setup}
 use Rattle.fetch_remote.specs.declared.repository.open_error.OpenError.TheVariants as opening
 use Rattle.fetch_clone.specs.Hashed.{IsLocal, IsUnversioned}
-use Rattle.fetch_clone.specs.Heading.{IsUnsaved}
-use Rattle.fetch_clone.specs.Mirrors.{path_of}
+use Rattle.fetch_clone.specs.HeadUpdates.{IsUnsaved}
+use Rattle.fetch_clone.specs.RemoteSections.{path_of}
 use Rattle.fetch_clone.specs.Versioned.{versioned}
 use Rattle.fetch_clone.specs.declared.clone.fetch.Error.TheVariants as errors
 

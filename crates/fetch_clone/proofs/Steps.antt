@@ -4,12 +4,12 @@ use Rattle.std.proofs.lemmas.List.{take_more}
 use Rattle.std.specs.Option.{option_and_then}
 use Rattle.fetch_store.specs.Paths.{parts_of}
 use Rattle.fetch_store.specs.Trees.{Tree, with_directories}
-use Rattle.fetch_clone.specs.declared.step.Step.{Step}
+use Rattle.fetch_clone.specs.declared.create.step.Step.{Step}
 use Rattle.fetch_clone.specs.declared.create.Error.{Error}
 use Rattle.fetch_clone.specs.declared.create.Error.TheVariants.{IoOpen, IoWrite, CreateDirectory, DirectoryNotEmpty, DirectoryExists, NoMemory}
 use Rattle.fetch_clone.specs.declared.create.Kind.{Kind as Layout}
 use Rattle.fetch_clone.specs.declared.create.Kind.TheVariants as kinds
-use Rattle.fetch_clone.specs.declared.step.Step.TheVariants.{Clear, Vacant, Directory, File}
+use Rattle.fetch_clone.specs.declared.create.step.Step.TheVariants.{Clear, Vacant, Directory, File}
 use Rattle.fetch_clone.specs.declared.create.Options.{Options}
 use Rattle.fetch_clone.specs.Plans.{steps_of, cleared, vacated, contents_of, must_be_empty, path_of, configuration_in}
 use Rattle.fetch_clone.specs.Creation.{Makes, Reaches, IsOpenRefusal, IsStopped, IsStopAt, HasEntry, listed_in, opened_in, tree_after, tree_after_all}

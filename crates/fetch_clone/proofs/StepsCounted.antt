@@ -22,20 +22,20 @@ use Rattle.fetch_remote.specs.declared.repository.open_error.OpenError.{OpenErro
 use Rattle.fetch_remote.specs.declared.repository.open_error.OpenError.TheVariants as opening
 use Rattle.fetch_clone.specs.Cloned.{IsUnfinished}
 use Rattle.fetch_clone.specs.Counted.{Meters, IsCounted}
-use Rattle.fetch_clone.specs.Heading.{IsHeadRefusal}
+use Rattle.fetch_clone.specs.HeadUpdates.{IsHeadRefusal}
 use Rattle.fetch_clone.specs.Listed.{Query, IsUnprepared, url_of}
-use Rattle.fetch_clone.specs.Mirrors.{IsMirrorRefusal, IsUnsavedAs, IsUnwritten}
+use Rattle.fetch_clone.specs.RemoteSections.{IsSectionRefusal, IsUnsavedAs, IsUnwritten}
 use Rattle.fetch_clone.specs.Planned.{Answering, IsNotNamed, overrides_of}
 use Rattle.fetch_clone.specs.Reached.{Ways, Line, IsTurnedAway, IsUnreached}
 use Rattle.fetch_clone.specs.Received.{IsOfReceiving, IsUnmapped, IsUnmappedFor}
 use Rattle.fetch_clone.specs.Saving.{IsNotSavedAs}
 use Rattle.fetch_clone.specs.Stages.{listing, preparing, receiving, reopening, ref_name_of, remote_name, revision_of}
-use Rattle.fetch_clone.specs.declared.aim.Unaimed.TheVariants as unaimed
-use Rattle.fetch_clone.specs.declared.choices.Wanted.{Wanted}
-use Rattle.fetch_clone.specs.declared.choices.Wanted.TheVariants.{Everything, RefName, Revision}
+use Rattle.fetch_clone.specs.declared.head_target.HeadError.TheVariants as head_errors
+use Rattle.fetch_clone.specs.declared.choices.CloneTarget.{CloneTarget}
+use Rattle.fetch_clone.specs.declared.choices.CloneTarget.TheVariants.{Everything, RefName, Revision}
 use Rattle.fetch_clone.specs.declared.clone.fetch.Error.{Error}
 use Rattle.fetch_clone.specs.declared.clone.fetch.Error.TheVariants as errors
-use Rattle.fetch_clone.specs.declared.draft.Draft.{Draft}
+use Rattle.fetch_clone.specs.declared.clone_state.CloneState.{CloneState}
 use Rattle.fetch_clone.specs.declared.prepare_fetch.ConfigureFault.{ConfigureFault}
 use Rattle.fetch_clone.proofs.Uncounted.{is_uncounted, uncounted, override-uncounted, name-uncounted, choice-uncounted, same-uncounted, told-as-uncounted, target-uncounted}
 
@@ -86,7 +86,7 @@ preparing-counted was is prepare.NoMemory lost said = tt
 
 -- ---- the name and the target
 
-pub named-counted : {G P : Type 0} (w : Ways G P) (was is : Meters) (before after : Line G P) (draft : Draft) (found repo : RepositoryValue) (e : Error) → IsNotNamed w was.made is.made before after draft found repo e
+pub named-counted : {G P : Type 0} (w : Ways G P) (was is : Meters) (before after : Line G P) (draft : CloneState) (found repo : RepositoryValue) (e : Error) → IsNotNamed w was.made is.made before after draft found repo e
     → (e ≡ errors.RefMap ref_map.Transport → Rose was.lost is.lost) → (e ≡ errors.RefMap ref_map.Interrupted → Rose was.yes is.yes) → IsCounted was is e
 named-counted w was is before after draft found repo e h lost said =
     elim h.by [
@@ -157,21 +157,21 @@ unsaved-uncounted remote name (errors.FindRevision x) h = refl
 unsaved-uncounted remote name (errors.PeelRevision x) h = refl
 unsaved-uncounted remote name errors.NoMemory h = refl
 
-mirror-counted : (was is : Meters) (may_fail : Bool) (told : Option Tree) (setup : Setup) (remote : RemoteValue) (name : List ℕ) (now : Option Tree) (e : Error) → IsMirrorRefusal may_fail told setup remote name now e
+section-counted : (was is : Meters) (may_fail : Bool) (told : Option Tree) (setup : Setup) (remote : RemoteValue) (name : List ℕ) (now : Option Tree) (e : Error) → IsSectionRefusal may_fail told setup remote name now e
     → (e ≡ errors.LoadConfig opening.Io → Rose was.files is.files) → (e ≡ errors.SaveConfigIo → Rose was.files is.files) → IsCounted was is e
-mirror-counted was is may_fail told setup remote name now e (inl u) load io = uncounted was is e (unsaved-uncounted remote name e u.1)
-mirror-counted was is may_fail told setup remote name now e (inr w) load io = unwritten-counted was is may_fail told setup _ now e w.1 load io
+section-counted was is may_fail told setup remote name now e (inl u) load io = uncounted was is e (unsaved-uncounted remote name e u.1)
+section-counted was is may_fail told setup remote name now e (inr w) load io = unwritten-counted was is may_fail told setup _ now e w.1 load io
 
-pub saved-counted : (answers : Answering) (was is : Meters) (may_fail : Bool) (files files_left : Option Tree) (draft : Draft) (setup : Setup) (name : List ℕ) (target : Option (List ℕ)) (e : Error) → IsNotSavedAs answers may_fail files files_left draft setup name target e
+pub saved-counted : (answers : Answering) (was is : Meters) (may_fail : Bool) (files files_left : Option Tree) (draft : CloneState) (setup : Setup) (name : List ℕ) (target : Option (List ℕ)) (e : Error) → IsNotSavedAs answers may_fail files files_left draft setup name target e
     → (e ≡ errors.LoadConfig opening.Io → Rose was.files is.files) → (e ≡ errors.SaveConfigIo → Rose was.files is.files) → IsCounted was is e
 saved-counted answers was is may_fail files files_left draft setup name target e h load io =
     elim h.by [
       | inl a ↦ uncounted was is e (choice-uncounted answers draft name target e a.0)
-      | inr b ↦ mirror-counted was is may_fail files setup b.chosen name files_left e b.why load io
+      | inr b ↦ section-counted was is may_fail files setup b.chosen name files_left e b.why load io
     ]
 
 -- the same of a result
-pub counted-saved : (X : Type 0) (answers : Answering) (was is : Meters) (may_fail : Bool) (files files_left : Option Tree) (draft : Draft) (setup : Setup) (name : List ℕ) (target : Option (List ℕ)) (r : Result X Error) → IfErr r (IsNotSavedAs answers may_fail files files_left draft setup name target)
+pub counted-saved : (X : Type 0) (answers : Answering) (was is : Meters) (may_fail : Bool) (files files_left : Option Tree) (draft : CloneState) (setup : Setup) (name : List ℕ) (target : Option (List ℕ)) (r : Result X Error) → IfErr r (IsNotSavedAs answers may_fail files files_left draft setup name target)
     → (r ≡ Err (errors.LoadConfig opening.Io) → Rose was.files is.files) → (r ≡ Err errors.SaveConfigIo → Rose was.files is.files) → IfErr r (IsCounted was is)
 counted-saved X answers was is may_fail files files_left draft setup name target (Ok x) h load io = tt
 counted-saved X answers was is may_fail files files_left draft setup name target (Err e) h load io =
@@ -224,13 +224,13 @@ listed-counted w was is before after q e h lost said =
 
 -- ---- receiving
 
-unmapped-uncounted : (was is : Meters) (wanted : Wanted) (map : RefMap) (e : Error) → IsUnmappedFor wanted map e → IsCounted was is e
+unmapped-uncounted : (was is : Meters) (wanted : CloneTarget) (map : RefMap) (e : Error) → IsUnmappedFor wanted map e → IsCounted was is e
 unmapped-uncounted was is Everything map e h = absurd h
-unmapped-uncounted was is (RefName name) map e h = uncounted was is e (told-as-uncounted (Some name) None (unaimed.Name h.0) e h.2)
-unmapped-uncounted was is (Revision spec) map e h = uncounted was is e (told-as-uncounted None (Some spec) unaimed.Revision e h.1)
+unmapped-uncounted was is (RefName name) map e h = uncounted was is e (told-as-uncounted (Some name) None (head_errors.Name h.0) e h.2)
+unmapped-uncounted was is (Revision spec) map e h = uncounted was is e (told-as-uncounted None (Some spec) head_errors.Revision e h.1)
 
 -- What isn't mapped is refused without a count.
-pub unmapped-counted : (was is : Meters) (wanted : Wanted) (map : RefMap) (e : Error) → IsUnmapped wanted map e → IsCounted was is e
+pub unmapped-counted : (was is : Meters) (wanted : CloneTarget) (map : RefMap) (e : Error) → IsUnmapped wanted map e → IsCounted was is e
 unmapped-counted was is wanted map e (inl m) = subst (IsCounted was is) (sym m) tt
 unmapped-counted was is wanted map e (inr u) = unmapped-uncounted was is wanted map e u
 
@@ -298,7 +298,7 @@ receiving-recounted was is here left (fetch.RemovePackKeepFile x) lost said file
 receiving-recounted was is here left fetch.NoMemory lost said files listed opened followed h = tt
 
 -- the same, counted by others
-pub received-recounted : (was is here left : Meters) (wanted : Wanted) (map : RefMap) (e : Error) → IsOfReceiving wanted map e → (Rose here.lost left.lost → Rose was.lost is.lost) → (Rose here.yes left.yes → Rose was.yes is.yes) → (Rose here.files left.files → Rose was.files is.files)
+pub received-recounted : (was is here left : Meters) (wanted : CloneTarget) (map : RefMap) (e : Error) → IsOfReceiving wanted map e → (Rose here.lost left.lost → Rose was.lost is.lost) → (Rose here.yes left.yes → Rose was.yes is.yes) → (Rose here.files left.files → Rose was.files is.files)
     → (Rose here.trees.listing left.trees.listing → Rose was.trees.listing is.trees.listing) → (Rose here.trees.open_repo left.trees.open_repo → Rose was.trees.open_repo is.trees.open_repo) → (Rose here.trees.follow_symref left.trees.follow_symref → Rose was.trees.follow_symref is.trees.follow_symref)
     → IsCounted here left e → IsCounted was is e
 received-recounted was is here left wanted map e (inl u) lost said files listed opened followed h = unmapped-counted was is wanted map e u
@@ -311,7 +311,7 @@ received-recounted was is here left wanted map e (inr (inr b)) lost said files l
 
 -- ---- finishing
 
-head-counted : (was is : Meters) (may_fail : Bool) (files files_left : Option Tree) (before after : RepositoryValue) (map : RefMap) (message remote : List ℕ) (wanted : Wanted) (e : Error)
+head-counted : (was is : Meters) (may_fail : Bool) (files files_left : Option Tree) (before after : RepositoryValue) (map : RefMap) (message remote : List ℕ) (wanted : CloneTarget) (e : Error)
     → IsHeadRefusal may_fail files files_left before after map message remote (ref_name_of wanted) (revision_of wanted) e → (e ≡ errors.SaveConfigIo → Rose was.files is.files) → IsCounted was is e
 head-counted was is may_fail files files_left before after map message remote wanted errors.Consumed h io = tt
 head-counted was is may_fail files files_left before after map message remote wanted (errors.ParseConfig x) h io = tt
@@ -335,7 +335,7 @@ head-counted was is may_fail files files_left before after map message remote wa
 head-counted was is may_fail files files_left before after map message remote wanted (errors.PeelRevision x) h io = tt
 head-counted was is may_fail files files_left before after map message remote wanted errors.NoMemory h io = tt
 
-pub finished-counted : (was is : Meters) (may_fail : Bool) (files files_left : Option Tree) (draft : Draft) (name : List ℕ) (section : Option Contents) (map : RefMap) (before after : RepositoryValue) (e : Error)
+pub finished-counted : (was is : Meters) (may_fail : Bool) (files files_left : Option Tree) (draft : CloneState) (name : List ℕ) (section : Option Contents) (map : RefMap) (before after : RepositoryValue) (e : Error)
     → IsUnfinished may_fail files files_left draft name section map before after e → (e ≡ errors.SaveConfigIo → Rose was.files is.files) → IsCounted was is e
 finished-counted was is may_fail files files_left draft name section map before after e h io =
     elim h.by [

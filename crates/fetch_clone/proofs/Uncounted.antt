@@ -5,15 +5,15 @@ use Rattle.fetch_specs.specs.Specs.{Spec}
 use Rattle.fetch_wire.specs.declared.listings.mapping.RefMap.{RefMap}
 use Rattle.fetch_remote.specs.RepositoryValues.{State}
 use Rattle.fetch_clone.specs.Counted.{Meters, IsCounted}
-use Rattle.fetch_clone.specs.Heading.{IsNoAim, IsToldAs, told_as, wanting}
+use Rattle.fetch_clone.specs.HeadUpdates.{LacksHeadTarget, IsToldAs, told_as, wanting}
 use Rattle.fetch_clone.specs.Planned.{Answering, IsUnchosen, IsUnnamed, IsUnoverridden}
 use Rattle.fetch_clone.specs.Targets.{told_again}
-use Rattle.fetch_clone.specs.declared.aim.Unaimed.{Unaimed}
-use Rattle.fetch_clone.specs.declared.aim.Unaimed.TheVariants as unaimed
-use Rattle.fetch_clone.specs.declared.meant.Unmeant.TheVariants as unmeant
+use Rattle.fetch_clone.specs.declared.head_target.HeadError.{HeadError}
+use Rattle.fetch_clone.specs.declared.head_target.HeadError.TheVariants as head_errors
+use Rattle.fetch_clone.specs.declared.named_ref.RefNameError.TheVariants as ref_name_errors
 use Rattle.fetch_clone.specs.declared.clone.fetch.Error.{Error}
 use Rattle.fetch_clone.specs.declared.clone.fetch.Error.TheVariants as errors
-use Rattle.fetch_clone.specs.declared.draft.Draft.{Draft}
+use Rattle.fetch_clone.specs.declared.clone_state.CloneState.{CloneState}
 
 -- whether no refusal of this kind has a count
 abbrev pub is_uncounted : Error → Bool
@@ -97,7 +97,7 @@ name-uncounted name (errors.FindRevision x) h = refl
 name-uncounted name (errors.PeelRevision x) h = refl
 name-uncounted name errors.NoMemory h = refl
 
-pub choice-uncounted : (answers : Answering) (draft : Draft) (name : List ℕ) (target : Option (List ℕ)) (e : Error) → IsUnchosen answers draft name target e → is_uncounted e ≡ true
+pub choice-uncounted : (answers : Answering) (draft : CloneState) (name : List ℕ) (target : Option (List ℕ)) (e : Error) → IsUnchosen answers draft name target e → is_uncounted e ≡ true
 choice-uncounted answers draft name target errors.Consumed h = refl
 choice-uncounted answers draft name target (errors.ParseConfig x) h = refl
 choice-uncounted answers draft name target (errors.RemoteName x) h = refl
@@ -126,23 +126,23 @@ sourced : (source : Option (List ℕ)) → is_uncounted (wanting source errors.R
 sourced None = refl
 sourced (Some t) = refl
 
-told-uncounted : (ref_name : Option (List ℕ)) (revision : Option Spec) (cause : Unaimed) → is_uncounted (told_as ref_name revision cause) ≡ true
-told-uncounted None revision (unaimed.Name unmeant.Missing) = refl
-told-uncounted (Some n) revision (unaimed.Name unmeant.Missing) = refl
-told-uncounted None revision (unaimed.Name (unmeant.Ambiguous cs)) = refl
-told-uncounted (Some n) revision (unaimed.Name (unmeant.Ambiguous cs)) = refl
-told-uncounted ref_name revision (unaimed.Name unmeant.NoMemory) = refl
-told-uncounted ref_name revision (unaimed.InvalidHead name) = refl
-told-uncounted ref_name None unaimed.Revision = refl
-told-uncounted ref_name (Some s) unaimed.Revision = sourced s.source
-told-uncounted ref_name revision (unaimed.Find id) = refl
-told-uncounted ref_name revision (unaimed.Peel id) = refl
-told-uncounted ref_name revision unaimed.NoMemory = refl
+told-uncounted : (ref_name : Option (List ℕ)) (revision : Option Spec) (cause : HeadError) → is_uncounted (told_as ref_name revision cause) ≡ true
+told-uncounted None revision (head_errors.Name ref_name_errors.Missing) = refl
+told-uncounted (Some n) revision (head_errors.Name ref_name_errors.Missing) = refl
+told-uncounted None revision (head_errors.Name (ref_name_errors.Ambiguous cs)) = refl
+told-uncounted (Some n) revision (head_errors.Name (ref_name_errors.Ambiguous cs)) = refl
+told-uncounted ref_name revision (head_errors.Name ref_name_errors.NoMemory) = refl
+told-uncounted ref_name revision (head_errors.InvalidHead name) = refl
+told-uncounted ref_name None head_errors.Revision = refl
+told-uncounted ref_name (Some s) head_errors.Revision = sourced s.source
+told-uncounted ref_name revision (head_errors.Find id) = refl
+told-uncounted ref_name revision (head_errors.Peel id) = refl
+told-uncounted ref_name revision head_errors.NoMemory = refl
 
-pub same-uncounted : (ref_name : Option (List ℕ)) (revision : Option Spec) (cause : Unaimed) (e : Error) → e ≡ told_as ref_name revision cause → is_uncounted e ≡ true
+pub same-uncounted : (ref_name : Option (List ℕ)) (revision : Option Spec) (cause : HeadError) (e : Error) → e ≡ told_as ref_name revision cause → is_uncounted e ≡ true
 same-uncounted ref_name revision cause e h = ap is_uncounted h ∙ told-uncounted ref_name revision cause
 
-pub told-as-uncounted : (ref_name : Option (List ℕ)) (revision : Option Spec) (cause : Unaimed) (e : Error) → IsToldAs ref_name revision cause e → is_uncounted e ≡ true
+pub told-as-uncounted : (ref_name : Option (List ℕ)) (revision : Option Spec) (cause : HeadError) (e : Error) → IsToldAs ref_name revision cause e → is_uncounted e ≡ true
 told-as-uncounted ref_name revision cause errors.Consumed h = refl
 told-as-uncounted ref_name revision cause (errors.ParseConfig x) h = refl
 told-as-uncounted ref_name revision cause (errors.RemoteName x) h = refl
@@ -165,28 +165,28 @@ told-as-uncounted ref_name revision cause (errors.FindRevision x) h = refl
 told-as-uncounted ref_name revision cause (errors.PeelRevision x) h = refl
 told-as-uncounted ref_name revision cause errors.NoMemory h = refl
 
-pub aim-uncounted : (s : State) (map : RefMap) (ref_name : Option (List ℕ)) (revision : Option Spec) (e : Error) → IsNoAim s map ref_name revision e → is_uncounted e ≡ true
-aim-uncounted s map ref_name revision errors.Consumed h = refl
-aim-uncounted s map ref_name revision (errors.ParseConfig x) h = refl
-aim-uncounted s map ref_name revision (errors.RemoteName x) h = refl
-aim-uncounted s map ref_name revision (errors.Connect x) h = same-uncounted ref_name revision h.cause (errors.Connect x) h.as_told
-aim-uncounted s map ref_name revision (errors.RemoteConnection x) h = refl
-aim-uncounted s map ref_name revision (errors.RefMap x) h = same-uncounted ref_name revision h.cause (errors.RefMap x) h.as_told
-aim-uncounted s map ref_name revision (errors.RefNameMissing x) h = refl
-aim-uncounted s map ref_name revision (errors.RefNameAmbiguous x y) h = refl
-aim-uncounted s map ref_name revision (errors.InvalidHeadRef x) h = refl
-aim-uncounted s map ref_name revision (errors.ReferenceName x) h = refl
-aim-uncounted s map ref_name revision (errors.RemoteConfiguration x) h = refl
-aim-uncounted s map ref_name revision (errors.SaveConfig x) h = refl
-aim-uncounted s map ref_name revision (errors.LoadConfig x) h = same-uncounted ref_name revision h.cause (errors.LoadConfig x) h.as_told
-aim-uncounted s map ref_name revision errors.SaveConfigIo h = absurd h
-aim-uncounted s map ref_name revision (errors.PrepareFetch x) h = same-uncounted ref_name revision h.cause (errors.PrepareFetch x) h.as_told
-aim-uncounted s map ref_name revision (errors.RevisionMissing x) h = refl
-aim-uncounted s map ref_name revision (errors.ReopenWithObjectHash x) h = same-uncounted ref_name revision h.cause (errors.ReopenWithObjectHash x) h.as_told
-aim-uncounted s map ref_name revision (errors.Fetch x) h = same-uncounted ref_name revision h.cause (errors.Fetch x) h.as_told
-aim-uncounted s map ref_name revision (errors.FindRevision x) h = refl
-aim-uncounted s map ref_name revision (errors.PeelRevision x) h = refl
-aim-uncounted s map ref_name revision errors.NoMemory h = refl
+pub head_target-uncounted : (s : State) (map : RefMap) (ref_name : Option (List ℕ)) (revision : Option Spec) (e : Error) → LacksHeadTarget s map ref_name revision e → is_uncounted e ≡ true
+head_target-uncounted s map ref_name revision errors.Consumed h = refl
+head_target-uncounted s map ref_name revision (errors.ParseConfig x) h = refl
+head_target-uncounted s map ref_name revision (errors.RemoteName x) h = refl
+head_target-uncounted s map ref_name revision (errors.Connect x) h = same-uncounted ref_name revision h.cause (errors.Connect x) h.as_told
+head_target-uncounted s map ref_name revision (errors.RemoteConnection x) h = refl
+head_target-uncounted s map ref_name revision (errors.RefMap x) h = same-uncounted ref_name revision h.cause (errors.RefMap x) h.as_told
+head_target-uncounted s map ref_name revision (errors.RefNameMissing x) h = refl
+head_target-uncounted s map ref_name revision (errors.RefNameAmbiguous x y) h = refl
+head_target-uncounted s map ref_name revision (errors.InvalidHeadRef x) h = refl
+head_target-uncounted s map ref_name revision (errors.ReferenceName x) h = refl
+head_target-uncounted s map ref_name revision (errors.RemoteConfiguration x) h = refl
+head_target-uncounted s map ref_name revision (errors.SaveConfig x) h = refl
+head_target-uncounted s map ref_name revision (errors.LoadConfig x) h = same-uncounted ref_name revision h.cause (errors.LoadConfig x) h.as_told
+head_target-uncounted s map ref_name revision errors.SaveConfigIo h = absurd h
+head_target-uncounted s map ref_name revision (errors.PrepareFetch x) h = same-uncounted ref_name revision h.cause (errors.PrepareFetch x) h.as_told
+head_target-uncounted s map ref_name revision (errors.RevisionMissing x) h = refl
+head_target-uncounted s map ref_name revision (errors.ReopenWithObjectHash x) h = same-uncounted ref_name revision h.cause (errors.ReopenWithObjectHash x) h.as_told
+head_target-uncounted s map ref_name revision (errors.Fetch x) h = same-uncounted ref_name revision h.cause (errors.Fetch x) h.as_told
+head_target-uncounted s map ref_name revision (errors.FindRevision x) h = refl
+head_target-uncounted s map ref_name revision (errors.PeelRevision x) h = refl
+head_target-uncounted s map ref_name revision errors.NoMemory h = refl
 
 again : (is_named : Bool) (e : Error) → is_uncounted e ≡ true → is_uncounted (told_again is_named e) ≡ true
 again true errors.Consumed h = h
@@ -232,5 +232,5 @@ again false (errors.PeelRevision x) h = h
 again true errors.NoMemory h = h
 again false errors.NoMemory h = h
 
-pub target-uncounted : (s : State) (map : RefMap) (ref_name : Option (List ℕ)) (is_named : Bool) (cause e : Error) → IsNoAim s map ref_name None cause → e ≡ told_again is_named cause → is_uncounted e ≡ true
-target-uncounted s map ref_name is_named cause e h is = ap is_uncounted is ∙ again is_named cause (aim-uncounted s map ref_name None cause h)
+pub target-uncounted : (s : State) (map : RefMap) (ref_name : Option (List ℕ)) (is_named : Bool) (cause e : Error) → LacksHeadTarget s map ref_name None cause → e ≡ told_again is_named cause → is_uncounted e ≡ true
+target-uncounted s map ref_name is_named cause e h is = ap is_uncounted is ∙ again is_named cause (head_target-uncounted s map ref_name None cause h)

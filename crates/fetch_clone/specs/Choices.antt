@@ -7,8 +7,8 @@ use Rattle.fetch_specs.specs.declared.error.NameError.TheVariants as names
 use Rattle.fetch_negotiate.specs.declared.algorithm.Shallow.TheVariants.{NoChange}
 use Rattle.fetch_clone.specs.Revisions.{revision_of}
 use Rattle.fetch_clone.specs.declared.choices.Choices.{Choices}
-use Rattle.fetch_clone.specs.declared.choices.Wanted.{Wanted}
-use Rattle.fetch_clone.specs.declared.choices.Wanted.TheVariants.{Everything, RefName, Revision}
+use Rattle.fetch_clone.specs.declared.choices.CloneTarget.{CloneTarget}
+use Rattle.fetch_clone.specs.declared.choices.CloneTarget.TheVariants.{Everything, RefName, Revision}
 
 -- all branches with their whole history, as the configuration says
 abbrev pub plain : Choices
@@ -26,28 +26,28 @@ plain = record {
 }
 
 -- A ref name that was chosen is taken back, and a revision stays.
-abbrev pub without_ref_name : Wanted → Wanted
+abbrev pub without_ref_name : CloneTarget → CloneTarget
 without_ref_name Everything = Everything
 without_ref_name (RefName name) = Everything
 without_ref_name (Revision spec) = Revision spec
 
 -- A revision that was chosen is taken back, and a ref name stays.
-abbrev pub without_revision : Wanted → Wanted
+abbrev pub without_revision : CloneTarget → CloneTarget
 without_revision Everything = Everything
 without_revision (RefName name) = RefName name
 without_revision (Revision spec) = Everything
 
 -- with another choice of references
-abbrev pub with_wanted : Choices → Wanted → Choices
+abbrev pub with_wanted : Choices → CloneTarget → Choices
 with_wanted choices wanted = record choices { wanted = wanted }
 
 -- A name takes the place of whatever was chosen, and None takes a name back.
-abbrev pub ref_name_chosen : Wanted → Option (List ℕ) → Wanted
+abbrev pub ref_name_chosen : CloneTarget → Option (List ℕ) → CloneTarget
 ref_name_chosen before (Some name) = RefName name
 ref_name_chosen before None = without_ref_name before
 
 -- A revision takes the place of whatever was chosen, where the text is one; None takes a revision back.
-abbrev pub ChoosesRevision : Wanted → Option (List ℕ) → Wanted → Type 0
+abbrev pub ChoosesRevision : CloneTarget → Option (List ℕ) → CloneTarget → Type 0
 ChoosesRevision before None now = now ≡ without_revision before
 ChoosesRevision before (Some text) now = (found : Spec) × (revision_of text ≡ Ok found) × (now ≡ Revision found)
 

@@ -12,7 +12,7 @@ use Rattle.fetch_remote.specs.RepositoryValues.{RepositoryValue, Setup}
 use Rattle.fetch_remote.specs.declared.fetching.outcome.Outcome.{Outcome}
 use Rattle.fetch_remote.specs.declared.fetching.prepared.Prepared.{Prepared}
 use Rattle.fetch_clone.specs.Heeded.{IsHeededOver}
-use Rattle.fetch_clone.specs.Heading.{HasHead, IsHeadRefusal}
+use Rattle.fetch_clone.specs.HeadUpdates.{IsHeadUpdated, IsHeadRefusal}
 use Rattle.fetch_clone.specs.Listed.{Query, query, IsListed, IsUnprepared}
 use Rattle.fetch_clone.specs.Planned.{Answering}
 use Rattle.fetch_clone.specs.Reached.{Ways, Line}
@@ -23,7 +23,7 @@ use Rattle.fetch_clone.specs.Stages.{ref_name_of, revision_of}
 use Rattle.fetch_clone.specs.Targets.{HeedsFirst}
 use Rattle.fetch_clone.specs.declared.clone.fetch.Error.{Error}
 use Rattle.fetch_clone.specs.declared.clone.fetch.Error.TheVariants as errors
-use Rattle.fetch_clone.specs.declared.draft.Draft.{Draft}
+use Rattle.fetch_clone.specs.declared.clone_state.CloneState.{CloneState}
 use Rattle.fetch_clone.specs.declared.fetching.saving.Saved.{Saved}
 
 -- ---- what is left to do once all is fetched
@@ -41,16 +41,16 @@ section_left section hashes.Sha1 hashes.Sha256 = None
 section_left section hashes.Sha256 hashes.Sha1 = None
 
 -- The configuration in memory took the remote's section, and then `HEAD` what it is to take.
-pub record IsFinished (files files_left : Option Tree) (draft : Draft) (name : List ℕ) (section : Option Contents) (map : RefMap)
+pub record IsFinished (files files_left : Option Tree) (draft : CloneState) (name : List ℕ) (section : Option Contents) (map : RefMap)
     (before after : RepositoryValue) : Type 0 where
   pub between : RepositoryValue
   pub state : between.state ≡ before.state
   pub in_force : IsInForce section before.setup between.setup
-  pub head : HasHead files files_left between after map (message_of draft) name (ref_name_of draft.choices.wanted)
+  pub head : IsHeadUpdated files files_left between after map (message_of draft) name (ref_name_of draft.choices.wanted)
       (revision_of draft.choices.wanted)
 
 -- The configuration in memory took the section, and `HEAD` wasn't updated, or the branch's section not written.
-pub record IsUnheaded (may_fail : Bool) (files files_left : Option Tree) (draft : Draft) (name : List ℕ) (section : Option Contents)
+pub record IsUnheaded (may_fail : Bool) (files files_left : Option Tree) (draft : CloneState) (name : List ℕ) (section : Option Contents)
     (map : RefMap) (before after : RepositoryValue) (e : Error) : Type 0 where
   pub between : RepositoryValue
   pub state : between.state ≡ before.state
@@ -66,20 +66,20 @@ pub record IsUntouched (files files_left : Option Tree) (before after : Reposito
   pub tree : files_left ≡ files
 
 -- Why it isn't finished: `HEAD` wasn't updated, the branch's section wasn't written, or memory ran out.
-pub record IsUnfinished (may_fail : Bool) (files files_left : Option Tree) (draft : Draft) (name : List ℕ) (section : Option Contents)
+pub record IsUnfinished (may_fail : Bool) (files files_left : Option Tree) (draft : CloneState) (name : List ℕ) (section : Option Contents)
     (map : RefMap) (before after : RepositoryValue) (e : Error) : Type 0 where
   pub by : IsUntouched files files_left before after e ⊎ IsUnheaded may_fail files files_left draft name section map before after e
 
 -- ---- from the saved remote on
 
 -- what the references are listed for
-abbrev pub query_of : Draft → Saved → Setup → Query
+abbrev pub query_of : CloneState → Saved → Setup → Query
 query_of draft saved setup = query saved.name draft.choices saved.remote setup
 
 -- The references were listed by a peer, and what is wanted of them was fetched from it: the headline of a fetch holds of that
 -- peer, from where it stood before it was asked. Then it was taken back.
 pub record HasFetched {G P : Type 0} (w : Ways G P) (before after : Line G P) (known : Option (List Worktree))
-    (files files_left : Option Tree) (draft : Draft) (saved : Saved) (asked repo : RepositoryValue) (outcome : Outcome) : Type 0 where
+    (files files_left : Option Tree) (draft : CloneState) (saved : Saved) (asked repo : RepositoryValue) (outcome : Outcome) : Type 0 where
   pub between : Line G P
   pub peer : P
   pub prepared : Prepared
@@ -92,7 +92,7 @@ pub record HasFetched {G P : Type 0} (w : Ways G P) (before after : Line G P) (k
 
 -- The references were listed and fetched, and then `HEAD` took what it is to take. The interrupt said no before each receive.
 pub record IsCompleted {G P : Type 0} (will will' : ℕ → Type 0) (w : Ways G P) (before after : Line G P) (known : Option (List Worktree))
-    (files files_left : Option Tree) (draft : Draft) (saved : Saved) (asked repo : RepositoryValue) (outcome : Outcome) : Type 0 where
+    (files files_left : Option Tree) (draft : CloneState) (saved : Saved) (asked repo : RepositoryValue) (outcome : Outcome) : Type 0 where
   pub between : RepositoryValue
   pub stood : Option Tree
   pub fetched : HasFetched w before after known files stood draft saved asked between outcome
@@ -102,7 +102,7 @@ pub record IsCompleted {G P : Type 0} (will will' : ℕ → Type 0) (w : Ways G 
 
 -- The references were listed, and not fetched; the peer was taken back.
 pub record IsListedAlone {G P : Type 0} (w : Ways G P) (before after : Line G P) (known : Option (List Worktree)) (may_fail : Bool)
-    (files files_left : Option Tree) (draft : Draft) (saved : Saved) (asked repo : RepositoryValue) (e : Error) : Type 0 where
+    (files files_left : Option Tree) (draft : CloneState) (saved : Saved) (asked repo : RepositoryValue) (e : Error) : Type 0 where
   pub between : Line G P
   pub peer : P
   pub prepared : Prepared
@@ -115,7 +115,7 @@ pub record IsListedAlone {G P : Type 0} (w : Ways G P) (before after : Line G P)
 
 -- The references were fetched, and then something was refused.
 pub record IsFetchedAlone {G P : Type 0} (w : Ways G P) (before after : Line G P) (known : Option (List Worktree)) (may_fail : Bool)
-    (files files_left : Option Tree) (draft : Draft) (saved : Saved) (asked repo : RepositoryValue) (e : Error) : Type 0 where
+    (files files_left : Option Tree) (draft : CloneState) (saved : Saved) (asked repo : RepositoryValue) (e : Error) : Type 0 where
   pub between : RepositoryValue
   pub stood : Option Tree
   pub outcome : Outcome
@@ -125,7 +125,7 @@ pub record IsFetchedAlone {G P : Type 0} (w : Ways G P) (before after : Line G P
 
 -- No references were listed, and nothing else has changed; or they weren't fetched; or something was refused then.
 pub record IsUncompleted {G P : Type 0} (w : Ways G P) (was is : Faults) (before after : Line G P) (known : Option (List Worktree))
-    (may_fail : Bool) (files files_left : Option Tree) (draft : Draft) (saved : Saved) (asked repo : RepositoryValue)
+    (may_fail : Bool) (files files_left : Option Tree) (draft : CloneState) (saved : Saved) (asked repo : RepositoryValue)
     (e : Error) : Type 0 where
   pub by : (IsUnprepared w was is before after (query_of draft saved asked.setup) e × (repo ≡ asked) × (files_left ≡ files))
       ⊎ (IsListedAlone w before after known may_fail files files_left draft saved asked repo e
@@ -136,7 +136,7 @@ pub record IsUncompleted {G P : Type 0} (w : Ways G P) (was is : Faults) (before
 -- The remote was saved, and then all was completed. Will and will' are the questions that the interrupt will say yes to, before and
 -- after: it said no before each receive, of the peer that listed before, and of the one that was fetched from.
 pub record IsCloned {G P : Type 0} (will will' : ℕ → Type 0) (answers : Answering) (w : Ways G P) (before after : Line G P)
-    (known : Option (List Worktree)) (files files_left : Option Tree) (draft : Draft) (found repo : RepositoryValue)
+    (known : Option (List Worktree)) (files files_left : Option Tree) (draft : CloneState) (found repo : RepositoryValue)
     (outcome : Outcome) : Type 0 where
   pub saved : Saved
   pub asked : RepositoryValue
@@ -148,7 +148,7 @@ pub record IsCloned {G P : Type 0} (will will' : ℕ → Type 0) (answers : Answ
 
 -- The remote was saved, and then something was refused; the maker had failed so often before.
 pub record IsSavedAlone {G P : Type 0} (answers : Answering) (w : Ways G P) (was is : Faults) (before after : Line G P)
-    (known : Option (List Worktree)) (may_fail : Bool) (files files_left : Option Tree) (draft : Draft) (found repo : RepositoryValue)
+    (known : Option (List Worktree)) (may_fail : Bool) (files files_left : Option Tree) (draft : CloneState) (found repo : RepositoryValue)
     (e : Error) : Type 0 where
   pub saved : Saved
   pub asked : RepositoryValue
@@ -162,7 +162,7 @@ pub record IsSavedAlone {G P : Type 0} (answers : Answering) (w : Ways G P) (was
 -- The remote wasn't saved; or it was, and something was refused then. Each comes after the steps before it. Uncalled is what holds
 -- of the closure for the remote where it wasn't called.
 pub record IsUncloned {G P : Type 0} (answers : Answering) (uncalled : Type 0) (w : Ways G P) (was is : Faults) (before after : Line G P)
-    (known : Option (List Worktree)) (may_fail : Bool) (files files_left : Option Tree) (draft : Draft) (found repo : RepositoryValue)
+    (known : Option (List Worktree)) (may_fail : Bool) (files files_left : Option Tree) (draft : CloneState) (found repo : RepositoryValue)
     (e : Error) : Type 0 where
   pub by : IsNotSaved answers uncalled w was is before after may_fail files files_left draft found repo e
       ⊎ IsSavedAlone answers w was is before after known may_fail files files_left draft found repo e

@@ -10,8 +10,8 @@ use Rattle.fetch_store.specs.declared.node.Node.TheVariants as nodes
 use Rattle.fetch_clone.specs.declared.create.Error.{Error}
 use Rattle.fetch_clone.specs.declared.create.Error.TheVariants.{IoOpen, IoWrite, CreateDirectory, DirectoryNotEmpty, DirectoryExists}
 use Rattle.fetch_clone.specs.declared.create.Error.TheVariants.{NoMemory}
-use Rattle.fetch_clone.specs.declared.step.Step.{Step}
-use Rattle.fetch_clone.specs.declared.step.Step.TheVariants.{Clear, Vacant, Directory, File}
+use Rattle.fetch_clone.specs.declared.create.step.Step.{Step}
+use Rattle.fetch_clone.specs.declared.create.step.Step.TheVariants.{Clear, Vacant, Directory, File}
 
 -- ---- one step
 

@@ -12,8 +12,8 @@ use Rattle.fetch_remote.specs.Repositories.{state_of, setup_of}
 use Rattle.fetch_remote.specs.RepositoryValues.{RepositoryValue, Setup, State, resolved_of}
 use Rattle.fetch_remote.specs.declared.repository.Resolved.{Resolved}
 use Rattle.fetch_remote.specs.declared.repository.open_error.OpenError.TheVariants as opening
-use Rattle.fetch_clone.specs.Heading.{IsWritten}
-use Rattle.fetch_clone.specs.Mirrors.{path_of}
+use Rattle.fetch_clone.specs.HeadUpdates.{IsWritten}
+use Rattle.fetch_clone.specs.RemoteSections.{path_of}
 use Rattle.fetch_clone.specs.Versioned.{versioned}
 use Rattle.fetch_clone.specs.declared.clone.fetch.Error.{Error}
 use Rattle.fetch_clone.specs.declared.clone.fetch.Error.TheVariants as errors

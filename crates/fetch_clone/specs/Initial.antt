@@ -31,8 +31,8 @@ use Rattle.fetch_clone.specs.declared.create.Error.{Error as CreateError}
 use Rattle.fetch_clone.specs.declared.create.Error.TheVariants as creating
 use Rattle.fetch_clone.specs.declared.create.Kind.{Kind as Layout}
 use Rattle.fetch_clone.specs.declared.create.Options.{Options}
-use Rattle.fetch_clone.specs.declared.opening.New.{New}
-use Rattle.fetch_clone.specs.declared.step.Step.{Step}
+use Rattle.fetch_clone.specs.declared.init.opening.New.{New}
+use Rattle.fetch_clone.specs.declared.create.step.Step.{Step}
 use Rattle.fetch_clone.specs.declared.init.Error.{Error}
 use Rattle.fetch_clone.specs.declared.init.Error.TheVariants.{Init, Open, InvalidBranchName, NoMemory}
 

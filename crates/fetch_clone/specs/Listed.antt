@@ -22,13 +22,13 @@ use Rattle.fetch_remote.specs.Stages.{inquiry_of}
 use Rattle.fetch_remote.specs.Steps.{HasListed, BreaksOff, options_with}
 use Rattle.fetch_remote.specs.declared.connect.Error.{Error as ConnectError}
 use Rattle.fetch_remote.specs.declared.fetching.prepared.Prepared.{Prepared}
-use Rattle.fetch_clone.specs.Aims.{is_same_side}
+use Rattle.fetch_clone.specs.HeadTargets.{is_same_side}
 use Rattle.fetch_clone.specs.Reached.{Ways, Line, IsMade, IsReached, IsReturned, IsTurnedAway, IsUnreached}
 use Rattle.fetch_clone.specs.Stages.{preparing, ref_name_of}
-use Rattle.fetch_clone.specs.Tracking.{tracking_of}
+use Rattle.fetch_clone.specs.RemoteNames.{tracking_of}
 use Rattle.fetch_clone.specs.declared.choices.Choices.{Choices}
-use Rattle.fetch_clone.specs.declared.choices.Wanted.{Wanted}
-use Rattle.fetch_clone.specs.declared.choices.Wanted.TheVariants.{Everything, RefName, Revision}
+use Rattle.fetch_clone.specs.declared.choices.CloneTarget.{CloneTarget}
+use Rattle.fetch_clone.specs.declared.choices.CloneTarget.TheVariants.{Everything, RefName, Revision}
 use Rattle.fetch_clone.specs.declared.clone.fetch.Error.{Error}
 
 -- ---- the extra refspecs
@@ -74,7 +74,7 @@ pub record IsExtra (with_head : Bool) (place : List ℕ) (choices : Choices) (ex
   pub all : extra ≡ given_by with_head place choices.options.extra_refspecs ++ heads ++ names
 
 -- For a revision it is that alone.
-abbrev pub IsExtraFor : Wanted → Bool → List ℕ → Choices → List Spec → Type 0
+abbrev pub IsExtraFor : CloneTarget → Bool → List ℕ → Choices → List Spec → Type 0
 IsExtraFor (Revision spec) with_head place choices extra = extra ≡ spec ∷ []
 IsExtraFor Everything with_head place choices extra = IsExtra with_head place choices extra
 IsExtraFor (RefName wanted) with_head place choices extra = IsExtra with_head place choices extra

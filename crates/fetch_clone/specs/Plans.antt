@@ -6,8 +6,8 @@ use Rattle.fetch_clone.specs.declared.create.Kind.{Kind as Layout}
 use Rattle.fetch_clone.specs.declared.create.Kind.TheVariants as kinds
 use Rattle.fetch_clone.specs.declared.create.Options.{Options}
 use Rattle.fetch_clone.specs.declared.create.Path.{Path}
-use Rattle.fetch_clone.specs.declared.step.Step.{Step}
-use Rattle.fetch_clone.specs.declared.step.Step.TheVariants.{Clear, Vacant, Directory, File}
+use Rattle.fetch_clone.specs.declared.create.step.Step.{Step}
+use Rattle.fetch_clone.specs.declared.create.step.Step.TheVariants.{Clear, Vacant, Directory, File}
 use Rattle.fetch_clone.specs.Configuration.{line, configuration_of}
 
 -- what has this name in the directory

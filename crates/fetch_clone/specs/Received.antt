@@ -25,28 +25,28 @@ use Rattle.fetch_remote.specs.declared.fetching.outcome.Outcome.{Outcome}
 use Rattle.fetch_remote.specs.declared.fetching.prepared.Prepared.{Prepared}
 use Rattle.fetch_remote.specs.declared.repository.Resolved.{Resolved}
 use Rattle.fetch_remote.specs.declared.repository.open_error.OpenError.{OpenError}
-use Rattle.fetch_clone.specs.Aims.{revision_id}
+use Rattle.fetch_clone.specs.HeadTargets.{revision_id}
 use Rattle.fetch_clone.specs.Hashed.{IsHashed, IsUnhashed}
-use Rattle.fetch_clone.specs.Heading.{IsToldAs}
-use Rattle.fetch_clone.specs.Meant.{meant_in}
+use Rattle.fetch_clone.specs.HeadUpdates.{IsToldAs}
+use Rattle.fetch_clone.specs.NamedRefs.{ref_named_in}
 use Rattle.fetch_clone.specs.Stages.{receiving, reopening}
-use Rattle.fetch_clone.specs.declared.aim.Unaimed.TheVariants as unaimed
-use Rattle.fetch_clone.specs.declared.choices.Wanted.{Wanted}
-use Rattle.fetch_clone.specs.declared.choices.Wanted.TheVariants.{Everything, RefName, Revision}
+use Rattle.fetch_clone.specs.declared.head_target.HeadError.TheVariants as head_errors
+use Rattle.fetch_clone.specs.declared.choices.CloneTarget.{CloneTarget}
+use Rattle.fetch_clone.specs.declared.choices.CloneTarget.TheVariants.{Everything, RefName, Revision}
 use Rattle.fetch_clone.specs.declared.clone.fetch.Error.{Error}
 use Rattle.fetch_clone.specs.declared.clone.fetch.Error.TheVariants as errors
-use Rattle.fetch_clone.specs.declared.draft.Draft.{Draft}
-use Rattle.fetch_clone.specs.declared.meant.Meant.{Meant}
-use Rattle.fetch_clone.specs.declared.meant.Unmeant.{Unmeant}
+use Rattle.fetch_clone.specs.declared.clone_state.CloneState.{CloneState}
+use Rattle.fetch_clone.specs.declared.named_ref.NamedRef.{NamedRef}
+use Rattle.fetch_clone.specs.declared.named_ref.RefNameError.{RefNameError}
 
 -- ---- what is fetched by
 
 -- what reflogs say
-abbrev pub message_of : Draft → List ℕ
+abbrev pub message_of : CloneState → List ℕ
 message_of draft = codes "clone: from " ++ draft.url
 
 -- References are written packed, reflogs say where the clone is from, and the depth changes as the clone was asked.
-abbrev pub options_of : Draft → FetchOptions → FetchOptions
+abbrev pub options_of : CloneState → FetchOptions → FetchOptions
 options_of draft options = record options {
   write_packed_refs_only = true;
   reflog_message = Some (Override (message_of draft));
@@ -54,26 +54,26 @@ options_of draft options = record options {
 }
 
 -- what the fetch is given
-abbrev pub given : Draft → RemoteValue → Prepared → Setup → Given
+abbrev pub given : CloneState → RemoteValue → Prepared → Setup → Given
 given draft remote prepared setup = record { remote = remote; options = options_of draft prepared.options; setup = setup }
 
 -- ---- what is mapped
 
 -- The ref name means one of the mapped references; the revision is mapped.
-abbrev pub IsMapped : Wanted → RefMap → Type 0
+abbrev pub IsMapped : CloneTarget → RefMap → Type 0
 IsMapped Everything map = ⊤
-IsMapped (RefName name) map = (found : Meant) × (meant_in map.mappings name ≡ Ok found)
+IsMapped (RefName name) map = (found : NamedRef) × (ref_named_in map.mappings name ≡ Ok found)
 IsMapped (Revision spec) map = is_some (revision_id map spec) ≡ true
 
 -- Nothing that is mapped is meant by the ref name, or there are several; the revision isn't mapped.
-abbrev pub IsUnmappedFor : Wanted → RefMap → Error → Type 0
+abbrev pub IsUnmappedFor : CloneTarget → RefMap → Error → Type 0
 IsUnmappedFor Everything map e = ⊥
-IsUnmappedFor (RefName name) map e = (cause : Unmeant) × (meant_in map.mappings name ≡ Err cause)
-    × IsToldAs (Some name) None (unaimed.Name cause) e
-IsUnmappedFor (Revision spec) map e = (revision_id map spec ≡ None) × IsToldAs None (Some spec) unaimed.Revision e
+IsUnmappedFor (RefName name) map e = (cause : RefNameError) × (ref_named_in map.mappings name ≡ Err cause)
+    × IsToldAs (Some name) None (head_errors.Name cause) e
+IsUnmappedFor (Revision spec) map e = (revision_id map spec ≡ None) × IsToldAs None (Some spec) head_errors.Revision e
 
 -- the same, unless memory ran out
-abbrev pub IsUnmapped : Wanted → RefMap → Error → Type 0
+abbrev pub IsUnmapped : CloneTarget → RefMap → Error → Type 0
 IsUnmapped wanted map e = (e ≡ errors.NoMemory) ⊎ IsUnmappedFor wanted map e
 
 -- ---- the hash, and the file that is read again for it
@@ -89,7 +89,7 @@ with_reread setup None = setup
 with_reread setup (Some reread) = in_force setup reread.file reread.config
 
 -- What is wanted is mapped, and the repository stands as it is asked from: it took the remote's hash, where it was to.
-pub record IsReady (files files_left : Option Tree) (draft : Draft) (prepared : Prepared) (found asked : RepositoryValue)
+pub record IsReady (files files_left : Option Tree) (draft : CloneState) (prepared : Prepared) (found asked : RepositoryValue)
     (reread : Option Resolved) : Type 0 where
   pub mapped : IsMapped draft.choices.wanted prepared.listed.ref_map
   pub hashed : IsHashed files files_left prepared.listed.ref_map.object_hash found asked reread
@@ -98,7 +98,7 @@ pub record IsReady (files files_left : Option Tree) (draft : Draft) (prepared : 
 
 -- What was listed was fetched, once all was ready, and then the file was put in force that was read again.
 pub record IsReceived (answers : Bool) (old new : Option Talk) (known : Option (List Worktree)) (files files_left : Option Tree)
-    (draft : Draft) (remote : RemoteValue) (prepared : Prepared) (found repo : RepositoryValue) (outcome : Outcome) : Type 0 where
+    (draft : CloneState) (remote : RemoteValue) (prepared : Prepared) (found repo : RepositoryValue) (outcome : Outcome) : Type 0 where
   pub asked : RepositoryValue
   pub written : Option Tree
   pub reread : Option Resolved
@@ -107,14 +107,14 @@ pub record IsReceived (answers : Bool) (old new : Option Talk) (known : Option (
   pub setup : repo.setup ≡ with_reread asked.setup reread
 
 -- What is wanted isn't mapped, or memory ran out before anything was changed: all is as found.
-pub record IsNotMapped (files files_left : Option Tree) (draft : Draft) (prepared : Prepared) (found repo : RepositoryValue)
+pub record IsNotMapped (files files_left : Option Tree) (draft : CloneState) (prepared : Prepared) (found repo : RepositoryValue)
     (e : Error) : Type 0 where
   pub why : IsUnmapped draft.choices.wanted prepared.listed.ref_map e
   pub repository : repo ≡ found
   pub tree : files_left ≡ files
 
 -- What is wanted is mapped, and the remote's hash couldn't be taken: the repository is as found.
-pub record IsNotHashed (may_fail : Bool) (files files_left : Option Tree) (draft : Draft) (prepared : Prepared)
+pub record IsNotHashed (may_fail : Bool) (files files_left : Option Tree) (draft : CloneState) (prepared : Prepared)
     (found repo : RepositoryValue) (e : Error) : Type 0 where
   pub mapped : IsMapped draft.choices.wanted prepared.listed.ref_map
   pub why : IsUnhashed may_fail files files_left prepared.listed.ref_map.object_hash found e
@@ -134,7 +134,7 @@ pub record IsFetchRefused (answers : Bool) (old new : Option Talk) (known : Opti
 
 -- All was ready, and what was listed wasn't fetched; then too the file was put in force that was read again.
 pub record IsUnfetched (answers : Bool) (old new : Option Talk) (known : Option (List Worktree)) (may_fail : Bool)
-    (files files_left : Option Tree) (draft : Draft) (remote : RemoteValue) (prepared : Prepared) (found repo : RepositoryValue)
+    (files files_left : Option Tree) (draft : CloneState) (remote : RemoteValue) (prepared : Prepared) (found repo : RepositoryValue)
     (e : Error) : Type 0 where
   pub asked : RepositoryValue
   pub written : Option Tree
@@ -146,14 +146,14 @@ pub record IsUnfetched (answers : Bool) (old new : Option Talk) (known : Option 
 
 -- Why nothing is received, in the order of the steps.
 pub record IsUnreceived (answers : Bool) (old new : Option Talk) (known : Option (List Worktree)) (may_fail : Bool)
-    (files files_left : Option Tree) (draft : Draft) (remote : RemoteValue) (prepared : Prepared) (found repo : RepositoryValue)
+    (files files_left : Option Tree) (draft : CloneState) (remote : RemoteValue) (prepared : Prepared) (found repo : RepositoryValue)
     (e : Error) : Type 0 where
   pub by : IsNotMapped files files_left draft prepared found repo e
       ⊎ (IsNotHashed may_fail files files_left draft prepared found repo e
       ⊎ IsUnfetched answers old new known may_fail files files_left draft remote prepared found repo e)
 
 -- The refusal is of what is mapped, of the hash, or one of a fetch.
-abbrev pub IsOfReceiving : Wanted → RefMap → Error → Type 0
+abbrev pub IsOfReceiving : CloneTarget → RefMap → Error → Type 0
 IsOfReceiving wanted map e = IsUnmapped wanted map e
     ⊎ (((cause : OpenError) × (e ≡ reopening cause)) ⊎ ((cause : ReceiveError) × (e ≡ receiving cause)))
 
@@ -166,7 +166,7 @@ WasListed answers begun now remote setup prepared =
 
 -- What was listed was fetched, from a peer that stood so before it was asked for references; and the peer was taken back.
 pub record IsTaken {P : Type 0} (told : P → Option Talk) (answers : Bool) (begun : Option Talk) (before after : Option (List P))
-    (known : Option (List Worktree)) (files files_left : Option Tree) (draft : Draft) (remote : RemoteValue) (prepared : Prepared)
+    (known : Option (List Worktree)) (files files_left : Option Tree) (draft : CloneState) (remote : RemoteValue) (prepared : Prepared)
     (found repo : RepositoryValue) (outcome : Outcome) : Type 0 where
   pub last : P
   pub received : IsReceived answers begun (told last) known files files_left draft remote prepared found repo outcome
@@ -174,7 +174,7 @@ pub record IsTaken {P : Type 0} (told : P → Option Talk) (answers : Bool) (beg
 
 -- Nothing was received; and the peer was taken back.
 pub record IsNotTaken {P : Type 0} (told : P → Option Talk) (answers : Bool) (begun : Option Talk) (before after : Option (List P))
-    (known : Option (List Worktree)) (may_fail : Bool) (files files_left : Option Tree) (draft : Draft) (remote : RemoteValue)
+    (known : Option (List Worktree)) (may_fail : Bool) (files files_left : Option Tree) (draft : CloneState) (remote : RemoteValue)
     (prepared : Prepared) (found repo : RepositoryValue) (e : Error) : Type 0 where
   pub last : P
   pub why : IsUnreceived answers begun (told last) known may_fail files files_left draft remote prepared found repo e

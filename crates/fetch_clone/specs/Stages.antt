@@ -17,10 +17,10 @@ use Rattle.fetch_conversation.specs.declared.ref_map.Error.TheVariants as ref_ma
 use Rattle.fetch_remote.specs.Connecting.{is_of_maker}
 use Rattle.fetch_remote.specs.declared.repository.open_error.OpenError.{OpenError}
 use Rattle.fetch_remote.specs.declared.repository.open_error.OpenError.TheVariants as opening
-use Rattle.fetch_clone.specs.Tracking.{default_remote_of}
+use Rattle.fetch_clone.specs.RemoteNames.{default_remote_of}
 use Rattle.fetch_clone.specs.declared.choices.Choices.{Choices}
-use Rattle.fetch_clone.specs.declared.choices.Wanted.{Wanted}
-use Rattle.fetch_clone.specs.declared.choices.Wanted.TheVariants.{Everything, RefName, Revision}
+use Rattle.fetch_clone.specs.declared.choices.CloneTarget.{CloneTarget}
+use Rattle.fetch_clone.specs.declared.choices.CloneTarget.TheVariants.{Everything, RefName, Revision}
 use Rattle.fetch_clone.specs.declared.clone.fetch.Error.{Error}
 use Rattle.fetch_clone.specs.declared.clone.fetch.Error.TheVariants as errors
 
@@ -62,13 +62,13 @@ is_spurious e = false
 -- ---- what was asked for
 
 -- the ref name that is wanted
-abbrev pub ref_name_of : Wanted → Option (List ℕ)
+abbrev pub ref_name_of : CloneTarget → Option (List ℕ)
 ref_name_of Everything = None
 ref_name_of (RefName wanted) = Some wanted
 ref_name_of (Revision spec) = None
 
 -- the revision that is wanted
-abbrev pub revision_of : Wanted → Option Spec
+abbrev pub revision_of : CloneTarget → Option Spec
 revision_of Everything = None
 revision_of (RefName wanted) = None
 revision_of (Revision spec) = Some spec

@@ -14,17 +14,17 @@ use Rattle.fetch_remote.specs.Remotes.{RemoteValue, nameless}
 use Rattle.fetch_remote.specs.RepositoryValues.{State, Setup, RepositoryValue}
 use Rattle.fetch_remote.specs.Stages.{inquiry_of}
 use Rattle.fetch_remote.specs.Steps.{HasInquired, IsUninquired}
-use Rattle.fetch_clone.specs.Heading.{IsNoAim, aim_of}
+use Rattle.fetch_clone.specs.HeadUpdates.{LacksHeadTarget, head_target_of}
 use Rattle.fetch_clone.specs.Heeded.{IsHeededOver}
 use Rattle.fetch_clone.specs.Reached.{Ways, Line, IsReached, IsReturned, IsTurnedAway, IsUnreached}
 use Rattle.fetch_clone.specs.Stages.{lists_first, listing, ref_name_of}
-use Rattle.fetch_clone.specs.declared.aim.Aim.{Aim}
-use Rattle.fetch_clone.specs.declared.aim.Aim.TheVariants.{Nothing, Id, Name}
-use Rattle.fetch_clone.specs.declared.aim.Unaimed.{Unaimed}
+use Rattle.fetch_clone.specs.declared.head_target.HeadTarget.{HeadTarget}
+use Rattle.fetch_clone.specs.declared.head_target.HeadTarget.TheVariants.{Nothing, Id, Name}
+use Rattle.fetch_clone.specs.declared.head_target.HeadError.{HeadError}
 use Rattle.fetch_clone.specs.declared.choices.Choices.{Choices}
 use Rattle.fetch_clone.specs.declared.clone.fetch.Error.{Error}
 use Rattle.fetch_clone.specs.declared.clone.fetch.Error.TheVariants as errors
-use Rattle.fetch_clone.specs.declared.draft.Draft.{Draft}
+use Rattle.fetch_clone.specs.declared.clone_state.CloneState.{CloneState}
 
 -- ---- what is asked
 
@@ -56,14 +56,14 @@ first_inquiry url choices settings spec = inquiry_of (bare url) settings (first_
 -- ---- what is found
 
 -- the name that is aimed at, where one is
-abbrev pub name_in : Aim → Option (List ℕ)
+abbrev pub name_in : HeadTarget → Option (List ℕ)
 name_in Nothing = None
 name_in (Id id) = None
 name_in (Name name id) = Some name
 
 -- This name is aimed at, where one is.
-abbrev pub Aims : Result Aim Unaimed → Option (List ℕ) → Type 0
-Aims found target = (aim : Aim) × (found ≡ Ok aim) × (target ≡ name_in aim)
+abbrev pub IsHeadTarget : Result HeadTarget HeadError → Option (List ℕ) → Type 0
+IsHeadTarget found target = (head_target : HeadTarget) × (found ≡ Ok head_target) × (target ≡ name_in head_target)
 
 -- the name that a ref name means, where it is no full name, has a refusal of its own
 abbrev pub told_again : Bool → Error → Error
@@ -81,75 +81,79 @@ pub record IsAsked {G P : Type 0} (w : Ways G P) (before after : Line G P) (url 
   pub returned : IsReturned between after last
 
 -- The references were listed.
-pub record HasListedFirst {G P : Type 0} (w : Ways G P) (before after : Line G P) (draft : Draft) (setup : Setup)
+pub record HasListedFirst {G P : Type 0} (w : Ways G P) (before after : Line G P) (draft : CloneState) (setup : Setup)
     (listed : ListedValue) : Type 0 where
   pub asked : IsAsked w before after draft.url draft.choices
   pub heard : HasInquired w.answers (w.told asked.peer) (w.told asked.last)
       (first_inquiry draft.url draft.choices setup.settings asked.spec) listed
 
 -- what the listing aims at
-abbrev pub first_aim : Draft → State → ListedValue → Result Aim Unaimed
-first_aim draft state listed = aim_of state listed.ref_map (ref_name_of draft.choices.wanted) None
+abbrev pub first_head_target : CloneState → State → ListedValue → Result HeadTarget HeadError
+first_head_target draft state listed = head_target_of state listed.ref_map (ref_name_of draft.choices.wanted) None
 
 -- The references were listed, and this name is aimed at.
-pub record IsAimedAt {G P : Type 0} (w : Ways G P) (before after : Line G P) (draft : Draft) (repo : RepositoryValue)
+pub record HasHeadTarget {G P : Type 0} (w : Ways G P) (before after : Line G P) (draft : CloneState) (repo : RepositoryValue)
     (target : Option (List ℕ)) : Type 0 where
   pub listed : ListedValue
   pub heard : HasListedFirst w before after draft repo.setup listed
-  pub aim : Aim
-  pub aims : first_aim draft repo.state listed ≡ Ok aim
-  pub tells : target ≡ name_in aim
+  pub head_target : HeadTarget
+  pub head_target_is : first_head_target draft repo.state listed ≡ Ok head_target
+  pub tells : target ≡ name_in head_target
 
 -- Nothing is asked where the references aren't listed before.
-abbrev pub HasTargetBy : {G P : Type 0} → Bool → Ways G P → Line G P → Line G P → Draft → RepositoryValue → Option (List ℕ) → Type 0
+abbrev pub HasTargetBy : {G P : Type 0} → Bool → Ways G P → Line G P → Line G P → CloneState → RepositoryValue → Option (List ℕ) → Type 0
 HasTargetBy false w before after draft repo target = (after ≡ before) × (target ≡ None)
-HasTargetBy true w before after draft repo target = IsAimedAt w before after draft repo target
+HasTargetBy true w before after draft repo target = HasHeadTarget w before after draft repo target
 
 -- The target of a clone, where one is told before.
-pub record HasTarget {G P : Type 0} (w : Ways G P) (before after : Line G P) (draft : Draft) (repo : RepositoryValue)
+pub record HasTarget {G P : Type 0} (w : Ways G P) (before after : Line G P) (draft : CloneState) (repo : RepositoryValue)
     (target : Option (List ℕ)) : Type 0 where
   pub by : HasTargetBy (lists_first draft.choices) w before after draft repo target
 
 -- Where a first peer listed, the interrupt said no before each receive of that peer.
 abbrev pub HeedsBy : {G P : Type 0} → (ℕ → Type 0) → (ℕ → Type 0) → (first : Bool) → (w : Ways G P) → (before after : Line G P)
-    → (draft : Draft) → (repo : RepositoryValue) → (target : Option (List ℕ)) → HasTargetBy first w before after draft repo target → Type 0
+    → (draft : CloneState) → (repo : RepositoryValue) → (target : Option (List ℕ))
+    → HasTargetBy first w before after draft repo target → Type 0
 HeedsBy will will' false w before after draft repo target t = ⊤
 HeedsBy will will' true w before after draft repo target t = IsHeededOver will will' (w.told t.heard.asked.peer) (w.told t.heard.asked.last)
 
 -- the same of the target of a clone
-pub record HeedsFirst {G P : Type 0} {w : Ways G P} {before after : Line G P} {draft : Draft} {repo : RepositoryValue}
+pub record HeedsFirst {G P : Type 0} {w : Ways G P} {before after : Line G P} {draft : CloneState} {repo : RepositoryValue}
     {target : Option (List ℕ)} (will will' : ℕ → Type 0) (t : HasTarget w before after draft repo target) : Type 0 where
   pub heeds : HeedsBy will will' (lists_first draft.choices) w before after draft repo target t.by
 
 -- ---- why there is none
 
 -- The listing broke off.
-pub record IsUnlisted {G P : Type 0} (w : Ways G P) (before after : Line G P) (draft : Draft) (setup : Setup) (e : MapError) : Type 0 where
+pub record IsUnlisted {G P : Type 0} (w : Ways G P) (before after : Line G P) (draft : CloneState) (setup : Setup)
+    (e : MapError) : Type 0 where
   pub asked : IsAsked w before after draft.url draft.choices
   pub broke : IsUninquired w.answers (w.told asked.peer) (w.told asked.last)
       (first_inquiry draft.url draft.choices setup.settings asked.spec) e
 
 -- What is aimed at is refused; the name that a ref name means, where it is no full name, has a refusal of its own.
-abbrev pub IsUnaimedBy : State → RefMap → Option (List ℕ) → Error → Type 0
-IsUnaimedBy s map ref_name e = (cause : Error) × IsNoAim s map ref_name None cause × (e ≡ told_again (is_some ref_name) cause)
+abbrev pub IsHeadTargetRefusedBy : State → RefMap → Option (List ℕ) → Error → Type 0
+IsHeadTargetRefusedBy s map ref_name e = (cause : Error) × LacksHeadTarget s map ref_name None cause
+    × (e ≡ told_again (is_some ref_name) cause)
 
 -- The references were listed, and what they aim at is refused.
-pub record IsUnaimed {G P : Type 0} (w : Ways G P) (before after : Line G P) (draft : Draft) (repo : RepositoryValue)
+pub record IsHeadTargetRefused {G P : Type 0} (w : Ways G P) (before after : Line G P) (draft : CloneState) (repo : RepositoryValue)
     (e : Error) : Type 0 where
   pub listed : ListedValue
   pub heard : HasListedFirst w before after draft repo.setup listed
-  pub why : IsUnaimedBy repo.state listed.ref_map (ref_name_of draft.choices.wanted) e
+  pub why : IsHeadTargetRefusedBy repo.state listed.ref_map (ref_name_of draft.choices.wanted) e
 
 -- Why there is no target, where the references are listed before: no peer was reached; or it didn't list; or what it lists is
 -- refused.
-abbrev pub IsUntargeted : {G P : Type 0} → Ways G P → Faults → Faults → Line G P → Line G P → Draft → RepositoryValue → Error → Type 0
+abbrev pub IsUntargeted : {G P : Type 0} → Ways G P → Faults → Faults → Line G P → Line G P → CloneState → RepositoryValue → Error → Type 0
 IsUntargeted w was is before after draft repo e =
     IsUnreached (IsTurnedAway w (Some draft.url) before after) (after ≡ before) was is (Some draft.url) e
     ⊎ (((cause : MapError) × (e ≡ listing cause) × IsUnlisted w before after draft repo.setup cause)
-    ⊎ IsUnaimed w before after draft repo e)
+    ⊎ IsHeadTargetRefused w before after draft repo e)
 
 -- the same, and the references are listed before
-pub record HasNoTarget {G P : Type 0} (w : Ways G P) (was is : Faults) (before after : Line G P) (draft : Draft) (repo : RepositoryValue)
+pub record HasNoTarget {G P : Type 0} (w : Ways G P) (was is : Faults) (before after : Line G P) (draft : CloneState)
+    (repo : RepositoryValue)
     (e : Error) : Type 0 where
   pub first : lists_first draft.choices ≡ true
   pub why : IsUntargeted w was is before after draft repo e

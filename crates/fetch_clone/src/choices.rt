@@ -20,7 +20,7 @@ use std::alloc::Global;
 
 /// Which references a clone is of. A ref name and a revision exclude each other.
 #[derive(Debug, Drop)]
-pub enum Wanted {
+pub enum CloneTarget {
     /// All branches.
     Everything,
     /// All branches, and `HEAD` leads to this reference.
@@ -29,15 +29,15 @@ pub enum Wanted {
     Revision(RefSpec),
 }
 
-impl Wanted {
+impl CloneTarget {
     /// An equal choice.
-    pub fn try_clone(&self) -> Result<Wanted, NoMemory>
+    pub fn try_clone(&self) -> Result<CloneTarget, NoMemory>
         ensures { IfOk result (λ copy. copy ≡ self.now) }
     {
         match self {
-            Wanted::Everything => Ok(Wanted::Everything),
-            Wanted::RefName(name) => Ok(Wanted::RefName(name.try_clone()?)),
-            Wanted::Revision(spec) => Ok(Wanted::Revision(spec.try_clone()?)),
+            CloneTarget::Everything => Ok(CloneTarget::Everything),
+            CloneTarget::RefName(name) => Ok(CloneTarget::RefName(name.try_clone()?)),
+            CloneTarget::Revision(spec) => Ok(CloneTarget::Revision(spec.try_clone()?)),
         }
     }
 }
@@ -52,7 +52,7 @@ pub struct Choices {
     /// Overrides, as a repository is opened with.
     pub overrides: List<Text>,
     /// Which references are fetched, and where `HEAD` leads.
-    pub wanted: Wanted,
+    pub wanted: CloneTarget,
     /// How references are listed and mapped.
     pub options: ref_map::Options,
 }
@@ -66,7 +66,7 @@ impl Choices {
             remote_name: None,
             shallow: Shallow::NoChange,
             overrides: List::new(alloc),
-            wanted: Wanted::Everything,
+            wanted: CloneTarget::Everything,
             options: ref_map::Options::new(alloc),
         }
     }
@@ -104,9 +104,9 @@ impl Choices {
         ensures { option_copied result ≡ ref_name_of self.now.wanted }
     {
         match &self.wanted {
-            Wanted::RefName(name) => Some(name),
-            Wanted::Everything => None,
-            Wanted::Revision(_) => None,
+            CloneTarget::RefName(name) => Some(name),
+            CloneTarget::Everything => None,
+            CloneTarget::Revision(_) => None,
         }
     }
 
@@ -115,9 +115,9 @@ impl Choices {
         ensures { option_copied result ≡ revision_wanted self.now.wanted }
     {
         match &self.wanted {
-            Wanted::Revision(spec) => Some(spec),
-            Wanted::Everything => None,
-            Wanted::RefName(_) => None,
+            CloneTarget::Revision(spec) => Some(spec),
+            CloneTarget::Everything => None,
+            CloneTarget::RefName(_) => None,
         }
     }
 
@@ -132,11 +132,11 @@ impl Choices {
     {
         match name {
             Some(name) => {
-                self.wanted = Wanted::RefName(PartialName::new(alloc, name)?);
+                self.wanted = CloneTarget::RefName(PartialName::new(alloc, name)?);
             }
             None => {
-                if matches!(self.wanted, Wanted::RefName(_)) {
-                    self.wanted = Wanted::Everything;
+                if matches!(self.wanted, CloneTarget::RefName(_)) {
+                    self.wanted = CloneTarget::Everything;
                 }
             }
         }
@@ -156,11 +156,11 @@ impl Choices {
     {
         match text {
             Some(text) => {
-                self.wanted = Wanted::Revision(revision(alloc, text)?);
+                self.wanted = CloneTarget::Revision(revision(alloc, text)?);
             }
             None => {
-                if matches!(self.wanted, Wanted::Revision(_)) {
-                    self.wanted = Wanted::Everything;
+                if matches!(self.wanted, CloneTarget::Revision(_)) {
+                    self.wanted = CloneTarget::Everything;
                 }
             }
         }

@@ -37,7 +37,7 @@ impl Error {
 
 impl From<init::Error> for Error {
     ghost use Rattle.std.specs.Prelude.{◌≡◌};
-    ghost use Rattle.fetch_clone.specs.Drafts.{init_refusal};
+    ghost use Rattle.fetch_clone.specs.CloneStates.{init_refusal};
 
     ghost from_gives = { λ e f. f ≡ init_refusal e };
 

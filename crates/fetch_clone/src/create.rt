@@ -1,12 +1,15 @@
 //! A repository's files are created.
 
+pub(crate) mod plan;
+pub(crate) mod run;
+pub(crate) mod step;
+
 ghost use Rattle.std.specs.Prelude.{◌≡◌, IfOk, IfErr, OnOk, IsTrue};
 ghost use Rattle.fetch_store.specs.Faults.{Rose, Counts};
 ghost use Rattle.fetch_clone.specs.Creation.{Reaches, IsStopped, is_fault};
 ghost use Rattle.fetch_clone.specs.Plans.{path_of, steps_of};
 
-use crate::making::perform;
-use crate::plan;
+use crate::create::run::perform;
 use fetch_store::{Files, NoMemory, Text};
 use std::alloc::Global;
 use thiserror::Error as ThisError;

@@ -1,5 +1,7 @@
 //! A repository is created and opened.
 
+pub(crate) mod opening;
+
 ghost use Rattle.std.specs.Prelude.{◌≡◌, true, IfOk, IfErr, OnOk, IsTrue};
 ghost use Rattle.fetch_store.specs.Faults.{Rose, Counts};
 ghost use Rattle.fetch_remote.specs.Repositories.{open_options as usual_options};
@@ -8,7 +10,7 @@ ghost use Rattle.fetch_clone.specs.Initial.{IsInitial, IsInitRefusal, new_of, is
 ghost use Rattle.fetch_clone.specs.Plans.{steps_of};
 
 use crate::create::{self, Kind, Options};
-use crate::opening::{New, open_new};
+use crate::init::opening::{New, open_new};
 use fetch_refs::Signature;
 use fetch_remote::{OpenError, OpenOptions, ThreadSafeRepository};
 use fetch_store::{Files, NoMemory, Text};

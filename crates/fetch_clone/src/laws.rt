@@ -12,14 +12,14 @@ ghost use Rattle.fetch_remote.specs.Reloads.{file_of};
 ghost use Rattle.fetch_remote.specs.Remotes.{RemoteValue};
 ghost use Rattle.fetch_remote.specs.RepositoryValues.{Setup};
 ghost use Rattle.fetch_clone.specs.Configuration.{configuration_of};
-ghost use Rattle.fetch_clone.specs.Mirrors.{section_of};
+ghost use Rattle.fetch_clone.specs.RemoteSections.{section_of};
 ghost use Rattle.fetch_clone.specs.Replacing.{is_like, replaced};
 ghost use Rattle.fetch_clone.specs.Versioned.{versioned};
 ghost use Rattle.fetch_clone.specs.declared.create.Capabilities.{Capabilities};
 ghost use Rattle.fetch_clone.specs.declared.create.Kind.{Kind as Layout};
 
-pub use crate::heading::update_head;
-pub use crate::mirror_remote::{append_config_to_repo_config, append_remote_to_local_config_file};
+pub use crate::head_update::update_head;
+pub use crate::remote_section::{append_config_to_repo_config, append_remote_to_local_config_file};
 
 /// The file `config` of a new repository, read, and written with the version of any hash, is the one that a new repository of
 /// that hash has.

@@ -1,32 +1,28 @@
 //! Repositories that are created, and what a clone is asked for.
 #![tactic(auto)]
 
-mod aim;
 mod branches;
 mod choices;
 pub mod clone;
+mod clone_state;
 mod configuration;
 pub mod create;
-mod draft;
 mod fetching;
-mod heading;
+mod head_target;
+mod head_update;
 mod host_files;
 pub mod init;
 pub mod laws;
-mod making;
-mod meant;
-mod mirror_remote;
-mod opening;
-mod plan;
+mod named_ref;
 mod prepare_fetch;
+mod remote_name;
+mod remote_section;
 mod replacing;
-mod step;
-mod tracking;
 mod upstream;
 mod versioning;
 pub mod with_revision;
 
-pub use choices::{Choices, Wanted};
+pub use choices::{Choices, CloneTarget};
 pub use host_files::HostFiles;
 pub use init::init_opts;
 pub use prepare_fetch::{ConfigureFault, PrepareFetch};

@@ -5,12 +5,13 @@ ghost use Rattle.std.specs.Option.{option_copied};
 ghost use Rattle.fetch_lookup.specs.Names.{IsNameRefusal, name_refusal};
 ghost use Rattle.fetch_store.specs.Faults.{Rose, Counts};
 ghost use Rattle.fetch_clone.specs.Choices.{ChoosesRevision, RefNameVerdict, ref_name_chosen, with_wanted};
-ghost use Rattle.fetch_clone.specs.Drafts.{IsPrepared, IsPrepareRefusal, IsRemoved, is_removed, is_clone_fault, with_choices, making_of};
+ghost use Rattle.fetch_clone.specs.CloneStates.{IsPrepared, IsPrepareRefusal, IsRemoved, is_removed, is_clone_fault, with_choices};
+ghost use Rattle.fetch_clone.specs.CloneStates.{making_of};
 ghost use Rattle.fetch_clone.specs.Revisions.{IsRevisionRefusal};
 ghost use Rattle.fetch_clone.specs.declared.clone.Error.TheVariants as causes;
 
+use crate::clone_state::{CloneState, Making, give_up, prepare};
 use crate::create::{Kind, Options};
-use crate::draft::{Draft, Making, give_up, prepare};
 use crate::{clone, with_revision};
 use fetch_conversation::ref_map;
 use fetch_lookup::name;
@@ -68,7 +69,7 @@ pub struct PrepareFetch<F: Files + Drop, C: Connect + Drop, R: Drop, G: Drop> {
     pub(crate) maker: C,
     pub(crate) configure_remote: R,
     pub(crate) configure_connection: G,
-    pub(crate) draft: Draft,
+    pub(crate) draft: CloneState,
 }
 
 impl<F: Files + Drop, C: Connect + Drop, R: Drop, G: Drop> PrepareFetch<F, C, R, G> {

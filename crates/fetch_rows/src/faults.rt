@@ -15,7 +15,8 @@ use self::reading::{Fault, fault_of};
 use self::saying::said;
 use self::storing::{objects_of, storing};
 use fetch_cli::{
-    Scene, SceneFault, append_keep, append_refused, append_state, append_token, read_scene, set_up,
+    Scene, SceneFault, append_keep, append_refused, append_state, append_token, open_scene,
+    read_scene,
 };
 use fetch_remote::{FetchError, FetchOptions, Outcome};
 use fetch_store::{Files, MemoryFiles, NoMemory, Text, after};
@@ -146,7 +147,7 @@ fn fetch_of(alloc: Global, scene: Scene, fault: &Fault) -> Result<(Fetch, FetchO
 {
     let failing = failing_of(alloc, fault)?;
     let pieces = said(alloc, scene.pieces.as_slice(), fault)?;
-    Ok(Fetch::new(alloc, set_up(alloc, scene)?, pieces, failing))
+    Ok(Fetch::new(alloc, open_scene(alloc, scene)?, pieces, failing))
 }
 
 /// What a fetch in this way tells. None where the bytes are no scene.

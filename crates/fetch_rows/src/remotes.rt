@@ -7,11 +7,11 @@ mod finding;
 mod opening;
 mod overriding;
 mod refusals;
+mod remote_case;
 mod saving;
-mod setting;
 
 use self::opening::open;
-use self::setting::Setting;
+use self::remote_case::RemoteCase;
 use fetch_remote::Repository;
 use fetch_store::{NoMemory, after};
 use rows::{Question, say, tell_lines};
@@ -20,7 +20,7 @@ use std::alloc::Global;
 /// Tells what is asked of a repository that stays as it is. Whether something is.
 fn ask_of(
     alloc: Global,
-    setting: &Setting,
+    remote_case: &RemoteCase,
     repo: &Repository,
     question: Question<'_>,
     out: &mut Vec<u8>,
@@ -31,38 +31,38 @@ fn ask_of(
     if branches::ask_of_branches(alloc, repo, question, out)? {
         return Ok(true);
     }
-    if connecting::ask(alloc, repo, setting.peers.as_slice(), question, out)? {
+    if connecting::ask(alloc, repo, remote_case.peers.as_slice(), question, out)? {
         return Ok(true);
     }
-    saving::ask(alloc, repo, setting.config.as_slice(), question, out)
+    saving::ask(alloc, repo, remote_case.config.as_slice(), question, out)
 }
 
 /// Tells what is asked of a repository. Whether something is.
 fn ask_or_change(
     alloc: Global,
-    setting: &Setting,
+    remote_case: &RemoteCase,
     repo: &mut Repository,
     question: Question<'_>,
     out: &mut Vec<u8>,
 ) -> Result<bool, NoMemory> {
-    if ask_of(alloc, setting, repo, question, out)? {
+    if ask_of(alloc, remote_case, repo, question, out)? {
         return Ok(true);
     }
-    deleting::ask(alloc, setting, repo, question, out)
+    deleting::ask(alloc, remote_case, repo, question, out)
 }
 
 /// Tells what is asked. Whether something is, and of a repository.
 fn ask(
     alloc: Global,
-    setting: &Setting,
+    remote_case: &RemoteCase,
     question: Question<'_>,
     out: &mut Vec<u8>,
 ) -> Result<bool, NoMemory> {
     if question.what == b"open-with".as_slice() {
-        return overriding::tell(alloc, setting, question.rest, out);
+        return overriding::tell(alloc, remote_case, question.rest, out);
     }
-    match open(alloc, setting)? {
-        Some(mut repo) => ask_or_change(alloc, setting, &mut repo, question, out),
+    match open(alloc, remote_case)? {
+        Some(mut repo) => ask_or_change(alloc, remote_case, &mut repo, question, out),
         None => Ok(false),
     }
 }
@@ -70,26 +70,26 @@ fn ask(
 /// Takes what a line says of the repository, or tells what it asks for. Whether it is such a line.
 fn tell_line(
     alloc: Global,
-    setting: &mut Setting,
+    remote_case: &mut RemoteCase,
     line: &[u8],
     out: &mut Vec<u8>,
 ) -> Result<bool, NoMemory> {
     match after(b"? ", line) {
         Some(question) => {
             say(out, &[line])?;
-            ask(alloc, setting, Question::of(question), out)
+            ask(alloc, remote_case, Question::of(question), out)
         }
-        None => setting.take(alloc, line),
+        None => remote_case.take(alloc, line),
     }
 }
 
 /// Takes the lines of a row, and tells what they ask for. Whether they are such lines.
 pub(crate) fn tell(alloc: Global, text: &[u8], out: &mut Vec<u8>) -> Result<bool, NoMemory> {
-    let mut setting = Setting::new(alloc);
+    let mut remote_case = RemoteCase::new(alloc);
     tell_lines(
         alloc,
         text,
         out,
-        |line, out| tell_line(alloc, &mut setting, line, out),
+        |line, out| tell_line(alloc, &mut remote_case, line, out),
     )
 }

@@ -3,7 +3,7 @@ use Rattle.std.proofs.Common.{◌≡◌, ◌⊎◌, ℕ, suc, ◌<◌, ◌≤◌
 use Rattle.std.proofs.lemmas.List.{length-replicate}
 use Rattle.std.proofs.lemmas.Bool.Decides.{nat_tests}
 use Rattle.fetch_scene.specs.Scene.{limit}
-use Rattle.fetch_cli.specs.Ends.{IsLongerThan}
+use Rattle.fetch_cli.specs.Io.{IsLongerThan}
 use Rattle.fetch_cli.specs.ReportLines.{malformed_line}
 use Rattle.fetch_cli.specs.Run.{Are}
 use Rattle.fetch_cli.specs.ServerScenes.{server_scene_of}

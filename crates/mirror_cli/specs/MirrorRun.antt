@@ -5,7 +5,7 @@ use Rattle.fetch_refs.specs.declared.log.Signature.{Signature}
 use Rattle.fetch_remote.specs.Repositories.{State}
 use Rattle.fetch_remote.specs.RepositoryValues.{RepositoryValue}
 use Rattle.fetch_cli.specs.Checks.{repository_of}
-use Rattle.fetch_cli.specs.Ends.{IsFront, IsAll}
+use Rattle.fetch_cli.specs.Io.{IsFront, IsAll}
 use Rattle.fetch_cli.specs.Report.{committer}
 use Rattle.fetch_cli.specs.ReportLines.{malformed_line, malformed_word_line, refused_line}
 use Rattle.fetch_cli.specs.Run.{Are}

@@ -8,7 +8,7 @@ ghost use Rattle.fetch_remote.specs.Repositories.{setup_of, state_of};
 ghost use Rattle.mirror_cli.specs.MirrorRun.{IsMirrorOf, IsTold, served_in, mirror_options};
 
 use crate::reporting::{mirror_report, refused_report};
-use fetch_cli::{ServerScene, set_up_local};
+use fetch_cli::{ServerScene, open_local};
 use fetch_mirror::{MirrorError, MirrorOptions, Mirrored, run_mirror};
 use fetch_remote::Repository;
 use fetch_store::NoMemory;
@@ -69,7 +69,7 @@ pub(crate) fn mirrored<R: Threads + Wait + Sync>(
     requires { AreOf scene.local.head.hash scene.objects }
     ensures { IfOk result (λ x. IsMirrorOf workers scene x.0 x.1.items) }
 {
-    let (repo, _) = set_up_local(alloc, scene.local, scene.objects)?;
+    let (repo, _) = open_local(alloc, scene.local, scene.objects)?;
     let options = options_for(&repo, workers)?;
     let mirror = copied(rt, alloc, &repo, options);
     told(alloc, mirror)

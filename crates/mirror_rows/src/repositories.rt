@@ -2,7 +2,7 @@
 
 ghost use Rattle.fetch_store.specs.Stores.{AreOf};
 
-use fetch_cli::{SceneFault, ServerScene, read_server_scene, set_up_local};
+use fetch_cli::{SceneFault, ServerScene, open_local, read_server_scene};
 use fetch_remote::Repository;
 use fetch_store::NoMemory;
 use std::alloc::Global;
@@ -11,7 +11,7 @@ use std::thread::Threads;
 fn set_up(alloc: Global, scene: ServerScene) -> Result<Box<Repository>, NoMemory>
     requires { AreOf scene.local.head.hash scene.objects }
 {
-    let (repo, _) = set_up_local(alloc, scene.local, scene.objects)?;
+    let (repo, _) = open_local(alloc, scene.local, scene.objects)?;
     Ok(Box::new(alloc, repo)?)
 }
 

@@ -8,7 +8,7 @@ mod telling;
 
 use self::fetching::append_fetch;
 use crate::repositories::repository_of;
-use fetch_cli::{Scene, SceneFault, read_scene, report, set_up};
+use fetch_cli::{Scene, SceneFault, open_scene, read_scene, report};
 use fetch_remote::Repository;
 use fetch_serve::{Server, ServerPeer};
 use fetch_store::{NoMemory, after, split_first};
@@ -88,7 +88,7 @@ fn tell_fetch<P: Peer>(
     let Some(scene) = scene_of(rt, alloc, bytes)? else {
         return Ok(false);
     };
-    append_fetch(rt, alloc, set_up(alloc, scene)?, peer, out)?;
+    append_fetch(rt, alloc, open_scene(alloc, scene)?, peer, out)?;
     Ok(true)
 }
 

@@ -11,7 +11,7 @@ use Rattle.race_cli.specs.RaceReports.{Answer, any_refused, status_of, IsRaceRep
 use Rattle.race_cli.specs.RaceRun.{IsToldUnless, IsSceneAnswer, IsAnswerTo, IsRaceAnswer}
 use Rattle.race_cli.specs.RaceScenes.{race_scene_of}
 use Rattle.race_cli.specs.RaceWords.{race_asked}
-use Rattle.race_cli.specs.Settings.{opening_of}
+use Rattle.race_cli.specs.RaceCases.{opening_of}
 use Rattle.race_cli.specs.declared.scene.RaceScene.{RaceScene}
 
 low_by : (b : Bool) (status : ℕ) → status_of b ≡ status → status ≤ 1

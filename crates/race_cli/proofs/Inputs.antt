@@ -2,7 +2,7 @@
 use Rattle.std.proofs.Common.{◌≡◌, ℕ, suc, ◌<◌, true, List, length, replicate, Option, Some, None, Err, nat_lt, refl, arith}
 use Rattle.std.proofs.lemmas.List.{length-replicate}
 use Rattle.std.proofs.lemmas.Bool.Decides.{nat_tests}
-use Rattle.fetch_cli.specs.Ends.{IsLongerThan}
+use Rattle.fetch_cli.specs.Io.{IsLongerThan}
 use Rattle.fetch_scene.specs.Scene.{limit}
 use Rattle.race_cli.specs.RaceInputs.{IsRaceInput}
 use Rattle.race_cli.specs.RaceScenes.{race_scene_of}

@@ -19,28 +19,28 @@ use Rattle.fetch_race.specs.declared.job.Raced.{Raced}
 use Rattle.race_cli.specs.Jobs.{AreFew}
 use Rattle.race_cli.specs.RaceReports.{Answer, IsRaceReport, IsRefusedReport}
 use Rattle.race_cli.specs.RaceRun.{IsSetUp, AreSetUp, race_in, IsTold, IsToldUnless, IsRaceOf}
-use Rattle.race_cli.specs.Settings.{job_in, opening_of}
+use Rattle.race_cli.specs.RaceCases.{job_in, opening_of}
 use Rattle.race_cli.specs.declared.scene.RaceScene.{RaceScene}
-use Rattle.race_cli.specs.declared.setting.JobSetting.{JobSetting}
+use Rattle.race_cli.specs.declared.race_case.JobCase.{JobCase}
 use Rattle.race_cli.proofs.Told.{told}
 
 -- a job more is set up
-pub one_set_up : (settings : List JobSetting) (jobs : List (Job Script)) (setting : JobSetting) (job : Job Script) → AreSetUp settings jobs → IsSetUp setting job → AreSetUp (settings ++ setting ∷ []) (jobs ++ job ∷ [])
-one_set_up [] [] setting job all one = (one, tt)
-one_set_up [] (j ∷ jobs) setting job all one = absurd all
-one_set_up (s ∷ settings) [] setting job all one = absurd all
-one_set_up (s ∷ settings) (j ∷ jobs) setting job all one = (all.0, one_set_up settings jobs setting job all.1 one)
+pub one_set_up : (job_cases : List JobCase) (jobs : List (Job Script)) (opened_case : JobCase) (job : Job Script) → AreSetUp job_cases jobs → IsSetUp opened_case job → AreSetUp (job_cases ++ opened_case ∷ []) (jobs ++ job ∷ [])
+one_set_up [] [] opened_case job all one = (one, tt)
+one_set_up [] (j ∷ jobs) opened_case job all one = absurd all
+one_set_up (s ∷ job_cases) [] opened_case job all one = absurd all
+one_set_up (s ∷ job_cases) (j ∷ jobs) opened_case job all one = (all.0, one_set_up job_cases jobs opened_case job all.1 one)
 
-count_set_up : (settings : List JobSetting) (jobs : List (Job Script)) → AreSetUp settings jobs → length jobs ≡ length settings
+count_set_up : (job_cases : List JobCase) (jobs : List (Job Script)) → AreSetUp job_cases jobs → length jobs ≡ length job_cases
 count_set_up [] [] all = refl
 count_set_up [] (j ∷ jobs) all = absurd all
-count_set_up (s ∷ settings) [] all = absurd all
-count_set_up (s ∷ settings) (j ∷ jobs) all = ap suc (count_set_up settings jobs all.1)
+count_set_up (s ∷ job_cases) [] all = absurd all
+count_set_up (s ∷ job_cases) (j ∷ jobs) all = ap suc (count_set_up job_cases jobs all.1)
 
 -- as many jobs are set up as the scene has
-pub few_set_up : (scene : RaceScene) (settings : List JobSetting) (jobs : List (Job Script)) → AreFew scene.jobs → settings ≡ map job_in scene.jobs → AreSetUp settings jobs → (1 ≤ length jobs) × (length jobs ≤ 8)
-few_set_up scene settings jobs few are all =
-    let count : length jobs ≡ length scene.jobs = count_set_up settings jobs all ∙ ap length are ∙ length-map scene.jobs job_in in
+pub few_set_up : (scene : RaceScene) (job_cases : List JobCase) (jobs : List (Job Script)) → AreFew scene.jobs → job_cases ≡ map job_in scene.jobs → AreSetUp job_cases jobs → (1 ≤ length jobs) × (length jobs ≤ 8)
+few_set_up scene job_cases jobs few are all =
+    let count : length jobs ≡ length scene.jobs = count_set_up job_cases jobs all ∙ ap length are ∙ length-map scene.jobs job_in in
     (omega (arith, few.0, count), omega (arith, few.1, count))
 
 -- a repository of this state and this setup

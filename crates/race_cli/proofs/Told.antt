@@ -4,7 +4,7 @@ use Rattle.fetch_remote.specs.RepositoryValues.{RepositoryValue}
 use Rattle.fetch_shared.specs.Replays.{Outline, outline, replay}
 use Rattle.fetch_shared.specs.declared.entry.Entry.{Entry}
 use Rattle.race_cli.specs.RaceReports.{Answer, race_report, race_of, IsRaceReport}
-use Rattle.race_cli.specs.Settings.{opening_of}
+use Rattle.race_cli.specs.RaceCases.{opening_of}
 use Rattle.race_cli.specs.declared.scene.RaceScene.{RaceScene}
 
 pub told : (scene : RaceScene) (journal : List Entry) (left : RepositoryValue) (answers : List Answer) (status : ℕ) (text : List ℕ)

@@ -1,6 +1,6 @@
 -- What is read of a source as the scene of a race.
 use Rattle.std.specs.Prelude.{◌≡◌, ℕ, List, Option, Result, Err, ⊤}
-use Rattle.fetch_cli.specs.Ends.{IsAll}
+use Rattle.fetch_cli.specs.Io.{IsAll}
 use Rattle.race_cli.specs.RaceScenes.{race_scene_of}
 use Rattle.race_cli.specs.declared.input.RaceFault.{RaceFault}
 use Rattle.race_cli.specs.declared.input.RaceFault.TheVariants as faults

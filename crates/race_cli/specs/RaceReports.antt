@@ -11,7 +11,7 @@ use Rattle.fetch_shared.specs.declared.entry.Entry.{Entry}
 use Rattle.fetch_shared.specs.declared.error.SharedError.{SharedError}
 use Rattle.fetch_shared.specs.declared.error.SharedError.TheVariants as errors
 use Rattle.race_cli.specs.JournalLines.{journal_lines}
-use Rattle.race_cli.specs.Settings.{opening_of}
+use Rattle.race_cli.specs.RaceCases.{opening_of}
 use Rattle.race_cli.specs.SharedTokens.{shared_token}
 use Rattle.race_cli.specs.declared.scene.RaceScene.{RaceScene}
 

@@ -6,7 +6,7 @@ use Rattle.fetch_store.specs.Calls.{faults_of}
 use Rattle.fetch_store.specs.Missing.{unclosed}
 use Rattle.fetch_store.specs.declared.missing.Missing.{Missing}
 use Rattle.fetch_wire.specs.Scripts.{Script, talk_of}
-use Rattle.fetch_cli.specs.Ends.{IsFront, IsAll}
+use Rattle.fetch_cli.specs.Io.{IsFront, IsAll}
 use Rattle.fetch_cli.specs.ReportLines.{malformed_line, malformed_word_line}
 use Rattle.fetch_shared.specs.Machine.{held}
 use Rattle.fetch_shared.specs.Replays.{outline}
@@ -17,23 +17,23 @@ use Rattle.fetch_race.specs.declared.job.Raced.{Raced}
 use Rattle.race_cli.specs.RaceReports.{IsRaceReport, IsRefusedReport, race_of}
 use Rattle.race_cli.specs.RaceScenes.{race_scene_of}
 use Rattle.race_cli.specs.RaceWords.{race_asked}
-use Rattle.race_cli.specs.Settings.{job_in, opening_of}
+use Rattle.race_cli.specs.RaceCases.{job_in, opening_of}
 use Rattle.race_cli.specs.declared.scene.RaceScene.{RaceScene}
-use Rattle.race_cli.specs.declared.setting.JobSetting.{JobSetting}
+use Rattle.race_cli.specs.declared.race_case.JobCase.{JobCase}
 
 -- A job is as it is set up: its peer says these pieces, whatever it hears, and never fails.
-pub record IsSetUp (setting : JobSetting) (job : Job Script) : Type 0 where
-  pub remote : job.remote ≡ setting.remote
-  pub options : job.options ≡ setting.options
-  pub says : talk_of job.peer ≡ record { heard = []; given = []; to_come = concat setting.pieces; receives = []; rule = None }
+pub record IsSetUp (opened_case : JobCase) (job : Job Script) : Type 0 where
+  pub remote : job.remote ≡ opened_case.remote
+  pub options : job.options ≡ opened_case.options
+  pub says : talk_of job.peer ≡ record { heard = []; given = []; to_come = concat opened_case.pieces; receives = []; rule = None }
   pub sure : (faults_of job.peer.calls job.peer.failed).possible ≡ false
 
 -- each of them, in order
-abbrev pub AreSetUp : List JobSetting → List (Job Script) → Type 0
+abbrev pub AreSetUp : List JobCase → List (Job Script) → Type 0
 AreSetUp [] [] = Unit {0}
-AreSetUp (setting ∷ settings) (job ∷ jobs) = IsSetUp setting job × AreSetUp settings jobs
+AreSetUp (opened_case ∷ job_cases) (job ∷ jobs) = IsSetUp opened_case job × AreSetUp job_cases jobs
 AreSetUp [] (job ∷ jobs) = ⊥
-AreSetUp (setting ∷ settings) [] = ⊥
+AreSetUp (opened_case ∷ job_cases) [] = ⊥
 
 -- the race of a scene
 abbrev pub race_in : RaceScene → Race Script

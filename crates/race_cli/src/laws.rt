@@ -8,7 +8,7 @@ ghost use Rattle.fetch_shared.specs.Replays.{outline, replay};
 ghost use Rattle.fetch_shared.specs.declared.entry.Entry.{Entry};
 ghost use Rattle.race_cli.specs.RaceReports.{Answer, IsRaceReport, race_of};
 ghost use Rattle.race_cli.specs.RaceScenes.{race_scene_of, alone};
-ghost use Rattle.race_cli.specs.Settings.{opening_of};
+ghost use Rattle.race_cli.specs.RaceCases.{opening_of};
 ghost use Rattle.race_cli.specs.declared.scene.RaceScene.{RaceScene};
 
 /// A scene and the scene of a race of one job are the same text, with the same repository, remote and server.

@@ -3,14 +3,15 @@
 
 mod input;
 mod laws;
+mod race_case;
 mod reporting;
 mod running;
 mod scene;
-mod setting;
 mod words;
 
 pub use input::{RaceFault, read_race};
 pub use laws::{a_race_is_told_by_its_journal, a_scene_is_a_race_of_one_job};
+pub use race_case::{JobCase, RaceCase, open_race};
 pub use reporting::journal_lines::append_journal;
 pub use reporting::refusals::append_refusals;
 pub use reporting::state_lines::append_outline;
@@ -19,5 +20,4 @@ pub use reporting::{race_report, refused_race_report};
 pub use running::run_race;
 pub use scene::jobs::{MAX_JOBS, RaceJob};
 pub use scene::{RaceScene, read_race_scene};
-pub use setting::{JobSetting, RaceSetting, set_up_race};
 pub use words::read_race_words;

@@ -10,9 +10,9 @@ ghost use Rattle.race_cli.specs.RaceRun.{Are, AreSetUp, IsSetUp, IsInputAnswer, 
 ghost use Rattle.race_cli.specs.RaceWords.{race_asked};
 
 use crate::input::{RaceFault, read_race};
+use crate::race_case::{JobCase, open_race};
 use crate::reporting::{race_report, refused_race_report};
 use crate::scene::RaceScene;
-use crate::setting::{JobSetting, set_up_race};
 use crate::words::read_race_words;
 use fetch_cli::{Sink, Source, append_malformed, append_malformed_word};
 use fetch_race::{Job, race_with};
@@ -61,23 +61,23 @@ fn malformed(alloc: Global, place: usize) -> Result<Answer, NoMemory>
 }
 
 /// The jobs, each with a peer that gives its pieces and never fails.
-fn scripted(alloc: Global, settings: List<JobSetting>) -> Result<Vec<Job<ScriptedPeer>>, NoMemory>
-    ensures { IfOk result (λ jobs. AreSetUp settings jobs.items) }
+fn scripted(alloc: Global, job_cases: List<JobCase>) -> Result<Vec<Job<ScriptedPeer>>, NoMemory>
+    ensures { IfOk result (λ jobs. AreSetUp job_cases jobs.items) }
 {
-    let mut jobs = Vec::with_capacity(alloc, settings.len())?;
-    for setting in settings.into_vec() {
-        jobs.push(job_of(alloc, setting))?;
+    let mut jobs = Vec::with_capacity(alloc, job_cases.len())?;
+    for opened_case in job_cases.into_vec() {
+        jobs.push(job_of(alloc, opened_case))?;
     }
     Ok(jobs)
 }
 
-fn job_of(alloc: Global, setting: JobSetting) -> Job<ScriptedPeer>
-    ensures { IsSetUp setting result }
+fn job_of(alloc: Global, opened_case: JobCase) -> Job<ScriptedPeer>
+    ensures { IsSetUp opened_case result }
 {
     Job {
-        remote: setting.remote,
-        peer: ScriptedPeer::new(alloc, setting.pieces.into_vec(), Vec::new(alloc)),
-        options: setting.options,
+        remote: opened_case.remote,
+        peer: ScriptedPeer::new(alloc, opened_case.pieces.into_vec(), Vec::new(alloc)),
+        options: opened_case.options,
     }
 }
 
@@ -91,9 +91,15 @@ fn raced<R: Threads + Wait + Sync>(
     requires few { AreFew scene.jobs }
     ensures { IfOk result (λ x. IsRaceOf scene x.0 x.1.items) }
 {
-    let setting = set_up_race(alloc, scene)?;
-    let jobs = scripted(alloc, setting.jobs)?;
-    match race_with(rt, alloc, setting.repo, jobs, setting.worktrees.as_slice()) {
+    let opened_case = open_race(alloc, scene)?;
+    let jobs = scripted(alloc, opened_case.jobs)?;
+    match race_with(
+        rt,
+        alloc,
+        opened_case.repo,
+        jobs,
+        opened_case.worktrees.as_slice(),
+    ) {
         Ok(raced) => race_report(
             alloc,
             raced.journal.as_slice(),

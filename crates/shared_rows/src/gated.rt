@@ -9,7 +9,7 @@ use fetch_remote::Repository;
 use fetch_store::{Failed, NoMemory, Text};
 use fetch_update::Worktree;
 use fetch_wire::{Peer, ScriptedPeer, SendFault};
-use race_cli::{JobSetting, RaceSetting};
+use race_cli::{JobCase, RaceCase};
 use std::alloc::Global;
 use std::sync::atomic::{AtomicBool, Ordering};
 use std::sync::{Arc, Wait};
@@ -112,26 +112,26 @@ impl Peer for GatedPeer {
 /// A job whose peer gives what it is set up to give, and holds its reply until the other one was asked.
 fn gated(
     alloc: Global,
-    setting: JobSetting,
+    opened_case: JobCase,
     asked: &Arc<Asked, Global>,
     is_first: bool,
 ) -> Result<Job<GatedPeer>, NoMemory> {
     let asked = Arc::try_clone(asked)?;
     Ok(Job {
-        remote: setting.remote,
+        remote: opened_case.remote,
         peer: GatedPeer {
-            script: ScriptedPeer::new(alloc, setting.pieces.into_vec(), Vec::new(alloc)),
+            script: ScriptedPeer::new(alloc, opened_case.pieces.into_vec(), Vec::new(alloc)),
             asked,
             is_first,
             was_asked: false,
             failed: 0,
         },
-        options: setting.options,
+        options: opened_case.options,
     })
 }
 
 /// The first two jobs of a race, each with a peer that holds its reply.
-fn both(alloc: Global, settings: Vec<JobSetting>) -> Result<Vec<Job<GatedPeer>>, NoMemory>
+fn both(alloc: Global, job_cases: Vec<JobCase>) -> Result<Vec<Job<GatedPeer>>, NoMemory>
     ensures { IfOk result (λ jobs. vec_len jobs ≤ 2) }
 {
     let asked = Arc::new(
@@ -142,12 +142,12 @@ fn both(alloc: Global, settings: Vec<JobSetting>) -> Result<Vec<Job<GatedPeer>>,
         },
     )?;
     let mut jobs = Vec::with_capacity(alloc, 2)?;
-    for setting in settings {
+    for opened_case in job_cases {
         if jobs.len() >= 2 {
             break;
         }
         let is_first = jobs.is_empty();
-        jobs.push(gated(alloc, setting, &asked, is_first)?)?;
+        jobs.push(gated(alloc, opened_case, &asked, is_first)?)?;
     }
     Ok(jobs)
 }
@@ -182,11 +182,17 @@ fn race_jobs<R: Threads + Wait + Sync>(
 pub(crate) fn race_gated<R: Threads + Wait + Sync>(
     rt: &R,
     alloc: Global,
-    setting: RaceSetting,
+    opened_case: RaceCase,
 ) -> Result<Option<usize>, NoMemory> {
-    let jobs = both(alloc, setting.jobs.into_vec())?;
+    let jobs = both(alloc, opened_case.jobs.into_vec())?;
     if jobs.is_empty() {
         return Ok(None);
     }
-    Ok(race_jobs(rt, alloc, setting.repo, jobs, setting.worktrees.as_slice()))
+    Ok(race_jobs(
+        rt,
+        alloc,
+        opened_case.repo,
+        jobs,
+        opened_case.worktrees.as_slice(),
+    ))
 }

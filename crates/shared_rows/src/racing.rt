@@ -3,7 +3,7 @@
 use crate::gated::race_gated;
 use fetch_cli::{MemorySink, MemorySource};
 use fetch_store::{NoMemory, Text, append_number};
-use race_cli::{read_race_scene, run_race, set_up_race};
+use race_cli::{open_race, read_race_scene, run_race};
 use rows::{lines, say, say_number};
 use std::alloc::Global;
 use std::sync::Wait;
@@ -68,7 +68,7 @@ fn gated_entries(
     scene: &[u8],
 ) -> Result<Option<usize>, NoMemory> {
     match read_race_scene(rt, alloc, scene) {
-        Ok(scene) => race_gated(rt, alloc, set_up_race(alloc, scene)?),
+        Ok(scene) => race_gated(rt, alloc, open_race(alloc, scene)?),
         Err(_) => Ok(None),
     }
 }

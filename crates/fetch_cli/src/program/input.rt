@@ -3,9 +3,9 @@
 ghost use Rattle.std.specs.Prelude.{◌≡◌, ◌≤◌, length, IfOk, IsErrOf, OnErr};
 ghost use Rattle.std.specs.Io.KnownBytes.{IsAtEnd};
 ghost use Rattle.fetch_store.specs.Faults.{Rose, Counts};
-ghost use Rattle.fetch_cli.specs.Ends.{IsAll, IsLongerThan};
+ghost use Rattle.fetch_cli.specs.Io.{IsAll, IsLongerThan};
 
-use crate::program::ends::Source;
+use crate::program::io::Source;
 use fetch_scene::MAX_SCENE;
 use std::alloc::Global;
 use thiserror::Error;

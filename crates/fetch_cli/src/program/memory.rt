@@ -5,9 +5,9 @@ ghost use Rattle.std.specs.Prelude.{IsErrOf, Contains};
 ghost use Rattle.std.specs.Io.KnownBytes.{ReadConsumes};
 ghost use Rattle.fetch_store.specs.Calls.{one_more, faults_of};
 ghost use Rattle.fetch_store.specs.Faults.{Faults, Rose, Counts};
-ghost use Rattle.fetch_cli.specs.Ends.{Takes};
+ghost use Rattle.fetch_cli.specs.Io.{Takes};
 
-use crate::program::ends::{Sink, Source};
+use crate::program::io::{Sink, Source};
 use fetch_store::{Calls, Failed, Text, copy_from};
 use fetch_wire::SendFault;
 use std::alloc::Global;

@@ -17,13 +17,13 @@ ghost use Rattle.fetch_cli.specs.Words.{IsWithin, help_text, version_text};
 ghost use Rattle.fetch_scene.specs.Scene.{scene_of};
 
 use crate::bench::generate;
-use crate::program::ends::{Sink, Source};
 use crate::program::input::{ReadError, read_all};
+use crate::program::io::{Sink, Source};
 use crate::program::server_scene::{ServerScene, read_server_scene};
 use crate::program::words::{Command, HELP, VERSION, read_command};
+use crate::reporting::fetch_case::open_local;
 use crate::reporting::lines::{append_malformed, append_malformed_word};
 use crate::reporting::report;
-use crate::reporting::setting::set_up_local;
 use crate::reporting::summary::summary;
 use fetch_check::{append_findings, check};
 use fetch_scene::{MAX_SCENE, Scene, SceneFault, read_scene};
@@ -107,7 +107,7 @@ fn checked(alloc: Global, scene: ServerScene) -> Result<Answer, NoMemory>
     requires { AreOf scene.local.head.hash scene.objects }
     ensures { IfOk result (λ x. IsChecked scene x.0 x.1.items) }
 {
-    let (repo, _) = set_up_local(alloc, scene.local, scene.objects)?;
+    let (repo, _) = open_local(alloc, scene.local, scene.objects)?;
     let findings = check(alloc, repo.store(), repo.refs(), repo.border())?;
     let mut text = Vec::new(alloc);
     let status = append_findings(&mut text, &findings)?;

@@ -2,9 +2,9 @@
 
 ghost use Rattle.std.specs.Prelude.{◌≡◌, true};
 ghost use Rattle.fetch_store.specs.Faults.{Faults};
-ghost use Rattle.fetch_cli.specs.Ends.{Takes};
+ghost use Rattle.fetch_cli.specs.Io.{Takes};
 
-use crate::program::ends::{Sink, Source};
+use crate::program::io::{Sink, Source};
 use fetch_store::Failed;
 use fetch_wire::SendFault;
 use std::io::{Read, Write};

@@ -6,8 +6,8 @@ ghost use Rattle.fetch_remote.specs.Repositories.{state_of};
 ghost use Rattle.fetch_cli.specs.Bench as spec;
 ghost use Rattle.fetch_cli.specs.Bench.{IsSummary, SumsUp};
 
+use crate::reporting::fetch_case::open_scene;
 use crate::reporting::lines::append_counted;
-use crate::reporting::setting::set_up;
 use crate::reporting::{append_maps, append_refusal, fetch, updates_of};
 use fetch_remote::{FetchError, Outcome, Repository};
 use fetch_scene::Scene;
@@ -90,7 +90,7 @@ pub fn summary<R: Threads + Sync>(
     requires { AreOf scene.hash scene.objects }
     ensures { IfOk result (λ x. IsSummary count scene x.0 x.1.items) }
 {
-    let setting = set_up(alloc, scene)?;
-    let (fetched, _) = fetch(rt, alloc, setting);
+    let fetch_case = open_scene(alloc, scene)?;
+    let (fetched, _) = fetch(rt, alloc, fetch_case);
     sum_up(alloc, count, &fetched.result, &fetched.repo)
 }

@@ -9,7 +9,7 @@ ghost use Rattle.fetch_clone.specs.Counted.{IsCounted, Later, meters, tree_meter
 ghost use Rattle.fetch_clone.specs.Reached.{line, ways};
 
 use crate::clone::fetch::Error;
-use crate::draft::Draft;
+use crate::clone_state::CloneState;
 use crate::fetching::finishing::finished;
 use crate::fetching::listing::listed;
 use crate::fetching::saving::Saved;
@@ -39,7 +39,7 @@ pub(crate) fn completed<
 >(
     rt: &T,
     alloc: Global,
-    draft: &Draft,
+    draft: &CloneState,
     saved: &Saved,
     repo: &mut Repository,
     files: &mut F,

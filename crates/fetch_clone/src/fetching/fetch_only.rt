@@ -5,12 +5,12 @@ ghost use Rattle.std.specs.Fn.{CalledAtMut};
 ghost use Rattle.fetch_remote.specs.RepositoryValues.{RepositoryValue};
 ghost use Rattle.fetch_clone.specs.Cloned.{IsCloned, IsUncloned};
 ghost use Rattle.fetch_clone.specs.Counted.{CountsBy, IsCounted, Later, meters, tree_meters};
-ghost use Rattle.fetch_clone.specs.Drafts.{without_repo};
+ghost use Rattle.fetch_clone.specs.CloneStates.{without_repo};
 ghost use Rattle.fetch_clone.specs.Reached.{line, ways};
 ghost use Rattle.fetch_clone.specs.declared.clone.fetch.Error.TheVariants as errors;
 
 use crate::clone::fetch::Error;
-use crate::draft::Draft;
+use crate::clone_state::CloneState;
 use crate::fetching::completing::completed;
 use crate::fetching::saving::save;
 use crate::prepare_fetch::{ConfigureFault, PrepareFetch};
@@ -120,7 +120,7 @@ fn fetched_into<
 >(
     rt: &T,
     alloc: Global,
-    draft: &Draft,
+    draft: &CloneState,
     repo: &mut Repository,
     files: &mut F,
     maker: &mut C,

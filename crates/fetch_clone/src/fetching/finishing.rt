@@ -8,10 +8,10 @@ ghost use Rattle.fetch_clone.specs.Cloned.{IsFinished, IsInForce, IsUnfinished};
 ghost use Rattle.fetch_clone.specs.declared.clone.fetch.Error.TheVariants as errors;
 
 use crate::clone::fetch::Error;
-use crate::draft::Draft;
+use crate::clone_state::CloneState;
 use crate::fetching::receiving::message_of;
-use crate::heading::update_head;
-use crate::mirror_remote::append_config_to_repo_config;
+use crate::head_update::update_head;
+use crate::remote_section::append_config_to_repo_config;
 use fetch_config::File;
 use fetch_remote::Repository;
 use fetch_store::{Files, NoMemory};
@@ -23,7 +23,7 @@ use std::alloc::Global;
 // Many arguments: what was saved and fetched, and what it changes.
 pub(crate) fn finished<F: Files>(
     alloc: Global,
-    draft: &Draft,
+    draft: &CloneState,
     name: &[u8],
     section: Option<&File>,
     map: &RefMap,

@@ -9,8 +9,8 @@ ghost use Rattle.fetch_clone.specs.Hashed.{IsHashed, IsUnhashed};
 ghost use Rattle.fetch_clone.specs.declared.clone.fetch.Error.TheVariants as errors;
 
 use crate::clone::fetch::Error;
-use crate::heading::write_local;
-use crate::opening::config_path;
+use crate::head_update::write_local;
+use crate::init::opening::config_path;
 use crate::versioning::set_version;
 use fetch_config::File;
 use fetch_remote::{OpenError, Repository, Resolved, read_configuration};

@@ -19,11 +19,11 @@ ghost use Rattle.fetch_clone.specs.Reached.{line, ways};
 ghost use Rattle.fetch_clone.specs.Stages.{ref_name_of};
 ghost use Rattle.fetch_clone.specs.declared.clone.fetch.Error.TheVariants as errors;
 
-use crate::aim::is_same_side;
-use crate::choices::{Choices, Wanted};
+use crate::choices::{Choices, CloneTarget};
 use crate::clone::fetch::Error;
 use crate::fetching::reaching::reached;
 use crate::fetching::targeting::said;
+use crate::head_target::is_same_side;
 use crate::prepare_fetch::ConfigureFault;
 use fetch_conversation::{prepare, ref_map};
 use fetch_remote::connect::Connect;
@@ -222,7 +222,7 @@ fn extra_for(
     ensures { IfOk result (spec.IsExtraFor choices.now.wanted with_head place.now choices.now) }
 {
     match &choices.wanted {
-        Wanted::Revision(revision) => {
+        CloneTarget::Revision(revision) => {
             let mut alone = List::new(alloc);
             alone.push(revision.try_clone()?)?;
             Ok(alone)

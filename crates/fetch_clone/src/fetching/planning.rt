@@ -14,15 +14,15 @@ ghost use Rattle.fetch_clone.specs.Heeded.{SaysNo};
 ghost use Rattle.fetch_clone.specs.Reached.{line, ways};
 ghost use Rattle.fetch_clone.specs.Stages as stages;
 ghost use Rattle.fetch_clone.specs.Targets.{HeedsFirst};
-ghost use Rattle.fetch_clone.specs.Tracking.{spec_text as tracked_text};
+ghost use Rattle.fetch_clone.specs.RemoteNames.{spec_text as tracked_text};
 ghost use Rattle.fetch_clone.specs.declared.clone.fetch.Error.TheVariants as errors;
 
-use crate::choices::{Choices, Wanted};
+use crate::choices::{Choices, CloneTarget};
 use crate::clone::fetch::Error;
-use crate::draft::{Draft, append_texts};
+use crate::clone_state::{CloneState, append_texts};
 use crate::fetching::targeting::{said, target};
 use crate::prepare_fetch::ConfigureFault;
-use crate::tracking::{default_remote, spec_text};
+use crate::remote_name::{default_remote, spec_text};
 use fetch_config::File;
 use fetch_lookup::name;
 use fetch_remote::connect::Connect;
@@ -35,7 +35,7 @@ use std::alloc::Global;
 /// Puts the clone's overrides in force, and finds the name of its remote and, where one is asked for, its target.
 pub(crate) fn named<C: Connect, G: FnMut(&mut C::Peer) -> Result<(), ConfigureFault>, I: Interrupt>(
     alloc: Global,
-    draft: &Draft,
+    draft: &CloneState,
     repo: &mut Repository,
     maker: &mut C,
     configure: &mut G,
@@ -68,7 +68,7 @@ pub(crate) fn named<C: Connect, G: FnMut(&mut C::Peer) -> Result<(), ConfigureFa
 /// The remote as it is to be saved: the one that is proposed, as the closure configured it.
 pub(crate) fn chosen<R: FnMut(Remote) -> Result<Remote, ConfigureFault>>(
     alloc: Global,
-    draft: &Draft,
+    draft: &CloneState,
     name: &[u8],
     target: Option<&FullName>,
     configure: &mut R,
@@ -89,7 +89,7 @@ pub(crate) fn chosen<R: FnMut(Remote) -> Result<Remote, ConfigureFault>>(
 }
 
 /// Puts the overrides in force that the repository was opened with, and then those of the clone.
-fn override_with(alloc: Global, draft: &Draft, repo: &mut Repository) -> Result<(), Error>
+fn override_with(alloc: Global, draft: &CloneState, repo: &mut Repository) -> Result<(), Error>
     ensures state { state_of repo.new ≡ state_of repo.old }
     ensures ok { OnOk result (overridden (setup_of repo.old) (spec.overrides_of draft.now) ≡ Some (setup_of repo.new)) }
     ensures refused { IfErr result (spec.IsUnoverridden (spec.overrides_of draft.now)) }
@@ -103,7 +103,7 @@ fn override_with(alloc: Global, draft: &Draft, repo: &mut Repository) -> Result<
     }
 }
 
-fn overrides_of(draft: &Draft) -> Result<List<Text>, NoMemory>
+fn overrides_of(draft: &CloneState) -> Result<List<Text>, NoMemory>
     ensures { IfOk result (λ texts. texts ≡ spec.overrides_of draft.now) }
 {
     let mut texts = draft.opened.try_clone_with(Text::try_clone)?;
@@ -132,7 +132,7 @@ fn name_or<'a>(given: &'a Option<Text>, config: &'a File) -> &'a [u8]
 /// The remote that the closure is given.
 fn proposed(
     alloc: Global,
-    draft: &Draft,
+    draft: &CloneState,
     name: &[u8],
     target: Option<&FullName>,
 ) -> Result<Remote, NoMemory>
@@ -142,7 +142,7 @@ fn proposed(
     urls.push(draft.url.try_clone()?)?;
     let mut specs = List::new(alloc);
     match &draft.choices.wanted {
-        Wanted::Revision(_) => {}
+        CloneTarget::Revision(_) => {}
         _ => specs.push(said(alloc, spec_of(alloc, name, target)?.as_bytes())?)?,
     }
     Ok(Remote::new(urls, specs, Tags::Included))
@@ -163,7 +163,7 @@ fn restricted(alloc: Global, choices: &Choices, remote: Remote) -> Result<Remote
     ensures { IfOk result (λ r. r ≡ spec.restricted choices.now.wanted remote) }
 {
     match &choices.wanted {
-        Wanted::Revision(_) => without_specs(alloc, remote),
+        CloneTarget::Revision(_) => without_specs(alloc, remote),
         _ => Ok(remote),
     }
 }

@@ -8,13 +8,13 @@ ghost use Rattle.fetch_clone.specs.Heeded.{IsHeededOver};
 ghost use Rattle.fetch_clone.specs.Received as spec;
 ghost use Rattle.fetch_clone.specs.Received.{IsReceived, IsUnreceived, WasListed};
 
-use crate::aim::{Unaimed, revision_id};
-use crate::choices::Wanted;
+use crate::choices::CloneTarget;
 use crate::clone::fetch::Error;
-use crate::draft::Draft;
+use crate::clone_state::CloneState;
 use crate::fetching::hashing::take_hash;
-use crate::heading::refusal_of;
-use crate::meant::meaning_of;
+use crate::head_target::{HeadError, revision_id};
+use crate::head_update::refusal_of;
+use crate::named_ref::ref_named;
 use fetch_conversation::Progress;
 use fetch_remote::phases::fetch_on;
 use fetch_remote::{Outcome, Prepared, Remote, Repository, Resolved};
@@ -39,7 +39,7 @@ pub(crate) fn received<
 >(
     rt: &T,
     alloc: Global,
-    draft: &Draft,
+    draft: &CloneState,
     remote: &Remote,
     prepared: Prepared,
     repo: &mut Repository,
@@ -101,7 +101,7 @@ fn put_reread(repo: &mut Repository, reread: Option<Resolved>)
 }
 
 /// What was listed, to be fetched as the clone is.
-fn ordered(alloc: Global, draft: &Draft, prepared: Prepared) -> Result<Prepared, NoMemory>
+fn ordered(alloc: Global, draft: &CloneState, prepared: Prepared) -> Result<Prepared, NoMemory>
     ensures listed { IfOk result (λ p. p.listed ≡ prepared.listed) }
     ensures options { IfOk result (λ p. p.options ≡ spec.options_of draft.now prepared.options) }
 {
@@ -115,7 +115,7 @@ fn ordered(alloc: Global, draft: &Draft, prepared: Prepared) -> Result<Prepared,
 }
 
 /// What reflogs say.
-pub(crate) fn message_of(alloc: Global, draft: &Draft) -> Result<Text, NoMemory>
+pub(crate) fn message_of(alloc: Global, draft: &CloneState) -> Result<Text, NoMemory>
     ensures { IfOk result (λ message. message ≡ spec.message_of draft.now) }
 {
     let mut message = Vec::from_slice(alloc, b"clone: from ")?;
@@ -124,33 +124,33 @@ pub(crate) fn message_of(alloc: Global, draft: &Draft) -> Result<Text, NoMemory>
 }
 
 /// The ref name has to mean one of the mapped references, and the revision to be mapped.
-fn check_mapped(alloc: Global, wanted: &Wanted, map: &RefMap) -> Result<(), Error>
+fn check_mapped(alloc: Global, wanted: &CloneTarget, map: &RefMap) -> Result<(), Error>
     ensures ok { OnOk result (spec.IsMapped wanted.now map.now) }
     ensures refused { IfErr result (spec.IsUnmapped wanted.now map.now) }
 {
     match wanted {
-        Wanted::Everything => Ok(()),
-        Wanted::RefName(name) => check_name(alloc, name, map),
-        Wanted::Revision(revision) => check_revision(alloc, revision, map),
+        CloneTarget::Everything => Ok(()),
+        CloneTarget::RefName(name) => check_name(alloc, name, map),
+        CloneTarget::Revision(revision) => check_revision(alloc, revision, map),
     }
 }
 
 fn check_name(alloc: Global, name: &PartialName, map: &RefMap) -> Result<(), Error>
-    ensures ok { OnOk result (spec.IsMapped (Wanted.RefName name.now) map.now) }
-    ensures refused { IfErr result (spec.IsUnmapped (Wanted.RefName name.now) map.now) }
+    ensures ok { OnOk result (spec.IsMapped (CloneTarget.RefName name.now) map.now) }
+    ensures refused { IfErr result (spec.IsUnmapped (CloneTarget.RefName name.now) map.now) }
 {
-    match meaning_of(alloc, map.mappings.as_slice(), name) {
+    match ref_named(alloc, map.mappings.as_slice(), name) {
         Ok(_) => Ok(()),
-        Err(e) => Err(refusal_of(alloc, Some(name), None, Unaimed::Name(e))),
+        Err(e) => Err(refusal_of(alloc, Some(name), None, HeadError::Name(e))),
     }
 }
 
 fn check_revision(alloc: Global, revision: &RefSpec, map: &RefMap) -> Result<(), Error>
-    ensures ok { OnOk result (spec.IsMapped (Wanted.Revision revision.now) map.now) }
-    ensures refused { IfErr result (spec.IsUnmapped (Wanted.Revision revision.now) map.now) }
+    ensures ok { OnOk result (spec.IsMapped (CloneTarget.Revision revision.now) map.now) }
+    ensures refused { IfErr result (spec.IsUnmapped (CloneTarget.Revision revision.now) map.now) }
 {
     match revision_id(map, revision) {
         Some(_) => Ok(()),
-        None => Err(refusal_of(alloc, None, Some(revision), Unaimed::Revision)),
+        None => Err(refusal_of(alloc, None, Some(revision), HeadError::Revision)),
     }
 }

@@ -15,10 +15,10 @@ ghost use Rattle.fetch_clone.specs.Saving.{IsNotSaved, IsSaved};
 ghost use Rattle.fetch_clone.specs.declared.clone.fetch.Error.TheVariants as errors;
 
 use crate::clone::fetch::Error;
-use crate::draft::Draft;
+use crate::clone_state::CloneState;
 use crate::fetching::planning::{chosen, named};
-use crate::mirror_remote::append_remote_to_local_config_file;
 use crate::prepare_fetch::ConfigureFault;
+use crate::remote_section::append_remote_to_local_config_file;
 use fetch_config::File;
 use fetch_remote::connect::Connect;
 use fetch_remote::{Remote, Repository};
@@ -48,7 +48,7 @@ pub(crate) fn save<
     I: Interrupt,
 >(
     alloc: Global,
-    draft: &Draft,
+    draft: &CloneState,
     repo: &mut Repository,
     files: &mut F,
     maker: &mut C,
@@ -98,7 +98,7 @@ pub(crate) fn save<
 // Many arguments: what is saved by, each of what is lent, and the two names.
 fn save_as<F: Files, R: FnMut(Remote) -> Result<Remote, ConfigureFault>>(
     alloc: Global,
-    draft: &Draft,
+    draft: &CloneState,
     repo: &Repository,
     files: &mut F,
     configure: &mut R,
@@ -132,7 +132,7 @@ fn save_as<F: Files, R: FnMut(Remote) -> Result<Remote, ConfigureFault>>(
 }
 
 /// Once the remote is saved, all tags are fetched, unless a revision is, or the builder set a closure.
-fn tagged(draft: &Draft, remote: Remote) -> Remote
+fn tagged(draft: &CloneState, remote: Remote) -> Remote
     ensures { result ≡ spec.tagged draft.now remote }
 {
     if takes_all_tags(draft) {
@@ -142,7 +142,7 @@ fn tagged(draft: &Draft, remote: Remote) -> Remote
     }
 }
 
-fn takes_all_tags(draft: &Draft) -> bool
+fn takes_all_tags(draft: &CloneState) -> bool
     ensures { result ≡ spec.takes_all_tags draft.now }
 {
     !draft.configures_remote && draft.choices.revision().is_none()

@@ -9,7 +9,7 @@ ghost use Rattle.fetch_clone.specs.Heeded.{IsHeededOver};
 ghost use Rattle.fetch_clone.specs.Received.{IsNotTaken, IsTaken, WasListed};
 
 use crate::clone::fetch::Error;
-use crate::draft::Draft;
+use crate::clone_state::CloneState;
 use crate::fetching::receiving::received;
 use fetch_conversation::Progress;
 use fetch_remote::connect::Connect;
@@ -32,7 +32,7 @@ pub(crate) fn taken<
 >(
     rt: &T,
     alloc: Global,
-    draft: &Draft,
+    draft: &CloneState,
     remote: &Remote,
     prepared: Prepared,
     peer: C::Peer,

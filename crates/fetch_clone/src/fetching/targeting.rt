@@ -9,19 +9,19 @@ ghost use Rattle.fetch_specs.specs.declared.operation.Operation.TheVariants as o
 ghost use Rattle.fetch_conversation.specs.declared.ref_map.Error.TheVariants as ref_map_errors;
 ghost use Rattle.fetch_remote.specs.Repositories.{state_of};
 ghost use Rattle.fetch_clone.specs.Heeded.{IsHeededOver, SaysNo};
-ghost use Rattle.fetch_clone.specs.Heading.{aim_of};
+ghost use Rattle.fetch_clone.specs.HeadUpdates.{head_target_of};
 ghost use Rattle.fetch_clone.specs.Reached.{line, ways};
 ghost use Rattle.fetch_clone.specs.Stages as stages;
 ghost use Rattle.fetch_clone.specs.Targets as spec;
 ghost use Rattle.fetch_clone.specs.Targets.{HasNoTarget, HasTarget};
 ghost use Rattle.fetch_clone.specs.declared.clone.fetch.Error.TheVariants as errors;
 
-use crate::aim::Aim;
 use crate::choices::Choices;
 use crate::clone::fetch::Error;
-use crate::draft::Draft;
+use crate::clone_state::CloneState;
 use crate::fetching::reaching::reached;
-use crate::heading::aimed;
+use crate::head_target::HeadTarget;
+use crate::head_update::find_head_target;
 use crate::prepare_fetch::ConfigureFault;
 use fetch_conversation::ref_map;
 use fetch_remote::connect::Connect;
@@ -40,7 +40,7 @@ pub(crate) fn target<
     I: Interrupt,
 >(
     alloc: Global,
-    draft: &Draft,
+    draft: &CloneState,
     repo: &Repository,
     maker: &mut C,
     configure: &mut G,
@@ -75,14 +75,14 @@ pub(crate) fn target<
 #[tactic(auto, using(crate::proofs::Returned::lost_later, crate::proofs::Returned::lost_rose))]
 fn target_of<C: Connect, G: FnMut(&mut C::Peer) -> Result<(), ConfigureFault>, I: Interrupt>(
     alloc: Global,
-    draft: &Draft,
+    draft: &CloneState,
     repo: &Repository,
     maker: &mut C,
     configure: &mut G,
     interrupt: &mut I,
 ) -> Result<Option<FullName>, Error>
     requires { G.IsAlwaysCallable configure.old }
-    ensures target { IfOk result (λ target. (t : spec.IsAimedAt (ways (CalledAtMut G.FnMut) C.Peer.told C.Peer.answers)
+    ensures target { IfOk result (λ target. (t : spec.HasHeadTarget (ways (CalledAtMut G.FnMut) C.Peer.told C.Peer.answers)
         (line (C.left maker.old) (C.taken maker.old) (C.addresses maker.old) configure.old)
         (line (C.left maker.new) (C.taken maker.new) (C.addresses maker.new) configure.new) draft.now repo.now target)
         × IsHeededOver (I.will_stop interrupt.old) (I.will_stop interrupt.new) (C.Peer.told t.heard.asked.peer)
@@ -106,7 +106,7 @@ fn target_of<C: Connect, G: FnMut(&mut C::Peer) -> Result<(), ConfigureFault>, I
     let listed = inquired(alloc, &remote, repo, &mut peer, interrupt, options);
     maker.take_back(peer);
     let (map, _) = listed?;
-    name_aimed_at(alloc, repo, &map, draft.choices.ref_name())
+    head_target_name(alloc, repo, &map, draft.choices.ref_name())
 }
 
 /// Whether a first connection is made.
@@ -162,17 +162,18 @@ pub(crate) fn said(alloc: Global, text: &[u8]) -> Result<RefSpec, NoMemory>
 }
 
 /// The name that is aimed at by what was listed.
-fn name_aimed_at(
+fn head_target_name(
     alloc: Global,
     repo: &Repository,
     map: &RefMap,
     ref_name: Option<&PartialName>,
 ) -> Result<Option<FullName>, Error>
-    ensures target { IfOk result (λ target. spec.Aims (aim_of (state_of repo.now) map.now (option_copied ref_name.entry) None) target) }
-    ensures refused { IfErr result (spec.IsUnaimedBy (state_of repo.now) map.now (option_copied ref_name.entry)) }
+    ensures target { IfOk result (λ target. spec.IsHeadTarget
+        (head_target_of (state_of repo.now) map.now (option_copied ref_name.entry) None) target) }
+    ensures refused { IfErr result (spec.IsHeadTargetRefusedBy (state_of repo.now) map.now (option_copied ref_name.entry)) }
 {
-    match aimed(alloc, repo, map, ref_name, None) {
-        Ok(Aim::Name { name, .. }) => Ok(Some(name)),
+    match find_head_target(alloc, repo, map, ref_name, None) {
+        Ok(HeadTarget::Name { name, .. }) => Ok(Some(name)),
         Ok(_) => Ok(None),
         Err(e) => Err(told_first(ref_name.is_some(), e)),
     }

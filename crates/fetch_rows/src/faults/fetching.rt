@@ -1,7 +1,7 @@
 //! A fetch in which calls fail.
 
 use super::failing::Failing;
-use fetch_cli::Setting;
+use fetch_cli::FetchCase;
 use fetch_negotiate::Shallow;
 use fetch_remote::phases::Progress;
 use fetch_remote::{
@@ -109,17 +109,17 @@ impl Fetch {
     /// before.
     pub(crate) fn new(
         alloc: Global,
-        setting: Setting,
+        fetch_case: FetchCase,
         pieces: Vec<Text>,
         failing: Failing,
     ) -> (Fetch, FetchOptions) {
-        let Setting {
+        let FetchCase {
             repo,
             remote,
             options,
             worktrees,
             ..
-        } = setting;
+        } = fetch_case;
         let Failing {
             peer,
             interrupt,

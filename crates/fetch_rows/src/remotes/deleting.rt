@@ -1,7 +1,7 @@
 //! Branches that are deleted, and a repository that is opened again.
 
 use super::opening::{CONFIG, files, worktrees};
-use super::setting::{Setting, names_of};
+use super::remote_case::{RemoteCase, names_of};
 use super::{branches, finding, refusals};
 use fetch_remote::Repository;
 use fetch_specs::FullName;
@@ -95,13 +95,13 @@ fn delete_over(
 /// The same over the files and the work trees of a row.
 fn delete(
     alloc: Global,
-    setting: &Setting,
+    remote_case: &RemoteCase,
     repo: &mut Repository,
     names: &[FullName],
     out: &mut Vec<u8>,
 ) -> Result<(), NoMemory> {
-    let mut worktrees = worktrees(alloc, setting)?;
-    let mut files = files(alloc, setting)?;
+    let mut worktrees = worktrees(alloc, remote_case)?;
+    let mut files = files(alloc, remote_case)?;
     delete_over(alloc, repo, names, &mut files, &mut worktrees, out)
 }
 
@@ -121,11 +121,11 @@ fn reload_from(
 /// Opens a repository again, and tells its remotes.
 fn reload(
     alloc: Global,
-    setting: &Setting,
+    remote_case: &RemoteCase,
     repo: &mut Repository,
     out: &mut Vec<u8>,
 ) -> Result<(), NoMemory> {
-    let mut files = files(alloc, setting)?;
+    let mut files = files(alloc, remote_case)?;
     reload_from(alloc, repo, &mut files, out)?;
     finding::names(alloc, repo, out)
 }
@@ -133,13 +133,13 @@ fn reload(
 /// Does what is asked for over files. Whether that is something.
 pub(crate) fn ask(
     alloc: Global,
-    setting: &Setting,
+    remote_case: &RemoteCase,
     repo: &mut Repository,
     question: Question<'_>,
     out: &mut Vec<u8>,
 ) -> Result<bool, NoMemory> {
     if question.what == b"reload".as_slice() {
-        reload(alloc, setting, repo, out)?;
+        reload(alloc, remote_case, repo, out)?;
         return Ok(true);
     }
     if question.what != b"delete".as_slice() {
@@ -148,6 +148,6 @@ pub(crate) fn ask(
     let Some(names) = names_of(alloc, question.rest)? else {
         return Ok(false);
     };
-    delete(alloc, setting, repo, names.as_slice(), out)?;
+    delete(alloc, remote_case, repo, names.as_slice(), out)?;
     Ok(true)
 }

@@ -2,7 +2,7 @@
 
 ghost use Rattle.std.specs.Prelude.{◌≡◌};
 
-use super::setting::Setting;
+use super::remote_case::RemoteCase;
 use super::{finding, refusals};
 use fetch_config::{ConfigError, File, Meta, Origin};
 use fetch_refs::{
@@ -77,14 +77,14 @@ fn edit(alloc: Global, name: FullName, new: Target) -> Result<RefEdit, NoMemory>
 }
 
 /// The edits that make the references: `HEAD`, and those with an id.
-fn edits(alloc: Global, setting: &Setting) -> Result<Vec<RefEdit>, NoMemory> {
+fn edits(alloc: Global, remote_case: &RemoteCase) -> Result<Vec<RefEdit>, NoMemory> {
     let mut edits = Vec::new(alloc);
-    if let Some(branch) = &setting.head
+    if let Some(branch) = &remote_case.head
         && let Some(head) = name_of(alloc, b"HEAD")?
     {
         edits.push(edit(alloc, head, Target::Symbolic(branch.try_clone()?))?)?;
     }
-    for name in &setting.references {
+    for name in &remote_case.references {
         let target = Target::Object(ObjectId::Sha1([1; 20]));
         edits.push(edit(alloc, name.try_clone()?, target)?)?;
     }
@@ -160,10 +160,10 @@ pub(crate) fn tell_overridden(
 
 fn make_references(
     alloc: Global,
-    setting: &Setting,
+    remote_case: &RemoteCase,
     repo: &mut Repository,
 ) -> Result<(), NoMemory> {
-    let edits = edits(alloc, setting)?;
+    let edits = edits(alloc, remote_case)?;
     let committer = somebody(alloc)?;
     match repo.edit_refs(edits.as_slice(), &committer, PackedRefs::Never) {
         Ok(()) => Ok(()),
@@ -172,12 +172,15 @@ fn make_references(
 }
 
 /// The repository of a row, which logs its branches. None where its configuration is none.
-pub(crate) fn open(alloc: Global, setting: &Setting) -> Result<Option<Repository>, NoMemory> {
-    let Some(config) = config_of(alloc, setting.config.as_slice())? else {
+pub(crate) fn open(
+    alloc: Global,
+    remote_case: &RemoteCase,
+) -> Result<Option<Repository>, NoMemory> {
+    let Some(config) = config_of(alloc, remote_case.config.as_slice())? else {
         return Ok(None);
     };
-    let mut repo = empty(alloc, config, setting.is_lenient)?;
-    make_references(alloc, setting, &mut repo)?;
+    let mut repo = empty(alloc, config, remote_case.is_lenient)?;
+    make_references(alloc, remote_case, &mut repo)?;
     Ok(Some(repo))
 }
 
@@ -201,24 +204,27 @@ fn place(files: &mut MemoryFiles, text: &[u8]) -> Result<(), FileError> {
 }
 
 /// The files of a row, which have the configuration alone. Their calls are counted from then on.
-pub(crate) fn files(alloc: Global, setting: &Setting) -> Result<MemoryFiles, NoMemory> {
-    let mut files = MemoryFiles::new(alloc, failing(alloc, setting.files.as_slice())?);
-    match place(&mut files, setting.file.as_slice()) {
+pub(crate) fn files(alloc: Global, remote_case: &RemoteCase) -> Result<MemoryFiles, NoMemory> {
+    let mut files = MemoryFiles::new(alloc, failing(alloc, remote_case.files.as_slice())?);
+    match place(&mut files, remote_case.file.as_slice()) {
         Ok(()) => Ok(files),
         Err(_) => Err(NoMemory),
     }
 }
 
-fn trees(alloc: Global, setting: &Setting) -> Result<Vec<Worktree>, NoMemory> {
+fn trees(alloc: Global, remote_case: &RemoteCase) -> Result<Vec<Worktree>, NoMemory> {
     let mut trees = Vec::new(alloc);
-    for tree in &setting.worktrees {
+    for tree in &remote_case.worktrees {
         trees.push(tree.try_clone()?)?;
     }
     Ok(trees)
 }
 
 /// The work trees of a row.
-pub(crate) fn worktrees(alloc: Global, setting: &Setting) -> Result<ScriptedWorktrees, NoMemory> {
-    let failing = Vec::from_slice(alloc, setting.listings.as_slice())?;
-    Ok(ScriptedWorktrees::new(trees(alloc, setting)?, failing))
+pub(crate) fn worktrees(
+    alloc: Global,
+    remote_case: &RemoteCase,
+) -> Result<ScriptedWorktrees, NoMemory> {
+    let failing = Vec::from_slice(alloc, remote_case.listings.as_slice())?;
+    Ok(ScriptedWorktrees::new(trees(alloc, remote_case)?, failing))
 }

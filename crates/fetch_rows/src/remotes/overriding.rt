@@ -1,7 +1,7 @@
 //! Overrides of a repository's configuration.
 
 use super::opening::{config_of, tell_overridden};
-use super::setting::Setting;
+use super::remote_case::RemoteCase;
 use fetch_store::{NoMemory, Text};
 use rows::split_word;
 use std::alloc::Global;
@@ -24,14 +24,14 @@ fn overrides_of(alloc: Global, text: &[u8]) -> Result<Vec<Text>, NoMemory> {
 /// Opens a repository with these overrides, and tells its remotes. Whether its configuration is one.
 pub(crate) fn tell(
     alloc: Global,
-    setting: &Setting,
+    remote_case: &RemoteCase,
     words: &[u8],
     out: &mut Vec<u8>,
 ) -> Result<bool, NoMemory> {
-    let Some(config) = config_of(alloc, setting.config.as_slice())? else {
+    let Some(config) = config_of(alloc, remote_case.config.as_slice())? else {
         return Ok(false);
     };
     let overrides = overrides_of(alloc, words)?;
-    tell_overridden(alloc, config, setting.is_lenient, overrides, out)?;
+    tell_overridden(alloc, config, remote_case.is_lenient, overrides, out)?;
     Ok(true)
 }

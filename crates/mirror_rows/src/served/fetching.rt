@@ -1,7 +1,7 @@
 //! A fetch from any peer, and what is told of it.
 
 use super::telling::append_answer;
-use fetch_cli::Setting;
+use fetch_cli::FetchCase;
 use fetch_remote::{FetchError, Outcome, Repository};
 use fetch_store::{MemoryFiles, NoMemory};
 use fetch_update::ScriptedWorktrees;
@@ -13,16 +13,16 @@ use std::thread::Threads;
 fn fetched<P: Peer>(
     rt: &(impl Threads + Sync),
     alloc: Global,
-    setting: Setting,
+    fetch_case: FetchCase,
     peer: &mut P,
 ) -> (Result<Outcome, FetchError>, Repository) {
-    let Setting {
+    let FetchCase {
         repo,
         remote,
         options,
         worktrees,
         ..
-    } = setting;
+    } = fetch_case;
     let mut repo = repo;
     let mut interrupt = ScriptedInterrupt::new(Vec::new(alloc));
     let mut files = MemoryFiles::new(alloc, Vec::new(alloc));
@@ -44,11 +44,11 @@ fn fetched<P: Peer>(
 pub(crate) fn append_fetch<P: Peer>(
     rt: &(impl Threads + Sync),
     alloc: Global,
-    setting: Setting,
+    fetch_case: FetchCase,
     peer: &mut P,
     out: &mut Vec<u8>,
 ) -> Result<(), NoMemory> {
-    let (answer, repo) = fetched(rt, alloc, setting, peer);
+    let (answer, repo) = fetched(rt, alloc, fetch_case, peer);
     let told = append_answer(alloc, answer, &repo, out);
     // By one call, in place of the ends of all its fields.
     drop(repo);

@@ -12,7 +12,7 @@ returns-clause-fetched g c =
     let never = rw c.new-3.ensures.items at c.new-files.ensures.may_fail in
     let nothing = c.new-files.ensures.told in
     let f = c.fetch-result.ensures in
-    fetched _ c.args.setting.worktrees _ _ _ _ _ (concat c.args.setting.pieces) c.fetch-result.result _ _ told trees nothing f.fetched f.refused (record {
+    fetched _ c.args.fetch_case.worktrees _ _ _ _ _ (concat c.args.fetch_case.pieces) c.fetch-result.result _ _ told trees nothing f.fetched f.refused (record {
       transport = λ e. no_fault _ _ sure f.peer.counts (f.peer.cause (rw e refl));
       interrupted = λ e. no_fault _ _ calm f.interrupt.counts (f.interrupt.cause (rw e refl));
       client = λ e. no_fault _ _ sure f.peer.counts (f.peer.cause (rw e refl));

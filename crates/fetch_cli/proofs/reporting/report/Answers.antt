@@ -5,6 +5,6 @@ use Rattle.fetch_cli.proofs.reporting.report.Goals as goal
 
 pub returns : goal.returns
 returns g c =
-    let setting = c.in_ok-setting.ensures in
+    let fetch_case = c.in_ok-fetch_case.ensures in
     let kept = rw (c.git_dir.ensures, c.fetch-fetched.ensures.setup) at c.in_ok-keep.ensures in
-    reports_if c.args.scene _ _ c.append_report.result _ _ _ _ _ _ _ _ _ setting.given setting.worktrees setting.found (ap (λ (pieces : List (List ℕ)). concat pieces) setting.pieces) c.fetch-fetched.ensures.fetched kept c.append_report.ensures
+    reports_if c.args.scene _ _ c.append_report.result _ _ _ _ _ _ _ _ _ fetch_case.given fetch_case.worktrees fetch_case.found (ap (λ (pieces : List (List ℕ)). concat pieces) fetch_case.pieces) c.fetch-fetched.ensures.fetched kept c.append_report.ensures

@@ -7,7 +7,7 @@ use Rattle.fetch_clone.proofs.Counted.{at-ok}
 use Rattle.fetch_clone.proofs.Heeded.{heeded-of, says-of}
 use Rattle.fetch_clone.proofs.Returned.{lost_rose}
 use Rattle.fetch_clone.proofs.Uncounted.{target-uncounted}
-use Rattle.fetch_clone.proofs.Targeting.{aimed-at, not-aimed-at, unlisted}
+use Rattle.fetch_clone.proofs.Targeting.{find_head_target-at, not-find_head_target-at, unlisted}
 use Rattle.fetch_clone.proofs.fetching.targeting.target_of.Goals as goal
 
 pub returns-in_err-remote-clause-refused : goal.returns-in_err-remote-clause-refused
@@ -31,10 +31,10 @@ returns-in_err-map-clause-refused g c =
     rw (p.1, p.2) (inr (inl (c.in_err-map.field-0.0, refl, unlisted _ (g.C.Connect.faults c.args.maker.now) (g.C.Connect.faults c.take_back.new.self) _ _ _ c.args.draft.now c.args.repo.now c.in_ok-remote.remote c.in_ok-options.options c.in_ok-peer.peer c.inquired-listed.new.peer c.in_ok-options.ensures (rw c.as_bytes.ensures at c.in_ok-remote.ensures) (rw (c.in_ok-remote.ensures, c.as_bytes.ensures) at c.in_ok-peer.ensures.reached) c.take_back.ensures.taken c.take_back.ensures.left c.take_back.ensures.addresses refl c.in_err-map.field-0.0 c.in_err-map.ensures.refused)))
 
 pub returns-clause-target : goal.returns-clause-target
-returns-clause-target g c = aimed-at _ (g.C.Connect.faults c.args.maker.now) (g.C.Connect.faults c.take_back.new.self) _ _ _ c.args.draft.now c.args.repo.now c.in_ok-remote.remote c.in_ok-options.options c.in_ok-peer.peer c.inquired-listed.new.peer c.in_ok-options.ensures (rw c.as_bytes.ensures at c.in_ok-remote.ensures) (rw (c.in_ok-remote.ensures, c.as_bytes.ensures) at c.in_ok-peer.ensures.reached) c.take_back.ensures.taken c.take_back.ensures.left c.take_back.ensures.addresses refl _ c.in_ok-map.ensures.listed _ _ (heeded-of _ _ _ _ _ _ _ refl c.in_ok-map.ensures.interrupt) c.name_aimed_at.result (rw c.ref_name.ensures at c.name_aimed_at.ensures.target)
+returns-clause-target g c = find_head_target-at _ (g.C.Connect.faults c.args.maker.now) (g.C.Connect.faults c.take_back.new.self) _ _ _ c.args.draft.now c.args.repo.now c.in_ok-remote.remote c.in_ok-options.options c.in_ok-peer.peer c.inquired-listed.new.peer c.in_ok-options.ensures (rw c.as_bytes.ensures at c.in_ok-remote.ensures) (rw (c.in_ok-remote.ensures, c.as_bytes.ensures) at c.in_ok-peer.ensures.reached) c.take_back.ensures.taken c.take_back.ensures.left c.take_back.ensures.addresses refl _ c.in_ok-map.ensures.listed _ _ (heeded-of _ _ _ _ _ _ _ refl c.in_ok-map.ensures.interrupt) c.head_target_name.result (rw c.ref_name.ensures at c.head_target_name.ensures.target)
 
 pub returns-clause-refused : goal.returns-clause-refused
-returns-clause-refused g c = not-aimed-at _ (g.C.Connect.faults c.args.maker.now) (g.C.Connect.faults c.take_back.new.self) _ _ _ c.args.draft.now c.args.repo.now c.in_ok-remote.remote c.in_ok-options.options c.in_ok-peer.peer c.inquired-listed.new.peer c.in_ok-options.ensures (rw c.as_bytes.ensures at c.in_ok-remote.ensures) (rw (c.in_ok-remote.ensures, c.as_bytes.ensures) at c.in_ok-peer.ensures.reached) c.take_back.ensures.taken c.take_back.ensures.left c.take_back.ensures.addresses refl _ c.in_ok-map.ensures.listed c.name_aimed_at.result (rw c.ref_name.ensures at c.name_aimed_at.ensures.refused)
+returns-clause-refused g c = not-find_head_target-at _ (g.C.Connect.faults c.args.maker.now) (g.C.Connect.faults c.take_back.new.self) _ _ _ c.args.draft.now c.args.repo.now c.in_ok-remote.remote c.in_ok-options.options c.in_ok-peer.peer c.inquired-listed.new.peer c.in_ok-options.ensures (rw c.as_bytes.ensures at c.in_ok-remote.ensures) (rw (c.in_ok-remote.ensures, c.as_bytes.ensures) at c.in_ok-peer.ensures.reached) c.take_back.ensures.taken c.take_back.ensures.left c.take_back.ensures.addresses refl _ c.in_ok-map.ensures.listed c.head_target_name.result (rw c.ref_name.ensures at c.head_target_name.ensures.refused)
 
 pub returns-in_err-map-clause-transport : goal.returns-in_err-map-clause-transport
 returns-in_err-map-clause-transport g c is =
@@ -52,16 +52,16 @@ returns-in_err-map-clause-interrupted g c is =
 
 pub returns-clause-transport : goal.returns-clause-transport
 returns-clause-transport g c is =
-    let h = rw is at c.name_aimed_at.ensures.refused in
+    let h = rw is at c.head_target_name.ensures.refused in
     absurd (false≢true (target-uncounted _ _ _ _ h.0 _ h.1 h.2))
 
 pub returns-clause-interrupted : goal.returns-clause-interrupted
 returns-clause-interrupted g c is =
-    let h = rw is at c.name_aimed_at.ensures.refused in
+    let h = rw is at c.head_target_name.ensures.refused in
     absurd (false≢true (target-uncounted _ _ _ _ h.0 _ h.1 h.2))
 
 pub returns-clause-uninterrupted : goal.returns-clause-uninterrupted
-returns-clause-uninterrupted g c = at-ok c.name_aimed_at.result (c.in_ok-map.ensures.interrupt.quiet refl)
+returns-clause-uninterrupted g c = at-ok c.head_target_name.result (c.in_ok-map.ensures.interrupt.quiet refl)
 
 pub returns-clause-questions : goal.returns-clause-questions
-returns-clause-questions g c = at-ok c.name_aimed_at.result (says-of _ _ _ _ _ _ _ refl c.in_ok-map.ensures.interrupt)
+returns-clause-questions g c = at-ok c.head_target_name.result (says-of _ _ _ _ _ _ _ refl c.in_ok-map.ensures.interrupt)

@@ -1,6 +1,6 @@
 use Rattle.std.proofs.Common.{◌≡◌, ℕ, List, [], ◌++◌, Some, Result, Ok, Err, refl, sym, ◌∙◌}
 use Rattle.std.proofs.lemmas.List.{append-nil}
-use Rattle.fetch_cli.specs.Ends.{Takes}
+use Rattle.fetch_cli.specs.Io.{Takes}
 use Rattle.fetch_cli.proofs.program.memory.MemorySinkSink.write_all.Goals as goal
 use Rattle.fetch_cli.proofs.program.memory.MemorySinkSink.write_all.Goals.{in-Ok, in-Err}
 
