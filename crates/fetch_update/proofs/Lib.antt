@@ -12,7 +12,7 @@ pub mod Fitting
 pub mod Rows
 pub mod Judged
 pub mod Updates
-pub mod Adjusting
+pub mod Adjustments
 pub mod Directories
 pub mod Wholes
 pub mod Refused

@@ -29,7 +29,7 @@ use Rattle.fetch_update.specs.Policy.{Policy, is_stored, verdict_of, value_of}
 use Rattle.fetch_update.specs.Rejecting.{IsRejected, Rejects}
 use Rattle.fetch_update.specs.Telling.{EditsSay, TellsTypeChanges}
 use Rattle.fetch_update.specs.Writes.{gives, expectation}
-use Rattle.fetch_update.proofs.Adjusting.{told, holds, told_dry, holds_dry, rejected, rejects, carries, named, turns, says, says_no_op}
+use Rattle.fetch_update.proofs.Adjustments.{told, holds, told_dry, holds_dry, rejected, rejects, carries, named, turns, says, says_no_op}
 use Rattle.fetch_update.proofs.Fitting.{FitsOk, Turns, fits, sent, some_one, tied}
 use Rattle.fetch_update.proofs.Seen.{Contains-none, Contains-cases}
 use Rattle.fetch_update.proofs.Updates.{IsFor, all_for, indices, IsOfOne, all_updates, update_indices, update_edits, is_written, same_names, adjusted_indices, IsAdjusted, all_adjusted, outcome_ok}
