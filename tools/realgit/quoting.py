@@ -51,8 +51,3 @@ def quoted(match):
 def renewed(page):
     """The text of a page, with each quotation made anew."""
     return QUOTED.sub(quoted, page)
-
-
-def without_quotations(page):
-    """The text of a page, without its quotations."""
-    return QUOTED.sub("", page)

@@ -1,4 +1,4 @@
-//! The examples of docs/USING.md. Each is a function in a file of its own, and prints what that page shows.
+//! The examples of docs/USING.md. Each is a function in a file of its own, and does what that page shows.
 #![tactic(auto)]
 
 mod bundles;
