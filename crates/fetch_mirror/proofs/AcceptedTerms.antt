@@ -1,18 +1,16 @@
 -- Nothing is refused before the request of a worker.
-use Rattle.std.proofs.Common.{◌≡◌, ℕ, Bool, false, cond, not, ◌&&◌, ◌||◌, List, [], length, Option, Some, None, Result, refl, ap, ◌∙◌}
+use Rattle.std.proofs.Common.{◌≡◌, ℕ, Bool, true, false, cond, not, ◌&&◌, List, length, Option, Some, None, Result, refl, ap, ◌∙◌}
 use Rattle.std.specs.List.{list_any}
 use Rattle.std.specs.Option.{option_or}
 use Rattle.fetch_store.specs.declared.id.Kind.{Kind}
 use Rattle.fetch_store.specs.declared.id.Kind.TheVariants.{Sha1, Sha256}
-use Rattle.fetch_store.specs.declared.id.ObjectId.{ObjectId}
 use Rattle.fetch_wire.specs.Greetings.{format_in, is_format}
 use Rattle.fetch_wire.specs.RequestWords.{plain_pack, plain_pack_2}
 use Rattle.fetch_wire.specs.Requests.{kind_text}
 use Rattle.fetch_wire.specs.declared.greetings.handshake.Handshake.{Handshake}
 use Rattle.fetch_negotiate.specs.declared.algorithm.Algorithm.{Algorithm}
 use Rattle.fetch_negotiate.specs.declared.algorithm.Algorithm.TheVariants.{Noop}
-use Rattle.fetch_negotiate.specs.declared.algorithm.Shallow.{Shallow}
-use Rattle.fetch_conversation.specs.ConverseStage.{algorithm_in, algorithm_told, fetch_feature, is_no_change, lacked, lacking, names_one, needs_shallow, no_mapping, other_hash, shallow_feature, specs_of, unfit, unlike, unread_as}
+use Rattle.fetch_conversation.specs.ConverseStage.{algorithm_in, algorithm_told, fetch_feature, lacked, lacking, names_one, needs_shallow, no_mapping, other_hash, shallow_feature, specs_of, unfit, unlike, unread_as}
 use Rattle.fetch_conversation.specs.Exchange.{FetchArgumentsValue}
 use Rattle.fetch_conversation.specs.ListStage.{is_nil}
 use Rattle.fetch_conversation.specs.ReadSettings.{algorithm_of_config, rejects_shallow_of, threads_of}
@@ -27,10 +25,12 @@ unfolding capabilities_of kind_text is_format format_in
 one_hash Sha1 = refl
 one_hash Sha256 = refl
 
-lacks_nothing : (hash : Kind) → lacked (greeting_of hash) false ≡ None
+lacks_nothing : (hash : Kind) (border_needed : Bool) → lacked (greeting_of hash) border_needed ≡ None
 unfolding capabilities_of kind_text fetch_feature shallow_feature plain_pack plain_pack_2
-lacks_nothing Sha1 = refl
-lacks_nothing Sha256 = refl
+lacks_nothing Sha1 true = refl
+lacks_nothing Sha1 false = refl
+lacks_nothing Sha256 true = refl
+lacks_nothing Sha256 false = refl
 
 module _ (hash : Kind) (t : FetchArgumentsValue) (h : AreTerms hash t) where
   is_mapped : no_mapping t ≡ None
@@ -52,11 +52,7 @@ module _ (hash : Kind) (t : FetchArgumentsValue) (h : AreTerms hash t) where
       ∙ ap (λ (r : Result (Option ℕ) (List ℕ)). unread_as errors.PackThreads r) h.read.threads
 
   lacks_none : lacking t ≡ None
-  lacks_none =
-      ap (λ (x : Handshake). lacked x (needs_shallow t)) h.handshake
-      ∙ ap (λ (l : List ObjectId). lacked (greeting_of hash) (not (is_nil l) || not (is_no_change t.shallow))) h.border
-      ∙ ap (λ (s : Shallow). lacked (greeting_of hash) (not (is_nil {X = ObjectId} []) || not (is_no_change s))) h.shallow
-      ∙ lacks_nothing hash
+  lacks_none = ap (λ (x : Handshake). lacked x (needs_shallow t)) h.handshake ∙ lacks_nothing hash (needs_shallow t)
 
   pub accepted : option_or (no_mapping t) (option_or (other_hash t) (option_or (unfit t.settings) (lacking t))) ≡ None
   accepted =

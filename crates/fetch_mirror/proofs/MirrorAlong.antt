@@ -23,7 +23,7 @@ use Rattle.fetch_serve.specs.declared.asked.Asked.TheVariants.{Fetch}
 use Rattle.fetch_serve.specs.Replies.{replies_of, reply_lines}
 use Rattle.fetch_serve.specs.Served.{Data}
 use Rattle.fetch_serve.specs.Texts.{request_bound}
-use Rattle.fetch_mirror.specs.Fetches.{IsFetching, one_round, wanting_all}
+use Rattle.fetch_mirror.specs.Fetches.{IsFetching, one_round, wanting_behind}
 use Rattle.fetch_mirror.specs.GoingAlong.{GoesAlong, GoesTo}
 use Rattle.fetch_mirror.specs.Listings.{asked_lines, greeting_of}
 use Rattle.fetch_mirror.specs.Workers.{IsListed}
@@ -46,12 +46,12 @@ whole d g l h = listed_whole d (bound_of g) (inquiry_in g) h.heard
 abbrev request : Given → State → ListedValue → List Line
 request g s l = fetch_request (asked_by (terms_in g s l)) [] true
 
-pub worker_fetches : (d : Data) (g : Given) (s : State) (l : ListedValue) (id : ObjectId) (wants : List ObjectId) (reply : FetchReply) (r : Option Received) → IsListed d g l → IsFetching d (terms_in g s l) id wants reply
-    → sum_by line_len (request g s l) ≤ request_bound → sum_by line_len (reply_lines d (Fetch (wanting_all (id ∷ wants)))) ≤ bound_of g → received (terms_in g s l) (one_round reply) ≡ Ok r
+pub worker_fetches : (d : Data) (g : Given) (s : State) (l : ListedValue) (border : List ObjectId) (id : ObjectId) (wants : List ObjectId) (reply : FetchReply) (r : Option Received) → IsListed d g l → IsFetching d (terms_in g s l) border id wants reply
+    → sum_by line_len (request g s l) ≤ request_bound → sum_by line_len (reply_lines d (Fetch (wanting_behind border (id ∷ wants)))) ≤ bound_of g → received (terms_in g s l) (one_round reply) ≡ Ok r
     → GoesAlong (bound_of g) (replies_of d) [] (conversation g s) (asked_lines d (inquiry_in g) ++ ((request g s l ++ []) ++ [])) (Ok (record { listed = l; received = r }))
-worker_fetches d g s l id wants reply r h k short within is =
+worker_fetches d g s l border id wants reply r h k short within is =
     fetched_along (replies_of d) g s (heard_by d (inquiry_in g)) (heard_by d (inquiry_in g) ++ lines_text (request g s l)) (asked_lines d (inquiry_in g)) (request g s l ++ []) l r h.named (listed_to d g l h)
-    (pack_to d (bound_of g) (graph_of s.objects) (terms_in g s l) id wants reply k (heard_by d (inquiry_in g)) r (whole d g l h) short within is)
+    (pack_to d (bound_of g) (graph_of s.objects) (terms_in g s l) border id wants reply k (heard_by d (inquiry_in g)) r (whole d g l h) short within is)
 
 pub worker_wants_nothing : (d : Data) (g : Given) (s : State) (l : ListedValue) → IsListed d g l
     → option_or (no_mapping (terms_in g s l)) (option_or (other_hash (terms_in g s l)) (option_or (unfit (terms_in g s l).settings) (lacking (terms_in g s l)))) ≡ None → (terms_in g s l).view.wants ≡ []
@@ -60,19 +60,19 @@ worker_wants_nothing d g s l h accepted none =
     fetched_along (replies_of d) g s (heard_by d (inquiry_in g)) (heard_by d (inquiry_in g)) (asked_lines d (inquiry_in g)) [] l None h.named (listed_to d g l h)
     (nothing_to d (bound_of g) (graph_of s.objects) (terms_in g s l) (heard_by d (inquiry_in g)) accepted none)
 
-pub worker_long_pack : (d : Data) (g : Given) (s : State) (l : ListedValue) (id : ObjectId) (wants : List ObjectId) (reply : FetchReply) → IsListed d g l → IsFetching d (terms_in g s l) id wants reply
-    → sum_by line_len (request g s l) ≤ request_bound → bound_of g < sum_by line_len (reply_lines d (Fetch (wanting_all (id ∷ wants))))
+pub worker_long_pack : (d : Data) (g : Given) (s : State) (l : ListedValue) (border : List ObjectId) (id : ObjectId) (wants : List ObjectId) (reply : FetchReply) → IsListed d g l → IsFetching d (terms_in g s l) border id wants reply
+    → sum_by line_len (request g s l) ≤ request_bound → bound_of g < sum_by line_len (reply_lines d (Fetch (wanting_behind border (id ∷ wants))))
     → GoesAlong (bound_of g) (replies_of d) [] (conversation g s) (asked_lines d (inquiry_in g) ++ (request g s l ++ [])) (Err (receiving (failed (bound_of g) TooLong)))
-worker_long_pack d g s l id wants reply h k short far =
+worker_long_pack d g s l border id wants reply h k short far =
     unreceived_along (replies_of d) g s (heard_by d (inquiry_in g)) (asked_lines d (inquiry_in g)) (request g s l ++ []) l (failed (bound_of g) TooLong) h.named (listed_to d g l h)
-    (pack_too_long d (bound_of g) (graph_of s.objects) (terms_in g s l) id wants reply k (heard_by d (inquiry_in g)) (whole d g l h) short far)
+    (pack_too_long d (bound_of g) (graph_of s.objects) (terms_in g s l) border id wants reply k (heard_by d (inquiry_in g)) (whole d g l h) short far)
 
-pub worker_long_request : (d : Data) (g : Given) (s : State) (l : ListedValue) (id : ObjectId) (wants : List ObjectId) (reply : FetchReply) → IsListed d g l → IsFetching d (terms_in g s l) id wants reply
+pub worker_long_request : (d : Data) (g : Given) (s : State) (l : ListedValue) (border : List ObjectId) (id : ObjectId) (wants : List ObjectId) (reply : FetchReply) → IsListed d g l → IsFetching d (terms_in g s l) border id wants reply
     → request_bound < sum_by line_len (request g s l)
     → GoesAlong (bound_of g) (replies_of d) [] (conversation g s) (asked_lines d (inquiry_in g) ++ (request g s l ++ [])) (Err (receiving (failed (bound_of g) (Short 0))))
-worker_long_request d g s l id wants reply h k long =
+worker_long_request d g s l border id wants reply h k long =
     unreceived_along (replies_of d) g s (heard_by d (inquiry_in g)) (asked_lines d (inquiry_in g)) (request g s l ++ []) l (failed (bound_of g) (Short 0)) h.named (listed_to d g l h)
-    (pack_unserved d (bound_of g) (graph_of s.objects) (terms_in g s l) id wants reply k (heard_by d (inquiry_in g)) (whole d g l h) long)
+    (pack_unserved d (bound_of g) (graph_of s.objects) (terms_in g s l) border id wants reply k (heard_by d (inquiry_in g)) (whole d g l h) long)
 
 -- Behind the listing, the pack isn't had: so it is of the whole.
 pub worker_broken : (d : Data) (g : Given) (s : State) (l : ListedValue) (others : List Line) → IsListed d g l

@@ -32,7 +32,7 @@ use Rattle.fetch_serve.specs.declared.asked.Asked.TheVariants.{Fetch}
 use Rattle.fetch_serve.specs.Replies.{error_lines, replies_of, reply_lines}
 use Rattle.fetch_serve.specs.Served.{Data}
 use Rattle.fetch_serve.specs.Texts.{request_bound}
-use Rattle.fetch_mirror.specs.Fetches.{AreNew, IsFetching, IsWanting, one_round, wanting_all}
+use Rattle.fetch_mirror.specs.Fetches.{AreAbove, AreNew, IsFetching, IsWanting, one_round, wanting_behind}
 use Rattle.fetch_mirror.specs.GoingAlong.{GoesAlong, GoesTo}
 use Rattle.fetch_mirror.proofs.FetchRead.{fetch_read}
 use Rattle.fetch_mirror.proofs.GoingAlong.{goes_end}
@@ -42,7 +42,7 @@ use Rattle.fetch_mirror.proofs.StagesAlong.{to_end}
 
 -- ---- the tree
 
-module _ (d : Data) (bound : ℕ) (g : Graph) (t : FetchArgumentsValue) (id : ObjectId) (wants : List ObjectId) (reply : FetchReply) (h : IsFetching d t id wants reply) where
+module _ (d : Data) (bound : ℕ) (g : Graph) (t : FetchArgumentsValue) (border : List ObjectId) (id : ObjectId) (wants : List ObjectId) (reply : FetchReply) (h : IsFetching d t border id wants reply) where
   request : List Line
   request = fetch_request (asked_by t) [] true
 
@@ -74,44 +74,44 @@ module _ (d : Data) (bound : ℕ) (g : Graph) (t : FetchArgumentsValue) (id : Ob
   unfolding next and_then
   ends_so = refl
 
-  served : (heard : List ℕ) → AreWhole d.hash true heard → sum_by line_len request ≤ request_bound → IsServed d true heard request (await.Reply (reply_to t [] true)) (Fetch (wanting_all (id ∷ wants))) (told.Reply reply)
+  served : (heard : List ℕ) → AreWhole d.hash true heard → sum_by line_len request ≤ request_bound → IsServed d true heard request (await.Reply (reply_to t [] true)) (Fetch (wanting_behind border (id ∷ wants))) (told.Reply reply)
   unfolding request
   served heard whole short = record {
     whole = whole;
-    read = asked_whole d.hash true (fetch_request (asked_by t) [] true) (Fetch (wanting_all (id ∷ wants))) (fetch_read d.hash (asked_by t) id wants h.asked h.new) h.fits short;
+    read = asked_whole d.hash true (fetch_request (asked_by t) [] true) (Fetch (wanting_behind border (id ∷ wants))) (fetch_read d.hash (asked_by t) border id wants h.asked h.above h.new) h.fits short;
     tells = h.tells;
     fits = h.whole;
   }
 
   -- The pack is read.
-  pub pack_along : (heard : List ℕ) → AreWhole d.hash true heard → sum_by line_len (fetch_request (asked_by t) [] true) ≤ request_bound → sum_by line_len (reply_lines d (Fetch (wanting_all (id ∷ wants)))) ≤ bound
+  pub pack_along : (heard : List ℕ) → AreWhole d.hash true heard → sum_by line_len (fetch_request (asked_by t) [] true) ≤ request_bound → sum_by line_len (reply_lines d (Fetch (wanting_behind border (id ∷ wants)))) ≤ bound
       → GoesAlong bound (replies_of d) heard (converse_stage bound g t) (fetch_request (asked_by t) [] true ++ []) (received t (one_round reply))
   unfolding request tree
   pack_along heard whole short within =
       subst (λ (c : Conversation (Option Received) Error). GoesAlong bound (replies_of d) heard c (fetch_request (asked_by t) [] true ++ []) (received t (one_round reply))) (sym stage)
-      (served_on d bound true heard (fetch_request (asked_by t) [] true) (await.Reply (reply_to t [] true)) (failed bound) next (Fetch (wanting_all (id ∷ wants))) (told.Reply reply) [] (received t (one_round reply)) (served heard whole short) within
+      (served_on d bound true heard (fetch_request (asked_by t) [] true) (await.Reply (reply_to t [] true)) (failed bound) next (Fetch (wanting_behind border (id ∷ wants))) (told.Reply reply) [] (received t (one_round reply)) (served heard whole short) within
       (subst (λ (c : Conversation (Option Received) Error). GoesAlong bound (replies_of d) (heard ++ lines_text (fetch_request (asked_by t) [] true)) c [] (received t (one_round reply))) (sym ends_so)
       (goes_end bound (replies_of d) (heard ++ lines_text (fetch_request (asked_by t) [] true)) (received t (one_round reply)))))
 
   -- The same as a stage behind which the conversation goes on.
-  pub pack_to : (heard : List ℕ) (x : Option Received) → AreWhole d.hash true heard → sum_by line_len (fetch_request (asked_by t) [] true) ≤ request_bound → sum_by line_len (reply_lines d (Fetch (wanting_all (id ∷ wants)))) ≤ bound
+  pub pack_to : (heard : List ℕ) (x : Option Received) → AreWhole d.hash true heard → sum_by line_len (fetch_request (asked_by t) [] true) ≤ request_bound → sum_by line_len (reply_lines d (Fetch (wanting_behind border (id ∷ wants)))) ≤ bound
       → received t (one_round reply) ≡ Ok x
       → GoesTo bound (replies_of d) heard (heard ++ lines_text (fetch_request (asked_by t) [] true)) (converse_stage bound g t) (fetch_request (asked_by t) [] true ++ []) x
   unfolding request tree
   pack_to heard x whole short within is =
       subst (λ (c : Conversation (Option Received) Error). GoesTo bound (replies_of d) heard (heard ++ lines_text (fetch_request (asked_by t) [] true)) c (fetch_request (asked_by t) [] true ++ []) x) (sym stage)
-      (served_to d bound true heard (fetch_request (asked_by t) [] true) (await.Reply (reply_to t [] true)) (failed bound) next (Fetch (wanting_all (id ∷ wants))) (told.Reply reply)
+      (served_to d bound true heard (fetch_request (asked_by t) [] true) (await.Reply (reply_to t [] true)) (failed bound) next (Fetch (wanting_behind border (id ∷ wants))) (told.Reply reply)
       (heard ++ lines_text (fetch_request (asked_by t) [] true)) [] x (served heard whole short) within
       (subst (λ (c : Conversation (Option Received) Error). GoesTo bound (replies_of d) (heard ++ lines_text (fetch_request (asked_by t) [] true)) (heard ++ lines_text (fetch_request (asked_by t) [] true)) c [] x) (sym ends_so)
       (to_end bound (replies_of d) (heard ++ lines_text (fetch_request (asked_by t) [] true)) (received t (one_round reply)) x is)))
 
   -- Its reply passes the bound.
-  pub pack_too_long : (heard : List ℕ) → AreWhole d.hash true heard → sum_by line_len (fetch_request (asked_by t) [] true) ≤ request_bound → bound < sum_by line_len (reply_lines d (Fetch (wanting_all (id ∷ wants))))
+  pub pack_too_long : (heard : List ℕ) → AreWhole d.hash true heard → sum_by line_len (fetch_request (asked_by t) [] true) ≤ request_bound → bound < sum_by line_len (reply_lines d (Fetch (wanting_behind border (id ∷ wants))))
       → GoesAlong bound (replies_of d) heard (converse_stage bound g t) (fetch_request (asked_by t) [] true ++ []) (Err (failed bound TooLong))
   unfolding request tree
   pack_too_long heard whole short far =
       subst (λ (c : Conversation (Option Received) Error). GoesAlong bound (replies_of d) heard c (fetch_request (asked_by t) [] true ++ []) (Err (failed bound TooLong))) (sym stage)
-      (served_too_long d bound true heard (fetch_request (asked_by t) [] true) (await.Reply (reply_to t [] true)) (failed bound) next (Fetch (wanting_all (id ∷ wants))) (told.Reply reply) (served heard whole short) far)
+      (served_too_long d bound true heard (fetch_request (asked_by t) [] true) (await.Reply (reply_to t [] true)) (failed bound) next (Fetch (wanting_behind border (id ∷ wants))) (told.Reply reply) (served heard whole short) far)
 
   -- The request is longer than a server reads: it is dead.
   pub pack_unserved : (heard : List ℕ) → AreWhole d.hash true heard → request_bound < sum_by line_len (fetch_request (asked_by t) [] true)
@@ -120,7 +120,7 @@ module _ (d : Data) (bound : ℕ) (g : Graph) (t : FetchArgumentsValue) (id : Ob
   pack_unserved heard whole long =
       subst (λ (c : Conversation (Option Received) Error). GoesAlong bound (replies_of d) heard c (fetch_request (asked_by t) [] true ++ []) (Err (failed bound (Short 0)))) (sym stage)
       (unserved d bound true heard (fetch_request (asked_by t) [] true) (await.Reply (reply_to t [] true)) (failed bound) next whole
-      (asked_too_long d.hash true (fetch_request (asked_by t) [] true) (Fetch (wanting_all (id ∷ wants))) (fetch_read d.hash (asked_by t) id wants h.asked h.new) h.fits long))
+      (asked_too_long d.hash true (fetch_request (asked_by t) [] true) (Fetch (wanting_behind border (id ∷ wants))) (fetch_read d.hash (asked_by t) border id wants h.asked h.above h.new) h.fits long))
 
 -- where nothing is wanted nothing is asked
 no_request : (bound : ℕ) (g : Graph) (t : FetchArgumentsValue) → option_or (no_mapping t) (option_or (other_hash t) (option_or (unfit t.settings) (lacking t))) ≡ None → t.view.wants ≡ [] → converse_stage bound g t ≡ ends (Ok None)
@@ -136,14 +136,15 @@ nothing_to d bound g t heard accepted none =
 -- ---- a pack that is too large
 
 -- What is asked stands but for the pack: nothing is refused before the request, which the server reads.
-pub record IsRequesting (d : Data) (t : FetchArgumentsValue) (id : ObjectId) (wants : List ObjectId) : Type 0 where
+pub record IsRequesting (d : Data) (t : FetchArgumentsValue) (border : List ObjectId) (id : ObjectId) (wants : List ObjectId) : Type 0 where
   pub accepted : option_or (no_mapping t) (option_or (other_hash t) (option_or (unfit t.settings) (lacking t))) ≡ None
   pub wanted : t.view.wants ≡ id ∷ wants
   pub noop : algorithm_in t.settings ≡ algorithms.Noop
-  pub asked : IsWanting d.hash (asked_by t) id wants
+  pub asked : IsWanting d.hash (asked_by t) border id wants
+  pub above : AreAbove d.hash [] border
   pub new : AreNew d.hash [] (id ∷ wants)
 
-module _ (d : Data) (bound : ℕ) (g : Graph) (t : FetchArgumentsValue) (id : ObjectId) (wants : List ObjectId) (h : IsRequesting d t id wants) where
+module _ (d : Data) (bound : ℕ) (g : Graph) (t : FetchArgumentsValue) (border : List ObjectId) (id : ObjectId) (wants : List ObjectId) (h : IsRequesting d t border id wants) where
   -- what follows a reply
   abbrev behind : ParsedReply → Conversation (Option Received) Error
   behind = λ x. and_then (and_then (replied x) (λ reply. ends (Ok (one_round reply)))) (λ n. ends (received t n))
@@ -194,17 +195,17 @@ module _ (d : Data) (bound : ℕ) (g : Graph) (t : FetchArgumentsValue) (id : Ob
   pack_unread heard whole fits long =
       subst (λ (c : Conversation (Option Received) Error). GoesAlong bound (replies_of d) heard c (fetch_request (asked_by t) [] true ++ []) (Err (failed bound (Short 0)))) (sym (sends fits))
       (unserved d bound true heard (fetch_request (asked_by t) [] true) (await.Reply (reply_to t [] true)) (failed bound) behind whole
-      (asked_too_long d.hash true (fetch_request (asked_by t) [] true) (Fetch (wanting_all (id ∷ wants))) (fetch_read d.hash (asked_by t) id wants h.asked h.new) fits long))
+      (asked_too_long d.hash true (fetch_request (asked_by t) [] true) (Fetch (wanting_behind border (id ∷ wants))) (fetch_read d.hash (asked_by t) border id wants h.asked h.above h.new) fits long))
 
   -- The server answers by a line that says why it fails.
   pub pack_refused : (heard text : List ℕ) → AreWhole d.hash true heard → first_too_long (fetch_request (asked_by t) [] true) ≡ None → sum_by line_len (fetch_request (asked_by t) [] true) ≤ request_bound
-      → reply_lines d (Fetch (wanting_all (id ∷ wants))) ≡ error_lines text → first_too_long (error_lines text) ≡ None
+      → reply_lines d (Fetch (wanting_behind border (id ∷ wants))) ≡ error_lines text → first_too_long (error_lines text) ≡ None
       → (e : Error) × GoesAlong bound (replies_of d) heard (converse_stage bound g t) (fetch_request (asked_by t) [] true ++ []) (Err e)
   pack_refused heard text whole fits short is line_fits =
       let line = text_line (codes "ERR " ++ text) in
-      let asked = Fetch (wanting_all (id ∷ wants)) in
+      let asked = Fetch (wanting_behind border (id ∷ wants)) in
       let r = served_refused d bound true heard (fetch_request (asked_by t) [] true) (await.Reply (reply_to t [] true)) (failed bound) behind asked line (error_text ((codes "ERR " ++ text) ++ 10 ∷ [])) whole
-      (asked_whole d.hash true (fetch_request (asked_by t) [] true) asked (fetch_read d.hash (asked_by t) id wants h.asked h.new) fits short) is (says_so text) (fit_first (too_long_in line) None line_fits) in (
+      (asked_whole d.hash true (fetch_request (asked_by t) [] true) asked (fetch_read d.hash (asked_by t) border id wants h.asked h.above h.new) fits short) is (says_so text) (fit_first (too_long_in line) None line_fits) in (
         failed bound r.0,
         subst (λ (c : Conversation (Option Received) Error). GoesAlong bound (replies_of d) heard c (fetch_request (asked_by t) [] true ++ []) (Err (failed bound r.0))) (sym (sends fits)) r.1,
       )

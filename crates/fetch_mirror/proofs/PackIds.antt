@@ -24,10 +24,10 @@ use Rattle.fetch_serve.specs.Servable.{IsServable}
 use Rattle.fetch_serve.specs.Served.{Data}
 use Rattle.fetch_serve.proofs.Lists.{from_one}
 use Rattle.fetch_serve.proofs.Needed.{is_served, needed_none, served_is}
-use Rattle.fetch_mirror.specs.Fetches.{wanting_all}
+use Rattle.fetch_mirror.specs.Fetches.{wanting_all, wanting_behind}
 use Rattle.fetch_mirror.proofs.MappedOwn.{kept_in}
 use Rattle.fetch_mirror.proofs.Places.{at_contains, contains_at, mapped_at, unmapped}
-use Rattle.fetch_mirror.proofs.WorkerTold.{IsReceivedOf}
+use Rattle.fetch_mirror.proofs.WorkerTold.{IsReceivedBehind, IsReceivedOf}
 
 -- ---- packs
 
@@ -109,10 +109,10 @@ take_at n None x edits committer is = absurd cc
 take_at n (Some y) x edits committer is = let same : y ≡ x = cc in (0, ap (λ (z : Received). Some (Take n (ids_in z.objects) z.shallow z.unshallow)) same)
 
 -- what was received is the pack of some wants, or nothing
-pub received_is : (d : Data) (wants : List ObjectId) (r : Option Received) (x : Received) → IsReceivedOf d wants r → r ≡ Some x
-    → (ids_in x.objects ≡ ids_in (pack_of d (wanting_all wants)).objects) × (x.shallow ≡ []) × (x.unshallow ≡ [])
-received_is d [] r x h is = let none = sym h ∙ is in absurd cc
-received_is d (id ∷ wants) r x h is =
+pub received_is : (d : Data) (border wants : List ObjectId) (r : Option Received) (x : Received) → IsReceivedBehind d border wants r → r ≡ Some x
+    → (ids_in x.objects ≡ ids_in (pack_of d (wanting_behind border wants)).objects) × (x.shallow ≡ []) × (x.unshallow ≡ [])
+received_is d border [] r x h is = let none = sym h ∙ is in absurd cc
+received_is d border (id ∷ wants) r x h is =
     let same : h.0 ≡ x = (let both : Some h.0 ≡ Some x = sym h.1 ∙ is in cc) in (
       ap (λ (y : Received). ids_in y.objects) (sym same) ∙ ap ids_in h.2,
       ap (λ (y : Received). y.shallow) (sym same) ∙ h.3,

@@ -78,7 +78,7 @@ module _ (d : Data) (servable : IsServable d) (wants : List ObjectId) where
       by (Some o) is some = ap (λ (x : Option Stored). is_some x) (entry_found d.objects id (served_of d (wanting_all wants)) o is among)
 
   -- each of its objects is the server's
-  stands : (e : ObjectId × Stored) → Contains es e → finmap.get d.objects e.0 ≡ Some e.1
+  pub stands : (e : ObjectId × Stored) → Contains es e → finmap.get d.objects e.0 ≡ Some e.1
   stands e among =
       let f = from_one (entry_at d.objects) e (served_of d (wanting_all wants)) among in by f.0 (finmap.get d.objects f.0) refl f.2
     where

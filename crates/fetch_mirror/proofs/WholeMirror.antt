@@ -1,5 +1,5 @@
 -- The mirror of a server is what the server has under `refs/`, and all that it reaches.
-use Rattle.std.proofs.Common.{◌≡◌, ℕ, zero, suc, ◌<◌, ◌≤◌, ◌%◌, ◌==◌, true, false, List, [], ◌∷◌, ◌++◌, length, map, get_or, replicate, take, Option, Some, None, Result, Ok, Err, refl, sym, ap, ◌∙◌, subst, inl, inr, ⊎_elim, arith, All, Contains}
+use Rattle.std.proofs.Common.{◌≡◌, ℕ, ◌<◌, ◌≤◌, ◌%◌, ◌==◌, true, false, List, [], ◌∷◌, ◌++◌, length, map, get_or, replicate, take, Option, Some, None, Result, Ok, Err, refl, sym, ap, ◌∙◌, subst, inl, inr, ⊎_elim, arith, All, Contains}
 use Rattle.std.specs.Prelude.{◌⊎◌, ◌↔◌, IsOk, is_some, option_map, slice_get}
 use Rattle.std.specs.FinMap as finmap
 use Rattle.std.specs.FinSet as set
@@ -58,9 +58,11 @@ use Rattle.fetch_mirror.proofs.OfferedOwn.{pair}
 use Rattle.fetch_mirror.proofs.Places.{at_contains, contains_at, mapped_at, unmapped}
 use Rattle.fetch_mirror.proofs.WantedOwn.{is_wanted, stored_or_wanted}
 use Rattle.fetch_mirror.proofs.WorkerSo as worker
-use Rattle.fetch_mirror.proofs.WorkerSo.{IsWorker, race_over}
+use Rattle.fetch_mirror.proofs.PlainTakes as plain
+use Rattle.fetch_mirror.proofs.WorkerHeld.{race_over}
+use Rattle.fetch_mirror.proofs.WorkerSo.{IsWorker}
 use Rattle.fetch_mirror.proofs.WorkerTold.{AreBorn, HasTold, IsBornMapping, each_mapped}
-use Rattle.fetch_mirror.proofs.Numbered.{small, mod_within, below_both, front_at, in_front, same_replicated, nothing_at, first_of, first_some, in_or_not}
+use Rattle.fetch_mirror.proofs.Numbered.{small, mod_within, below_both, front_at, same_replicated, nothing_at, first_of, first_some, in_or_not}
 use Rattle.fetch_mirror.proofs.PackIds.{ids_in, whole, pack_reached, reached_packed, walk_starts, one_all, entry_cases, commit_at, take_at, received_is, wanted_received}
 
 -- a name beside a value
@@ -178,57 +180,29 @@ module _ (d : Data) (servable : IsServable d) (committer : Signature) (workers b
 
   -- ---- the border
 
-  -- what a plan saw has no border, where no entry before has a line
-  saw_none : (i : ℕ) (low : i < length jobs) → ((q : ℕ) (e : Entry) → q < length (worker.planned d committer bound (share i) i journal (did i low)).journal → slice_get journal q ≡ Some e → HasNoLines e)
-      → (worker.seen d committer bound (share i) i journal (did i low)).border ≡ set.empty
-  saw_none i low none =
+  no_lines : (k : ℕ) (e : Entry) → slice_get journal k ≡ Some e → HasNoLines e
+  no_lines k e at = plain.no_lines d servable committer workers bound lister peers names m.listed repo journal m.answers m.fetched k e at
+
+  -- what a plan saw has no border
+  border_none : (i : ℕ) (low : i < length jobs) → (worker.seen d committer bound (share i) i journal (did i low)).border ≡ set.empty
+  border_none i low =
       let w = did i low in
       let planned = worker.planned d committer bound (share i) i journal w in
       let begins = worker.planned_begins d committer bound (share i) i journal w in
       ap (λ (o : Outline). o.border) (worker.planned_tells d committer bound (share i) i journal w)
-      ∙ replays_border opening planned.journal refl (λ q e at. none q e (slice_get_within planned.journal q e at) (front_at planned.journal begins.rest journal begins.is q e at))
+      ∙ replays_border opening planned.journal refl (λ q e at. no_lines q e (front_at planned.journal begins.rest journal begins.is q e at))
 
   -- what a worker wanted
   abbrev wants : (i : ℕ) → i < length jobs → List ObjectId
   wants i low = (terms_in (worker_given d committer bound (share i)) (worker.seen d committer bound (share i) i journal (did i low)) (worker.told d committer bound (share i) i journal (did i low)).listed).view.wants
 
   told_by : (i : ℕ) (low : i < length jobs) → (worker.seen d committer bound (share i) i journal (did i low)).border ≡ set.empty
-      → HasTold d committer bound (share i) (worker.seen d committer bound (share i) i journal (did i low)) (worker.told d committer bound (share i) i journal (did i low))
+      → HasTold d committer bound (share i) (worker.seen d committer bound (share i) i journal (did i low)) [] (worker.told d committer bound (share i) i journal (did i low))
   told_by i low border =
       let first = first_name i low in
       worker.has_told d committer bound (share i) i journal (did i low) servable (share_owned i) (share_born i) first.0 first.1 border
 
-  -- no entry has a line: each take's plan saw entries before it alone
-  lines_below : (n k : ℕ) (e : Entry) → k < n → slice_get journal k ≡ Some e → HasNoLines e
-  lines_below zero k e low at = absurd (omega arith)
-  lines_below (suc n) k e low at = by (entry_of k e at) (λ q x less there_at. lines_below n q x less there_at)
-    where
-      by : IsOf e → ((q : ℕ) (x : Entry) → q < n → slice_get journal q ≡ Some x → HasNoLines x) → HasNoLines e
-      by o earlier = ⊎_elim
-          (λ (t : (x : Received) × ((worker.told d committer bound (share o.number) o.number journal (did o.number o.low)).received ≡ Some x) × (e ≡ Take o.number (ids_in x.objects) x.shallow x.unshallow)).
-          let w = did o.number o.low in
-          let planned = worker.planned d committer bound (share o.number) o.number journal w in
-          let begins = worker.planned_begins d committer bound (share o.number) o.number journal w in
-          let before : (q : ℕ) (x : Entry) → q < length planned.journal → slice_get journal q ≡ Some x → HasNoLines x =
-          (λ q x less there_at. ⊎_elim
-          (λ (early : k < length planned.journal).
-          let here = in_filter (λ (y : Entry). pass_of y == o.number) planned.journal k e (in_front planned.journal begins.rest journal begins.is k e early at) (ap (λ (p : ℕ). p == o.number) o.own ∙ own_number o.number) in
-          absurd (nothing_at (entries_of o.number planned.journal) here.0 e (worker.none_planned d committer bound (share o.number) o.number journal w t.0 t.1) here.1))
-          (λ (late : length planned.journal ≤ k). earlier q x (omega (arith, late, less, low)) there_at)
-          (cases_lt k (length planned.journal))) in
-          let told = told_by o.number o.low (saw_none o.number o.low before) in
-          let lines = received_is d (wants o.number o.low) (worker.told d committer bound (share o.number) o.number journal w).received t.0 told.received t.1 in
-          subst HasNoLines (sym t.2) (lines.1, lines.2))
-          (λ (commit : e ≡ Commit o.number (worker.updates d committer bound (share o.number) o.number journal (did o.number o.low)).edits committer). subst HasNoLines (sym commit) tt)
-          o.is
-
-  no_lines : (k : ℕ) (e : Entry) → slice_get journal k ≡ Some e → HasNoLines e
-  no_lines k e at = lines_below (suc k) k e (omega arith) at
-
-  border_none : (i : ℕ) (low : i < length jobs) → (worker.seen d committer bound (share i) i journal (did i low)).border ≡ set.empty
-  border_none i low = saw_none i low (λ q e less at. no_lines q e at)
-
-  told_all : (i : ℕ) (low : i < length jobs) → HasTold d committer bound (share i) (worker.seen d committer bound (share i) i journal (did i low)) (worker.told d committer bound (share i) i journal (did i low))
+  told_all : (i : ℕ) (low : i < length jobs) → HasTold d committer bound (share i) (worker.seen d committer bound (share i) i journal (did i low)) [] (worker.told d committer bound (share i) i journal (did i low))
   told_all i low = told_by i low (border_none i low)
 
   -- ---- ids
@@ -236,7 +210,7 @@ module _ (d : Data) (servable : IsServable d) (committer : Signature) (workers b
   -- the ids of a take are what its wants reach
   take_reaches : (i : ℕ) (low : i < length jobs) (x : Received) (id : ObjectId) → (worker.told d committer bound (share i) i journal (did i low)).received ≡ Some x → Contains (ids_in x.objects) id → Reached (whole d) (wants i low) id
   take_reaches i low x id is among =
-      let r = received_is d (wants i low) (worker.told d committer bound (share i) i journal (did i low)).received x (told_all i low).received is in
+      let r = received_is d [] (wants i low) (worker.told d committer bound (share i) i journal (did i low)).received x (told_all i low).received is in
       pack_reached d (wants i low) id servable (subst (λ (ids : List ObjectId). Contains ids id) r.0 among)
 
   -- an id that an entry took is reached from some worker's wants
@@ -262,7 +236,7 @@ module _ (d : Data) (servable : IsServable d) (committer : Signature) (workers b
       let t = worker.told d committer bound (share i) i journal (did i low) in
       let edits = (worker.updates d committer bound (share i) i journal (did i low)).edits in
       let x = wanted_received d (wants i low) t.received reached.start (told_all i low).received reached.among in
-      let r = received_is d (wants i low) t.received x.0 (told_all i low).received x.1 in
+      let r = received_is d [] (wants i low) t.received x.0 (told_all i low).received x.1 in
       let j = take_at i t.received x.0 edits committer x.1 in
       let place = in_journal i low j.0 (Take i (ids_in x.0.objects) x.0.shallow x.0.unshallow) j.1 in
       let among : Contains (ids_in x.0.objects) id = subst (λ (ids : List ObjectId). Contains ids id) (sym r.0) (reached_packed d (wants i low) id servable reached) in
@@ -420,7 +394,7 @@ module _ (d : Data) (servable : IsServable d) (committer : Signature) (workers b
     entries_by : (r : Option Received) → t.received ≡ r → (entries_of i journal ≡ Commit i updates.edits committer ∷ []) ⊎ ((ids : List ObjectId) × (entries_of i journal ≡ Take i ids [] [] ∷ Commit i updates.edits committer ∷ []))
     entries_by None is = inl (worker.entries_are d committer bound (share i) i journal w ∙ ap (λ (r : Option Received). take_entries i r ++ Commit i updates.edits committer ∷ []) is)
     entries_by (Some x) is =
-        let lines = received_is d (wants i low) t.received x (told_all i low).received is in
+        let lines = received_is d [] (wants i low) t.received x (told_all i low).received is in
         inr (
           ids_in x.objects,
           worker.entries_are d committer bound (share i) i journal w ∙ ap (λ (r : Option Received). take_entries i r ++ Commit i updates.edits committer ∷ []) is

@@ -1,10 +1,11 @@
 -- A worker is told all that it asks its server for, where nothing is too long.
-use Rattle.std.proofs.Common.{◌≡◌, ℕ, true, List, [], ◌∷◌, ◌++◌, map, Some, None, Ok, refl, sym, ap, ◌∙◌, subst, codes, sum_by, Contains}
+use Rattle.std.proofs.Common.{◌≡◌, ℕ, true, false, List, [], ◌∷◌, ◌++◌, map, Some, None, Ok, refl, sym, ap, ◌∙◌, subst, codes, sum_by, Contains}
 use Rattle.std.specs.Prelude.{◌≤◌}
 use Rattle.std.specs.FinSet as set
 use Rattle.std.proofs.lemmas.List.{append-nil}
 use Rattle.std.proofs.lemmas.List.Concat.{flat_map-append}
 use Rattle.fetch_store.specs.Graph.{graph_of}
+use Rattle.fetch_store.specs.Borders.{ids_of}
 use Rattle.fetch_store.specs.declared.id.ObjectId.{ObjectId}
 use Rattle.fetch_refs.specs.declared.log.Signature.{Signature}
 use Rattle.fetch_specs.specs.Matches.{mappings_of}
@@ -24,14 +25,16 @@ use Rattle.fetch_conversation.specs.ListStage.{LsRefsValue, ListedValue, map_of,
 use Rattle.fetch_remote.specs.Form.{Given}
 use Rattle.fetch_remote.specs.Repositories.{State}
 use Rattle.fetch_remote.specs.Stages.{Told, conversation}
+use Rattle.fetch_pack.specs.declared.version.PackVersion.TheVariants.{V2}
 use Rattle.fetch_serve.specs.declared.asked.Asked.TheVariants.{Listing, Fetch}
+use Rattle.fetch_serve.specs.declared.asked.FetchAsked.{FetchAsked}
 use Rattle.fetch_serve.specs.Answers.{fetched}
-use Rattle.fetch_serve.specs.Replies.{replies_of, reply_lines}
+use Rattle.fetch_serve.specs.Replies.{is_too_large, objects_of, replies_of, reply_lines}
 use Rattle.fetch_serve.specs.Servable.{IsServable}
 use Rattle.fetch_serve.specs.Served.{Data}
 use Rattle.fetch_serve.specs.Texts.{request_bound}
 use Rattle.fetch_mirror.specs.Born.{born_of}
-use Rattle.fetch_mirror.specs.Fetches.{wanting_all}
+use Rattle.fetch_mirror.specs.Fetches.{AreAbove, wanting_behind}
 use Rattle.fetch_mirror.specs.GoingAlong.{GoesAlong}
 use Rattle.fetch_mirror.specs.Limits.{IsPackWithin, IsShare, IsWithin, MayBeWanted, listing_for, request_for, worker_given}
 use Rattle.fetch_mirror.specs.Listings.{IsHeard, asked_lines, greeting_of}
@@ -40,6 +43,7 @@ use Rattle.fetch_mirror.specs.Shares.{as_itself}
 use Rattle.fetch_mirror.specs.Workers.{IsListed}
 use Rattle.fetch_mirror.proofs.AcceptedTerms.{accepted}
 use Rattle.fetch_mirror.proofs.FetchRead.{fetch_read}
+use Rattle.fetch_mirror.proofs.LinesFit.{listing_fits, request_fits}
 use Rattle.fetch_mirror.proofs.ListingAlong.{first_text, listed_whole}
 use Rattle.fetch_mirror.proofs.MirrorAlong.{worker_fetches, worker_wants_nothing}
 use Rattle.fetch_mirror.proofs.NoopRead.{agent_read}
@@ -90,7 +94,7 @@ module _ (d : Data) (servable : IsServable d) (committer : Signature) (bound : �
     told = askable.told;
     inquiry = askable.inquiry;
     rising = askable.rising;
-    fits = ap first_too_long lines_are ∙ within.line;
+    fits = ap (λ (prefixes : List (List ℕ)). first_too_long (listing_lines (greeting_of d.hash) q.agent prefixes)) prefixes_are ∙ listing_fits d share q.agent servable sh;
     short = subst (λ (lines : List Line). sum_by line_len lines ≤ request_bound) (sym lines_are) within.request;
   }
 
@@ -112,8 +116,14 @@ module _ (d : Data) (servable : IsServable d) (committer : Signature) (bound : �
   whole_listing = subst (AreWhole d.hash true) (sym listing_text) (listed_whole d bound q is_heard)
 
   module _ (s : State) (border : s.border ≡ set.empty) where
+    none : ids_of s.border ≡ []
+    none = worker.no_border s border
+
+    above : AreAbove d.hash [] (ids_of s.border)
+    above = worker.none_above d.hash s border
+
     abbrev t : FetchArgumentsValue
-    t = worker.t d servable committer bound share sh.own sh.born sh.first sh.some l maps s border
+    t = worker.t d servable committer bound share sh.own sh.born sh.first sh.some l maps s above
 
     -- the request for these
     request_is : (wants : List ObjectId) → t.view.wants ≡ wants → fetch_request (asked_by t) [] true ≡ request_for d.hash wants
@@ -127,14 +137,14 @@ module _ (d : Data) (servable : IsServable d) (committer : Signature) (bound : �
     }) [] true
 
     told_all : (wants : List ObjectId) → t.view.wants ≡ wants → IsTold d bound given s
-    told_all [] none = record {
+    told_all [] nothing = record {
       told = record { listed = l; received = None };
       sent = asked_lines d q ++ ([] ++ []);
-      goes = worker_wants_nothing d given s l is_listed (accepted d.hash t (worker.terms d servable committer bound share sh.own sh.born sh.first sh.some l maps s border)) none;
+      goes = worker_wants_nothing d given s l is_listed (accepted d.hash t (worker.terms d servable committer bound share sh.own sh.born sh.first sh.some l maps s above)) nothing;
       whole = subst (λ (lines : List Line). AreWhole d.hash true (lines_text lines)) (sym (append-nil (asked_lines d q))) whole_listing;
     }
     told_all (id ∷ wants) wanted =
-        let requesting = worker.requesting d servable committer bound share sh.own sh.born sh.first sh.some l maps s border id wants wanted in
+        let requesting = worker.requesting d servable committer bound share sh.own sh.born sh.first sh.some l maps s above id wants wanted in
         let may : MayBeWanted d share (id ∷ wants) = record {
           born = λ x among.
               let w = is_wanted l.ref_map (graph_of s.objects) x (subst (λ (ids : List ObjectId). Contains ids x) (sym wanted) among) in
@@ -146,19 +156,22 @@ module _ (d : Data) (servable : IsServable d) (committer : Signature) (bound : �
         let small : IsPackWithin d bound (id ∷ wants) = within.packs id wants may in
         let is = request_is (id ∷ wants) wanted in
         let request = fetch_request (asked_by t) [] true in
-        let fits : first_too_long request ≡ None = ap first_too_long is ∙ small.line in
+        let fits : first_too_long request ≡ None = request_fits d.hash (asked_by t) (ids_of s.border) id wants requesting.asked above requesting.new in
         let short : sum_by line_len request ≤ request_bound = subst (λ (lines : List Line). sum_by line_len lines ≤ request_bound) (sym is) small.request in
-        let f = worker.fetching d servable committer bound share sh.own sh.born sh.first sh.some l maps s border id wants wanted small.pack fits in
-        let x = worker.bringing d servable committer bound share sh.own sh.born sh.first sh.some l maps s border id wants wanted in
+        let asked : FetchAsked = wanting_behind (ids_of s.border) (id ∷ wants) in
+        let pack : is_too_large V2 (objects_of d asked) ≡ false = subst (λ (b : List ObjectId). is_too_large V2 (objects_of d (wanting_behind b (id ∷ wants))) ≡ false) (sym none) small.pack in
+        let reply : sum_by line_len (reply_lines d (Fetch asked)) ≤ bound = subst (λ (b : List ObjectId). sum_by line_len (reply_lines d (Fetch (wanting_behind b (id ∷ wants)))) ≤ bound) (sym none) small.reply in
+        let f = worker.fetching d servable committer bound share sh.own sh.born sh.first sh.some l maps s above id wants wanted pack fits in
+        let x = worker.bringing d servable committer bound share sh.own sh.born sh.first sh.some l maps s above id wants wanted in
         record {
           told = record { listed = l; received = Some x };
           sent = asked_lines d q ++ ((request ++ []) ++ []);
-          goes = worker_fetches d given s l id wants (fetched d (wanting_all (id ∷ wants))) (Some x) is_listed f short small.reply
-              (worker.brings d servable committer bound share sh.own sh.born sh.first sh.some l maps s border id wants wanted small.pack);
+          goes = worker_fetches d given s l (ids_of s.border) id wants (fetched d asked) (Some x) is_listed f short reply
+              (worker.brings d servable committer bound share sh.own sh.born sh.first sh.some l maps s above id wants wanted pack);
           whole = subst (AreWhole d.hash true)
               (sym (flat_map-append line_text (asked_lines d q) ((request ++ []) ++ []) ∙ ap (λ (lines : List Line). lines_text (asked_lines d q) ++ lines_text lines) (append-nil (request ++ []) ∙ append-nil request)))
-              (whole_more d.hash true (lines_text (asked_lines d q)) (lines_text request) (Fetch (wanting_all (id ∷ wants))) whole_listing
-              (asked_whole d.hash true request (Fetch (wanting_all (id ∷ wants))) (fetch_read d.hash (asked_by t) id wants requesting.asked requesting.new) fits short));
+              (whole_more d.hash true (lines_text (asked_lines d q)) (lines_text request) (Fetch asked) whole_listing
+              (asked_whole d.hash true request (Fetch asked) (fetch_read d.hash (asked_by t) (ids_of s.border) id wants requesting.asked above requesting.new) fits short));
         }
 
     pub is_told : IsTold d bound given s

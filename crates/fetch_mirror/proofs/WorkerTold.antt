@@ -74,7 +74,7 @@ use Rattle.fetch_serve.proofs.Reached.{in_first, one_of}
 use Rattle.fetch_serve.proofs.References.{id_stored, offered_made}
 use Rattle.std.specs.FinMap as finmap
 use Rattle.fetch_mirror.specs.Born.{born_of}
-use Rattle.fetch_mirror.specs.Fetches.{AreNew, AreTerms, IsFetching, one_round, wanting_all}
+use Rattle.fetch_mirror.specs.Fetches.{AreAbove, AreNew, AreTerms, IsFetching, one_round, wanting_behind}
 use Rattle.fetch_mirror.specs.GoingAlong.{GoesAlong}
 use Rattle.fetch_mirror.specs.Limits.{worker_given}
 use Rattle.fetch_mirror.specs.Listings.{AreRising, IsHeard, asked_lines, greeting_of}
@@ -110,10 +110,14 @@ pub record IsBornMapping (d : Data) (share : List (List ℕ)) (m : Mapping) : Ty
   pub local : m.local ≡ Some name
   pub spec : m.spec_index ≡ ExplicitInRemote index
 
--- what is received of these wants: their pack, without a change of the border; of none nothing
+-- what is received of these wants behind this border: their pack, without a change of the border; of none nothing
+abbrev pub IsReceivedBehind : Data → List ObjectId → List ObjectId → Option Received → Type 0
+IsReceivedBehind d border [] r = r ≡ None
+IsReceivedBehind d border (id ∷ wants) r = (x : Received) × (r ≡ Some x) × (x.objects ≡ (pack_of d (wanting_behind border (id ∷ wants))).objects) × (x.shallow ≡ []) × (x.unshallow ≡ [])
+
+-- the same without a border
 abbrev pub IsReceivedOf : Data → List ObjectId → Option Received → Type 0
-IsReceivedOf d [] r = r ≡ None
-IsReceivedOf d (id ∷ wants) r = (x : Received) × (r ≡ Some x) × (x.objects ≡ (pack_of d (wanting_all (id ∷ wants))).objects) × (x.shallow ≡ []) × (x.unshallow ≡ [])
+IsReceivedOf d wants r = IsReceivedBehind d [] wants r
 
 -- each name of the share is born, by some id
 abbrev pub AreBorn : Data → List (List ℕ) → Type 0
@@ -123,10 +127,10 @@ AreBorn d share = (index : ℕ) (name : List ℕ) → slice_get share index ≡ 
 abbrev pub offered_to : Data → Signature → ℕ → List (List ℕ) → List Ref
 offered_to d committer bound share = offered_of d true (prefixes_asked (inquiry_in (worker_given d committer bound share)))
 
--- It listed its share, and received the pack of what it wants over this state.
-pub record HasTold (d : Data) (committer : Signature) (bound : ℕ) (share : List (List ℕ)) (s : State) (told : Told) : Type 0 where
+-- It listed its share, and received the pack of what it wants over this state, behind this border.
+pub record HasTold (d : Data) (committer : Signature) (bound : ℕ) (share : List (List ℕ)) (s : State) (border : List ObjectId) (told : Told) : Type 0 where
   pub maps : mapped (inquiry_in (worker_given d committer bound share)) (greeting_of d.hash) (offered_to d committer bound share) ≡ Ok told.listed
-  pub received : IsReceivedOf d (terms_in (worker_given d committer bound share) s told.listed).view.wants told.received
+  pub received : IsReceivedBehind d border (terms_in (worker_given d committer bound share) s told.listed).view.wants told.received
 
 -- ---- lists
 
@@ -147,6 +151,13 @@ same_at refs once i j r s name r_at s_at r_is s_is =
 no_ids : ids_of set.empty ≡ []
 unfolding IsStrictlySortedBy
 no_ids = ids_of-set [] tt
+
+-- a state without a border
+pub no_border : (s : State) → s.border ≡ set.empty → ids_of s.border ≡ []
+no_border s none = ap ids_of none ∙ no_ids
+
+pub none_above : (hash : Kind) (s : State) → s.border ≡ set.empty → AreAbove hash [] (ids_of s.border)
+none_above hash s none = subst (λ (l : List ObjectId). AreAbove hash [] l) (sym (no_border s none)) tt
 
 -- ---- the worker
 
@@ -238,7 +249,10 @@ module _ (d : Data) (servable : IsServable d) (committer : Signature) (bound : �
         let same : m.id ≡ id = (let both : Some m.id ≡ Some id = sym m.source ∙ source in cc) in
         stored_is d id servable (subst (IsStored d.objects) same (id_stored d b.entry m.id servable b.among b.id_is))
 
-    module _ (s : State) (border : s.border ≡ set.empty) where
+    module _ (s : State) (above : AreAbove d.hash [] (ids_of s.border)) where
+      abbrev border : List ObjectId
+      border = ids_of s.border
+
       abbrev pub t : FetchArgumentsValue
       t = terms_in given s l
 
@@ -249,23 +263,23 @@ module _ (d : Data) (servable : IsServable d) (committer : Signature) (bound : �
         kind = refl;
         handshake = sym (greeted_is q (greeting_of d.hash) refs l maps);
         mapped = some_mapped;
-        border = ap ids_of border ∙ no_ids;
         shallow = refl;
       }
 
       module _ (id : ObjectId) (wants : List ObjectId) (wanted : t.view.wants ≡ id ∷ wants) where
         abbrev pub r : FetchAsked
-        r = wanting_all (id ∷ wants)
+        r = wanting_behind border (id ∷ wants)
 
         abbrev asked : Asked
         asked = Fetch r
 
-        pub requesting : IsRequesting d t id wants
+        pub requesting : IsRequesting d t border id wants
         requesting = record {
           accepted = accepted d.hash t terms;
           wanted = wanted;
           noop = tells_no_haves d.hash t terms;
-          asked = record { handshake = terms.handshake; tags = refl; shallow = refl; border = terms.border; wanted = wanted };
+          asked = record { handshake = terms.handshake; tags = refl; shallow = refl; border_is = refl; wanted = wanted };
+          above = above;
           new = subst (λ (ids : List ObjectId). AreNew d.hash [] ids) wanted (wants_new d.hash l.ref_map (graph_of s.objects) (λ y i among source. ids_are y i among source));
         }
 
@@ -309,12 +323,13 @@ module _ (d : Data) (servable : IsServable d) (committer : Signature) (bound : �
             subst (λ (k : Kind). Tells step_of (start_of (await.Reply (record { kind = k; haves = []; done = true; read_pack = true }))) (reply_lines d asked) (telling.Reply (fetched d r))) (sym hash_is)
             (answered d asked servable (goes small))
 
-        pub fetching : is_too_large r.version (objects_of d r) ≡ false → first_too_long (fetch_request (asked_by t) [] true) ≡ None → IsFetching d t id wants (fetched d r)
+        pub fetching : is_too_large r.version (objects_of d r) ≡ false → first_too_long (fetch_request (asked_by t) [] true) ≡ None → IsFetching d t border id wants (fetched d r)
         fetching small fits = record {
           accepted = requesting.accepted;
           wanted = wanted;
           noop = requesting.noop;
           asked = requesting.asked;
+          above = above;
           new = requesting.new;
           fits = fits;
           tells = tells small;
@@ -341,7 +356,7 @@ module _ (d : Data) (servable : IsServable d) (committer : Signature) (bound : �
       module _ (l_is : IsListed d given l) (told : Told) (along : (sent : List Line) (answer : Result Told FetchError) → GoesAlong bound (replies_of d) [] (conversation given s) sent answer → answer ≡ Ok told) where
         -- so it was told
         abbrev Done : Type 0
-        Done = (told.listed ≡ l) × IsReceivedOf d t.view.wants told.received
+        Done = (told.listed ≡ l) × IsReceivedBehind d border t.view.wants told.received
 
         abbrev as_told : Option Received → Told
         as_told x = record { listed = l; received = x }
@@ -349,10 +364,10 @@ module _ (d : Data) (servable : IsServable d) (committer : Signature) (bound : �
         abbrev answered_by : Told → Result Told FetchError
         answered_by x = Ok x
 
-        done_by : (x : Option Received) → answered_by (as_told x) ≡ answered_by told → IsReceivedOf d t.view.wants x → Done
+        done_by : (x : Option Received) → answered_by (as_told x) ≡ answered_by told → IsReceivedBehind d border t.view.wants x → Done
         done_by x is h =
             let same : as_told x ≡ told = cc in
-            (sym (ap (λ (y : Told). y.listed) same), subst (λ (y : Told). IsReceivedOf d t.view.wants y.received) same h)
+            (sym (ap (λ (y : Told). y.listed) same), subst (λ (y : Told). IsReceivedBehind d border t.view.wants y.received) same h)
 
         never : (others : List Line) (e : FetchError) → GoesAlong bound (replies_of d) [] (conversation given s) others (Err e) → Done
         never others e g = let is = along others (Err e) g in absurd cc
@@ -368,32 +383,32 @@ module _ (d : Data) (servable : IsServable d) (committer : Signature) (bound : �
           fetched_so small fits short =
               let f = fetching id wants wanted small fits in
               ⊎_elim
-              (λ (far : bound < sum_by line_len (reply_lines d (asked id wants wanted))). never _ _ (worker_long_pack d given s l id wants (fetched d (r id wants wanted)) l_is f short far))
+              (λ (far : bound < sum_by line_len (reply_lines d (asked id wants wanted))). never _ _ (worker_long_pack d given s l border id wants (fetched d (r id wants wanted)) l_is f short far))
               (λ (within : sum_by line_len (reply_lines d (asked id wants wanted)) ≤ bound).
               let x = bringing id wants wanted in
-              done_by (Some x) (along _ _ (worker_fetches d given s l id wants (fetched d (r id wants wanted)) (Some x) l_is f short within (brings id wants wanted small)))
-              (subst (λ (ids : List ObjectId). IsReceivedOf d ids (Some x)) (sym wanted) (x, refl, refl, refl, refl)))
+              done_by (Some x) (along _ _ (worker_fetches d given s l border id wants (fetched d (r id wants wanted)) (Some x) l_is f short within (brings id wants wanted small)))
+              (subst (λ (ids : List ObjectId). IsReceivedBehind d border ids (Some x)) (sym wanted) (x, refl, refl, refl, refl)))
               (cases_lt bound (sum_by line_len (reply_lines d (asked id wants wanted))))
 
           by_size : (large : Bool) → is_too_large (r id wants wanted).version (objects_of d (r id wants wanted)) ≡ large → first_too_long request ≡ None → sum_by line_len request ≤ request_bound → Done
           by_size false small fits short = fetched_so small fits short
           by_size true large fits short =
-              broken (request ++ []) (λ heard whole. pack_refused d bound (graph_of s.objects) t id wants (requesting id wants wanted) heard too_large whole fits short (large_lines id wants wanted large) large_fits)
+              broken (request ++ []) (λ heard whole. pack_refused d bound (graph_of s.objects) t border id wants (requesting id wants wanted) heard too_large whole fits short (large_lines id wants wanted large) large_fits)
 
           by_length : first_too_long request ≡ None → Done
           by_length fits =
               ⊎_elim
-              (λ (long : request_bound < sum_by line_len request). broken (request ++ []) (λ heard whole. (unreceived_by bound (Short 0), pack_unread d bound (graph_of s.objects) t id wants (requesting id wants wanted) heard whole fits long)))
+              (λ (long : request_bound < sum_by line_len request). broken (request ++ []) (λ heard whole. (unreceived_by bound (Short 0), pack_unread d bound (graph_of s.objects) t border id wants (requesting id wants wanted) heard whole fits long)))
               (λ (short : sum_by line_len request ≤ request_bound). by_size (is_too_large (r id wants wanted).version (objects_of d (r id wants wanted))) refl fits short)
               (cases_lt request_bound (sum_by line_len request))
 
           by_fitting : (long : Option ℕ) → first_too_long request ≡ long → Done
           by_fitting None fits = by_length fits
-          by_fitting (Some n) is = broken [] (λ heard whole. (unsendable_by n, pack_unsent d bound (graph_of s.objects) t id wants (requesting id wants wanted) heard n is))
+          by_fitting (Some n) is = broken [] (λ heard whole. (unsendable_by n, pack_unsent d bound (graph_of s.objects) t border id wants (requesting id wants wanted) heard n is))
 
         by_wants : (ids : List ObjectId) → t.view.wants ≡ ids → Done
         by_wants [] none =
-            done_by None (along _ _ (worker_wants_nothing d given s l l_is (accepted d.hash t terms) none)) (subst (λ (ids : List ObjectId). IsReceivedOf d ids None) (sym none) refl)
+            done_by None (along _ _ (worker_wants_nothing d given s l l_is (accepted d.hash t terms) none)) (subst (λ (ids : List ObjectId). IsReceivedBehind d border ids None) (sym none) refl)
         by_wants (id ∷ wants) wanted = by_fitting id wants wanted (first_too_long (fetch_request (asked_by t) [] true)) refl
 
         pub told_so : Done
@@ -401,31 +416,31 @@ module _ (d : Data) (servable : IsServable d) (committer : Signature) (bound : �
 
   -- ---- the listing
 
-  module _ (s : State) (border : s.border ≡ set.empty) (told : Told) (along : (sent : List Line) (answer : Result Told FetchError) → GoesAlong bound (replies_of d) [] (conversation given s) sent answer → answer ≡ Ok told) where
-    unlisted : (sent : List Line) (e : PrepareError) → GoesAlong bound (replies_of d) [] (ls_refs_stage bound q) sent (Err e) → HasTold d committer bound share s told
+  module _ (s : State) (above : AreAbove d.hash [] (ids_of s.border)) (told : Told) (along : (sent : List Line) (answer : Result Told FetchError) → GoesAlong bound (replies_of d) [] (conversation given s) sent answer → answer ≡ Ok told) where
+    unlisted : (sent : List Line) (e : PrepareError) → GoesAlong bound (replies_of d) [] (ls_refs_stage bound q) sent (Err e) → HasTold d committer bound share s (ids_of s.border) told
     unlisted sent e g = let is = along sent (Err (preparing e)) (unlisted_along (replies_of d) given s sent e named g) in absurd cc
 
     abbrev listing : List Line
     listing = listing_lines (greeting_of d.hash) q.agent (prefixes_asked q)
 
     module _ (heard : IsHeard d q) (greeted : sum_by line_len (reply_lines d First) ≤ bound) (listed : sum_by line_len (reply_lines d (Listing true (prefixes_asked q))) ≤ bound) where
-      by_map : (answer : Result ListedValue PrepareError) → mapped q (greeting_of d.hash) refs ≡ answer → HasTold d committer bound share s told
+      by_map : (answer : Result ListedValue PrepareError) → mapped q (greeting_of d.hash) refs ≡ answer → HasTold d committer bound share s (ids_of s.border) told
       by_map (Err e) is = unlisted _ e (subst (λ (a : Result ListedValue PrepareError). GoesAlong bound (replies_of d) [] (ls_refs_stage bound q) (asked_lines d q) a) is (listing_along d bound q heard greeted listed))
       by_map (Ok l) is =
-          let so = told_so l is s border (record { named = named; heard = heard; greeting = greeted; listing = listed; maps = is }) told along in
+          let so = told_so l is s above (record { named = named; heard = heard; greeting = greeted; listing = listed; maps = is }) told along in
           record {
             maps = is ∙ ap (λ (x : ListedValue). Ok x) (sym so.0);
-            received = subst (λ (x : ListedValue). IsReceivedOf d (terms_in given s x).view.wants told.received) (sym so.0) so.1;
+            received = subst (λ (x : ListedValue). IsReceivedBehind d (ids_of s.border) (terms_in given s x).view.wants told.received) (sym so.0) so.1;
           }
 
-    by_listing : IsHeard d q → sum_by line_len (reply_lines d First) ≤ bound → HasTold d committer bound share s told
+    by_listing : IsHeard d q → sum_by line_len (reply_lines d First) ≤ bound → HasTold d committer bound share s (ids_of s.border) told
     by_listing heard greeted =
         ⊎_elim
         (λ (far : bound < sum_by line_len (reply_lines d (Listing true (prefixes_asked q)))). unlisted _ _ (listing_too_long d bound q heard greeted far))
         (λ (within : sum_by line_len (reply_lines d (Listing true (prefixes_asked q))) ≤ bound). by_map heard greeted within (mapped q (greeting_of d.hash) refs) refl)
         (cases_lt bound (sum_by line_len (reply_lines d (Listing true (prefixes_asked q)))))
 
-    by_request : first_too_long listing ≡ None → sum_by line_len (reply_lines d First) ≤ bound → HasTold d committer bound share s told
+    by_request : first_too_long listing ≡ None → sum_by line_len (reply_lines d First) ≤ bound → HasTold d committer bound share s (ids_of s.border) told
     by_request fits greeted =
         ⊎_elim
         (λ (long : request_bound < sum_by line_len listing). unlisted _ _ (request_unread d bound q askable fits long greeted))
@@ -433,11 +448,11 @@ module _ (d : Data) (servable : IsServable d) (committer : Signature) (bound : �
         by_listing (record { servable = servable; told = askable.told; inquiry = askable.inquiry; rising = askable.rising; fits = fits; short = short }) greeted)
         (cases_lt request_bound (sum_by line_len listing))
 
-    by_line : (long : Option ℕ) → first_too_long listing ≡ long → sum_by line_len (reply_lines d First) ≤ bound → HasTold d committer bound share s told
+    by_line : (long : Option ℕ) → first_too_long listing ≡ long → sum_by line_len (reply_lines d First) ≤ bound → HasTold d committer bound share s (ids_of s.border) told
     by_line None fits greeted = by_request fits greeted
     by_line (Some n) is greeted = unlisted _ _ (request_unfit d bound q askable n is greeted)
 
-    pub is_told : HasTold d committer bound share s told
+    pub is_told : HasTold d committer bound share s (ids_of s.border) told
     is_told =
         ⊎_elim
         (λ (far : bound < sum_by line_len (reply_lines d First)). unlisted _ _ (ungreeted d bound q askable far))

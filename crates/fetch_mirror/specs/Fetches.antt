@@ -1,5 +1,5 @@
 -- What a worker of a mirror asks its server for.
-use Rattle.std.specs.Prelude.{◌≡◌, ⊤, true, false, List, [], ◌∷◌, ◌++◌, None}
+use Rattle.std.specs.Prelude.{◌≡◌, ◌-◌, ⊤, true, false, List, [], ◌∷◌, ◌++◌, length, None, slice_get}
 use Rattle.std.specs.Option.{option_or}
 use Rattle.fetch_store.specs.declared.id.Kind.{Kind}
 use Rattle.fetch_store.specs.declared.id.ObjectId.{ObjectId}
@@ -23,7 +23,7 @@ use Rattle.fetch_conversation.specs.Rounds.{Negotiated}
 use Rattle.fetch_serve.specs.declared.asked.Asked.TheVariants.{Fetch}
 use Rattle.fetch_serve.specs.declared.asked.FetchAsked.{FetchAsked}
 use Rattle.fetch_serve.specs.Replies.{reply_lines}
-use Rattle.fetch_serve.specs.Requests.{has_id, nothing_asked}
+use Rattle.fetch_serve.specs.Requests.{has_id, is_greater, nothing_asked}
 use Rattle.fetch_serve.specs.Served.{Data}
 use Rattle.fetch_mirror.specs.Listings.{greeting_of}
 use Rattle.fetch_mirror.specs.Settings.{IsRead}
@@ -33,42 +33,52 @@ abbrev pub AreNew : Kind → List ObjectId → List ObjectId → Type 0
 AreNew hash before [] = ⊤
 AreNew hash before (id ∷ ids) = IsIdOf hash id × (has_id id before ≡ false) × AreNew hash (before ++ id ∷ []) ids
 
--- the request for these and all that they reach: no tags, no border, no haves, and done at once
-abbrev pub wanting_all : List ObjectId → FetchAsked
-wanting_all wants = record (nothing_asked V2) { wants = wants; done = true }
+-- Ids of this hash, each greater than the one before it, behind these: so a border is told.
+abbrev pub AreAbove : Kind → List ObjectId → List ObjectId → Type 0
+AreAbove hash before [] = ⊤
+AreAbove hash before (id ∷ ids) = IsIdOf hash id × (is_greater (slice_get before (length before - 1)) id ≡ true)
+    × AreAbove hash (before ++ id ∷ []) ids
 
--- The request of a worker, behind its server's greeting: these are wanted, without tags, a border and a change of the depth.
-pub record IsWanting (hash : Kind) (a : Asked) (id : ObjectId) (wants : List ObjectId) : Type 0 where
+-- the request for these and all that they reach, behind a border: no tags, no haves, and done at once
+abbrev pub wanting_behind : List ObjectId → List ObjectId → FetchAsked
+wanting_behind border wants = record (nothing_asked V2) { border = border; wants = wants; done = true }
+
+-- the same without a border
+abbrev pub wanting_all : List ObjectId → FetchAsked
+wanting_all wants = wanting_behind [] wants
+
+-- The request of a worker, behind its server's greeting and this border: these are wanted, without tags and a change of the depth.
+pub record IsWanting (hash : Kind) (a : Asked) (border : List ObjectId) (id : ObjectId) (wants : List ObjectId) : Type 0 where
   pub handshake : a.handshake ≡ greeting_of hash
   pub tags : a.tags ≡ tags.None
   pub shallow : a.shallow ≡ NoChange
-  pub border : ids_of a.border ≡ []
+  pub border_is : ids_of a.border ≡ border
   pub wanted : a.wants ≡ id ∷ wants
 
 -- The second stage of a worker, behind a listing: nothing is refused before it, some ids are wanted, no haves are told, and the
 -- server reads the request, whose reply tells this.
-pub record IsFetching (d : Data) (t : FetchArgumentsValue) (id : ObjectId) (wants : List ObjectId) (reply : FetchReply) : Type 0 where
+pub record IsFetching (d : Data) (t : FetchArgumentsValue) (border : List ObjectId) (id : ObjectId) (wants : List ObjectId)
+    (reply : FetchReply) : Type 0 where
   pub accepted : option_or (no_mapping t) (option_or (other_hash t) (option_or (unfit t.settings) (lacking t))) ≡ None
   pub wanted : t.view.wants ≡ id ∷ wants
   pub noop : algorithm_in t.settings ≡ algorithms.Noop
-  pub asked : IsWanting d.hash (asked_by t) id wants
+  pub asked : IsWanting d.hash (asked_by t) border id wants
+  pub above : AreAbove d.hash [] border
   pub new : AreNew d.hash [] (id ∷ wants)
   pub fits : first_too_long (fetch_request (asked_by t) [] true) ≡ None
-  pub tells : Tells step_of (start_of (await.Reply (reply_to t [] true))) (reply_lines d (Fetch (wanting_all (id ∷ wants))))
+  pub tells : Tells step_of (start_of (await.Reply (reply_to t [] true))) (reply_lines d (Fetch (wanting_behind border (id ∷ wants))))
       (told.Reply reply)
-  pub whole : first_too_long (reply_lines d (Fetch (wanting_all (id ∷ wants)))) ≡ None
+  pub whole : first_too_long (reply_lines d (Fetch (wanting_behind border (id ∷ wants)))) ≡ None
 
 -- what the one round of it ends with
 abbrev pub one_round : FetchReply → Negotiated
 one_round reply = record { rounds = record { haves = []; acknowledged = reply.acknowledged; done = true } ∷ []; reply = reply }
 
--- What a worker asks by, behind its server's greeting: the settings of a mirror, some reference mapped, and nothing of a border or a
--- depth.
+-- What a worker asks by, behind its server's greeting: the settings of a mirror, some reference mapped, and no change of the depth.
 pub record AreTerms (hash : Kind) (t : FetchArgumentsValue) : Type 0 where
   pub read : IsRead t.settings.config
   pub strict : t.settings.lenient ≡ false
   pub kind : t.settings.kind ≡ hash
   pub handshake : t.listed.handshake ≡ greeting_of hash
   pub mapped : is_nil t.listed.ref_map.mappings ≡ false
-  pub border : ids_of t.view.border ≡ []
   pub shallow : t.shallow ≡ NoChange

@@ -13,4 +13,5 @@ pub mod Mirroring
 pub mod Born
 pub mod Copying
 pub mod Limits
+pub mod Completeness
 pub mod Mirrors

@@ -1,5 +1,5 @@
 -- What is too long where a server is mirrored, and that nothing is refused but for that.
-use Rattle.std.specs.Prelude.{◌≡◌, ◌⊎◌, ℕ, ◌<◌, ◌≤◌, ⊤, List, [], ◌∷◌, map, true, false, codes, None, Some, slice_get, sum_by}
+use Rattle.std.specs.Prelude.{◌≡◌, ◌⊎◌, ℕ, ◌<◌, ◌≤◌, ⊤, List, [], ◌∷◌, map, true, false, codes, Some, slice_get, sum_by}
 use Rattle.std.specs.FinSet as set
 use Rattle.std.specs.List.{Contains}
 use Rattle.fetch_store.specs.Faults.{Rose}
@@ -11,7 +11,6 @@ use Rattle.fetch_pack.specs.declared.version.PackVersion.TheVariants.{V2}
 use Rattle.fetch_refs.specs.declared.log.Signature.{Signature}
 use Rattle.fetch_wire.specs.Lines.{line_len}
 use Rattle.fetch_wire.specs.Requests.{listing_lines}
-use Rattle.fetch_wire.specs.Written.{first_too_long}
 use Rattle.fetch_wire.specs.declared.error.WireError.TheVariants.{ReplyTooLong}
 use Rattle.fetch_wire.specs.declared.lines.line.Line.{Line}
 use Rattle.fetch_negotiate.specs.Requests.{fetch_request}
@@ -92,7 +91,6 @@ pub record MayBeWanted (d : Data) (share : List (List ℕ)) (wants : List Object
 
 -- A server reads the request for these, their pack isn't too large, and it is within the bound.
 pub record IsPackWithin (d : Data) (bound : ℕ) (wants : List ObjectId) : Type 0 where
-  pub line : first_too_long (request_for d.hash wants) ≡ None
   pub request : sum_by line_len (request_for d.hash wants) ≤ request_bound
   pub pack : is_too_large V2 (objects_of d (wanting_all wants)) ≡ false
   pub reply : sum_by line_len (reply_lines d (Fetch (wanting_all wants))) ≤ bound
@@ -100,7 +98,6 @@ pub record IsPackWithin (d : Data) (bound : ℕ) (wants : List ObjectId) : Type 
 -- Nothing that passes between a server and a worker with this share is too long, whatever is stored already.
 pub record IsWithin (d : Data) (bound : ℕ) (share : List (List ℕ)) : Type 0 where
   pub greeting : sum_by line_len (reply_lines d First) ≤ bound
-  pub line : first_too_long (listing_for d.hash share) ≡ None
   pub request : sum_by line_len (listing_for d.hash share) ≤ request_bound
   pub listing : sum_by line_len (reply_lines d (Listing true (prefixes_of (map as_itself share)))) ≤ bound
   pub packs : (id : ObjectId) (wants : List ObjectId) → MayBeWanted d share (id ∷ wants) → IsPackWithin d bound (id ∷ wants)

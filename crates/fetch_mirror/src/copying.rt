@@ -2,6 +2,7 @@
 
 ghost use Rattle.std.specs.Prelude.{◌≡◌, ◌≢◌, replicate, IfOk, IfErr, OnOk};
 ghost use Rattle.std.specs.FinSet as set;
+ghost use Rattle.fetch_mirror.specs.Completeness.{CanBeMirrored, MayBeRefused};
 ghost use Rattle.fetch_mirror.specs.Copying.{IsCopied, IsUncopied, fresh};
 ghost use Rattle.fetch_mirror.specs.Limits.{IsLimited};
 ghost use Rattle.fetch_mirror.specs.Mirrors.{IsMirrored};
@@ -27,6 +28,9 @@ use std::thread::Threads;
 /// `Workers` comes first, exactly where there are fewer workers than one or more than eight; then `Server`, exactly where
 /// `Server::new` refuses, and then `List` and `Worker`. `List` is `ReplyTooLong` alone, and comes only where the greeting or the
 /// listing passes `max_reply_bytes`.
+///
+/// Where the repository can be served and nothing is too long, no reply, request or pack, the mirror is made, unless memory runs
+/// out or two texts have one id.
 pub fn run_mirror<R: Threads + Wait + Sync>(
     rt: &R,
     alloc: Global,
@@ -43,6 +47,8 @@ pub fn run_mirror<R: Threads + Wait + Sync>(
     ensures refused { IfErr result (λ e. IsUncopied
         (data_of store.now refs.now) border.now options.committer options.workers options.max_reply_bytes e) }
     ensures limited { IfErr result (λ e. IsLimited (data_of store.now refs.now) options.max_reply_bytes e) }
+    ensures complete { IfErr result (λ e. CanBeMirrored
+        (data_of store.now refs.now) border.now options.workers options.max_reply_bytes → MayBeRefused (data_of store.now refs.now) e) }
 {
     if !is_few(options.workers) {
         return Err(MirrorError::Workers {

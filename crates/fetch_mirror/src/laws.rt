@@ -78,7 +78,7 @@ ghost use Rattle.fetch_mirror.specs.Born.{born_names};
 ghost use Rattle.fetch_mirror.specs.Copying.{fresh, given_by};
 ghost use Rattle.fetch_mirror.specs.Limits.{AreWithin, IsPeersFault, IsShare, IsTooLong, IsWithin, worker_given};
 ghost use Rattle.fetch_mirror.specs.Mirroring.{HasMirrored, IsFew, IsUnlisted, IsWorkerRefused};
-ghost use Rattle.fetch_mirror.specs.Fetches.{AreNew, AreTerms, IsFetching, IsWanting, one_round, wanting_all};
+ghost use Rattle.fetch_mirror.specs.Fetches.{AreAbove, AreNew, AreTerms, IsFetching, IsWanting, one_round, wanting_all, wanting_behind};
 ghost use Rattle.fetch_mirror.specs.GoingAlong.{GoesAlong, GoesTo, IsAlongByCases};
 ghost use Rattle.fetch_mirror.specs.Listings.{AreRising, IsHeard, asked_lines, greeting_of};
 ghost use Rattle.fetch_mirror.specs.Naming.{inquiry_by, names_of};
@@ -191,10 +191,11 @@ pub fn a_listing_goes_along_its_server()
         (Err (unlisted_by bound TooLong)) }
 {}
 
-/// A server reads the one fetch request of a worker.
+/// A server reads the one fetch request of a worker, also behind a border.
 pub fn requests_of_workers_are_read()
-    ensures { (hash : Kind) (a : Request) (id : ObjectId) (wants : List ObjectId) → IsWanting hash a id wants → AreNew hash [] (id ∷ wants)
-        → IsRequest hash true (fetch_request a [] true) (Fetching (wanting_all (id ∷ wants))) }
+    ensures { (hash : Kind) (a : Request) (border : List ObjectId) (id : ObjectId) (wants : List ObjectId)
+        → IsWanting hash a border id wants → AreAbove hash [] border → AreNew hash [] (id ∷ wants)
+        → IsRequest hash true (fetch_request a [] true) (Fetching (wanting_behind border (id ∷ wants))) }
 {}
 
 /// The prefixes that names under `refs/` ask for rise, as a server reads them.
@@ -206,10 +207,11 @@ pub fn prefixes_of_names_rise()
 /// The conversation of a worker goes along what its server gives: the pack of its one request is had, or nothing is wanted. A pack
 /// that passes the bound is too long, and a request that is longer than a server reads is answered by nothing.
 pub fn a_worker_goes_along_its_server()
-    ensures fetches { (d : Data) (g : Given) (s : State) (l : ListedValue) (id : ObjectId) (wants : List ObjectId) (reply : FetchReply)
-        (r : Option Received) → IsListed d g l → IsFetching d (terms_in g s l) id wants reply
+    ensures fetches { (d : Data) (g : Given) (s : State) (l : ListedValue) (border : List ObjectId) (id : ObjectId)
+        (wants : List ObjectId) (reply : FetchReply) (r : Option Received) → IsListed d g l
+        → IsFetching d (terms_in g s l) border id wants reply
         → sum_by line_len (fetch_request (asked_by (terms_in g s l)) [] true) ≤ request_bound
-        → sum_by line_len (reply_lines d (Fetching (wanting_all (id ∷ wants)))) ≤ bound_of g
+        → sum_by line_len (reply_lines d (Fetching (wanting_behind border (id ∷ wants)))) ≤ bound_of g
         → received (terms_in g s l) (one_round reply) ≡ Ok r
         → GoesAlong (bound_of g) (replies_of d) [] (conversation g s) (asked_lines d (inquiry_in g)
         ++ ((fetch_request (asked_by (terms_in g s l)) [] true ++ []) ++ [])) (Ok (record { listed = l; received = r })) }
@@ -219,14 +221,14 @@ pub fn a_worker_goes_along_its_server()
         → (terms_in g s l).view.wants ≡ []
         → GoesAlong (bound_of g) (replies_of d) [] (conversation g s) (asked_lines d (inquiry_in g) ++ ([] ++ []))
         (Ok (record { listed = l; received = None })) }
-    ensures long_pack { (d : Data) (g : Given) (s : State) (l : ListedValue) (id : ObjectId) (wants : List ObjectId) (reply : FetchReply)
-        → IsListed d g l → IsFetching d (terms_in g s l) id wants reply
+    ensures long_pack { (d : Data) (g : Given) (s : State) (l : ListedValue) (border : List ObjectId) (id : ObjectId)
+        (wants : List ObjectId) (reply : FetchReply) → IsListed d g l → IsFetching d (terms_in g s l) border id wants reply
         → sum_by line_len (fetch_request (asked_by (terms_in g s l)) [] true) ≤ request_bound
-        → bound_of g < sum_by line_len (reply_lines d (Fetching (wanting_all (id ∷ wants))))
+        → bound_of g < sum_by line_len (reply_lines d (Fetching (wanting_behind border (id ∷ wants))))
         → GoesAlong (bound_of g) (replies_of d) [] (conversation g s) (asked_lines d (inquiry_in g)
         ++ (fetch_request (asked_by (terms_in g s l)) [] true ++ [])) (Err (receiving (unreceived_by (bound_of g) TooLong))) }
-    ensures long_request { (d : Data) (g : Given) (s : State) (l : ListedValue) (id : ObjectId) (wants : List ObjectId) (reply : FetchReply)
-        → IsListed d g l → IsFetching d (terms_in g s l) id wants reply
+    ensures long_request { (d : Data) (g : Given) (s : State) (l : ListedValue) (border : List ObjectId) (id : ObjectId)
+        (wants : List ObjectId) (reply : FetchReply) → IsListed d g l → IsFetching d (terms_in g s l) border id wants reply
         → request_bound < sum_by line_len (fetch_request (asked_by (terms_in g s l)) [] true)
         → GoesAlong (bound_of g) (replies_of d) [] (conversation g s) (asked_lines d (inquiry_in g)
         ++ (fetch_request (asked_by (terms_in g s l)) [] true ++ [])) (Err (receiving (unreceived_by (bound_of g) (Short 0)))) }
