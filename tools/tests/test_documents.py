@@ -1,11 +1,13 @@
 """What the tools of documents make."""
 
 import os
+import re
 import tempfile
 import unittest
 
 from common import tool
-from realgit.trouble import Trouble
+from realgit.rows import CRATES
+from realgit.trouble import Trouble, read_file
 
 CRATE_MAP, CALL_INDEX, DEFINITIONS = tool("dev/crate-map"), tool("dev/call-index"), tool("dev/definitions")
 DEAD_NAMES, DOC_SIZES, QUOTES = tool("dev/dead-names"), tool("dev/doc-sizes"), tool("dev/quotes")
@@ -121,6 +123,21 @@ class Quotations(InAFolder):
     def test_the_documents_quote_what_stands_there(self):
         os.chdir(QUOTES.TOP)
         self.assertEqual([page for page, _ in QUOTES.differing()], [])
+
+
+class RowsNamed(unittest.TestCase):
+    NAMED = re.compile(r"(?:long: |`\w+`: )?(?:in `(\w+)`, )?(.*?)(?: \([^()]*\d[^()]*\))?")
+
+    def test_rows_that_meet_refusals_stand(self):
+        page = read_file(os.path.join(CRATES, "..", "docs", "evidence", "refusals.md")).decode()
+        tables = re.findall(r"^\| .* Rows \|\n.*\n((?:\|.*\n)+)", page, re.MULTILINE)
+        cells = [line.strip("| ").split(" | ")[-1] for table in tables for line in table.splitlines()]
+        named = [row for cell in cells for row in cell.split("; ") if row != "those above"]
+        self.assertGreater(len(named), 150)
+        for row in named:
+            crate, title = self.NAMED.fullmatch(row).groups()
+            rows = read_file(os.path.join(CRATES, crate or "fetch_rows", "stdin"))
+            self.assertRegex(rows, rb"(?m)^= (?:\w+ )?%b$" % re.escape(title.encode()), row)
 
 
 class Sizes(unittest.TestCase):
