@@ -4,8 +4,8 @@ use crate::editing::edit_of;
 use crate::words::{id_of, ids_of};
 use crate::world::World;
 use crate::{
-    calling, dated, judging, lines, negotiating, objects, reaching, references, replies, taking,
-    walks,
+    calling, dated, judging, lines, negotiating, objects, reaching, references, replies, sessions,
+    taking, walks,
 };
 use fetch_store::{Kind, NoMemory, ObjectId, ObjectKind, Store};
 use rows::{Question, say, split_word};
@@ -135,7 +135,10 @@ fn ask_of_lines(
     if lines::ask(alloc, question, out)? {
         return Ok(true);
     }
-    replies::ask(alloc, question, out)
+    if replies::ask(alloc, question, out)? {
+        return Ok(true);
+    }
+    sessions::ask(alloc, question, out)
 }
 
 /// Tells what is asked. Whether something is.

@@ -12,6 +12,7 @@ mod objects;
 mod reaching;
 mod references;
 mod replies;
+mod sessions;
 mod taking;
 mod walks;
 mod words;

@@ -1,0 +1,92 @@
+//! Sessions and readers of a reply, whose refusals stand.
+
+use fetch_store::NoMemory;
+use fetch_wire::{ParsedReply, ReplyBound, ReplyError, ReplyKind, ReplyReader, Session, WireError};
+use rows::{Question, decoded, say, say_number};
+use std::alloc::Global;
+
+/// What a session answers.
+fn tell_answer(answer: Result<(), WireError>, out: &mut Vec<u8>) -> Result<(), NoMemory> {
+    match answer {
+        Ok(()) => say(out, &[b"taken"]),
+        Err(WireError::NoMemory) => Err(NoMemory),
+        Err(WireError::Malformed { place }) => say_number(out, b"refused: broken at", place),
+        Err(WireError::ServerError { text }) => say(out, &[b"refused: said", text.as_bytes()]),
+        Err(WireError::MissingFeature { name }) => say(out, &[b"refused: lacks", name.as_bytes()]),
+        Err(WireError::ReplyTooLong { bound: _ }) => say(out, &[b"refused: too long"]),
+        Err(_) => say(out, &[b"refused otherwise"]),
+    }
+}
+
+/// Feeds a piece to a session of which all was sent.
+fn feed(session: &mut Session, piece: &[u8]) -> Result<(), WireError> {
+    let count = session.outgoing().len();
+    session.sent(count);
+    session.feed(piece)
+}
+
+/// `<piece>*`: feeds these pieces, each after all was sent, and then ends the session twice.
+fn tell_session(alloc: Global, rest: &[u8], out: &mut Vec<u8>) -> Result<(), NoMemory> {
+    let bound = ReplyBound::default();
+    let Ok(mut session) = Session::new(alloc, b"/srv/a.git", &[], b"a", &[], bound) else {
+        return Err(NoMemory);
+    };
+    for piece in rest.split(|b| *b == b' ') {
+        let piece = decoded(alloc, piece)?;
+        tell_answer(feed(&mut session, &piece), out)?;
+    }
+    tell_answer(session.end(), out)?;
+    tell_answer(session.end(), out)
+}
+
+/// What a reader of a greeting has found.
+fn tell_found(reader: &ReplyReader, out: &mut Vec<u8>) -> Result<(), NoMemory> {
+    match (reader.told(), reader.refusal()) {
+        (Some(ParsedReply::Greeting(_)), _) => {
+            say_number(
+                out,
+                b"a greeting, and bytes behind it:",
+                reader.rest().len(),
+            )
+        }
+        (Some(_), _) => say(out, &[b"another reply"]),
+        (None, Some(ReplyError::Broken { place })) => say_number(
+            out,
+            b"refused: broken at",
+            *place,
+        ),
+        (None, Some(ReplyError::TooLong)) => say(out, &[b"refused: too long"]),
+        (None, Some(ReplyError::Said { text })) => say(out, &[b"refused: said", text.as_bytes()]),
+        (None, _) => say_number(out, b"awaited, with a line at", reader.place()),
+    }
+}
+
+/// `<piece>*`: feeds these pieces to a reader of a greeting.
+fn tell_greeting(alloc: Global, rest: &[u8], out: &mut Vec<u8>) -> Result<(), NoMemory> {
+    let mut reader = ReplyReader::new(alloc, ReplyBound::default(), ReplyKind::Greeting);
+    for piece in rest.split(|b| *b == b' ') {
+        let piece = decoded(alloc, piece)?;
+        if reader.feed(&piece).is_err() {
+            return Err(NoMemory);
+        }
+        tell_found(&reader, out)?;
+    }
+    Ok(())
+}
+
+/// Tells what is asked of a session. Whether something is.
+pub(crate) fn ask(
+    alloc: Global,
+    question: Question<'_>,
+    out: &mut Vec<u8>,
+) -> Result<bool, NoMemory> {
+    let Question { what, rest } = question;
+    if what == b"session".as_slice() {
+        tell_session(alloc, rest, out)?;
+    } else if what == b"greeting".as_slice() {
+        tell_greeting(alloc, rest, out)?;
+    } else {
+        return Ok(false);
+    }
+    Ok(true)
+}
