@@ -36,10 +36,16 @@ fn feed(
     }
 }
 
-fn tell_refusal(out: &mut Vec<u8>, refusal: &Option<WireError>) -> Result<(), NoMemory> {
+/// Why a call is refused, if it is.
+pub(crate) fn tell_refusal(out: &mut Vec<u8>, refusal: &Option<WireError>) -> Result<(), NoMemory> {
     match refusal {
         None => say(out, &[b"taken"]),
+        Some(WireError::NoMemory) => Err(NoMemory),
         Some(WireError::Malformed { place }) => say_number(out, b"refused: broken at", *place),
+        Some(WireError::ServerError { text }) => say(out, &[b"refused: said", text.as_bytes()]),
+        Some(WireError::MissingFeature { name }) => {
+            say(out, &[b"refused: lacks", name.as_bytes()])
+        }
         Some(WireError::ReplyTooLong { .. }) => say(out, &[b"refused: too long"]),
         Some(_) => say(out, &[b"refused otherwise"]),
     }

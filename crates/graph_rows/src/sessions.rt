@@ -1,5 +1,6 @@
 //! Sessions and readers of a reply, whose refusals stand.
 
+use crate::replies::tell_refusal;
 use fetch_store::NoMemory;
 use fetch_wire::{ParsedReply, ReplyBound, ReplyError, ReplyKind, ReplyReader, Session, WireError};
 use rows::{Question, decoded, say, say_number};
@@ -8,13 +9,8 @@ use std::alloc::Global;
 /// What a session answers.
 fn tell_answer(answer: Result<(), WireError>, out: &mut Vec<u8>) -> Result<(), NoMemory> {
     match answer {
-        Ok(()) => say(out, &[b"taken"]),
-        Err(WireError::NoMemory) => Err(NoMemory),
-        Err(WireError::Malformed { place }) => say_number(out, b"refused: broken at", place),
-        Err(WireError::ServerError { text }) => say(out, &[b"refused: said", text.as_bytes()]),
-        Err(WireError::MissingFeature { name }) => say(out, &[b"refused: lacks", name.as_bytes()]),
-        Err(WireError::ReplyTooLong { bound: _ }) => say(out, &[b"refused: too long"]),
-        Err(_) => say(out, &[b"refused otherwise"]),
+        Ok(()) => tell_refusal(out, &None),
+        Err(refusal) => tell_refusal(out, &Some(refusal)),
     }
 }
 
