@@ -324,6 +324,7 @@ fn add_names_of(
 }
 
 /// What a refspec maps of a name that stands at a place.
+// Many arguments: those of the call that looks the place up, with the name and the place.
 fn add_name_at(
     alloc: Global,
     found: &mut Found,

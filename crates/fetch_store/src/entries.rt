@@ -209,7 +209,8 @@ pub(crate) fn merge_by<X>(
 
 /// Takes the last entry off, where its id is greater than this one.
 fn pop_above<X>(entries: &mut Vec<(ObjectId, X)>, id: &ObjectId) -> Option<(ObjectId, X)>
-    ensures entries { MatchOption result (entries.new.items ≡ entries.old.items) (λ last. entries.old.items ≡ entries.new.items ++ last ∷ []) }
+    ensures entries { MatchOption result (entries.new.items ≡ entries.old.items) (λ last. entries.old.items ≡ entries.new.items
+        ++ last ∷ []) }
     ensures above { is_some result ≡ ends_above id.now entries.old.items }
     ensures capacity { vec_capacity entries.new ≡ vec_capacity entries.old }
 {
