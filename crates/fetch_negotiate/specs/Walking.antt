@@ -8,7 +8,7 @@ use Rattle.fetch_negotiate.specs.Commits.{Known}
 use Rattle.fetch_negotiate.specs.Exact.{IsExact}
 use Rattle.fetch_negotiate.specs.Haves.{Negotiation}
 use Rattle.fetch_negotiate.specs.Queues.{IsFrontierIn, tips_in}
-use Rattle.fetch_negotiate.specs.Reading.{Table, Grows, read_in, commit_at}
+use Rattle.fetch_negotiate.specs.Reading.{Table, Grows, IsTold, read_in, commit_at}
 use Rattle.fetch_negotiate.specs.Sharing.{IsCommonIn, Extends}
 
 -- What a walk keeps, of what is shared and of its frontier.
@@ -24,6 +24,18 @@ so_far_in w = record {
   taken = w.frontier.taken.items;
   acknowledged = w.common.acknowledged.items;
 }
+
+-- A walk over a graph, which tells what was read.
+pub record IsWalkOver (g : Graph) (w : HaveWalk) : Type 0 where
+  pub walk : IsWalk w
+  pub told : IsTold (read_in w.table) g
+
+-- More of the graph may have been read, and the walk is where it was.
+pub record ReadsOn (g : Graph) (w v : HaveWalk) : Type 0 where
+  pub walk : IsWalk v
+  pub told : IsTold (read_in v.table) g
+  pub grows : Grows (read_in w.table) (read_in v.table)
+  pub so_far : so_far_in v ≡ so_far_in w
 
 -- what a table knows, as a finite map
 abbrev pub known_in : Table → Known

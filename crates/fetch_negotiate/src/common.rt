@@ -1,6 +1,8 @@
 //! The acknowledged commits and their ancestors.
 
-ghost use Rattle.std.specs.Prelude.{◌≡◌, ◌+◌, ◌<◌, [], ◌∷◌, ◌++◌, true, IfOk, OnOk, OnErr, length, is_some, if◌then◌else◌};
+ghost use Rattle.std.specs.Prelude.{◌≡◌, [], ◌∷◌, ◌++◌, true, IfOk, OnOk, OnErr, is_some, if◌then◌else◌};
+ghost use Rattle.std.specs.FinSet as set;
+ghost use Rattle.fetch_store.specs.Stores.{id_cmp};
 ghost use Rattle.fetch_negotiate.specs.Commits.{has};
 ghost use Rattle.fetch_negotiate.specs.Copies.{IsSameCommon};
 ghost use Rattle.fetch_negotiate.specs.Exact.{IsExact};
@@ -87,15 +89,14 @@ fn mark(common: &mut Common, alloc: Global, id: &ObjectId) -> Result<(), NoMemor
 fn mark_one<O: Objects>(
     common: &mut Common,
     table: &mut Table,
-    border: &Border,
     alloc: Global,
     objects: &O,
     id: &ObjectId,
 ) -> Result<(), NoMemory>
-    requires common { IsCommonIn (read_in table.old) border.now common.old }
+    requires marked { IsMarked common.old.marked common.old.commits.items }
     requires told { IsTold (read_in table.old) (O.graph objects.now) }
-    requires within { IsWithin (read_in table.old) border.now common.old.acknowledged.items id.now }
-    ensures common { IsCommonIn (read_in table.new) border.now common.new }
+    ensures common { (border : set.FinSet id_cmp) → IsCommonIn (read_in table.old) border common.old
+        → IsWithin (read_in table.old) border common.old.acknowledged.items id.now → IsCommonIn (read_in table.new) border common.new }
     ensures told { IsTold (read_in table.new) (O.graph objects.now) }
     ensures grows { Grows (read_in table.old) (read_in table.new) }
     ensures more { Extends common.old.commits.items common.new.commits.items }
@@ -138,59 +139,8 @@ fn mark_parents<O: Objects>(
     let count = links(table, border, id).len();
     for index in 0..count {
         let parent = links(table, border, id)[index];
-        mark_one(common, table, border, alloc, objects, &parent)?;
+        mark_one(common, table, alloc, objects, &parent)?;
     }
-    Ok(())
-}
-
-/// Marks the parents of the first commit whose parents aren't marked yet.
-#[tactic(auto, using(crate::proofs::Commons::covers))]
-fn close_next<O: Objects>(
-    common: &mut Common,
-    table: &mut Table,
-    border: &Border,
-    alloc: Global,
-    objects: &O,
-) -> Result<(), NoMemory>
-    requires common { IsCommonIn (read_in table.old) border.now common.old }
-    requires told { IsTold (read_in table.old) (O.graph objects.now) }
-    requires open { common.old.closed < length common.old.commits.items }
-    ensures common { IsCommonIn (read_in table.new) border.now common.new }
-    ensures told { IsTold (read_in table.new) (O.graph objects.now) }
-    ensures grows { Grows (read_in table.old) (read_in table.new) }
-    ensures more { Covers common.old.commits.items common.new.commits.items }
-    ensures acknowledged { common.new.acknowledged ≡ common.old.acknowledged }
-    ensures finished { common.new.finished ≡ common.old.finished }
-    ensures closed { OnOk result (common.new.closed ≡ common.old.closed + 1) }
-{
-    let id = common.commits[common.closed];
-    mark_parents(common, table, border, alloc, objects, &id)?;
-    common.closed += 1;
-    Ok(())
-}
-
-/// Marks the first acknowledged id that isn't marked yet.
-#[tactic(auto, using(crate::proofs::Commons::covers))]
-fn finish_next<O: Objects>(
-    common: &mut Common,
-    table: &mut Table,
-    border: &Border,
-    alloc: Global,
-    objects: &O,
-) -> Result<(), NoMemory>
-    requires common { IsCommonIn (read_in table.old) border.now common.old }
-    requires told { IsTold (read_in table.old) (O.graph objects.now) }
-    requires open { common.old.finished < length common.old.acknowledged.items }
-    ensures common { IsCommonIn (read_in table.new) border.now common.new }
-    ensures told { IsTold (read_in table.new) (O.graph objects.now) }
-    ensures grows { Grows (read_in table.old) (read_in table.new) }
-    ensures more { Covers common.old.commits.items common.new.commits.items }
-    ensures acknowledged { common.new.acknowledged ≡ common.old.acknowledged }
-    ensures finished { OnOk result (common.new.finished ≡ common.old.finished + 1) }
-{
-    let id = common.acknowledged[common.finished];
-    mark_one(common, table, border, alloc, objects, &id)?;
-    common.finished += 1;
     Ok(())
 }
 
@@ -213,10 +163,14 @@ pub(crate) fn mark_acknowledged<O: Objects>(
     ensures exact { OnOk result (IsExact (O.graph objects.now) border.now common.new.acknowledged.items common.new.commits.items) }
 {
     'acknowledged: while common.finished < common.acknowledged.len() {
-        finish_next(common, table, border, alloc, objects)?;
+        let id = common.acknowledged[common.finished];
+        mark_one(common, table, alloc, objects, &id)?;
+        common.finished += 1;
     }
     'marked: while common.closed < common.commits.len() {
-        close_next(common, table, border, alloc, objects)?;
+        let id = common.commits[common.closed];
+        mark_parents(common, table, border, alloc, objects, &id)?;
+        common.closed += 1;
     }
     Ok(())
 }

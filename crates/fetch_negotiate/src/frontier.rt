@@ -1,6 +1,6 @@
 //! The commits that may be told next.
 
-ghost use Rattle.std.specs.Prelude.{◌≡◌, ◌+◌, ◌<◌, ◌≤◌, true, [], ◌∷◌, ◌++◌, IfOk, IfSome, IfNone, OnOk, OnErr, length, is_some};
+ghost use Rattle.std.specs.Prelude.{◌≡◌, ◌≤◌, true, [], ◌∷◌, ◌++◌, IfOk, IfSome, IfNone, OnOk, OnErr, length, is_some};
 ghost use Rattle.std.specs.Option.{option_map_or};
 ghost use Rattle.fetch_negotiate.specs.Commits.{has};
 ghost use Rattle.fetch_negotiate.specs.Copies.{IsSameFrontier};
@@ -74,36 +74,7 @@ fn seconds(table: &Table, id: &ObjectId) -> u64
     }
 }
 
-/// Reads the next candidate, and puts it into the queue where it is a stored commit.
-fn enter_next<O: Objects>(
-    frontier: &mut Frontier,
-    table: &mut Table,
-    border: &Border,
-    common: &Common,
-    alloc: Global,
-    objects: &O,
-) -> Result<(), NoMemory>
-    requires frontier { IsFrontierIn (read_in table.old) border.now common.now.commits.items frontier.old }
-    requires told { IsTold (read_in table.old) (O.graph objects.now) }
-    requires open { frontier.old.entered < length frontier.old.candidates.items }
-    ensures frontier { IsFrontierIn (read_in table.new) border.now common.now.commits.items frontier.new }
-    ensures told { IsTold (read_in table.new) (O.graph objects.now) }
-    ensures grows { Grows (read_in table.old) (read_in table.new) }
-    ensures tips { frontier.new.tips ≡ frontier.old.tips }
-    ensures candidates { frontier.new.candidates ≡ frontier.old.candidates }
-    ensures taken { frontier.new.taken ≡ frontier.old.taken }
-    ensures entered { OnOk result (frontier.new.entered ≡ frontier.old.entered + 1) }
-{
-    let id = frontier.candidates[frontier.entered];
-    let stored = read(table, alloc, objects, &id)?;
-    if stored {
-        frontier.queue.insert((Reverse(seconds(table, &id)), id))?;
-    }
-    frontier.entered += 1;
-    Ok(())
-}
-
-/// Puts each candidate that is a stored commit into the queue.
+/// Reads each candidate, and puts it into the queue where it is a stored commit.
 pub(crate) fn enter<O: Objects>(
     frontier: &mut Frontier,
     table: &mut Table,
@@ -123,7 +94,12 @@ pub(crate) fn enter<O: Objects>(
     ensures entered { OnOk result (length frontier.new.candidates.items ≤ frontier.new.entered) }
 {
     'candidates: while frontier.entered < frontier.candidates.len() {
-        enter_next(frontier, table, border, common, alloc, objects)?;
+        let id = frontier.candidates[frontier.entered];
+        let stored = read(table, alloc, objects, &id)?;
+        if stored {
+            frontier.queue.insert((Reverse(seconds(table, &id)), id))?;
+        }
+        frontier.entered += 1;
     }
     Ok(())
 }

@@ -46,7 +46,10 @@ pub fn request_of(
     ensures done { IfOk result (λ r. r.done ≡ done) }
     ensures memory { IfErr result (λ e. e ≡ errors.NoMemory) }
 {
-    let lines = text_lines(alloc, handshake, agent, tags, shallow, border, wants)?;
+    let mut lines = Vec::new(alloc);
+    push_head(alloc, &mut lines, handshake, agent)?;
+    push_word(alloc, &mut lines, pack_word(handshake))?;
+    push_details(alloc, &mut lines, tags, shallow, border, wants)?;
     let mut haves = each_once(alloc, acknowledged)?;
     haves.extend_from_slice(window)?;
     Ok(Request {
@@ -54,26 +57,6 @@ pub fn request_of(
         haves: List::from(haves),
         done,
     })
-}
-
-// Many arguments: those of `request_of` but the haves.
-fn text_lines(
-    alloc: Global,
-    handshake: &Handshake,
-    agent: &[u8],
-    tags: Tags,
-    shallow: &Shallow,
-    border: &Border,
-    wants: &[ObjectId],
-) -> Result<Vec<Text>, NoMemory>
-    ensures { IfOk result (λ lines. lines.items ≡ spec.head_of handshake.now agent.now
-        ++ spec.asked_of (spec.pack_word handshake.now) tags shallow.now border.now wants.now) }
-{
-    let mut lines = Vec::new(alloc);
-    push_head(alloc, &mut lines, handshake, agent)?;
-    push_word(alloc, &mut lines, pack_word(handshake))?;
-    push_details(alloc, &mut lines, tags, shallow, border, wants)?;
-    Ok(lines)
 }
 
 #[tactic(auto, unfolding(fetch_wire::specs::RequestWords::command_word))]

@@ -12,7 +12,7 @@ ghost use Rattle.fetch_negotiate.specs.Reading.{Grows, IsTold, commit_at, links_
 ghost use Rattle.fetch_negotiate.specs.Sharing.{Covers};
 ghost use Rattle.fetch_negotiate.specs.Skipped.{IsSkipping, AnyStored, HasParents, IsOffered};
 ghost use Rattle.fetch_negotiate.specs.Skips.{offers, next_offered};
-ghost use Rattle.fetch_negotiate.specs.Walking.{GoesOn, IsWalk, IsRead, so_far_in, known_in};
+ghost use Rattle.fetch_negotiate.specs.Walking.{GoesOn, IsWalk, IsWalkOver, IsRead, ReadsOn, so_far_in, known_in};
 
 use crate::commits::{Table, read};
 use crate::links::links;
@@ -95,7 +95,15 @@ impl Negotiator for Skipping {
         ensures told { IsTold (read_by self.new.known) (O.graph objects.now) }
     {
         self.offered.reserve(1)?;
-        match skip_or_stay(&mut self.walk, &mut self.skips, alloc, objects)? {
+        let mark = Mark::of(&self.walk, &self.skips);
+        let next = match skip_on(&mut self.walk, &mut self.skips, alloc, objects) {
+            Ok(next) => next,
+            Err(NoMemory) => {
+                give_back(&mut self.walk, &mut self.skips, mark);
+                return Err(NoMemory);
+            }
+        };
+        match next {
             Some(id) => {
                 self.offered.push_reserved(id);
                 Ok(Some(id))
@@ -117,32 +125,6 @@ impl Negotiator for Skipping {
         ensures told { IsTold (read_by self.new.known) (O.graph _objects.now) }
     {
         share(&mut self.walk, id)
-    }
-}
-
-/// Takes commits until one is offered or none is left. Where memory runs out, none was taken.
-fn skip_or_stay<O: Objects>(
-    walk: &mut HaveWalk,
-    skips: &mut Skips,
-    alloc: Global,
-    objects: &O,
-) -> Result<Option<ObjectId>, NoMemory>
-    requires skipping { IsSkipping walk.old skips.old }
-    requires told { IsTold (read_in walk.old.table) (O.graph objects.now) }
-    ensures skipping { IsSkipping walk.new skips.new }
-    ensures told { IsTold (read_in walk.new.table) (O.graph objects.now) }
-    ensures next { IfOk result (λ next. next ≡ (next_offered (O.graph objects.now) (so_far_in walk.old)).have) }
-    ensures ok { OnOk result (so_far_in walk.new ≡ (next_offered (O.graph objects.now) (so_far_in walk.old)).later) }
-    ensures err { OnErr result (so_far_in walk.new ≡ so_far_in walk.old) }
-    ensures more { Covers walk.old.frontier.taken.items walk.new.frontier.taken.items }
-{
-    let mark = Mark::of(walk, skips);
-    match skip_on(walk, skips, alloc, objects) {
-        Ok(next) => Ok(next),
-        Err(NoMemory) => {
-            give_back(walk, skips, mark);
-            Err(NoMemory)
-        }
     }
 }
 
@@ -227,13 +209,9 @@ fn is_offered<O: Objects>(
     skip: Skip,
     id: &ObjectId,
 ) -> Result<bool, NoMemory>
-    requires walk { IsWalk walk.old }
-    requires told { IsTold (read_in walk.old.table) (O.graph objects.now) }
+    requires over { IsWalkOver (O.graph objects.now) walk.old }
     requires read { IsRead walk.old id.now }
-    ensures walk { IsWalk walk.new }
-    ensures told { IsTold (read_in walk.new.table) (O.graph objects.now) }
-    ensures grows { Grows (read_in walk.old.table) (read_in walk.new.table) }
-    ensures so_far { so_far_in walk.new ≡ so_far_in walk.old }
+    ensures stays { ReadsOn (O.graph objects.now) walk.old walk.new }
     ensures offered { IfOk result (λ offered. IsOffered (read_in walk.new.table) walk.old.border skip id.now offered) }
 {
     if skip.left == 0 {
@@ -250,13 +228,9 @@ fn has_parents<O: Objects>(
     objects: &O,
     id: &ObjectId,
 ) -> Result<bool, NoMemory>
-    requires walk { IsWalk walk.old }
-    requires told { IsTold (read_in walk.old.table) (O.graph objects.now) }
+    requires over { IsWalkOver (O.graph objects.now) walk.old }
     requires read { IsRead walk.old id.now }
-    ensures walk { IsWalk walk.new }
-    ensures told { IsTold (read_in walk.new.table) (O.graph objects.now) }
-    ensures grows { Grows (read_in walk.old.table) (read_in walk.new.table) }
-    ensures so_far { so_far_in walk.new ≡ so_far_in walk.old }
+    ensures stays { ReadsOn (O.graph objects.now) walk.old walk.new }
     ensures has { IfOk result (λ has. HasParents (read_in walk.new.table) walk.old.border id.now has) }
 {
     any_stored(&mut walk.table, &walk.border, alloc, objects, id)

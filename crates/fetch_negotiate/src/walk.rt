@@ -6,8 +6,8 @@ ghost use Rattle.fetch_negotiate.specs.Commits.{has};
 ghost use Rattle.fetch_negotiate.specs.Copies.{IsSameWalk};
 ghost use Rattle.fetch_negotiate.specs.Haves.{started, taking, acknowledging, next_taken};
 ghost use Rattle.fetch_negotiate.specs.Queues.{IsChosen, IsNone};
-ghost use Rattle.fetch_negotiate.specs.Reading.{Grows, IsTold, read_in};
-ghost use Rattle.fetch_negotiate.specs.Walking.{IsWalk, IsReady, IsRead, so_far_in, known_in};
+ghost use Rattle.fetch_negotiate.specs.Reading.{IsTold, read_in};
+ghost use Rattle.fetch_negotiate.specs.Walking.{IsWalk, IsWalkOver, IsReady, IsRead, ReadsOn, so_far_in, known_in};
 
 use crate::commits::{Table, copy_table};
 use crate::common::{Common, acknowledge, mark_acknowledged};
@@ -63,12 +63,8 @@ pub(crate) fn come_next<O: Objects>(
     alloc: Global,
     objects: &O,
 ) -> Result<Option<ObjectId>, NoMemory>
-    requires walk { IsWalk walk.old }
-    requires told { IsTold (read_in walk.old.table) (O.graph objects.now) }
-    ensures walk { IsWalk walk.new }
-    ensures told { IsTold (read_in walk.new.table) (O.graph objects.now) }
-    ensures grows { Grows (read_in walk.old.table) (read_in walk.new.table) }
-    ensures so_far { so_far_in walk.new ≡ so_far_in walk.old }
+    requires { IsWalkOver (O.graph objects.now) walk.old }
+    ensures stays { ReadsOn (O.graph objects.now) walk.old walk.new }
     ensures next { IfOk result (λ next. next ≡ next_taken (O.graph objects.now) (so_far_in walk.old)) }
     ensures read { IfOk result (λ next. IfSome next (IsRead walk.new)) }
 {
@@ -100,8 +96,7 @@ pub(crate) fn advance<O: Objects>(
     alloc: Global,
     objects: &O,
 ) -> Result<Option<ObjectId>, NoMemory>
-    requires walk { IsWalk walk.old }
-    requires told { IsTold (read_in walk.old.table) (O.graph objects.now) }
+    requires { IsWalkOver (O.graph objects.now) walk.old }
     ensures walk { IsWalk walk.new }
     ensures told { IsTold (read_in walk.new.table) (O.graph objects.now) }
     ensures next { IfOk result (λ next. next ≡ next_taken (O.graph objects.now) (so_far_in walk.old)) }
@@ -130,12 +125,8 @@ pub(crate) fn share(walk: &mut HaveWalk, id: &ObjectId) -> Result<(), NoMemory>
 
 /// Marks what is common, and puts each candidate into the queue.
 fn prepare<O: Objects>(walk: &mut HaveWalk, alloc: Global, objects: &O) -> Result<(), NoMemory>
-    requires walk { IsWalk walk.old }
-    requires told { IsTold (read_in walk.old.table) (O.graph objects.now) }
-    ensures walk { IsWalk walk.new }
-    ensures told { IsTold (read_in walk.new.table) (O.graph objects.now) }
-    ensures grows { Grows (read_in walk.old.table) (read_in walk.new.table) }
-    ensures so_far { so_far_in walk.new ≡ so_far_in walk.old }
+    requires { IsWalkOver (O.graph objects.now) walk.old }
+    ensures stays { ReadsOn (O.graph objects.now) walk.old walk.new }
     ensures ready { OnOk result (IsReady (O.graph objects.now) walk.new) }
 {
     mark_acknowledged(

@@ -25,16 +25,16 @@ pub(crate) fn are_commits<O: Objects>(objects: &O, id: &ObjectId, other: &Object
     objects.is_commit(other)
 }
 
-/// Whether a dated path leads from one commit to another.
+/// Whether a dated path leads from the remote's commit to the local one.
 pub(crate) fn is_ahead<O: Objects>(
     alloc: Global,
     objects: &O,
-    from: &ObjectId,
-    to: &ObjectId,
+    remote: &ObjectId,
+    local: &ObjectId,
 ) -> Result<bool, NoMemory>
-    requires from { IsCommit (O.graph objects.now) from.now }
-    requires to { IsCommit (O.graph objects.now) to.now }
-    ensures { IfOk result (λ found. found ≡ ahead.is_ahead (O.graph objects.now) from.now to.now) }
+    requires remote { IsCommit (O.graph objects.now) remote.now }
+    requires local { IsCommit (O.graph objects.now) local.now }
+    ensures { IfOk result (λ found. found ≡ ahead.is_ahead (O.graph objects.now) remote.now local.now) }
 {
-    Ok(has_dated_path(alloc, objects, from, to)?)
+    Ok(has_dated_path(alloc, objects, remote, local)?)
 }

@@ -4,19 +4,22 @@ use Rattle.fetch_negotiate.specs.Reading.{Table, Grows, IsTold, read_in}
 use Rattle.fetch_negotiate.proofs.Taking.{so_far_same, ready_same, chosen_next}
 use Rattle.fetch_negotiate.proofs.walk.come_next.Goals as goal
 
-pub returns-clause-so_far : goal.returns-clause-so_far
-returns-clause-so_far g c =
+pub returns-clause-stays : goal.returns-clause-stays
+returns-clause-stays g c =
     let e = c.choose.ensures in
-    so_far_same c.prepare.new.walk c.choose.new.walk e.border e.tips e.candidates e.taken (λ i. (e.common i).acknowledged) ∙ c.in_ok-prepare.ensures.so_far
+    let p = c.in_ok-prepare.ensures.stays in
+    record {
+      walk = e.walk;
+      told = subst (λ (t : Table). IsTold (read_in t) (g.O.Objects.graph c.args.objects.now)) (sym e.table) p.told;
+      grows = subst (λ (t : Table). Grows (read_in c.args.walk.now.table) (read_in t)) (sym e.table) p.grows;
+      so_far = so_far_same c.prepare.new.walk c.choose.new.walk e.border e.tips e.candidates e.taken (λ i. (e.common i).acknowledged) ∙ p.so_far;
+    }
 
 pub returns-clause-next : goal.returns-clause-next
 returns-clause-next g c =
     let e = c.choose.ensures in
-    let p = c.in_ok-prepare.ensures in
+    let p = c.in_ok-prepare.ensures.stays in
     let graph = g.O.Objects.graph c.args.objects.now in
     let told : IsTold (read_in c.choose.new.walk.table) graph = subst (λ (t : Table). IsTold (read_in t) graph) (sym e.table) p.told in
-    chosen_next graph c.choose.new.walk c.choose.result told (ready_same graph c.prepare.new.walk c.choose.new.walk e.border e.common e.candidates e.entered p.ready) e.walk e.chosen e.none
+    chosen_next graph c.choose.new.walk c.choose.result told (ready_same graph c.prepare.new.walk c.choose.new.walk e.border e.common e.candidates e.entered c.in_ok-prepare.ensures.ready) e.walk e.chosen e.none
     ∙ ap (λ (n : Negotiation). next_taken graph n) (so_far_same c.prepare.new.walk c.choose.new.walk e.border e.tips e.candidates e.taken (λ i. (e.common i).acknowledged) ∙ p.so_far)
-
-pub returns-clause-grows : goal.returns-clause-grows
-returns-clause-grows g c = subst (λ (t : Table). Grows (read_in c.args.walk.now.table) (read_in t)) (sym c.choose.ensures.table) c.in_ok-prepare.ensures.grows

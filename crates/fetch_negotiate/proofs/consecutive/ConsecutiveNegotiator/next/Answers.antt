@@ -8,10 +8,13 @@ use Rattle.fetch_negotiate.proofs.Growing.{told_by, told_in}
 use Rattle.fetch_negotiate.proofs.Nexts.{ok_stored, ok_fresh}
 use Rattle.fetch_negotiate.proofs.consecutive.ConsecutiveNegotiator.next.Goals as goal
 
-pub advance-requires-clause-told : goal.advance-requires-clause-told
-advance-requires-clause-told g c =
+pub advance-requires : goal.advance-requires
+advance-requires g c =
     let graph = g.O.Objects.graph c.args.objects.now in
-    told_in c.self.inside.walk.table graph (subst (λ (v : Kept). IsTold (read_by v.known) graph) (sym c.self.view_is) c.requires)
+    record {
+      walk = c.self.invariant;
+      told = told_in c.self.inside.walk.table graph (subst (λ (v : Kept). IsTold (read_by v.known) graph) (sym c.self.view_is) c.requires);
+    }
 
 pub returns-clause-stored : goal.returns-clause-stored
 returns-clause-stored g c = ok_stored (g.O.Objects.graph c.args.objects.now) (so_far_in c.self.inside.walk) c.advance.result c.advance.ensures.next
