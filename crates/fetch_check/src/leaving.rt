@@ -1,18 +1,16 @@
 //! What the direct references don't reach.
 
-ghost use Rattle.std.specs.Prelude.{◌≡◌, ◌<◌, ◌↔◌, IfOk, Contains};
+ghost use Rattle.std.specs.Prelude.{◌≡◌, ◌↔◌, IfOk, Contains};
 ghost use Rattle.std.specs.List.Sorted.{IsStrictlySortedBy};
 ghost use Rattle.fetch_store.specs.declared.id.ObjectId.{ObjectId as Id};
 ghost use Rattle.fetch_store.specs.Closed.{Reached, holding};
 ghost use Rattle.fetch_store.specs.Stores.{id_cmp};
 ghost use Rattle.fetch_check.specs.Finding.{AreUnreached, direct_ids};
 
-use fetch_reach::difference;
+use fetch_reach::{difference, reached_from};
 use fetch_refs::{Refs, TargetRef};
-use fetch_store::{Border, List, NoMemory, ObjectId, Steps, Store, reached};
+use fetch_store::{Border, List, NoMemory, ObjectId, Store};
 use std::alloc::Global;
-use std::marker::Brand;
-use std::sync::ledger::{Blank, Ledger};
 
 /// The stored ids that aren't reached from the direct references, ascending.
 pub(crate) fn unreached(
@@ -43,25 +41,7 @@ pub(crate) fn reached_from_refs(
     ensures ascending { IfOk result (λ ids. IsStrictlySortedBy id_cmp ids) }
 {
     let starts = direct_ids(alloc, refs)?;
-    uncounted::<Brand>(alloc, store, border, starts.as_slice(), Blank::new(1))
-}
-
-/// `reached`, where nobody counts the steps.
-pub(crate) fn uncounted<L: Ledger>(
-    alloc: Global,
-    store: &Store,
-    border: &Border,
-    starts: &[ObjectId],
-    blank: Blank,
-) -> Result<List<ObjectId>, NoMemory>
-    requires name { blank.name ≡ L.name }
-    requires parts { blank.parts ≡ L.parts }
-    requires some { 0 < blank.parts }
-    ensures ids { IfOk result (λ ids. (id : Id) → Contains ids id ↔ Reached (holding store.now.objects border.now) starts.now id) }
-    ensures ascending { IfOk result (λ ids. IsStrictlySortedBy id_cmp ids) }
-{
-    let mut steps: Steps<L> = Steps::new(blank);
-    reached(alloc, store, border, starts, &mut steps)
+    reached_from(alloc, store, border, starts.as_slice())
 }
 
 /// The ids of the direct references, in the order of their names.

@@ -26,6 +26,7 @@ pub use error::BundleError;
 pub use findings::{Broken, BrokenCause, Findings};
 pub use keep_error::KeepError;
 pub use keeping::{load_bundle, save_bundle};
+pub use making::make_unlogged;
 pub use reading::{Bundle, read_bundle};
 pub use state::State;
 pub use telling::append_findings;

@@ -34,7 +34,7 @@ pub(crate) fn refs_of(
         offset_minutes: 0,
     };
     let mut refs = Refs::new(alloc, hash);
-    make(&mut refs, edits.as_slice(), &nobody)?;
+    make_unlogged(&mut refs, edits.as_slice(), &nobody)?;
     Ok(refs)
 }
 
@@ -67,8 +67,12 @@ fn edit_of(alloc: Global, name: FullName, target: Target) -> RefEdit
     }
 }
 
-/// Makes the edits, and logs none. Any value is expected, so that memory alone may refuse them.
-fn make(refs: &mut Refs, edits: &[RefEdit], committer: &Signature) -> Result<(), NoMemory>
+/// Makes edits that each expect any value (`PreviousValue::Any`), so that memory alone may refuse them, and logs none.
+pub fn make_unlogged(
+    refs: &mut Refs,
+    edits: &[RefEdit],
+    committer: &Signature,
+) -> Result<(), NoMemory>
     ensures { OnOk result (refs.new ≡ after committer.now false Never refs.old edits.now) }
 {
     match refs.prepare(edits, committer, false, PackedRefs::Never) {

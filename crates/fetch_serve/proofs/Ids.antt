@@ -64,7 +64,8 @@ digest_kind Sha256 m = refl
 digest_is : (hash : Kind) (m : List ℕ) → IsIdOf hash (digest hash m)
 digest_is hash m = record { same = digest_kind hash m; len = length-digest hash m; bytes = digest_bytes hash m }
 
-own_is : (o : Stored) → IsIdOf o.hash (own_id o)
+-- an object's own id is of its hash
+pub own_is : (o : Stored) → IsIdOf o.hash (own_id o)
 own_is o = digest_is o.hash _
 
 stored_is_by : (d : Data) (id : ObjectId) (found : Option Stored) → finmap.get d.objects id ≡ found → IsServable d → is_some found ≡ true → IsIdOf d.hash id

@@ -1,6 +1,6 @@
 //! The objects that a fetch request is answered by.
 
-ghost use Rattle.std.specs.Prelude.{◌≡◌, ◌++◌, ◌↔◌, ◌<◌, [], All, Contains, IfOk, OnOk, filter, false, nat_eq};
+ghost use Rattle.std.specs.Prelude.{◌≡◌, ◌++◌, ◌↔◌, [], All, Contains, IfOk, OnOk, filter, false, nat_eq};
 ghost use Rattle.std.specs.FinMap as finmap;
 ghost use Rattle.std.specs.List.{flat_map, starts_with};
 ghost use Rattle.std.specs.List.Sorted.{IsStrictlySortedBy};
@@ -14,7 +14,6 @@ ghost use Rattle.fetch_serve.specs.Parts.{held_by};
 ghost use Rattle.fetch_serve.specs.Requests.{has_id};
 ghost use Rattle.fetch_serve.specs.Servable.{IsServable};
 ghost use Rattle.fetch_store.specs.Borders.{merged};
-ghost use Rattle.fetch_store.specs.Closed.{Reached, holding};
 ghost use Rattle.fetch_store.specs.Graph.{graph_of};
 ghost use Rattle.fetch_store.specs.Stores.{id_cmp};
 ghost use Rattle.fetch_store.specs.declared.id.ObjectId.{ObjectId as Id};
@@ -23,12 +22,10 @@ use crate::asked::FetchAsked;
 use crate::depth::{Depth, append_all};
 use crate::offered::stands_among;
 use crate::parts::Parts;
-use fetch_reach::{difference, union};
-use fetch_store::{Border, List, NoMemory, ObjectId, Objects, Steps, Store, reached};
+use fetch_reach::{difference, reached_from, union};
+use fetch_store::{Border, List, NoMemory, ObjectId, Objects, Store};
 use fetch_wire::Ref;
 use std::alloc::Global;
-use std::marker::Brand;
-use std::sync::ledger::{Blank, Ledger};
 
 /// The haves that are stored, in their order.
 pub(crate) fn known(
@@ -90,38 +87,6 @@ fn starts(parts: Parts<'_>, asked: &FetchAsked, depth: &Depth) -> Result<Vec<Obj
     ids.extend_from_slice(depth.kept.as_slice())?;
     append_parents_of(parts.store, depth.unshallow.as_slice(), &mut ids)?;
     Ok(ids)
-}
-
-/// The stored ids that are reached from the starts by links, parents of border commits aside: each once, in ascending
-/// order.
-fn reached_from(
-    alloc: Global,
-    store: &Store,
-    border: &Border,
-    starts: &[ObjectId],
-) -> Result<List<ObjectId>, NoMemory>
-    ensures ids { IfOk result (λ ids. (id : Id) → Contains ids id ↔ Reached (holding store.now.objects border.now) starts.now id) }
-    ensures ascending { IfOk result (λ ids. IsStrictlySortedBy id_cmp ids) }
-{
-    uncounted::<Brand>(alloc, store, border, starts, Blank::new(1))
-}
-
-/// The same, where nobody counts the steps.
-fn uncounted<L: Ledger>(
-    alloc: Global,
-    store: &Store,
-    border: &Border,
-    starts: &[ObjectId],
-    blank: Blank,
-) -> Result<List<ObjectId>, NoMemory>
-    requires name { blank.name ≡ L.name }
-    requires parts { blank.parts ≡ L.parts }
-    requires some { 0 < blank.parts }
-    ensures ids { IfOk result (λ ids. (id : Id) → Contains ids id ↔ Reached (holding store.now.objects border.now) starts.now id) }
-    ensures ascending { IfOk result (λ ids. IsStrictlySortedBy id_cmp ids) }
-{
-    let mut steps: Steps<L> = Steps::new(blank);
-    reached(alloc, store, border, starts, &mut steps)
 }
 
 /// What is needed, ascending.
