@@ -27,18 +27,18 @@ refused_none bound now c said heard e h (inr u) = u.unheard (sym (refused_heard 
 pub never_refused : {X E : Type 0} (free stopped : E → Bool) (answers : Bool) (bound : ℕ) (old new : Option Talk) (c : Conversation X E) (e : E) → Breaks free stopped answers bound old new [] c e → HasValidReplies bound old new c → free e ≡ true
 never_refused {X} {E} free stopped answers bound old new c e h v = by (free e) refl
   where
-    passed : Talks answers (Some v.before) (Some v.after) h.heard h.said
-    passed = subst (λ (t : Option Talk). Talks answers t (Some v.after) h.heard h.said) v.told_before (subst (λ (t : Option Talk). Talks answers old t h.heard h.said) v.told_after h.passed)
+    passed : Talks answers (Some v.exchanged.before) (Some v.after) h.heard h.said
+    passed = subst (λ (t : Option Talk). Talks answers t (Some v.after) h.heard h.said) v.exchanged.told_before (subst (λ (t : Option Talk). Talks answers old t h.heard h.said) v.exchanged.told_after h.passed)
 
     same_said : h.said ≡ v.said
-    same_said = append_cancel_left v.before.given h.said v.said (sym passed.gave_more ∙ v.gave_so)
+    same_said = append_cancel_left v.exchanged.before.given h.said v.said (sym passed.gave_more ∙ v.exchanged.gave)
 
     same_heard : h.heard ≡ v.heard
-    same_heard = append_cancel_left v.before.heard h.heard v.heard (sym passed.heard_more ∙ v.heard_so)
+    same_heard = append_cancel_left v.exchanged.before.heard h.heard v.heard (sym passed.heard_more ∙ v.exchanged.hears)
 
     at : free e ≡ false → IsRefusedBy bound (Some v.after) c v.said v.heard e
     at sure =
-        let why : IsRefusedBy bound (Some v.after) c h.said h.heard e = subst (λ (t : Option Talk). IsRefusedBy bound t c h.said h.heard e) v.told_after (h.why sure) in
+        let why : IsRefusedBy bound (Some v.after) c h.said h.heard e = subst (λ (t : Option Talk). IsRefusedBy bound t c h.said h.heard e) v.exchanged.told_after (h.why sure) in
         subst (λ (l : List ℕ). IsRefusedBy bound (Some v.after) c v.said l e) same_heard (subst (λ (l : List ℕ). IsRefusedBy bound (Some v.after) c l h.heard e) same_said why)
 
     by : (b : Bool) → free e ≡ b → b ≡ true

@@ -158,15 +158,28 @@ pub record Converses {X E : Type 0} (free stopped : E → Bool) (answers : Bool)
     (c : Conversation X E) (result : Result X E) : Type 0 where
   pub held : ConversesBy free stopped answers bound old new pending rest c result
 
--- What a peer gave in a call and has still to give are valid replies: to all requests of the conversation, or at least to
--- each that was heard whole.
-pub record HasValidReplies {X E : Type 0} (bound : ℕ) (old new : Option Talk) (c : Conversation X E) : Type 0 where
+-- In a call the peer heard this and gave this, and stands so at its end.
+pub record HasExchanged (old new : Option Talk) (after : Talk) (heard said : List ℕ) : Type 0 where
+  -- how it stood before the call
   pub before : Talk
-  pub after : Talk
+  -- It tells how it stood.
   pub told_before : old ≡ Some before
+  -- It tells how it stands at the end.
   pub told_after : new ≡ Some after
+  -- It heard these bytes more, and no others.
+  pub hears : after.heard ≡ before.heard ++ heard
+  -- It gave these bytes more, and no others.
+  pub gave : after.given ≡ before.given ++ said
+
+-- What a peer gave in a call and has still to give are valid replies.
+pub record HasValidReplies {X E : Type 0} (bound : ℕ) (old new : Option Talk) (c : Conversation X E) : Type 0 where
+  -- how the peer stands at the end of the call
+  pub after : Talk
+  -- what it heard in the call
   pub heard : List ℕ
+  -- what it gave in the call
   pub said : List ℕ
-  pub heard_so : after.heard ≡ before.heard ++ heard
-  pub gave_so : after.given ≡ before.given ++ said
+  -- These passed in the call.
+  pub exchanged : HasExchanged old new after heard said
+  -- They are replies to all requests of the conversation, or at least to each that was heard whole.
   pub valid : ((x : X × List ℕ) × (answer_in bound c (said ++ after.to_come) ≡ Ok x)) ⊎ IsUnheard bound c heard (said ++ after.to_come)

@@ -28,6 +28,7 @@ use Rattle.fetch_wire.specs.declared.listings.reference.Ref.{Ref}
 use Rattle.fetch_wire.specs.declared.session.turn.Turn.TheVariants as turns
 use Rattle.fetch_conversation.specs.Conversation.{Conversation, ends, asks, asks_unless, asking}
 use Rattle.fetch_conversation.specs.Mapped.{ref_mappings}
+use Rattle.fetch_conversation.specs.declared.listing.LsRefs.{LsRefs}
 use Rattle.fetch_conversation.specs.declared.listing.Listed.{Listed}
 use Rattle.fetch_conversation.specs.declared.prepare.Error.{Error}
 use Rattle.fetch_conversation.specs.declared.prepare.Error.TheVariants as errors
@@ -41,6 +42,10 @@ pub record LsRefsValue : Type 0 where
   pub specs : List Spec
   pub tags : Tags
   pub options : Options
+
+-- the same, of what was lent
+abbrev pub inquiry_told : LsRefs → Options → LsRefsValue
+inquiry_told i options = record { address = i.address.now; agent = i.agent.now; specs = i.specs.now; tags = i.tags; options = options }
 
 -- what the stage finds
 pub record ListedValue : Type 0 where
@@ -188,3 +193,8 @@ pub record IsReady (l : Listed) : Type 0 where
   pub turn : turn_of l.session ≡ turns.Idle
   pub unrefused : l.session.refused ≡ false
   pub kind : kind_of l.session.handshake ≡ l.handshake.object_hash
+
+-- The session is ready for the next request, and takes as many bytes as before.
+pub record IsReadyAgain (before now : Listed) : Type 0 where
+  pub ready : IsReady now
+  pub bound : now.session.intake.bound ≡ before.session.intake.bound

@@ -8,7 +8,7 @@ ghost use Rattle.fetch_conversation.specs.Conversing.{IsAsked, reply_of, argumen
 ghost use Rattle.fetch_conversation.specs.Errors.{is_free_receiving, is_client, is_stopped, is_unasked};
 ghost use Rattle.fetch_conversation.specs.Exchange as spec;
 ghost use Rattle.fetch_conversation.specs.Exchange.{asked_by, haves_told};
-ghost use Rattle.fetch_conversation.specs.ListStage.{IsReady, shown, pending_of};
+ghost use Rattle.fetch_conversation.specs.ListStage.{IsReady, IsReadyAgain, shown, pending_of};
 ghost use Rattle.fetch_conversation.specs.declared.fetch.Error.TheVariants as errors;
 ghost use Rattle.fetch_negotiate.specs.Requests.{fetch_request};
 ghost use Rattle.fetch_wire.specs.Written.{first_too_long, TellsTooLong};
@@ -76,8 +76,7 @@ pub(crate) fn exchange<P: Peer, I: Interrupt, Q: Progress>(
         (haves_told shared.now round.now.haves) round.now.done) (reply_of result listed.new.session.reply) }
     ensures replied { OnOk result (is_some listed.new.session.reply ≡ true) }
     ensures asked { IfErr result (λ e. is_unasked e ≡ false) }
-    ensures ready { OnOk result (IsReady listed.new) }
-    ensures bound { OnOk result (listed.new.session.intake.bound ≡ listed.old.session.intake.bound) }
+    ensures again { OnOk result (IsReadyAgain listed.old listed.new) }
     ensures kept { shown listed.new ≡ shown listed.old }
     ensures peer { BlamesPeer (P.faults peer.old) (P.faults peer.new) (is_told is_client result) }
     ensures interrupt { BlamesInterrupt (I.yes interrupt.old) (I.yes interrupt.new) (I.will_stop interrupt.old) (I.will_stop interrupt.new)

@@ -5,7 +5,7 @@ ghost use Rattle.fetch_conversation.specs.Blame.{BlamesPeer, BlamesInterrupt, is
 ghost use Rattle.fetch_conversation.specs.Receiving.{last_question};
 ghost use Rattle.fetch_conversation.specs.Conversation.{Converses};
 ghost use Rattle.fetch_conversation.specs.Errors.{is_free_listing, is_transport, is_interrupted};
-ghost use Rattle.fetch_conversation.specs.ListStage.{LsRefsValue, ls_refs_stage, list_stage, answer_shown, left_by, IsReady, all_specs};
+ghost use Rattle.fetch_conversation.specs.ListStage.{ls_refs_stage, inquiry_told, list_stage, answer_shown, left_by, IsReady, all_specs};
 ghost use Rattle.fetch_conversation.specs.ListStage.{with_tags, is_nil};
 ghost use Rattle.fetch_conversation.specs.Listing.{IsOpened, TellsUnopened, Answers};
 ghost use Rattle.fetch_wire.specs.SessionStates.{turn_of};
@@ -56,29 +56,9 @@ fn open(
     options: &Options,
     specs: &[RefSpec],
 ) -> Result<Session, WireError>
-    requires { specs.now ≡ all_specs (record {
-      address = query.now.address.now;
-      agent = query.now.agent.now;
-      specs = query.now.specs.now;
-      tags = query.now.tags;
-      options = options.now;
-    }) }
-    ensures opened { IfOk result (λ s. IsOpened
-        (record {
-          address = query.now.address.now;
-          agent = query.now.agent.now;
-          specs = query.now.specs.now;
-          tags = query.now.tags;
-          options = options.now;
-        }) s) }
-    ensures refused { IfErr result (λ e. TellsUnopened
-        (record {
-          address = query.now.address.now;
-          agent = query.now.agent.now;
-          specs = query.now.specs.now;
-          tags = query.now.tags;
-          options = options.now;
-        }) e) }
+    requires { specs.now ≡ all_specs (inquiry_told query.now options.now) }
+    ensures opened { IfOk result (λ s. IsOpened (inquiry_told query.now options.now) s) }
+    ensures refused { IfErr result (λ e. TellsUnopened (inquiry_told query.now options.now) e) }
 {
     let filtered = options.prefix_from_spec_as_filter_on_remote;
     let prefixes = prefixes_for(alloc, filtered, specs)?;
@@ -123,13 +103,7 @@ fn map_listed(
     requires handshake { is_some session.handshake ≡ true }
     requires refs { is_some session.refs ≡ true }
     requires unrefused { session.refused ≡ false }
-    ensures answer { Answers (record {
-      address = query.now.address.now;
-      agent = query.now.agent.now;
-      specs = query.now.specs.now;
-      tags = query.now.tags;
-      options = options.now;
-    }) session result }
+    ensures answer { Answers (inquiry_told query.now options.now) session result }
     ensures ready { IfOk result (λ l. IsReady l) }
     ensures heard { IfErr result (λ e. is_transport e ≡ false) }
     ensures uninterrupted { IfErr result (λ e. is_interrupted e ≡ false) }
@@ -177,15 +151,7 @@ pub fn ls_refs<P: Peer, I: Interrupt>(
     options: Options,
 ) -> Result<Listed, prepare::Error>
     ensures held { Converses is_free_listing is_interrupted P.answers options.max_reply_bytes (P.told peer.old) (P.told peer.new) []
-        (left_by result)
-        (ls_refs_stage options.max_reply_bytes
-        (record {
-          address = query.now.address.now;
-          agent = query.now.agent.now;
-          specs = query.now.specs.now;
-          tags = query.now.tags;
-          options = options;
-        })) (answer_shown result) }
+        (left_by result) (ls_refs_stage options.max_reply_bytes (inquiry_told query.now options)) (answer_shown result) }
     ensures ready { IfOk result (λ l. IsReady l) }
     ensures bound { IfOk result (λ l. l.session.intake.bound ≡ options.max_reply_bytes) }
     ensures peer { BlamesPeer (P.faults peer.old) (P.faults peer.new) (is_told is_transport result) }
@@ -210,14 +176,7 @@ pub fn list<P: Peer, I: Interrupt>(
     options: Options,
 ) -> Result<Listed, prepare::Error>
     ensures held { Converses is_free_listing is_interrupted P.answers options.max_reply_bytes (P.told peer.old) (P.told peer.new) []
-        (left_by result)
-        (list_stage options.max_reply_bytes (record {
-          address = query.now.address.now;
-          agent = query.now.agent.now;
-          specs = query.now.specs.now;
-          tags = query.now.tags;
-          options = options;
-        })) (answer_shown result) }
+        (left_by result) (list_stage options.max_reply_bytes (inquiry_told query.now options)) (answer_shown result) }
     ensures ready { IfOk result (λ l. IsReady l) }
     ensures bound { IfOk result (λ l. l.session.intake.bound ≡ options.max_reply_bytes) }
     ensures peer { BlamesPeer (P.faults peer.old) (P.faults peer.new) (is_told is_transport result) }

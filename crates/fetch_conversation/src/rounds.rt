@@ -14,7 +14,7 @@ ghost use Rattle.fetch_conversation.specs.Conversation.{Converses};
 ghost use Rattle.fetch_conversation.specs.ConverseStage.{algorithm_in};
 ghost use Rattle.fetch_conversation.specs.Conversing.{Holds, rounds_state_of, negotiated_of, arguments_told};
 ghost use Rattle.fetch_conversation.specs.Errors.{is_free_receiving, is_client, is_stopped, is_unasked};
-ghost use Rattle.fetch_conversation.specs.ListStage.{IsReady, shown, pending_of};
+ghost use Rattle.fetch_conversation.specs.ListStage.{IsReady, IsReadyAgain, shown, pending_of};
 ghost use Rattle.fetch_conversation.specs.Rounds as spec;
 ghost use Rattle.fetch_conversation.specs.declared.fetch.Error.TheVariants as errors;
 
@@ -210,8 +210,7 @@ fn hold_round<P: Peer, I: Interrupt, Q: Progress, O: Objects>(
     ensures asked { IfErr result (λ e. is_unasked e ≡ false) }
     ensures algorithm { OnOk result (algorithm_of state.new.negotiator ≡ algorithm_of state.old.negotiator) }
     ensures told { OnOk result (IsTold (known_by state.new.negotiator) (O.graph objects.now)) }
-    ensures ready { OnOk result (IsReady listed.new) }
-    ensures bound { OnOk result (listed.new.session.intake.bound ≡ listed.old.session.intake.bound) }
+    ensures again { OnOk result (IsReadyAgain listed.old listed.new) }
     ensures kept { shown listed.new ≡ shown listed.old }
     ensures peer { BlamesPeer (P.faults peer.old) (P.faults peer.new) (is_told is_client result) }
     ensures interrupt { BlamesInterrupt (I.yes interrupt.old) (I.yes interrupt.new) (I.will_stop interrupt.old) (I.will_stop interrupt.new)

@@ -1,5 +1,5 @@
 -- Input that is promised a fetch.
-use Rattle.std.specs.Prelude.{◌≡◌, ◌⊎◌, ℕ, List, [], ◌++◌, Option, Some, None, Ok, IfSome, Contains}
+use Rattle.std.specs.Prelude.{◌≡◌, ◌⊎◌, ℕ, List, [], ◌++◌, Option, None, Ok, IfSome, Contains}
 use Rattle.fetch_store.specs.Missing.{missing}
 use Rattle.fetch_store.specs.Stores.{collision}
 use Rattle.fetch_store.specs.declared.id.ObjectId.{ObjectId}
@@ -10,7 +10,7 @@ use Rattle.fetch_update.specs.declared.worktrees.Worktree.{Worktree}
 use Rattle.fetch_wire.specs.Talks.{Talk}
 use Rattle.fetch_wire.specs.declared.listings.mapping.Mapping.{Mapping}
 use Rattle.fetch_wire.specs.declared.listings.mapping.RefMap.{RefMap}
-use Rattle.fetch_conversation.specs.Conversation.{answer_in, IsUnheard}
+use Rattle.fetch_conversation.specs.Conversation.{answer_in, HasExchanged, IsUnheard}
 use Rattle.fetch_conversation.specs.declared.conversing.Received.{Received}
 use Rattle.fetch_remote.specs.Fetched.{objects_with}
 use Rattle.fetch_remote.specs.Fetching.{apply_options_in}
@@ -47,20 +47,16 @@ pub record IsValidInput (g : Given) (trees : List Worktree) (s : State) (stream 
   pub pack : IfSome (to_take g.options.dry_run told.received) (IsTakeable s (wants_in g s told.listed.ref_map))
   pub mappings : AreJudgeable (policy_with g trees s told) told.listed.ref_map
 
--- In a call the peer heard this and gave this, and stands so at its end.
-pub record HasExchanged (old new : Option Talk) (after : Talk) (heard said : List ℕ) : Type 0 where
-  pub before : Talk
-  pub told_before : old ≡ Some before
-  pub told_after : new ≡ Some after
-  pub hears : after.heard ≡ before.heard ++ heard
-  pub gave : after.given ≡ before.given ++ said
-
 -- The input of a call is valid: what the peer gave in it, with what is still to come at its end, and the list of worktrees,
 -- where that is told.
 pub record HasValidInput (old new : Option Talk) (known : Option (List Worktree)) (g : Given) (s : State) : Type 0 where
+  -- how the peer stands at the end of the call
   pub after : Talk
+  -- what it heard in the call
   pub heard : List ℕ
+  -- what it gave in the call
   pub said : List ℕ
+  -- These passed in the call.
   pub exchanged : HasExchanged old new after heard said
   -- They are replies to all requests of the fetch, or at least to each that was heard whole.
   pub valid : (trees : List Worktree) → IsTold known trees → IsValidInput g trees s (said ++ after.to_come)

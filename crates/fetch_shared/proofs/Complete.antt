@@ -65,14 +65,10 @@ module _ (line : Line) (c : Call) (receipt : Receipt) (v : HasValidInput line c 
   -- the replies are valid ones of a conversation
   valid_replies : {X E : Type 0} (bound : ℕ) (k : Conversation X E) → IsReplied bound k v.heard stream → HasValidReplies bound line.old line.new k
   valid_replies bound k replied = record {
-    before = v.exchanged.before;
     after = v.after;
-    told_before = v.exchanged.told_before;
-    told_after = v.exchanged.told_after;
     heard = v.heard;
     said = v.said;
-    heard_so = v.exchanged.hears;
-    gave_so = v.exchanged.gave;
+    exchanged = v.exchanged;
     valid = replied;
   }
 

@@ -22,7 +22,7 @@ module _ (before after : Holder) (edits : List RefEdit) (committer : Signature) 
   pub committed : (place : ℕ) → IsTurn before after (Commit before.number edits committer) (λ v. length v.journal) (Ok place) → slice_get after.front place ≡ Some entry
       → entries_of before.number after.front ≡ entries_of before.number before.front ++ entry ∷ [] → Moves false before after edits committer (Some place)
   committed place t at added =
-      let low = begins_length before.front t.found.journal t.begins in
+      let low = begins_length before.front t.found.journal t.meets.begins in
       let is : place ≡ length t.found.journal = t.tells in
       let grown : length after.front ≡ length t.found.journal + 1 = ap length t.entered ∙ length-append t.found.journal (entry ∷ []) in
       record { at = place; place_is = refl; behind = omega arith; within = omega arith; entry_is = at; added = added }

@@ -45,7 +45,7 @@ has_taken before after wants r taken back t added = record {
   };
   allowed = record {
     found = t.found;
-    at = record { opened = t.opening; kept = t.kept; goes_on = t.begins; begins = record { rest = take_entries before.number (Some r); is = sym t.entered }; count_is = refl };
+    at = record { opened = t.meets.opening; kept = t.meets.kept; goes_on = t.meets.begins; begins = record { rest = take_entries before.number (Some r); is = sym t.entered }; count_is = refl };
     allowed = t.answers;
     left_is = refl;
   };

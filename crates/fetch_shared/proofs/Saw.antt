@@ -34,7 +34,7 @@ module _ {X : Type 0} (before after : Holder) (e : Event) (told : SharedValue �
   -- the state that an event left
   pub saw : (x : X) (count : ℕ) → IsBack before after → (t : IsTurn before after e told (Ok x)) → length (done t.found e).journal ≡ count → IsStateAt before.shared.opening before.front after.front count (done t.found e)
   saw x count back t is = record {
-    opened = t.opening;
+    opened = t.meets.opening;
     kept = t.leaves;
     goes_on = subst (λ (j : List Entry). Begins before.front j) t.entered back.begins;
     begins = subst (λ (j : List Entry). Begins (done t.found e).journal j) (sym t.entered) (begins_self (done t.found e).journal);
@@ -47,7 +47,7 @@ module _ {X : Type 0} (before after : Holder) (e : Event) (told : SharedValue �
     where
       by : (why ≡ errors.NoMemory) ⊎ (refusal (state_of t.found) e ≡ Some why) → (why ≡ errors.NoMemory) ⊎ IsRefusedAt before.shared.opening before.front after.front e why
       by (inl is) = inl is
-      by (inr cause) = inr (record { found = t.found; opened = t.opening; kept = t.kept; goes_on = back.begins; journal = sym t.refused; cause = cause })
+      by (inr cause) = inr (record { found = t.found; opened = t.meets.opening; kept = t.meets.kept; goes_on = back.begins; journal = sym t.refused; cause = cause })
 
 -- a plan
 pub has_planned : (before after : Holder) (map : RefMap) (tags : Tags) (shallow : Shallow) (plan : Plan) → IsBack before after → IsTurn before after Planning (λ v. plan_of v map tags shallow) (Ok plan) → HasPlanned before after (λ v. plan_of v map tags shallow) plan

@@ -14,7 +14,7 @@ use Rattle.fetch_shared.specs.Numbers.{Holds}
 use Rattle.fetch_shared.specs.Shared.{SharedValue, is_memory, IsKept, done, state_of}
 use Rattle.fetch_shared.specs.LockRule.{own, turning, resting, Finds}
 use Rattle.fetch_shared.proofs.Held.{holds_own}
-use Rattle.fetch_shared.specs.Passes.{Holder, holder_of, IsBack, IsTurn}
+use Rattle.fetch_shared.specs.Passes.{Holder, holder_of, IsBack, IsFoundBy, IsTurn}
 use Rattle.fetch_shared.proofs.Back.{comes_back, begins_entered, others_entered, own_entered, last_entered}
 
 only_memory : {X : Type 0} (answer : Result X SharedError) → IfErr answer (λ e. e ≡ errors.NoMemory) → RefusesUnless is_memory None answer
@@ -31,6 +31,9 @@ if_err P (Err e) p = p
 
 -- the turn found this state, and gave it back
 module _ (table table' : TableId) (v w : View) (found : SharedValue) (rests : v.stage ≡ Resting) (same : table' ≡ table) (opening : found.opening ≡ v.opening) (finds : Finds v found.journal) (kept : IsKept found) where
+  meets : IsFoundBy (holder_of table v) found
+  meets = record { opening = opening; kept = kept; begins = finds.sees.begins; same = finds.sees.complete }
+
   module _ (me : w ≡ resting (turning v found.journal)) where
     front : w.front ≡ found.journal
     front = ap (λ (u : View). u.front) me
@@ -46,10 +49,7 @@ module _ (table table' : TableId) (v w : View) (found : SharedValue) (rests : v.
         → IfErr answer (λ e. e ≡ errors.NoMemory) → IfOk answer (λ x. x ≡ told found) → IsTurn (holder_of table v) (holder_of table' w) event told answer
     turn_looked event told answer allowed nothing memory tells = record {
       found = found;
-      opening = opening;
-      kept = kept;
-      begins = finds.sees.begins;
-      same = finds.sees.complete;
+      meets = meets;
       answers = subst (λ cause. RefusesUnless is_memory cause answer) (sym allowed) (only_memory answer memory);
       tells = tells;
       entered = if_ok (w.front ≡ (done found event).journal) answer (front ∙ ap (λ (s : SharedValue). s.journal) (sym nothing));
@@ -61,10 +61,7 @@ module _ (table table' : TableId) (v w : View) (found : SharedValue) (rests : v.
     pub turn_refused : {X : Type 0} (event : Event) (told : SharedValue → X) (e : SharedError) → RefusesUnless {X = X} is_memory (refusal (state_of found) event) (Err e) → IsTurn (holder_of table v) (holder_of table' w) event told (Err e)
     turn_refused event told e answers = record {
       found = found;
-      opening = opening;
-      kept = kept;
-      begins = finds.sees.begins;
-      same = finds.sees.complete;
+      meets = meets;
       answers = answers;
       tells = tt;
       entered = tt;
@@ -87,10 +84,7 @@ module _ (table table' : TableId) (v w : View) (found : SharedValue) (rests : v.
     pub turn_entered : {X : Type 0} (told : SharedValue → X) (x : X) → IsKept now → refusal (state_of found) event ≡ None → x ≡ told found → IsTurn (holder_of table v) (holder_of table' w) event told (Ok x)
     turn_entered told x left allowed tells = record {
       found = found;
-      opening = opening;
-      kept = kept;
-      begins = finds.sees.begins;
-      same = finds.sees.complete;
+      meets = meets;
       answers = allowed;
       tells = tells;
       entered = ap (λ (u : View). u.front) me ∙ ap (λ (s : SharedValue). s.journal) is;

@@ -64,19 +64,31 @@ pub record IsBack (before after : Holder) : Type 0 where
   pub begins : Begins before.front after.front
   pub others : (n : ℕ) → Holds before.held n → n ≢ before.number → entries_of n after.front ≡ entries_of n before.front
 
--- A turn in which the pass made this event, and what was answered. The turn found a state whose journal goes on from the
--- pass's front, with no entry more of a number that the pass holds. Ok comes only where the event is allowed there, with
--- what is told of that state, and then the pass has seen the event's entry, at the end, and what the event leaves is kept.
--- Else it has seen what the turn found, and the refusal is that of the event there, or out of memory.
+-- A turn of this pass finds such a state.
+pub record IsFoundBy (pass : Holder) (found : SharedValue) : Type 0 where
+  -- It opened as the pass's repository did.
+  pub opening : found.opening ≡ pass.shared.opening
+  -- It is as its journal leaves it.
+  pub kept : IsKept found
+  -- Its journal goes on from the pass's front.
+  pub begins : Begins pass.front found.journal
+  -- It has no entry more of a number that the pass holds.
+  pub same : (n : ℕ) → Holds pass.held n → entries_of n found.journal ≡ entries_of n pass.front
+
+-- A turn in which the pass made this event, and what was answered.
 pub record IsTurn {X : Type 0} (before after : Holder) (event : Event) (told : SharedValue → X)
     (answer : Result X SharedError) : Type 0 where
+  -- what the turn found
   pub found : SharedValue
-  pub opening : found.opening ≡ before.shared.opening
-  pub kept : IsKept found
-  pub begins : Begins before.front found.journal
-  pub same : (n : ℕ) → Holds before.held n → entries_of n found.journal ≡ entries_of n before.front
+  -- It goes on from what the pass had seen.
+  pub meets : IsFoundBy before found
+  -- Ok comes only where the event is allowed there, and a refusal is that of the event there, or out of memory.
   pub answers : RefusesUnless is_memory (refusal (state_of found) event) answer
+  -- Ok comes with what is told of the state found.
   pub tells : IfOk answer (λ x. x ≡ told found)
+  -- Then the pass has seen the event's entry, at the end.
   pub entered : IfOk answer (λ _. after.front ≡ (done found event).journal)
+  -- What the event leaves is kept.
   pub leaves : IfOk answer (λ _. IsKept (done found event))
+  -- Where it was refused, the pass has seen what the turn found.
   pub refused : IfErr answer (λ _. after.front ≡ found.journal)

@@ -4,7 +4,7 @@ use Rattle.std.specs.Prelude.{◌≡◌, ◌⊎◌, ℕ, Bool, true, false, List
 use Rattle.fetch_update.specs.declared.worktrees.Worktree.{Worktree}
 use Rattle.fetch_wire.specs.Talks.{Talk}
 use Rattle.fetch_wire.specs.declared.listings.mapping.RefMap.{RefMap}
-use Rattle.fetch_conversation.specs.Conversation.{answer_in, IsUnheard}
+use Rattle.fetch_conversation.specs.Conversation.{answer_in, HasExchanged, IsUnheard}
 use Rattle.fetch_conversation.specs.ListStage.{ListedValue}
 use Rattle.fetch_remote.specs.Errors as remote
 use Rattle.fetch_remote.specs.Fetching.{apply_options_in}
@@ -13,7 +13,7 @@ use Rattle.fetch_remote.specs.Judging.{IsTold}
 use Rattle.fetch_remote.specs.Repositories.{State}
 use Rattle.fetch_remote.specs.Applying.{policy_in}
 use Rattle.fetch_remote.specs.Stages.{Told, bound_of, listing_stage, conversation}
-use Rattle.fetch_remote.specs.Valid.{AreJudgeable, HasExchanged}
+use Rattle.fetch_remote.specs.Valid.{AreJudgeable}
 use Rattle.fetch_shared.specs.declared.error.SharedError.{SharedError}
 use Rattle.fetch_shared.specs.declared.error.SharedError.TheVariants as errors
 use Rattle.fetch_shared.specs.declared.receipt.Receipt.{Receipt}
@@ -53,10 +53,15 @@ IsValidFrom c judged heard stream (Some count) =
 
 -- The input of a call is valid: what the peer gave in it, with what is still to come at its end.
 pub record HasValidInput (line : Line) (c : Call) (receipt : Receipt) : Type 0 where
+  -- how the peer stands at the end of the call
   pub after : Talk
+  -- what it heard in the call
   pub heard : List ℕ
+  -- what it gave in the call
   pub said : List ℕ
+  -- These passed in the call.
   pub exchanged : HasExchanged line.old line.new after heard said
+  -- They are valid at the places that the receipt tells.
   pub valid : IsValidFrom c receipt.judged heard (said ++ after.to_come) receipt.planned
 
 -- A refusal that valid input may meet: one that has a count, out of memory, or that of an event by what others entered.

@@ -81,14 +81,10 @@ pub(crate) fn apply_in_turns<R: Wait, F: Files, W: Worktrees>(
     ensures worktrees { BlamesWorktrees (lent_trees W.told W.asked W.listing W.open_repo W.follow_symref worktrees.old)
         (lent_trees W.told W.asked W.listing W.open_repo W.follow_symref worktrees.new) (told_by (λ r. tree_fault r.3) result) }
 {
-    let Exchange {
-        listed,
-        wants,
-        received,
-    } = exchange;
-    let (ref_map, handshake) = found(listed);
+    let (ref_map, handshake) = found(exchange.listed);
     let dry_run = options.dry_run;
-    let wants = wants.as_slice();
+    let received = exchange.received;
+    let wants = exchange.wants.as_slice();
     let (pass, pack_taken) = match take_pack(rt, alloc, shared, pass, dry_run, wants, received) {
         Ok(pack_taken) => pack_taken,
         Err((pass, e)) => return Err((pass, None, None, e)),

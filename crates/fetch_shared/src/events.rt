@@ -41,7 +41,7 @@ impl SharedRepository {
         &self,
         rt: &R,
         alloc: Global,
-        pass: Pass,
+        mut pass: Pass,
         map: &RefMap,
         tags: Tags,
         shallow: &Shallow,
@@ -51,19 +51,9 @@ impl SharedRepository {
         ensures none { entries_of pass.number result.0.front ≡ entries_of pass.number pass.front }
         ensures turn { IsTurn pass result.0 Planning (λ v. plan_of v map.now tags shallow.now) result.1 }
     {
-        let Pass {
-            number,
-            unused,
-            mut seat,
-        } = pass;
-        let mut state = self.take_turn(rt, &mut seat);
+        let mut state = self.take_turn(rt, &mut pass.seat);
         let answer = state.plan(alloc, map, tags, shallow);
-        self.give_back(&mut seat, state);
-        let pass = Pass {
-            number,
-            unused,
-            seat,
-        };
+        self.give_back(&mut pass.seat, state);
         (pass, answer)
     }
 
@@ -72,37 +62,26 @@ impl SharedRepository {
         &self,
         rt: &R,
         alloc: Global,
-        pass: Pass,
+        mut pass: Pass,
     ) -> (Pass, Result<Taken, SharedError>)
         requires { pass.shared ≡ self.now }
         ensures back { IsBack pass result.0 }
         ensures none { entries_of pass.number result.0.front ≡ entries_of pass.number pass.front }
         ensures turn { IsTurn pass result.0 Snapshot snapshot_of result.1 }
     {
-        let Pass {
-            number,
-            unused,
-            mut seat,
-        } = pass;
-        let state = self.take_turn(rt, &mut seat);
+        let state = self.take_turn(rt, &mut pass.seat);
         let answer = state.snapshot(alloc);
-        self.give_back(&mut seat, state);
-        let pass = Pass {
-            number,
-            unused,
-            seat,
-        };
+        self.give_back(&mut pass.seat, state);
         (pass, answer)
     }
 
     /// Takes a pack for these wants, as `SharedState::take` does with what the turn finds, and tells what it leaves. Each
     /// id is its object's hash, as it is in a pack that was read.
-    // Long: a pass is taken apart, and put together again after an Ok and after an error.
     pub fn take<R: Wait>(
         &self,
         rt: &R,
         alloc: Global,
-        pass: Pass,
+        mut pass: Pass,
         wants: &[ObjectId],
         pack: ReceivedPack<'_>,
     ) -> (Pass, Result<Taken, SharedError>)
@@ -116,34 +95,19 @@ impl SharedRepository {
             ++ entries.Take pass.number (map (λ e. e.0) pack.entry.objects.items) pack.entry.shallow.now pack.entry.unshallow.now ∷ []) }
         ensures none { OnErr result.1 (entries_of pass.number result.0.front ≡ entries_of pass.number pass.front) }
     {
-        let Pass {
-            number,
-            unused,
-            mut seat,
-        } = pass;
         let ReceivedPack {
             objects,
             shallow,
             unshallow,
         } = pack;
-        let mut state = self.take_turn(rt, &mut seat);
-        match state.take(alloc, number, wants, objects, shallow, unshallow) {
+        let mut state = self.take_turn(rt, &mut pass.seat);
+        match state.take(alloc, pass.number, wants, objects, shallow, unshallow) {
             Ok(taken) => {
-                self.record(&mut seat, state);
-                let pass = Pass {
-                    number,
-                    unused,
-                    seat,
-                };
+                self.record(&mut pass.seat, state);
                 (pass, Ok(taken))
             }
             Err(e) => {
-                self.give_back(&mut seat, state);
-                let pass = Pass {
-                    number,
-                    unused,
-                    seat,
-                };
+                self.give_back(&mut pass.seat, state);
                 (pass, Err(e))
             }
         }
@@ -153,7 +117,7 @@ impl SharedRepository {
     pub fn commit<R: Wait>(
         &self,
         rt: &R,
-        pass: Pass,
+        mut pass: Pass,
         edits: Vec<RefEdit>,
         committer: Signature,
     ) -> (Pass, Result<u64, SharedError>)
@@ -165,29 +129,14 @@ impl SharedRepository {
         ensures place { IfOk result.1 (λ place. slice_get result.0.front place ≡ Some (entries.Commit pass.number edits.items committer)) }
         ensures none { OnErr result.1 (entries_of pass.number result.0.front ≡ entries_of pass.number pass.front) }
     {
-        let Pass {
-            number,
-            unused,
-            mut seat,
-        } = pass;
-        let mut state = self.take_turn(rt, &mut seat);
-        match state.commit(number, edits, committer) {
+        let mut state = self.take_turn(rt, &mut pass.seat);
+        match state.commit(pass.number, edits, committer) {
             Ok(place) => {
-                self.record(&mut seat, state);
-                let pass = Pass {
-                    number,
-                    unused,
-                    seat,
-                };
+                self.record(&mut pass.seat, state);
                 (pass, Ok(place))
             }
             Err(e) => {
-                self.give_back(&mut seat, state);
-                let pass = Pass {
-                    number,
-                    unused,
-                    seat,
-                };
+                self.give_back(&mut pass.seat, state);
                 (pass, Err(e))
             }
         }
@@ -199,7 +148,7 @@ impl SharedRepository {
         &self,
         rt: &R,
         alloc: Global,
-        pass: Pass,
+        mut pass: Pass,
         names: &[FullName],
     ) -> (Pass, Result<u64, SharedError>)
         requires { pass.shared ≡ self.now }
@@ -210,29 +159,14 @@ impl SharedRepository {
         ensures place { IfOk result.1 (λ place. slice_get result.0.front place ≡ Some (entries.Delete pass.number names.now)) }
         ensures none { OnErr result.1 (entries_of pass.number result.0.front ≡ entries_of pass.number pass.front) }
     {
-        let Pass {
-            number,
-            unused,
-            mut seat,
-        } = pass;
-        let mut state = self.take_turn(rt, &mut seat);
-        match state.delete(alloc, number, names) {
+        let mut state = self.take_turn(rt, &mut pass.seat);
+        match state.delete(alloc, pass.number, names) {
             Ok(place) => {
-                self.record(&mut seat, state);
-                let pass = Pass {
-                    number,
-                    unused,
-                    seat,
-                };
+                self.record(&mut pass.seat, state);
                 (pass, Ok(place))
             }
             Err(e) => {
-                self.give_back(&mut seat, state);
-                let pass = Pass {
-                    number,
-                    unused,
-                    seat,
-                };
+                self.give_back(&mut pass.seat, state);
                 (pass, Err(e))
             }
         }

@@ -28,6 +28,13 @@ use std::alloc::Global;
 use std::sync::Wait;
 use std::thread::Threads;
 
+/// What a fetch asks, and of which remote.
+#[derive(Drop)]
+pub(crate) struct Asking<'a> {
+    pub(crate) remote: &'a Remote,
+    pub(crate) options: FetchOptions,
+}
+
 /// What a conversation brought: what was listed, what was wanted of it, and what was received.
 #[derive(Drop)]
 pub(crate) struct Exchange {
@@ -38,32 +45,32 @@ pub(crate) struct Exchange {
 
 /// Lists the references, plans in a turn, and asks for the pack by the plan, outside the turn. Tells how many entries the
 /// plan saw, where one was made.
-// Many arguments: those of the fetch.
+// Many arguments: those of the fetch but for files and work trees.
 // Long: each stage hands the pass back at its refusal.
 pub(crate) fn list_and_receive<R: Threads + Wait + Sync, P: Peer, I: Interrupt>(
     rt: &R,
     alloc: Global,
     shared: &SharedRepository,
     pass: Pass,
-    remote: &Remote,
+    asking: Asking<'_>,
     peer: &mut P,
     interrupt: &mut I,
-    options: FetchOptions,
 ) -> Result<(Pass, u64, Exchange), (Pass, Option<u64>, SharedError)>
     requires { pass.shared ≡ shared.now }
     ensures back { MatchResult result (λ r. IsBack pass r.0) (λ r. IsBack pass r.0) }
     ensures none { MatchResult result (λ r. entries_of pass.number r.0.front ≡ entries_of pass.number pass.front)
         (λ r. entries_of pass.number r.0.front ≡ entries_of pass.number pass.front) }
     ensures exchange { IfOk result (λ r. HasConversedOver (line_of P.answers (P.told peer.old) (P.told peer.new))
-        (given_to remote.now options pass) pass r.0 r.1 r.2) }
+        (given_to asking.entry.remote.now asking.entry.options pass) pass r.0 r.1 r.2) }
     ensures broken { IfErr result (λ r. HasBroken (line_of P.answers (P.told peer.old) (P.told peer.new))
-        (given_to remote.now options pass) pass r.0 r.1 r.2) }
+        (given_to asking.entry.remote.now asking.entry.options pass) pass r.0 r.1 r.2) }
     ensures of_kind { IfOk result (λ r. IfSome r.2.received (λ x. AreOf pass.shared.opening.state.hash x.objects)) }
     ensures named { IfOk result (λ r. IfSome r.2.received (λ x. AreNamed x.objects)) }
     ensures peer { BlamesPeer (P.faults peer.old) (P.faults peer.new) (is_told (λ r. is_of_peer r.2) result) }
     ensures interrupt { BlamesInterrupt (I.yes interrupt.old) (I.yes interrupt.new) (I.will_stop interrupt.old) (I.will_stop interrupt.new)
         (P.told peer.old) (P.told peer.new) (last_question (λ r. is_yes r.2) result) }
 {
+    let Asking { remote, options } = asking;
     let FetchOptions {
         map,
         shallow,

@@ -14,7 +14,7 @@ ghost use Rattle.fetch_shared.specs.Valid.{HasValidInput, is_free};
 
 use crate::applying::apply_in_turns;
 use crate::error::SharedError;
-use crate::exchange::list_and_receive;
+use crate::exchange::{Asking, list_and_receive};
 use crate::pass::Pass;
 use crate::receipt::Receipt;
 use crate::shared::SharedRepository;
@@ -80,7 +80,8 @@ pub fn fetch_shared<R: Threads + Wait + Sync, P: Peer, I: Interrupt, F: Files, W
             SharedError::NoMemory,
         )),
     };
-    let answer = list_and_receive(rt, alloc, shared, pass, remote, peer, interrupt, options);
+    let asking = Asking { remote, options };
+    let answer = list_and_receive(rt, alloc, shared, pass, asking, peer, interrupt);
     let (pass, planned, exchange) = match answer {
         Ok(exchange) => exchange,
         Err((pass, planned, e)) => return Err((pass, receipt(number, planned, None, None), e)),

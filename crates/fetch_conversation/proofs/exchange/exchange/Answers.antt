@@ -39,16 +39,15 @@ returns-clause-replied g c =
     let t : FetchArgumentsValue = arguments_told (shown c.args.listed.now) c.args.arguments.now in
     finished_reply g.P.Peer.answers (g.P.Peer.told c.args.peer.now) (g.P.Peer.told c.drive.new.peer) t (haves_told c.args.shared.now c.args.round.now.haves) c.args.round.now.done c.args.listed.now.session c.ask.new.listed.session c.drive.new.session c.requires.ready.turn c.in_ok-ask.ensures.asked c.in_ok-drive.ensures.driven
 
-pub returns-clause-ready : goal.returns-clause-ready
-returns-clause-ready g c =
+pub returns-clause-again : goal.returns-clause-again
+returns-clause-again g c =
     let t : FetchArgumentsValue = arguments_told (shown c.args.listed.now) c.args.arguments.now in
+    let haves = haves_told c.args.shared.now c.args.round.now.haves in
     let after : Listed = record { session = c.drive.new.session; ref_map = c.ask.new.listed.ref_map; handshake = c.ask.new.listed.handshake } in
-    ready_again g.P.Peer.answers (g.P.Peer.told c.args.peer.now) (g.P.Peer.told c.drive.new.peer) t (haves_told c.args.shared.now c.args.round.now.haves) c.args.round.now.done c.args.listed.now after c.ask.new.listed.session c.requires.ready c.ask.ensures.kept c.in_ok-ask.ensures.asked c.in_ok-drive.ensures.driven
-
-pub returns-clause-bound : goal.returns-clause-bound
-returns-clause-bound g c =
-    let t : FetchArgumentsValue = arguments_told (shown c.args.listed.now) c.args.arguments.now in
-    bound_again g.P.Peer.answers (g.P.Peer.told c.args.peer.now) (g.P.Peer.told c.drive.new.peer) t (haves_told c.args.shared.now c.args.round.now.haves) c.args.round.now.done c.args.listed.now.session c.drive.new.session c.ask.new.listed.session c.requires.ready.turn c.in_ok-ask.ensures.asked c.in_ok-drive.ensures.driven
+    record {
+      ready = ready_again g.P.Peer.answers (g.P.Peer.told c.args.peer.now) (g.P.Peer.told c.drive.new.peer) t haves c.args.round.now.done c.args.listed.now after c.ask.new.listed.session c.requires.ready c.ask.ensures.kept c.in_ok-ask.ensures.asked c.in_ok-drive.ensures.driven;
+      bound = bound_again g.P.Peer.answers (g.P.Peer.told c.args.peer.now) (g.P.Peer.told c.drive.new.peer) t haves c.args.round.now.done c.args.listed.now.session c.drive.new.session c.ask.new.listed.session c.requires.ready.turn c.in_ok-ask.ensures.asked c.in_ok-drive.ensures.driven;
+    }
 
 pub returns-in_err-ask-clause-interrupt : goal.returns-in_err-ask-clause-interrupt
 returns-in_err-ask-clause-interrupt g c =

@@ -16,7 +16,7 @@ returns-in-Err-clause-back g c = back_self c.args.pass
 
 pub returns-in-Err-clause-broken : goal.returns-in-Err-clause-broken
 returns-in-Err-clause-broken g c =
-    broke_listing _ _ _ (given_to c.args.remote.now c.args.options c.args.pass) c.args.pass c.args.pass c.in-Err.cause c.unlisted.result c.unlisted.ensures (rw (c.settings.ensures.settings, ← c.requires) at c.in-Err.ensures.held)
+    broke_listing _ _ _ (given_to c.args.asking.remote.now c.args.asking.options c.args.pass) c.args.pass c.args.pass c.in-Err.cause c.unlisted.result c.unlisted.ensures (rw (c.settings.ensures.settings, ← c.requires) at c.in-Err.ensures.held)
 
 pub returns-in-Err-clause-peer : goal.returns-in-Err-clause-peer
 returns-in-Err-clause-peer g c = listing_blamed _ _ c.in-Err.cause c.unlisted.result c.unlisted.ensures c.in-Err.ensures.peer
@@ -29,7 +29,7 @@ returns-in-Err-clause-interrupt g c =
 
 pub returns-in-Err-planned-clause-broken : goal.returns-in-Err-planned-clause-broken
 returns-in-Err-planned-clause-broken g c =
-    broke_planning _ _ _ (given_to c.args.remote.now c.args.options c.args.pass) c.args.pass _ c.in-Ok.listed _ c.in-Err-planned.ensures.memory (rw (c.settings.ensures.settings, ← c.requires) at c.in-Ok.ensures.held)
+    broke_planning _ _ _ (given_to c.args.asking.remote.now c.args.asking.options c.args.pass) c.args.pass _ c.in-Ok.listed _ c.in-Err-planned.ensures.memory (rw (c.settings.ensures.settings, ← c.requires) at c.in-Ok.ensures.held)
 
 pub returns-in-Err-planned-clause-peer : goal.returns-in-Err-planned-clause-peer
 returns-in-Err-planned-clause-peer g c = rw c.in-Err-planned.ensures.memory c.in-Ok.ensures.peer
@@ -44,7 +44,7 @@ returns-clause-broken g c =
     let p = c.in-Ok-planned.ensures.planned in
     let listed = rw (c.settings.ensures.settings, ← c.requires) at c.in-Ok.ensures.held in
     let k = rw (p.plan_is, c.fetch_tags-tags.ensures, c.settings-2.ensures.settings, ← c.requires, c.in-Ok.ensures.bound) at c.in-Err-answer.ensures.held in
-    broke_receiving _ _ _ _ (given_to c.args.remote.now c.args.options c.args.pass) c.args.pass _ _ p.seen c.in-Ok.listed _ c.in-Err-answer.cause c.unreceived.result p.at c.unreceived.ensures listed k
+    broke_receiving _ _ _ _ (given_to c.args.asking.remote.now c.args.asking.options c.args.pass) c.args.pass _ _ p.seen c.in-Ok.listed _ c.in-Err-answer.cause c.unreceived.result p.at c.unreceived.ensures listed k
 
 pub returns-clause-peer : goal.returns-clause-peer
 returns-clause-peer g c = peer_then _ _ _ _ c.in-Ok.ensures.peer.counts (receiving_blamed _ _ c.in-Err-answer.cause c.unreceived.result c.unreceived.ensures c.in-Err-answer.ensures.peer)
@@ -61,21 +61,21 @@ returns-in-Ok-answer-clause-exchange g c =
     let p = c.in-Ok-planned.ensures.planned in
     let listed = rw (c.settings.ensures.settings, ← c.requires) at c.in-Ok.ensures.held in
     let k = rw (p.plan_is, c.fetch_tags-tags.ensures, c.settings-2.ensures.settings, ← c.requires, c.in-Ok.ensures.bound) at c.in-Ok-answer.ensures.held in
-    has_conversed_over _ _ _ _ (given_to c.args.remote.now c.args.options c.args.pass) c.args.pass _ _ p.seen c.in-Ok.listed _ _ c.in-Ok-answer.received p.at p.front c.in-Ok-answer.ensures.kept (rw (p.plan_is, c.fetch_tags-tags.ensures) refl) listed k
+    has_conversed_over _ _ _ _ (given_to c.args.asking.remote.now c.args.asking.options c.args.pass) c.args.pass _ _ p.seen c.in-Ok.listed _ _ c.in-Ok-answer.received p.at p.front c.in-Ok-answer.ensures.kept (rw (p.plan_is, c.fetch_tags-tags.ensures) refl) listed k
 
 pub returns-in-Ok-answer-clause-of_kind : goal.returns-in-Ok-answer-clause-of_kind
 returns-in-Ok-answer-clause-of_kind g c =
     let p = c.in-Ok-planned.ensures.planned in
     let k = rw (p.plan_is, c.fetch_tags-tags.ensures, c.settings-2.ensures.settings, ← c.requires, c.in-Ok.ensures.bound) at c.in-Ok-answer.ensures.held in
     let hash = rw (c.settings-2.ensures.settings, ← c.requires) at c.settings-2.ensures.hash in
-    let same = kind_received _ _ _ (given_to c.args.remote.now c.args.options c.args.pass) p.seen.repository.state c.in-Ok.listed _ c.in-Ok-answer.received k ∙ hash in
+    let same = kind_received _ _ _ (given_to c.args.asking.remote.now c.args.asking.options c.args.pass) p.seen.repository.state c.in-Ok.listed _ c.in-Ok-answer.received k ∙ hash in
     rw same at c.in-Ok-answer.ensures.of_kind
 
 pub returns-in-Ok-answer-clause-named : goal.returns-in-Ok-answer-clause-named
 returns-in-Ok-answer-clause-named g c =
     let p = c.in-Ok-planned.ensures.planned in
     let k = rw (p.plan_is, c.fetch_tags-tags.ensures, c.settings-2.ensures.settings, ← c.requires, c.in-Ok.ensures.bound) at c.in-Ok-answer.ensures.held in
-    named_by _ _ _ (given_to c.args.remote.now c.args.options c.args.pass) p.seen.repository.state c.in-Ok.listed _ c.in-Ok-answer.received k
+    named_by _ _ _ (given_to c.args.asking.remote.now c.args.asking.options c.args.pass) p.seen.repository.state c.in-Ok.listed _ c.in-Ok-answer.received k
 
 pub returns-in-Ok-answer-clause-peer : goal.returns-in-Ok-answer-clause-peer
 returns-in-Ok-answer-clause-peer g c = peer_then _ _ _ _ c.in-Ok.ensures.peer.counts c.in-Ok-answer.ensures.peer
