@@ -1,6 +1,6 @@
 -- Refusals that have a count, in a part of a call.
-use Rattle.std.proofs.Common.{◌≡◌, ◌≤◌, ℕ, true, List, Result, Ok, Err, refl, arith}
-use Rattle.std.specs.Prelude.{OnOk}
+use Rattle.std.proofs.Common.{◌≡◌, ◌≤◌, ℕ, true, List, Result, Ok, Err, refl, ◌∙◌, arith}
+use Rattle.std.specs.Prelude.{IfErr, OnOk}
 use Rattle.std.proofs.lemmas.Bool.{false≢true}
 use Rattle.fetch_store.specs.Faults.{Counts, Faults, Counts-none, Counts-then, Rose}
 use Rattle.fetch_update.specs.declared.update.Error.TheVariants as update
@@ -12,7 +12,7 @@ use Rattle.fetch_conversation.specs.declared.prepare.Error.TheVariants as prepar
 use Rattle.fetch_conversation.specs.declared.ref_map.Error.TheVariants as ref_map
 use Rattle.fetch_remote.specs.declared.connect.Error.TheVariants as connect
 use Rattle.fetch_remote.specs.declared.repository.open_error.OpenError.TheVariants as opening
-use Rattle.fetch_clone.specs.Counted.{Meters, IsCounted, Later}
+use Rattle.fetch_clone.specs.Counted.{Meters, CountsBy, IsCounted, Later}
 use Rattle.fetch_clone.specs.Listed.{is_conflict_at}
 use Rattle.fetch_clone.specs.declared.clone.fetch.Error.{Error}
 use Rattle.fetch_clone.specs.declared.clone.fetch.Error.TheVariants as errors
@@ -142,3 +142,12 @@ conflict-quiet X place prepare.NoMemory h = absurd (false≢true h)
 -- what is counted after a part of a call
 pub counted-later : (a b c : Meters) (e : Error) → Later a b → IsCounted b c e → IsCounted a c e
 counted-later a b c e p h = counted-within a b c c e p (later-none c) h
+
+-- the same of what is answered, where the interrupt said no yes before
+pub counts-later : {T : Type 0} (a b c : Meters) (r : Result T Error) → Later a b → b.yes.count ≡ a.yes.count → CountsBy b c r → CountsBy a c r
+counts-later a b c (Ok x) p same h = h ∙ same
+counts-later a b c (Err e) p same h = counted-later a b c e p h
+
+pub counts-by : {T : Type 0} (was is : Meters) (r : Result T Error) → OnOk r (is.yes.count ≡ was.yes.count) → IfErr r (IsCounted was is) → CountsBy was is r
+counts-by was is (Ok x) same h = same
+counts-by was is (Err e) same h = h

@@ -44,6 +44,13 @@ heeded-behind will will' will'' a b h k = record {
   later = λ n y. k.later n (h.later (k.asked + n) (subst will (omega arith) y));
 }
 
+pub says-then : (will will' will'' : ℕ → Type 0) → SaysNo will will' → SaysNo will' will'' → SaysNo will will''
+says-then will will' will'' h k = record {
+  asked = h.asked + k.asked;
+  no_yes = λ n few y. no_yes_by will will' h.asked k.asked h.no_yes h.later k.no_yes n few y (cases_lt n h.asked);
+  later = λ n y. k.later n (h.later (k.asked + n) (subst will (omega arith) y));
+}
+
 -- one part after another, of one peer
 pub heeded-on : (will will' will'' : ℕ → Type 0) (a b c : Option Talk) → IsHeededOver will will' a b → IsHeededOver will' will'' b c → IsHeededOver will will'' a c
 heeded-on will will' will'' a b c h k = record {

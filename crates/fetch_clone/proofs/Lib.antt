@@ -14,6 +14,7 @@ pub mod Returned
 pub mod Uncounted
 pub mod Counted
 pub mod Heeded
+pub mod Blamed
 pub mod Rehashed
 pub mod Answered
 pub mod Targeting

@@ -43,23 +43,43 @@ IsNoted was is before place free = ((is.count ≡ was.count) × IfSome before (�
 abbrev pub strict : Options → Options
 strict options = record options { destination_must_be_empty = Some (unwrap_or options.destination_must_be_empty true) }
 
--- The place was noted, and an empty repository was created and opened there.
-pub record IsPrepared (was is : Faults) (before : Option Tree) (url place : List ℕ) (making : Making) (now : Option Tree)
-    (draft : CloneState) : Type 0 where
-  pub address : is_no_address url ≡ false
-  -- The files had failed so often once the place was noted.
-  pub failed : Faults
-  pub noted : IsNoted was failed before place draft.free
-  pub later : Counts failed is
-  pub created : Reaches before (steps_of place making.kind (strict making.options)) now
+-- A draft has the repository that was created at its place.
+pub record HasNewRepository (place : List ℕ) (making : Making) (now : Option Tree) (draft : CloneState) : Type 0 where
+  -- It was opened.
   pub opened : is_some draft.repo ≡ true
+  -- It is the one that a creation leaves there.
   pub repo : IfSome draft.repo (IsInitial now (new_of place making.kind (strict making.options) making.committer making.open_options))
   -- The overrides that it was opened with are noted.
   pub overrides : IfSome draft.repo (λ r. draft.opened ≡ r.setup.overrides)
+
+-- A draft is of this address and place, and nothing is chosen yet.
+pub record IsUnchosen (url place : List ℕ) (draft : CloneState) : Type 0 where
+  -- It is of this address.
   pub url_kept : draft.url ≡ url
+  -- It is of this place.
   pub place_kept : draft.place ≡ place
+  -- No builder has chosen anything.
   pub choices : draft.choices ≡ plain
+  -- No closure for the remote is set.
   pub unset : draft.configures_remote ≡ false
+
+-- The place was noted, and an empty repository was created and opened there.
+pub record IsPrepared (was is : Faults) (before : Option Tree) (url place : List ℕ) (making : Making) (now : Option Tree)
+    (draft : CloneState) : Type 0 where
+  -- The address is one.
+  pub address : is_no_address url ≡ false
+  -- The files had failed so often once the place was noted.
+  pub failed : Faults
+  -- The draft tells whether the place was free.
+  pub noted : IsNoted was failed before place draft.free
+  -- The files' count stayed or rose while the repository was made.
+  pub later : Counts failed is
+  -- All steps of its creation were made.
+  pub created : Reaches before (steps_of place making.kind (strict making.options)) now
+  -- The draft has the repository.
+  pub found : HasNewRepository place making now draft
+  -- The draft is at its beginning.
+  pub begun : IsUnchosen url place draft
 
 -- The place was noted, and no repository was created or opened there.
 pub record IsUnprepared (was is : Faults) (may_fail : Bool) (before : Option Tree) (place : List ℕ) (making : Making) (now : Option Tree)

@@ -36,6 +36,12 @@ meters made lost said files trees = record { made = made; lost = lost; yes = sai
 abbrev pub peer_meters : Faults → Faults → Faults → TreeMeters → Meters
 peer_meters peer said files trees = meters (record { count = 0; possible = false }) peer said files trees
 
+-- the counts of all that is lent to a clone: the maker, the interrupt, the files and the work trees, which are seen so
+abbrev pub counts_by : {C I F W : Type 0} → (C → Faults) → (C → Faults) → (I → Faults) → (F → Faults) → (W → Faults) → (W → Faults)
+    → (W → Faults) → C × I × F × W → Meters
+counts_by made lost said files listing open_repo follow_symref lent =
+    meters (made lent.0) (lost lent.0) (said lent.1) (files lent.2) (tree_meters (listing lent.3) (open_repo lent.3) (follow_symref lent.3))
+
 -- A refusal that has a count comes only where that count rose.
 abbrev pub IsCounted : Meters → Meters → Error → Type 0
 IsCounted was is (errors.Connect connect.Connect) = Rose was.made is.made
@@ -69,3 +75,9 @@ pub record Later (was is : Meters) : Type 0 where
   pub listing : Counts was.trees.listing is.trees.listing
   pub open_repo : Counts was.trees.open_repo is.trees.open_repo
   pub follow_symref : Counts was.trees.follow_symref is.trees.follow_symref
+
+-- All that is lent, which is counted so: none of it is blamed unless its count rose, and no count fell. Where the call is done, the
+-- interrupt said no yes in it.
+pub record BlamesLent {L T : Type 0} (counts : L → Meters) (old new : L) (result : Result T Error) : Type 0 where
+  pub counted : CountsBy (counts old) (counts new) result
+  pub later : Later (counts old) (counts new)

@@ -23,6 +23,7 @@ pub mod Targets
 pub mod Planned
 pub mod Listed
 pub mod Counted
+pub mod Blame
 pub mod Saving
 pub mod Received
 pub mod Cloned

@@ -269,13 +269,14 @@ impl<F: Files + Drop, C: Connect + Drop, R: Drop, G: Drop> PrepareFetch<F, C, R,
     pub fn persist(self) -> Option<Repository>
         ensures { result ≡ self.draft.repo }
     {
-        let (_files, repo) = self.into_parts();
-        repo
+        let (_files, draft) = self.into_parts();
+        draft.repo
     }
 
-    /// The files as they are, and the repository where there was no success.
-    fn into_parts(self) -> (F, Option<Repository>)
-        ensures { result ≡ (self.files, self.draft.repo) }
+    /// The files as they are, and what is to be cloned.
+    fn into_parts(self) -> (F, CloneState)
+        ensures files { result.0 ≡ self.files }
+        ensures draft { result.1 ≡ self.draft }
     {
         let PrepareFetch {
             files,
@@ -284,7 +285,7 @@ impl<F: Files + Drop, C: Connect + Drop, R: Drop, G: Drop> PrepareFetch<F, C, R,
             configure_connection: _,
             draft,
         } = self;
-        (files, draft.repo)
+        (files, draft)
     }
 
     /// Gives the clone up: without success, and not persisted, the removal of the place is asked for exactly where it was free
@@ -297,14 +298,7 @@ impl<F: Files + Drop, C: Connect + Drop, R: Drop, G: Drop> PrepareFetch<F, C, R,
         ensures counts { Counts (F.faults self.files) (F.faults result) }
         ensures may_fail { F.may_fail result ≡ F.may_fail self.files }
     {
-        let PrepareFetch {
-            files,
-            maker: _,
-            configure_remote: _,
-            configure_connection: _,
-            draft,
-        } = self;
-        let mut files = files;
+        let (mut files, draft) = self.into_parts();
         give_up(&mut files, &draft);
         files
     }
@@ -324,7 +318,7 @@ impl<F: Files + Drop, C: Connect + Drop, R: Drop, G: Drop> From<PrepareFetch<F, 
     ghost from_gives = { λ p repo. repo ≡ p.draft.repo };
 
     fn from(clone: PrepareFetch<F, C, R, G>) -> Option<Repository> {
-        let (_files, repo) = clone.into_parts();
-        repo
+        let (_files, draft) = clone.into_parts();
+        draft.repo
     }
 }

@@ -1,11 +1,11 @@
 //! A clone whose remote is saved is fetched into.
 
-ghost use Rattle.std.specs.Prelude.{◌≡◌, IfOk, IfErr, OnOk};
+ghost use Rattle.std.specs.Prelude.{◌≡◌, IfOk, IfErr};
 ghost use Rattle.std.specs.Fn.{CalledAtMut};
 ghost use Rattle.std.specs.Option.{option_copied};
 ghost use Rattle.fetch_clone.specs.Cloned as spec;
 ghost use Rattle.fetch_clone.specs.Cloned.{IsCompleted, IsUncompleted};
-ghost use Rattle.fetch_clone.specs.Counted.{IsCounted, Later, meters, tree_meters};
+ghost use Rattle.fetch_clone.specs.Counted.{BlamesLent, counts_by};
 ghost use Rattle.fetch_clone.specs.Reached.{line, ways};
 
 use crate::clone::fetch::Error;
@@ -29,23 +29,21 @@ use std::thread::Threads;
 // Long: one line an argument of each step.
 // Many arguments: a clone's parts, of which several are changed.
 pub(crate) fn completed<
-    T: Threads + Sync,
     F: Files,
     C: Connect,
     G: FnMut(&mut C::Peer) -> Result<(), ConfigureFault>,
-    Q: Progress,
     I: Interrupt,
     W: Worktrees,
 >(
-    rt: &T,
+    rt: &(impl Threads + Sync),
     alloc: Global,
-    draft: &CloneState,
     saved: &Saved,
+    draft: &CloneState,
     repo: &mut Repository,
     files: &mut F,
     maker: &mut C,
     configure: &mut G,
-    progress: &mut Q,
+    progress: &mut impl Progress,
     interrupt: &mut I,
     worktrees: &mut W,
 ) -> Result<Outcome, Error>
@@ -59,17 +57,9 @@ pub(crate) fn completed<
         (C.faults maker.new) (line (C.left maker.old) (C.taken maker.old) (C.addresses maker.old) configure.old)
         (line (C.left maker.new) (C.taken maker.new) (C.addresses maker.new) configure.new) (W.told worktrees.old) (F.may_fail files.old)
         (F.told files.old) (F.told files.new) draft.now saved.now repo.old repo.new) }
-    ensures counted { IfErr result (IsCounted
-        (meters (C.faults maker.old) (C.lost maker.old) (I.yes interrupt.old) (F.faults files.old)
-        (tree_meters (W.listing worktrees.old) (W.open_repo worktrees.old) (W.follow_symref worktrees.old)))
-        (meters (C.faults maker.new) (C.lost maker.new) (I.yes interrupt.new) (F.faults files.new)
-        (tree_meters (W.listing worktrees.new) (W.open_repo worktrees.new) (W.follow_symref worktrees.new)))) }
-    ensures later { Later (meters (C.faults maker.old) (C.lost maker.old) (I.yes interrupt.old) (F.faults files.old)
-        (tree_meters (W.listing worktrees.old) (W.open_repo worktrees.old) (W.follow_symref worktrees.old)))
-        (meters (C.faults maker.new) (C.lost maker.new) (I.yes interrupt.new) (F.faults files.new)
-        (tree_meters (W.listing worktrees.new) (W.open_repo worktrees.new) (W.follow_symref worktrees.new))) }
+    ensures blames { BlamesLent (counts_by C.faults C.lost I.yes F.faults W.listing W.open_repo W.follow_symref)
+        (maker.old, interrupt.old, files.old, worktrees.old) (maker.new, interrupt.new, files.new, worktrees.new) result }
     ensures told { W.told worktrees.new ≡ W.told worktrees.old }
-    ensures uninterrupted { OnOk result ((I.yes interrupt.new).count ≡ (I.yes interrupt.old).count) }
     ensures out { C.out maker.new ≡ C.out maker.old }
     ensures may_fail { F.may_fail files.new ≡ F.may_fail files.old }
     ensures again { G.IsAlwaysCallable configure.new }

@@ -4,7 +4,7 @@ ghost use Rattle.std.specs.Prelude.{◌≡◌, Some, None, Err, IfOk, IfErr, IfS
 ghost use Rattle.std.specs.Fn.{CalledAtMut};
 ghost use Rattle.fetch_remote.specs.RepositoryValues.{RepositoryValue};
 ghost use Rattle.fetch_clone.specs.Cloned.{IsCloned, IsUncloned};
-ghost use Rattle.fetch_clone.specs.Counted.{CountsBy, IsCounted, Later, meters, tree_meters};
+ghost use Rattle.fetch_clone.specs.Counted.{BlamesLent, CountsBy, Later, counts_by, meters, tree_meters};
 ghost use Rattle.fetch_clone.specs.CloneStates.{without_repo};
 ghost use Rattle.fetch_clone.specs.Reached.{line, ways};
 ghost use Rattle.fetch_clone.specs.declared.clone.fetch.Error.TheVariants as errors;
@@ -109,16 +109,14 @@ where
 // Long: one line an argument of each step.
 // Many arguments: a clone's parts, of which several are changed.
 fn fetched_into<
-    T: Threads + Sync,
     F: Files,
     C: Connect,
     R: FnMut(Remote) -> Result<Remote, ConfigureFault>,
     G: FnMut(&mut C::Peer) -> Result<(), ConfigureFault>,
-    Q: Progress,
     I: Interrupt,
     W: Worktrees,
 >(
-    rt: &T,
+    rt: &(impl Threads + Sync),
     alloc: Global,
     draft: &CloneState,
     repo: &mut Repository,
@@ -126,7 +124,7 @@ fn fetched_into<
     maker: &mut C,
     configure_remote: &mut R,
     configure_connection: &mut G,
-    progress: &mut Q,
+    progress: &mut impl Progress,
     interrupt: &mut I,
     worktrees: &mut W,
 ) -> Result<Outcome, Error>
@@ -143,17 +141,9 @@ fn fetched_into<
         (C.faults maker.new) (line (C.left maker.old) (C.taken maker.old) (C.addresses maker.old) configure_connection.old)
         (line (C.left maker.new) (C.taken maker.new) (C.addresses maker.new) configure_connection.new) (W.told worktrees.old)
         (F.may_fail files.old) (F.told files.old) (F.told files.new) draft.now repo.old repo.new) }
-    ensures counted { IfErr result (IsCounted
-        (meters (C.faults maker.old) (C.lost maker.old) (I.yes interrupt.old) (F.faults files.old)
-        (tree_meters (W.listing worktrees.old) (W.open_repo worktrees.old) (W.follow_symref worktrees.old)))
-        (meters (C.faults maker.new) (C.lost maker.new) (I.yes interrupt.new) (F.faults files.new)
-        (tree_meters (W.listing worktrees.new) (W.open_repo worktrees.new) (W.follow_symref worktrees.new)))) }
-    ensures later { Later (meters (C.faults maker.old) (C.lost maker.old) (I.yes interrupt.old) (F.faults files.old)
-        (tree_meters (W.listing worktrees.old) (W.open_repo worktrees.old) (W.follow_symref worktrees.old)))
-        (meters (C.faults maker.new) (C.lost maker.new) (I.yes interrupt.new) (F.faults files.new)
-        (tree_meters (W.listing worktrees.new) (W.open_repo worktrees.new) (W.follow_symref worktrees.new))) }
+    ensures blames { BlamesLent (counts_by C.faults C.lost I.yes F.faults W.listing W.open_repo W.follow_symref)
+        (maker.old, interrupt.old, files.old, worktrees.old) (maker.new, interrupt.new, files.new, worktrees.new) result }
     ensures told { W.told worktrees.new ≡ W.told worktrees.old }
-    ensures uninterrupted { OnOk result ((I.yes interrupt.new).count ≡ (I.yes interrupt.old).count) }
     ensures out { C.out maker.new ≡ C.out maker.old }
     ensures may_fail { F.may_fail files.new ≡ F.may_fail files.old }
     ensures remote_again { R.IsAlwaysCallable configure_remote.new }
@@ -172,8 +162,8 @@ fn fetched_into<
     completed(
         rt,
         alloc,
-        draft,
         &saved,
+        draft,
         repo,
         files,
         maker,

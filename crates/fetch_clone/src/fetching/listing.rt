@@ -12,12 +12,12 @@ ghost use Rattle.fetch_remote.specs.Connecting.{TakesBack, out_after};
 ghost use Rattle.fetch_update.specs.Policy.{is_forced as is_by_force};
 ghost use Rattle.fetch_remote.specs.Repositories.{setup_of};
 ghost use Rattle.fetch_remote.specs.Steps.{BreaksOff, HasListed, options_with};
+ghost use Rattle.fetch_clone.specs.Blame.{BlamesMaker, BlamesStop, lent_maker, lost_listing, stopped_listing};
 ghost use Rattle.fetch_clone.specs.Heeded.{IsHeededOver, SaysNo};
 ghost use Rattle.fetch_clone.specs.Listed as spec;
 ghost use Rattle.fetch_clone.specs.Listed.{IsListed, IsUnprepared, query};
 ghost use Rattle.fetch_clone.specs.Reached.{line, ways};
 ghost use Rattle.fetch_clone.specs.Stages.{ref_name_of};
-ghost use Rattle.fetch_clone.specs.declared.clone.fetch.Error.TheVariants as errors;
 
 use crate::choices::{Choices, CloneTarget};
 use crate::clone::fetch::Error;
@@ -61,15 +61,9 @@ pub(crate) fn listed<
         (C.faults maker.new) (line (C.left maker.old) (C.taken maker.old) (C.addresses maker.old) configure.old)
         (line (C.left maker.new) (C.taken maker.new) (C.addresses maker.new) configure.new)
         (query name.now choices.now remote.now (setup_of repo.now))) }
-    ensures counts { Counts (C.faults maker.old) (C.faults maker.new) }
-    ensures out { C.out maker.new ≡ out_after result (C.out maker.old) }
-    ensures lost { (C.lost maker.old).count ≤ (C.lost maker.new).count }
-    ensures transport { IsErrOf result (errors.PrepareFetch (prepare_errors.RefMap ref_map_errors.Transport))
-        → Rose (C.lost maker.old) (C.lost maker.new) }
-    ensures asked { Counts (I.yes interrupt.old) (I.yes interrupt.new) }
-    ensures interrupted { IsErrOf result (errors.PrepareFetch (prepare_errors.RefMap ref_map_errors.Interrupted))
-        → Rose (I.yes interrupt.old) (I.yes interrupt.new) }
-    ensures uninterrupted { OnOk result ((I.yes interrupt.new).count ≡ (I.yes interrupt.old).count) }
+    ensures maker { BlamesMaker (lent_maker C.faults C.lost C.out) maker.old maker.new (out_after result (C.out maker.old))
+        lost_listing result }
+    ensures interrupt { BlamesStop I.yes I.will_stop interrupt.old interrupt.new stopped_listing result }
     ensures again { G.IsAlwaysCallable configure.new }
 {
     let place = head_place(alloc, name)?;
@@ -104,15 +98,9 @@ fn listed_again<C: Connect, I: Interrupt>(
     ensures refused { IfErr result (spec.IsUnpreparedAgain C.Peer.told C.Peer.answers (C.faults maker.old) (C.faults maker.new)
         (C.left maker.old) (C.left maker.new) (C.taken maker.old) (C.taken maker.new) (C.addresses maker.old) (C.addresses maker.new)
         (query name.now choices.now remote.now (setup_of repo.now))) }
-    ensures counts { Counts (C.faults maker.old) (C.faults maker.new) }
-    ensures out { C.out maker.new ≡ out_after result (C.out maker.old) }
-    ensures lost { (C.lost maker.old).count ≤ (C.lost maker.new).count }
-    ensures transport { IsErrOf result (errors.PrepareFetch (prepare_errors.RefMap ref_map_errors.Transport))
-        → Rose (C.lost maker.old) (C.lost maker.new) }
-    ensures asked { Counts (I.yes interrupt.old) (I.yes interrupt.new) }
-    ensures interrupted { IsErrOf result (errors.PrepareFetch (prepare_errors.RefMap ref_map_errors.Interrupted))
-        → Rose (I.yes interrupt.old) (I.yes interrupt.new) }
-    ensures uninterrupted { OnOk result ((I.yes interrupt.new).count ≡ (I.yes interrupt.old).count) }
+    ensures maker { BlamesMaker (lent_maker C.faults C.lost C.out) maker.old maker.new (out_after result (C.out maker.old))
+        lost_listing result }
+    ensures interrupt { BlamesStop I.yes I.will_stop interrupt.old interrupt.new stopped_listing result }
 {
     let place = head_place(alloc, name)?;
     let options = options_for(alloc, false, place.as_bytes(), choices)?;

@@ -1,21 +1,18 @@
 //! The remote that a clone fetches by, as it is to be saved.
 
-ghost use Rattle.std.specs.Prelude.{◌≡◌, ◌≤◌, IfOk, IfErr, IsErrOf, OnOk, OnErr, Some, None};
+ghost use Rattle.std.specs.Prelude.{◌≡◌, IfOk, IfErr, OnOk, OnErr, Some, None};
 ghost use Rattle.std.specs.Fn.{CalledAtMut};
 ghost use Rattle.std.specs.Option.{option_copied};
 ghost use Rattle.fetch_lookup.specs.Names.{name_refusal};
-ghost use Rattle.fetch_store.specs.Faults.{Counts, Rose};
-ghost use Rattle.fetch_conversation.specs.declared.ref_map.Error.TheVariants as ref_map_errors;
 ghost use Rattle.fetch_remote.specs.Overriding.{overridden};
 ghost use Rattle.fetch_remote.specs.Repositories.{state_of, setup_of};
 ghost use Rattle.fetch_clone.specs.Planned as spec;
 ghost use Rattle.fetch_clone.specs.Planned.{IsNamed, IsNotNamed};
-ghost use Rattle.fetch_clone.specs.Heeded.{SaysNo};
+ghost use Rattle.fetch_clone.specs.Blame.{BlamesMaker, BlamesStop, lent_maker, lost_first, stopped_first};
 ghost use Rattle.fetch_clone.specs.Reached.{line, ways};
 ghost use Rattle.fetch_clone.specs.Stages as stages;
 ghost use Rattle.fetch_clone.specs.Targets.{HeedsFirst};
 ghost use Rattle.fetch_clone.specs.RemoteNames.{spec_text as tracked_text};
-ghost use Rattle.fetch_clone.specs.declared.clone.fetch.Error.TheVariants as errors;
 
 use crate::choices::{Choices, CloneTarget};
 use crate::clone::fetch::Error;
@@ -49,14 +46,8 @@ pub(crate) fn named<C: Connect, G: FnMut(&mut C::Peer) -> Result<(), ConfigureFa
     ensures refused { IfErr result (IsNotNamed (ways (CalledAtMut G.FnMut) C.Peer.told C.Peer.answers) (C.faults maker.old)
         (C.faults maker.new) (line (C.left maker.old) (C.taken maker.old) (C.addresses maker.old) configure.old)
         (line (C.left maker.new) (C.taken maker.new) (C.addresses maker.new) configure.new) draft.now repo.old repo.new) }
-    ensures counts { Counts (C.faults maker.old) (C.faults maker.new) }
-    ensures out { C.out maker.new ≡ C.out maker.old }
-    ensures lost { (C.lost maker.old).count ≤ (C.lost maker.new).count }
-    ensures transport { IsErrOf result (errors.RefMap ref_map_errors.Transport) → Rose (C.lost maker.old) (C.lost maker.new) }
-    ensures asked { Counts (I.yes interrupt.old) (I.yes interrupt.new) }
-    ensures interrupted { IsErrOf result (errors.RefMap ref_map_errors.Interrupted) → Rose (I.yes interrupt.old) (I.yes interrupt.new) }
-    ensures uninterrupted { OnOk result ((I.yes interrupt.new).count ≡ (I.yes interrupt.old).count) }
-    ensures questions { OnOk result (SaysNo (I.will_stop interrupt.old) (I.will_stop interrupt.new)) }
+    ensures maker { BlamesMaker (lent_maker C.faults C.lost C.out) maker.old maker.new (C.out maker.old) lost_first result }
+    ensures interrupt { BlamesStop I.yes I.will_stop interrupt.old interrupt.new stopped_first result }
     ensures again { G.IsAlwaysCallable configure.new }
 {
     override_with(alloc, draft, repo)?;

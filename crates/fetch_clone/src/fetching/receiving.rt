@@ -29,22 +29,15 @@ use std::thread::Threads;
 /// `config`, which that writes, is in force after the fetch, whether it succeeded or not. References are written packed, and
 /// reflogs say where the clone is from.
 // Many arguments: those of a fetch that goes on with what was listed.
-pub(crate) fn received<
-    T: Threads + Sync,
-    P: Peer,
-    Q: Progress,
-    I: Interrupt,
-    F: Files,
-    W: Worktrees,
->(
-    rt: &T,
+pub(crate) fn received<P: Peer, I: Interrupt, F: Files, W: Worktrees>(
+    rt: &(impl Threads + Sync),
     alloc: Global,
     draft: &CloneState,
     remote: &Remote,
     prepared: Prepared,
     repo: &mut Repository,
     peer: &mut P,
-    progress: &mut Q,
+    progress: &mut impl Progress,
     interrupt: &mut I,
     files: &mut F,
     worktrees: &mut W,

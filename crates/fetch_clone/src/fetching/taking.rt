@@ -1,10 +1,9 @@
 //! What a peer listed is fetched from it, and the peer is taken back.
 
-ghost use Rattle.std.specs.Prelude.{◌≡◌, ◌+◌, ◌<◌, Option, IfOk, IfErr, OnOk};
-ghost use Rattle.fetch_store.specs.Faults.{Counts};
+ghost use Rattle.std.specs.Prelude.{◌≡◌, ◌+◌, ◌<◌, Option, IfOk, IfErr};
 ghost use Rattle.fetch_wire.specs.Talks.{Talk};
 ghost use Rattle.fetch_remote.specs.Repositories.{setup_of};
-ghost use Rattle.fetch_clone.specs.Counted.{IsCounted, Later, meters, tree_meters};
+ghost use Rattle.fetch_clone.specs.Counted.{BlamesLent, counts_by};
 ghost use Rattle.fetch_clone.specs.Heeded.{IsHeededOver};
 ghost use Rattle.fetch_clone.specs.Received.{IsNotTaken, IsTaken, WasListed};
 
@@ -22,15 +21,8 @@ use std::thread::Threads;
 
 /// Fetches what a peer listed, and takes the peer back.
 // Many arguments: those of a fetch that goes on with what was listed, and what made the peer.
-pub(crate) fn taken<
-    T: Threads + Sync,
-    F: Files,
-    C: Connect,
-    Q: Progress,
-    I: Interrupt,
-    W: Worktrees,
->(
-    rt: &T,
+pub(crate) fn taken<F: Files, C: Connect, I: Interrupt, W: Worktrees>(
+    rt: &(impl Threads + Sync),
     alloc: Global,
     draft: &CloneState,
     remote: &Remote,
@@ -38,12 +30,12 @@ pub(crate) fn taken<
     peer: C::Peer,
     repo: &mut Repository,
     maker: &mut C,
-    progress: &mut Q,
+    progress: &mut impl Progress,
     interrupt: &mut I,
     files: &mut F,
     worktrees: &mut W,
 ) -> Result<Outcome, Error>
-    requires { 0 < C.out maker.old }
+    requires some_out { 0 < C.out maker.old }
     ensures taken { IfOk result (λ outcome. (begun : Option Talk)
         → WasListed C.Peer.answers begun (C.Peer.told peer) remote.now (setup_of repo.old) prepared
         → (t : IsTaken C.Peer.told C.Peer.answers begun (C.taken maker.old) (C.taken maker.new) (W.told worktrees.old) (F.told files.old)
@@ -53,17 +45,9 @@ pub(crate) fn taken<
         → WasListed C.Peer.answers begun (C.Peer.told peer) remote.now (setup_of repo.old) prepared
         → IsNotTaken C.Peer.told C.Peer.answers begun (C.taken maker.old) (C.taken maker.new) (W.told worktrees.old) (F.may_fail files.old)
         (F.told files.old) (F.told files.new) draft.now remote.now prepared repo.old repo.new e) }
-    ensures counted { IfErr result (IsCounted
-        (meters (C.faults maker.old) (C.lost maker.old) (I.yes interrupt.old) (F.faults files.old)
-        (tree_meters (W.listing worktrees.old) (W.open_repo worktrees.old) (W.follow_symref worktrees.old)))
-        (meters (C.faults maker.new) (C.lost maker.new) (I.yes interrupt.new) (F.faults files.new)
-        (tree_meters (W.listing worktrees.new) (W.open_repo worktrees.new) (W.follow_symref worktrees.new)))) }
-    ensures later { Later (meters (C.faults maker.old) (C.lost maker.old) (I.yes interrupt.old) (F.faults files.old)
-        (tree_meters (W.listing worktrees.old) (W.open_repo worktrees.old) (W.follow_symref worktrees.old)))
-        (meters (C.faults maker.new) (C.lost maker.new) (I.yes interrupt.new) (F.faults files.new)
-        (tree_meters (W.listing worktrees.new) (W.open_repo worktrees.new) (W.follow_symref worktrees.new))) }
+    ensures blames { BlamesLent (counts_by C.faults C.lost I.yes F.faults W.listing W.open_repo W.follow_symref)
+        (maker.old, interrupt.old, files.old, worktrees.old) (maker.new, interrupt.new, files.new, worktrees.new) result }
     ensures told { W.told worktrees.new ≡ W.told worktrees.old }
-    ensures uninterrupted { OnOk result ((I.yes interrupt.new).count ≡ (I.yes interrupt.old).count) }
     ensures out { C.out maker.new + 1 ≡ C.out maker.old }
     ensures left { C.left maker.new ≡ C.left maker.old }
     ensures addresses { C.addresses maker.new ≡ C.addresses maker.old }

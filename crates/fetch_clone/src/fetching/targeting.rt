@@ -1,20 +1,18 @@
 //! The reference that a clone of another depth is of, as a first connection lists it.
 
-ghost use Rattle.std.specs.Prelude.{◌≡◌, ◌≤◌, ◌∷◌, [], IfOk, IfErr, IsErrOf, OnOk, Ok, None};
+ghost use Rattle.std.specs.Prelude.{◌≡◌, ◌∷◌, [], IfOk, IfErr, Ok, None};
 ghost use Rattle.std.specs.Fn.{CalledAtMut};
 ghost use Rattle.std.specs.Option.{option_copied};
-ghost use Rattle.fetch_store.specs.Faults.{Counts, Rose};
 ghost use Rattle.fetch_specs.specs.Parses.{parsed};
 ghost use Rattle.fetch_specs.specs.declared.operation.Operation.TheVariants as operations;
-ghost use Rattle.fetch_conversation.specs.declared.ref_map.Error.TheVariants as ref_map_errors;
 ghost use Rattle.fetch_remote.specs.Repositories.{state_of};
-ghost use Rattle.fetch_clone.specs.Heeded.{IsHeededOver, SaysNo};
+ghost use Rattle.fetch_clone.specs.Blame.{BlamesMaker, BlamesStop, lent_maker, lost_first, stopped_first};
+ghost use Rattle.fetch_clone.specs.Heeded.{IsHeededOver};
 ghost use Rattle.fetch_clone.specs.HeadUpdates.{head_target_of};
 ghost use Rattle.fetch_clone.specs.Reached.{line, ways};
 ghost use Rattle.fetch_clone.specs.Stages as stages;
 ghost use Rattle.fetch_clone.specs.Targets as spec;
 ghost use Rattle.fetch_clone.specs.Targets.{HasNoTarget, HasTarget};
-ghost use Rattle.fetch_clone.specs.declared.clone.fetch.Error.TheVariants as errors;
 
 use crate::choices::Choices;
 use crate::clone::fetch::Error;
@@ -54,14 +52,8 @@ pub(crate) fn target<
     ensures refused { IfErr result (HasNoTarget (ways (CalledAtMut G.FnMut) C.Peer.told C.Peer.answers) (C.faults maker.old)
         (C.faults maker.new) (line (C.left maker.old) (C.taken maker.old) (C.addresses maker.old) configure.old)
         (line (C.left maker.new) (C.taken maker.new) (C.addresses maker.new) configure.new) draft.now repo.now) }
-    ensures counts { Counts (C.faults maker.old) (C.faults maker.new) }
-    ensures out { C.out maker.new ≡ C.out maker.old }
-    ensures lost { (C.lost maker.old).count ≤ (C.lost maker.new).count }
-    ensures transport { IsErrOf result (errors.RefMap ref_map_errors.Transport) → Rose (C.lost maker.old) (C.lost maker.new) }
-    ensures asked { Counts (I.yes interrupt.old) (I.yes interrupt.new) }
-    ensures interrupted { IsErrOf result (errors.RefMap ref_map_errors.Interrupted) → Rose (I.yes interrupt.old) (I.yes interrupt.new) }
-    ensures uninterrupted { OnOk result ((I.yes interrupt.new).count ≡ (I.yes interrupt.old).count) }
-    ensures questions { OnOk result (SaysNo (I.will_stop interrupt.old) (I.will_stop interrupt.new)) }
+    ensures maker { BlamesMaker (lent_maker C.faults C.lost C.out) maker.old maker.new (C.out maker.old) lost_first result }
+    ensures interrupt { BlamesStop I.yes I.will_stop interrupt.old interrupt.new stopped_first result }
     ensures again { G.IsAlwaysCallable configure.new }
 {
     if lists_first(&draft.choices) {
@@ -90,14 +82,8 @@ fn target_of<C: Connect, G: FnMut(&mut C::Peer) -> Result<(), ConfigureFault>, I
     ensures refused { IfErr result (spec.IsUntargeted (ways (CalledAtMut G.FnMut) C.Peer.told C.Peer.answers) (C.faults maker.old)
         (C.faults maker.new) (line (C.left maker.old) (C.taken maker.old) (C.addresses maker.old) configure.old)
         (line (C.left maker.new) (C.taken maker.new) (C.addresses maker.new) configure.new) draft.now repo.now) }
-    ensures counts { Counts (C.faults maker.old) (C.faults maker.new) }
-    ensures out { C.out maker.new ≡ C.out maker.old }
-    ensures lost { (C.lost maker.old).count ≤ (C.lost maker.new).count }
-    ensures transport { IsErrOf result (errors.RefMap ref_map_errors.Transport) → Rose (C.lost maker.old) (C.lost maker.new) }
-    ensures asked { Counts (I.yes interrupt.old) (I.yes interrupt.new) }
-    ensures interrupted { IsErrOf result (errors.RefMap ref_map_errors.Interrupted) → Rose (I.yes interrupt.old) (I.yes interrupt.new) }
-    ensures uninterrupted { OnOk result ((I.yes interrupt.new).count ≡ (I.yes interrupt.old).count) }
-    ensures questions { OnOk result (SaysNo (I.will_stop interrupt.old) (I.will_stop interrupt.new)) }
+    ensures maker { BlamesMaker (lent_maker C.faults C.lost C.out) maker.old maker.new (C.out maker.old) lost_first result }
+    ensures interrupt { BlamesStop I.yes I.will_stop interrupt.old interrupt.new stopped_first result }
     ensures again { G.IsAlwaysCallable configure.new }
 {
     let remote = bare(alloc, draft.url.as_bytes())?;

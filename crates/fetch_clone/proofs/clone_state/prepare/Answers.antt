@@ -47,11 +47,10 @@ returns-clause-ok g c =
       noted = rw c.in_ok-place.ensures at c.in_ok-free.ensures.noted;
       later = c.in_ok-repo.ensures.counts;
       created = rw (c.as_bytes.ensures, c.in_ok-place.ensures, c.strict-options.ensures, c.in_ok-free.ensures.tree) at c.in_ok-repo.ensures.created;
-      opened = refl;
-      overrides = c.in_ok-opened.ensures;
-      repo = rw c.to_thread_local-repo.ensures (rw (c.as_bytes.ensures, c.in_ok-place.ensures, c.strict-options.ensures) at c.in_ok-repo.ensures.repo);
-      url_kept = c.in_ok-url.ensures;
-      place_kept = c.in_ok-place.ensures;
-      choices = c.new-3.ensures;
-      unset = refl;
+      found = record {
+        opened = refl;
+        repo = rw c.to_thread_local-repo.ensures (rw (c.as_bytes.ensures, c.in_ok-place.ensures, c.strict-options.ensures) at c.in_ok-repo.ensures.repo);
+        overrides = c.in_ok-opened.ensures;
+      };
+      begun = record { url_kept = c.in_ok-url.ensures; place_kept = c.in_ok-place.ensures; choices = c.new-3.ensures; unset = refl };
     }

@@ -1,7 +1,7 @@
-use Rattle.std.proofs.Common.{◌∙◌, inl, inr}
-use Rattle.std.proofs.lemmas.Result.{err_from_is_err_and, IfErr-weaker, IfOk-weaker, on_ok_weaker}
+use Rattle.std.proofs.Common.{inl, inr}
+use Rattle.std.proofs.lemmas.Result.{err_from_is_err_and, IfErr-weaker, IfOk-weaker}
 use Rattle.fetch_clone.specs.Counted.{meters, tree_meters}
-use Rattle.fetch_clone.proofs.Counted.{counted-later, later-then}
+use Rattle.fetch_clone.proofs.Counted.{counts-later, later-then}
 use Rattle.fetch_clone.proofs.Heeded.{heeded-behind, says-at}
 use Rattle.fetch_clone.proofs.Targeting.{heeds-ahead}
 use Rattle.fetch_clone.proofs.fetching.fetch_only.fetched_into.Goals as goal
@@ -24,19 +24,14 @@ returns-clause-refused g c =
     (λ e h. record { by = inr (record { saved = c.in_ok-saved.saved; asked = c.save.new.repo; between = _; written = _; failed = g.C.Connect.faults c.save.new.maker; earlier = (c.save.ensures.later (tree_meters (g.W.Worktrees.listing c.args.worktrees.now) (g.W.Worktrees.open_repo c.args.worktrees.now) (g.W.Worktrees.follow_symref c.args.worktrees.now))).made; is_saved = c.in_ok-saved.ensures.saved.0; why = h }) })
     refused
 
-pub returns-clause-counted : goal.returns-clause-counted
-returns-clause-counted g c = IfErr-weaker c.completed.result _ _ (λ e h. counted-later (meters (g.C.Connect.faults c.args.maker.now) (g.C.Connect.lost c.args.maker.now) (g.I.Interrupt.yes c.args.interrupt.now) (g.F.Files.faults c.args.files.now) (tree_meters (g.W.Worktrees.listing c.args.worktrees.now) (g.W.Worktrees.open_repo c.args.worktrees.now) (g.W.Worktrees.follow_symref c.args.worktrees.now))) (meters (g.C.Connect.faults c.save.new.maker) (g.C.Connect.lost c.save.new.maker) (g.I.Interrupt.yes c.save.new.interrupt) (g.F.Files.faults c.save.new.files) (tree_meters (g.W.Worktrees.listing c.args.worktrees.now) (g.W.Worktrees.open_repo c.args.worktrees.now) (g.W.Worktrees.follow_symref c.args.worktrees.now))) (meters (g.C.Connect.faults c.completed.new.maker) (g.C.Connect.lost c.completed.new.maker) (g.I.Interrupt.yes c.completed.new.interrupt) (g.F.Files.faults c.completed.new.files) (tree_meters (g.W.Worktrees.listing c.completed.new.worktrees) (g.W.Worktrees.open_repo c.completed.new.worktrees) (g.W.Worktrees.follow_symref c.completed.new.worktrees))) e (c.save.ensures.later (tree_meters (g.W.Worktrees.listing c.args.worktrees.now) (g.W.Worktrees.open_repo c.args.worktrees.now) (g.W.Worktrees.follow_symref c.args.worktrees.now))) h) c.completed.ensures.counted
+pub returns-clause-blames : goal.returns-clause-blames
+returns-clause-blames g c =
+    record {
+      counted = counts-later (meters (g.C.Connect.faults c.args.maker.now) (g.C.Connect.lost c.args.maker.now) (g.I.Interrupt.yes c.args.interrupt.now) (g.F.Files.faults c.args.files.now) (tree_meters (g.W.Worktrees.listing c.args.worktrees.now) (g.W.Worktrees.open_repo c.args.worktrees.now) (g.W.Worktrees.follow_symref c.args.worktrees.now))) (meters (g.C.Connect.faults c.save.new.maker) (g.C.Connect.lost c.save.new.maker) (g.I.Interrupt.yes c.save.new.interrupt) (g.F.Files.faults c.save.new.files) (tree_meters (g.W.Worktrees.listing c.args.worktrees.now) (g.W.Worktrees.open_repo c.args.worktrees.now) (g.W.Worktrees.follow_symref c.args.worktrees.now))) (meters (g.C.Connect.faults c.completed.new.maker) (g.C.Connect.lost c.completed.new.maker) (g.I.Interrupt.yes c.completed.new.interrupt) (g.F.Files.faults c.completed.new.files) (tree_meters (g.W.Worktrees.listing c.completed.new.worktrees) (g.W.Worktrees.open_repo c.completed.new.worktrees) (g.W.Worktrees.follow_symref c.completed.new.worktrees))) c.completed.result (c.save.ensures.later (tree_meters (g.W.Worktrees.listing c.args.worktrees.now) (g.W.Worktrees.open_repo c.args.worktrees.now) (g.W.Worktrees.follow_symref c.args.worktrees.now))) c.in_ok-saved.ensures.uninterrupted c.completed.ensures.blames.counted;
+      later = later-then (meters (g.C.Connect.faults c.args.maker.now) (g.C.Connect.lost c.args.maker.now) (g.I.Interrupt.yes c.args.interrupt.now) (g.F.Files.faults c.args.files.now) (tree_meters (g.W.Worktrees.listing c.args.worktrees.now) (g.W.Worktrees.open_repo c.args.worktrees.now) (g.W.Worktrees.follow_symref c.args.worktrees.now))) (meters (g.C.Connect.faults c.save.new.maker) (g.C.Connect.lost c.save.new.maker) (g.I.Interrupt.yes c.save.new.interrupt) (g.F.Files.faults c.save.new.files) (tree_meters (g.W.Worktrees.listing c.args.worktrees.now) (g.W.Worktrees.open_repo c.args.worktrees.now) (g.W.Worktrees.follow_symref c.args.worktrees.now))) (meters (g.C.Connect.faults c.completed.new.maker) (g.C.Connect.lost c.completed.new.maker) (g.I.Interrupt.yes c.completed.new.interrupt) (g.F.Files.faults c.completed.new.files) (tree_meters (g.W.Worktrees.listing c.completed.new.worktrees) (g.W.Worktrees.open_repo c.completed.new.worktrees) (g.W.Worktrees.follow_symref c.completed.new.worktrees))) (c.save.ensures.later (tree_meters (g.W.Worktrees.listing c.args.worktrees.now) (g.W.Worktrees.open_repo c.args.worktrees.now) (g.W.Worktrees.follow_symref c.args.worktrees.now))) c.completed.ensures.blames.later;
+    }
 
-pub returns-clause-later : goal.returns-clause-later
-returns-clause-later g c = later-then (meters (g.C.Connect.faults c.args.maker.now) (g.C.Connect.lost c.args.maker.now) (g.I.Interrupt.yes c.args.interrupt.now) (g.F.Files.faults c.args.files.now) (tree_meters (g.W.Worktrees.listing c.args.worktrees.now) (g.W.Worktrees.open_repo c.args.worktrees.now) (g.W.Worktrees.follow_symref c.args.worktrees.now))) (meters (g.C.Connect.faults c.save.new.maker) (g.C.Connect.lost c.save.new.maker) (g.I.Interrupt.yes c.save.new.interrupt) (g.F.Files.faults c.save.new.files) (tree_meters (g.W.Worktrees.listing c.args.worktrees.now) (g.W.Worktrees.open_repo c.args.worktrees.now) (g.W.Worktrees.follow_symref c.args.worktrees.now))) (meters (g.C.Connect.faults c.completed.new.maker) (g.C.Connect.lost c.completed.new.maker) (g.I.Interrupt.yes c.completed.new.interrupt) (g.F.Files.faults c.completed.new.files) (tree_meters (g.W.Worktrees.listing c.completed.new.worktrees) (g.W.Worktrees.open_repo c.completed.new.worktrees) (g.W.Worktrees.follow_symref c.completed.new.worktrees))) (c.save.ensures.later (tree_meters (g.W.Worktrees.listing c.args.worktrees.now) (g.W.Worktrees.open_repo c.args.worktrees.now) (g.W.Worktrees.follow_symref c.args.worktrees.now))) c.completed.ensures.later
-
-pub returns-clause-uninterrupted : goal.returns-clause-uninterrupted
-returns-clause-uninterrupted g c = on_ok_weaker c.completed.result (λ same. same ∙ c.in_ok-saved.ensures.uninterrupted) c.completed.ensures.uninterrupted
-
-pub returns-in_err-saved-clause-counted : goal.returns-in_err-saved-clause-counted
-returns-in_err-saved-clause-counted g c =
+pub returns-in_err-saved-clause-blames : goal.returns-in_err-saved-clause-blames
+returns-in_err-saved-clause-blames g c =
     let p = err_from_is_err_and c.from_residual.result c.from_residual.ensures.1 in
-    rw (p.1, p.2) (c.in_err-saved.ensures.counted (tree_meters (g.W.Worktrees.listing c.args.worktrees.now) (g.W.Worktrees.open_repo c.args.worktrees.now) (g.W.Worktrees.follow_symref c.args.worktrees.now)))
-
-pub returns-in_err-saved-clause-later : goal.returns-in_err-saved-clause-later
-returns-in_err-saved-clause-later g c = c.in_err-saved.ensures.later (tree_meters (g.W.Worktrees.listing c.args.worktrees.now) (g.W.Worktrees.open_repo c.args.worktrees.now) (g.W.Worktrees.follow_symref c.args.worktrees.now))
+    rw (p.1, p.2) (record { counted = (c.in_err-saved.ensures.counted (tree_meters (g.W.Worktrees.listing c.args.worktrees.now) (g.W.Worktrees.open_repo c.args.worktrees.now) (g.W.Worktrees.follow_symref c.args.worktrees.now))); later = c.in_err-saved.ensures.later (tree_meters (g.W.Worktrees.listing c.args.worktrees.now) (g.W.Worktrees.open_repo c.args.worktrees.now) (g.W.Worktrees.follow_symref c.args.worktrees.now)) })

@@ -1,5 +1,5 @@
 use Rattle.std.proofs.Common.{sym, ◌∙◌}
-use Rattle.fetch_clone.proofs.Heeded.{says-none}
+use Rattle.fetch_clone.proofs.Blamed.{maker-still, stop-still}
 use Rattle.fetch_clone.proofs.Targeting.{told-first, unasked, untold-first}
 use Rattle.fetch_clone.proofs.fetching.targeting.target.Goals as goal
 
@@ -13,5 +13,14 @@ returns-then-lists_first-clause-refused g c =
 pub returns-else-lists_first-clause-target : goal.returns-else-lists_first-clause-target
 returns-else-lists_first-clause-target g c = unasked _ _ _ c.args.draft.now c.args.repo.now (sym c.lists_first.ensures ∙ c.if-lists_first.false)
 
-pub returns-else-lists_first-clause-questions : goal.returns-else-lists_first-clause-questions
-returns-else-lists_first-clause-questions g c = says-none _
+pub returns-then-lists_first-clause-maker : goal.returns-then-lists_first-clause-maker
+returns-then-lists_first-clause-maker g c = c.target_of.ensures.maker
+
+pub returns-then-lists_first-clause-interrupt : goal.returns-then-lists_first-clause-interrupt
+returns-then-lists_first-clause-interrupt g c = c.target_of.ensures.interrupt
+
+pub returns-else-lists_first-clause-maker : goal.returns-else-lists_first-clause-maker
+returns-else-lists_first-clause-maker g c = maker-still _ _ _ _
+
+pub returns-else-lists_first-clause-interrupt : goal.returns-else-lists_first-clause-interrupt
+returns-else-lists_first-clause-interrupt g c = stop-still _ _ _ _ _
