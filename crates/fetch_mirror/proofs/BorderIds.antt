@@ -1,26 +1,18 @@
 -- The border of a state that a journal left of an empty repository: ids of its hash, as a request tells them.
-use Rattle.std.proofs.Common.{◌≡◌, ℕ, zero, suc, ◌-◌, true, List, [], ◌∷◌, ◌++◌, length, Option, Some, None, refl, sym, ap, ◌∙◌, subst, arith, length-append, Contains}
-use Rattle.std.specs.Prelude.{IsTrue, slice_get, slice_index}
+use Rattle.std.proofs.Common.{◌≡◌, ◌-◌, true, List, [], ◌∷◌, ◌++◌, length, Option, Some, None, refl, sym, ap, ◌∙◌, subst, arith, length-append, Contains}
+use Rattle.std.specs.Prelude.{IsTrue, slice_get}
 use Rattle.std.specs.FinMap as finmap
 use Rattle.std.specs.FinSet as set
-use Rattle.std.specs.Int.{to_be_bytes, w32}
 use Rattle.std.specs.List.Sorted.{IsStrictlySortedBy}
 use Rattle.std.specs.Ordering.{is_lt}
 use Rattle.std.proofs.lemmas.Map.Keys.{sorted_head, sorted_tail}
-use Rattle.hex.specs.Hex.{IsBytes}
-use Rattle.sha1.specs.Sha1 as one
-use Rattle.sha2.specs.Sha256 as two
 use Rattle.fetch_store.specs.Borders.{IdSet, ids_of}
 use Rattle.fetch_store.specs.Closed.{is_commit}
-use Rattle.fetch_store.specs.Hashing.{digest}
-use Rattle.fetch_store.specs.Id.{bytes_of, kind_of}
 use Rattle.fetch_store.specs.Objects.{Stored}
 use Rattle.fetch_store.specs.Stores.{ObjectMap, id_cmp}
 use Rattle.fetch_store.specs.declared.id.Kind.{Kind}
-use Rattle.fetch_store.specs.declared.id.Kind.TheVariants.{Sha1, Sha256}
 use Rattle.fetch_store.specs.declared.id.ObjectId.{ObjectId}
 use Rattle.fetch_store.proofs.Borders.{named-Contains, named-ids_of}
-use Rattle.fetch_store.proofs.Digests.{length-digest}
 use Rattle.fetch_store.proofs.Keys.{keys-rise}
 use Rattle.fetch_store.proofs.Members.{first_in, later_in}
 use Rattle.fetch_reach.specs.Named.{own_id}
@@ -29,56 +21,8 @@ use Rattle.fetch_shared.specs.Shared.{IsKept, SharedValue}
 use Rattle.fetch_shared.proofs.Replays.{replay_hash}
 use Rattle.fetch_wire.specs.ServerLines.{IsIdOf}
 use Rattle.fetch_serve.specs.Requests.{is_greater}
+use Rattle.fetch_serve.proofs.Ids.{own_is}
 use Rattle.fetch_mirror.specs.Fetches.{AreAbove}
-
--- ---- the bytes of an id
-
-word_bytes : (n : ℕ) → IsBytes (to_be_bytes w32 n)
-word_bytes n zero = omega arith
-word_bytes n (suc zero) = omega arith
-word_bytes n (suc (suc zero)) = omega arith
-word_bytes n (suc (suc (suc zero))) = omega arith
-word_bytes n (suc (suc (suc (suc i)))) = omega arith
-
-bytes_both : (xs ys : List ℕ) → IsBytes xs → IsBytes ys → IsBytes (xs ++ ys)
-bytes_both [] ys f g i = g i
-bytes_both (x ∷ xs) ys f g zero = f zero
-bytes_both (x ∷ xs) ys f g (suc i) = bytes_both xs ys (λ j. f (suc j)) g i
-
-no_bytes : IsBytes []
-no_bytes i = omega arith
-
-words_one : (h : List ℕ) (n : ℕ) → IsBytes (one.digest_bytes h n)
-unfolding one.digest_bytes
-words_one h zero = no_bytes
-words_one h (suc n) = bytes_both (one.digest_bytes h n) (to_be_bytes w32 (slice_index h n)) (words_one h n) (word_bytes (slice_index h n))
-
-words_two : (h : List ℕ) (n : ℕ) → IsBytes (two.digest_bytes h n)
-unfolding two.digest_bytes
-words_two h zero = no_bytes
-words_two h (suc n) = bytes_both (two.digest_bytes h n) (to_be_bytes w32 (slice_index h n)) (words_two h n) (word_bytes (slice_index h n))
-
-bytes_one : (m : List ℕ) → IsBytes (one.sha1 m)
-unfolding one.sha1
-bytes_one m = words_one _ 5
-
-bytes_two : (m : List ℕ) → IsBytes (two.sha256 m)
-unfolding two.sha256
-bytes_two m = words_two _ 8
-
-digest_bytes : (hash : Kind) (m : List ℕ) → IsBytes (bytes_of (digest hash m))
-digest_bytes Sha1 m = bytes_one m
-digest_bytes Sha256 m = bytes_two m
-
-digest_kind : (hash : Kind) (m : List ℕ) → kind_of (digest hash m) ≡ hash
-digest_kind Sha1 m = refl
-digest_kind Sha256 m = refl
-
-digest_is : (hash : Kind) (m : List ℕ) → IsIdOf hash (digest hash m)
-digest_is hash m = record { same = digest_kind hash m; len = length-digest hash m; bytes = digest_bytes hash m }
-
-own_is : (o : Stored) → IsIdOf o.hash (own_id o)
-own_is o = digest_is o.hash _
 
 -- ---- in their order
 

@@ -45,8 +45,8 @@ untroubled d servable border whole serve.NoMemory some t = some refl
 by_cause : (d : Data) → IsServable d → (committer : Signature) (workers bound : ℕ) → AreWithin d workers bound → (lister : ServedPeer) (peers : List ServedPeer) (index : ℕ) (e : SharedError)
     → IsWorkerRefused (given_by d committer workers bound lister peers) index e → (e ≡ shared.NoMemory → ⊥) → HasCollided d e
 by_cause d servable committer workers bound within lister peers index e r some =
-    let low : index < length r.fetched.jobs = subst (λ (k : ℕ). index < k) r.fetched.raced.jobs_done.answered (slice_get_within r.answers index (Err e) r.refused) in
-    let w = at_place d servable committer workers bound lister peers r.names r.listed r.repo r.journal r.answers r.fetched index (Err e) low r.refused in
+    let low : index < length r.fetched.jobs = subst (λ (k : ℕ). index < k) r.fetched.raced.jobs_done.answered (slice_get_within r.answers index (Err e) r.first.refused) in
+    let w = at_place d servable committer workers bound lister peers r.names r.listed r.repo r.journal r.answers r.fetched index (Err e) low r.first.refused in
     only_collides d servable committer workers bound within lister peers r.names r.listed r.repo r.journal r.answers r.fetched index low w.peer e some r.untouched w.raced
 
 -- ---- the whole

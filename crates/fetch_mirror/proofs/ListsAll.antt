@@ -63,7 +63,7 @@ module _ (d : Data) (servable : IsServable d) (committer : Signature) (bound : �
 pub worker_lists : (d : Data) → IsServable d → (committer : Signature) (workers bound : ℕ) → IsFew workers → AreWithin d workers bound → (lister : ServedPeer) (peers : List ServedPeer) (index : ℕ) (cause : PrepareError)
     → IsWorkerRefused (given_by d committer workers bound lister peers) index (shared.Fetch (fetch.Prepare cause)) → ⊥
 worker_lists d servable committer workers bound few within lister peers index cause r =
-    let low : index < length r.fetched.jobs = subst (λ (k : ℕ). index < k) r.fetched.raced.jobs_done.answered (slice_get_within r.answers index (Err (shared.Fetch (fetch.Prepare cause))) r.refused) in
-    let w = worker.at_place d servable committer workers bound lister peers r.names r.listed r.repo r.journal r.answers r.fetched index (Err (shared.Fetch (fetch.Prepare cause))) low r.refused in
+    let low : index < length r.fetched.jobs = subst (λ (k : ℕ). index < k) r.fetched.raced.jobs_done.answered (slice_get_within r.answers index (Err (shared.Fetch (fetch.Prepare cause))) r.first.refused) in
+    let w = worker.at_place d servable committer workers bound lister peers r.names r.listed r.repo r.journal r.answers r.fetched index (Err (shared.Fetch (fetch.Prepare cause))) low r.first.refused in
     lists d servable committer bound (dealt_to workers index r.names) (worker.is_share d servable committer workers bound lister peers r.names r.listed r.repo r.journal r.answers r.fetched index low)
     (worker.fits d servable committer workers bound lister peers r.names r.listed r.repo r.journal r.answers r.fetched within index low) r.journal index w.peer cause w.raced

@@ -176,9 +176,8 @@ module _ {P : Type 0} (g : Given P) (names : List (List ℕ)) (listed : HasListe
     journal = journal;
     answers = the_answers.answers;
     fetched = fetched_so;
-    refused = first_refused job_runs_now the_answers index job_run cause at refused;
+    first = record { refused = first_refused job_runs_now the_answers index job_run cause at refused; before = before_refused job_runs_now the_answers index before };
     untouched = untouched index cause (first_refused job_runs_now the_answers index job_run cause at refused);
-    before = before_refused job_runs_now the_answers index before;
   }
 
   pub unmirrored_so : IsFew g.workers → (e : MirrorError) → TellsFirst job_runs_now e → IsUnmirrored g e

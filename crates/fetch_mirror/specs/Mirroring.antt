@@ -30,6 +30,7 @@ use Rattle.fetch_race.specs.Passes.{answer_in}
 use Rattle.fetch_shared.specs.declared.error.SharedError.TheVariants as shared
 use Rattle.fetch_mirror.specs.declared.error.MirrorError.{MirrorError}
 use Rattle.fetch_mirror.specs.declared.error.MirrorError.TheVariants as errors
+use Rattle.fetch_mirror.specs.declared.options.MirrorOptions.{MirrorOptions}
 use Rattle.fetch_mirror.specs.Opening.{empty_mirror}
 use Rattle.fetch_mirror.specs.Naming.{inquiry_by, map_options, names_of}
 use Rattle.fetch_mirror.specs.Shares.{share_of}
@@ -80,6 +81,17 @@ pub record Asking (P : Type 0) : Type 0 where
   pub lister_now : P
   pub bound : ℕ
 
+-- the same, of a lister that is seen so
+abbrev pub asking_by : {P : Type 0} → Bool → (P → Option Talk) → (P → Faults) → P → P → ℕ → Asking P
+asking_by answers told faults lister lister_now bound = record {
+  answers = answers;
+  told = told;
+  faults = faults;
+  lister = lister;
+  lister_now = lister_now;
+  bound = bound;
+}
+
 -- It told these names.
 pub record HasListed {P : Type 0} (a : Asking P) (names : List (List ℕ)) : Type 0 where
   pub listed : ListedValue
@@ -111,6 +123,17 @@ pub record Given (P : Type 0) : Type 0 where
   pub kind : Kind
   pub committer : Signature
   pub workers : ℕ
+
+-- the same, of a mirror that is made by these options
+abbrev pub given_for : {P : Type 0} → Asking P → List P → List P → Kind → MirrorOptions → Given P
+given_for asking peers peers_now kind options = record {
+  asking = asking;
+  peers = peers;
+  peers_now = peers_now;
+  kind = kind;
+  committer = options.committer;
+  workers = options.workers;
+}
 
 -- what the workers have in common: no work trees, and the empty mirror
 abbrev pub race_of : {P : Type 0} → Given P → Race P
@@ -148,18 +171,31 @@ pub record HasMirrored {P : Type 0} (g : Given P) (repo : RepositoryValue) (jour
 
 -- ---- a refusal
 
+-- Of these answers this is the first refusal.
+pub record IsFirstRefusal (answers : List (Result Outcome SharedError)) (index : ℕ) (e : SharedError) : Type 0 where
+  -- This answer is the refusal.
+  pub refused : slice_get answers index ≡ Some (Err e)
+  -- No answer before it is a refusal.
+  pub before : (i : ℕ) (answer : Result Outcome SharedError) → i < index → slice_get answers i ≡ Some answer → IsOk answer
+
 -- This is the first worker that was refused, and why.
 pub record IsWorkerRefused {P : Type 0} (g : Given P) (index : ℕ) (e : SharedError) : Type 0 where
+  -- the names that the lister told
   pub names : List (List ℕ)
+  -- The references were listed.
   pub listed : HasListed g.asking names
+  -- the repository once all workers were done
   pub repo : RepositoryValue
+  -- what the workers entered
   pub journal : List Entry
+  -- what each worker was answered
   pub answers : List (Result Outcome SharedError)
+  -- The workers did their jobs.
   pub fetched : HaveFetched g names repo journal answers
-  pub refused : slice_get answers index ≡ Some (Err e)
+  -- No worker before this one was refused.
+  pub first : IsFirstRefusal answers index e
   -- It isn't refused since a reference is another than it saw: no other worker touches the names of its share.
   pub untouched : (name : List ℕ) (found : Option Target) → e ≢ shared.EditReferences name found
-  pub before : (i : ℕ) (answer : Result Outcome SharedError) → i < index → slice_get answers i ≡ Some answer → IsOk answer
 
 -- from one to eight
 abbrev pub IsFew : ℕ → Type 0

@@ -5,7 +5,7 @@ ghost use Rattle.fetch_race.specs.Passes.{IsRest};
 ghost use Rattle.fetch_shared.specs.Machine.{held};
 ghost use Rattle.fetch_store.specs.Missing.{unclosed};
 ghost use Rattle.fetch_mirror.specs.Mirroring.{AreUnrefused, HasListed, HasMirrored, IsFew, IsRefusalOf, IsToldOf, IsUnmirrored, IsUnnamed};
-ghost use Rattle.fetch_mirror.specs.Mirroring.{IsUnrefused, TellsFirst};
+ghost use Rattle.fetch_mirror.specs.Mirroring.{IsUnrefused, TellsFirst, asking_by, given_for};
 ghost use Rattle.fetch_race.specs.Passes.{answer_in};
 
 use crate::error::MirrorError;
@@ -40,38 +40,11 @@ pub fn mirror_from<R: Threads + Wait + Sync, P: Peer + Send>(
 ) -> Result<Mirrored, MirrorError>
     requires peers { length peers.old ≡ options.workers }
     ensures few { IfOk result (λ _. IsFew options.workers) }
-    ensures mirrored { IfOk result (λ m. HasMirrored
-        (record {
-          asking = record {
-            answers = P.answers;
-            told = P.told;
-            faults = P.faults;
-            lister = lister.old;
-            lister_now = lister.new;
-            bound = options.max_reply_bytes;
-          };
-          peers = peers.old;
-          peers_now = peers.new;
-          kind = kind;
-          committer = options.committer;
-          workers = options.workers;
-        }) m.repo m.journal) }
-    ensures refused { IfErr result (λ e. IsUnmirrored
-        (record {
-          asking = record {
-            answers = P.answers;
-            told = P.told;
-            faults = P.faults;
-            lister = lister.old;
-            lister_now = lister.new;
-            bound = options.max_reply_bytes;
-          };
-          peers = peers.old;
-          peers_now = peers.new;
-          kind = kind;
-          committer = options.committer;
-          workers = options.workers;
-        }) e) }
+    ensures mirrored { IfOk result (λ m. HasMirrored (given_for
+        (asking_by P.answers P.told P.faults lister.old lister.new options.max_reply_bytes) peers.old peers.new kind options)
+        m.repo m.journal) }
+    ensures refused { IfErr result (λ e. IsUnmirrored (given_for
+        (asking_by P.answers P.told P.faults lister.old lister.new options.max_reply_bytes) peers.old peers.new kind options) e) }
 {
     let MirrorOptions {
         workers,
@@ -117,11 +90,8 @@ fn listed_names<P: Peer>(
     lister: &mut P,
     bound: ReplyBound,
 ) -> Result<Vec<FullName>, MirrorError>
-    ensures names { IfOk result (λ names. HasListed
-        (record { answers = P.answers; told = P.told; faults = P.faults; lister = lister.old; lister_now = lister.new; bound = bound })
-        names.items) }
-    ensures refused { IfErr result (λ e. IsUnnamed
-        (record { answers = P.answers; told = P.told; faults = P.faults; lister = lister.old; lister_now = lister.new; bound = bound }) e) }
+    ensures names { IfOk result (λ names. HasListed (asking_by P.answers P.told P.faults lister.old lister.new bound) names.items) }
+    ensures refused { IfErr result (λ e. IsUnnamed (asking_by P.answers P.told P.faults lister.old lister.new bound) e) }
 {
     match list(alloc, lister, bound) {
         Ok(listed) => Ok(names_of(alloc, listed.ref_map.remote_refs.as_slice())?),

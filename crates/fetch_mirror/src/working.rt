@@ -1,6 +1,6 @@
 //! Workers that fetch at once, each with a peer that is lent.
 
-ghost use Rattle.std.specs.Prelude.{◌≡◌, ℕ, ◌<◌, ◌≤◌, All, [], IfOk, IfSome, Some, length, map, slice_index_or};
+ghost use Rattle.std.specs.Prelude.{◌≡◌, ℕ, ◌<◌, ◌≤◌, All, [], IfOk, IfSome, length, map, slice_index_or};
 ghost use Rattle.fetch_race.specs.Racing.{IsRun};
 ghost use Rattle.fetch_race.specs.Passes.{HaveRaced, IsRest};
 ghost use Rattle.fetch_shared.specs.Journals.{pass_of};
@@ -12,9 +12,9 @@ ghost use Rattle.fetch_mirror.specs.Mirroring.{AreWorkers};
 use crate::listing::map_options;
 use crate::pairs::for_each_pair_mut;
 use crate::sharing::share;
-use fetch_race::{Job, JobRun, closed, fetch_by_pass, gather, give_passes};
-use fetch_remote::{FetchOptions, Outcome, Remote, Repository};
-use fetch_shared::{Entry, Pass, Receipt, SharedError, SharedRepository};
+use fetch_race::{Job, JobRun, arrive, closed, fetch_by_pass, gather, give_passes};
+use fetch_remote::{FetchOptions, Remote, Repository};
+use fetch_shared::{Entry, Pass, SharedRepository};
 use fetch_specs::{FullName, RefSpec, Tags};
 use fetch_store::{List, NoMemory, Text};
 use fetch_wire::{Peer, ReplyBound};
@@ -149,19 +149,4 @@ fn fetch_one<R: Threads + Wait + Sync, P: Peer>(
         &[],
     );
     arrive(job_run, pass, receipt, answer)
-}
-
-/// Puts a pass that came back and what became of the job beside the job.
-fn arrive(
-    job_run: &mut JobRun<()>,
-    pass: Pass,
-    receipt: Receipt,
-    answer: Result<Outcome, SharedError>,
-)
-    ensures job { job_run.new.job ≡ job_run.old.job }
-    ensures pass { job_run.new.pass ≡ Some pass }
-    ensures answer { job_run.new.answer ≡ Some (receipt, answer) }
-{
-    drop(job_run.pass.replace(pass));
-    drop(job_run.answer.replace((receipt, answer)));
 }

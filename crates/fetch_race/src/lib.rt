@@ -9,4 +9,4 @@ mod racing;
 pub use fetching::fetch_by_pass;
 pub use job::{Job, JobRun, Raced};
 pub use passes::{closed, gather, give_passes, opened, race_with};
-pub use racing::race_over;
+pub use racing::{arrive, race_over};

@@ -76,7 +76,7 @@ fn run<R: Threads + Wait + Sync, P: Peer>(
 }
 
 /// Puts a pass that came back and what became of the job beside the job.
-fn arrive<P>(
+pub fn arrive<P>(
     job_run: &mut JobRun<P>,
     pass: Pass,
     receipt: Receipt,
