@@ -17,6 +17,7 @@ pub use laws::{
     a_report_tells_the_requests, a_summary_has_the_status_of_its_report, a_valid_scene_is_fetched,
     lines_are_heard_as_written,
 };
+pub use program::answers::{Answer, Silence, malformed, malformed_word};
 pub use program::input::{ReadError, read_all};
 pub use program::io::{Sink, Source};
 pub use program::memory::{MemorySink, MemorySource};
@@ -26,8 +27,8 @@ pub use program::standard::{StdSink, StdSource};
 pub use program::words::{Command, HELP, MAX_BENCH, VERSION, read_command};
 pub use reporting::fetch_case::{FetchCase, open_local, open_remote, open_scene};
 pub use reporting::lines::{
-    append_border, append_id, append_keep, append_log, append_malformed, append_malformed_word,
-    append_ref, append_refused, append_sent, append_target,
+    append_border, append_id, append_keep, append_log, append_ref, append_refused, append_sent,
+    append_target,
 };
 pub use reporting::map_lines::append_map;
 pub use reporting::state_lines::{append_commits, append_ids, append_refs, append_state};

@@ -1,5 +1,6 @@
 //! The program: where its input comes from, where its output goes, and its words.
 
+pub mod answers;
 pub mod input;
 pub mod io;
 pub mod memory;

@@ -13,6 +13,7 @@ use fetch_store::{List, NoMemory, Text, split_first};
 use fetch_update::RefLogMessage;
 use fetch_wire::ReplyBound;
 use std::alloc::Global;
+use std::mem;
 
 /// One option of a scene.
 #[derive(Debug, Drop)]
@@ -307,73 +308,27 @@ impl SceneOptions {
     fn with_since(self, cutoff: u64) -> SceneOptions
         ensures { result ≡ record self { shallow = spec.with_since cutoff self.shallow } }
     {
-        let SceneOptions {
-            dry_run,
-            packed_only,
-            filter,
-            shallow,
-            parameters,
-            bound,
-            message,
-        } = self;
-        SceneOptions {
-            dry_run,
-            packed_only,
-            filter,
-            shallow: with_since(shallow, cutoff),
-            parameters,
-            bound,
-            message,
-        }
+        let mut options = self;
+        let shallow = mem::replace(&mut options.shallow, Shallow::NoChange);
+        options.shallow = with_since(shallow, cutoff);
+        options
     }
 
     fn with_name(self, alloc: Global, name: PartialName) -> Result<SceneOptions, NoMemory>
         ensures { IfOk result (λ options. options ≡ record self { shallow = spec.with_name name self.shallow }) }
     {
-        let SceneOptions {
-            dry_run,
-            packed_only,
-            filter,
-            shallow,
-            parameters,
-            bound,
-            message,
-        } = self;
-        let shallow = with_name(alloc, shallow, name)?;
-        Ok(SceneOptions {
-            dry_run,
-            packed_only,
-            filter,
-            shallow,
-            parameters,
-            bound,
-            message,
-        })
+        let mut options = self;
+        let shallow = mem::replace(&mut options.shallow, Shallow::NoChange);
+        options.shallow = with_name(alloc, shallow, name)?;
+        Ok(options)
     }
 
     fn with_parameter(self, name: Text, value: Option<Text>) -> Result<SceneOptions, NoMemory>
         ensures { IfOk result (λ options. options ≡ record self { parameters = self.parameters ++ (name, value) ∷ [] }) }
     {
-        let SceneOptions {
-            dry_run,
-            packed_only,
-            filter,
-            shallow,
-            parameters,
-            bound,
-            message,
-        } = self;
-        let mut parameters = parameters.into_vec();
-        parameters.push((name, value))?;
-        Ok(SceneOptions {
-            dry_run,
-            packed_only,
-            filter,
-            shallow,
-            parameters: List::from(parameters),
-            bound,
-            message,
-        })
+        let mut options = self;
+        options.parameters.push((name, value))?;
+        Ok(options)
     }
 }
 

@@ -8,7 +8,7 @@ ghost use Rattle.fetch_remote.specs.Repositories.{setup_of, state_of};
 ghost use Rattle.mirror_cli.specs.MirrorRun.{IsMirrorOf, IsTold, served_in, mirror_options};
 
 use crate::reporting::{mirror_report, refused_report};
-use fetch_cli::{ServerScene, open_local};
+use fetch_cli::{Answer, ServerScene, open_local};
 use fetch_mirror::{MirrorError, MirrorOptions, Mirrored, run_mirror};
 use fetch_remote::Repository;
 use fetch_store::NoMemory;
@@ -16,9 +16,6 @@ use fetch_wire::ReplyBound;
 use std::alloc::Global;
 use std::sync::Wait;
 use std::thread::Threads;
-
-/// A status, and the text that is to be written.
-pub(crate) type Answer = (u8, Vec<u8>);
 
 /// How a repository is mirrored: by its own committer, with the usual bound of replies.
 fn options_for(repo: &Repository, workers: u32) -> Result<MirrorOptions, NoMemory>

@@ -3,16 +3,14 @@
 ghost use Rattle.std.specs.Prelude.{◌≡◌, ◌≢◌, ◌≤◌, ◌⊎◌, map, false, IfOk, IsErrOf};
 ghost use Rattle.std.specs.Io.KnownBytes.{IsAtEnd};
 ghost use Rattle.fetch_store.specs.Faults.{Rose, Counts};
-ghost use Rattle.fetch_cli.specs.ReportLines.{malformed_line, malformed_word_line};
-ghost use Rattle.fetch_cli.specs.Run.{Are};
 ghost use Rattle.fetch_cli.specs.ServerScenes.{server_scene_of};
 ghost use Rattle.mirror_cli.specs.MirrorRun.{IsInputAnswer, IsMirrorAnswer, IsSceneAnswer, Writes, WritesFront, asks};
 ghost use Rattle.mirror_cli.specs.MirrorWords.{mirror_asked};
 
-use crate::mirroring::{Answer, mirrored};
+use crate::mirroring::mirrored;
 use crate::words::read_mirror_words;
 use fetch_cli::{
-    MAX_SCENE, ReadError, SceneFault, Sink, Source, append_malformed, append_malformed_word,
+    Answer, MAX_SCENE, ReadError, SceneFault, Silence, Sink, Source, malformed, malformed_word,
     read_all, read_server_scene,
 };
 use fetch_store::NoMemory;
@@ -20,41 +18,6 @@ use fetch_wire::SendFault;
 use std::alloc::Global;
 use std::sync::Wait;
 use std::thread::Threads;
-
-/// Why there is nothing to write.
-#[derive(Clone, Copy, Debug, PartialEq, Eq)]
-enum Silence {
-    /// The source failed.
-    Unread,
-    NoMemory,
-}
-
-impl From<NoMemory> for Silence {
-    ghost use Rattle.std.specs.Prelude.{◌≡◌};
-    ghost use Rattle.mirror_cli.specs.declared.running.Silence.TheVariants as silences;
-
-    ghost from_gives = { λ _ e. e ≡ silences.NoMemory };
-
-    fn from(_e: NoMemory) -> Silence {
-        Silence::NoMemory
-    }
-}
-
-fn malformed_word(alloc: Global, number: usize) -> Result<Answer, NoMemory>
-    ensures { IfOk result (λ x. Are 4 (malformed_word_line number) x.0 x.1.items) }
-{
-    let mut text = Vec::new(alloc);
-    append_malformed_word(&mut text, number)?;
-    Ok((4, text))
-}
-
-fn malformed(alloc: Global, place: usize) -> Result<Answer, NoMemory>
-    ensures { IfOk result (λ x. Are 4 (malformed_line place) x.0 x.1.items) }
-{
-    let mut text = Vec::new(alloc);
-    append_malformed(&mut text, place)?;
-    Ok((4, text))
-}
 
 /// What is answered to bytes.
 fn answer_to_bytes<R: Threads + Wait + Sync>(

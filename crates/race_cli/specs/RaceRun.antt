@@ -8,6 +8,7 @@ use Rattle.fetch_store.specs.declared.missing.Missing.{Missing}
 use Rattle.fetch_wire.specs.Scripts.{Script, talk_of}
 use Rattle.fetch_cli.specs.Io.{IsFront, IsAll}
 use Rattle.fetch_cli.specs.ReportLines.{malformed_line, malformed_word_line}
+use Rattle.fetch_cli.specs.Run.{Are}
 use Rattle.fetch_shared.specs.Machine.{held}
 use Rattle.fetch_shared.specs.Replays.{outline}
 use Rattle.fetch_shared.specs.declared.error.SharedError.TheVariants as errors
@@ -67,10 +68,6 @@ IsToldUnless (Some link) scene status text = IsNotClosed link status text
 -- what is told of the race of a scene
 pub record IsRaceOf (scene : RaceScene) (status : ℕ) (text : List ℕ) : Type 0 where
   pub is : IsToldUnless (slice_get (unclosed (held (opening_of scene))) 0) scene status text
-
--- this status and this text
-abbrev pub Are : ℕ → List ℕ → ℕ → List ℕ → Type 0
-Are wanted words status text = (status ≡ wanted) × (text ≡ words)
 
 -- the race of a scene; or where the bytes are none
 abbrev pub IsSceneAnswer : Result RaceScene ℕ → ℕ → List ℕ → Type 0

@@ -4,9 +4,8 @@ ghost use Rattle.std.specs.Prelude.{◌≡◌, ◌≢◌, ◌≤◌, ◌⊎◌, 
 ghost use Rattle.std.specs.Io.KnownBytes.{IsAtEnd};
 ghost use Rattle.fetch_store.specs.Faults.{Rose, Counts};
 ghost use Rattle.fetch_store.specs.Stores.{AreOf};
-ghost use Rattle.fetch_cli.specs.ReportLines.{malformed_line, malformed_word_line};
 ghost use Rattle.race_cli.specs.Jobs.{AreFew};
-ghost use Rattle.race_cli.specs.RaceRun.{Are, AreSetUp, IsSetUp, IsInputAnswer, IsRaceAnswer, IsRaceOf, Writes, WritesFront, asks};
+ghost use Rattle.race_cli.specs.RaceRun.{AreSetUp, IsSetUp, IsInputAnswer, IsRaceAnswer, IsRaceOf, Writes, WritesFront, asks};
 ghost use Rattle.race_cli.specs.RaceWords.{race_asked};
 
 use crate::input::{RaceFault, read_race};
@@ -14,51 +13,13 @@ use crate::race_case::{JobCase, open_race};
 use crate::reporting::{race_report, refused_race_report};
 use crate::scene::RaceScene;
 use crate::words::read_race_words;
-use fetch_cli::{Sink, Source, append_malformed, append_malformed_word};
+use fetch_cli::{Answer, Silence, Sink, Source, malformed, malformed_word};
 use fetch_race::{Job, race_with};
 use fetch_store::{List, NoMemory};
 use fetch_wire::{ScriptedPeer, SendFault};
 use std::alloc::Global;
 use std::sync::Wait;
 use std::thread::Threads;
-
-/// Why there is nothing to write.
-#[derive(Clone, Copy, Debug, PartialEq, Eq)]
-enum Silence {
-    /// The source failed.
-    Unread,
-    NoMemory,
-}
-
-impl From<NoMemory> for Silence {
-    ghost use Rattle.std.specs.Prelude.{◌≡◌};
-    ghost use Rattle.race_cli.specs.declared.running.Silence.TheVariants as silences;
-
-    ghost from_gives = { λ _ e. e ≡ silences.NoMemory };
-
-    fn from(_e: NoMemory) -> Silence {
-        Silence::NoMemory
-    }
-}
-
-/// A status, and the text that is to be written.
-type Answer = (u8, Vec<u8>);
-
-fn malformed_word(alloc: Global, number: usize) -> Result<Answer, NoMemory>
-    ensures { IfOk result (λ x. Are 4 (malformed_word_line number) x.0 x.1.items) }
-{
-    let mut text = Vec::new(alloc);
-    append_malformed_word(&mut text, number)?;
-    Ok((4, text))
-}
-
-fn malformed(alloc: Global, place: usize) -> Result<Answer, NoMemory>
-    ensures { IfOk result (λ x. Are 4 (malformed_line place) x.0 x.1.items) }
-{
-    let mut text = Vec::new(alloc);
-    append_malformed(&mut text, place)?;
-    Ok((4, text))
-}
 
 /// The jobs, each with a peer that gives its pieces and never fails.
 fn scripted(alloc: Global, job_cases: List<JobCase>) -> Result<Vec<Job<ScriptedPeer>>, NoMemory>

@@ -8,7 +8,6 @@ ghost use Rattle.fetch_check.specs.declared.findings.Findings.{Findings};
 ghost use Rattle.fetch_cli.specs.Bench.{IsSummary, generated_scene};
 ghost use Rattle.fetch_cli.specs.Checks.{IsChecked};
 ghost use Rattle.fetch_cli.specs.Report.{IsReport};
-ghost use Rattle.fetch_cli.specs.ReportLines.{malformed_line, malformed_word_line};
 ghost use Rattle.fetch_cli.specs.Run.{Are, IsSceneAnswer, IsServerAnswer, IsBytesAnswer, IsInputAnswer, IsAnswer};
 ghost use Rattle.fetch_cli.specs.Run.{BlamesEnd, HasFindings, HasValidScene, AsksBench, asks_input};
 ghost use Rattle.fetch_cli.specs.Run.{IsBenched, IsCheckOf, IsUnlessFailed, Writes, WritesBy, WritesFront};
@@ -17,12 +16,12 @@ ghost use Rattle.fetch_cli.specs.Words.{IsWithin, help_text, version_text};
 ghost use Rattle.fetch_scene.specs.Scene.{scene_of};
 
 use crate::bench::generate;
+use crate::program::answers::{Answer, Silence, malformed, malformed_word};
 use crate::program::input::{ReadError, read_all};
 use crate::program::io::{Sink, Source};
 use crate::program::server_scene::{ServerScene, read_server_scene};
 use crate::program::words::{Command, HELP, VERSION, read_command};
 use crate::reporting::fetch_case::open_local;
-use crate::reporting::lines::{append_malformed, append_malformed_word};
 use crate::reporting::report;
 use crate::reporting::summary::summary;
 use fetch_check::{append_findings, check};
@@ -32,25 +31,6 @@ use fetch_wire::SendFault;
 use std::alloc::Global;
 use std::thread::Threads;
 
-/// Why there is nothing to write.
-#[derive(Clone, Copy, Debug, PartialEq, Eq)]
-enum Silence {
-    /// The source failed.
-    Unread,
-    NoMemory,
-}
-
-impl From<NoMemory> for Silence {
-    ghost use Rattle.std.specs.Prelude.{◌≡◌};
-    ghost use Rattle.fetch_cli.specs.declared.program.running.Silence.TheVariants as silences;
-
-    ghost from_gives = { λ _ e. e ≡ silences.NoMemory };
-
-    fn from(_e: NoMemory) -> Silence {
-        Silence::NoMemory
-    }
-}
-
 /// What is done with the input.
 #[derive(Clone, Copy, Debug, PartialEq, Eq)]
 enum Task {
@@ -59,9 +39,6 @@ enum Task {
     /// It is a server scene, which is checked.
     Check,
 }
-
-/// A status, and the text that is to be written.
-type Answer = (u8, Vec<u8>);
 
 #[tactic(auto, unfolding(crate::specs::Words::help_text))]
 fn help(alloc: Global) -> Result<Answer, NoMemory>
@@ -75,22 +52,6 @@ fn version(alloc: Global) -> Result<Answer, NoMemory>
     ensures { IfOk result (λ x. Are 0 version_text x.0 x.1.items) }
 {
     Ok((0, Vec::from_slice(alloc, VERSION)?))
-}
-
-fn malformed_word(alloc: Global, number: usize) -> Result<Answer, NoMemory>
-    ensures { IfOk result (λ x. Are 4 (malformed_word_line number) x.0 x.1.items) }
-{
-    let mut text = Vec::new(alloc);
-    append_malformed_word(&mut text, number)?;
-    Ok((4, text))
-}
-
-fn malformed(alloc: Global, place: usize) -> Result<Answer, NoMemory>
-    ensures { IfOk result (λ x. Are 4 (malformed_line place) x.0 x.1.items) }
-{
-    let mut text = Vec::new(alloc);
-    append_malformed(&mut text, place)?;
-    Ok((4, text))
 }
 
 fn reported<R: Threads + Sync>(rt: &R, alloc: Global, scene: Scene) -> Result<Answer, NoMemory>

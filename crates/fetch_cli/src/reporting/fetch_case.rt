@@ -1,17 +1,16 @@
 //! What a scene sets up.
 
-ghost use Rattle.std.specs.Prelude.{◌≡◌, [], ◌∷◌, false, map, IfOk, OnOk};
+ghost use Rattle.std.specs.Prelude.{◌≡◌, [], ◌∷◌, map, IfOk};
 ghost use Rattle.std.specs.FinMap as finmap;
 ghost use Rattle.fetch_store.specs.Stores.{AreOf, add_all};
-ghost use Rattle.fetch_refs.specs.Logs.{after};
-ghost use Rattle.fetch_refs.specs.declared.edit.PackedRefs.TheVariants.{Never};
 ghost use Rattle.fetch_remote.specs.Remotes.{nameless};
 ghost use Rattle.fetch_remote.specs.Repositories.{state_of, setup_of};
 ghost use Rattle.fetch_cli.specs.Opened as opened;
 ghost use Rattle.fetch_cli.specs.Report as spec;
 
+use fetch_check::make_unlogged;
 use fetch_config::File;
-use fetch_refs::{Change, LogChange, PackedRefs, PreviousValue, RefEdit, RefLog, Refs, Signature};
+use fetch_refs::{Change, LogChange, PreviousValue, RefEdit, RefLog, Refs, Signature};
 use fetch_remote::{FetchOptions, OpenOptions, Parts, Remote, Repository, ref_map};
 use fetch_scene::{Local, Reference, RemotePart, Scene, SceneOptions};
 use fetch_specs::RefSpec;
@@ -77,19 +76,6 @@ fn edits_of(alloc: Global, references: &[Reference]) -> Result<Vec<RefEdit>, NoM
     Ok(edits)
 }
 
-/// Makes the edits, and logs none. Any value is expected, so that memory alone may refuse them.
-fn make(refs: &mut Refs, edits: &[RefEdit], committer: &Signature) -> Result<(), NoMemory>
-    ensures { OnOk result (refs.new ≡ after committer.now false Never refs.old edits.now) }
-{
-    match refs.prepare(edits, committer, false, PackedRefs::Never) {
-        Ok(prepared) => {
-            prepared.commit();
-            Ok(())
-        }
-        Err(_) => Err(NoMemory),
-    }
-}
-
 /// The references, without reflogs.
 fn refs_of(
     alloc: Global,
@@ -106,7 +92,7 @@ fn refs_of(
 {
     let edits = edits_of(alloc, references)?;
     let mut refs = Refs::new(alloc, hash);
-    make(&mut refs, &edits, committer)?;
+    make_unlogged(&mut refs, &edits, committer)?;
     Ok(refs)
 }
 

@@ -173,7 +173,7 @@ pub(crate) fn append_counted(out: &mut Vec<u8>, word: &[u8], n: usize) -> Result
 
 /// Where input is no scene.
 #[tactic(auto, unfolding(crate::specs::ReportLines::malformed_line))]
-pub fn append_malformed(out: &mut Vec<u8>, place: usize) -> Result<(), NoMemory>
+pub(crate) fn append_malformed(out: &mut Vec<u8>, place: usize) -> Result<(), NoMemory>
     ensures { OnOk result (out.new.items ≡ out.old.items ++ spec.malformed_line place) }
 {
     append_counted(out, b"malformed ", place)
@@ -181,7 +181,7 @@ pub fn append_malformed(out: &mut Vec<u8>, place: usize) -> Result<(), NoMemory>
 
 /// Which word is wrong, counted from 1.
 #[tactic(auto, unfolding(crate::specs::ReportLines::malformed_word_line))]
-pub fn append_malformed_word(out: &mut Vec<u8>, number: usize) -> Result<(), NoMemory>
+pub(crate) fn append_malformed_word(out: &mut Vec<u8>, number: usize) -> Result<(), NoMemory>
     ensures { OnOk result (out.new.items ≡ out.old.items ++ spec.malformed_word_line number) }
 {
     append_counted(out, b"malformed word ", number)
