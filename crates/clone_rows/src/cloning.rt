@@ -2,7 +2,7 @@
 
 use crate::clone_case::{CloneCase, agrees, as_it_is, options};
 use crate::said::maker_of;
-use crate::served::{ServedConnect, repository_of};
+use crate::served::ServedConnect;
 use crate::standing::say_place;
 use crate::trying::{Course, Ending, tell_clone};
 use fetch_clone::create::Options;
@@ -11,6 +11,7 @@ use fetch_remote::Repository;
 use fetch_remote::connect::Connect;
 use fetch_serve::{ServeError, Server};
 use fetch_store::{Files, MemoryFiles, NoMemory, decimal};
+use peer_rows::repository_of;
 use rows::{lines, say, say_printed, somebody, split_word};
 use std::alloc::{Alloc, Global};
 use std::fs::Files as HostCalls;

@@ -3,7 +3,7 @@
 use crate::serving::{self, Asked};
 use crate::setting::{client, fetch};
 use anyhow::Result;
-use fetch_host::{Failure, FailureKind, NoInterrupt};
+use fetch_host::{Failure, FailureKind};
 use fetch_remote::{Remote, Repository};
 use fetch_wire::Peer;
 use std::alloc::Global;
@@ -38,7 +38,7 @@ fn is_done<R: Threads + Sync + Print, P: Peer>(
     repo: &mut Repository,
     peer: &mut P,
 ) -> Result<bool> {
-    match fetch(rt, alloc, remote, repo, peer, &mut NoInterrupt) {
+    match fetch(rt, alloc, remote, repo, peer) {
         Ok(()) => Ok(true),
         Err(e) => Ok(!is_worth_another(rt, e)?),
     }

@@ -4,7 +4,7 @@ use crate::serving::{self, Asked};
 use crate::setting::{client, fetch};
 use crate::telling::tell_failure;
 use anyhow::Result;
-use fetch_host::{NoInterrupt, StreamPeer};
+use fetch_host::StreamPeer;
 use fetch_remote::{Remote, Repository};
 use std::alloc::Global;
 use std::io::{Read, Write};
@@ -20,7 +20,7 @@ fn live_peer<R: Threads + Sync + Print, I: Read + Drop, O: Write + Drop>(
     writer: O,
 ) -> Result<()> {
     let mut peer = StreamPeer::new(reader, writer);
-    if let Err(e) = fetch(rt, alloc, remote, repo, &mut peer, &mut NoInterrupt) {
+    if let Err(e) = fetch(rt, alloc, remote, repo, &mut peer) {
         tell_failure(rt, "fetch", e)?;
     }
     let (came, went) = (peer.received(), peer.sent());

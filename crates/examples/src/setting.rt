@@ -68,17 +68,16 @@ pub(crate) fn fetch_with<R: Threads + Sync, P: Peer, I: Interrupt>(
     remote.fetch(rt, alloc, repo, peer, stop, &mut files, &mut trees, options)
 }
 
-/// Fetches so from a remote, by the usual options.
-pub(crate) fn fetch<R: Threads + Sync, P: Peer, I: Interrupt>(
+/// Fetches so from a remote, by the usual options, where nothing interrupts.
+pub(crate) fn fetch<R: Threads + Sync, P: Peer>(
     rt: &R,
     alloc: Global,
     remote: &Remote,
     repo: &mut Repository,
     peer: &mut P,
-    stop: &mut I,
 ) -> Result<(), FetchError> {
     let options = FetchOptions::new(alloc);
-    fetch_with(rt, alloc, remote, repo, peer, stop, options)?;
+    fetch_with(rt, alloc, remote, repo, peer, &mut NoInterrupt, options)?;
     Ok(())
 }
 
@@ -91,7 +90,7 @@ pub(crate) fn fetch_by<R: Threads + Sync, P: Peer>(
     peer: &mut P,
 ) -> Result<()> {
     let remote = remote(alloc, repo, spec)?;
-    fetch(rt, alloc, &remote, repo, peer, &mut NoInterrupt)?;
+    fetch(rt, alloc, &remote, repo, peer)?;
     Ok(())
 }
 

@@ -1,11 +1,11 @@
 //! A fetch that another thread stops.
 
 use crate::serving::{self, Asked};
-use crate::setting::{client, fetch};
+use crate::setting::{client, fetch_with};
 use crate::telling::tell_failure;
 use anyhow::Result;
 use fetch_host::FlagInterrupt;
-use fetch_remote::{Remote, Repository};
+use fetch_remote::{FetchOptions, Remote, Repository};
 use fetch_wire::Peer;
 use std::alloc::Global;
 use std::sync::atomic::{AtomicBool, Ordering};
@@ -21,8 +21,9 @@ fn stop<R: Threads + Sync + Print, P: Peer>(
     flag: &AtomicBool,
 ) -> Result<()> {
     let mut stop = FlagInterrupt::new(flag);
-    match fetch(rt, alloc, remote, repo, peer, &mut stop) {
-        Ok(()) => Ok(()),
+    let options = FetchOptions::new(alloc);
+    match fetch_with(rt, alloc, remote, repo, peer, &mut stop, options) {
+        Ok(_) => Ok(()),
         Err(e) => tell_failure(rt, "fetch", e),
     }
 }

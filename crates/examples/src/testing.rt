@@ -4,7 +4,6 @@ use crate::serving::{self, Asked};
 use crate::setting::{client, fetch};
 use crate::telling::{tell_failure, tell_lines};
 use anyhow::Result;
-use fetch_host::NoInterrupt;
 use fetch_remote::{Remote, Repository};
 use fetch_wire::ScriptedPeer;
 use std::alloc::Global;
@@ -18,7 +17,7 @@ fn test<R: Threads + Sync + Print>(
     repo: &mut Repository,
     peer: &mut ScriptedPeer,
 ) -> Result<()> {
-    match fetch(rt, alloc, remote, repo, peer, &mut NoInterrupt) {
+    match fetch(rt, alloc, remote, repo, peer) {
         Ok(()) => tell_lines(rt, peer.heard()),
         Err(e) => tell_failure(rt, "fetch", e),
     }

@@ -18,14 +18,14 @@ use std::thread::{self, Threads};
 
 /// Fetches from two peers side by side, each by a pass of its own.
 // Many arguments: a remote and a peer for each of the two.
-fn two_fetches<R: Threads + Wait + Sync, P: Peer + Send>(
+fn two_fetches<R: Threads + Wait + Sync, P: Peer + Drop + Send>(
     rt: &R,
     alloc: Global,
     repo: Repository,
     here: &Remote,
-    near: &mut P,
+    near: P,
     there: &Remote,
-    far: &mut P,
+    far: P,
 ) -> Result<Repository> {
     let (shared, pass) = SharedRepository::new(alloc, repo)?;
     let (left, right) = shared.split(pass, 1).unwrap();
@@ -45,22 +45,23 @@ fn two_fetches<R: Threads + Wait + Sync, P: Peer + Send>(
 }
 
 /// Fetches by a pass, which comes back whatever happens.
-fn fetch<R: Threads + Wait + Sync, P: Peer>(
+fn fetch<R: Threads + Wait + Sync, P: Peer + Drop>(
     rt: &R,
     alloc: Global,
     shared: &SharedRepository,
     pass: Pass,
     remote: &Remote,
-    peer: &mut P,
+    peer: P,
 ) -> (Pass, Result<(), SharedError>)
     requires { pass.shared ≡ shared.now }
     ensures { result.0.shared ≡ shared.now }
 {
+    let mut peer = peer;
     let (mut stop, mut trees) = (NoInterrupt, NoWorktrees::new(alloc));
     let mut files = MemoryFiles::new(alloc, Vec::new(alloc));
     let options = FetchOptions::new(alloc);
     match fetch_shared(
-        rt, alloc, shared, pass, remote, peer, &mut stop, &mut files, &mut trees, options,
+        rt, alloc, shared, pass, remote, &mut peer, &mut stop, &mut files, &mut trees, options,
     ) {
         Ok((pass, _, _)) => (pass, Ok(())),
         Err((pass, _, e)) => (pass, Err(e)),
@@ -75,11 +76,11 @@ fn remotes(alloc: Global, repo: &Repository) -> Result<(Remote, Remote)> {
 }
 
 /// Fetches all branches of one server and a branch of another one.
-fn fetch_both<R: Threads + Wait + Sync, P: Peer + Send>(
+fn fetch_both<R: Threads + Wait + Sync, P: Peer + Drop + Send>(
     rt: &R,
     alloc: Global,
-    near: &mut P,
-    far: &mut P,
+    near: P,
+    far: P,
 ) -> Result<Repository> {
     let repo = in_memory(alloc)?;
     let (here, there) = remotes(alloc, &repo)?;
@@ -87,8 +88,8 @@ fn fetch_both<R: Threads + Wait + Sync, P: Peer + Send>(
 }
 
 pub(crate) fn run<R: Threads + Wait + Sync + Print>(rt: &R, alloc: Global) -> Result<()> {
-    let mut near = serving::peer(alloc, Asked::Whole)?;
-    let mut far = serving::peer(alloc, Asked::Old)?;
-    let repo = fetch_both(rt, alloc, &mut near, &mut far)?;
+    let near = serving::peer(alloc, Asked::Whole)?;
+    let far = serving::peer(alloc, Asked::Old)?;
+    let repo = fetch_both(rt, alloc, near, far)?;
     tell_refs(rt, alloc, repo.refs())
 }

@@ -4,7 +4,8 @@ ghost use Rattle.std.specs.Prelude.{◌≡◌, ◌<◌};
 
 use crate::words::say_id;
 use crate::world::World;
-use fetch_store::{Border, Graph, List, NoMemory, ObjectId, Objects, Steps, Store, reached};
+use fetch_reach::reached_from;
+use fetch_store::{Border, Graph, NoMemory, ObjectId, Objects, Steps, Store};
 use rows::{refuse, say, say_number};
 use std::alloc::Global;
 use std::marker::Brand;
@@ -76,21 +77,6 @@ pub(crate) fn tell_found(store: &Store, id: &ObjectId, out: &mut Vec<u8>) -> Res
     }
 }
 
-fn counted<L: Ledger>(
-    alloc: Global,
-    store: &Store,
-    border: &Border,
-    start: ObjectId,
-    blank: Blank,
-) -> Result<List<ObjectId>, NoMemory>
-    requires name { blank.name ≡ L.name }
-    requires parts { blank.parts ≡ L.parts }
-    requires some { 0 < blank.parts }
-{
-    let mut steps: Steps<L> = Steps::new(blank);
-    reached(alloc, store, border, [start].as_slice(), &mut steps)
-}
-
 /// The border of a row.
 pub(crate) fn border_of(alloc: Global, ids: &[ObjectId]) -> Result<Border, NoMemory> {
     match Border::from_ids(alloc, ids) {
@@ -107,7 +93,7 @@ pub(crate) fn tell_reached(
     out: &mut Vec<u8>,
 ) -> Result<(), NoMemory> {
     let border = border_of(alloc, world.border.as_slice())?;
-    let found = counted::<Brand>(alloc, &world.store, &border, start, Blank::new(1))?;
+    let found = reached_from(alloc, &world.store, &border, [start].as_slice())?;
     for id in found.as_slice() {
         say_id(out, b"reached", id)?;
     }

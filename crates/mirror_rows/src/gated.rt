@@ -3,13 +3,13 @@
 
 ghost use Rattle.std.specs.Prelude.{◌≡◌, IfOk, vec_len};
 
-use crate::counted::CountedPeer;
 use crate::mirrors::{options_for, tell_mirror};
 use fetch_mirror::mirror_from;
 use fetch_remote::Repository;
 use fetch_serve::{ServeError, Server};
 use fetch_store::{Failed, NoMemory};
 use fetch_wire::{Peer, ReplyBound, SendFault};
+use peer_rows::CountedPeer;
 use rows::say_number;
 use std::alloc::Global;
 use std::sync::atomic::{AtomicBool, Ordering};

@@ -3,16 +3,14 @@
 #![tactic(auto)]
 
 mod bounds;
-mod counted;
 mod failing;
 mod gated;
 mod mirrors;
-mod repositories;
 mod served;
 mod worded;
 
-use self::repositories::repository_of;
 use fetch_store::NoMemory;
+use peer_rows::repository_of;
 use rows::{Row, run_rows};
 use std::alloc::Global;
 use std::process::ExitCode;

@@ -7,12 +7,12 @@ mod fetching;
 mod telling;
 
 use self::fetching::append_fetch;
-use crate::repositories::repository_of;
 use fetch_cli::{Scene, SceneFault, open_scene, read_scene, report};
 use fetch_remote::Repository;
 use fetch_serve::{Server, ServerPeer};
 use fetch_store::{NoMemory, after, split_first};
 use fetch_wire::Peer;
+use peer_rows::repository_of;
 use rows::{Row, decoded, lines, say};
 use std::alloc::Global;
 use std::thread::Threads;

@@ -2,11 +2,8 @@
 
 use super::failing::Failing;
 use fetch_cli::FetchCase;
-use fetch_negotiate::Shallow;
 use fetch_remote::phases::Progress;
-use fetch_remote::{
-    FetchError, FetchOptions, Outcome, Prepare, Remote, Repository, fetch, ref_map,
-};
+use fetch_remote::{FetchError, FetchOptions, Outcome, Prepare, Remote, Repository, fetch};
 use fetch_store::{MemoryFiles, NoMemory, Text};
 use fetch_update::{RefLogMessage, ScriptedWorktrees};
 use fetch_wire::{ScriptedInterrupt, ScriptedPeer};
@@ -46,33 +43,7 @@ impl Progress for Told {
     }
 }
 
-/// What is chosen once the references are listed.
-#[derive(Drop)]
-struct Choice {
-    dry_run: bool,
-    packed_only: bool,
-    message: Option<RefLogMessage>,
-    shallow: Shallow,
-}
-
-/// What the listing takes of the options, and what is chosen after it.
-fn split(options: FetchOptions) -> (ref_map::Options, Choice) {
-    let FetchOptions {
-        map,
-        dry_run,
-        write_packed_refs_only,
-        reflog_message,
-        shallow,
-    } = options;
-    let choice = Choice {
-        dry_run,
-        packed_only: write_packed_refs_only,
-        message: reflog_message,
-        shallow,
-    };
-    (map, choice)
-}
-
+/// The fetch with this message, where one is chosen.
 fn with_message<'a>(
     prepare: Prepare<'a, ScriptedPeer>,
     message: Option<RefLogMessage>,
@@ -81,20 +52,6 @@ fn with_message<'a>(
         Some(message) => prepare.with_reflog_message(message),
         None => prepare,
     }
-}
-
-fn chosen<'a>(prepare: Prepare<'a, ScriptedPeer>, choice: Choice) -> Prepare<'a, ScriptedPeer> {
-    let Choice {
-        dry_run,
-        packed_only,
-        message,
-        shallow,
-    } = choice;
-    let prepare = prepare
-        .with_dry_run(dry_run)
-        .with_write_packed_refs_only(packed_only)
-        .with_shallow(shallow);
-    with_message(prepare, message)
 }
 
 fn received(answer: Result<Outcome, fetch::Error>) -> Result<Outcome, FetchError> {
@@ -166,18 +123,23 @@ impl Fetch {
         alloc: Global,
         options: FetchOptions,
     ) -> Result<Outcome, FetchError> {
-        let (map, choice) = split(options);
         let connection = self.remote.to_connection_with_transport(&mut self.peer);
-        match connection.prepare_fetch(alloc, &self.repo, &mut self.interrupt, map) {
-            Ok(prepare) => received(chosen(prepare, choice).receive(
-                rt,
-                alloc,
-                &mut self.repo,
-                &mut self.told,
-                &mut self.interrupt,
-                &mut self.files,
-                &mut self.worktrees,
-            )),
+        match connection.prepare_fetch(alloc, &self.repo, &mut self.interrupt, options.map) {
+            Ok(prepare) => {
+                let prepare = prepare
+                    .with_dry_run(options.dry_run)
+                    .with_write_packed_refs_only(options.write_packed_refs_only)
+                    .with_shallow(options.shallow);
+                received(with_message(prepare, options.reflog_message).receive(
+                    rt,
+                    alloc,
+                    &mut self.repo,
+                    &mut self.told,
+                    &mut self.interrupt,
+                    &mut self.files,
+                    &mut self.worktrees,
+                ))
+            }
             Err(refusal) => Err(FetchError::from(refusal)),
         }
     }

@@ -16,18 +16,12 @@ fn fetched<P: Peer>(
     fetch_case: FetchCase,
     peer: &mut P,
 ) -> (Result<Outcome, FetchError>, Repository) {
-    let FetchCase {
-        repo,
-        remote,
-        options,
-        worktrees,
-        ..
-    } = fetch_case;
-    let mut repo = repo;
+    let mut repo = fetch_case.repo;
+    let options = fetch_case.options;
     let mut interrupt = ScriptedInterrupt::new(Vec::new(alloc));
     let mut files = MemoryFiles::new(alloc, Vec::new(alloc));
-    let mut worktrees = ScriptedWorktrees::new(worktrees.into_vec(), Vec::new(alloc));
-    let answer = remote.fetch(
+    let mut worktrees = ScriptedWorktrees::new(fetch_case.worktrees.into_vec(), Vec::new(alloc));
+    let answer = fetch_case.remote.fetch(
         rt,
         alloc,
         &mut repo,

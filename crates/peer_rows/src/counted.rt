@@ -1,5 +1,6 @@
 //! Servers as peers that count how often they failed.
 
+ghost use Rattle.std.specs.Prelude.{◌≡◌};
 ghost use Rattle.fetch_store.specs.Faults.{Rose, Counts, counted};
 
 use fetch_serve::{Server, ServerPeer};
@@ -8,14 +9,17 @@ use fetch_wire::{Peer, SendFault};
 
 /// A server as a peer, with a count of its faults, to which whoever wraps it adds its own.
 #[derive(Drop)]
-pub(crate) struct CountedPeer<'a> {
+pub struct CountedPeer<'a> {
     server: ServerPeer<'a>,
-    pub(crate) failed: u64,
+    /// How often it failed.
+    pub failed: u64,
 }
 
 impl<'a> CountedPeer<'a> {
     /// A peer by a server of its own of the same repository, without a fault.
-    pub(crate) fn new(server: &Server<'a>) -> CountedPeer<'a> {
+    pub fn new(server: &Server<'a>) -> CountedPeer<'a>
+        ensures { result.failed ≡ 0 }
+    {
         CountedPeer {
             server: ServerPeer::new(server.fresh()),
             failed: 0,
@@ -23,7 +27,7 @@ impl<'a> CountedPeer<'a> {
     }
 
     /// Counts a fault.
-    pub(crate) fn fail(&mut self)
+    pub fn fail(&mut self)
         ensures counts { Counts (counted self.old.failed) (counted self.new.failed) }
         ensures rose { Rose (counted self.old.failed) (counted self.new.failed) }
     {

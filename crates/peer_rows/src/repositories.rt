@@ -16,7 +16,7 @@ fn set_up(alloc: Global, scene: ServerScene) -> Result<Box<Repository>, NoMemory
 }
 
 /// The repository that the bytes say. None where they are no scene of a server.
-pub(crate) fn repository_of(
+pub fn repository_of(
     rt: &(impl Threads + Sync),
     alloc: Global,
     bytes: &[u8],
