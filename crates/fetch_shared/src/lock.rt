@@ -1,4 +1,9 @@
 //! How the turn is taken and given up.
+//!
+//! Who finds the turn taken sleeps until it is given up. No wake is lost: a sleeper is counted before the system compares
+//! the turn word, and who gives the turn up frees that word before it reads the count. So it finds the sleeper counted, and
+//! wakes one; or the word is compared after it was freed, and then the sleeper tries again, unless another has the turn by
+//! then, who is yet to give it up. Who is woken tries again, so that it wakes the next one, or another does.
 
 ghost use Rattle.std.specs.Prelude.{◌≡◌, [], ◌∷◌, ◌++◌, None};
 ghost use Rattle.fetch_shared.specs.declared.entry.Entry.{Entry};
@@ -11,9 +16,9 @@ use crate::lock_rule::{Load, Place, Record, Release, Try};
 use crate::shared::SharedRepository;
 use crate::state::SharedState;
 use std::sync::Wait;
-use std::thread::yield_now;
+use std::sync::atomic::Ordering::SeqCst;
 
-/// 1 while a pass has the turn.
+/// 1 while a pass has the turn, and 0 while it is free.
 pub(crate) const TURN: usize = 0;
 
 /// How many entries the journal has.
@@ -38,7 +43,7 @@ impl SharedRepository {
                 let _journal = state.journal();
                 return state;
             }
-            yield_now();
+            self.sleep(rt);
         }
         unreachable!()
     }
@@ -54,6 +59,7 @@ impl SharedRepository {
         let shared = &self.table.shared;
         shared.exchange(seat, 0, Some(state));
         shared.swap::<Release>(seat, TURN, 0);
+        self.wake();
     }
 
     /// Gives the turn up with a state that has one more entry of this number.
@@ -71,5 +77,20 @@ impl SharedRepository {
         shared.exchange(seat, 0, Some(state));
         shared.fetch_add::<Record>(seat, ENTRIES, 1);
         shared.swap::<Release>(seat, TURN, 0);
+        self.wake();
+    }
+
+    /// Sleeps while the turn is taken. It may also return for no reason.
+    fn sleep<R: Wait>(&self, rt: &R) {
+        self.sleepers.fetch_add(1, SeqCst);
+        self.table.shared.park(rt, TURN, 1);
+        self.sleepers.fetch_sub(1, SeqCst);
+    }
+
+    /// Wakes one of those who sleep, once the turn is free. It asks the system for nothing where nobody does.
+    fn wake(&self) {
+        if self.sleepers.load(SeqCst) != 0 {
+            self.table.shared.wake_one(TURN);
+        }
     }
 }

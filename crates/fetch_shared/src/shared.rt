@@ -23,9 +23,10 @@ use opening_value::Opening;
 use std::alloc::Global;
 use std::marker::{Brand, Model};
 use std::sync::Wait;
+use std::sync::atomic::AtomicU64;
 
-/// A repository under a lock that passes take in turn. Contracts see which one it is, and what it opened as. Its settings
-/// stand beside the lock, since they never change.
+/// A repository under a lock that passes take in turn; who waits for it sleeps. Contracts see which one it is, and what it
+/// opened as. Its settings stand beside the lock, since they never change.
 ///
 /// Objects can't be read while it is shared: close it, or keep a copy. A plan, a take and a snapshot make a graph of all
 /// stored objects while they have the turn.
@@ -34,6 +35,8 @@ use std::sync::Wait;
 pub struct SharedRepository {
     pub(crate) table: Desk,
     settings: Settings,
+    /// How many passes sleep until the turn is free.
+    pub(crate) sleepers: AtomicU64,
 }
 
 impl Model for SharedRepository {
@@ -81,7 +84,12 @@ impl SharedRepository {
             },
             seat,
         };
-        Ok((SharedRepository { table, settings }, pass))
+        let shared = SharedRepository {
+            table,
+            settings,
+            sleepers: AtomicU64::new(0),
+        };
+        Ok((shared, pass))
     }
 
     /// Configuration, leniency, git directory, hash and committer. They never change.
