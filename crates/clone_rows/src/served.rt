@@ -1,7 +1,5 @@
 //! Peers that are made by a server of a repository.
 
-ghost use Rattle.std.specs.Prelude.{◌≤◌, ◌+◌};
-
 use fetch_remote::connect::Connect;
 use fetch_serve::Server;
 use fetch_wire::SendFault;
@@ -11,13 +9,10 @@ use peer_rows::CountedPeer;
 #[derive(Drop)]
 pub(crate) struct ServedConnect<'a> {
     server: Server<'a>,
-    /// How many peers were made.
-    made: u64,
-    /// How many of them aren't taken back yet.
+    /// How many peers were made and aren't taken back yet.
     out: u64,
-    /// How many of them were taken back and had failed.
+    /// How many were taken back and had failed.
     lost: u64,
-    ghost within: { lost + out ≤ made },
 }
 
 impl<'a> ServedConnect<'a> {
@@ -25,7 +20,6 @@ impl<'a> ServedConnect<'a> {
     pub(crate) fn new(server: Server<'a>) -> ServedConnect<'a> {
         ServedConnect {
             server,
-            made: 0,
             out: 0,
             lost: 0,
         }
@@ -51,18 +45,17 @@ impl<'a> Connect for ServedConnect<'a> {
     ghost addresses = { λ _. None };
 
     fn make(&mut self, _address: &[u8]) -> Result<CountedPeer<'a>, SendFault> {
-        let Some(made) = self.made.checked_add(1) else {
+        let Some(out) = self.out.checked_add(1) else {
             return Err(SendFault::NoMemory);
         };
-        self.made = made;
-        self.out += 1;
+        self.out = out;
         Ok(CountedPeer::new(&self.server))
     }
 
     fn take_back(&mut self, peer: CountedPeer<'a>) {
         self.out -= 1;
         if peer.failed > 0 {
-            self.lost += 1;
+            self.lost = self.lost.saturating_add(1);
         }
     }
 }

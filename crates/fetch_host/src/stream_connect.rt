@@ -29,25 +29,20 @@ pub trait Dial {
 #[derive(Drop)]
 pub struct StreamConnect<D> {
     dial: D,
-    /// How many peers were made.
-    made: u64,
-    /// How many of them aren't taken back yet.
+    /// How many peers were made and aren't taken back yet.
     out: u64,
-    /// How many of them were taken back and had failed.
+    /// How many were taken back and had failed.
     lost: u64,
     failed: u64,
     last_fault: Option<ErrorKind>,
 }
 
 impl<D> Model for StreamConnect<D> {
-    ghost use Rattle.std.specs.Prelude.{◌+◌, ◌≤◌};
     ghost use Rattle.fetch_host.specs.Streams.{Making};
 
     ghost Value = { Making D };
 
     ghost view = { λ m. record { dial = m.dial; out = m.out; lost = m.lost; failed = m.failed; last_fault = m.last_fault } };
-
-    ghost invariant = { λ m. m.lost + m.out ≤ m.made };
 }
 
 impl<D: Dial> StreamConnect<D> {
@@ -57,7 +52,6 @@ impl<D: Dial> StreamConnect<D> {
     {
         StreamConnect {
             dial,
-            made: 0,
             out: 0,
             lost: 0,
             failed: 0,
@@ -104,13 +98,12 @@ impl<D: Dial> Connect for StreamConnect<D> {
 
     /// Opens a connection to the address. It fails where that does, and where no more peers can be counted.
     fn make(&mut self, address: &[u8]) -> Result<StreamPeer<D::Reader, D::Writer>, SendFault> {
-        let Some(made) = self.made.checked_add(1) else {
+        let Some(out) = self.out.checked_add(1) else {
             return Err(self.refuse(ErrorKind::Other));
         };
         match self.dial.dial(address) {
             Ok((reader, writer)) => {
-                self.made = made;
-                self.out += 1;
+                self.out = out;
                 Ok(StreamPeer::new(reader, writer))
             }
             Err(e) => Err(self.refuse(e.kind())),
@@ -121,7 +114,7 @@ impl<D: Dial> Connect for StreamConnect<D> {
     fn take_back(&mut self, peer: StreamPeer<D::Reader, D::Writer>) {
         self.out -= 1;
         if peer.faults() > 0 {
-            self.lost += 1;
+            self.lost = self.lost.saturating_add(1);
             self.last_fault = peer.last_fault();
         }
     }

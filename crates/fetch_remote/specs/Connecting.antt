@@ -1,7 +1,8 @@
 -- Peers that are made and taken back.
-use Rattle.std.specs.Prelude.{◌≡◌, ℕ, ◌+◌, ◌==◌, Bool, true, false, not, length, filter, if◌then◌else◌, List, [], ◌∷◌, ◌++◌, ⊤, Option}
+use Rattle.std.specs.Prelude.{◌≡◌, ℕ, ◌+◌, ◌-◌, ◌^◌, ◌==◌, min, max, Bool, true, false, not, length, filter, if◌then◌else◌}
+use Rattle.std.specs.Prelude.{List, [], ◌∷◌, ◌++◌, ⊤, Option}
 use Rattle.std.specs.Prelude.{Some, None, Result, Ok, Err}
-use Rattle.fetch_store.specs.Calls.{CallList}
+use Rattle.fetch_store.specs.Calls.{CallList, one_more}
 use Rattle.fetch_store.specs.Faults.{Faults, counted}
 use Rattle.fetch_wire.specs.Scripts.{Script}
 use Rattle.fetch_wire.specs.declared.session.peer.SendFault.{SendFault}
@@ -38,9 +39,9 @@ abbrev pub MakesAtFirst : {P E : Type 0} → Option (List ℕ) → Option (List 
 MakesAtFirst None addresses now result = now ≡ addresses
 MakesAtFirst (Some address) addresses now result = MakesAt address addresses now result
 
--- one more lost peer where this one had failed
+-- one more lost peer where this one had failed; a count at its type's end stays there
 abbrev pub with_lost : Faults → Faults → Faults
-with_lost peer lost = if peer.count == 0 then lost else record lost { count = lost.count + 1 }
+with_lost peer lost = if peer.count == 0 then lost else record lost { count = max lost.count (one_more lost.count) }
 
 -- why a maker failed, as a refusal of the connection
 abbrev pub connecting : SendFault → Error
@@ -76,6 +77,6 @@ pub record Making : Type 0 where
 abbrev pub is_fresh : Script → Bool
 is_fresh peer = peer.failed == 0
 
--- the peers that were lost
+-- the peers that were lost, in a count that stays at its type's end
 unfoldable pub lost_in : List Script → Faults
-lost_in taken = counted (length (filter (λ peer. not (is_fresh peer)) taken))
+lost_in taken = counted (min (length (filter (λ peer. not (is_fresh peer)) taken)) (2 ^ 64 - 1))

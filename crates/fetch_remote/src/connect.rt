@@ -13,9 +13,8 @@ use thiserror::Error as ThisError;
 
 /// Makes peers, and takes them back: one at a time, each before the next one is made.
 ///
-/// `out` and `lost` count exactly, so a maker of one's own keeps an invariant: what was lost and what is out are together no
-/// more than it made, a number that it counts with a test (`checked_add`) in `make`. `left`, `taken` and `addresses` may be
-/// None.
+/// `out` counts exactly, so a maker of one's own counts it with a test (`checked_add`) in `make`. `lost` is a count of faults: a
+/// `u64` that rises by one and stands still at its end (`saturating_add`) will do. `left`, `taken` and `addresses` may be None.
 pub trait Connect {
     type Peer: Peer + Drop;
 

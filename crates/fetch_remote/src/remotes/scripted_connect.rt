@@ -126,7 +126,7 @@ impl Connect for ScriptedConnect {
     }
 
     /// Keeps the peer as it stands.
-    #[tactic(auto, using(crate::proofs::Lost::filter_one), unfolding(crate::specs::Connecting::lost_in))]
+    #[tactic(auto, using(crate::proofs::Lost::one_more_lost))]
     fn take_back(&mut self, peer: ScriptedPeer)
         requires { 0 < self.old.out }
         ensures out { self.new.out + 1 ≡ self.old.out }
