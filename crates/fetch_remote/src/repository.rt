@@ -165,13 +165,24 @@ impl Model for Repository {
 }
 
 /// A local file, and the configuration that it is in force with.
-// Not copied: it goes into the repository that is made.
 #[derive(Drop)]
 pub struct Resolved {
     /// The local file.
     pub file: File,
     /// What it is in force with: the base before it, and the overrides after it.
     pub config: File,
+}
+
+impl Resolved {
+    /// Equal files.
+    pub fn try_clone(&self, alloc: Global) -> Result<Resolved, NoMemory>
+        ensures { IfOk result (λ copy. copy ≡ self.now) }
+    {
+        Ok(Resolved {
+            file: self.file.try_clone(alloc)?,
+            config: self.config.try_clone(alloc)?,
+        })
+    }
 }
 
 impl Repository {

@@ -35,7 +35,6 @@ use fetch_wire::{Handshake, RefMap};
 use std::alloc::Global;
 
 /// How what was received is to be applied.
-// Not copied: it is taken out of the options of one fetch.
 #[derive(Debug, Drop)]
 pub struct ApplyOptions {
     /// What is done with tags.
@@ -48,14 +47,48 @@ pub struct ApplyOptions {
     pub message: RefLogMessage,
 }
 
+impl ApplyOptions {
+    /// Equal options.
+    pub fn try_clone(&self) -> Result<ApplyOptions, NoMemory>
+        ensures { IfOk result (λ copy. copy ≡ self.now) }
+    {
+        Ok(ApplyOptions {
+            tags: self.tags,
+            dry_run: self.dry_run,
+            packed: self.packed,
+            message: self.message.try_clone()?,
+        })
+    }
+}
+
 /// What the outcome tells of what was received.
-// Not copied: it becomes a part of one outcome.
 #[derive(Drop)]
 pub struct TakenReply {
     /// The rounds that were held, one for each request.
     pub negotiate: Negotiate,
     /// With the keep file that was made.
     pub pack: Option<Kept>,
+}
+
+impl TakenReply {
+    /// An equal reply.
+    pub fn try_clone(&self) -> Result<TakenReply, NoMemory>
+        ensures { IfOk result (λ copy. copy ≡ self.now) }
+    {
+        Ok(TakenReply {
+            negotiate: self.negotiate.try_clone()?,
+            pack: copy_kept(&self.pack)?,
+        })
+    }
+}
+
+fn copy_kept(pack: &Option<Kept>) -> Result<Option<Kept>, NoMemory>
+    ensures { IfOk result (λ copy. copy ≡ pack.now) }
+{
+    match pack {
+        Some(pack) => Ok(Some(pack.try_clone()?)),
+        None => Ok(None),
+    }
 }
 
 /// Makes the keep file, takes what was received, judges the mapped references, moves them, and removes the keep file

@@ -17,12 +17,11 @@ use crate::fetch;
 use crate::fetching::outcome::PackOutcome;
 use crate::repository::paths::keep_file;
 use crate::repository::settings::Settings;
-use fetch_store::{Failed, FileError, Files, ObjectId, Text};
+use fetch_store::{Failed, FileError, Files, NoMemory, ObjectId, Text};
 use fetch_update::update;
 use std::alloc::Global;
 
 /// A pack whose keep file was made.
-// Not copied: it is told in the outcome, of which it becomes a part.
 #[derive(Drop)]
 pub struct Kept {
     /// How many objects it has, each as often as it comes.
@@ -31,6 +30,19 @@ pub struct Kept {
     pub digest: ObjectId,
     /// Where the keep file stands.
     pub path: Text,
+}
+
+impl Kept {
+    /// An equal pack.
+    pub fn try_clone(&self) -> Result<Kept, NoMemory>
+        ensures { IfOk result (λ copy. copy ≡ self.now) }
+    {
+        Ok(Kept {
+            num_objects: self.num_objects,
+            digest: self.digest,
+            path: self.path.try_clone()?,
+        })
+    }
 }
 
 /// Makes the file that keeps the pack of a digest, `<git dir>/objects/pack/pack-<digest>.keep`, and answers its path. The

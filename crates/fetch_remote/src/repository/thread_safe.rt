@@ -1,13 +1,14 @@
 //! Repositories that are handed from thread to thread.
 
-ghost use Rattle.std.specs.Prelude.{◌≡◌};
+ghost use Rattle.std.specs.Prelude.{◌≡◌, IfOk};
 
 use crate::repository::Repository;
+use fetch_store::NoMemory;
+use std::alloc::Global;
 use std::marker::Model;
 
 /// A repository as it is handed from thread to thread: it has one owner. A repository that several threads use at once is a
 /// `SharedRepository` of `fetch_shared`. Contracts see it as the repository.
-// Not copied: it has one owner; the repository in it can be copied.
 #[derive(Drop)]
 pub struct ThreadSafeRepository {
     repo: Repository,
@@ -25,6 +26,15 @@ impl Model for ThreadSafeRepository {
 }
 
 impl ThreadSafeRepository {
+    /// An equal repository, to be handed on by itself.
+    pub fn try_clone(&self, alloc: Global) -> Result<ThreadSafeRepository, NoMemory>
+        ensures { IfOk result (λ copy. copy ≡ self.now) }
+    {
+        Ok(ThreadSafeRepository {
+            repo: self.repo.try_clone(alloc)?,
+        })
+    }
+
     /// The repository, for use in this thread.
     pub fn to_thread_local(self) -> Repository
         ensures { result ≡ self }
