@@ -30,7 +30,7 @@ use fetch_remote::connect::Connect;
 use fetch_remote::phases::listed_for;
 use fetch_remote::{Direction, Prepared, Remote, Repository};
 use fetch_specs::{Conflict, RefSpec};
-use fetch_store::{List, NoMemory, Text};
+use fetch_store::{List, NoMemory, Text, TryClone};
 use fetch_wire::Interrupt;
 use std::alloc::Global;
 
@@ -195,9 +195,13 @@ fn options_for(
 ) -> Result<ref_map::Options, NoMemory>
     ensures { IfOk result (spec.AreOptions with_head place.now choices.now) }
 {
-    let mut options = choices.options.try_clone()?;
-    options.extra_refspecs = extra_for(alloc, with_head, place, choices)?;
-    Ok(options)
+    let given = &choices.options;
+    Ok(ref_map::Options {
+        prefix_from_spec_as_filter_on_remote: given.prefix_from_spec_as_filter_on_remote,
+        handshake_parameters: given.handshake_parameters.try_clone()?,
+        extra_refspecs: extra_for(alloc, with_head, place, choices)?,
+        max_reply_bytes: given.max_reply_bytes,
+    })
 }
 
 /// For a revision it is that alone.
