@@ -1,5 +1,5 @@
 -- What the program answers.
-use Rattle.std.proofs.Common.{◌≡◌, ◌≢◌, ℕ, suc, ◌<◌, ◌≤◌, Bool, true, false, List, length, replicate, Option, Some, None, Result, Ok, Err, nat_lt, refl, sym, ap, arith}
+use Rattle.std.proofs.Common.{◌≡◌, ◌⊎◌, ℕ, suc, ◌<◌, ◌≤◌, Bool, true, false, List, length, replicate, Option, Some, None, Result, Ok, Err, nat_lt, refl, sym, ap, inl, inr, arith}
 use Rattle.std.specs.Prelude.{◌==◌, if◌then◌else◌}
 use Rattle.std.proofs.lemmas.List.{length-replicate}
 use Rattle.std.proofs.lemmas.Bool.Decides.{nat_tests}
@@ -26,6 +26,7 @@ use Rattle.fetch_check.specs.declared.findings.Findings.{Findings}
 use Rattle.fetch_remote.specs.Valid.{IsValidInput}
 use Rattle.fetch_scene.specs.Scene.{limit, scene_of}
 use Rattle.fetch_cli.specs.Words.{command_of}
+use Rattle.fetch_cli.specs.Written.{IsAnswered}
 use Rattle.fetch_scene.specs.declared.scene.Scene.{Scene}
 use Rattle.fetch_cli.specs.declared.program.words.Command.{Command}
 use Rattle.fetch_cli.specs.declared.program.words.Command.TheVariants.{Fetch, Check, Bench, Help, Version}
@@ -63,21 +64,17 @@ answers_too_long task (Some bytes) status text h is = record { bytes = bytes; re
 
 -- ---- the statuses of answers
 
--- none of those that the ends and out of memory have
-abbrev pub IsAnswered : ℕ → Type 0
-IsAnswered status = (status ≢ 2) × (status ≢ 3) × (status ≢ 5) × (status ≤ 5)
-
 answered_by : (wanted status : ℕ) → status ≡ wanted → IsAnswered wanted → IsAnswered status
 answered_by wanted status is h = rw is h
 
 zero_answers : IsAnswered 0
-zero_answers = (λ e. cc, λ e. cc, λ e. cc, omega arith)
+zero_answers = inl (omega arith)
 
 one_answers : IsAnswered 1
-one_answers = (λ e. cc, λ e. cc, λ e. cc, omega arith)
+one_answers = inl (omega arith)
 
 four_answers : IsAnswered 4
-four_answers = (λ e. cc, λ e. cc, λ e. cc, omega arith)
+four_answers = inr refl
 
 answered_with : (sent : List Line) (result : Result (Outcome × State) FetchError) (left : State) (keep : Option (List ℕ)) → IsAnswered (report_with sent result left keep).0
 answered_with sent (Ok x) left keep = zero_answers

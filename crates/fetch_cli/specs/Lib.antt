@@ -12,4 +12,5 @@ pub mod Fetched
 pub mod Bench
 pub mod ServerScenes
 pub mod Checks
+pub mod Written
 pub mod Run

@@ -1,8 +1,7 @@
 -- What the program writes, and its status.
-use Rattle.std.specs.Prelude.{◌≡◌, ◌≢◌, ◌≤◌, ◌⊎◌, ℕ, Bool, true, false, List, Option, Some, Result, Ok, Err}
+use Rattle.std.specs.Prelude.{◌≡◌, ◌≤◌, ◌⊎◌, ℕ, Bool, true, false, List, Option, Some, Result, Ok, Err}
 use Rattle.std.specs.Io.KnownBytes.{Appends}
 use Rattle.fetch_remote.specs.Valid.{IsValidInput}
-use Rattle.fetch_store.specs.Faults.{Faults, Rose, Counts}
 use Rattle.fetch_check.specs.declared.findings.Findings.{Findings}
 use Rattle.fetch_check.specs.Telling.{findings_status, findings_text}
 use Rattle.fetch_scene.specs.declared.scene.Scene.{Scene}
@@ -13,7 +12,7 @@ use Rattle.fetch_cli.specs.declared.program.words.Command.{Command}
 use Rattle.fetch_cli.specs.declared.program.words.Command.TheVariants.{Fetch, Check, Bench, Help, Version}
 use Rattle.fetch_cli.specs.Bench.{generated_scene, summary_of, IsSummary}
 use Rattle.fetch_cli.specs.Checks.{AreFoundIn, IsChecked, repository_of}
-use Rattle.fetch_cli.specs.Io.{IsFront, IsAll}
+use Rattle.fetch_cli.specs.Io.{IsAll}
 use Rattle.fetch_cli.specs.Report.{given_of, found_of, stream_of, IsReport}
 use Rattle.fetch_cli.specs.ReportLines.{malformed_line, malformed_word_line}
 use Rattle.fetch_cli.specs.ServerScenes.{server_scene_of}
@@ -75,21 +74,6 @@ asks_input words = reads_input (command_of words)
 abbrev pub AsksBench : List (List ℕ) → ℕ → Type 0
 AsksBench words count = command_of words ≡ Ok (Bench count)
 
--- The answer, with this status, was written whole.
-pub record Writes (words : List (List ℕ)) (input old new : Option (List ℕ)) (status : ℕ) : Type 0 where
-  pub text : List ℕ
-  pub answer : IsAnswer words input status text
-  pub wrote : Appends old new text
-
--- A prefix of the answer was written.
-pub record WritesFront (words : List (List ℕ)) (input old new : Option (List ℕ)) : Type 0 where
-  pub status : ℕ
-  pub text : List ℕ
-  pub answer : IsAnswer words input status text
-  pub front : List ℕ
-  pub is_front : IsFront front text
-  pub wrote : Appends old new front
-
 -- This status, but where the source or the sink failed or memory ran out.
 abbrev pub IsUnlessFailed : ℕ → ℕ → Type 0
 IsUnlessFailed result status = (result ≡ status) ⊎ ((result ≡ 2) ⊎ ((result ≡ 3) ⊎ (result ≡ 5)))
@@ -121,21 +105,6 @@ pub record WritesSummary (count : ℕ) (old new : Option (List ℕ)) (status : �
 -- the status of that summary, whatever the source says
 abbrev pub bench_status : ℕ → ℕ
 bench_status count = (summary_of count (generated_scene count)).0
-
--- An end that is lent, whose failure is told by this status alone: its count rose in a call that answers so, and in no other.
-pub record BlamesEnd (old new : Faults) (failed status : ℕ) : Type 0 where
-  pub counts : Counts old new
-  pub rose : status ≡ failed → Rose old new
-  pub quiet : status ≢ failed → new.count ≡ old.count
-
--- What is written, by the status: the whole answer of that status, a front of some answer, or nothing.
-pub record WritesBy (whole : ℕ → Type 0) (front nothing : Type 0) (status : ℕ) : Type 0 where
-  pub done : status ≡ 0 → whole 0
-  pub refused : status ≡ 1 → whole 1
-  pub unread : status ≡ 2 → nothing
-  pub failed : status ≡ 3 → front
-  pub malformed : status ≡ 4 → whole 4
-  pub memory : status ≡ 5 → nothing ⊎ front
 
 -- A bench writes the summary of its scene, with its status.
 pub record IsBenched (count : ℕ) (old new : Option (List ℕ)) (status : ℕ) : Type 0 where

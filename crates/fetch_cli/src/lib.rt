@@ -17,7 +17,7 @@ pub use laws::{
     a_report_tells_the_requests, a_summary_has_the_status_of_its_report, a_valid_scene_is_fetched,
     lines_are_heard_as_written,
 };
-pub use program::answers::{Answer, Silence, malformed, malformed_word};
+pub use program::answers::{Answer, Silence, malformed, malformed_word, write_answer};
 pub use program::input::{ReadError, read_all};
 pub use program::io::{Sink, Source};
 pub use program::memory::{MemorySink, MemorySource};

@@ -6,6 +6,7 @@ use Rattle.fetch_scene.specs.Scene.{limit}
 use Rattle.fetch_cli.specs.Io.{IsLongerThan}
 use Rattle.fetch_cli.specs.ReportLines.{malformed_line}
 use Rattle.fetch_cli.specs.Run.{Are}
+use Rattle.fetch_cli.specs.Written.{IsAnswered}
 use Rattle.fetch_cli.specs.ServerScenes.{server_scene_of}
 use Rattle.fetch_cli.specs.declared.program.server_scene.ServerScene.{ServerScene}
 use Rattle.mirror_cli.specs.MirrorRun.{TellsMirror, TellsRefusal, IsSceneAnswer, IsInputAnswer, IsAnswerTo, IsMirrorAnswer}
@@ -49,16 +50,6 @@ of_words : (asked : Result ℕ ℕ) (input : Option (List ℕ)) (status : ℕ) (
 of_words (Ok workers) input status text told = of_scene workers (server_scene_of told.bytes) status text told.answer
 of_words (Err number) input status text told = inr told.0
 
--- it isn't one of those that tell a fault
-pub record IsAnswered (status : ℕ) : Type 0 where
-  pub read : status ≡ 2 → ⊥
-  pub written : status ≡ 3 → ⊥
-  pub had : status ≡ 5 → ⊥
-  pub most : status ≤ 5
-
-answered : (status : ℕ) → (status ≤ 1) ⊎ (status ≡ 4) → IsAnswered status
-answered status (inl low) = record { read = λ e. omega (arith, e, low); written = λ e. omega (arith, e, low); had = λ e. omega (arith, e, low); most = omega (arith, low) }
-answered status (inr four) = record { read = λ e. omega (arith, e, four); written = λ e. omega (arith, e, four); had = λ e. omega (arith, e, four); most = omega (arith, four) }
-
+-- none of those that tell a fault
 pub known : (words : List (List ℕ)) (input : Option (List ℕ)) (status : ℕ) (text : List ℕ) → IsMirrorAnswer words input status text → IsAnswered status
-known words input status text told = answered status (of_words (mirror_asked words) input status text told.is)
+known words input status text told = of_words (mirror_asked words) input status text told.is

@@ -1,11 +1,10 @@
 -- What the program writes of a mirror, and its status.
 use Rattle.std.specs.Prelude.{◌≡◌, ◌≢◌, ◌⊎◌, ℕ, Bool, true, false, List, Option, Result, Ok, Err}
-use Rattle.std.specs.Io.KnownBytes.{Appends}
 use Rattle.fetch_refs.specs.declared.log.Signature.{Signature}
 use Rattle.fetch_remote.specs.Repositories.{State}
 use Rattle.fetch_remote.specs.RepositoryValues.{RepositoryValue}
 use Rattle.fetch_cli.specs.Checks.{repository_of}
-use Rattle.fetch_cli.specs.Io.{IsFront, IsAll}
+use Rattle.fetch_cli.specs.Io.{IsAll}
 use Rattle.fetch_cli.specs.Report.{committer}
 use Rattle.fetch_cli.specs.ReportLines.{malformed_line, malformed_word_line, refused_line}
 use Rattle.fetch_cli.specs.Run.{Are}
@@ -88,18 +87,3 @@ pub record IsMirrorAnswer (words : List (List ℕ)) (input : Option (List ℕ)) 
 abbrev pub asks : Result ℕ ℕ → Bool
 asks (Ok workers) = true
 asks (Err number) = false
-
--- The answer, with this status, was written whole.
-pub record Writes (words : List (List ℕ)) (input old new : Option (List ℕ)) (status : ℕ) : Type 0 where
-  pub text : List ℕ
-  pub answer : IsMirrorAnswer words input status text
-  pub wrote : Appends old new text
-
--- A prefix of the answer was written.
-pub record WritesFront (words : List (List ℕ)) (input old new : Option (List ℕ)) : Type 0 where
-  pub status : ℕ
-  pub text : List ℕ
-  pub answer : IsMirrorAnswer words input status text
-  pub front : List ℕ
-  pub is_front : IsFront front text
-  pub wrote : Appends old new front

@@ -1,20 +1,19 @@
 //! The program's word `mirror`: it reads a repository, mirrors it, and writes a report.
 
-ghost use Rattle.std.specs.Prelude.{◌≡◌, ◌≢◌, ◌≤◌, ◌⊎◌, map, false, IfOk, IsErrOf};
+ghost use Rattle.std.specs.Prelude.{◌≡◌, ◌≢◌, ◌≤◌, map, false, IfOk, IsErrOf};
 ghost use Rattle.std.specs.Io.KnownBytes.{IsAtEnd};
-ghost use Rattle.fetch_store.specs.Faults.{Rose, Counts};
 ghost use Rattle.fetch_cli.specs.ServerScenes.{server_scene_of};
-ghost use Rattle.mirror_cli.specs.MirrorRun.{IsInputAnswer, IsMirrorAnswer, IsSceneAnswer, Writes, WritesFront, asks};
+ghost use Rattle.fetch_cli.specs.Written.{BlamesEnd, WritesBy};
+ghost use Rattle.mirror_cli.specs.MirrorRun.{IsInputAnswer, IsMirrorAnswer, IsSceneAnswer, asks};
 ghost use Rattle.mirror_cli.specs.MirrorWords.{mirror_asked};
 
 use crate::mirroring::mirrored;
 use crate::words::read_mirror_words;
 use fetch_cli::{
     Answer, MAX_SCENE, ReadError, SceneFault, Silence, Sink, Source, malformed, malformed_word,
-    read_all, read_server_scene,
+    read_all, read_server_scene, write_answer,
 };
 use fetch_store::NoMemory;
-use fetch_wire::SendFault;
 use std::alloc::Global;
 use std::sync::Wait;
 use std::thread::Threads;
@@ -44,9 +43,7 @@ fn answer_to_input<R: Threads + Wait + Sync, S: Source>(
 ) -> Result<Answer, Silence>
     ensures answer { IfOk result (λ x. IsInputAnswer workers (S.left source.old) x.0 x.1.items) }
     ensures end { IfOk result (λ x. x.0 ≢ 4 → IsAtEnd (S.left source.new)) }
-    ensures unread { IsErrOf result Silence.Unread → Rose (S.faults source.old) (S.faults source.new) }
-    ensures counts { Counts (S.faults source.old) (S.faults source.new) }
-    ensures quiet { ¬ IsErrOf result Silence.Unread → (S.faults source.new).count ≡ (S.faults source.old).count }
+    ensures source { BlamesEnd (S.faults source.old) (S.faults source.new) (IsErrOf result Silence.Unread) }
 {
     match read_all(alloc, source) {
         Ok(bytes) => Ok(answer_to_bytes(rt, alloc, workers, &bytes)?),
@@ -65,9 +62,7 @@ fn answer<R: Threads + Wait + Sync, S: Source>(
 ) -> Result<Answer, Silence>
     ensures answer { IfOk result (λ x. IsMirrorAnswer (map (λ word. word.items) words.now) (S.left source.old) x.0 x.1.items) }
     ensures end { IfOk result (λ x. x.0 ≢ 4 → IsAtEnd (S.left source.new)) }
-    ensures unread { IsErrOf result Silence.Unread → Rose (S.faults source.old) (S.faults source.new) }
-    ensures counts { Counts (S.faults source.old) (S.faults source.new) }
-    ensures quiet { ¬ IsErrOf result Silence.Unread → (S.faults source.new).count ≡ (S.faults source.old).count }
+    ensures source { BlamesEnd (S.faults source.old) (S.faults source.new) (IsErrOf result Silence.Unread) }
     ensures untouched { asks (mirror_asked (map (λ word. word.items) words.now)) ≡ false → source.new ≡ source.old }
 {
     match read_mirror_words(words) {
@@ -87,35 +82,15 @@ pub fn run_mirror_scene<R: Threads + Wait + Sync, S: Source, K: Sink>(
     source: &mut S,
     sink: &mut K,
 ) -> u8
-    ensures done { result ≡ 0 → Writes (map (λ word. word.items) words.now) (S.left source.old) (K.taken sink.old) (K.taken sink.new) 0 }
-    ensures refused { result ≡ 1 → Writes (map (λ word. word.items) words.now) (S.left source.old) (K.taken sink.old) (K.taken sink.new) 1 }
-    ensures reads { Counts (S.faults source.old) (S.faults source.new) }
-    ensures writes { Counts (K.faults sink.old) (K.faults sink.new) }
-    ensures read { result ≡ 2 → Rose (S.faults source.old) (S.faults source.new) }
-    ensures unread { result ≡ 2 → sink.new ≡ sink.old }
     // A source that failed is told by 2 alone, and a sink that failed by 3.
-    ensures quiet_source { result ≢ 2 → (S.faults source.new).count ≡ (S.faults source.old).count }
-    ensures quiet_sink { result ≢ 3 → (K.faults sink.new).count ≡ (K.faults sink.old).count }
-    ensures write { result ≡ 3 → Rose (K.faults sink.old) (K.faults sink.new) }
-    ensures front { result ≡ 3 → WritesFront (map (λ word. word.items) words.now) (S.left source.old)
-        (K.taken sink.old) (K.taken sink.new) }
-    ensures malformed { result ≡ 4 → Writes (map (λ word. word.items) words.now) (S.left source.old)
-        (K.taken sink.old) (K.taken sink.new) 4 }
-    ensures memory { result ≡ 5 → (sink.new ≡ sink.old)
-        ⊎ WritesFront (map (λ word. word.items) words.now) (S.left source.old) (K.taken sink.old) (K.taken sink.new) }
+    ensures source { BlamesEnd (S.faults source.old) (S.faults source.new) (result ≡ 2) }
+    ensures sink { BlamesEnd (K.faults sink.old) (K.faults sink.new) (result ≡ 3) }
+    ensures written { WritesBy (IsMirrorAnswer (map (λ word. word.items) words.now) (S.left source.old))
+        (K.taken sink.old) (K.taken sink.new) (sink.new ≡ sink.old) result }
     // Where the repository was mirrored or refused, the source was read to its end.
     ensures end { result ≤ 1 → IsAtEnd (S.left source.new) }
     // Words are tested before the source is read.
     ensures words { asks (mirror_asked (map (λ word. word.items) words.now)) ≡ false → source.new ≡ source.old }
-    ensures known { result ≤ 5 }
 {
-    match answer(rt, alloc, words, source) {
-        Ok((status, text)) => match sink.write_all(&text) {
-            Ok(()) => status,
-            Err(SendFault::Failed) => 3,
-            Err(SendFault::NoMemory) => 5,
-        },
-        Err(Silence::Unread) => 2,
-        Err(Silence::NoMemory) => 5,
-    }
+    write_answer(answer(rt, alloc, words, source), sink)
 }

@@ -7,6 +7,7 @@ use Rattle.fetch_shared.specs.Machine.{held}
 use Rattle.fetch_shared.specs.Replays.{Outline}
 use Rattle.fetch_shared.specs.declared.entry.Entry.{Entry}
 use Rattle.fetch_shared.specs.declared.error.SharedError.{SharedError}
+use Rattle.fetch_cli.specs.Written.{IsAnswered}
 use Rattle.race_cli.specs.RaceReports.{Answer, any_refused, status_of, IsRaceReport, IsRefusedReport}
 use Rattle.race_cli.specs.RaceRun.{IsToldUnless, IsSceneAnswer, IsAnswerTo, IsRaceAnswer}
 use Rattle.race_cli.specs.RaceScenes.{race_scene_of}
@@ -36,16 +37,6 @@ of_words : (asked : Result (Unit {0}) ℕ) (input : Option (List ℕ)) (status :
 of_words (Ok asked) input status text told = of_scene (race_scene_of told.bytes) status text told.answer
 of_words (Err number) input status text told = inr told.0
 
--- it isn't one of those that tell a fault
-pub record IsAnswered (status : ℕ) : Type 0 where
-  pub read : status ≡ 2 → ⊥
-  pub written : status ≡ 3 → ⊥
-  pub had : status ≡ 5 → ⊥
-  pub most : status ≤ 5
-
-answered : (status : ℕ) → (status ≤ 1) ⊎ (status ≡ 4) → IsAnswered status
-answered status (inl low) = record { read = λ e. omega (arith, e, low); written = λ e. omega (arith, e, low); had = λ e. omega (arith, e, low); most = omega (arith, low) }
-answered status (inr four) = record { read = λ e. omega (arith, e, four); written = λ e. omega (arith, e, four); had = λ e. omega (arith, e, four); most = omega (arith, four) }
-
+-- none of those that tell a fault
 pub known : (words : List (List ℕ)) (input : Option (List ℕ)) (status : ℕ) (text : List ℕ) → IsRaceAnswer words input status text → IsAnswered status
-known words input status text told = answered status (of_words (race_asked words) input status text told.is)
+known words input status text told = of_words (race_asked words) input status text told.is

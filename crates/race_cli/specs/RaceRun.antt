@@ -1,12 +1,11 @@
 -- What the program writes of a race, and its status.
 use Rattle.std.specs.Prelude.{◌≡◌, ℕ, Bool, true, false, List, [], ◌∷◌, map, Option, Some, None, Result, Ok, Err, slice_get}
 use Rattle.std.specs.List.{concat}
-use Rattle.std.specs.Io.KnownBytes.{Appends}
 use Rattle.fetch_store.specs.Calls.{faults_of}
 use Rattle.fetch_store.specs.Missing.{unclosed}
 use Rattle.fetch_store.specs.declared.missing.Missing.{Missing}
 use Rattle.fetch_wire.specs.Scripts.{Script, talk_of}
-use Rattle.fetch_cli.specs.Io.{IsFront, IsAll}
+use Rattle.fetch_cli.specs.Io.{IsAll}
 use Rattle.fetch_cli.specs.ReportLines.{malformed_line, malformed_word_line}
 use Rattle.fetch_cli.specs.Run.{Are}
 use Rattle.fetch_shared.specs.Machine.{held}
@@ -93,18 +92,3 @@ pub record IsRaceAnswer (words : List (List ℕ)) (input : Option (List ℕ)) (s
 abbrev pub asks : Result (Unit {0}) ℕ → Bool
 asks (Ok asked) = true
 asks (Err number) = false
-
--- The answer, with this status, was written whole.
-pub record Writes (words : List (List ℕ)) (input old new : Option (List ℕ)) (status : ℕ) : Type 0 where
-  pub text : List ℕ
-  pub answer : IsRaceAnswer words input status text
-  pub wrote : Appends old new text
-
--- A prefix of the answer was written.
-pub record WritesFront (words : List (List ℕ)) (input old new : Option (List ℕ)) : Type 0 where
-  pub status : ℕ
-  pub text : List ℕ
-  pub answer : IsRaceAnswer words input status text
-  pub front : List ℕ
-  pub is_front : IsFront front text
-  pub wrote : Appends old new front

@@ -1,11 +1,11 @@
 //! The program's word `race`: it reads a scene, races its jobs, and writes a report.
 
-ghost use Rattle.std.specs.Prelude.{◌≡◌, ◌≢◌, ◌≤◌, ◌⊎◌, map, true, false, IfOk, IsErrOf};
+ghost use Rattle.std.specs.Prelude.{◌≡◌, ◌≢◌, ◌≤◌, map, true, false, IfOk, IsErrOf};
 ghost use Rattle.std.specs.Io.KnownBytes.{IsAtEnd};
-ghost use Rattle.fetch_store.specs.Faults.{Rose, Counts};
 ghost use Rattle.fetch_store.specs.Stores.{AreOf};
+ghost use Rattle.fetch_cli.specs.Written.{BlamesEnd, WritesBy};
 ghost use Rattle.race_cli.specs.Jobs.{AreFew};
-ghost use Rattle.race_cli.specs.RaceRun.{AreSetUp, IsSetUp, IsInputAnswer, IsRaceAnswer, IsRaceOf, Writes, WritesFront, asks};
+ghost use Rattle.race_cli.specs.RaceRun.{AreSetUp, IsSetUp, IsInputAnswer, IsRaceAnswer, IsRaceOf, asks};
 ghost use Rattle.race_cli.specs.RaceWords.{race_asked};
 
 use crate::input::{RaceFault, read_race};
@@ -13,10 +13,10 @@ use crate::race_case::{JobCase, open_race};
 use crate::reporting::{race_report, refused_race_report};
 use crate::scene::RaceScene;
 use crate::words::read_race_words;
-use fetch_cli::{Answer, Silence, Sink, Source, malformed, malformed_word};
+use fetch_cli::{Answer, Silence, Sink, Source, malformed, malformed_word, write_answer};
 use fetch_race::{Job, race_with};
 use fetch_store::{List, NoMemory};
-use fetch_wire::{ScriptedPeer, SendFault};
+use fetch_wire::ScriptedPeer;
 use std::alloc::Global;
 use std::sync::Wait;
 use std::thread::Threads;
@@ -79,9 +79,7 @@ fn answer_to_input<R: Threads + Wait + Sync, S: Source>(
 ) -> Result<Answer, Silence>
     ensures answer { IfOk result (λ x. IsInputAnswer (S.left source.old) x.0 x.1.items) }
     ensures end { IfOk result (λ x. x.0 ≢ 4 → IsAtEnd (S.left source.new)) }
-    ensures unread { IsErrOf result Silence.Unread → Rose (S.faults source.old) (S.faults source.new) }
-    ensures counts { Counts (S.faults source.old) (S.faults source.new) }
-    ensures quiet { ¬ IsErrOf result Silence.Unread → (S.faults source.new).count ≡ (S.faults source.old).count }
+    ensures source { BlamesEnd (S.faults source.old) (S.faults source.new) (IsErrOf result Silence.Unread) }
 {
     match read_race(rt, alloc, source) {
         Ok(scene) => Ok(raced(rt, alloc, scene)?),
@@ -100,9 +98,7 @@ fn answer<R: Threads + Wait + Sync, S: Source>(
 ) -> Result<Answer, Silence>
     ensures answer { IfOk result (λ x. IsRaceAnswer (map (λ word. word.items) words.now) (S.left source.old) x.0 x.1.items) }
     ensures end { IfOk result (λ x. x.0 ≢ 4 → IsAtEnd (S.left source.new)) }
-    ensures unread { IsErrOf result Silence.Unread → Rose (S.faults source.old) (S.faults source.new) }
-    ensures counts { Counts (S.faults source.old) (S.faults source.new) }
-    ensures quiet { ¬ IsErrOf result Silence.Unread → (S.faults source.new).count ≡ (S.faults source.old).count }
+    ensures source { BlamesEnd (S.faults source.old) (S.faults source.new) (IsErrOf result Silence.Unread) }
     ensures untouched { asks (race_asked (map (λ word. word.items) words.now)) ≡ false → source.new ≡ source.old }
 {
     match read_race_words(words) {
@@ -122,35 +118,15 @@ pub fn run_race<R: Threads + Wait + Sync, S: Source, K: Sink>(
     source: &mut S,
     sink: &mut K,
 ) -> u8
-    ensures done { result ≡ 0 → Writes (map (λ word. word.items) words.now) (S.left source.old) (K.taken sink.old) (K.taken sink.new) 0 }
-    ensures refused { result ≡ 1 → Writes (map (λ word. word.items) words.now) (S.left source.old) (K.taken sink.old) (K.taken sink.new) 1 }
-    ensures reads { Counts (S.faults source.old) (S.faults source.new) }
-    ensures writes { Counts (K.faults sink.old) (K.faults sink.new) }
-    ensures read { result ≡ 2 → Rose (S.faults source.old) (S.faults source.new) }
-    ensures unread { result ≡ 2 → sink.new ≡ sink.old }
     // A source that failed is told by 2 alone, and a sink that failed by 3.
-    ensures quiet_source { result ≢ 2 → (S.faults source.new).count ≡ (S.faults source.old).count }
-    ensures quiet_sink { result ≢ 3 → (K.faults sink.new).count ≡ (K.faults sink.old).count }
-    ensures write { result ≡ 3 → Rose (K.faults sink.old) (K.faults sink.new) }
-    ensures front { result ≡ 3 → WritesFront (map (λ word. word.items) words.now) (S.left source.old) (K.taken sink.old)
-        (K.taken sink.new) }
-    ensures malformed { result ≡ 4 → Writes (map (λ word. word.items) words.now) (S.left source.old) (K.taken sink.old)
-        (K.taken sink.new) 4 }
-    ensures memory { result ≡ 5 → (sink.new ≡ sink.old)
-        ⊎ WritesFront (map (λ word. word.items) words.now) (S.left source.old) (K.taken sink.old) (K.taken sink.new) }
+    ensures source { BlamesEnd (S.faults source.old) (S.faults source.new) (result ≡ 2) }
+    ensures sink { BlamesEnd (K.faults sink.old) (K.faults sink.new) (result ≡ 3) }
+    ensures written { WritesBy (IsRaceAnswer (map (λ word. word.items) words.now) (S.left source.old))
+        (K.taken sink.old) (K.taken sink.new) (sink.new ≡ sink.old) result }
     // Where the jobs were raced, the source was read to its end.
     ensures end { result ≤ 1 → IsAtEnd (S.left source.new) }
     // Words are tested before the source is read.
     ensures words { asks (race_asked (map (λ word. word.items) words.now)) ≡ false → source.new ≡ source.old }
-    ensures known { result ≤ 5 }
 {
-    match answer(rt, alloc, words, source) {
-        Ok((status, text)) => match sink.write_all(&text) {
-            Ok(()) => status,
-            Err(SendFault::Failed) => 3,
-            Err(SendFault::NoMemory) => 5,
-        },
-        Err(Silence::Unread) => 2,
-        Err(Silence::NoMemory) => 5,
-    }
+    write_answer(answer(rt, alloc, words, source), sink)
 }

@@ -2,21 +2,21 @@
 
 ghost use Rattle.std.specs.Prelude.{◌≡◌, ◌≢◌, ◌≤◌, ℕ, List, Some, map, true, false, IfOk, IsErrOf};
 ghost use Rattle.std.specs.Io.KnownBytes.{IsAtEnd};
-ghost use Rattle.fetch_store.specs.Faults.{Rose, Counts};
 ghost use Rattle.fetch_store.specs.Stores.{AreOf};
 ghost use Rattle.fetch_check.specs.declared.findings.Findings.{Findings};
 ghost use Rattle.fetch_cli.specs.Bench.{IsSummary, generated_scene};
 ghost use Rattle.fetch_cli.specs.Checks.{IsChecked};
 ghost use Rattle.fetch_cli.specs.Report.{IsReport};
 ghost use Rattle.fetch_cli.specs.Run.{Are, IsSceneAnswer, IsServerAnswer, IsBytesAnswer, IsInputAnswer, IsAnswer};
-ghost use Rattle.fetch_cli.specs.Run.{BlamesEnd, HasFindings, HasValidScene, AsksBench, asks_input};
-ghost use Rattle.fetch_cli.specs.Run.{IsBenched, IsCheckOf, IsUnlessFailed, Writes, WritesBy, WritesFront};
+ghost use Rattle.fetch_cli.specs.Run.{HasFindings, HasValidScene, AsksBench, asks_input};
+ghost use Rattle.fetch_cli.specs.Run.{IsBenched, IsCheckOf, IsUnlessFailed};
 ghost use Rattle.fetch_cli.specs.ServerScenes.{server_scene_of};
 ghost use Rattle.fetch_cli.specs.Words.{IsWithin, help_text, version_text};
+ghost use Rattle.fetch_cli.specs.Written.{BlamesEnd, WritesBy};
 ghost use Rattle.fetch_scene.specs.Scene.{scene_of};
 
 use crate::bench::generate;
-use crate::program::answers::{Answer, Silence, malformed, malformed_word};
+use crate::program::answers::{Answer, Silence, malformed, malformed_word, write_answer};
 use crate::program::input::{ReadError, read_all};
 use crate::program::io::{Sink, Source};
 use crate::program::server_scene::{ServerScene, read_server_scene};
@@ -27,7 +27,6 @@ use crate::reporting::summary::summary;
 use fetch_check::{append_findings, check};
 use fetch_scene::{MAX_SCENE, Scene, SceneFault, read_scene};
 use fetch_store::NoMemory;
-use fetch_wire::SendFault;
 use std::alloc::Global;
 use std::thread::Threads;
 
@@ -138,9 +137,7 @@ fn answer_to_input<R: Threads + Sync, S: Source>(
 ) -> Result<Answer, Silence>
     ensures answer { IfOk result (λ x. IsInputAnswer task (S.left source.old) x.0 x.1.items) }
     ensures end { IfOk result (λ x. x.0 ≢ 4 → IsAtEnd (S.left source.new)) }
-    ensures unread { IsErrOf result Silence.Unread → Rose (S.faults source.old) (S.faults source.new) }
-    ensures counts { Counts (S.faults source.old) (S.faults source.new) }
-    ensures quiet { ¬ IsErrOf result Silence.Unread → (S.faults source.new).count ≡ (S.faults source.old).count }
+    ensures source { BlamesEnd (S.faults source.old) (S.faults source.new) (IsErrOf result Silence.Unread) }
 {
     match read_all(alloc, source) {
         Ok(bytes) => Ok(answer_to_bytes(rt, alloc, task, &bytes)?),
@@ -159,9 +156,7 @@ fn answer<R: Threads + Sync, S: Source>(
 ) -> Result<Answer, Silence>
     ensures answer { IfOk result (λ x. IsAnswer (map (λ word. word.items) words.now) (S.left source.old) x.0 x.1.items) }
     ensures end { IfOk result (λ x. asks_input (map (λ word. word.items) words.now) ≡ true → x.0 ≢ 4 → IsAtEnd (S.left source.new)) }
-    ensures unread { IsErrOf result Silence.Unread → Rose (S.faults source.old) (S.faults source.new) }
-    ensures counts { Counts (S.faults source.old) (S.faults source.new) }
-    ensures quiet { ¬ IsErrOf result Silence.Unread → (S.faults source.new).count ≡ (S.faults source.old).count }
+    ensures source { BlamesEnd (S.faults source.old) (S.faults source.new) (IsErrOf result Silence.Unread) }
     ensures untouched { asks_input (map (λ word. word.items) words.now) ≡ false → source.new ≡ source.old }
 {
     match read_command(words) {
@@ -186,17 +181,14 @@ pub fn run<R: Threads + Sync, S: Source, K: Sink>(
     sink: &mut K,
 ) -> u8
     // A source that failed is told by 2 alone, and a sink that failed by 3.
-    ensures source { BlamesEnd (S.faults source.old) (S.faults source.new) 2 result }
-    ensures sink { BlamesEnd (K.faults sink.old) (K.faults sink.new) 3 result }
-    ensures written { WritesBy
-        (Writes (map (λ word. word.items) words.now) (S.left source.old) (K.taken sink.old) (K.taken sink.new))
-        (WritesFront (map (λ word. word.items) words.now) (S.left source.old) (K.taken sink.old) (K.taken sink.new))
-        (sink.new ≡ sink.old) result }
+    ensures source { BlamesEnd (S.faults source.old) (S.faults source.new) (result ≡ 2) }
+    ensures sink { BlamesEnd (K.faults sink.old) (K.faults sink.new) (result ≡ 3) }
+    ensures written { WritesBy (IsAnswer (map (λ word. word.items) words.now) (S.left source.old))
+        (K.taken sink.old) (K.taken sink.new) (sink.new ≡ sink.old) result }
     // Where a fetch was done or refused, or a repository was checked, the source was read to its end.
     ensures end { asks_input (map (λ word. word.items) words.now) ≡ true → result ≤ 1 → IsAtEnd (S.left source.new) }
     // Words are tested before the source is read.
     ensures words { asks_input (map (λ word. word.items) words.now) ≡ false → source.new ≡ source.old }
-    ensures known { result ≤ 5 }
     // Where the source tells what is in it, the status is that of the one answer.
     ensures exact { (bytes : List ℕ) (status : ℕ) (text : List ℕ) → S.left source.old ≡ Some bytes
         → IsAnswer (map (λ word. word.items) words.now) (Some bytes) status text → IsUnlessFailed result status }
@@ -206,13 +198,5 @@ pub fn run<R: Threads + Sync, S: Source, K: Sink>(
         → IsCheckOf findings (K.taken sink.old) (K.taken sink.new) result }
     ensures complete { HasValidScene (map (λ word. word.items) words.now) (S.left source.old) → IsUnlessFailed result 0 }
 {
-    match answer(rt, alloc, words, source) {
-        Ok((status, text)) => match sink.write_all(&text) {
-            Ok(()) => status,
-            Err(SendFault::Failed) => 3,
-            Err(SendFault::NoMemory) => 5,
-        },
-        Err(Silence::Unread) => 2,
-        Err(Silence::NoMemory) => 5,
-    }
+    write_answer(answer(rt, alloc, words, source), sink)
 }

@@ -1,14 +1,10 @@
+use Rattle.fetch_cli.proofs.Ended.{answer_of, known_of, written_of}
+use Rattle.mirror_cli.specs.MirrorRun.{IsMirrorAnswer}
 use Rattle.mirror_cli.proofs.Answering.{known}
 use Rattle.mirror_cli.proofs.running.run_mirror_scene.Goals as goal
 
-pub returns-in-Ok-write_all-clause-read : goal.returns-in-Ok-write_all-clause-read
-returns-in-Ok-write_all-clause-read g c = λ e. absurd ((known _ _ _ _ c.in-Ok.ensures.answer).read e)
+pub write_answer-requires : goal.write_answer-requires
+write_answer-requires g c = known_of (IsMirrorAnswer _ _) _ _ (known _ _) c.answer.result c.answer.ensures.answer
 
-pub returns-in-Ok-write_all-clause-unread : goal.returns-in-Ok-write_all-clause-unread
-returns-in-Ok-write_all-clause-unread g c = λ e. absurd ((known _ _ _ _ c.in-Ok.ensures.answer).read e)
-
-pub returns-in-Ok-write_all-clause-write : goal.returns-in-Ok-write_all-clause-write
-returns-in-Ok-write_all-clause-write g c = λ e. absurd ((known _ _ _ _ c.in-Ok.ensures.answer).written e)
-
-pub returns-in-Ok-write_all-clause-known : goal.returns-in-Ok-write_all-clause-known
-returns-in-Ok-write_all-clause-known g c = (known _ _ _ _ c.in-Ok.ensures.answer).most
+pub returns-clause-written : goal.returns-clause-written
+returns-clause-written g c = written_of _ _ _ _ _ _ (answer_of (IsMirrorAnswer _ _) _ _ c.answer.result c.answer.ensures.answer) c.write_answer.ensures.written
