@@ -129,16 +129,29 @@ fn ask_of_lines(
     question: Question<'_>,
     out: &mut Vec<u8>,
 ) -> Result<bool, NoMemory> {
-    if question.what == b"walk".as_slice() {
-        return walks::tell(alloc, question.rest, out);
+    let Question { what, rest } = question;
+    if what == b"walk".as_slice() {
+        return walks::tell(alloc, rest, out);
+    } else if what == b"long-line".as_slice() {
+        return lines::tell_long(alloc, rest, out);
+    } else if what == b"interrupt".as_slice() {
+        return lines::tell_interrupt(alloc, rest, out);
+    } else if what == b"bounded".as_slice() {
+        return replies::tell_bounded(alloc, rest, out);
+    } else if what == b"lines".as_slice() {
+        lines::tell_written(alloc, rest, out)?;
+    } else if what == b"cut".as_slice() {
+        replies::tell_cut(alloc, rest, out)?;
+    } else if what == b"bytes".as_slice() {
+        replies::tell_bytes(alloc, rest, out)?;
+    } else if what == b"session".as_slice() {
+        sessions::tell_session(alloc, rest, out)?;
+    } else if what == b"greeting".as_slice() {
+        sessions::tell_greeting(alloc, rest, out)?;
+    } else {
+        return Ok(false);
     }
-    if lines::ask(alloc, question, out)? {
-        return Ok(true);
-    }
-    if replies::ask(alloc, question, out)? {
-        return Ok(true);
-    }
-    sessions::ask(alloc, question, out)
+    Ok(true)
 }
 
 /// Tells what is asked. Whether something is.

@@ -2,7 +2,7 @@
 
 use fetch_store::{NoMemory, after, decimal};
 use fetch_wire::{Interrupt, LineRef, ScriptedInterrupt, write_line};
-use rows::{Question, decoded, refuse, say, say_number, split_word};
+use rows::{decoded, refuse, say, say_number, split_word};
 use std::alloc::Global;
 
 /// `flush`, `delim`, or a payload after an equals sign.
@@ -22,7 +22,7 @@ fn write_word(alloc: Global, word: &[u8], out: &mut Vec<u8>) -> Result<(), NoMem
 }
 
 /// `<line>*`: tells what is written.
-fn tell_written(alloc: Global, rest: &[u8], out: &mut Vec<u8>) -> Result<(), NoMemory> {
+pub(crate) fn tell_written(alloc: Global, rest: &[u8], out: &mut Vec<u8>) -> Result<(), NoMemory> {
     let mut text = Vec::new(alloc);
     for word in rest.split(|b| *b == b' ') {
         write_word(alloc, word, &mut text)?;
@@ -32,7 +32,7 @@ fn tell_written(alloc: Global, rest: &[u8], out: &mut Vec<u8>) -> Result<(), NoM
 
 /// `<bytes>`: writes a line with so many in its payload, and tells its four digits and how many bytes it has. Whether the
 /// word is a number.
-fn tell_long(alloc: Global, digits: &[u8], out: &mut Vec<u8>) -> Result<bool, NoMemory> {
+pub(crate) fn tell_long(alloc: Global, digits: &[u8], out: &mut Vec<u8>) -> Result<bool, NoMemory> {
     let Some(count) = decimal(digits) else {
         return Ok(false);
     };
@@ -48,7 +48,11 @@ fn tell_long(alloc: Global, digits: &[u8], out: &mut Vec<u8>) -> Result<bool, No
 
 /// `<call> <questions>`: asks an interrupt so often, which says yes at this call, counted from 0. Whether the words are
 /// numbers.
-fn tell_interrupt(alloc: Global, rest: &[u8], out: &mut Vec<u8>) -> Result<bool, NoMemory> {
+pub(crate) fn tell_interrupt(
+    alloc: Global,
+    rest: &[u8],
+    out: &mut Vec<u8>,
+) -> Result<bool, NoMemory> {
     let (call, questions) = split_word(rest);
     let (Some(call), Some(questions)) = (decimal(call), decimal(questions)) else {
         return Ok(false);
@@ -62,22 +66,4 @@ fn tell_interrupt(alloc: Global, rest: &[u8], out: &mut Vec<u8>) -> Result<bool,
         }
     }
     Ok(true)
-}
-
-/// Tells what is asked of lines and interrupts. Whether something is.
-pub(crate) fn ask(
-    alloc: Global,
-    question: Question<'_>,
-    out: &mut Vec<u8>,
-) -> Result<bool, NoMemory> {
-    if question.what == b"lines".as_slice() {
-        tell_written(alloc, question.rest, out)?;
-        Ok(true)
-    } else if question.what == b"long-line".as_slice() {
-        tell_long(alloc, question.rest, out)
-    } else if question.what == b"interrupt".as_slice() {
-        tell_interrupt(alloc, question.rest, out)
-    } else {
-        Ok(false)
-    }
 }

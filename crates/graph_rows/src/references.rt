@@ -36,18 +36,36 @@ fn tell_found(out: &mut Vec<u8>, found: &Option<Target>) -> Result<(), NoMemory>
     }
 }
 
+/// How edits are made.
+#[derive(Clone, Copy)]
+struct Manner {
+    logging: bool,
+    packed: PackedRefs,
+}
+
+/// `loose`, `packed`, or `unlogged`, which is loose without reflogs.
+fn manner_of(how: &[u8]) -> Manner {
+    Manner {
+        logging: how != b"unlogged".as_slice(),
+        packed: if how == b"packed".as_slice() {
+            PackedRefs::Only
+        } else {
+            PackedRefs::Never
+        },
+    }
+}
+
 /// Prepared and committed, the references are those after the edits; refused, they are as before.
 fn commit(
     refs: &mut Refs,
     edits: &[RefEdit],
     committer: &Signature,
-    logging: bool,
-    packed: PackedRefs,
+    manner: Manner,
 ) -> Result<(), RefError>
-    ensures ok { OnOk result (refs.new ≡ after committer.now logging packed refs.old edits.now) }
+    ensures ok { OnOk result (refs.new ≡ after committer.now manner.logging manner.packed refs.old edits.now) }
     ensures err { OnErr result (refs.new ≡ refs.old) }
 {
-    let prepared: Prepared<'_> = refs.prepare(edits, committer, logging, packed)?;
+    let prepared: Prepared<'_> = refs.prepare(edits, committer, manner.logging, manner.packed)?;
     prepared.commit();
     Ok(())
 }
@@ -60,8 +78,7 @@ fn drop_prepared(refs: &mut Refs, edits: &[RefEdit], committer: &Signature) -> R
     Ok(())
 }
 
-/// Makes the edits that the lines before have asked for. How: `loose`, `packed`, `unlogged`, which is loose without
-/// reflogs, or `dropped`, which leaves all as it is.
+/// Makes the edits that the lines before have asked for, in this manner, or `dropped`, which leaves all as it is.
 pub(crate) fn make_edits(
     alloc: Global,
     world: &mut World,
@@ -72,17 +89,8 @@ pub(crate) fn make_edits(
     let edits = world.edits.as_slice();
     let made = if how == b"dropped".as_slice() {
         drop_prepared(&mut world.refs, edits, &committer)
-    } else if how == b"packed".as_slice() {
-        commit(&mut world.refs, edits, &committer, true, PackedRefs::Only)
     } else {
-        let logging = how != b"unlogged".as_slice();
-        commit(
-            &mut world.refs,
-            edits,
-            &committer,
-            logging,
-            PackedRefs::Never,
-        )
+        commit(&mut world.refs, edits, &committer, manner_of(how))
     };
     world.edits = Vec::new(alloc);
     match made {

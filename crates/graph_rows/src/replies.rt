@@ -2,7 +2,7 @@
 
 use fetch_store::{NoMemory, decimal};
 use fetch_wire::{LineReader, Need, ReplyBound, WireError, write_line};
-use rows::{Question, decoded, say, say_number, split_word};
+use rows::{decoded, say, say_number, split_word};
 use std::alloc::Global;
 
 /// The most lines that a reader is asked for at once.
@@ -110,7 +110,7 @@ fn tell_cuts(
 }
 
 /// `<text> <text>`: feeds the first in two pieces, cut in each way, and then the second.
-fn tell_cut(alloc: Global, rest: &[u8], out: &mut Vec<u8>) -> Result<(), NoMemory> {
+pub(crate) fn tell_cut(alloc: Global, rest: &[u8], out: &mut Vec<u8>) -> Result<(), NoMemory> {
     let (text, third) = split_word(rest);
     let text = decoded(alloc, text)?;
     let (_, whole) = feed_cut(alloc, &[], &text, third)?;
@@ -121,7 +121,7 @@ fn tell_cut(alloc: Global, rest: &[u8], out: &mut Vec<u8>) -> Result<(), NoMemor
 }
 
 /// `<text>`: feeds it byte by byte.
-fn tell_bytes(alloc: Global, text: &[u8], out: &mut Vec<u8>) -> Result<(), NoMemory> {
+pub(crate) fn tell_bytes(alloc: Global, text: &[u8], out: &mut Vec<u8>) -> Result<(), NoMemory> {
     let text = decoded(alloc, text)?;
     let mut lines = Vec::new(alloc);
     let mut reader = LineReader::new(alloc, ReplyBound::default());
@@ -137,7 +137,11 @@ fn tell_bytes(alloc: Global, text: &[u8], out: &mut Vec<u8>) -> Result<(), NoMem
 
 /// `<bound> <piece>*`: feeds these pieces of a reply of so many bytes at most, and asks for the next reply. Whether the
 /// first word is a bound.
-fn tell_bounded(alloc: Global, rest: &[u8], out: &mut Vec<u8>) -> Result<bool, NoMemory> {
+pub(crate) fn tell_bounded(
+    alloc: Global,
+    rest: &[u8],
+    out: &mut Vec<u8>,
+) -> Result<bool, NoMemory> {
     let (bound, pieces) = split_word(rest);
     let bound = u32::try_from(decimal(bound).unwrap_or(0)).unwrap_or(0);
     let Some(bound) = ReplyBound::new(bound) else {
@@ -154,24 +158,5 @@ fn tell_bounded(alloc: Global, rest: &[u8], out: &mut Vec<u8>) -> Result<bool, N
     reader.next_reply();
     tell_refusal(out, &take_lines(&mut reader, &mut lines)?)?;
     tell_lines(out, &fed, &lines)?;
-    Ok(true)
-}
-
-/// Tells what is asked of a reply's lines. Whether something is.
-pub(crate) fn ask(
-    alloc: Global,
-    question: Question<'_>,
-    out: &mut Vec<u8>,
-) -> Result<bool, NoMemory> {
-    let Question { what, rest } = question;
-    if what == b"cut".as_slice() {
-        tell_cut(alloc, rest, out)?;
-    } else if what == b"bytes".as_slice() {
-        tell_bytes(alloc, rest, out)?;
-    } else if what == b"bounded".as_slice() {
-        return tell_bounded(alloc, rest, out);
-    } else {
-        return Ok(false);
-    }
     Ok(true)
 }

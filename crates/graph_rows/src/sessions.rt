@@ -3,7 +3,7 @@
 use crate::replies::tell_refusal;
 use fetch_store::NoMemory;
 use fetch_wire::{ParsedReply, ReplyBound, ReplyError, ReplyKind, ReplyReader, Session, WireError};
-use rows::{Question, decoded, say, say_number};
+use rows::{decoded, say, say_number};
 use std::alloc::Global;
 
 /// What a session answers.
@@ -22,7 +22,7 @@ fn feed(session: &mut Session, piece: &[u8]) -> Result<(), WireError> {
 }
 
 /// `<piece>*`: feeds these pieces, each after all was sent, and then ends the session twice.
-fn tell_session(alloc: Global, rest: &[u8], out: &mut Vec<u8>) -> Result<(), NoMemory> {
+pub(crate) fn tell_session(alloc: Global, rest: &[u8], out: &mut Vec<u8>) -> Result<(), NoMemory> {
     let bound = ReplyBound::default();
     let Ok(mut session) = Session::new(alloc, b"/srv/a.git", &[], b"a", &[], bound) else {
         return Err(NoMemory);
@@ -58,7 +58,7 @@ fn tell_found(reader: &ReplyReader, out: &mut Vec<u8>) -> Result<(), NoMemory> {
 }
 
 /// `<piece>*`: feeds these pieces to a reader of a greeting.
-fn tell_greeting(alloc: Global, rest: &[u8], out: &mut Vec<u8>) -> Result<(), NoMemory> {
+pub(crate) fn tell_greeting(alloc: Global, rest: &[u8], out: &mut Vec<u8>) -> Result<(), NoMemory> {
     let mut reader = ReplyReader::new(alloc, ReplyBound::default(), ReplyKind::Greeting);
     for piece in rest.split(|b| *b == b' ') {
         let piece = decoded(alloc, piece)?;
@@ -68,21 +68,4 @@ fn tell_greeting(alloc: Global, rest: &[u8], out: &mut Vec<u8>) -> Result<(), No
         tell_found(&reader, out)?;
     }
     Ok(())
-}
-
-/// Tells what is asked of a session. Whether something is.
-pub(crate) fn ask(
-    alloc: Global,
-    question: Question<'_>,
-    out: &mut Vec<u8>,
-) -> Result<bool, NoMemory> {
-    let Question { what, rest } = question;
-    if what == b"session".as_slice() {
-        tell_session(alloc, rest, out)?;
-    } else if what == b"greeting".as_slice() {
-        tell_greeting(alloc, rest, out)?;
-    } else {
-        return Ok(false);
-    }
-    Ok(true)
 }
