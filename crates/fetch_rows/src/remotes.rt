@@ -48,7 +48,15 @@ fn ask_or_change(
     if ask_of(alloc, remote_case, repo, question, out)? {
         return Ok(true);
     }
-    deleting::ask(alloc, remote_case, repo, question, out)
+    let Question { what, rest } = question;
+    if what == b"delete".as_slice() {
+        return deleting::delete(alloc, remote_case, repo, rest, out);
+    }
+    if what == b"reload".as_slice() {
+        deleting::reload(alloc, remote_case, repo, out)?;
+        return Ok(true);
+    }
+    Ok(false)
 }
 
 /// Tells what is asked. Whether something is, and of a repository.

@@ -8,7 +8,7 @@ use fetch_specs::FullName;
 use fetch_store::{FileError, Files, MemoryFiles, NoMemory, Text};
 use fetch_update::ScriptedWorktrees;
 use itoa::Buffer;
-use rows::{Question, say, say_lines};
+use rows::{say, say_lines};
 use std::alloc::Global;
 
 /// What stands beside the configuration while it is replaced.
@@ -92,17 +92,28 @@ fn delete_over(
     tell_left(alloc, repo, files, out)
 }
 
-/// The same over the files and the work trees of a row.
-fn delete(
+/// The same over the files and the work trees of a row, of the branches that these words name. Whether they are names.
+pub(crate) fn delete(
     alloc: Global,
     remote_case: &RemoteCase,
     repo: &mut Repository,
-    names: &[FullName],
+    words: &[u8],
     out: &mut Vec<u8>,
-) -> Result<(), NoMemory> {
+) -> Result<bool, NoMemory> {
+    let Some(names) = names_of(alloc, words)? else {
+        return Ok(false);
+    };
     let mut worktrees = worktrees(alloc, remote_case)?;
     let mut files = files(alloc, remote_case)?;
-    delete_over(alloc, repo, names, &mut files, &mut worktrees, out)
+    delete_over(
+        alloc,
+        repo,
+        names.as_slice(),
+        &mut files,
+        &mut worktrees,
+        out,
+    )?;
+    Ok(true)
 }
 
 /// Opens a repository again, and tells the answer.
@@ -119,7 +130,7 @@ fn reload_from(
 }
 
 /// Opens a repository again, and tells its remotes.
-fn reload(
+pub(crate) fn reload(
     alloc: Global,
     remote_case: &RemoteCase,
     repo: &mut Repository,
@@ -128,26 +139,4 @@ fn reload(
     let mut files = files(alloc, remote_case)?;
     reload_from(alloc, repo, &mut files, out)?;
     finding::names(alloc, repo, out)
-}
-
-/// Does what is asked for over files. Whether that is something.
-pub(crate) fn ask(
-    alloc: Global,
-    remote_case: &RemoteCase,
-    repo: &mut Repository,
-    question: Question<'_>,
-    out: &mut Vec<u8>,
-) -> Result<bool, NoMemory> {
-    if question.what == b"reload".as_slice() {
-        reload(alloc, remote_case, repo, out)?;
-        return Ok(true);
-    }
-    if question.what != b"delete".as_slice() {
-        return Ok(false);
-    }
-    let Some(names) = names_of(alloc, question.rest)? else {
-        return Ok(false);
-    };
-    delete(alloc, remote_case, repo, names.as_slice(), out)?;
-    Ok(true)
 }
