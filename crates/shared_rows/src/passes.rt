@@ -40,22 +40,7 @@ struct Told {
     journal: Vec<Entry>,
 }
 
-/// Enters a deletion, and tells its place. None where memory runs out.
-fn enter<R: Wait>(
-    rt: &R,
-    alloc: Global,
-    shared: &SharedRepository,
-    pass: Pass,
-    names: &[FullName],
-) -> (Pass, Option<u64>)
-    requires { pass.shared ≡ shared.now }
-    ensures { result.0.shared ≡ shared.now }
-{
-    let (pass, answer) = shared.delete(rt, alloc, pass, names);
-    (pass, answer.ok())
-}
-
-/// Both passes enter something, the right one first, and are joined.
+/// Both passes enter a deletion, the right one first, and are joined. An entry that memory runs out at has no place.
 fn use_both<R: Wait>(
     rt: &R,
     alloc: Global,
@@ -70,8 +55,8 @@ fn use_both<R: Wait>(
     let (left_pass, right_pass) = passes;
     let left = [left_pass.number(), left_pass.unused()];
     let right = [right_pass.number(), right_pass.unused()];
-    let (right_pass, first) = enter(rt, alloc, shared, right_pass, names);
-    let (left_pass, second) = enter(rt, alloc, shared, left_pass, names);
+    let (right_pass, first) = shared.delete(rt, alloc, right_pass, names);
+    let (left_pass, second) = shared.delete(rt, alloc, left_pass, names);
     let pass = shared.join(left_pass, right_pass);
     let joined = [pass.number(), pass.unused()];
     (
@@ -79,8 +64,8 @@ fn use_both<R: Wait>(
         Some(Round {
             left,
             right,
-            first,
-            second,
+            first: first.ok(),
+            second: second.ok(),
             joined,
         }),
     )
