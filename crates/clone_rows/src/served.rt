@@ -1,9 +1,12 @@
 //! Peers that are made by a server of a repository.
 
 use fetch_remote::connect::Connect;
-use fetch_serve::Server;
+use fetch_serve::{Server, ServerPeer};
 use fetch_wire::SendFault;
-use peer_rows::CountedPeer;
+use peer_rows::{CountedPeer, Free};
+
+/// A server as a peer.
+pub(crate) type ServedPeer<'a> = CountedPeer<ServerPeer<'a>, Free>;
 
 /// A maker of peers, each with a server of its own of one repository, whatever the address.
 #[derive(Drop)]
@@ -30,7 +33,7 @@ impl<'a> Connect for ServedConnect<'a> {
     ghost use Rattle.std.specs.Prelude.{false, None};
     ghost use Rattle.fetch_store.specs.Faults.{counted};
 
-    type Peer = CountedPeer<'a>;
+    type Peer = ServedPeer<'a>;
 
     ghost faults = { λ _. record { count = 0; possible = false } };
 
@@ -44,15 +47,15 @@ impl<'a> Connect for ServedConnect<'a> {
 
     ghost addresses = { λ _. None };
 
-    fn make(&mut self, _address: &[u8]) -> Result<CountedPeer<'a>, SendFault> {
+    fn make(&mut self, _address: &[u8]) -> Result<ServedPeer<'a>, SendFault> {
         let Some(out) = self.out.checked_add(1) else {
             return Err(SendFault::NoMemory);
         };
         self.out = out;
-        Ok(CountedPeer::new(&self.server))
+        Ok(CountedPeer::new(ServerPeer::new(self.server.fresh()), Free))
     }
 
-    fn take_back(&mut self, peer: CountedPeer<'a>) {
+    fn take_back(&mut self, peer: ServedPeer<'a>) {
         self.out -= 1;
         if peer.failed > 0 {
             self.lost = self.lost.saturating_add(1);

@@ -2,13 +2,11 @@
 
 ghost use Rattle.std.specs.Prelude.{◌≡◌, IfOk, vec_len};
 
-use crate::mirrors::{options_for, tell_outcome};
-use fetch_mirror::mirror_from;
+use crate::mirrors::{mirror_by_two, tell_outcome};
 use fetch_remote::Repository;
-use fetch_serve::{ServeError, Server};
-use fetch_store::{Failed, NoMemory};
-use fetch_wire::{Peer, ReplyBound, SendFault};
-use peer_rows::CountedPeer;
+use fetch_serve::{Server, ServerPeer};
+use fetch_store::NoMemory;
+use peer_rows::{CountedPeer, Hold};
 use rows::say_number;
 use std::alloc::Global;
 use std::sync::Wait;
@@ -17,46 +15,41 @@ use std::thread::Threads;
 /// How many calls of a peer are tried at most.
 const CALLS: usize = 16;
 
-/// A server as a peer that fails from a call on.
+/// How many calls of a peer are to come before it fails.
 #[derive(Drop)]
-struct FailingPeer<'a> {
-    peer: CountedPeer<'a>,
-    /// How many calls are to come before.
+struct Countdown {
     left: usize,
 }
 
-impl<'a> Peer for FailingPeer<'a> {
-    ghost use Rattle.std.specs.Prelude.{false, None};
-    ghost use Rattle.fetch_store.specs.Faults.{counted};
-
-    ghost told = { λ _. None };
-
-    ghost faults = { λ p. counted p.peer.failed };
-
-    ghost answers = { false };
-
-    fn send(&mut self, bytes: &[u8]) -> Result<(), SendFault> {
-        let Some(left) = self.left.checked_sub(1) else {
-            self.peer.fail();
-            return Err(SendFault::Failed);
-        };
-        self.left = left;
-        self.peer.send(bytes)
-    }
-
-    fn receive(&mut self, into: &mut [u8]) -> Result<usize, Failed> {
-        let Some(left) = self.left.checked_sub(1) else {
-            self.peer.fail();
-            return Err(Failed);
-        };
-        self.left = left;
-        self.peer.receive(into)
+impl Countdown {
+    /// Counts a call. Whether it was to come.
+    fn count(&mut self) -> bool {
+        match self.left.checked_sub(1) {
+            Some(left) => {
+                self.left = left;
+                true
+            }
+            None => false,
+        }
     }
 }
 
+impl Hold for Countdown {
+    fn may_send(&mut self, _bytes: &[u8]) -> bool {
+        self.count()
+    }
+
+    fn may_receive(&mut self) -> bool {
+        self.count()
+    }
+}
+
+/// A server as a peer that fails from a call on.
+type FailingPeer<'a> = CountedPeer<ServerPeer<'a>, Countdown>;
+
 /// Which of the three peers fails.
 #[derive(Clone, Copy, PartialEq, Eq)]
-enum Who {
+pub(crate) enum Who {
     Lister,
     First,
     Second,
@@ -74,10 +67,8 @@ impl Who {
 
 /// The peer that this one is, which fails behind so many calls where it is the one that fails.
 fn peer<'a>(server: &Server<'a>, is: Who, fails: Who, calls: usize) -> FailingPeer<'a> {
-    FailingPeer {
-        peer: CountedPeer::new(server),
-        left: if is == fails { calls } else { usize::MAX },
-    }
+    let left = if is == fails { calls } else { usize::MAX };
+    CountedPeer::new(ServerPeer::new(server.fresh()), Countdown { left })
 }
 
 /// The peers of two workers.
@@ -108,15 +99,13 @@ fn tell_one(
 ) -> Result<bool, NoMemory> {
     let mut lister = Box::new(alloc, peer(server, Who::Lister, fails, calls))?;
     let mut peers = two_peers(alloc, server, fails, calls)?;
-    let options = options_for(repo, 2, ReplyBound::default())?;
-    let kind = repo.store().kind();
-    let mirror = mirror_from(rt, alloc, kind, &mut *lister, peers.as_mut_slice(), options);
+    let mirror = mirror_by_two(rt, alloc, repo, &mut *lister, peers.as_mut_slice());
     say_number(out, fails.name(), calls)?;
     tell_outcome(alloc, mirror, out)
 }
 
 /// Puts down the same for each of its calls, until the mirror is done.
-fn tell_each(
+pub(crate) fn tell(
     rt: &(impl Threads + Wait + Sync),
     alloc: Global,
     repo: &Repository,
@@ -130,31 +119,4 @@ fn tell_each(
         }
     }
     Ok(())
-}
-
-fn tell_all(
-    rt: &(impl Threads + Wait + Sync),
-    alloc: Global,
-    repo: &Repository,
-    server: &Server<'_>,
-    out: &mut Vec<u8>,
-) -> Result<bool, NoMemory> {
-    tell_each(rt, alloc, repo, server, Who::Lister, out)?;
-    tell_each(rt, alloc, repo, server, Who::First, out)?;
-    tell_each(rt, alloc, repo, server, Who::Second, out)?;
-    Ok(true)
-}
-
-/// Puts down such mirrors of a repository by two workers. Whether it can be served.
-pub(crate) fn tell(
-    rt: &(impl Threads + Wait + Sync),
-    alloc: Global,
-    repo: &Repository,
-    out: &mut Vec<u8>,
-) -> Result<bool, NoMemory> {
-    match Server::new(alloc, repo.store(), repo.refs(), repo.border()) {
-        Ok(server) => tell_all(rt, alloc, repo, &server, out),
-        Err(ServeError::NoMemory) => Err(NoMemory),
-        Err(_) => Ok(false),
-    }
 }

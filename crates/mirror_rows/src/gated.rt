@@ -3,13 +3,11 @@
 
 ghost use Rattle.std.specs.Prelude.{◌≡◌, IfOk, vec_len};
 
-use crate::mirrors::{options_for, tell_mirror};
-use fetch_mirror::mirror_from;
+use crate::mirrors::{mirror_by_two, tell_mirror};
 use fetch_remote::Repository;
-use fetch_serve::{ServeError, Server};
-use fetch_store::{Failed, NoMemory};
-use fetch_wire::{Peer, ReplyBound, SendFault};
-use peer_rows::CountedPeer;
+use fetch_serve::{Server, ServerPeer};
+use fetch_store::NoMemory;
+use peer_rows::{CountedPeer, Hold};
 use rows::say_number;
 use std::alloc::Global;
 use std::sync::atomic::{AtomicBool, Ordering};
@@ -48,13 +46,15 @@ struct Gate {
     is_first: bool,
 }
 
-/// A server as a peer, which waits for another one where it has a gate.
+/// What a peer was asked for last, and the gate before which it waits for another one, where it has one.
 #[derive(Drop)]
-struct GatedPeer<'a> {
-    peer: CountedPeer<'a>,
+struct Waiting {
     gate: Option<Gate>,
     stage: Stage,
 }
+
+/// A server as a peer that waits so.
+type GatedPeer<'a> = CountedPeer<ServerPeer<'a>, Waiting>;
 
 /// What these bytes ask for, if they begin a request behind the greeting.
 fn stage_of(bytes: &[u8]) -> Option<Stage> {
@@ -109,30 +109,19 @@ impl Gate {
     }
 }
 
-impl<'a> GatedPeer<'a> {
-    /// A peer by a server of its own of the same repository.
-    fn new(server: &Server<'a>, gate: Option<Gate>) -> GatedPeer<'a> {
-        GatedPeer {
-            peer: CountedPeer::new(server),
-            gate,
-            stage: Stage::Greeting,
-        }
-    }
-
+impl Hold for Waiting {
     /// Notes what these bytes ask for.
-    fn note(&mut self, bytes: &[u8])
-        ensures { self.new.peer ≡ self.old.peer }
-    {
+    fn may_send(&mut self, bytes: &[u8]) -> bool {
         if let Some(stage) = stage_of(bytes) {
             self.stage = stage;
             if let Some(gate) = &self.gate {
                 gate.note(stage);
             }
         }
+        true
     }
 
-    /// Whether it may reply now.
-    fn may_reply(&self) -> bool {
+    fn may_receive(&mut self) -> bool {
         match &self.gate {
             Some(gate) => gate.sees_other(self.stage),
             None => true,
@@ -140,28 +129,13 @@ impl<'a> GatedPeer<'a> {
     }
 }
 
-impl<'a> Peer for GatedPeer<'a> {
-    ghost use Rattle.std.specs.Prelude.{false, None};
-    ghost use Rattle.fetch_store.specs.Faults.{counted};
-
-    ghost told = { λ _. None };
-
-    ghost faults = { λ p. counted p.peer.failed };
-
-    ghost answers = { false };
-
-    fn send(&mut self, bytes: &[u8]) -> Result<(), SendFault> {
-        self.note(bytes);
-        self.peer.send(bytes)
-    }
-
-    fn receive(&mut self, into: &mut [u8]) -> Result<usize, Failed> {
-        if !self.may_reply() {
-            self.peer.fail();
-            return Err(Failed);
-        }
-        self.peer.receive(into)
-    }
+/// A peer by a server of its own of the same repository.
+fn peer<'a>(server: &Server<'a>, gate: Option<Gate>) -> GatedPeer<'a> {
+    let hold = Waiting {
+        gate,
+        stage: Stage::Greeting,
+    };
+    CountedPeer::new(ServerPeer::new(server.fresh()), hold)
 }
 
 fn unasked() -> Asked {
@@ -189,39 +163,22 @@ fn two_peers<'a>(alloc: Global, server: &Server<'a>) -> Result<Vec<GatedPeer<'a>
         is_first: false,
     };
     let mut peers = Vec::with_capacity(alloc, 2)?;
-    peers.push(GatedPeer::new(server, Some(first)))?;
-    peers.push(GatedPeer::new(server, Some(second)))?;
+    peers.push(peer(server, Some(first)))?;
+    peers.push(peer(server, Some(second)))?;
     Ok(peers)
 }
 
 /// Puts down the mirror of what a server has by such peers, and how many entries were made.
-fn tell_served(
+pub(crate) fn tell(
     rt: &(impl Threads + Wait + Sync),
     alloc: Global,
     repo: &Repository,
     server: &Server<'_>,
     out: &mut Vec<u8>,
-) -> Result<bool, NoMemory> {
-    let mut lister = Box::new(alloc, GatedPeer::new(server, None))?;
+) -> Result<(), NoMemory> {
+    let mut lister = Box::new(alloc, peer(server, None))?;
     let mut peers = two_peers(alloc, server)?;
-    let options = options_for(repo, 2, ReplyBound::default())?;
-    let kind = repo.store().kind();
-    let mirror = mirror_from(rt, alloc, kind, &mut *lister, peers.as_mut_slice(), options);
+    let mirror = mirror_by_two(rt, alloc, repo, &mut *lister, peers.as_mut_slice());
     let entries = tell_mirror(alloc, mirror, out)?;
-    say_number(out, b"== entries", entries)?;
-    Ok(true)
-}
-
-/// Puts down the mirror of a repository by such peers. Whether it can be served.
-pub(crate) fn tell(
-    rt: &(impl Threads + Wait + Sync),
-    alloc: Global,
-    repo: &Repository,
-    out: &mut Vec<u8>,
-) -> Result<bool, NoMemory> {
-    match Server::new(alloc, repo.store(), repo.refs(), repo.border()) {
-        Ok(server) => tell_served(rt, alloc, repo, &server, out),
-        Err(ServeError::NoMemory) => Err(NoMemory),
-        Err(_) => Ok(false),
-    }
+    say_number(out, b"== entries", entries)
 }

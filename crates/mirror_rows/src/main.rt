@@ -9,52 +9,70 @@ mod mirrors;
 mod served;
 mod worded;
 
+use failing::Who;
+use fetch_remote::Repository;
+use fetch_serve::{ServeError, Server};
 use fetch_store::NoMemory;
 use peer_rows::repository_of;
-use rows::{Row, run_rows};
+use rows::{Row, run_rows, tell_lines};
 use std::alloc::Global;
 use std::process::ExitCode;
 use std::sync::Wait;
 use std::thread::Threads;
 
-/// Puts down what a row tells of mirrors of its repository that the program's words don't ask for. Whether it is one.
-fn tell_mirrors(
+/// Puts down what a row tells of mirrors of this repository from a server of it. Whether it is one, and the repository can be
+/// served.
+fn tell_from_server(
     rt: &(impl Threads + Wait + Sync),
     alloc: Global,
-    row: &Row<'_>,
+    repo: &Repository,
+    whose: &[u8],
     out: &mut Vec<u8>,
 ) -> Result<bool, NoMemory> {
-    let Some(repo) = repository_of(rt, alloc, row.scene)? else {
-        return Ok(false);
+    let server = match Server::new(alloc, repo.store(), repo.refs(), repo.border()) {
+        Ok(server) => server,
+        Err(ServeError::NoMemory) => return Err(NoMemory),
+        Err(_) => return Ok(false),
     };
-    if row.whose == b"bounds".as_slice() {
-        bounds::tell(rt, alloc, &repo, row.lines, out)
-    } else if row.whose == b"gated".as_slice() {
-        gated::tell(rt, alloc, &repo, out)
-    } else if row.whose == b"failing".as_slice() {
-        failing::tell(rt, alloc, &repo, out)
+    if whose == b"gated".as_slice() {
+        gated::tell(rt, alloc, repo, &server, out)?;
+    } else if whose == b"failing".as_slice() {
+        for fails in [Who::Lister, Who::First, Who::Second] {
+            failing::tell(rt, alloc, repo, &server, fails, out)?;
+        }
     } else {
-        Ok(false)
+        return Ok(false);
     }
+    Ok(true)
 }
 
 /// Puts down what a row tells. Whether it is one.
 fn tell_row(
     rt: &(impl Threads + Wait + Sync),
-    alloc: Global,
     row: &Row<'_>,
     out: &mut Vec<u8>,
 ) -> Result<bool, NoMemory> {
+    let alloc = *out.allocator();
     if row.whose == b"mirror".as_slice() {
-        worded::tell(rt, alloc, row.scene, row.lines, out)
+        return worded::tell(rt, alloc, row.scene, row.lines, out);
     } else if row.whose == b"served".as_slice() {
-        served::tell(rt, alloc, row, out)
+        return tell_lines(
+            alloc,
+            row.lines,
+            out,
+            |line, out| served::tell(rt, alloc, row.scene, line, out),
+        );
+    }
+    let Some(repo) = repository_of(rt, alloc, row.scene)? else {
+        return Ok(false);
+    };
+    if row.whose == b"bounds".as_slice() {
+        bounds::tell(rt, alloc, &repo, row.lines, out)
     } else {
-        tell_mirrors(rt, alloc, row, out)
+        tell_from_server(rt, alloc, &repo, row.whose, out)
     }
 }
 
 fn main(rt: HostRuntime) -> ExitCode {
-    let alloc = rt.alloc();
-    run_rows(&rt, |row, out| tell_row(&rt, alloc, row, out))
+    run_rows(&rt, |row, out| tell_row(&rt, row, out))
 }

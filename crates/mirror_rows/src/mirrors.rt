@@ -1,14 +1,16 @@
 //! How a repository is mirrored, and what is told of its mirror.
 
-ghost use Rattle.std.specs.Prelude.{◌≡◌, IfOk};
+ghost use Rattle.std.specs.Prelude.{◌≡◌, IfOk, length};
 
-use fetch_mirror::{MirrorError, MirrorOptions, Mirrored};
+use fetch_mirror::{MirrorError, MirrorOptions, Mirrored, mirror_from};
 use fetch_remote::Repository;
 use fetch_store::NoMemory;
-use fetch_wire::ReplyBound;
+use fetch_wire::{Peer, ReplyBound};
 use mirror_cli::{append_mirror, append_mirror_token};
 use rows::say;
 use std::alloc::Global;
+use std::sync::Wait;
+use std::thread::Threads;
 
 /// By so many workers with this bound, and by the repository's own committer.
 pub(crate) fn options_for(
@@ -23,6 +25,20 @@ pub(crate) fn options_for(
         committer: repo.settings().committer.try_clone()?,
         max_reply_bytes: bound,
     })
+}
+
+/// The mirror of a repository by two workers with these peers, over what this lister lists.
+pub(crate) fn mirror_by_two<P: Peer + Send>(
+    rt: &(impl Threads + Wait + Sync),
+    alloc: Global,
+    repo: &Repository,
+    lister: &mut P,
+    peers: &mut [P],
+) -> Result<Mirrored, MirrorError>
+    requires { length peers.old ≡ 2 }
+{
+    let options = options_for(repo, 2, ReplyBound::default())?;
+    mirror_from(rt, alloc, repo.store().kind(), lister, peers, options)
 }
 
 fn tell_refusal(alloc: Global, refusal: MirrorError, out: &mut Vec<u8>) -> Result<(), NoMemory> {

@@ -13,7 +13,7 @@ use fetch_serve::{Server, ServerPeer};
 use fetch_store::{NoMemory, after, split_first};
 use fetch_wire::Peer;
 use peer_rows::repository_of;
-use rows::{Row, decoded, lines, say};
+use rows::{decoded, say};
 use std::alloc::Global;
 use std::thread::Threads;
 
@@ -122,7 +122,7 @@ fn append_both(out: &mut Vec<u8>, served: &[u8], scripted: &[u8]) -> Result<(), 
 
 /// Fetches what a scene says from the server that a line says, and from the scene's own script. Whether the line says a
 /// repository that can be served, and the scene is one.
-fn tell_line(
+pub(crate) fn tell(
     rt: &(impl Threads + Sync),
     alloc: Global,
     scene: &[u8],
@@ -137,20 +137,5 @@ fn tell_line(
         return Ok(false);
     }
     append_both(out, &served, &scripted)?;
-    Ok(true)
-}
-
-/// Fetches what the scene of a row says from each server that its lines say. Whether they say servers.
-pub(crate) fn tell(
-    rt: &(impl Threads + Sync),
-    alloc: Global,
-    row: &Row<'_>,
-    out: &mut Vec<u8>,
-) -> Result<bool, NoMemory> {
-    for line in &lines(alloc, row.lines)? {
-        if !tell_line(rt, alloc, row.scene, line, out)? {
-            return Ok(false);
-        }
-    }
     Ok(true)
 }

@@ -1,33 +1,56 @@
-//! Servers as peers that count how often they failed.
+//! Peers that count how often they failed, and may be held before each call.
 
 ghost use Rattle.std.specs.Prelude.{◌≡◌};
 ghost use Rattle.fetch_store.specs.Faults.{Rose, Counts, counted};
 
-use fetch_serve::{Server, ServerPeer};
 use fetch_store::Failed;
 use fetch_wire::{Peer, SendFault};
 
-/// A server as a peer, with a count of its faults, to which whoever wraps it adds its own.
+/// What a peer waits for before it is asked, and when it fails.
+pub trait Hold {
+    /// Notes what is to be sent to the peer. Whether it takes that.
+    fn may_send(&mut self, bytes: &[u8]) -> bool;
+
+    /// Whether the peer gives something, maybe after a while.
+    fn may_receive(&mut self) -> bool;
+}
+
+/// The hold of a peer that waits for nothing.
+#[derive(Clone, Copy)]
+pub struct Free;
+
+impl Hold for Free {
+    fn may_send(&mut self, _bytes: &[u8]) -> bool {
+        true
+    }
+
+    fn may_receive(&mut self) -> bool {
+        true
+    }
+}
+
+/// A peer that tells nothing of its bytes, counts its faults, and fails where its hold says so.
 #[derive(Drop)]
-pub struct CountedPeer<'a> {
-    server: ServerPeer<'a>,
+pub struct CountedPeer<P: Drop, H: Drop> {
+    peer: P,
+    hold: H,
     /// How often it failed.
     pub failed: u64,
 }
 
-impl<'a> CountedPeer<'a> {
-    /// A peer by a server of its own of the same repository, without a fault.
-    pub fn new(server: &Server<'a>) -> CountedPeer<'a>
+impl<P: Peer + Drop, H: Hold + Drop> CountedPeer<P, H> {
+    /// This peer with this hold, without a fault.
+    pub fn new(peer: P, hold: H) -> CountedPeer<P, H>
         ensures { result.failed ≡ 0 }
     {
         CountedPeer {
-            server: ServerPeer::new(server.fresh()),
+            peer,
+            hold,
             failed: 0,
         }
     }
 
-    /// Counts a fault.
-    pub fn fail(&mut self)
+    fn fail(&mut self)
         ensures counts { Counts (counted self.old.failed) (counted self.new.failed) }
         ensures rose { Rose (counted self.old.failed) (counted self.new.failed) }
     {
@@ -35,7 +58,7 @@ impl<'a> CountedPeer<'a> {
     }
 }
 
-impl<'a> Peer for CountedPeer<'a> {
+impl<P: Peer + Drop, H: Hold + Drop> Peer for CountedPeer<P, H> {
     ghost use Rattle.std.specs.Prelude.{false, None};
     ghost use Rattle.fetch_store.specs.Faults.{counted};
 
@@ -46,7 +69,11 @@ impl<'a> Peer for CountedPeer<'a> {
     ghost answers = { false };
 
     fn send(&mut self, bytes: &[u8]) -> Result<(), SendFault> {
-        match self.server.send(bytes) {
+        if !self.hold.may_send(bytes) {
+            self.fail();
+            return Err(SendFault::Failed);
+        }
+        match self.peer.send(bytes) {
             Ok(()) => Ok(()),
             Err(SendFault::NoMemory) => Err(SendFault::NoMemory),
             Err(SendFault::Failed) => {
@@ -57,7 +84,11 @@ impl<'a> Peer for CountedPeer<'a> {
     }
 
     fn receive(&mut self, into: &mut [u8]) -> Result<usize, Failed> {
-        match self.server.receive(into) {
+        if !self.hold.may_receive() {
+            self.fail();
+            return Err(Failed);
+        }
+        match self.peer.receive(into) {
             Ok(count) => Ok(count),
             Err(Failed) => {
                 self.fail();

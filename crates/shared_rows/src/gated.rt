@@ -1,14 +1,14 @@
 //! Peers of which each holds its reply until the other one was asked for a pack: so both fetches have to be under way at
 //! once, and neither waits for the other's turn.
 
-ghost use Rattle.std.specs.Prelude.{◌≡◌, ◌≤◌, IfOk, vec_len};
-ghost use Rattle.fetch_store.specs.Faults.{Rose, Counts, counted};
+ghost use Rattle.std.specs.Prelude.{◌≤◌, IfOk, vec_len};
 
 use fetch_race::{Job, Raced, race_with};
 use fetch_remote::Repository;
-use fetch_store::{Failed, NoMemory, Text};
+use fetch_store::NoMemory;
 use fetch_update::Worktree;
-use fetch_wire::{Peer, ScriptedPeer, SendFault};
+use fetch_wire::ScriptedPeer;
+use peer_rows::{CountedPeer, Hold};
 use race_cli::{JobCase, RaceCase};
 use std::alloc::Global;
 use std::sync::atomic::{AtomicBool, Ordering};
@@ -25,32 +25,18 @@ struct Asked {
     second: AtomicBool,
 }
 
-/// One of two peers.
+/// Which of the two peers one is, and whether it was asked.
 #[derive(Drop)]
-struct GatedPeer {
-    script: ScriptedPeer,
+struct Waiting {
     asked: Arc<Asked, Global>,
     is_first: bool,
     was_asked: bool,
-    failed: u64,
 }
 
-impl GatedPeer {
-    /// Notes that it was asked for a pack, where these bytes ask for one.
-    fn note(&mut self, bytes: &[u8])
-        ensures { self.new.failed ≡ self.old.failed }
-    {
-        if bytes.starts_with(b"0012command=fetch\n") {
-            self.was_asked = true;
-            let mine = if self.is_first {
-                &self.asked.first
-            } else {
-                &self.asked.second
-            };
-            mine.store(true, Ordering::SeqCst);
-        }
-    }
+/// One of two peers.
+type GatedPeer = CountedPeer<ScriptedPeer, Waiting>;
 
+impl Waiting {
     /// Whether the other one was asked, or is while it waits.
     fn sees_other(&self) -> bool {
         let other = if self.is_first {
@@ -66,46 +52,25 @@ impl GatedPeer {
         }
         false
     }
-
-    fn fail(&mut self)
-        ensures counts { Counts (counted self.old.failed) (counted self.new.failed) }
-        ensures rose { Rose (counted self.old.failed) (counted self.new.failed) }
-    {
-        self.failed = self.failed.saturating_add(1);
-    }
 }
 
-impl Peer for GatedPeer {
-    ghost use Rattle.std.specs.Prelude.{false, None};
-    ghost use Rattle.fetch_store.specs.Faults.{counted};
-
-    ghost told = { λ _. None };
-
-    ghost faults = { λ p. counted p.failed };
-
-    ghost answers = { false };
-
-    fn send(&mut self, bytes: &[u8]) -> Result<(), SendFault> {
-        self.note(bytes);
-        let sent = self.script.send(bytes);
-        if let Err(SendFault::Failed) = sent {
-            self.fail();
+impl Hold for Waiting {
+    /// Notes that the peer was asked for a pack, where these bytes ask for one.
+    fn may_send(&mut self, bytes: &[u8]) -> bool {
+        if bytes.starts_with(b"0012command=fetch\n") {
+            self.was_asked = true;
+            let mine = if self.is_first {
+                &self.asked.first
+            } else {
+                &self.asked.second
+            };
+            mine.store(true, Ordering::SeqCst);
         }
-        sent
+        true
     }
 
-    fn receive(&mut self, into: &mut [u8]) -> Result<usize, Failed> {
-        if self.was_asked && !self.sees_other() {
-            self.fail();
-            return Err(Failed);
-        }
-        match self.script.receive(into) {
-            Ok(count) => Ok(count),
-            Err(Failed) => {
-                self.fail();
-                Err(Failed)
-            }
-        }
+    fn may_receive(&mut self) -> bool {
+        !self.was_asked || self.sees_other()
     }
 }
 
@@ -116,16 +81,15 @@ fn gated(
     asked: &Arc<Asked, Global>,
     is_first: bool,
 ) -> Result<Job<GatedPeer>, NoMemory> {
-    let asked = Arc::try_clone(asked)?;
+    let hold = Waiting {
+        asked: Arc::try_clone(asked)?,
+        is_first,
+        was_asked: false,
+    };
+    let script = ScriptedPeer::new(alloc, opened_case.pieces.into_vec(), Vec::new(alloc));
     Ok(Job {
         remote: opened_case.remote,
-        peer: GatedPeer {
-            script: ScriptedPeer::new(alloc, opened_case.pieces.into_vec(), Vec::new(alloc)),
-            asked,
-            is_first,
-            was_asked: false,
-            failed: 0,
-        },
+        peer: CountedPeer::new(script, hold),
         options: opened_case.options,
     })
 }

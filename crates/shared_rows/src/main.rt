@@ -17,7 +17,6 @@ mod thread_safe;
 
 use fetch_store::{NoMemory, after};
 use rows::{Row, run_rows};
-use std::alloc::Global;
 use std::process::ExitCode;
 use std::sync::Wait;
 use std::thread::Threads;
@@ -25,10 +24,10 @@ use std::thread::Threads;
 /// Puts down what a row tells. Whether it is one.
 fn tell_row(
     rt: &(impl Threads + Wait + Sync),
-    alloc: Global,
     row: &Row<'_>,
     out: &mut Vec<u8>,
 ) -> Result<bool, NoMemory> {
+    let alloc = *out.allocator();
     if row.whose == b"race".as_slice() {
         racing::tell(rt, alloc, row.scene, out)?;
         return Ok(true);
@@ -45,6 +44,5 @@ fn tell_row(
 
 fn main(rt: HostRuntime) -> ExitCode {
     thread_safe::shared_types_cross_threads();
-    let alloc = rt.alloc();
-    run_rows(&rt, |row, out| tell_row(&rt, alloc, row, out))
+    run_rows(&rt, |row, out| tell_row(&rt, row, out))
 }
