@@ -27,18 +27,17 @@ fn tell_row(
     row: &Row<'_>,
     out: &mut Vec<u8>,
 ) -> Result<bool, NoMemory> {
-    let alloc = *out.allocator();
     if row.whose == b"race".as_slice() {
-        racing::tell(rt, alloc, row.scene, out)?;
+        racing::tell(rt, row.scene, out)?;
         return Ok(true);
     }
     if row.whose == b"both".as_slice() {
-        racing::tell_both(rt, alloc, row.scene, out)?;
+        racing::tell_both(rt, row.scene, out)?;
         return Ok(true);
     }
     match after(b"passes ", row.lines) {
-        Some(line) => passes::tell(rt, alloc, row.scene, line, out),
-        None => sharing::tell(rt, alloc, row, out),
+        Some(line) => passes::tell(rt, row.scene, line, out),
+        None => sharing::tell(rt, row, out),
     }
 }
 

@@ -193,11 +193,11 @@ fn round_of(alloc: Global, line: &[u8]) -> Result<Option<(u64, u64, FullName)>, 
 /// Shares the repository of a row, and tells of its passes, as its line says. Whether the line says so.
 pub(crate) fn tell(
     rt: &(impl Threads + Wait + Sync),
-    alloc: Global,
     scene: &[u8],
     line: &[u8],
     out: &mut Vec<u8>,
 ) -> Result<bool, NoMemory> {
+    let alloc = *out.allocator();
     let (line, _) = split_first(b'\n', line).unwrap_or((line, &[]));
     let Some((first, second, name)) = round_of(alloc, line)? else {
         return Ok(false);

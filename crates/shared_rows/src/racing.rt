@@ -30,11 +30,10 @@ fn say_status(out: &mut Vec<u8>, status: u8) -> Result<(), NoMemory> {
 /// Puts down the report of a race, and its status.
 pub(crate) fn tell(
     rt: &(impl Threads + Wait + Sync),
-    alloc: Global,
     scene: &[u8],
     out: &mut Vec<u8>,
 ) -> Result<(), NoMemory> {
-    let (sink, status) = raced(rt, alloc, scene)?;
+    let (sink, status) = raced(rt, *out.allocator(), scene)?;
     out.extend_from_slice(sink.bytes())?;
     say_status(out, status)
 }
@@ -77,10 +76,10 @@ fn gated_entries(
 /// many entries were made.
 pub(crate) fn tell_both(
     rt: &(impl Threads + Wait + Sync),
-    alloc: Global,
     scene: &[u8],
     out: &mut Vec<u8>,
 ) -> Result<(), NoMemory> {
+    let alloc = *out.allocator();
     let gated = gated_entries(rt, alloc, scene)?;
     let (sink, status) = raced(rt, alloc, scene)?;
     tell_entries(alloc, sink.bytes(), out)?;

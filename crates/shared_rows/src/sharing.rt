@@ -130,10 +130,10 @@ fn tell_over(
 /// Shares the repository of a row, and tells what its lines answer. Whether they all ask for something.
 pub(crate) fn tell(
     rt: &(impl Threads + Sync),
-    alloc: Global,
     row: &Row<'_>,
     out: &mut Vec<u8>,
 ) -> Result<bool, NoMemory> {
+    let alloc = *out.allocator();
     match open(rt, alloc, row.scene)? {
         Some((repo, packs)) => tell_over(rt, alloc, repo, packs.as_slice(), row.lines, out),
         None => Ok(false),
