@@ -1,14 +1,15 @@
 //! Clones, from peers that say what a row has or from servers, over files in memory or on the host.
 
-use crate::clone_case::{CloneCase, agrees, as_it_is, options};
+use crate::building::built;
+use crate::clone_case::{CloneCase, Closures, agrees, as_it_is, options};
 use crate::said::maker_of;
 use crate::served::ServedConnect;
 use crate::standing::say_place;
-use crate::trying::{Course, Ending, tell_clone};
+use crate::trying::{Course, Ending, peer_by, remote_by, tell_tries};
 use fetch_clone::create::Options;
 use fetch_clone::{HostFiles, PrepareFetch};
-use fetch_remote::Repository;
 use fetch_remote::connect::Connect;
+use fetch_remote::{Remote, Repository};
 use fetch_serve::{ServeError, Server};
 use fetch_store::{Files, MemoryFiles, NoMemory, decimal};
 use peer_rows::repository_of;
@@ -56,10 +57,18 @@ fn clone_over<T: Threads + Sync, F: Files + Drop, C: Connect + Drop>(
         as_it_is,
         agrees::<C::Peer>,
     );
-    match clone {
-        Ok(clone) => tell_clone(rt, alloc, clone_case, clone, place, course, out),
-        Err(_) => say(out, &[b"unprepared"]),
+    let clone = match clone {
+        Ok(clone) => built(alloc, clone_case, clone, out)?,
+        Err(_) => return say(out, &[b"unprepared"]),
+    };
+    let closures = clone_case.closures;
+    if closures == Closures::Usual {
+        return tell_tries(rt, alloc, clone_case, clone, place, course, out);
     }
+    let clone = clone
+        .configure_remote(move |remote: Remote| remote_by(alloc, closures, remote))
+        .configure_connection(move |_peer: &mut C::Peer| peer_by(alloc, closures));
+    tell_tries(rt, alloc, clone_case, clone, place, course, out)
 }
 
 /// Clones what a row says over files in memory, with so many tries.

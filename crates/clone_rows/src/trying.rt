@@ -1,7 +1,6 @@
-//! The tries of a clone, what stands after each, and its end.
+//! The closures of a clone, its tries, what stands after each, and its end.
 
-use crate::building::built;
-use crate::clone_case::{CloneCase, Closures, as_it_is};
+use crate::clone_case::{CloneCase, Closures};
 use crate::refusals;
 use crate::standing::say_file;
 use fetch_cli::append_state;
@@ -42,11 +41,6 @@ fn at(alloc: Global, remote: Remote, addresses: List<Text>) -> Remote {
     Remote::new(addresses, List::new(alloc), remote.fetch_tags())
 }
 
-/// A remote without an address.
-fn nowhere(alloc: Global, remote: Remote) -> Remote {
-    at(alloc, remote, List::new(alloc))
-}
-
 /// A remote whose address no configuration can have.
 fn unsaveable(alloc: Global, remote: Remote) -> Result<Remote, NoMemory> {
     let mut addresses = List::new(alloc);
@@ -54,48 +48,26 @@ fn unsaveable(alloc: Global, remote: Remote) -> Result<Remote, NoMemory> {
     Ok(at(alloc, remote, addresses))
 }
 
-/// Sets the closures of a row, and clones.
-// Many arguments: the row, its clone and the place, and what each row is told with.
-pub(crate) fn tell_clone<T: Threads + Sync, F: Files + Drop, C: Connect + Drop, R, G>(
-    rt: &T,
+/// What the closure for the remote answers.
+pub(crate) fn remote_by(
     alloc: Global,
-    clone_case: &CloneCase,
-    clone: PrepareFetch<F, C, R, G>,
-    place: &[u8],
-    course: Course,
-    out: &mut Vec<u8>,
-) -> Result<(), NoMemory>
-where
-    R: FnMut(Remote) -> Result<Remote, ConfigureFault> + Drop,
-    G: FnMut(&mut C::Peer) -> Result<(), ConfigureFault> + Drop,
-    requires remote { (f : _) (x : _) → R.pre f x }
-    requires connection { (f : _) (x : _) → G.pre f x }
-{
-    let clone = built(alloc, clone_case, clone, out)?;
-    match clone_case.closures {
-        Closures::Usual => tell_tries(rt, alloc, clone_case, clone, place, course, out),
-        Closures::Remote => {
-            let clone = clone.configure_remote(as_it_is);
-            tell_tries(rt, alloc, clone_case, clone, place, course, out)
-        }
-        Closures::RefusesRemote => {
-            let clone = clone.configure_remote(move |_remote: Remote| Err(refusal(alloc)?));
-            tell_tries(rt, alloc, clone_case, clone, place, course, out)
-        }
-        Closures::RefusesPeer => {
-            let clone = clone.configure_connection(move |_peer: &mut C::Peer| Err(refusal(alloc)?));
-            tell_tries(rt, alloc, clone_case, clone, place, course, out)
-        }
-        Closures::Nowhere => {
-            let clone = clone.configure_remote(move |remote: Remote| Ok(nowhere(alloc, remote)));
-            tell_tries(rt, alloc, clone_case, clone, place, course, out)
-        }
-        Closures::Unsaveable => {
-            let clone = clone.configure_remote(move |remote: Remote| Ok(unsaveable(
-                alloc, remote,
-            )?));
-            tell_tries(rt, alloc, clone_case, clone, place, course, out)
-        }
+    closures: Closures,
+    remote: Remote,
+) -> Result<Remote, ConfigureFault> {
+    match closures {
+        Closures::Usual | Closures::Remote | Closures::RefusesPeer => Ok(remote),
+        Closures::RefusesRemote => Err(refusal(alloc)?),
+        Closures::Nowhere => Ok(at(alloc, remote, List::new(alloc))),
+        Closures::Unsaveable => Ok(unsaveable(alloc, remote)?),
+    }
+}
+
+/// What the closure for the peer answers.
+pub(crate) fn peer_by(alloc: Global, closures: Closures) -> Result<(), ConfigureFault> {
+    if closures == Closures::RefusesPeer {
+        Err(refusal(alloc)?)
+    } else {
+        Ok(())
     }
 }
 
@@ -108,9 +80,9 @@ fn worktrees_of(alloc: Global, failing: &[u64]) -> Result<ScriptedWorktrees, NoM
     Ok(ScriptedWorktrees::new(Vec::new(alloc), faults))
 }
 
-/// Tries so often, and ends the clone.
+/// Tries so often, tells what stands after each try, and ends the clone.
 // Many arguments: the row, its clone and the place, and what each row is told with.
-fn tell_tries<T: Threads + Sync, F: Files + Drop, C: Connect + Drop, R, G>(
+pub(crate) fn tell_tries<T: Threads + Sync, F: Files + Drop, C: Connect + Drop, R, G>(
     rt: &T,
     alloc: Global,
     clone_case: &CloneCase,
@@ -129,7 +101,10 @@ where
     let mut interrupt = ScriptedInterrupt::new(Vec::from_slice(alloc, &clone_case.yes)?);
     let mut worktrees = worktrees_of(alloc, &clone_case.worktrees)?;
     for _ in 0..course.tries {
-        tell_try(rt, alloc, &mut clone, &mut interrupt, &mut worktrees, out)?;
+        match clone.fetch_only(rt, &mut NoProgress, &mut interrupt, &mut worktrees) {
+            Ok((repo, _)) => tell_repository(alloc, &repo, out)?,
+            Err(e) => refusals::of_clone(out, &e)?,
+        }
     }
     tell_end(alloc, clone, place, course.ending, out)
 }
@@ -184,27 +159,6 @@ fn say_below<F: Files>(
     let mut path = Vec::from_slice(alloc, place)?;
     path.extend_from_slice(rest)?;
     say_file(files, &path, out)
-}
-
-/// Tries once, and tells what stands then.
-fn tell_try<T: Threads + Sync, F: Files + Drop, C: Connect + Drop, R, G>(
-    rt: &T,
-    alloc: Global,
-    clone: &mut PrepareFetch<F, C, R, G>,
-    interrupt: &mut ScriptedInterrupt,
-    worktrees: &mut ScriptedWorktrees,
-    out: &mut Vec<u8>,
-) -> Result<(), NoMemory>
-where
-    R: FnMut(Remote) -> Result<Remote, ConfigureFault> + Drop,
-    G: FnMut(&mut C::Peer) -> Result<(), ConfigureFault> + Drop,
-    requires remote { (f : _) (x : _) → R.pre f x }
-    requires connection { (f : _) (x : _) → G.pre f x }
-{
-    match clone.fetch_only(rt, &mut NoProgress, interrupt, worktrees) {
-        Ok((repo, _)) => tell_repository(alloc, &repo, out),
-        Err(e) => refusals::of_clone(out, &e),
-    }
 }
 
 /// References, reflogs, border and ids, and the configuration in memory.
