@@ -192,7 +192,7 @@ pub record IsWorkerRefused {P : Type 0} (g : Given P) (index : ℕ) (e : SharedE
   pub answers : List (Result Outcome SharedError)
   -- The workers did their jobs.
   pub fetched : HaveFetched g names repo journal answers
-  -- No worker before this one was refused.
+  -- Of these answers this is the first refusal.
   pub first : IsFirstRefusal answers index e
   -- It isn't refused since a reference is another than it saw: no other worker touches the names of its share.
   pub untouched : (name : List ℕ) (found : Option Target) → e ≢ shared.EditReferences name found
