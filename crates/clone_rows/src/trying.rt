@@ -80,7 +80,28 @@ fn worktrees_of(alloc: Global, failing: &[u64]) -> Result<ScriptedWorktrees, NoM
     Ok(ScriptedWorktrees::new(Vec::new(alloc), faults))
 }
 
-/// Tries so often, tells what stands after each try, and ends the clone.
+/// Tries once, and tells what stands then.
+fn tell_try<T: Threads + Sync, F: Files + Drop, C: Connect + Drop, R, G>(
+    rt: &T,
+    alloc: Global,
+    clone: &mut PrepareFetch<F, C, R, G>,
+    interrupt: &mut ScriptedInterrupt,
+    worktrees: &mut ScriptedWorktrees,
+    out: &mut Vec<u8>,
+) -> Result<(), NoMemory>
+where
+    R: FnMut(Remote) -> Result<Remote, ConfigureFault> + Drop,
+    G: FnMut(&mut C::Peer) -> Result<(), ConfigureFault> + Drop,
+    requires remote { (f : _) (x : _) → R.pre f x }
+    requires connection { (f : _) (x : _) → G.pre f x }
+{
+    match clone.fetch_only(rt, &mut NoProgress, interrupt, worktrees) {
+        Ok((repo, _)) => tell_repository(alloc, &repo, out),
+        Err(e) => refusals::of_clone(out, &e),
+    }
+}
+
+/// Tries so often, and ends the clone.
 // Many arguments: the row, its clone and the place, and what each row is told with.
 pub(crate) fn tell_tries<T: Threads + Sync, F: Files + Drop, C: Connect + Drop, R, G>(
     rt: &T,
@@ -101,10 +122,7 @@ where
     let mut interrupt = ScriptedInterrupt::new(Vec::from_slice(alloc, &clone_case.yes)?);
     let mut worktrees = worktrees_of(alloc, &clone_case.worktrees)?;
     for _ in 0..course.tries {
-        match clone.fetch_only(rt, &mut NoProgress, &mut interrupt, &mut worktrees) {
-            Ok((repo, _)) => tell_repository(alloc, &repo, out)?,
-            Err(e) => refusals::of_clone(out, &e)?,
-        }
+        tell_try(rt, alloc, &mut clone, &mut interrupt, &mut worktrees, out)?;
     }
     tell_end(alloc, clone, place, course.ending, out)
 }
