@@ -9,3 +9,5 @@ pub mod Answering
 pub mod Ended
 pub mod Sent
 pub mod Requested
+pub mod BenchParts
+pub mod BenchObjects

@@ -66,7 +66,7 @@ fn refspecs(alloc: Global) -> Result<List<RefSpec>, NoMemory>
 
 /// The scene in which the second half of a line of `count` commits is fetched, from 1 to 100,000.
 #[tactic(auto, unfolding(crate::specs::Bench::scene_with))]
-pub fn generate(alloc: Global, count: usize) -> Result<Scene, NoMemory>
+pub fn bench_scene(alloc: Global, count: usize) -> Result<Scene, NoMemory>
     requires some { 0 < count }
     requires few { count ≤ MAX_BENCH }
     ensures exact { IfOk result (λ scene. scene ≡ spec.generated_scene count) }

@@ -2,11 +2,13 @@
 #![tactic(auto)]
 
 mod bench;
+mod bench_text;
 mod laws;
 mod program;
 mod reporting;
 
-pub use bench::generate;
+pub use bench::bench_scene;
+pub use bench_text::generate;
 pub use fetch_scene::{
     Head, Lines, Local, MAX_SCENE, Placed, Reference, RemotePart, Scene, SceneFault, SceneOptions,
     a_configuration_has_the_lines_of_its_scene, a_configuration_is_broken_at_a_line_of_its_scene,

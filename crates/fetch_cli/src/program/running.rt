@@ -15,7 +15,7 @@ ghost use Rattle.fetch_cli.specs.Words.{IsWithin, help_text, version_text};
 ghost use Rattle.fetch_cli.specs.Written.{BlamesEnd, WritesBy};
 ghost use Rattle.fetch_scene.specs.Scene.{scene_of};
 
-use crate::bench::generate;
+use crate::bench::bench_scene;
 use crate::program::answers::{Answer, Silence, malformed, malformed_word, write_answer};
 use crate::program::input::{ReadError, read_all};
 use crate::program::io::{Sink, Source};
@@ -79,7 +79,7 @@ fn benched<R: Threads + Sync>(rt: &R, alloc: Global, count: usize) -> Result<Ans
     requires { IsWithin (Command.Bench count) }
     ensures { IfOk result (λ x. IsSummary count (generated_scene count) x.0 x.1.items) }
 {
-    let scene = generate(alloc, count)?;
+    let scene = bench_scene(alloc, count)?;
     summary(rt, alloc, count, scene)
 }
 
