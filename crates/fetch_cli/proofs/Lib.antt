@@ -11,3 +11,7 @@ pub mod Sent
 pub mod Requested
 pub mod BenchParts
 pub mod BenchObjects
+pub mod PlacedLines
+pub mod SceneParts
+pub mod BenchLengths
+pub mod BenchRead

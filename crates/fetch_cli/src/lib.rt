@@ -16,8 +16,8 @@ pub use fetch_scene::{
     read_payloads, read_remote, read_scene,
 };
 pub use laws::{
-    a_report_tells_the_requests, a_summary_has_the_status_of_its_report, a_valid_scene_is_fetched,
-    lines_are_heard_as_written,
+    a_bench_is_read_from_its_text, a_report_tells_the_requests,
+    a_summary_has_the_status_of_its_report, a_valid_scene_is_fetched, lines_are_heard_as_written,
 };
 pub use program::answers::{Answer, Silence, malformed, malformed_word, write_answer};
 pub use program::input::{ReadError, read_all};
