@@ -28,8 +28,8 @@ use std::sync::atomic::AtomicU64;
 /// A repository under a lock that passes take in turn; who waits for it sleeps. Contracts see which one it is, and what it
 /// opened as. Its settings stand beside the lock, since they never change.
 ///
-/// Objects can't be read while it is shared: close it, or keep a copy. A plan, a take and a snapshot make a graph of all
-/// stored objects while they have the turn.
+/// Objects can't be read while it is shared: close it, or keep a copy. The graph of what is stored is kept beside it: a plan,
+/// a take and a snapshot copy it while they have the turn.
 // Not copied: it is one lock, which all that share it lend.
 #[derive(Drop)]
 pub struct SharedRepository {

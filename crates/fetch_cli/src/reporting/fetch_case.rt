@@ -10,7 +10,7 @@ ghost use Rattle.fetch_cli.specs.Report as spec;
 
 use fetch_check::make_unlogged;
 use fetch_config::File;
-use fetch_refs::{Change, LogChange, PreviousValue, RefEdit, RefLog, Refs, Signature};
+use fetch_refs::{Change, LogChange, PreviousValue, RefEdit, RefError, RefLog, Refs, Signature};
 use fetch_remote::{FetchOptions, OpenOptions, Parts, Remote, Repository, ref_map};
 use fetch_scene::{Local, Reference, RemotePart, Scene, SceneOptions};
 use fetch_specs::RefSpec;
@@ -82,7 +82,7 @@ fn refs_of(
     hash: Kind,
     references: &[Reference],
     committer: &Signature,
-) -> Result<Refs, NoMemory>
+) -> Result<Refs, RefError>
     ensures { IfOk result (λ refs. refs ≡ record {
       hash = hash;
       names = spec.with_references finmap.empty references.now;
@@ -216,7 +216,9 @@ pub fn open_local(
     ensures worktrees { IfOk result (λ x. x.1 ≡ local.worktrees) }
 {
     let committer = committer(alloc)?;
-    let refs = refs_of(alloc, local.head.hash, local.refs.as_slice(), &committer)?;
+    let Ok(refs) = refs_of(alloc, local.head.hash, local.refs.as_slice(), &committer) else {
+        return Err(NoMemory);
+    };
     let store = store_of(alloc, local.head.hash, objects.into_vec())?;
     open(alloc, store, refs, committer, local)
 }
