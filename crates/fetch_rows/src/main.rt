@@ -1,7 +1,8 @@
-//! Fetches or checks what scenes of its input say, runs the program over them, and asks repositories of their remotes and
-//! branches, and writes what came of it.
+//! Fetches or checks what scenes of its input say, runs the program over them, generates scenes, and asks repositories of
+//! their remotes and branches, and writes what came of it.
 #![tactic(auto)]
 
+mod benches;
 mod faults;
 mod remotes;
 mod scenes;
@@ -23,6 +24,8 @@ fn tell_row(
         scenes::tell_scene(rt, alloc, row, out)
     } else if row.whose == b"words".as_slice() {
         scenes::tell_words(rt, alloc, row.about, out)
+    } else if row.whose == b"generate".as_slice() {
+        benches::tell_text(row.about, out)
     } else if row.whose == b"fault".as_slice() {
         faults::tell_faults(rt, alloc, row, out)
     } else if row.whose == b"remote".as_slice() {
