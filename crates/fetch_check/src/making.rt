@@ -1,11 +1,11 @@
 //! References that are made of names and targets.
 
-ghost use Rattle.std.specs.Prelude.{◌≡◌, false, map, IfErr, IfOk, IsErrAnd, MatchOption, OnErr, OnOk};
+ghost use Rattle.std.specs.Prelude.{◌≡◌, false, map, IfErr, IfOk, IfSome, IsErrAnd, MatchOption, OnErr, OnOk};
 ghost use Rattle.std.specs.FinMap as finmap;
 ghost use Rattle.std.specs.List.Sorted.{IsStrictlySortedBy};
 ghost use Rattle.std.specs.Map.{keys_of};
 ghost use Rattle.fetch_refs.specs.Answers.{IsUnlessMemory};
-ghost use Rattle.fetch_refs.specs.Expectations.{refusal_of};
+ghost use Rattle.fetch_refs.specs.Expectations.{refusal_of, tells_name};
 ghost use Rattle.fetch_refs.specs.Logs.{after};
 ghost use Rattle.fetch_refs.specs.Names.{name_cmp};
 ghost use Rattle.fetch_refs.specs.declared.edit.PackedRefs.TheVariants.{Never};
@@ -95,6 +95,7 @@ pub fn make_unlogged(
     ensures ok { OnOk result (refs.new ≡ after committer.now false Never refs.old edits.now) }
     ensures refusal { MatchOption (refusal_of refs.old.names edits.now) (IfErr result (λ e. e ≡ errors.NoMemory))
         (λ e. IsErrAnd result (IsUnlessMemory e)) }
+    ensures exact { IfSome (refusal_of refs.old.names edits.now) (λ e. tells_name e ≡ false → IsErrAnd result (λ found. found ≡ e)) }
     ensures err { OnErr result (refs.new ≡ refs.old) }
 {
     let prepared = refs.prepare(edits, committer, false, PackedRefs::Never)?;

@@ -1,8 +1,8 @@
 //! Edits of a repository's references.
 
-ghost use Rattle.std.specs.Prelude.{◌≡◌, None, IfErr, IsErrAnd, MatchOption, OnOk, OnErr};
+ghost use Rattle.std.specs.Prelude.{◌≡◌, None, false, IfErr, IfSome, IsErrAnd, MatchOption, OnOk, OnErr};
 ghost use Rattle.fetch_refs.specs.Answers.{IsUnlessMemory};
-ghost use Rattle.fetch_refs.specs.Expectations.{refusal_of};
+ghost use Rattle.fetch_refs.specs.Expectations.{refusal_of, tells_name};
 ghost use Rattle.fetch_refs.specs.Logs.{after};
 ghost use Rattle.fetch_refs.specs.declared.error.RefError.TheVariants as errors;
 ghost use Rattle.fetch_remote.specs.Repositories.{state_of, setup_of, with_refs};
@@ -25,6 +25,8 @@ impl Repository {
             ≡ with_refs (state_of self.old) (after committer.now (setup_of self.old).logging packed (state_of self.old).refs edits.now)) }
         ensures refusal { MatchOption (refusal_of (state_of self.old).refs.names edits.now) (IfErr result (λ e. e ≡ errors.NoMemory))
             (λ e. IsErrAnd result (IsUnlessMemory e)) }
+        ensures exact { IfSome (refusal_of (state_of self.old).refs.names edits.now)
+            (λ e. tells_name e ≡ false → IsErrAnd result (λ found. found ≡ e)) }
         ensures err { OnErr result (state_of self.new ≡ state_of self.old) }
         ensures setup { setup_of self.new ≡ setup_of self.old }
     {
@@ -69,6 +71,7 @@ fn edit(
     ensures ok { OnOk result (refs.new ≡ after committer.now logging packed refs.old edits.now) }
     ensures refusal { MatchOption (refusal_of refs.old.names edits.now) (IfErr result (λ e. e ≡ errors.NoMemory))
         (λ e. IsErrAnd result (IsUnlessMemory e)) }
+    ensures exact { IfSome (refusal_of refs.old.names edits.now) (λ e. tells_name e ≡ false → IsErrAnd result (λ found. found ≡ e)) }
     ensures err { OnErr result (refs.new ≡ refs.old) }
     ensures hash { refs.new.hash ≡ refs.old.hash }
 {
