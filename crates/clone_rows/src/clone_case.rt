@@ -29,7 +29,6 @@ pub(crate) enum Closures {
 }
 
 /// What is cloned, and how.
-#[derive(Drop)]
 pub(crate) struct CloneCase {
     pub(crate) url: Text,
     pub(crate) kind: Kind,
@@ -54,6 +53,29 @@ pub(crate) struct CloneCase {
     pub(crate) yes: Vec<u64>,
     /// Whether a file of the user's stands at the place, which needn't be empty then.
     pub(crate) is_used: bool,
+}
+
+impl Drop for CloneCase {
+    fn drop(self) {
+        let CloneCase {
+            url: _,
+            kind: _,
+            remote_name: _,
+            ref_name: _,
+            revision: _,
+            shallow: _,
+            specs: _,
+            overrides: _,
+            closures: _,
+            said: _,
+            server: _,
+            unmade: _,
+            files: _,
+            worktrees: _,
+            yes: _,
+            is_used: _,
+        } = self;
+    }
 }
 
 /// Options without overrides, before an empty base.

@@ -38,11 +38,20 @@ use std::alloc::Global;
 use std::thread::Threads;
 
 /// A fetch that was made: what it answered, the repository that it left, and its peer.
-#[derive(Drop)]
 pub(crate) struct Fetched {
     result: Result<Outcome, FetchError>,
     repo: Repository,
     peer: ScriptedPeer,
+}
+
+impl Drop for Fetched {
+    fn drop(self) {
+        let Fetched {
+            result: _,
+            repo: _,
+            peer: _,
+        } = self;
+    }
 }
 
 /// Fetches as it is set up, from a peer, with files and worktrees that never fail; and gives the files back, too.

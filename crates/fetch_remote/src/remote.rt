@@ -14,7 +14,7 @@ use std::marker::Model;
 
 /// A remote: its name where it has one, its addresses, the refspecs that it is fetched and pushed by, and what is done
 /// with tags.
-#[derive(Debug, Drop)]
+#[derive(Debug)]
 pub struct Remote {
     pub(crate) parts: RemoteParts,
 }
@@ -25,6 +25,12 @@ impl Model for Remote {
     ghost Value = { RemoteValue };
 
     ghost view = { λ r. value_of r.parts };
+}
+
+impl Drop for Remote {
+    fn drop(self) {
+        let Remote { parts: _ } = self;
+    }
 }
 
 impl Remote {

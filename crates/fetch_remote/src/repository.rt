@@ -129,7 +129,6 @@ impl Parts {
 
 /// A repository. Contracts see what a fetch may change of it as its state, and the rest as its setup. The room in the
 /// store is left out.
-#[derive(Drop)]
 pub struct Repository {
     store: Store,
     pub(crate) refs: Refs,
@@ -162,6 +161,21 @@ impl Model for Repository {
     } };
 
     ghost invariant = { λ r. IsWhole r.store.hash r.refs.hash r.settings r.base r.local r.overrides };
+}
+
+impl Drop for Repository {
+    fn drop(self) {
+        let Repository {
+            store: _,
+            refs: _,
+            border: _,
+            base: _,
+            local: _,
+            overrides: _,
+            workdir: _,
+            settings: _,
+        } = self;
+    }
 }
 
 /// A local file, and the configuration that it is in force with.

@@ -31,7 +31,6 @@ use std::marker::Model;
 /// repository that it opened as. The graph of what is stored is kept from the first call on that asks for it, and a take
 /// extends it, so that no call reads the objects anew.
 // Not copied: it stands behind one lock; its repository can be copied.
-#[derive(Drop)]
 pub struct SharedState {
     opening: Opening<Repository>,
     repo: Repository,
@@ -51,6 +50,17 @@ impl Model for SharedState {
 
     ghost invariant = { λ s. IsKept (record { opening = s.opening.value; repository = s.repo; journal = s.entries.items })
         × IsGraphOf s.repo.state.objects s.graph };
+}
+
+impl Drop for SharedState {
+    fn drop(self) {
+        let SharedState {
+            opening: _,
+            repo: _,
+            graph: _,
+            entries: _,
+        } = self;
+    }
 }
 
 impl SharedState {

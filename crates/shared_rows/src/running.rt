@@ -16,13 +16,22 @@ use std::alloc::Global;
 use std::thread::Threads;
 
 /// What an event answers.
-#[derive(Drop)]
 pub(crate) enum Answer {
     Planned(Result<Plan, SharedError>),
     /// Its place, or how many entries there are after a take.
     Placed(Result<u64, SharedError>),
     /// What was to be taken is no pack.
     NoPack,
+}
+
+impl Drop for Answer {
+    fn drop(self) {
+        match self {
+            Answer::Planned(_) => {}
+            Answer::Placed(_) => {}
+            Answer::NoPack => {}
+        }
+    }
 }
 
 /// The objects of a pack. None where it is none, or where memory runs out.

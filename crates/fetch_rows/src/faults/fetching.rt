@@ -11,7 +11,6 @@ use std::alloc::Global;
 use std::thread::Threads;
 
 /// A fetch with all that it takes but its options.
-#[derive(Drop)]
 pub(crate) struct Fetch {
     pub(crate) repo: Repository,
     remote: Remote,
@@ -20,6 +19,20 @@ pub(crate) struct Fetch {
     pub(crate) files: MemoryFiles,
     worktrees: ScriptedWorktrees,
     pub(crate) told: Told,
+}
+
+impl Drop for Fetch {
+    fn drop(self) {
+        let Fetch {
+            repo: _,
+            remote: _,
+            peer: _,
+            interrupt: _,
+            files: _,
+            worktrees: _,
+            told: _,
+        } = self;
+    }
 }
 
 /// What is told of a server's progress, a line each. What memory doesn't suffice for is left out.
