@@ -1,14 +1,8 @@
-pub mod Appended
-pub mod Steps
 pub mod NamedRefs
-pub mod Replaced
 pub mod Alone
-pub mod Settings
-pub mod Created
 pub mod Reread
 pub mod Opened
 pub mod Prepared
-pub mod Branched
 pub mod Headed
 pub mod Returned
 pub mod Uncounted

@@ -12,16 +12,16 @@ use Rattle.fetch_remote.specs.Repositories.{IsOpenRefusal, setup_in}
 use Rattle.fetch_remote.specs.RepositoryValues.{Setup}
 use Rattle.fetch_remote.specs.declared.repository.open_error.OpenError.{OpenError}
 use Rattle.fetch_remote.specs.declared.repository.open_error.OpenError.TheVariants as opening
-use Rattle.fetch_clone.specs.Branches.{default_branch_of, branch_of}
-use Rattle.fetch_clone.specs.Creation.{Reaches, IsStopped, IsStopAt, TellsStill, is_fault}
+use Rattle.fetch_create.specs.Branches.{default_branch_of, branch_of}
+use Rattle.fetch_create.specs.Creation.{Reaches, IsStopped, IsStopAt, TellsStill, is_fault}
 use Rattle.fetch_clone.specs.Initial.{IsLocal, IsUnopened, IsUnready, IsBranchRefusal, IsInitRefusal, parts_with, config_of, creation_refusal, opening_refusal, is_init_fault}
-use Rattle.fetch_clone.specs.declared.create.Error.{Error as CreateError}
-use Rattle.fetch_clone.specs.declared.create.Error.TheVariants as creating
+use Rattle.fetch_create.specs.declared.create.Error.{Error as CreateError}
+use Rattle.fetch_create.specs.declared.create.Error.TheVariants as creating
 use Rattle.fetch_clone.specs.declared.init.Error.{Error}
 use Rattle.fetch_clone.specs.declared.init.Error.TheVariants as initial
 use Rattle.fetch_clone.specs.declared.init.opening.New.{New}
-use Rattle.fetch_clone.specs.declared.create.step.Step.{Step}
-use Rattle.fetch_clone.specs.declared.create.step.Step.TheVariants.{Clear, Vacant, Directory, File}
+use Rattle.fetch_create.specs.declared.create.step.Step.{Step}
+use Rattle.fetch_create.specs.declared.create.step.Step.TheVariants.{Clear, Vacant, Directory, File}
 
 -- what holds of each error that another fact holds of
 pub each-err : {X E : Type 0} (P Q : E → Type 0) → ((e : E) → P e → Q e) → (r : Result X E) → IfErr r P → IfErr r Q

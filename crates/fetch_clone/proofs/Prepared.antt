@@ -10,7 +10,7 @@ use Rattle.fetch_store.specs.Trees.{Tree, without_all}
 use Rattle.fetch_remote.specs.Finding.{is_no_address}
 use Rattle.fetch_clone.specs.CloneStates.{IsNoted, IsPrepareRefusal, IsRemoved, init_refusal, is_clone_fault, strict}
 use Rattle.fetch_clone.specs.Initial.{IsInitRefusal, is_init_fault, new_of}
-use Rattle.fetch_clone.specs.Plans.{steps_of}
+use Rattle.fetch_create.specs.Plans.{steps_of}
 use Rattle.fetch_clone.specs.declared.clone_state.Making.{Making}
 use Rattle.fetch_clone.specs.declared.clone.Error.TheVariants as clones
 use Rattle.fetch_clone.specs.declared.init.Error.{Error}

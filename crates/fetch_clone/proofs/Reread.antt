@@ -11,7 +11,7 @@ use Rattle.fetch_remote.specs.declared.repository.open_error.OpenError.TheVarian
 use Rattle.fetch_clone.specs.Hashed.{IsLocal, IsUnversioned}
 use Rattle.fetch_clone.specs.HeadUpdates.{IsUnsaved}
 use Rattle.fetch_clone.specs.RemoteSections.{path_of}
-use Rattle.fetch_clone.specs.Versioned.{versioned}
+use Rattle.fetch_create.specs.Versioned.{versioned}
 use Rattle.fetch_clone.specs.declared.clone.fetch.Error.TheVariants as errors
 
 module _ (may_fail : Bool) (told now : Option Tree) (kind : Kind) (setup : Setup) (local file : Contents) (read : IsLocal told setup local) (is : file ≡ versioned kind local) where

@@ -10,14 +10,14 @@ use Rattle.fetch_refs.specs.declared.log.Signature.{Signature}
 use Rattle.fetch_remote.specs.Finding.{is_no_address}
 use Rattle.fetch_remote.specs.declared.repository.OpenOptions.{OpenOptions}
 use Rattle.fetch_clone.specs.Choices.{plain}
-use Rattle.fetch_clone.specs.Creation.{Reaches, TellsStill, listed_in}
+use Rattle.fetch_create.specs.Creation.{Reaches, TellsStill, listed_in}
 use Rattle.fetch_clone.specs.Initial.{IsInitial, IsInitRefusal, is_init_fault, new_of}
-use Rattle.fetch_clone.specs.Plans.{steps_of}
+use Rattle.fetch_create.specs.Plans.{steps_of}
 use Rattle.fetch_clone.specs.declared.clone.Error.{Error}
 use Rattle.fetch_clone.specs.declared.clone.Error.TheVariants.{Url, Init, NoMemory}
 use Rattle.fetch_clone.specs.declared.choices.Choices.{Choices}
-use Rattle.fetch_clone.specs.declared.create.Kind.{Kind as Layout}
-use Rattle.fetch_clone.specs.declared.create.Options.{Options}
+use Rattle.fetch_create.specs.declared.create.Kind.{Kind as Layout}
+use Rattle.fetch_create.specs.declared.create.Options.{Options}
 use Rattle.fetch_clone.specs.declared.clone_state.CloneState.{CloneState}
 use Rattle.fetch_clone.specs.declared.clone_state.Making.{Making}
 use Rattle.fetch_clone.specs.declared.init.Error.{Error as InitError}

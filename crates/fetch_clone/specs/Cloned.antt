@@ -17,7 +17,7 @@ use Rattle.fetch_clone.specs.Listed.{Query, query, IsListed, IsUnprepared}
 use Rattle.fetch_clone.specs.Planned.{Answering}
 use Rattle.fetch_clone.specs.Reached.{Ways, Line}
 use Rattle.fetch_clone.specs.Received.{IsTaken, IsNotTaken, message_of}
-use Rattle.fetch_clone.specs.Replacing.{replaced}
+use Rattle.fetch_create.specs.Replacing.{replaced}
 use Rattle.fetch_clone.specs.Saving.{IsSaved, IsNotSaved}
 use Rattle.fetch_clone.specs.Stages.{ref_name_of, revision_of}
 use Rattle.fetch_clone.specs.Targets.{HeedsFirst}

@@ -14,7 +14,7 @@ use Rattle.fetch_remote.specs.declared.repository.Resolved.{Resolved}
 use Rattle.fetch_remote.specs.declared.repository.open_error.OpenError.TheVariants as opening
 use Rattle.fetch_clone.specs.HeadUpdates.{IsWritten}
 use Rattle.fetch_clone.specs.RemoteSections.{path_of}
-use Rattle.fetch_clone.specs.Versioned.{versioned}
+use Rattle.fetch_create.specs.Versioned.{versioned}
 use Rattle.fetch_clone.specs.declared.clone.fetch.Error.{Error}
 use Rattle.fetch_clone.specs.declared.clone.fetch.Error.TheVariants as errors
 

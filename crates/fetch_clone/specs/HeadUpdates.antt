@@ -19,8 +19,8 @@ use Rattle.fetch_remote.specs.Repositories.{state_of, setup_of, with_refs, reope
 use Rattle.fetch_remote.specs.RepositoryValues.{State, Setup, RepositoryValue}
 use Rattle.fetch_remote.specs.declared.find.existing.Error.{Error as FindError}
 use Rattle.fetch_clone.specs.HeadTargets.{head_target_in, edits_of}
-use Rattle.fetch_clone.specs.Creation.{TellsStill}
-use Rattle.fetch_clone.specs.Upstreams.{following}
+use Rattle.fetch_create.specs.Creation.{TellsStill}
+use Rattle.fetch_create.specs.Upstreams.{following}
 use Rattle.fetch_clone.specs.declared.head_target.HeadTarget.{HeadTarget}
 use Rattle.fetch_clone.specs.declared.head_target.HeadTarget.TheVariants.{Nothing, Id, Name}
 use Rattle.fetch_clone.specs.declared.head_target.HeadError.{HeadError}

@@ -24,15 +24,15 @@ use Rattle.fetch_remote.specs.declared.repository.open_error.OpenError.{OpenErro
 use Rattle.fetch_remote.specs.declared.repository.open_error.OpenError.TheVariants as opening
 use Rattle.fetch_remote.specs.declared.repository.OpenOptions.{OpenOptions}
 use Rattle.fetch_remote.specs.declared.repository.Parts.{Parts}
-use Rattle.fetch_clone.specs.Branches.{default_branch_of, branch_of}
-use Rattle.fetch_clone.specs.Creation.{Reaches, IsStopped, TellsStill, is_fault}
-use Rattle.fetch_clone.specs.Plans.{path_of}
-use Rattle.fetch_clone.specs.declared.create.Error.{Error as CreateError}
-use Rattle.fetch_clone.specs.declared.create.Error.TheVariants as creating
-use Rattle.fetch_clone.specs.declared.create.Kind.{Kind as Layout}
-use Rattle.fetch_clone.specs.declared.create.Options.{Options}
+use Rattle.fetch_create.specs.Branches.{default_branch_of, branch_of}
+use Rattle.fetch_create.specs.Creation.{Reaches, IsStopped, TellsStill, is_fault}
+use Rattle.fetch_create.specs.Plans.{path_of}
+use Rattle.fetch_create.specs.declared.create.Error.{Error as CreateError}
+use Rattle.fetch_create.specs.declared.create.Error.TheVariants as creating
+use Rattle.fetch_create.specs.declared.create.Kind.{Kind as Layout}
+use Rattle.fetch_create.specs.declared.create.Options.{Options}
 use Rattle.fetch_clone.specs.declared.init.opening.New.{New}
-use Rattle.fetch_clone.specs.declared.create.step.Step.{Step}
+use Rattle.fetch_create.specs.declared.create.step.Step.{Step}
 use Rattle.fetch_clone.specs.declared.init.Error.{Error}
 use Rattle.fetch_clone.specs.declared.init.Error.TheVariants.{Init, Open, InvalidBranchName, NoMemory}
 

@@ -25,7 +25,7 @@ use Rattle.fetch_remote.specs.declared.fetching.prepared.Prepared.{Prepared}
 use Rattle.fetch_clone.specs.HeadTargets.{is_same_side}
 use Rattle.fetch_clone.specs.Reached.{Ways, Line, IsMade, IsReached, IsReturned, IsTurnedAway, IsUnreached}
 use Rattle.fetch_clone.specs.Stages.{preparing, ref_name_of}
-use Rattle.fetch_clone.specs.RemoteNames.{tracking_of}
+use Rattle.fetch_create.specs.RemoteNames.{tracking_of}
 use Rattle.fetch_clone.specs.declared.choices.Choices.{Choices}
 use Rattle.fetch_clone.specs.declared.choices.CloneTarget.{CloneTarget}
 use Rattle.fetch_clone.specs.declared.choices.CloneTarget.TheVariants.{Everything, RefName, Revision}

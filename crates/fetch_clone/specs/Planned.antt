@@ -12,7 +12,7 @@ use Rattle.fetch_remote.specs.RepositoryValues.{RepositoryValue, is_override}
 use Rattle.fetch_clone.specs.Reached.{Ways, Line}
 use Rattle.fetch_clone.specs.Stages.{remote_name}
 use Rattle.fetch_clone.specs.Targets.{HasTarget, HasNoTarget}
-use Rattle.fetch_clone.specs.RemoteNames.{spec_text}
+use Rattle.fetch_create.specs.RemoteNames.{spec_text}
 use Rattle.fetch_clone.specs.declared.choices.CloneTarget.{CloneTarget}
 use Rattle.fetch_clone.specs.declared.choices.CloneTarget.TheVariants.{Everything, RefName, Revision}
 use Rattle.fetch_clone.specs.declared.clone.fetch.Error.{Error}

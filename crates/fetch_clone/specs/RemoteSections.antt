@@ -12,7 +12,7 @@ use Rattle.fetch_remote.specs.Remotes.{RemoteValue, parts_of}
 use Rattle.fetch_remote.specs.RepositoryValues.{Setup}
 use Rattle.fetch_remote.specs.declared.repository.open_error.OpenError.TheVariants as opening
 use Rattle.fetch_clone.specs.HeadUpdates.{IsWritten}
-use Rattle.fetch_clone.specs.Replacing.{replaced}
+use Rattle.fetch_create.specs.Replacing.{replaced}
 use Rattle.fetch_clone.specs.declared.clone.fetch.Error.{Error}
 use Rattle.fetch_clone.specs.declared.clone.fetch.Error.TheVariants as errors
 

@@ -17,7 +17,7 @@ use Rattle.fetch_conversation.specs.declared.ref_map.Error.TheVariants as ref_ma
 use Rattle.fetch_remote.specs.Connecting.{is_of_maker}
 use Rattle.fetch_remote.specs.declared.repository.open_error.OpenError.{OpenError}
 use Rattle.fetch_remote.specs.declared.repository.open_error.OpenError.TheVariants as opening
-use Rattle.fetch_clone.specs.RemoteNames.{default_remote_of}
+use Rattle.fetch_create.specs.RemoteNames.{default_remote_of}
 use Rattle.fetch_clone.specs.declared.choices.Choices.{Choices}
 use Rattle.fetch_clone.specs.declared.choices.CloneTarget.{CloneTarget}
 use Rattle.fetch_clone.specs.declared.choices.CloneTarget.TheVariants.{Everything, RefName, Revision}

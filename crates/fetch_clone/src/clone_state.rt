@@ -10,9 +10,9 @@ ghost use Rattle.fetch_clone.specs.CloneStates.{IsNoted, IsPrepared, IsPrepareRe
 
 use crate::choices::Choices;
 use crate::clone::Error;
-use crate::create::run::listed;
 use crate::create::{self, Kind, Options};
 use crate::init::init_opts;
+use fetch_create::create::listed;
 use fetch_refs::Signature;
 use fetch_remote::{OpenOptions, Repository};
 use fetch_store::{Files, List, NoMemory, Text};

@@ -5,9 +5,9 @@ pub(crate) mod opening;
 ghost use Rattle.std.specs.Prelude.{◌≡◌, true, IfOk, IfErr, OnOk, IsTrue};
 ghost use Rattle.fetch_store.specs.Faults.{Rose, Counts};
 ghost use Rattle.fetch_remote.specs.Repositories.{open_options as usual_options};
-ghost use Rattle.fetch_clone.specs.Creation.{Reaches};
+ghost use Rattle.fetch_create.specs.Creation.{Reaches};
 ghost use Rattle.fetch_clone.specs.Initial.{IsInitial, IsInitRefusal, new_of, is_init_fault};
-ghost use Rattle.fetch_clone.specs.Plans.{steps_of};
+ghost use Rattle.fetch_create.specs.Plans.{steps_of};
 
 use crate::create::{self, Kind, Options};
 use crate::init::opening::{New, open_new};

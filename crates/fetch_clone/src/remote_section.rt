@@ -8,13 +8,13 @@ ghost use Rattle.fetch_clone.specs.declared.clone.fetch.Error.TheVariants as err
 ghost use Rattle.std.specs.Prelude.{◌≡◌, IfOk, IfErr, IsErrOf, OnOk, OnErr, Some};
 ghost use Rattle.fetch_remote.specs.Repositories.{state_of, setup_of, reopened};
 ghost use Rattle.fetch_remote.specs.declared.repository.open_error.OpenError.TheVariants as opening;
-ghost use Rattle.fetch_clone.specs.Replacing.{replaced as replaced_in};
+ghost use Rattle.fetch_create.specs.Replacing.{replaced as replaced_in};
 
 use crate::clone::fetch::Error;
 use crate::head_update::write_local;
 use crate::init::opening::config_path;
-use crate::replacing::replaced;
 use fetch_config::File;
+use fetch_create::replaced;
 use fetch_lookup::save::AsError;
 use fetch_remote::{OpenError, Remote, Repository, read_configuration};
 use fetch_store::Files;

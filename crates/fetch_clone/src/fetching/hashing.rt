@@ -11,8 +11,8 @@ ghost use Rattle.fetch_clone.specs.declared.clone.fetch.Error.TheVariants as err
 use crate::clone::fetch::Error;
 use crate::head_update::write_local;
 use crate::init::opening::config_path;
-use crate::versioning::set_version;
 use fetch_config::File;
+use fetch_create::set_version;
 use fetch_remote::{OpenError, Repository, Resolved, read_configuration};
 use fetch_store::{Files, Kind};
 use std::alloc::Global;

@@ -12,15 +12,15 @@ ghost use Rattle.fetch_clone.specs.Blame.{BlamesMaker, BlamesStop, lent_maker, l
 ghost use Rattle.fetch_clone.specs.Reached.{line, ways};
 ghost use Rattle.fetch_clone.specs.Stages as stages;
 ghost use Rattle.fetch_clone.specs.Targets.{HeedsFirst};
-ghost use Rattle.fetch_clone.specs.RemoteNames.{spec_text as tracked_text};
+ghost use Rattle.fetch_create.specs.RemoteNames.{spec_text as tracked_text};
 
 use crate::choices::{Choices, CloneTarget};
 use crate::clone::fetch::Error;
 use crate::clone_state::{CloneState, append_texts};
 use crate::fetching::targeting::{said, target};
 use crate::prepare_fetch::ConfigureFault;
-use crate::remote_name::{default_remote, spec_text};
 use fetch_config::File;
+use fetch_create::{default_remote, spec_text};
 use fetch_lookup::name;
 use fetch_remote::connect::Connect;
 use fetch_remote::{Direction, OpenError, Remote, Repository};

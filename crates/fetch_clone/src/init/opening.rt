@@ -5,7 +5,7 @@ ghost use Rattle.fetch_store.specs.FileCalls.{IsRefused};
 ghost use Rattle.fetch_store.specs.Faults.{Rose, Counts};
 ghost use Rattle.fetch_store.specs.Paths.{parts_of};
 ghost use Rattle.fetch_store.specs.Trees.{read_in};
-ghost use Rattle.fetch_clone.specs.Branches.{default_branch_of};
+ghost use Rattle.fetch_create.specs.Branches.{default_branch_of};
 ghost use Rattle.fetch_clone.specs.Initial as spec;
 ghost use Rattle.fetch_clone.specs.Initial.{IsBranchRefusal, IsInitial, IsNew, IsUnopened, IsUnready, is_init_fault};
 ghost use Rattle.fetch_remote.specs.Paths.{config_path as path_of_config};
@@ -13,10 +13,10 @@ ghost use Rattle.fetch_remote.specs.Reloads.{IsRefusedAt};
 ghost use Rattle.fetch_remote.specs.Repositories.{state_of, setup_of, setup_in, state_in, IsOpenRefusal};
 ghost use Rattle.fetch_remote.specs.declared.repository.open_error.OpenError.TheVariants as errors;
 
-use crate::branches::{branch_of, default_branch};
 use crate::create::Path;
 use crate::init::Error;
 use fetch_config::{File, Meta, Origin};
+use fetch_create::{branch_of, default_branch};
 use fetch_refs::{
     Change, LogChange, PackedRefs, PreviousValue, RefEdit, RefLog, Refs, Signature, Target,
 };

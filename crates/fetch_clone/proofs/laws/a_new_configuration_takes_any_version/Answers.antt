@@ -1,4 +1,4 @@
-use Rattle.fetch_clone.proofs.Created.{taken}
+use Rattle.fetch_create.proofs.Created.{taken}
 use Rattle.fetch_clone.proofs.laws.a_new_configuration_takes_any_version.Goals as goal
 
 pub returns : goal.returns

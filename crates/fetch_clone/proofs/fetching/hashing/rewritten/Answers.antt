@@ -1,6 +1,6 @@
 use Rattle.std.proofs.Common.{◌≡◌, inr}
 use Rattle.fetch_remote.specs.Repositories.{setup_of}
-use Rattle.fetch_clone.specs.Versioned.{versioned}
+use Rattle.fetch_create.specs.Versioned.{versioned}
 use Rattle.fetch_clone.proofs.Reread.{unversioned}
 use Rattle.fetch_clone.proofs.fetching.hashing.rewritten.Goals as goal
 
