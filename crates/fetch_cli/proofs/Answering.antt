@@ -9,7 +9,8 @@ use Rattle.fetch_remote.specs.declared.fetching.fetch_error.FetchError.{FetchErr
 use Rattle.fetch_remote.specs.declared.fetching.fetch_error.FetchError.TheVariants as errors
 use Rattle.fetch_remote.specs.declared.fetching.outcome.Outcome.{Outcome}
 use Rattle.fetch_wire.specs.declared.lines.line.Line.{Line}
-use Rattle.fetch_cli.specs.Bench.{generated_scene, summary_with, summary_of, IsSummary}
+use Rattle.fetch_bench_scene.specs.Bench.{generated_scene}
+use Rattle.fetch_cli.specs.Bench.{summary_with, summary_of, IsSummary}
 use Rattle.fetch_cli.specs.Io.{IsLongerThan}
 use Rattle.fetch_cli.specs.Report.{report_with, report_of, given_of, found_of, stream_of, fetched_by, left_by, keep_left_by, IsReport}
 use Rattle.fetch_cli.specs.ReportLines.{malformed_line}

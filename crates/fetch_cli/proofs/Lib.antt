@@ -9,9 +9,3 @@ pub mod Answering
 pub mod Ended
 pub mod Sent
 pub mod Requested
-pub mod BenchParts
-pub mod BenchObjects
-pub mod PlacedLines
-pub mod SceneParts
-pub mod BenchLengths
-pub mod BenchRead

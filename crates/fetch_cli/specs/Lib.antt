@@ -10,7 +10,6 @@ pub mod Report
 pub mod Opened
 pub mod Fetched
 pub mod Bench
-pub mod BenchText
 pub mod ServerScenes
 pub mod Checks
 pub mod Written

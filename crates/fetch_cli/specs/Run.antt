@@ -10,7 +10,8 @@ use Rattle.fetch_cli.specs.declared.program.running.Task.TheVariants as tasks
 use Rattle.fetch_cli.specs.declared.program.server_scene.ServerScene.{ServerScene}
 use Rattle.fetch_cli.specs.declared.program.words.Command.{Command}
 use Rattle.fetch_cli.specs.declared.program.words.Command.TheVariants.{Fetch, Check, Bench, Help, Version}
-use Rattle.fetch_cli.specs.Bench.{generated_scene, summary_of, IsSummary}
+use Rattle.fetch_bench_scene.specs.Bench.{generated_scene}
+use Rattle.fetch_cli.specs.Bench.{summary_of, IsSummary}
 use Rattle.fetch_cli.specs.Checks.{AreFoundIn, IsChecked, repository_of}
 use Rattle.fetch_cli.specs.Io.{IsAll}
 use Rattle.fetch_cli.specs.Report.{given_of, found_of, stream_of, IsReport}

@@ -1,17 +1,13 @@
 //! What holds of the definitions of a report.
 
-ghost use Rattle.std.specs.Prelude.{◌≡◌, ◌<◌, ◌≤◌, ◌/◌, ℕ, List, Ok};
-ghost use Rattle.fetch_store.specs.Collisions.{HasDistinctIds};
+ghost use Rattle.std.specs.Prelude.{◌≡◌, ℕ, List};
 ghost use Rattle.fetch_wire.specs.Written.{lines_text};
 ghost use Rattle.fetch_wire.specs.declared.lines.line.Line.{Line};
 ghost use Rattle.fetch_cli.specs.Heard.{AreSent, lines_heard};
 ghost use Rattle.fetch_remote.specs.Fetching.{requests_in};
 ghost use Rattle.fetch_remote.specs.Valid.{IsValidInput};
 ghost use Rattle.fetch_cli.specs.Report.{given_of, found_of, stream_of, requests_of, report_of, IsReport};
-ghost use Rattle.fetch_cli.specs.Bench.{generated_scene, summary_of};
-ghost use Rattle.fetch_cli.specs.BenchText.{bench_text};
-ghost use Rattle.fetch_bench.specs.Commits.{line_of};
-ghost use Rattle.fetch_scene.specs.Scene.{scene_of};
+ghost use Rattle.fetch_cli.specs.Bench.{summary_of};
 ghost use Rattle.fetch_scene.specs.declared.scene.Scene.{Scene};
 
 /// Lines that fit are heard as they were written.
@@ -33,9 +29,4 @@ pub fn a_valid_scene_is_fetched()
 /// A bench ends as the report of its scene does: both are done, or both name a refusal.
 pub fn a_summary_has_the_status_of_its_report()
     ensures { (n : ℕ) (scene : Scene) → (summary_of n scene).0 ≡ (report_of scene).0 }
-{}
-
-/// The text of a bench's scene is read as the scene that is fetched, where no two objects in it have one id.
-pub fn a_bench_is_read_from_its_text()
-    ensures { (n : ℕ) → 0 < n → n ≤ 100000 → HasDistinctIds (line_of (n / 2)) → scene_of (bench_text n) ≡ Ok (generated_scene n) }
 {}

@@ -4,7 +4,8 @@ ghost use Rattle.std.specs.Prelude.{◌≡◌, ◌≢◌, ◌≤◌, ℕ, List, 
 ghost use Rattle.std.specs.Io.KnownBytes.{IsAtEnd};
 ghost use Rattle.fetch_store.specs.Stores.{AreOf};
 ghost use Rattle.fetch_check.specs.declared.findings.Findings.{Findings};
-ghost use Rattle.fetch_cli.specs.Bench.{IsSummary, generated_scene};
+ghost use Rattle.fetch_bench_scene.specs.Bench.{generated_scene};
+ghost use Rattle.fetch_cli.specs.Bench.{IsSummary};
 ghost use Rattle.fetch_cli.specs.Checks.{IsChecked};
 ghost use Rattle.fetch_cli.specs.Report.{IsReport};
 ghost use Rattle.fetch_cli.specs.Run.{Are, IsSceneAnswer, IsServerAnswer, IsBytesAnswer, IsInputAnswer, IsAnswer};
@@ -15,7 +16,6 @@ ghost use Rattle.fetch_cli.specs.Words.{IsWithin, help_text, version_text};
 ghost use Rattle.fetch_cli.specs.Written.{BlamesEnd, WritesBy};
 ghost use Rattle.fetch_scene.specs.Scene.{scene_of};
 
-use crate::bench::bench_scene;
 use crate::program::answers::{Answer, Silence, malformed, malformed_word, write_answer};
 use crate::program::input::{ReadError, read_all};
 use crate::program::io::{Sink, Source};
@@ -24,6 +24,7 @@ use crate::program::words::{Command, HELP, VERSION, read_command};
 use crate::reporting::fetch_case::open_local;
 use crate::reporting::report;
 use crate::reporting::summary::summary;
+use fetch_bench_scene::bench_scene;
 use fetch_check::{append_findings, check};
 use fetch_scene::{MAX_SCENE, Scene, SceneFault, read_scene};
 use fetch_store::NoMemory;

@@ -3,10 +3,8 @@
 ghost use Rattle.std.specs.Prelude.{◌≡◌, ◌<◌, ◌≤◌, map, IfOk, IfSome};
 ghost use Rattle.fetch_cli.specs.Words as spec;
 
+use fetch_bench_scene::MAX_BENCH;
 use fetch_scene::number;
-
-/// The most commits of a bench.
-pub const MAX_BENCH: usize = 100_000;
 
 /// What the words ask for.
 #[derive(Clone, Copy, Debug, PartialEq, Eq)]

@@ -1,0 +1,6 @@
+mod BenchParts
+mod BenchObjects
+mod PlacedLines
+mod SceneParts
+mod BenchLengths
+mod BenchRead
