@@ -1,5 +1,6 @@
 //! Repositories.
 
+mod ending;
 mod hash;
 pub mod open_error;
 mod overriding;
@@ -161,21 +162,6 @@ impl Model for Repository {
     } };
 
     ghost invariant = { λ r. IsWhole r.store.hash r.refs.hash r.settings r.base r.local r.overrides };
-}
-
-impl Drop for Repository {
-    fn drop(self) {
-        let Repository {
-            store: _,
-            refs: _,
-            border: _,
-            base: _,
-            local: _,
-            overrides: _,
-            workdir: _,
-            settings: _,
-        } = self;
-    }
 }
 
 /// A local file, and the configuration that it is in force with.
